@@ -1,0 +1,18 @@
+-- The numbers and the exit statuses of the program's faults.
+use Rattle.std.specs.Prelude.{ℕ}
+use Rattle.pfair_weight.specs.WeightFault.{weight_fault_number}
+use Rattle.pfair.specs.declared.fault.ProgramFault.{ProgramFault}
+use Rattle.pfair.specs.declared.fault.ProgramFault.TheVariants.{Weight, WriteFailed, CommandLine, Memory}
+
+abbrev pub number_of : ProgramFault → ℕ
+number_of (Weight fault) = weight_fault_number fault
+number_of WriteFailed = 71
+number_of CommandLine = 80
+number_of Memory = 90
+
+-- 1 a command line or a weight was refused, 4 want of memory, 5 reading or writing failed
+abbrev pub status_of : ProgramFault → ℕ
+status_of (Weight fault) = 1
+status_of CommandLine = 1
+status_of Memory = 4
+status_of WriteFailed = 5

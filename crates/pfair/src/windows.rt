@@ -1,0 +1,77 @@
+//! The windows of a weight's subtasks, as a table.
+
+ghost use Rattle.std.specs.Prelude.{◌≡◌, ◌≤◌, ◌++◌, OnOk, IsErrOf, IfErr, IfOk, ◌⊎◌};
+ghost use Rattle.std.specs.Io.KnownBytes.{Appends, Keeps};
+ghost use Rattle.pfair_text.specs.Output.{TakesPrefix};
+ghost use Rattle.pfair_text.specs.Rows.{IsOpen, line, text_so_far};
+ghost use Rattle.pfair.specs.Windows.{window_row, windows_text};
+ghost use Rattle.pfair.specs.declared.fault.ProgramFault.TheVariants.{WriteFailed, Memory};
+
+use crate::fault::ProgramFault;
+use csv::Writer;
+use itoa::Buffer;
+use pfair_text::{add_row, finish, new_text, send};
+use pfair_weight::{Weight, b_bit, deadline, group_deadline, release};
+use std::alloc::{AllocError, Global};
+use std::io::Write;
+
+/// Writes the windows of subtasks 1 to `count` of a weight at offset 0: a header, and for each
+/// subtask a row of its index, release, deadline, b-bit and group deadline, as Baruah, Cohen,
+/// Plaxton and Varvel and, for the last two, Anderson and Srinivasan define them.
+///
+/// `count` is at most 1,000,000. The whole text is made before the first write. `WriteFailed`
+/// where the writer answered an error or took nothing; a prefix of the text has then gone out.
+/// `Memory` where memory was wanting; nothing has then gone out.
+pub fn windows<W: Write>(
+    alloc: Global,
+    weight: Weight,
+    count: u64,
+    writer: &mut W,
+) -> Result<(), ProgramFault>
+    requires { count ≤ 1000000 }
+    ensures ok { OnOk result (Appends (W.contents writer.old) (W.contents writer.new) (windows_text weight count)) }
+    ensures failed { IsErrOf result WriteFailed → TakesPrefix (W.contents writer.old) (W.contents writer.new) (windows_text weight count) }
+    ensures memory { IsErrOf result Memory → Keeps (W.contents writer.old) (W.contents writer.new) }
+    ensures only { IfErr result (λ e. (e ≡ WriteFailed) ⊎ (e ≡ Memory)) }
+{
+    let text = windows_table(alloc, weight, count)?;
+    match send(writer, text.as_slice()) {
+        Ok(()) => Ok(()),
+        Err(_) => Err(ProgramFault::WriteFailed),
+    }
+}
+
+// The text of the table.
+fn windows_table(alloc: Global, weight: Weight, count: u64) -> Result<Vec<u8>, AllocError>
+    requires { count ≤ 1000000 }
+    ensures { IfOk result (λ text. text.items ≡ windows_text weight count) }
+{
+    let mut table = new_text(alloc);
+    add_row(&mut table, &[b"i", b"r", b"d", b"b", b"D"])?;
+    for index in 1..count + 1 {
+        add_window(&mut table, weight, index)?;
+    }
+    finish(table)
+}
+
+// Adds the row of one subtask.
+fn add_window(table: &mut Writer<Vec<u8>>, weight: Weight, index: u64) -> Result<(), AllocError>
+    requires open { IsOpen table.old }
+    requires first { 1 ≤ index }
+    requires last { index ≤ 1000000 }
+    ensures open { OnOk result (IsOpen table.new) }
+    ensures text { OnOk result (text_so_far table.new ≡ text_so_far table.old ++ line (window_row weight index)) }
+{
+    add_row(
+        table,
+        &[
+            Buffer::new().format(index).as_bytes(),
+            Buffer::new().format(release(weight, index, 0)).as_bytes(),
+            Buffer::new().format(deadline(weight, index, 0)).as_bytes(),
+            Buffer::new().format(b_bit(weight, index)).as_bytes(),
+            Buffer::new()
+                .format(group_deadline(weight, index, 0))
+                .as_bytes(),
+        ],
+    )
+}

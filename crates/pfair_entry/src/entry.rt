@@ -1,0 +1,135 @@
+//! The entries of a log.
+ghost use Rattle.std.specs.Prelude.{◌≡◌, ◌≤◌, IfOk, IfErr, OnOk};
+ghost use Rattle.pfair_entry.specs.Entry.{IsEntry, IsWithinLimits};
+ghost use Rattle.pfair_entry.specs.EntryFault.{IsFaultOf, IsLimitFaultOf, entry_fault_number};
+
+use crate::announcement::Announcement;
+use pfair_lattice::Exact;
+use std::marker::Model;
+use thiserror::Error;
+
+/// Why a floor and an announcement make no entry.
+#[derive(Clone, Copy, PartialEq, Eq, Debug, Error)]
+pub enum EntryFault {
+    /// The floor or the stamp is past [`Entry::LAST_SLOT`].
+    #[error("slot too far")]
+    StampTooFar,
+    /// The stamp is before the floor.
+    #[error("stamp before floor")]
+    StampBeforeFloor,
+    /// The index of the first late subtask is 0 or past [`Entry::LAST_INDEX`].
+    #[error("bad index")]
+    BadIndex,
+    /// The delay is 0 or longer than [`Entry::LONGEST_DELAY`].
+    #[error("bad delay")]
+    BadDelay,
+}
+
+impl EntryFault {
+    /// The number under which the fault is reported: 8, 7, 10 and 9, in the order of the variants.
+    pub fn number(&self) -> u8
+        ensures { result ≡ entry_fault_number self.now }
+    {
+        match self {
+            EntryFault::StampBeforeFloor => 7,
+            EntryFault::StampTooFar => 8,
+            EntryFault::BadDelay => 9,
+            EntryFault::BadIndex => 10,
+        }
+    }
+}
+
+/// One entry of a processor's log: a floor, and perhaps an announcement with its stamp. Floor and stamp are slots.
+///
+/// By the floor the processor commits itself: from this entry on nothing in its log is stamped before it. The stamp is the slot at
+/// whose boundary the announcement is decided.
+#[derive(Clone, Copy, Debug, PartialEq, Eq)]
+pub struct Entry {
+    floor: u64,
+    said: Option<(u64, Announcement)>,
+}
+
+impl Model for Entry {
+    ghost use Rattle.pfair_entry.specs.Entry.{Logged, IsEntry};
+
+    ghost Value = { Logged };
+
+    ghost view = { λ e. record { floor = e.floor; said = e.said } };
+
+    ghost invariant = { λ e. IsEntry (record { floor = e.floor; said = e.said }) };
+
+    ghost inverse = { λ l. record { floor = l.floor; said = l.said } };
+}
+
+impl Exact for Entry {
+    ghost use Rattle.std.proofs.Common.{rules};
+
+    ghost exact = { λ x y. Prim.search rules };
+}
+
+impl Entry {
+    /// The last slot that a floor or a stamp may name.
+    pub const LAST_SLOT: u64 = 1_000_000;
+
+    /// The last subtask from which on a task may come late, counted from 1.
+    pub const LAST_INDEX: u64 = 1_000_000;
+
+    /// The longest delay, in slots.
+    pub const LONGEST_DELAY: u64 = 1_048_576;
+
+    /// The entry with this floor, and perhaps an announcement with its stamp.
+    ///
+    /// # Errors
+    /// The first of these that applies: `StampTooFar`, `StampBeforeFloor`, `BadIndex`, `BadDelay`.
+    pub fn new(floor: u64, said: Option<(u64, Announcement)>) -> Result<Entry, EntryFault>
+        ensures ok { IfOk result (λ e. (e ≡ record { floor = floor; said = said }) × IsEntry e) }
+        ensures err { IfErr result (IsFaultOf record { floor = floor; said = said }) }
+    {
+        if floor > Entry::LAST_SLOT {
+            return Err(EntryFault::StampTooFar);
+        }
+        let Some((stamp, announcement)) = &said else {
+            return Ok(Entry { floor, said });
+        };
+        if *stamp > Entry::LAST_SLOT {
+            return Err(EntryFault::StampTooFar);
+        }
+        if *stamp < floor {
+            return Err(EntryFault::StampBeforeFloor);
+        }
+        within_limits(*announcement)?;
+        Ok(Entry { floor, said })
+    }
+
+    /// The slot before which nothing is stamped from this entry on; at most [`Entry::LAST_SLOT`].
+    pub fn floor(&self) -> u64
+        ensures value { result ≡ self.now.floor }
+        ensures entry { IsEntry self.now }
+    {
+        self.floor
+    }
+
+    /// The announcement, with the slot of its stamp, which is at or after the floor and at most [`Entry::LAST_SLOT`].
+    pub fn said(&self) -> Option<(u64, Announcement)>
+        ensures value { result ≡ self.now.said }
+        ensures entry { IsEntry self.now }
+    {
+        self.said
+    }
+}
+
+/// Whether what is delayed is a subtask of the run, and not by too much.
+fn within_limits(announcement: Announcement) -> Result<(), EntryFault>
+    ensures ok { OnOk result (IsWithinLimits announcement) }
+    ensures err { IfErr result (IsLimitFaultOf announcement) }
+{
+    match announcement {
+        Announcement::Late { index, .. } if index == 0 || index > Entry::LAST_INDEX => Err(
+            EntryFault::BadIndex,
+        ),
+        Announcement::Late { by, .. } if by == 0 || by > Entry::LONGEST_DELAY => Err(
+            EntryFault::BadDelay,
+        ),
+        _ => Ok(()),
+    }
+}

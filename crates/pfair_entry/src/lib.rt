@@ -1,0 +1,16 @@
+//! What processors tell each other: announcements of tasks, the entries of a log that make them, and the writer of a log.
+#![tactic(auto)]
+
+pub mod announcement;
+pub mod entry;
+pub mod laws;
+pub mod said;
+pub mod writer;
+
+pub use announcement::Announcement;
+pub use entry::{Entry, EntryFault};
+pub use said::Said;
+pub use writer::{NoteFault, Writer};
+
+#[cfg(test)]
+mod tests;

@@ -1,0 +1,148 @@
+-- A loop over the entries of one map that joins them into another, or compares them, with `rest` still to come.
+use Rattle.std.proofs.Common.{◌≡◌, refl, sym, ap, subst, false, List, [], ◌∷◌, inl, inr}
+use Rattle.std.specs.Prelude.{Option, None, Some}
+use Rattle.std.specs.declared.cmp.Ordering.{Ordering}
+use Rattle.std.specs.Ordering.{is_eq, eq_by_cmp}
+use Rattle.std.specs.Map.{keys_of}
+use Rattle.std.specs.BTreeMap.{is_at}
+use Rattle.std.specs.Cmp.{IsTotalOrder, eq_by_cmp_equiv, tied_itself}
+use Rattle.std.proofs.lemmas.Map.{lookup-none}
+use Rattle.std.proofs.lemmas.Map.Keys.{sorted_tail, IsDistinct-from_sorted}
+use Rattle.std.proofs.lemmas.Map.Entries.{none_past_head}
+use Rattle.std.proofs.lemmas.Map.Lookups.{CmpEqualImpliesEq}
+use Rattle.pfair_lattice.specs.Order.{IsOrder, IsJoin}
+use Rattle.pfair_lattice.specs.Option.{OptionBelow, OptionJoins, OptionPartly}
+use Rattle.pfair_lattice.specs.Entries.{IsOrdered, get, MapBelow, MapJoins, MapPartly, covers, entries_from_get}
+use Rattle.pfair_lattice.proofs.AtKey.{by_key, head_at, tail_at, keeps}
+
+-- at a key: joined, or still to come, and then as it was
+abbrev pub JoinedSoFar : {X : Type 0} → (X → X → X → Type 0) → Option X → Option X → Option X → Option X → Type 0
+JoinedSoFar joins a b None c = OptionJoins joins a b c
+JoinedSoFar joins a b (Some w) c = (b ≡ Some w) × (c ≡ a)
+
+-- at a key: below, or still to come
+abbrev pub BelowSoFar : {X : Type 0} → (X → X → Type 0) → Option X → Option X → Option X → Type 0
+BelowSoFar below a None b = OptionBelow below a b
+BelowSoFar below a (Some w) b = a ≡ Some w
+
+below_start : {X : Type 0} (below : X → X → Type 0) (a b : Option X) → BelowSoFar below a a b
+below_start below None b = tt
+below_start below (Some v) b = refl
+
+joined_start : {X : Type 0} (joins : X → X → X → Type 0) (a b : Option X) → JoinedSoFar joins a b b a
+joined_start joins a None = keeps joins a
+joined_start joins a (Some w) = (refl, refl)
+
+so_far_partly : {X : Type 0} (joins partly : X → X → X → Type 0) (a b r c : Option X) → JoinedSoFar joins a b r c → OptionPartly joins partly a b c
+so_far_partly joins partly a b None c h = inr (inl h)
+so_far_partly joins partly a b (Some w) c h = inl h.1
+
+module _ {K X : Type 0} (cmp : K → K → Ordering) where
+  -- `now` is `old` with the entries of `other` before `rest` joined in
+  pub record IsJoinedUpTo (joins : X → X → X → Type 0) (old other rest now : List (K × X)) : Type 0 where
+    pub ordered_first : IsOrdered cmp old
+    pub ordered_second : IsOrdered cmp other
+    pub ordered_rest : IsOrdered cmp rest
+    pub ordered : IsOrdered cmp now
+    pub each : (q : K) → JoinedSoFar joins (get cmp old q) (get cmp other q) (get cmp rest q) (get cmp now q)
+
+  -- the entries of es before `rest` are covered by fs
+  pub record IsCoveredUpTo (below : X → X → Type 0) (es fs rest : List (K × X)) : Type 0 where
+    pub ordered_first : IsOrdered cmp es
+    pub ordered_rest : IsOrdered cmp rest
+    pub each : (q : K) → BelowSoFar below (get cmp es q) (get cmp rest q) (get cmp fs q)
+
+module _ {K X : Type 0} {cmp : K → K → Ordering} (o : IsTotalOrder cmp) (x : CmpEqualImpliesEq cmp) where
+  past : (k : K) (w : X) (rest : List (K × X)) → IsOrdered cmp ((k, w) ∷ rest) → get cmp rest k ≡ None
+  past k w rest s = lookup-none (is_at (cmp k)) rest (none_past_head (eq_by_cmp_equiv o) k (k, w) rest (IsDistinct-from_sorted cmp _ s) (ap is_eq (tied_itself o k)))
+
+  module _ {below : X → X → Type 0} where
+    pub covered_start : (es fs : List (K × X)) → IsOrdered cmp es → IsCoveredUpTo cmp below es fs es
+    covered_start es fs p = record { ordered_first = p; ordered_rest = p; each = λ q. below_start below (get cmp es q) (get cmp fs q) }
+
+    -- the value of the next entry is the one at its key
+    pub covered_next : (es fs rest : List (K × X)) (k : K) (v : X) → IsCoveredUpTo cmp below es fs ((k, v) ∷ rest) → get cmp es k ≡ Some v
+    covered_next es fs rest k v h = subst (λ (r : Option X). BelowSoFar below (get cmp es k) r (get cmp fs k)) (head_at o k v rest) (h.each k)
+
+    pub covered_step : (es fs rest : List (K × X)) (k : K) (v w : X) → IsCoveredUpTo cmp below es fs ((k, v) ∷ rest) → get cmp fs k ≡ Some w → below v w → IsCoveredUpTo cmp below es fs rest
+    covered_step es fs rest k v w h found le = record {
+      ordered_first = h.ordered_first;
+      ordered_rest = sorted_tail cmp k (keys_of rest) h.ordered_rest;
+      each = λ q. by_key x (λ q'. BelowSoFar below (get cmp es q') (get cmp rest q') (get cmp fs q')) k q
+          (subst (λ (r : Option X). BelowSoFar below (get cmp es k) r (get cmp fs k)) (sym (past k v rest h.ordered_rest))
+          (subst (λ (a : Option X). OptionBelow below a (get cmp fs k)) (sym (covered_next es fs rest k v h))
+          (subst (λ (b : Option X). OptionBelow below (Some v) b) (sym found) le)))
+          (λ n. subst (λ (r : Option X). BelowSoFar below (get cmp es q) r (get cmp fs q)) (tail_at o k q v rest n) (h.each q));
+    }
+
+    pub covered_end : (es fs : List (K × X)) → IsOrdered cmp fs → IsCoveredUpTo cmp below es fs [] → MapBelow cmp below es fs
+    covered_end es fs p h = inr (record { ordered_first = h.ordered_first; ordered_second = p; each = h.each })
+
+    -- a key that the other map lacks
+    pub uncovered_missing : IsOrder below → (es fs rest : List (K × X)) (k : K) (v : X) → IsCoveredUpTo cmp below es fs ((k, v) ∷ rest) → get cmp fs k ≡ None → MapBelow cmp below es fs → ⊥
+    uncovered_missing l es fs rest k v h lacks m =
+        let e = (covers l es fs h.ordered_first m).each k in
+        subst (λ (b : Option X). OptionBelow below (Some v) b) lacks (subst (λ (a : Option X). OptionBelow below a (get cmp fs k)) (covered_next es fs rest k v h) e)
+
+    -- a value that is not below
+    pub uncovered_above : IsOrder below → (es fs rest : List (K × X)) (k : K) (v w : X) → IsCoveredUpTo cmp below es fs ((k, v) ∷ rest) → get cmp fs k ≡ Some w → (below v w → ⊥) → MapBelow cmp below es fs → ⊥
+    uncovered_above l es fs rest k v w h found not_below m =
+        let e = (covers l es fs h.ordered_first m).each k in
+        not_below (subst (λ (b : Option X). OptionBelow below (Some v) b) found (subst (λ (a : Option X). OptionBelow below a (get cmp fs k)) (covered_next es fs rest k v h) e))
+
+    module _ {joins : X → X → X → Type 0} (l : IsJoin below joins) where
+      pub joined_up_to_start : (old other : List (K × X)) → IsOrdered cmp old → IsOrdered cmp other → IsJoinedUpTo cmp joins old other other old
+      joined_up_to_start old other p q = record { ordered_first = p; ordered_second = q; ordered_rest = q; ordered = p; each = λ k. joined_start joins (get cmp old k) (get cmp other k) }
+
+      -- at the next entry's key
+      joined_next : (old other rest now : List (K × X)) (k : K) (w : X) → IsJoinedUpTo cmp joins old other ((k, w) ∷ rest) now → (get cmp other k ≡ Some w) × (get cmp now k ≡ get cmp old k)
+      joined_next old other rest now k w h = subst (λ (r : Option X). JoinedSoFar joins (get cmp old k) (get cmp other k) r (get cmp now k)) (head_at o k w rest) (h.each k)
+
+      pub joined_up_to_step : (old other rest now then : List (K × X)) (k : K) (w : X) → IsJoinedUpTo cmp joins old other ((k, w) ∷ rest) now → MapJoins cmp joins now ((k, w) ∷ []) then
+          → ((q : K) → eq_by_cmp cmp k q ≡ false → get cmp then q ≡ get cmp now q) → IsJoinedUpTo cmp joins old other rest then
+      joined_up_to_step old other rest now then k w h j apart =
+          let n = joined_next old other rest now k w h in
+          let here : OptionJoins joins (get cmp now k) (Some w) (get cmp then k) = subst (λ (b : Option X). OptionJoins joins (get cmp now k) b (get cmp then k)) (head_at o k w []) (j.each k) in
+          record {
+            ordered_first = h.ordered_first;
+            ordered_second = h.ordered_second;
+            ordered_rest = sorted_tail cmp k (keys_of rest) h.ordered_rest;
+            ordered = j.ordered;
+            each = λ q. by_key x (λ q'. JoinedSoFar joins (get cmp old q') (get cmp other q') (get cmp rest q') (get cmp then q')) k q
+                (subst (λ (r : Option X). JoinedSoFar joins (get cmp old k) (get cmp other k) r (get cmp then k)) (sym (past k w rest h.ordered_rest))
+                (subst (λ (b : Option X). OptionJoins joins (get cmp old k) b (get cmp then k)) (sym n.0)
+                (subst (λ (a : Option X). OptionJoins joins a (Some w) (get cmp then k)) n.1 here)))
+                (λ e. subst (λ (r : Option X). JoinedSoFar joins (get cmp old q) (get cmp other q) r (get cmp then q)) (tail_at o k q w rest e)
+                (subst (λ (c : Option X). JoinedSoFar joins (get cmp old q) (get cmp other q) (get cmp ((k, w) ∷ rest) q) c) (sym (apart q e)) (h.each q)));
+          }
+
+      pub joined_up_to_end : (old other now : List (K × X)) → IsJoinedUpTo cmp joins old other [] now → MapJoins cmp joins old other now
+      joined_up_to_end old other now h = record { ordered_first = h.ordered_first; ordered_second = h.ordered_second; ordered = h.ordered; each = h.each }
+
+      -- the loop stops at an entry that is joined in partly
+      pub joined_up_to_failed : {partly : X → X → X → Type 0} (old other rest now then : List (K × X)) (k : K) (w : X) → IsJoinedUpTo cmp joins old other ((k, w) ∷ rest) now
+          → MapPartly cmp joins partly now ((k, w) ∷ []) then → ((q : K) → eq_by_cmp cmp k q ≡ false → get cmp then q ≡ get cmp now q) → MapPartly cmp joins partly old other then
+      joined_up_to_failed {partly} old other rest now then k w h m apart =
+          let n = joined_next old other rest now k w h in
+          let here : OptionPartly joins partly (get cmp now k) (Some w) (get cmp then k) = subst (λ (b : Option X). OptionPartly joins partly (get cmp now k) b (get cmp then k)) (head_at o k w []) (m.each k) in
+          record {
+            ordered_first = h.ordered_first;
+            ordered_second = h.ordered_second;
+            ordered = m.ordered;
+            each = λ q. by_key x (λ q'. OptionPartly joins partly (get cmp old q') (get cmp other q') (get cmp then q')) k q
+                (subst (λ (b : Option X). OptionPartly joins partly (get cmp old k) b (get cmp then k)) (sym n.0)
+                (subst (λ (a : Option X). OptionPartly joins partly a (Some w) (get cmp then k)) n.1 here))
+                (λ e. subst (λ (c : Option X). OptionPartly joins partly (get cmp old q) (get cmp other q) c) (sym (apart q e)) (so_far_partly joins partly (get cmp old q) (get cmp other q) (get cmp ((k, w) ∷ rest) q) (get cmp now q) (h.each q)));
+          }
+
+      -- the entry at which the loop stops isn't below what the map had, so the other map isn't below it
+      pub not_below_failed : (old other rest now : List (K × X)) (k : K) (w : X) → IsJoinedUpTo cmp joins old other ((k, w) ∷ rest) now
+          → (OptionBelow below (Some w) (get cmp now k) → ⊥) → MapBelow cmp below other old → ⊥
+      not_below_failed old other rest now k w h lacking m =
+          let n = joined_next old other rest now k w h in
+          let e = (covers l.order other old h.ordered_second m).each k in
+          lacking (subst (λ (c : Option X). OptionBelow below (Some w) c) (sym n.1) (subst (λ (b : Option X). OptionBelow below b (get cmp old k)) n.0 e))
+
+      -- the empty map with es joined in is es
+      pub copied : (es gs : List (K × X)) → MapJoins cmp joins [] es gs → gs ≡ es
+      copied es gs j = entries_from_get o x gs es j.ordered j.ordered_second j.each

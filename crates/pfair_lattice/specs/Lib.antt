@@ -1,0 +1,9 @@
+pub mod Entries
+pub mod Flat
+pub mod Held
+pub mod HeldLaws
+pub mod Laws
+pub mod Lent
+pub mod Option
+pub mod Order
+pub mod SameEntries

@@ -1,0 +1,147 @@
+//! Maps whose values can be joined, which are joined key by key.
+ghost use Rattle.std.specs.Prelude.{◌≡◌, ◌↔◌, ◌∷◌, [], length, IsTrue, ⊤, Some, IsSome, IfSome, OnSome, IsOk, IfOk, OnOk, OnErr, false};
+ghost use Rattle.std.specs.Option.{option_copied, option_copied_mut};
+ghost use Rattle.std.specs.Borrow.{sem};
+ghost use Rattle.pfair_lattice.specs.Lent.{LendsValue};
+ghost use Rattle.std.specs.Ordering.{eq_by_cmp};
+ghost use Rattle.pfair_lattice.specs.Entries.{IsOrdered, get, MapBelow, MapJoins, MapPartly};
+ghost use Rattle.pfair_lattice.specs.Option.{OptionBelow};
+ghost use Rattle.pfair_lattice.specs.Laws.{map_order, map_least, map_resumes, exact_cmp};
+
+use crate::exact::Exact;
+use crate::join::Join;
+use std::alloc::{AllocError, Global};
+use std::collections::BTreeMap;
+use std::marker::Model;
+
+/// A map from keys to values that can be joined, and so a value that can be joined: it nests to any depth.
+///
+/// A key is in the map or isn't, whatever its value: a key with an empty inner map is a key. One map is below another where each of its
+/// keys is a key of the other, with a value below the one there. A join has the keys of both sides: where one side has the key, its
+/// value, and where both have it, the join of their values.
+#[derive(Drop)]
+pub struct JoinMap<K: Exact + Ord, V: Join> {
+    map: BTreeMap<K, V>,
+    alloc: Global,
+}
+
+impl<K: Exact + Ord, V: Join> Model for JoinMap<K, V> {
+    ghost use Rattle.std.specs.Prelude.{List};
+
+    ghost Value = { List (K × V) };
+
+    ghost view = { λ m. m.map.entries };
+}
+
+impl<K: Exact + Ord, V: Join> JoinMap<K, V> {
+    /// The map without keys. It takes no memory, and asks `alloc` for what it grows by later.
+    pub fn new(alloc: Global) -> JoinMap<K, V>
+        ensures { result ≡ [] }
+    {
+        JoinMap {
+            map: BTreeMap::new(alloc),
+            alloc,
+        }
+    }
+
+    /// How many keys there are. Those of inner maps don't count.
+    pub fn len(&self) -> usize
+        ensures count { result ≡ length self.now }
+        ensures ordered { IsOrdered K.cmp self.now }
+    {
+        self.map.len()
+    }
+
+    /// The value at `key`, or `None` where the map lacks the key.
+    pub fn get(&self, key: &K) -> Option<&V>
+        ensures { option_copied result ≡ get K.cmp self.now key.now }
+    {
+        self.map.get(key)
+    }
+
+    /// The value at `key`, to be changed in place, or `None` where the map lacks the key.
+    ///
+    /// When the borrow ends the map holds at `key` what was left there last, and all else as before.
+    pub fn get_mut(&mut self, key: &K) -> Option<&mut V>
+        ensures* writes_back { sem 𝓛 (LendsValue K.row V.row K.Ord V.Join self.entry key.now result) }
+        ensures value { option_copied_mut result ≡ get K.cmp self.old key.now }
+        ensures ordered { IsOrdered K.cmp self.old }
+    {
+        self.map.get_mut(key)
+    }
+
+    /// Joins `value` in at `key`: a copy of it where the map lacks the key, else the join of what stands there with it.
+    ///
+    /// # Errors
+    /// `AllocError` where memory was wanted and refused: never where the map has the key and its values take no memory, and never where
+    /// what stands there is above `value` already. Then a missing key is still missing, at a key that is there a part of `value` may be
+    /// joined in, and every other key holds what it held. The same call again gives the same join.
+    pub fn put(&mut self, key: K, value: &V) -> Result<(), AllocError>
+        ensures joined { OnOk result (MapJoins K.cmp V.joins self.old ((key, value.now) ∷ []) self.new) }
+        ensures partly { OnErr result (MapPartly K.cmp V.joins V.partly self.old ((key, value.now) ∷ []) self.new) }
+        ensures lacking { OnErr result (¬ (OptionBelow V.below (Some value.now) (get K.cmp self.old key))) }
+        ensures memory { OnErr result (IsSome (get K.cmp self.old key) → V.takes_memory) }
+        ensures absent { OnErr result (get K.cmp self.old key ≡ None → self.new ≡ self.old) }
+        ensures others { (q : K) → eq_by_cmp K.cmp key q ≡ false → get K.cmp self.new q ≡ get K.cmp self.old q }
+        ensures ordered_old { IsOrdered K.cmp self.old }
+        ensures ordered { IsOrdered K.cmp self.new }
+    {
+        match self.map.get_mut(&key) {
+            Some(held) => held.join(value),
+            None => {
+                self.map.insert(key, value.copy()?)?;
+                Ok(())
+            }
+        }
+    }
+}
+
+impl<K: Exact + Ord, V: Join> Join for JoinMap<K, V> {
+    ghost below = { MapBelow K.cmp V.below };
+
+    ghost joins = { MapJoins K.cmp V.joins };
+
+    ghost partly = { MapPartly K.cmp V.joins V.partly };
+
+    ghost takes_memory = { ⊤ };
+
+    ghost order = { map_order K.total (exact_cmp K.eq K.cmp K.exact K.matches_eq) V.order };
+
+    ghost least = { map_least (record { order = V.order; least = V.least }) };
+
+    ghost resumes = { map_resumes (record { order = V.order; least = V.least }) V.resumes };
+
+    fn join(&mut self, other: &JoinMap<K, V>) -> Result<(), AllocError> {
+        // the keys of this map are in order
+        let _ = self.len();
+        for (key, value) in &other.map {
+            self.put(*key, value)?;
+        }
+        Ok(())
+    }
+
+    fn le(&self, other: &JoinMap<K, V>) -> bool {
+        // the keys of the other map are in order
+        let _ = other.len();
+        for (key, value) in &self.map {
+            match other.map.get(key) {
+                Some(held) => {
+                    if !value.le(held) {
+                        return false;
+                    }
+                }
+                None => return false,
+            }
+        }
+        true
+    }
+
+    fn copy(&self) -> Result<JoinMap<K, V>, AllocError>
+        ensures equal { IfOk result (λ copy. copy ≡ self.now) }
+        ensures nothing { self.now ≡ [] → IsOk result }
+    {
+        let mut copy = JoinMap::new(self.alloc);
+        copy.join(self)?;
+        Ok(copy)
+    }
+}

@@ -1,0 +1,150 @@
+-- The composed order of keys is the order by what differs first.
+use Rattle.std.proofs.Common.{◌≡◌, ◌≢◌, ℕ, ◌<◌, List, [], ◌∷◌, arith, refl, sym, ap, ◌∙◌, inl, inr, ◌⊎◌}
+use Rattle.std.proofs.lemmas.Bool.{cases_eq}
+use Rattle.std.proofs.lemmas.Bool.Decides.{nat_tests}
+use Rattle.std.proofs.lemmas.Cmp.{nat_list_cmp_total, tied_itself}
+use Rattle.std.specs.declared.cmp.Ordering.{Ordering}
+use Rattle.std.specs.declared.cmp.Ordering.TheVariants.{Less, Equal, Greater}
+use Rattle.std.specs.Ordering.{nat_cmp, ordering_then}
+use Rattle.std.specs.Cmp.Lexicographic.{slice_cmp}
+use Rattle.pfair_order.specs.declared.Key.{Key}
+use Rattle.pfair_order.specs.Order.{pd2_cmp, tie_group_of, GoesBefore, earlier_deadline, greater_b_bit, later_group, smaller_name, smaller_group}
+
+nat_less : (x y : ℕ) → nat_cmp x y ≡ Less → x < y
+nat_less x y h = grind (arith, nat_tests)
+
+less_nat : (x y : ℕ) → x < y → nat_cmp x y ≡ Less
+less_nat x y h = grind (arith, nat_tests)
+
+nat_equal : (x y : ℕ) → nat_cmp x y ≡ Equal → x ≡ y
+nat_equal x y h = grind (arith, nat_tests)
+
+equal_nat : (x y : ℕ) → x ≡ y → nat_cmp x y ≡ Equal
+equal_nat x y h = grind (arith, nat_tests)
+
+then_less : (o p : Ordering) → ordering_then o p ≡ Less → (o ≡ Less) ⊎ ((o ≡ Equal) × (p ≡ Less))
+then_less Less p h = inl refl
+then_less Equal p h = inr (refl, h)
+then_less Greater p h = absurd (cc)
+
+less_first : (o p : Ordering) → o ≡ Less → ordering_then o p ≡ Less
+less_first Less p h = refl
+less_first Equal p h = absurd (cc)
+less_first Greater p h = absurd (cc)
+
+equal_first : (o p : Ordering) → o ≡ Equal → ordering_then o p ≡ p
+equal_first Less p h = absurd (cc)
+equal_first Equal p h = refl
+equal_first Greater p h = absurd (cc)
+
+then_equal : (o p : Ordering) → ordering_then o p ≡ Equal → (o ≡ Equal) × (p ≡ Equal)
+then_equal Less p h = absurd (cc)
+then_equal Equal p h = (refl, h)
+then_equal Greater p h = absurd (cc)
+
+same_bytes : (xs ys : List ℕ) → slice_cmp nat_cmp xs ys ≡ Equal → xs ≡ ys
+same_bytes [] [] h = refl
+same_bytes [] (y ∷ ys) h = absurd (cc)
+same_bytes (x ∷ xs) [] h = absurd (cc)
+same_bytes (x ∷ xs) (y ∷ ys) h =
+    let parts = then_equal (nat_cmp x y) (slice_cmp nat_cmp xs ys) h in
+    let first : x ≡ y = nat_equal x y parts.0 in
+    let rest : xs ≡ ys = same_bytes xs ys parts.1 in
+    cc
+
+bytes_same : (xs ys : List ℕ) → xs ≡ ys → slice_cmp nat_cmp xs ys ≡ Equal
+bytes_same xs ys e = rw e (tied_itself nat_list_cmp_total ys)
+
+tie_one : (k : Key) → k.b ≡ 1 → tie_group_of k ≡ k.group
+tie_one k h = grind (arith, nat_tests)
+
+tie_other : (k : Key) → k.b ≢ 1 → tie_group_of k ≡ 0
+tie_other k h = grind (arith, nat_tests)
+
+-- at equal b-bits the tie groups differ as the group deadlines of b-bits of 1 do
+ties : (k l : Key) → k.b ≡ l.b → (k.b ≡ 1 → k.group ≡ l.group) → tie_group_of k ≡ tie_group_of l
+ties k l same groups =
+    elim (cases_eq k.b 1) [
+      | inl one ↦ (let left = tie_one k one in let right = tie_one l (sym same ∙ one) in let middle = groups one in cc)
+      | inr other ↦ (let left = tie_other k other in let right = tie_other l (λ e. other (same ∙ e)) in cc)
+    ]
+
+same_groups : (k l : Key) → k.b ≡ l.b → tie_group_of k ≡ tie_group_of l → k.b ≡ 1 → k.group ≡ l.group
+same_groups k l same tied one = let left = tie_one k one in let right = tie_one l (sym same ∙ one) in cc
+
+less_tie : (k l : Key) → k.d ≡ l.d → k.b ≡ l.b → tie_group_of l < tie_group_of k → GoesBefore k l
+less_tie k l d same lower =
+    elim (cases_eq k.b 1) [
+      | inl one ↦ (let left = tie_one k one in let right = tie_one l (sym same ∙ one) in later_group d one (sym same ∙ one) (omega arith))
+      | inr other ↦ absurd (let left = tie_other k other in omega arith)
+    ]
+
+other_b_bit : (k l : Key) → (k.b ≡ 1 → k.group ≡ l.group) → k.group < l.group → k.b ≢ 1
+other_b_bit k l groups lower one = let same : k.group ≡ l.group = groups one in omega arith
+
+pub goes_before : (k l : Key) → pd2_cmp k l ≡ Less → GoesBefore k l
+goes_before k l h =
+    elim (then_less (nat_cmp k.d l.d) _ h) [
+      | inl lower ↦ earlier_deadline (nat_less k.d l.d lower)
+      | inr past_d ↦ (let d = nat_equal k.d l.d past_d.0 in elim (then_less (nat_cmp l.b k.b) _ past_d.1) [
+        | inl lower ↦ greater_b_bit d (nat_less l.b k.b lower)
+        | inr past_b ↦ (let b = sym (nat_equal l.b k.b past_b.0) in elim (then_less (nat_cmp (tie_group_of l) (tie_group_of k)) _ past_b.1) [
+          | inl lower ↦ less_tie k l d b (nat_less (tie_group_of l) (tie_group_of k) lower)
+          | inr past_tie ↦ (let groups = same_groups k l b (sym (nat_equal (tie_group_of l) (tie_group_of k) past_tie.0)) in elim (then_less (slice_cmp nat_cmp k.name l.name) _ past_tie.1) [
+            | inl lower ↦ smaller_name d b groups lower
+            | inr past_name ↦
+                let lower = nat_less k.group l.group past_name.1 in
+                smaller_group d b (other_b_bit k l groups lower) (same_bytes k.name l.name past_name.0) lower
+          ])
+        ])
+      ])
+    ]
+
+past_d : (k l : Key) → k.d ≡ l.d → (o : Ordering) → ordering_then (nat_cmp k.d l.d) o ≡ o
+past_d k l d o = equal_first (nat_cmp k.d l.d) o (equal_nat k.d l.d d)
+
+past_b : (k l : Key) → k.b ≡ l.b → (o : Ordering) → ordering_then (nat_cmp l.b k.b) o ≡ o
+past_b k l b o = equal_first (nat_cmp l.b k.b) o (equal_nat l.b k.b (sym b))
+
+past_tie : (k l : Key) → tie_group_of k ≡ tie_group_of l → (o : Ordering) → ordering_then (nat_cmp (tie_group_of l) (tie_group_of k)) o ≡ o
+past_tie k l t o = equal_first (nat_cmp (tie_group_of l) (tie_group_of k)) o (equal_nat (tie_group_of l) (tie_group_of k) (sym t))
+
+past_name : (k l : Key) → k.name ≡ l.name → (o : Ordering) → ordering_then (slice_cmp nat_cmp k.name l.name) o ≡ o
+past_name k l n o = equal_first (slice_cmp nat_cmp k.name l.name) o (bytes_same k.name l.name n)
+
+pub compares_less : (k l : Key) → GoesBefore k l → pd2_cmp k l ≡ Less
+compares_less k l (earlier_deadline lower) = less_first (nat_cmp k.d l.d) _ (less_nat k.d l.d lower)
+compares_less k l (greater_b_bit d lower) = past_d k l d _ ∙ less_first (nat_cmp l.b k.b) _ (less_nat l.b k.b lower)
+compares_less k l (later_group d one one' lower) =
+    past_d k l d _ ∙ past_b k l (one ∙ sym one') _
+    ∙ less_first (nat_cmp (tie_group_of l) (tie_group_of k)) _ (less_nat (tie_group_of l) (tie_group_of k) (rw (tie_one l one', tie_one k one) lower))
+compares_less k l (smaller_name d b groups lower) =
+    past_d k l d _ ∙ past_b k l b _ ∙ past_tie k l (ties k l b groups) _ ∙ less_first (slice_cmp nat_cmp k.name l.name) _ lower
+compares_less k l (smaller_group d b other name lower) =
+    past_d k l d _ ∙ past_b k l b _ ∙ past_tie k l (ties k l b (λ one. absurd (other one))) _ ∙ past_name k l name _ ∙ less_nat k.group l.group lower
+
+pub same_key : (k l : Key) → pd2_cmp k l ≡ Equal → k ≡ l
+same_key k l h =
+    let one = then_equal (nat_cmp k.d l.d) _ h in
+    let two = then_equal (nat_cmp l.b k.b) _ one.1 in
+    let three = then_equal (nat_cmp (tie_group_of l) (tie_group_of k)) _ two.1 in
+    let four = then_equal (slice_cmp nat_cmp k.name l.name) _ three.1 in
+    let d : k.d ≡ l.d = nat_equal k.d l.d one.0 in
+    let b : k.b ≡ l.b = sym (nat_equal l.b k.b two.0) in
+    let name : k.name ≡ l.name = same_bytes k.name l.name four.0 in
+    let group : k.group ≡ l.group = nat_equal k.group l.group four.1 in
+    λ i. record { d = d i; b = b i; group = group i; name = name i }
+
+pub compares_equal : (k l : Key) → k ≡ l → pd2_cmp k l ≡ Equal
+compares_equal k l e =
+    past_d k l (ap (λ (x : Key). x.d) e) _ ∙ past_b k l (ap (λ (x : Key). x.b) e) _ ∙ past_tie k l (ap tie_group_of e) _
+    ∙ past_name k l (ap (λ (x : Key). x.name) e) _ ∙ equal_nat k.group l.group (ap (λ (x : Key). x.group) e)
+
+then_assoc : (a b c : Ordering) → ordering_then (ordering_then a b) c ≡ ordering_then a (ordering_then b c)
+then_assoc Less b c = refl
+then_assoc Equal b c = refl
+then_assoc Greater b c = refl
+
+-- a chain of `then` compares field by field
+pub chained : (a b c d e : Ordering) → ordering_then (ordering_then (ordering_then (ordering_then a b) c) d) e ≡ ordering_then a (ordering_then b (ordering_then c (ordering_then d e)))
+chained a b c d e = simp then_assoc

@@ -1,0 +1,350 @@
+-- What a split of the keys into a rising front and a rest says of ranks.
+use Rattle.std.proofs.Common.{◌≡◌, ℕ, zero, suc, ◌+◌, ◌<◌, ◌≤◌, inl, inr, Bool, true, false, cond, List, [], ◌∷◌, ◌++◌, length, refl, sym, ap, subst, ◌∙◌, arith, get_or, append_assoc, Some, None}
+use Rattle.std.specs.List.{All, AllByRecursion, Contains, count_by, slice_get}
+use Rattle.std.specs.declared.cmp.Ordering.{Ordering}
+use Rattle.std.specs.declared.cmp.Ordering.TheVariants.{Less, Equal, Greater}
+use Rattle.std.specs.Ordering.{is_lt, is_eq, ordering_reverse}
+use Rattle.std.specs.Cmp.{IsTotalOrder, tied_itself}
+use Rattle.std.specs.List.Sorted.{IsPermutation, IsSortedBy}
+use Rattle.std.proofs.lemmas.List.Sorted.{sum_by-IsPermutation, Contains-permutation, IsPermutation-sym, IsPermutation-trans, IsPermutation-append_right, All-permutation, sorted_far, ranks_by}
+use Rattle.std.proofs.lemmas.List.Sums.{sum_by-append, sum_by-cons}
+use Rattle.std.proofs.lemmas.List.Elements.{Contains-append_left, Contains-append_cases, recursion_from_All, All-from_recursion, All-from_get_or}
+use Rattle.std.proofs.lemmas.Option.{slice_get_within, slice_get-get_or}
+use Rattle.std.specs.Prelude.{nat_le}
+use Rattle.std.specs.Cmp.{alike_right}
+use Rattle.std.proofs.lemmas.Bool.{leb-true, leb-false}
+use Rattle.pfair_order.specs.Rank.{rank, AreFirst}
+
+some_inj : {A : Type 0} (x y : A) → Some x ≡ Some y → x ≡ y
+some_inj x y e = cc
+
+none_some : {A : Type 0} (x : A) → None ≡ Some x → ⊥
+none_some x e = cc
+
+-- an element of a list stands at some place, and the other way round
+pub place_of : {A : Type 0} (xs : List A) (x : A) → Contains xs x → (i : ℕ) × (slice_get xs i ≡ Some x)
+place_of xs x (i, within, is) = (i, slice_get-get_or xs i x within ∙ ap Some is)
+
+pub at_place : {A : Type 0} (xs : List A) (i : ℕ) (x : A) → slice_get xs i ≡ Some x → Contains xs x
+at_place [] i x e = absurd (none_some x e)
+at_place (y ∷ ys) zero x e = (0, omega arith, some_inj y x e)
+at_place (y ∷ ys) (suc i) x e =
+    let rest = at_place ys i x e in
+    (suc rest.0, omega (arith, rest.1), rest.2)
+
+-- what holds of each element holds at each place
+pub at_each : {A : Type 0} (P : A → Type 0) (xs : List A) (i : ℕ) (x : A) → AllByRecursion P xs → slice_get xs i ≡ Some x → P x
+at_each P [] i x h e = absurd (none_some x e)
+at_each P (y ∷ ys) zero x h e = subst P (some_inj y x e) h.0
+at_each P (y ∷ ys) (suc i) x h e = at_each P ys i x h.1 e
+
+count_cons : {A : Type 0} (p : A → Bool) (x : A) (xs : List A) (n : ℕ) → count_by p xs ≡ n → count_by p (x ∷ xs) ≡ cond (p x) 1 0 + n
+count_cons p x xs n e = sum_by-cons (λ y. cond (p y) 1 0) x xs ∙ ap (λ m. cond (p x) 1 0 + m) e
+
+pub none_counted : {A : Type 0} (p : A → Bool) (xs : List A) → AllByRecursion (λ x. p x ≡ false) xs → count_by p xs ≡ 0
+none_counted p [] h = refl
+none_counted p (x ∷ xs) h = count_cons p x xs 0 (none_counted p xs h.1) ∙ rw h.0 refl
+
+pub all_counted : {A : Type 0} (p : A → Bool) (xs : List A) → AllByRecursion (λ x. p x ≡ true) xs → count_by p xs ≡ length xs
+all_counted p [] h = refl
+all_counted p (x ∷ xs) h = count_cons p x xs (length xs) (all_counted p xs h.1) ∙ rw h.0 (omega arith)
+
+-- lists with the same elements at the same places are one
+pub same_places : {A : Type 0} (xs ys : List A) → ((i : ℕ) (x : A) → slice_get xs i ≡ Some x → slice_get ys i ≡ Some x) → ((i : ℕ) (x : A) → slice_get ys i ≡ Some x → slice_get xs i ≡ Some x) → xs ≡ ys
+same_places [] [] f g = refl
+same_places [] (y ∷ ys) f g = absurd (none_some y (g 0 y refl))
+same_places (x ∷ xs) [] f g = absurd (none_some x (f 0 x refl))
+same_places (x ∷ xs) (y ∷ ys) f g =
+    ap (λ z. z ∷ xs) (sym (some_inj y x (f 0 x refl))) ∙ ap (λ l. y ∷ l) (same_places xs ys (λ i z e. f (suc i) z e) (λ i z e. g (suc i) z e))
+
+-- each key goes before all later ones
+abbrev pub Rising : {K : Type 0} → (K → K → Ordering) → List K → Type 0
+Rising R [] = Unit {0}
+Rising R (x ∷ xs) = AllByRecursion (λ y. R x y ≡ Less) xs × Rising R xs
+
+less_not_back : (r s : Ordering) → r ≡ ordering_reverse s → s ≡ Less → is_lt r ≡ false
+less_not_back r s e f = rw e (rw f refl)
+
+module _ {K : Type 0} {R : K → K → Ordering} (o : IsTotalOrder R) where
+  not_back : (x y : K) → R x y ≡ Less → is_lt (R y x) ≡ false
+  not_back x y e = less_not_back (R y x) (R x y) (o.antisymm y x) e
+
+  none_back : (x : K) (ys : List K) → AllByRecursion (λ y. R x y ≡ Less) ys → AllByRecursion (λ y. is_lt (R y x) ≡ false) ys
+  none_back x [] h = tt
+  none_back x (y ∷ ys) h = (not_back x y h.0, none_back x ys h.1)
+
+  itself_not_before : (x : K) → is_lt (R x x) ≡ false
+  itself_not_before x = elim (R x x) as (λ r. R x x ≡ r → is_lt r ≡ false) [
+    | Less ↦ λ e. rw e at (not_back x x e)
+    | Equal ↦ λ e. refl
+    | Greater ↦ λ e. refl
+  ] refl
+
+  -- a key of a rising list has its place as its rank there
+  pub rank_rising : (xs : List K) (i : ℕ) (k : K) → Rising R xs → slice_get xs i ≡ Some k → rank R xs k ≡ i
+  rank_rising [] i k h e = absurd (none_some k e)
+  rank_rising (x ∷ xs) zero k h e =
+      subst (λ v. rank R (x ∷ xs) v ≡ 0) (some_inj x k e) (count_cons (λ y. is_lt (R y x)) x xs 0 (none_counted (λ y. is_lt (R y x)) xs (none_back x xs h.0)) ∙ rw (itself_not_before x) refl)
+  rank_rising (x ∷ xs) (suc i) k h e =
+      let before : R x k ≡ Less = at_each (λ y. R x y ≡ Less) xs i k h.0 e in
+      let rest : rank R xs k ≡ i = rank_rising xs i k h.1 e in
+      count_cons (λ y. is_lt (R y k)) x xs i rest ∙ rw before (omega arith)
+
+  -- keys that no one of the list goes before, and keys that all of the list go before
+  all_before : (ks : List K) (x : K) → AllByRecursion (λ k. R k x ≡ Less) ks → AllByRecursion (λ k. is_lt (R k x) ≡ true) ks
+  all_before [] x h = tt
+  all_before (k ∷ ks) x h = (ap is_lt h.0, all_before ks x h.1)
+
+  -- the parts of a list of keys: those that are given, in rising order, and the rest, which all go after these
+  pub record IsSplit (keys given rest : List K) : Type 0 where
+    pub parts : IsPermutation keys (given ++ rest)
+    pub rising : Rising R given
+    pub after : AllByRecursion (λ z. AllByRecursion (λ k. R k z ≡ Less) given) rest
+
+  rank_parts : (keys given rest : List K) (k : K) → IsPermutation keys (given ++ rest) → rank R keys k ≡ rank R given k + rank R rest k
+  rank_parts keys given rest k p = sym (sum_by-IsPermutation (λ y. cond (is_lt (R y k)) 1 0) keys (given ++ rest) p) ∙ sum_by-append (λ y. cond (is_lt (R y k)) 1 0) given rest
+
+  none_of_rest : (given rest : List K) (i : ℕ) (k : K) → slice_get given i ≡ Some k → AllByRecursion (λ z. AllByRecursion (λ k. R k z ≡ Less) given) rest → AllByRecursion (λ z. is_lt (R z k) ≡ false) rest
+  none_of_rest given [] i k e h = tt
+  none_of_rest given (z ∷ rest) i k e h = (not_back k z (at_each (λ k. R k z ≡ Less) given i k h.0 e), none_of_rest given rest i k e h.1)
+
+  -- the rank of a given key is its place
+  pub rank_given : (keys given rest : List K) → IsSplit keys given rest → (i : ℕ) (k : K) → slice_get given i ≡ Some k → rank R keys k ≡ i
+  rank_given keys given rest s i k e =
+      let own : rank R given k ≡ i = rank_rising given i k s.rising e in
+      let others : rank R rest k ≡ 0 = none_counted (λ z. is_lt (R z k)) rest (none_of_rest given rest i k e s.after) in
+      rank_parts keys given rest k s.parts ∙ rw own (rw others (omega arith))
+
+  -- a key of the rest has no less than all the given ones before it
+  pub rank_rest : (keys given rest : List K) → IsSplit keys given rest → (k : K) → Contains rest k → length given ≤ rank R keys k
+  rank_rest keys given rest s k c =
+      let at = place_of rest k c in
+      let before : AllByRecursion (λ g. R g k ≡ Less) given = at_each (λ z. AllByRecursion (λ g. R g z ≡ Less) given) rest at.0 k s.after at.1 in
+      let own : rank R given k ≡ length given = all_counted (λ g. is_lt (R g k)) given (all_before given k before) in
+      rw (rank_parts keys given rest k s.parts) (rw own (omega arith))
+
+  no_rest : (rest : List K) (k : K) → rest ≡ [] → Contains rest k → ⊥
+  no_rest rest k e c = subst (λ l. Contains l k → ⊥) (sym e) (λ (d : Contains [] k). none_some k (place_of [] k d).1) c
+
+  -- what is given is the first m, where it is not more than m, and less than m only where nothing is left
+  pub first_of_split : (m : ℕ) (keys given rest : List K) → IsSplit keys given rest → length given ≤ m → (length given < m → rest ≡ []) → AreFirst R m keys given
+  first_of_split m keys given rest s within all = record {
+    at_rank = λ i k e. (
+      Contains-permutation (given ++ rest) keys k (IsPermutation-sym keys (given ++ rest) s.parts) (Contains-append_left given rest k (at_place given i k e)),
+      rank_given keys given rest s i k e,
+      omega (arith, slice_get_within given i k e),
+    );
+    complete = λ k c below.
+        elim (Contains-append_cases given rest k (Contains-permutation keys (given ++ rest) k s.parts c)) [
+          | inl in_given ↦ let at = place_of given k in_given in rw (rank_given keys given rest s at.0 k at.1) at.1
+          | inr in_rest ↦
+              let far : length given ≤ rank R keys k = rank_rest keys given rest s k in_rest in
+              absurd (no_rest rest k (all (omega arith)) in_rest)
+        ];
+  }
+
+  -- no key of the list stands in it twice
+  abbrev pub Once : List K → Type 0
+  Once keys = (k : K) → count_by (λ x. is_eq (R x k)) keys ≤ 1
+
+  zero_counted : (p : K → Bool) (xs : List K) → count_by p xs ≡ 0 → AllByRecursion (λ x. p x ≡ false) xs
+  zero_counted p [] e = tt
+  zero_counted p (x ∷ xs) e =
+      let sum : cond (p x) 1 0 + count_by p xs ≡ 0 = sym (count_cons p x xs _ refl) ∙ e in
+      (elim (p x) as (λ b. cond b 1 0 + count_by p xs ≡ 0 → b ≡ false) [ true ↦ λ h. absurd (omega arith) | false ↦ λ h. refl ] sum, zero_counted p xs (omega arith))
+
+  count_of_tail : (p : K → Bool) (x : K) (xs : List K) → count_by p (x ∷ xs) ≤ 1 → count_by p xs ≤ 1
+  count_of_tail p x xs h = let e : count_by p (x ∷ xs) ≡ cond (p x) 1 0 + count_by p xs = count_cons p x xs _ refl in omega arith
+
+  pub less_of : (r s : Ordering) → r ≡ ordering_reverse s → is_lt r ≡ false → is_eq r ≡ false → s ≡ Less
+  less_of Less s e f g = cc
+  less_of Equal s e f g = cc
+  less_of Greater Less e f g = refl
+  less_of Greater Equal e f g = cc
+  less_of Greater Greater e f g = cc
+
+  is_eq_back : (r s : Ordering) → r ≡ ordering_reverse s → is_eq s ≡ false → is_eq r ≡ false
+  is_eq_back r Less e f = ap is_eq e
+  is_eq_back r Equal e f = cc
+  is_eq_back r Greater e f = ap is_eq e
+
+  all_less : (x : K) (zs : List K) → AllByRecursion (λ z. is_lt (R z x) ≡ false) zs → AllByRecursion (λ z. is_eq (R z x) ≡ false) zs → AllByRecursion (λ z. R x z ≡ Less) zs
+  all_less x [] f g = tt
+  all_less x (z ∷ zs) f g = (less_of (R z x) (R x z) (o.antisymm z x) f.0 g.0, all_less x zs f.1 g.1)
+
+  sorted_tail : (x : K) (xs : List K) → IsSortedBy (λ a b. is_lt (R a b)) (x ∷ xs) → IsSortedBy (λ a b. is_lt (R a b)) xs
+  sorted_tail x xs up k d low high =
+      subst (λ j. is_lt (R (get_or (x ∷ xs) j d) (get_or xs k d)) ≡ false) (let e : suc k + 1 ≡ suc (k + 1) = omega arith in e) (up (suc k) d (omega arith) (omega arith))
+
+  sorted_head : (x : K) (xs : List K) → IsSortedBy (λ a b. is_lt (R a b)) (x ∷ xs) → AllByRecursion (λ z. is_lt (R z x) ≡ false) xs
+  sorted_head x xs up =
+      recursion_from_All (λ z. is_lt (R z x) ≡ false) xs (All-from_get_or (λ z. is_lt (R z x) ≡ false) xs x (λ j within.
+      sorted_far (λ a b. is_lt (R a b)) (ranks_by o (λ k. k)) (x ∷ xs) up 0 (suc j) x (omega arith) (omega arith)))
+
+  itself_equal : (x : K) → is_eq (R x x) ≡ true
+  itself_equal x = ap is_eq (tied_itself o x)
+
+  apart_from_head : (x : K) (xs : List K) → Once (x ∷ xs) → AllByRecursion (λ z. is_eq (R z x) ≡ false) xs
+  apart_from_head x xs once =
+      let e : count_by (λ z. is_eq (R z x)) (x ∷ xs) ≡ cond (is_eq (R x x)) 1 0 + count_by (λ z. is_eq (R z x)) xs = count_cons (λ z. is_eq (R z x)) x xs _ refl in
+      let e1 : count_by (λ z. is_eq (R z x)) (x ∷ xs) ≡ 1 + count_by (λ z. is_eq (R z x)) xs = e ∙ ap (λ b. cond b 1 0 + count_by (λ z. is_eq (R z x)) xs) (itself_equal x) in
+      let h : count_by (λ z. is_eq (R z x)) (x ∷ xs) ≤ 1 = once x in
+      zero_counted (λ z. is_eq (R z x)) xs (omega arith)
+
+  rising_from_sorted : (xs : List K) → IsSortedBy (λ a b. is_lt (R a b)) xs → Once xs → Rising R xs
+  rising_from_sorted [] up once = tt
+  rising_from_sorted (x ∷ xs) up once = (
+    all_less x xs (sorted_head x xs up) (apart_from_head x xs once),
+    rising_from_sorted xs (sorted_tail x xs up) (λ k. count_of_tail (λ z. is_eq (R z k)) x xs (once k)),
+  )
+
+  once_permutation : (xs ys : List K) → IsPermutation xs ys → Once xs → Once ys
+  once_permutation xs ys p once k = rw (sum_by-IsPermutation (λ x. cond (is_eq (R x k)) 1 0) xs ys p) (once k)
+
+  once_front : (xs ys : List K) → Once (xs ++ ys) → Once xs
+  once_front xs ys once k =
+      let e : count_by (λ x. is_eq (R x k)) (xs ++ ys) ≡ count_by (λ x. is_eq (R x k)) xs + count_by (λ x. is_eq (R x k)) ys = sum_by-append (λ x. cond (is_eq (R x k)) 1 0) xs ys in
+      let h : count_by (λ x. is_eq (R x k)) (xs ++ ys) ≤ 1 = once k in
+      omega arith
+
+  -- a key of the second part ties with none of the first
+  apart_parts : (xs ys : List K) (z : K) → Once (xs ++ z ∷ ys) → AllByRecursion (λ x. is_eq (R x z) ≡ false) xs
+  apart_parts xs ys z once =
+      let e : count_by (λ x. is_eq (R x z)) (xs ++ z ∷ ys) ≡ count_by (λ x. is_eq (R x z)) xs + count_by (λ x. is_eq (R x z)) (z ∷ ys) = sum_by-append (λ x. cond (is_eq (R x z)) 1 0) xs (z ∷ ys) in
+      let f : count_by (λ x. is_eq (R x z)) (z ∷ ys) ≡ 1 + count_by (λ x. is_eq (R x z)) ys = count_cons (λ x. is_eq (R x z)) z ys _ refl ∙ ap (λ b. cond b 1 0 + count_by (λ x. is_eq (R x z)) ys) (itself_equal z) in
+      let h : count_by (λ x. is_eq (R x z)) (xs ++ z ∷ ys) ≤ 1 = once z in
+      zero_counted (λ x. is_eq (R x z)) xs (omega arith)
+
+  once_without : (xs ys : List K) (z : K) → Once (xs ++ z ∷ ys) → Once (xs ++ ys)
+  once_without xs ys z once k =
+      let e : count_by (λ x. is_eq (R x k)) (xs ++ z ∷ ys) ≡ count_by (λ x. is_eq (R x k)) xs + count_by (λ x. is_eq (R x k)) (z ∷ ys) = sum_by-append (λ x. cond (is_eq (R x k)) 1 0) xs (z ∷ ys) in
+      let f : count_by (λ x. is_eq (R x k)) (z ∷ ys) ≡ cond (is_eq (R z k)) 1 0 + count_by (λ x. is_eq (R x k)) ys = count_cons (λ x. is_eq (R x k)) z ys _ refl in
+      let g : count_by (λ x. is_eq (R x k)) (xs ++ ys) ≡ count_by (λ x. is_eq (R x k)) xs + count_by (λ x. is_eq (R x k)) ys = sum_by-append (λ x. cond (is_eq (R x k)) 1 0) xs ys in
+      let h : count_by (λ x. is_eq (R x k)) (xs ++ z ∷ ys) ≤ 1 = once k in
+      omega arith
+
+  all_given_less : (z : K) (ks : List K) → AllByRecursion (λ r. is_lt (R z r) ≡ false) ks → AllByRecursion (λ r. is_eq (R r z) ≡ false) ks → AllByRecursion (λ r. R r z ≡ Less) ks
+  all_given_less z [] f g = tt
+  all_given_less z (k ∷ ks) f g =
+      (less_of (R z k) (R k z) (o.antisymm z k) f.0 (is_eq_back (R z k) (R k z) (o.antisymm z k) g.0), all_given_less z ks f.1 g.1)
+
+  after_from_all : (given rest : List K) → Once (given ++ rest) → AllByRecursion (λ z. All (λ r. is_lt (R z r) ≡ false) given) rest → AllByRecursion (λ z. AllByRecursion (λ k. R k z ≡ Less) given) rest
+  after_from_all given [] once h = tt
+  after_from_all given (z ∷ rest) once h = (
+    all_given_less z given (recursion_from_All (λ r. is_lt (R z r) ≡ false) given h.0) (apart_parts given rest z once),
+    after_from_all given rest (once_without given rest z once) h.1,
+  )
+
+  -- the least of keys that stand once split them
+  pub split_from_least : (keys given rest : List K) → Once keys → IsSortedBy (λ a b. is_lt (R a b)) given → IsPermutation keys (given ++ rest) → All (λ z. All (λ r. is_lt (R z r) ≡ false) given) rest → IsSplit keys given rest
+  split_from_least keys given rest once up p least =
+      let once' : Once (given ++ rest) = once_permutation keys (given ++ rest) p once in
+      record {
+        parts = p;
+        rising = rising_from_sorted given up (once_front given rest once');
+        after = after_from_all given rest once' (recursion_from_All (λ z. All (λ r. is_lt (R z r) ≡ false) given) rest least);
+      }
+
+  -- ranks do not depend on the order in which the keys are listed
+  pub first_of_permutation : (m : ℕ) (keys others first : List K) → IsPermutation keys others → AreFirst R m keys first → AreFirst R m others first
+  first_of_permutation m keys others first p a =
+      let same : (k : K) → rank R others k ≡ rank R keys k = λ k. sum_by-IsPermutation (λ y. cond (is_lt (R y k)) 1 0) keys others p in
+      record {
+        at_rank = λ i k e.
+            let f = a.at_rank i k e in
+            (Contains-permutation keys others k p f.0, same k ∙ f.1, f.2);
+        complete = λ k c below. rw (same k) (a.complete k (Contains-permutation others keys k (IsPermutation-sym keys others p) c) (rw (same k) at below));
+      }
+
+  all_push : (P : K → Type 0) (xs : List K) (x : K) → AllByRecursion P xs → P x → AllByRecursion P (xs ++ x ∷ [])
+  all_push P [] x h p = (p, tt)
+  all_push P (y ∷ ys) x h p = (h.0, all_push P ys x h.1 p)
+
+  rising_push : (xs : List K) (x : K) → Rising R xs → AllByRecursion (λ g. R g x ≡ Less) xs → Rising R (xs ++ x ∷ [])
+  rising_push [] x h b = (tt, tt)
+  rising_push (y ∷ ys) x h b = (all_push (λ z. R y z ≡ Less) ys x h.0 b.0, rising_push ys x h.1 b.1)
+
+  after_push : (given : List K) (k : K) (others : List K) → AllByRecursion (λ z. AllByRecursion (λ g. R g z ≡ Less) given) others → AllByRecursion (λ z. R k z ≡ Less) others → AllByRecursion (λ z. AllByRecursion (λ g. R g z ≡ Less) (given ++ k ∷ [])) others
+  after_push given k [] h l = tt
+  after_push given k (z ∷ others) h l = (all_push (λ g. R g z ≡ Less) given k h.0 l.0, after_push given k others h.1 l.1)
+
+  -- the least of the rest may be given next
+  pub split_more : (keys given rest others : List K) (k : K) → IsSplit keys given rest → IsPermutation rest (k ∷ others) → AllByRecursion (λ z. R k z ≡ Less) others → IsSplit keys (given ++ k ∷ []) others
+  split_more keys given rest others k s p least =
+      let moved : AllByRecursion (λ z. AllByRecursion (λ g. R g z ≡ Less) given) (k ∷ others) =
+      recursion_from_All (λ z. AllByRecursion (λ g. R g z ≡ Less) given) (k ∷ others) (All-permutation (λ z. AllByRecursion (λ g. R g z ≡ Less) given) rest (k ∷ others) p (All-from_recursion (λ z. AllByRecursion (λ g. R g z ≡ Less) given) rest s.after)) in
+      record {
+        parts = rw append_assoc (IsPermutation-trans keys (given ++ rest) (given ++ (k ∷ others)) s.parts (IsPermutation-append_right given rest (k ∷ others) p));
+        rising = rising_push given k s.rising moved.0;
+        after = after_push given k others moved.1 least;
+      }
+
+  -- one list alone has the first m keys
+  pub first_unique : (m : ℕ) (keys xs ys : List K) → AreFirst R m keys xs → AreFirst R m keys ys → xs ≡ ys
+  first_unique m keys xs ys a b =
+      same_places xs ys
+      (λ i k e. let f = a.at_rank i k e in subst (λ j. slice_get ys j ≡ Some k) f.1 (b.complete k f.0 (rw f.1 f.2)))
+      (λ i k e. let f = b.at_rank i k e in subst (λ j. slice_get xs j ≡ Some k) f.1 (a.complete k f.0 (rw f.1 f.2)))
+
+  each_place : (P : K → Type 0) (xs : List K) → ((i : ℕ) (k : K) → slice_get xs i ≡ Some k → P k) → AllByRecursion P xs
+  each_place P [] f = tt
+  each_place P (x ∷ xs) f = (f 0 x refl, each_place P xs (λ i k e. f (suc i) k e))
+
+  -- a key that does not go before another has all before it that the other has
+  counted_too : (p q : K → Bool) → ((x : K) → p x ≡ true → q x ≡ true) → (xs : List K) → count_by p xs ≤ count_by q xs
+  counted_too p q more [] = omega arith
+  counted_too p q more (x ∷ xs) =
+      let rest : count_by p xs ≤ count_by q xs = counted_too p q more xs in
+      let one : cond (p x) 1 0 ≤ cond (q x) 1 0 =
+      elim (p x) as (λ b. p x ≡ b → cond b 1 0 ≤ cond (q x) 1 0) [ true ↦ λ t. rw (more x t) (omega arith) | false ↦ λ _. omega arith ] refl in
+      rw (count_cons p x xs _ refl) (rw (count_cons q x xs _ refl) (omega arith))
+
+  is_less : (r : Ordering) → is_lt r ≡ true → r ≡ Less
+  is_less Less e = refl
+  is_less Equal e = cc
+  is_less Greater e = cc
+
+  -- of two keys the one of the less rank goes first
+  pub less_by_rank : (keys : List K) (x y : K) → rank R keys x < rank R keys y → R x y ≡ Less
+  less_by_rank keys x y lower =
+      elim (R x y) as (λ r. R x y ≡ r → r ≡ Less) [
+        | Less ↦ λ _. refl
+        | Equal ↦ λ t.
+            let no_more : rank R keys y ≤ rank R keys x = counted_too (λ z. is_lt (R z y)) (λ z. is_lt (R z x)) (λ z h. ap is_lt (alike_right o x y z t) ∙ h) keys in
+            absurd (omega arith)
+        | Greater ↦ λ t.
+            let back : R y x ≡ Less = o.antisymm y x ∙ ap ordering_reverse t in
+            let no_more : rank R keys y ≤ rank R keys x = counted_too (λ z. is_lt (R z y)) (λ z. is_lt (R z x)) (λ z h. ap is_lt (o.trans z y x (is_less (R z y) h) back)) keys in
+            absurd (omega arith)
+      ] refl
+
+  rises_from : (keys xs : List K) (n : ℕ) → ((i : ℕ) (k : K) → slice_get xs i ≡ Some k → rank R keys k ≡ n + i) → Rising R xs
+  rises_from keys [] n at = tt
+  rises_from keys (x ∷ xs) n at =
+      let here : rank R keys x ≡ n + 0 = at 0 x refl in (
+        each_place (λ y. R x y ≡ Less) xs (λ i k e. let later : rank R keys k ≡ n + suc i = at (suc i) k e in less_by_rank keys x k (omega arith)),
+        rises_from keys xs (suc n) (λ i k e. let later : rank R keys k ≡ n + suc i = at (suc i) k e in omega arith),
+      )
+
+  -- the first m keys rise
+  pub first_rises : (m : ℕ) (keys first : List K) → AreFirst R m keys first → Rising R first
+  first_rises m keys first a = rises_from keys first 0 (λ i k e. let f : rank R keys k ≡ i = (a.at_rank i k e).1 in omega arith)
+
+  -- and are not more than m
+  pub first_within : (m : ℕ) (keys first : List K) → AreFirst R m keys first → length first ≤ m
+  first_within m keys [] a = omega arith
+  first_within m keys (x ∷ xs) a =
+      elim (nat_le (length (x ∷ xs)) m) as (λ b. nat_le (length (x ∷ xs)) m ≡ b → length (x ∷ xs) ≤ m) [
+        | true ↦ λ t. leb-true (length (x ∷ xs)) m t
+        | false ↦ λ t.
+            let over : m < length (x ∷ xs) = leb-false (length (x ∷ xs)) m t in
+            let below : m < m = (a.at_rank m (get_or (x ∷ xs) m x) (slice_get-get_or (x ∷ xs) m x over)).2 in
+            absurd (omega arith)
+      ] refl
+
+  -- and each of them goes before all later ones
+  pub first_pairs : (m : ℕ) (keys first : List K) → AreFirst R m keys first → (i j : ℕ) (d : K) → i < j → j < length first → R (get_or first i d) (get_or first j d) ≡ Less
+  first_pairs m keys first a i j d earlier within =
+      let here : rank R keys (get_or first i d) ≡ i = (a.at_rank i (get_or first i d) (slice_get-get_or first i d (omega arith))).1 in
+      let later : rank R keys (get_or first j d) ≡ j = (a.at_rank j (get_or first j d) (slice_get-get_or first j d within)).1 in
+      less_by_rank keys (get_or first i d) (get_or first j d) (omega arith)

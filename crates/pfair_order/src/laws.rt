@@ -1,0 +1,57 @@
+//! Laws of the PD2 order, and of the first keys among some keys. Each function does nothing: its contract is the law.
+
+ghost use Rattle.std.specs.Prelude.{◌≡◌, ◌≤◌, ◌⊎◌, ◌↔◌, ℕ, List, length, true, AllPairs, IsPermutation};
+ghost use Rattle.std.specs.declared.cmp.Ordering.TheVariants.{Less, Equal};
+ghost use Rattle.pfair_order.specs.declared.Key.{Key};
+ghost use Rattle.pfair_order.specs.Order.{pd2_cmp, GoesBefore};
+ghost use Rattle.pfair_order.specs.Rank.{AreFirst};
+
+/// What the comparison computes is the order: `Less` for what goes before, `Equal` for equal keys.
+pub fn comparison_is_the_order()
+    ensures before { (k l : Key) → (pd2_cmp k l ≡ Less) ↔ GoesBefore k l }
+    ensures equal { (k l : Key) → (pd2_cmp k l ≡ Equal) ↔ (k ≡ l) }
+{}
+
+/// What `==` computes of two keys is true exactly where all four fields are equal.
+pub fn equality_is_of_all_fields()
+    ensures { (k l : Key) → (⟦<crate::Key as PartialEq>⟧.eq k l ≡ true) ↔ (k ≡ l) }
+{}
+
+/// No key goes before itself.
+pub fn order_is_irreflexive()
+    ensures { (k : Key) → ¬ GoesBefore k k }
+{}
+
+/// What goes before a key goes before all that the key goes before.
+pub fn order_is_transitive()
+    ensures { (k l m : Key) → GoesBefore k l → GoesBefore l m → GoesBefore k m }
+{}
+
+/// Of two keys one goes before the other, or they are equal.
+pub fn order_is_total()
+    ensures { (k l : Key) → GoesBefore k l ⊎ ((k ≡ l) ⊎ GoesBefore l k) }
+{}
+
+/// One list alone has the first m keys of some keys.
+pub fn first_keys_are_unique()
+    ensures { (m : ℕ) (keys xs ys : List Key) →
+        AreFirst pd2_cmp m keys xs → AreFirst pd2_cmp m keys ys → xs ≡ ys }
+{}
+
+/// The first m keys are at most m.
+pub fn first_keys_are_at_most()
+    ensures { (m : ℕ) (keys first : List Key) →
+        AreFirst pd2_cmp m keys first → length first ≤ m }
+{}
+
+/// The first m keys rise: each goes before all later ones.
+pub fn first_keys_rise()
+    ensures { (m : ℕ) (keys first : List Key) →
+        AreFirst pd2_cmp m keys first → AllPairs GoesBefore first }
+{}
+
+/// Which keys are the first m does not depend on the order in which the keys are listed.
+pub fn first_keys_ignore_listing()
+    ensures { (m : ℕ) (keys others first : List Key) →
+        IsPermutation keys others → AreFirst pd2_cmp m keys first → AreFirst pd2_cmp m others first }
+{}

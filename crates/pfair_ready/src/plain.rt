@@ -1,0 +1,149 @@
+//! A ready structure that is one list, searched as a whole. It is the plain one, to compare faster ones with.
+
+ghost use Rattle.std.specs.Prelude.{◌≡◌, ◌≤◌, IfOk, List, map, filter, nat_le, not};
+ghost use Rattle.std.specs.List.{list_any};
+ghost use Rattle.std.specs.Vec.Iter.{into_iter_items};
+ghost use Rattle.itertools.specs.Extremes.{IsKLeast, by_cmp};
+ghost use Rattle.pfair_order.specs.Order.{pd2_cmp};
+ghost use Rattle.pfair_ready.specs.Names.{name_eq};
+ghost use Rattle.pfair_ready.specs.PlainList.{first_named};
+
+use crate::Ready;
+use itertools::Itertools;
+use pfair_order::Key;
+use pfair_weight::TaskName;
+use std::alloc::{AllocError, Global};
+use std::marker::Model;
+use std::vec::IntoIter;
+
+/// A key that waits for its release or its turn.
+#[derive(Clone, Copy, Debug)]
+struct Waiting {
+    release: u64,
+    key: Key,
+}
+
+/// A ready structure that is one list. Each call looks through all that is held.
+#[derive(Drop)]
+pub struct PlainReady {
+    alloc: Global,
+    now: u64,
+    waiting: Vec<Waiting>,
+}
+
+impl Model for PlainReady {
+    ghost use Rattle.pfair_ready.specs.Waiting.{Content, content_code};
+
+    ghost Value = { Content };
+
+    ghost coded = { content_code };
+
+    ghost use Rattle.pfair_ready.specs.PlainList.{held_of, EachNameOnce};
+
+    ghost view = { λ a. record { now = a.now; held = held_of a.waiting.items } };
+
+    ghost invariant = { λ a. EachNameOnce a.waiting.items };
+}
+
+impl Ready for PlainReady {
+    ghost now = { λ a. a.now };
+
+    ghost held = { λ a. a.held };
+
+    fn new(alloc: Global) -> Self {
+        PlainReady {
+            alloc,
+            now: 0,
+            waiting: Vec::new(alloc),
+        }
+    }
+
+    fn now(&self) -> u64 {
+        self.now
+    }
+
+    fn held(&self, name: &TaskName) -> Option<(u64, Key)> {
+        find_name(&self.waiting, *name)
+    }
+
+    fn insert(&mut self, release: u64, key: Key) -> Result<bool, AllocError> {
+        if find_name(&self.waiting, key.name).is_some() {
+            return Ok(false);
+        }
+        self.waiting.push(Waiting { release, key })?;
+        Ok(true)
+    }
+
+    fn remove(&mut self, name: &TaskName) -> bool {
+        let there = find_name(&self.waiting, *name).is_some();
+        drop_name(&mut self.waiting, *name);
+        there
+    }
+
+    fn take_first(&mut self, slot: u64, m: usize) -> Result<Vec<Key>, AllocError> {
+        self.now = slot;
+        let released = released_keys(self.alloc, &self.waiting, slot)?;
+        let first = listed(self.alloc, least_keys(self.alloc, &released, m)?)?;
+        keep_others(&mut self.waiting, &first);
+        Ok(first)
+    }
+}
+
+/// The release and the key that wait under this name.
+fn find_name(waiting: &[Waiting], name: TaskName) -> Option<(u64, Key)>
+    ensures { result ≡ first_named name waiting.now }
+{
+    waiting
+        .iter()
+        .find(|w| w.key.name == name)
+        .map(|w| (w.release, w.key))
+}
+
+/// Lets go what waits under this name.
+fn drop_name(waiting: &mut Vec<Waiting>, name: TaskName)
+    ensures { waiting.new.items ≡ filter (λ w. not (name_eq w.key.name name)) waiting.old.items }
+{
+    waiting.retain(|w| w.key.name != name);
+}
+
+/// The keys that are released by the slot, in the order of the list.
+fn released_keys(alloc: Global, waiting: &[Waiting], slot: u64) -> Result<Vec<Key>, AllocError>
+    ensures { IfOk result (λ keys. keys.items ≡
+        map (λ w. w.key) (filter (λ w. nat_le w.release slot) waiting.now)) }
+{
+    waiting
+        .iter()
+        .filter(|w| w.release <= slot)
+        .map(|w| w.key)
+        .collect(alloc)
+}
+
+/// The m least keys, in order.
+fn least_keys(alloc: Global, keys: &[Key], m: usize) -> Result<IntoIter<Key>, AllocError>
+    ensures { IfOk result (λ least.
+        IsKLeast (by_cmp pd2_cmp) m keys.now (into_iter_items least)) }
+{
+    keys.iter().copied().k_smallest(alloc, m)
+}
+
+/// The keys that are left, as a list.
+fn listed(alloc: Global, keys: IntoIter<Key>) -> Result<Vec<Key>, AllocError>
+    ensures { IfOk result (λ list. list.items ≡ into_iter_items keys) }
+{
+    keys.collect(alloc)
+}
+
+/// Lets go what waits under the names of these keys.
+fn keep_others(waiting: &mut Vec<Waiting>, keys: &[Key])
+    ensures { waiting.new.items ≡
+        filter (λ w. not (list_any (λ k. name_eq w.key.name k.name) keys.now)) waiting.old.items }
+{
+    waiting.retain(|w| !has_name(keys, w.key.name));
+}
+
+/// Whether a key has this name.
+fn has_name(keys: &[Key], name: TaskName) -> bool
+    ensures { result ≡ list_any (λ k. name_eq name k.name) keys.now }
+{
+    keys.iter().any(|k| name == k.name)
+}

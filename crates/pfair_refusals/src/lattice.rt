@@ -1,0 +1,112 @@
+//! Joins, puts and copies of maps that nest.
+
+use crate::Look;
+use pfair_lattice::{Flat, Join, JoinMap};
+use std::alloc::{AllocError, Global};
+
+type Inner = JoinMap<u8, Flat<u8>>;
+
+type Middle = JoinMap<u8, Inner>;
+
+type Outer = JoinMap<u8, Middle>;
+
+// The map that holds one content under three keys.
+fn outer(alloc: Global, keys: (u8, u8, u8), content: u8) -> Result<Outer, AllocError> {
+    let mut inner = Inner::new(alloc);
+    inner.put(keys.2, &Flat::One(content))?;
+    let mut middle = Middle::new(alloc);
+    middle.put(keys.1, &inner)?;
+    let mut outer = Outer::new(alloc);
+    outer.put(keys.0, &middle)?;
+    Ok(outer)
+}
+
+// Contents under new keys at each of the three depths.
+fn grown(alloc: Global) -> Result<Outer, AllocError> {
+    let mut all = outer(alloc, (1, 1, 2), 6)?;
+    all.join(&outer(alloc, (1, 2, 1), 7)?)?;
+    all.join(&outer(alloc, (2, 1, 1), 8)?)?;
+    Ok(all)
+}
+
+fn content_at(map: &Outer, keys: (u8, u8, u8)) -> Option<Flat<u8>> {
+    let found = map.get(&keys.0)?.get(&keys.1)?.get(&keys.2)?;
+    Some(*found)
+}
+
+// Whether the four contents of the join are there, and the sizes are those of the join.
+fn is_whole(map: &Outer) -> bool {
+    content_at(map, (1, 1, 1)) == Some(Flat::One(5))
+        && content_at(map, (1, 1, 2)) == Some(Flat::One(6))
+        && content_at(map, (1, 2, 1)) == Some(Flat::One(7))
+        && content_at(map, (2, 1, 1)) == Some(Flat::One(8))
+        && map.len() == 2
+}
+
+// Whether the map lies between the two.
+fn is_between(old: &Outer, now: &Outer, whole: &Outer) -> bool {
+    old.le(now) && now.le(whole)
+}
+
+/// A join that adds keys at each of three depths. After want of memory it is made once more.
+pub(crate) fn join_three_deep(alloc: Global) -> Look {
+    let other = grown(alloc)?;
+    let old = outer(alloc, (1, 1, 1), 5)?;
+    let mut whole = outer(alloc, (1, 1, 1), 5)?;
+    whole.join(&other)?;
+    let mut now = outer(alloc, (1, 1, 1), 5)?;
+    if now.join(&other).is_ok() {
+        return Ok(is_whole(&now) && is_between(&whole, &now, &whole));
+    }
+    if !is_between(&old, &now, &whole) {
+        return Ok(false);
+    }
+    now.join(&other)?;
+    Ok(is_whole(&now) && is_between(&whole, &now, &whole))
+}
+
+/// A pair that a map lacks. After want of memory the key is missing still, and the other key is as it was.
+pub(crate) fn put_missing_key(alloc: Global) -> Look {
+    let other = grown(alloc)?;
+    let Some(value) = other.get(&2) else {
+        return Ok(false);
+    };
+    let old = outer(alloc, (1, 1, 1), 5)?;
+    let mut now = outer(alloc, (1, 1, 1), 5)?;
+    if now.put(2, value).is_ok() {
+        return Ok(now.len() == 2 && content_at(&now, (2, 1, 1)) == Some(Flat::One(8)));
+    }
+    if now.get(&2).is_some() || !is_between(&old, &now, &old) {
+        return Ok(false);
+    }
+    now.put(2, value)?;
+    Ok(now.len() == 2 && content_at(&now, (2, 1, 1)) == Some(Flat::One(8)))
+}
+
+/// A pair at a key that the map has. After want of memory it lies between the old map and the join.
+pub(crate) fn put_shared_key(alloc: Global) -> Look {
+    let other = grown(alloc)?;
+    let Some(value) = other.get(&1) else {
+        return Ok(false);
+    };
+    let old = outer(alloc, (1, 1, 1), 5)?;
+    let mut whole = outer(alloc, (1, 1, 1), 5)?;
+    whole.put(1, value)?;
+    let mut now = outer(alloc, (1, 1, 1), 5)?;
+    if now.put(1, value).is_err() {
+        if !is_between(&old, &now, &whole) {
+            return Ok(false);
+        }
+        now.put(1, value)?;
+    }
+    Ok(content_at(&now, (1, 2, 1)) == Some(Flat::One(7)) && is_between(&whole, &now, &whole))
+}
+
+/// A copy, which is equal to what was copied.
+pub(crate) fn copy_three_deep(alloc: Global) -> Look {
+    let map = grown(alloc)?;
+    let Ok(copy) = map.copy() else {
+        return Ok(content_at(&map, (2, 1, 1)) == Some(Flat::One(8)));
+    };
+    Ok(is_between(&map, &copy, &map) && content_at(&copy, (1, 2, 1)) == Some(Flat::One(7)))
+}

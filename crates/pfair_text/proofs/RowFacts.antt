@@ -1,0 +1,71 @@
+-- Fields without marks stand in a CSV row as they are, and decimal numbers are such fields.
+use Rattle.std.proofs.Common.{ℕ, List, [], ◌∷◌, ◌++◌, ◌≡◌, ◌+◌, ◌%◌, ◌<◌, ◌^◌, Bool, true, false, length, refl, arith}
+use Rattle.std.specs.Prelude.{◌||◌, ◌==◌, not}
+use Rattle.std.specs.Fmt.{decimal}
+use Rattle.std.specs.List.{join_with_byte, list_all, list_any}
+use Rattle.std.proofs.lemmas.Bool.{and_parts, ne_eqb}
+use Rattle.std.proofs.lemmas.Fmt.{decimal_by_steps, decimal_nonempty}
+use Rattle.std.proofs.lemmas.List.Folds.{list_any-append}
+use Rattle.std.proofs.lemmas.List.{append-nil}
+use Rattle.csv.specs.Quoting.{needs_byte}
+use Rattle.csv.specs.Writing.{default_writer, field_text, fields_text, is_blank, row_text}
+use Rattle.pfair_text.specs.Rows.{is_mark, is_plain, line}
+
+same_or : (p q r s : Bool) → ((((p || q) || (r || s)) || false) || false) ≡ (((p || q) || r) || s)
+same_or true q r s = refl
+same_or false true r s = refl
+same_or false false true s = refl
+same_or false false false true = refl
+same_or false false false false = refl
+
+any_congr : (p q : ℕ → Bool) → ((b : ℕ) → p b ≡ q b) → (bs : List ℕ) → list_any p bs ≡ list_any q bs
+any_congr p q same [] = refl
+any_congr p q same (b ∷ bs) = rw (same b, any_congr p q same bs) refl
+
+needs-mark : (b : ℕ) → needs_byte default_writer b ≡ is_mark b
+needs-mark b = same_or (b == 44) (b == 34) (b == 13) (b == 10)
+
+no-mark : (b : Bool) → not b ≡ true → b ≡ false
+no-mark false e = refl
+no-mark true e = cc e
+
+-- a plain field is written as it is
+pub field_text-plain : (field : List ℕ) → is_plain field ≡ true → field_text default_writer field ≡ field
+field_text-plain field h =
+    let parts = and_parts (not (length field == 0)) (not (list_any is_mark field)) h in
+    rw (any_congr (needs_byte default_writer) is_mark needs-mark field, no-mark (list_any is_mark field) parts.1) refl
+
+-- the fields after the first
+rest-plain : (first : List ℕ) (rest : List (List ℕ)) → list_all is_plain rest ≡ true → (first ++ fields_text default_writer rest) ≡ join_with_byte 44 (first ∷ rest)
+unfolding fields_text
+rest-plain first [] h = append-nil first
+rest-plain first (next ∷ rest) h =
+    let parts = and_parts (is_plain next) (list_all is_plain rest) h in
+    rw (field_text-plain next parts.0, rest-plain next rest parts.1) refl
+
+shows : (first : List ℕ) (rest : List (List ℕ)) → is_plain first ≡ true → is_blank default_writer (first ∷ rest) ≡ false
+unfolding is_blank
+shows first [] h =
+    let parts = and_parts (not (length first == 0)) (not (list_any is_mark first)) h in
+    rw (field_text-plain first h) (no-mark (length first == 0) parts.0)
+shows first (next ∷ rest) h = refl
+
+-- a row of plain fields is their line
+pub row_text-plain : (fields : List (List ℕ)) → 0 < length fields → list_all is_plain fields ≡ true → row_text default_writer fields ≡ line fields
+row_text-plain [] some h = absurd (omega arith)
+row_text-plain (first ∷ rest) some h =
+    let parts = and_parts (is_plain first) (list_all is_plain rest) h in
+    rw (shows first rest parts.0, field_text-plain first parts.0, rest-plain first rest parts.1) refl
+
+digit : (n : ℕ) → n < 10 → list_any is_mark ((48 + n) ∷ []) ≡ false
+digit n h = rw (ne_eqb (48 + n) 44 (omega arith), ne_eqb (48 + n) 34 (omega arith), ne_eqb (48 + n) 13 (omega arith), ne_eqb (48 + n) 10 (omega arith)) refl
+
+unmarked-decimal : (n : ℕ) → n < 2 ^ 64 → list_any is_mark (decimal n) ≡ false
+unmarked-decimal = decimal_by_steps (λ n ds. list_any is_mark ds ≡ false) digit
+    (λ n ds big h. rw (list_any-append is_mark ds ((48 + n % 10) ∷ []), h) (digit (n % 10) (omega arith)))
+
+-- a decimal number is plain
+pub is_plain-decimal : (n : ℕ) → n < 2 ^ 64 → is_plain (decimal n) ≡ true
+is_plain-decimal n h =
+    let some = decimal_nonempty n h in
+    rw (ne_eqb (length (decimal n)) 0 (omega arith), unmarked-decimal n h) refl

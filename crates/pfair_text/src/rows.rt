@@ -1,0 +1,44 @@
+//! The text of a table, made row by row by a CSV writer in memory.
+
+ghost use Rattle.std.specs.Prelude.{◌≡◌, ◌<◌, ◌++◌, [], length, map, IsTrue, OnOk, IfOk};
+ghost use Rattle.std.specs.List.{list_all};
+ghost use Rattle.pfair_text.specs.Rows.{is_plain, IsOpen, line, text_so_far};
+
+use csv::{Writer, WriterBuilder};
+use std::alloc::{AllocError, Global};
+
+/// An empty text, to which rows are added.
+pub fn new_text(alloc: Global) -> Writer<Vec<u8>>
+    ensures open { IsOpen result }
+    ensures text { text_so_far result ≡ [] }
+{
+    WriterBuilder::new().from_writer(Vec::new(alloc))
+}
+
+/// Adds a line of fields, with commas between and a newline at the end.
+///
+/// There is at least one field, and each is plain: not empty, with no comma, quote or line break,
+/// so that it stands in the line as it is. Answers want of memory, after which the text is not to
+/// be used any more.
+pub fn add_row(writer: &mut Writer<Vec<u8>>, fields: &[&[u8]]) -> Result<(), AllocError>
+    requires open { IsOpen writer.old }
+    requires some { 0 < length fields.now }
+    requires plain { IsTrue (list_all is_plain (map (λ f. f.now) fields.now)) }
+    ensures open { OnOk result (IsOpen writer.new) }
+    ensures text { OnOk result (text_so_far writer.new ≡ text_so_far writer.old ++ line (map (λ f. f.now) fields.now)) }
+{
+    match writer.write_fields(fields) {
+        Ok(()) => Ok(()),
+        Err(_) => Err(AllocError),
+    }
+}
+
+/// The whole text. Answers want of memory.
+pub fn finish(writer: Writer<Vec<u8>>) -> Result<Vec<u8>, AllocError>
+    ensures { IfOk result (λ text. text.items ≡ text_so_far writer) }
+{
+    match writer.into_inner() {
+        Ok(text) => Ok(text),
+        Err(_) => Err(AllocError),
+    }
+}

@@ -1,0 +1,17 @@
+pub mod Cascaded
+pub mod Close
+pub mod GroupFacts
+pub mod JobFacts
+pub mod Laws
+pub mod Name
+pub mod NameFacts
+pub mod NameFault
+pub mod Padded
+pub mod Position
+pub mod Ratio
+pub mod Rounding
+pub mod Share
+pub mod Stepped
+pub mod WeightFault
+pub mod Window
+pub mod WindowFacts

@@ -1,0 +1,78 @@
+//! Where the cascade of a heavy weight below 1 ends, by sums in place of quotients.
+ghost use Rattle.std.specs.Prelude.{◌≡◌, ◌+◌, ◌≤◌, ◌<◌};
+ghost use Rattle.pfair_weight.specs.Window.{cascade_end};
+
+use crate::fraction::Fraction;
+use crate::weight::Weight;
+use std::marker::Model;
+
+/// Where the cascade of a heavy weight below 1 ends, for a window that closes later and later.
+#[derive(Debug, Drop)]
+pub(crate) struct Cascade {
+    weight: Weight,
+    close: u64,
+    idle: Fraction,
+    idle_step: Fraction,
+    end: Fraction,
+    end_step: Fraction,
+}
+
+impl Model for Cascade {
+    ghost use Rattle.pfair_weight.specs.Close.{Close};
+
+    ghost Value = { Close };
+
+    ghost use Rattle.pfair_weight.specs.Cascaded.{close_of, IsCascaded};
+
+    ghost view = { close_of };
+
+    ghost invariant = { IsCascaded };
+}
+
+impl Cascade {
+    /// For a window that closes at `close`, in slots, at offset 0. It takes a step for each slot
+    /// up to there, so `close` should be small.
+    pub fn new(weight: Weight, close: u64) -> Self
+        requires below_one { weight.cost < weight.period }
+        requires range { close ≤ 1000001000000000 }
+        ensures { result ≡ record { weight = weight; close = close } }
+    {
+        let period = weight.period();
+        let room = period - weight.cost();
+        let idle_step = Fraction::new(room, period);
+        let mut idle = Fraction::new(0, period);
+        idle.add_times(&idle_step, close);
+        let end_step = Fraction::new(period, room);
+        let mut end = Fraction::new(0, room);
+        end.add_times(&end_step, idle.ceiling());
+        Cascade {
+            weight,
+            close,
+            idle,
+            idle_step,
+            end,
+            end_step,
+        }
+    }
+
+    /// For a window that closes so many slots later.
+    pub fn advance(&mut self, slots: u64)
+        requires { self.old.close + slots ≤ 1000001000000000 }
+        ensures { self.new ≡ record self.old { close = self.old.close + slots } }
+    {
+        let before = self.idle.ceiling();
+        self.idle.add_times(&self.idle_step, slots);
+        self.end
+            .add_times(&self.end_step, self.idle.ceiling() - before);
+        self.close += slots;
+    }
+
+    /// The slot where the cascade ends, at offset 0.
+    pub fn end(&self) -> u64
+        ensures value { result ≡ cascade_end self.now.weight self.now.close }
+        ensures within { result ≤ self.now.close + self.now.weight.period }
+        ensures range { self.now.weight.period ≤ 1000000000 }
+    {
+        self.end.ceiling()
+    }
+}

@@ -1,0 +1,173 @@
+//! Task names.
+ghost use Rattle.std.specs.Prelude.{◌≡◌, ◌≤◌, ◌<◌, IfOk, IfErr, length, nat_eq};
+ghost use Rattle.std.proofs.Common.{rules};
+ghost use Rattle.std.specs.Cmp.{partial_order_from_own_ties};
+ghost use Rattle.std.specs.Cmp.Rules.{comparing};
+ghost use Rattle.std.specs.Cmp.Lexicographic.{slice_cmp};
+ghost use Rattle.std.specs.Ordering.{nat_cmp, as_partial_cmp};
+ghost use Rattle.pfair_weight.specs.Name.{may_stand, IsTaskName};
+ghost use Rattle.pfair_weight.specs.NameFault.{IsFaultOf, name_fault_number};
+
+use std::cmp::Ordering;
+use std::hash::{Hash, Hasher};
+use std::marker::Model;
+use thiserror::Error;
+
+/// Why bytes spell no task name.
+#[derive(Clone, Copy, PartialEq, Eq, Debug, Error)]
+pub enum NameFault {
+    /// There is no byte.
+    #[error("empty name")]
+    Empty,
+    /// There are more than [`TaskName::MAX_LEN`] bytes.
+    #[error("name too long")]
+    TooLong,
+    /// A byte may not stand where it does.
+    #[error("bad byte at {at}")]
+    BadByte {
+        /// The first such place, counted from 0.
+        at: usize,
+    },
+}
+
+impl NameFault {
+    /// The number under which the fault is reported: 1, 2 and 3, in the order of the variants.
+    pub fn number(&self) -> u8
+        ensures { result ≡ name_fault_number self.now }
+    {
+        match self {
+            NameFault::Empty => 1,
+            NameFault::TooLong => 2,
+            NameFault::BadByte { .. } => 3,
+        }
+    }
+}
+
+/// A task's name: 1 to [`TaskName::MAX_LEN`] bytes, a letter a-z and then letters a-z, digits and
+/// underscores.
+///
+/// Names are equal exactly where their bytes are, and ordered by bytes, a proper prefix first.
+#[derive(Clone, Copy, Debug)]
+pub struct TaskName {
+    bytes: [u8; 16],
+    len: usize,
+}
+
+impl Model for TaskName {
+    ghost use Rattle.std.specs.Prelude.{List, ℕ};
+
+    ghost Value = { List ℕ };
+
+    ghost use Rattle.std.specs.Prelude.{◌≡◌, ◌≤◌, ◌-◌, ◌++◌, length, take, replicate};
+    ghost use Rattle.pfair_weight.specs.Name.{IsTaskName};
+    ghost use Rattle.pfair_weight.specs.Padded.{IsPadded, unpadded, padded, padded-unpadded};
+
+    ghost view = { unpadded };
+
+    ghost invariant = { IsPadded };
+
+    ghost inverse = { padded };
+
+    ghost inverse_ok = { padded-unpadded };
+}
+
+impl TaskName {
+    /// The most bytes of a name.
+    pub const MAX_LEN: usize = 16;
+
+    /// The name that these bytes spell.
+    ///
+    /// # Errors
+    /// The first that applies: [`NameFault::Empty`], [`NameFault::TooLong`],
+    /// [`NameFault::BadByte`] with the first byte that may not stand where it does.
+    pub fn from_bytes(bytes: &[u8]) -> Result<Self, NameFault>
+        ensures ok { IfOk result (λ name. (name ≡ bytes.now) × IsTaskName bytes.now) }
+        ensures err { IfErr result (IsFaultOf bytes.now) }
+    {
+        if bytes.is_empty() {
+            return Err(NameFault::Empty);
+        }
+        if bytes.len() > TaskName::MAX_LEN {
+            return Err(NameFault::TooLong);
+        }
+        for (place, byte) in bytes.iter().enumerate() {
+            if !may_stand_at(place, *byte) {
+                return Err(NameFault::BadByte { at: place });
+            }
+        }
+        let mut padded = [0; 16];
+        padded[..bytes.len()].copy_from_slice(bytes);
+        Ok(TaskName {
+            bytes: padded,
+            len: bytes.len(),
+        })
+    }
+
+    /// The bytes that spell the name.
+    pub fn as_bytes(&self) -> &[u8]
+        ensures value { result.now ≡ self.now }
+        ensures named { IsTaskName self.now }
+    {
+        &self.bytes[..self.len]
+    }
+}
+
+impl PartialEq for TaskName {
+    ghost use Rattle.std.specs.Cmp.Lexicographic.{pointwise};
+
+    ghost eq = { pointwise nat_eq };
+
+    ghost laws = { Prim.search (comparing, rules) };
+
+    fn eq(&self, other: &TaskName) -> bool {
+        self.as_bytes() == other.as_bytes()
+    }
+}
+
+impl Eq for TaskName {
+    ghost laws = { Prim.search (comparing, rules) };
+}
+
+impl Ord for TaskName {
+    ghost cmp = { slice_cmp nat_cmp };
+
+    ghost total = { Prim.search (comparing, rules) };
+
+    ghost matches_partial_cmp = { Prim.search (comparing, rules) };
+
+    ghost matches_eq = { Prim.search (comparing, rules) };
+
+    fn cmp(&self, other: &TaskName) -> Ordering {
+        self.as_bytes().cmp(other.as_bytes())
+    }
+}
+
+impl PartialOrd for TaskName {
+    ghost partial_cmp = { as_partial_cmp (slice_cmp nat_cmp) };
+
+    ghost laws = { partial_order_from_own_ties (Prim.search (comparing, rules)) (Prim.search (comparing, rules)) };
+
+    fn partial_cmp(&self, other: &TaskName) -> Option<Ordering> {
+        Some(self.cmp(other))
+    }
+}
+
+impl Hash for TaskName {
+    ghost use Rattle.std.specs.Hash as fed;
+    ghost use Rattle.std.specs.Cmp.Rules.{hashing};
+
+    ghost hash_input = { fed.slice fed.u8 };
+
+    ghost respects_eq = { Prim.search (hashing, rules) };
+
+    fn hash<H: Hasher>(&self, state: &mut H) {
+        self.as_bytes().hash(state);
+    }
+}
+
+// Whether a byte may stand at this place of a name.
+fn may_stand_at(place: usize, byte: u8) -> bool
+    ensures { result ≡ may_stand place byte }
+{
+    byte.is_ascii_lowercase() || (place >= 1 && (byte.is_ascii_digit() || byte == b'_'))
+}

@@ -1,0 +1,158 @@
+//! The windows of a weight's subtasks one after the other, by sums in place of quotients.
+ghost use Rattle.std.specs.Prelude.{◌≡◌, ◌+◌, ◌≤◌, ◌<◌, ◌^◌};
+ghost use Rattle.pfair_weight.specs.Position.{IsPosition};
+ghost use Rattle.pfair_weight.specs.Window.{release_of, deadline_of, b_bit_of, group_deadline_of};
+
+use crate::cascade::Cascade;
+use crate::fraction::Fraction;
+use crate::weight::Weight;
+use crate::window::{MAX_INDEX, MAX_OFFSET};
+use std::marker::Model;
+
+/// What a group deadline is made of.
+#[derive(Debug, Drop)]
+pub(crate) enum Group {
+    /// A light weight has none.
+    Light,
+    /// The deadline, for a weight of 1.
+    Whole,
+    /// The end of a cascade, for a heavy weight below 1.
+    Heavy(Cascade),
+}
+
+/// Stands at one subtask of a weight, at an offset, and goes from it to the next.
+///
+/// Its readers give what the calls of [`crate::window`] give for the subtask and the offset where
+/// it stands. It divides only where it is made.
+#[derive(Debug, Drop)]
+pub struct Stepper {
+    weight: Weight,
+    index: u64,
+    theta: u64,
+    // The floor of (index - 1) * period / cost.
+    opened: u64,
+    // index * period / cost.
+    served: Fraction,
+    // period / cost.
+    served_step: Fraction,
+    group: Group,
+}
+
+impl Model for Stepper {
+    ghost use Rattle.pfair_weight.specs.Position.{Position};
+
+    ghost Value = { Position };
+
+    ghost use Rattle.pfair_weight.specs.Stepped.{position_of, IsStepped};
+
+    ghost view = { position_of };
+
+    ghost invariant = { IsStepped };
+}
+
+impl Stepper {
+    /// Stands at subtask 1, at the offset `theta` in slots.
+    pub fn new(weight: Weight, theta: u64) -> Self
+        requires { theta ≤ MAX_OFFSET }
+        ensures { result ≡ record { weight = weight; index = 1; theta = theta } }
+    {
+        let (cost, period) = (weight.cost(), weight.period());
+        let served = Fraction::new(period, cost);
+        let group = if !weight.is_heavy() {
+            Group::Light
+        } else if cost == period {
+            Group::Whole
+        } else {
+            Group::Heavy(Cascade::new(weight, served.ceiling()))
+        };
+        Stepper {
+            weight,
+            index: 1,
+            theta,
+            opened: 0,
+            served,
+            served_step: Fraction::new(period, cost),
+            group,
+        }
+    }
+
+    /// Goes to the next subtask, at the same offset.
+    pub fn advance(&mut self)
+        requires { self.old.index < MAX_INDEX }
+        ensures { self.new ≡ record self.old { index = self.old.index + 1 } }
+    {
+        let opened = self.served.floor();
+        let close = self.served.ceiling();
+        self.served.add(&self.served_step);
+        let slots = self.served.ceiling() - close;
+        if let Group::Heavy(cascade) = &mut self.group {
+            cascade.advance(slots);
+        }
+        self.opened = opened;
+        self.index += 1;
+    }
+
+    /// Puts this subtask and all later ones off by so many slots: their offset grows by `by`.
+    pub fn delay(&mut self, by: u64)
+        requires { self.old.theta + by ≤ MAX_OFFSET }
+        ensures { self.new ≡ record self.old { theta = self.old.theta + by } }
+    {
+        self.theta += by;
+    }
+
+    /// The subtask where it stands, from 1 to [`MAX_INDEX`].
+    pub fn index(&self) -> u64
+        ensures value { result ≡ self.now.index }
+        ensures position { IsPosition self.now }
+    {
+        self.index
+    }
+
+    /// The offset where it stands, in slots, from 0 to [`MAX_OFFSET`].
+    pub fn theta(&self) -> u64
+        ensures value { result ≡ self.now.theta }
+        ensures position { IsPosition self.now }
+    {
+        self.theta
+    }
+
+    /// The slot in which the subtask's window opens, as [`crate::release`].
+    pub fn release(&self) -> u64
+        ensures value { result ≡ release_of self.now.weight self.now.index self.now.theta }
+        ensures within { result < 2 ^ 50 }
+        ensures position { IsPosition self.now }
+    {
+        self.opened + self.theta
+    }
+
+    /// The slot before which the subtask's window closes, as [`crate::deadline`].
+    pub fn deadline(&self) -> u64
+        ensures value { result ≡ deadline_of self.now.weight self.now.index self.now.theta }
+        ensures within { result < 2 ^ 50 }
+        ensures position { IsPosition self.now }
+    {
+        self.served.ceiling() + self.theta
+    }
+
+    /// 1 where the subtask's window reaches into that of the next, else 0, as [`crate::b_bit`].
+    pub fn b_bit(&self) -> u64
+        ensures value { result ≡ b_bit_of self.now.weight self.now.index }
+        ensures within { result ≤ 1 }
+        ensures position { IsPosition self.now }
+    {
+        self.served.ceiling() - self.served.floor()
+    }
+
+    /// The subtask's group deadline, as [`crate::group_deadline`].
+    pub fn group_deadline(&self) -> u64
+        ensures value { result ≡ group_deadline_of self.now.weight self.now.index self.now.theta }
+        ensures within { result < 2 ^ 50 }
+        ensures position { IsPosition self.now }
+    {
+        match &self.group {
+            Group::Light => 0,
+            Group::Whole => self.deadline(),
+            Group::Heavy(cascade) => cascade.end() + self.theta,
+        }
+    }
+}

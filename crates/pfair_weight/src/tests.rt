@@ -1,0 +1,225 @@
+//! Worked windows, weights and names, and the group deadline beside its form in the textbooks.
+ghost use Rattle.std.specs.Prelude.{◌≤◌, ◌<◌};
+
+use crate::{
+    NameFault, Stepper, TaskName, Weight, WeightFault, b_bit, deadline, group_deadline, release,
+    starts_job,
+};
+use std::collections::HashSet;
+
+/// Release, deadline, b-bit and group deadline.
+type Window = (u64, u64, u64, u64);
+
+const EIGHT_ELEVENTHS: [Window; 8] = [
+    (0, 2, 1, 4),
+    (1, 3, 1, 4),
+    (2, 5, 1, 8),
+    (4, 6, 1, 8),
+    (5, 7, 1, 8),
+    (6, 9, 1, 11),
+    (8, 10, 1, 11),
+    (9, 11, 0, 11),
+];
+
+const THREE_TENTHS: [Window; 3] = [(0, 4, 1, 0), (3, 7, 1, 0), (6, 10, 0, 0)];
+
+const WHOLE: [Window; 2] = [(0, 1, 0, 1), (1, 2, 0, 2)];
+
+fn window(weight: Weight, index: u64, theta: u64) -> Window
+    requires first { 1 ≤ index }
+    requires last { index ≤ 1000001 }
+    requires offset { theta ≤ 1099511627776 }
+{
+    (
+        release(weight, index, theta),
+        deadline(weight, index, theta),
+        b_bit(weight, index),
+        group_deadline(weight, index, theta),
+    )
+}
+
+fn read(stepper: &Stepper) -> Window {
+    (
+        stepper.release(),
+        stepper.deadline(),
+        stepper.b_bit(),
+        stepper.group_deadline(),
+    )
+}
+
+#[test]
+fn windows_by_rows(rt: HostRuntime) {
+    let weight = Weight::new(8, 11).expect(&rt, "a weight");
+    for place in 0..8 {
+        assert_eq!(&rt; window(weight, place as u64 + 1, 0), EIGHT_ELEVENTHS[place]);
+    }
+    let weight = Weight::new(3, 10).expect(&rt, "a weight");
+    for place in 0..3 {
+        assert_eq!(&rt; window(weight, place as u64 + 1, 0), THREE_TENTHS[place]);
+    }
+    let weight = Weight::new(1, 1).expect(&rt, "a weight");
+    for place in 0..2 {
+        assert_eq!(&rt; window(weight, place as u64 + 1, 0), WHOLE[place]);
+    }
+    let weight = Weight::new(1, 1_000_000_000).expect(&rt, "a weight");
+    assert_eq!(&rt;
+        window(weight, 1_000_001, 0),
+        (1_000_000_000_000_000, 1_000_001_000_000_000, 0, 0)
+    );
+}
+
+#[test]
+fn weights(rt: HostRuntime) {
+    let faults = [
+        (0, 5, WeightFault::ZeroCost, 4, "zero cost"),
+        (0, 0, WeightFault::ZeroCost, 4, "zero cost"),
+        (5, 3, WeightFault::CostOverPeriod, 5, "cost over period"),
+        (
+            1,
+            1_000_000_001,
+            WeightFault::PeriodTooLong,
+            6,
+            "period too long",
+        ),
+    ];
+    for (cost, period, fault, number, text) in faults {
+        let found = Weight::new(cost, period).expect_err(&rt, "a fault");
+        assert!(&rt; found == fault);
+        assert_eq!(&rt; found.number(), number);
+        let shown = format!(in rt.alloc(); "{found}").expect(&rt, "memory");
+        assert!(&rt; shown.as_str() == text);
+    }
+    let half = Weight::new(2, 4).expect(&rt, "a weight");
+    assert_eq!(&rt; (half.cost(), half.period(), half.is_heavy()), (2, 4, true));
+    assert!(&rt; !Weight::new(3, 7).expect(&rt, "a weight").is_heavy());
+    assert!(&rt; half.units(12) == Some(6) && half.units(6) == None && half.units(0) == Some(0));
+    assert!(&rt; half == Weight::new(2, 4).expect(&rt, "a weight"));
+    assert!(&rt; half != Weight::new(1, 2).expect(&rt, "a weight"));
+}
+
+#[test]
+fn names(rt: HostRuntime) {
+    let faults = [
+        ("", NameFault::Empty, 1, "empty name"),
+        ("abcdefghijklmnopq", NameFault::TooLong, 2, "name too long"),
+        ("a-b", NameFault::BadByte { at: 1 }, 3, "bad byte at 1"),
+        ("0a", NameFault::BadByte { at: 0 }, 3, "bad byte at 0"),
+        ("ab_0C", NameFault::BadByte { at: 4 }, 3, "bad byte at 4"),
+    ];
+    for (bytes, fault, number, text) in faults {
+        let found = TaskName::from_bytes(bytes.as_bytes()).expect_err(&rt, "a fault");
+        assert!(&rt; found == fault);
+        assert_eq!(&rt; found.number(), number);
+        let shown = format!(in rt.alloc(); "{found}").expect(&rt, "memory");
+        assert!(&rt; shown.as_str() == text);
+    }
+    let longest = TaskName::from_bytes(b"abcdefghijklmnop").expect(&rt, "a name");
+    assert!(&rt; longest.as_bytes() == b"abcdefghijklmnop".as_slice());
+}
+
+#[test]
+fn names_in_order(rt: HostRuntime) {
+    let a = TaskName::from_bytes(b"a").expect(&rt, "a name");
+    let a_zero = TaskName::from_bytes(b"a0").expect(&rt, "a name");
+    let a_line = TaskName::from_bytes(b"a_").expect(&rt, "a name");
+    let b = TaskName::from_bytes(b"b").expect(&rt, "a name");
+    assert!(&rt; a < a_zero && a_zero < a_line && a_line < b && a != a_zero);
+    let mut met = HashSet::new(rt.alloc());
+    for name in [a, a_zero, a, b, a_zero] {
+        met.insert(name).expect(&rt, "memory");
+    }
+    assert_eq!(&rt; met.len(), 3);
+    assert!(&rt; met.contains(&b) && !met.contains(&a_line));
+}
+
+#[test]
+fn jobs(rt: HostRuntime) {
+    let weight = Weight::new(2, 4).expect(&rt, "a weight");
+    let starts = [true, false, true, false, true];
+    for place in 0..5 {
+        assert!(&rt; starts_job(weight, place as u64 + 1) == starts[place]);
+    }
+}
+
+#[test]
+fn stepper_by_rows(rt: HostRuntime) {
+    let weight = Weight::new(8, 11).expect(&rt, "a weight");
+    let mut stepper = Stepper::new(weight, 0);
+    stepper.advance();
+    stepper.advance();
+    assert_eq!(&rt; (stepper.index(), read(&stepper)), (3, (2, 5, 1, 8)));
+    stepper.delay(4);
+    assert_eq!(&rt; (stepper.theta(), read(&stepper)), (4, (6, 9, 1, 12)));
+    stepper.advance();
+    assert_eq!(&rt; (stepper.index(), read(&stepper)), (4, (8, 10, 1, 12)));
+    let whole = Weight::new(1, 1).expect(&rt, "a weight");
+    assert_eq!(&rt; read(&Stepper::new(whole, 7)), (7, 8, 0, 8));
+}
+
+#[test]
+fn stepper_is_the_formulas(rt: HostRuntime) {
+    for period in 1..33 {
+        for cost in 1..period + 1 {
+            let weight = Weight::new(cost, period).expect(&rt, "a weight");
+            let mut stepper = Stepper::new(weight, 7);
+            for index in 1..101 {
+                if index == 50 && stepper.theta() == 7 {
+                    stepper.delay(13);
+                }
+                let theta = if index < 50 { 7 } else { 20 };
+                assert_eq!(&rt; read(&stepper), window(weight, index, theta));
+                if stepper.index() <= 1_000_000 {
+                    stepper.advance();
+                }
+            }
+        }
+    }
+}
+
+/// Whether a run of overlapping windows ends at slot `t` with one of the first `subtasks`: at the
+/// deadline of one with b-bit 0, or one slot before the deadline of one with three slots.
+fn run_ends_at(weight: Weight, t: u64, subtasks: u64) -> bool
+    requires few { subtasks ≤ 100 }
+    requires early { t ≤ 100 }
+{
+    for index in 1..subtasks + 1 {
+        let (opens, closes) = (release(weight, index, 0), deadline(weight, index, 0));
+        if t == closes && b_bit(weight, index) == 0 {
+            return true;
+        }
+        if t + 1 == closes && closes == opens + 3 {
+            return true;
+        }
+    }
+    false
+}
+
+/// The first slot from the deadline of subtask `index` on at which a run of windows ends, or 100.
+fn end_of_run(weight: Weight, index: u64, subtasks: u64) -> u64
+    requires few { subtasks ≤ 100 }
+    requires first { 1 ≤ index }
+    requires last { index ≤ 100 }
+{
+    for t in deadline(weight, index, 0)..100 {
+        if run_ends_at(weight, t, subtasks) {
+            return t;
+        }
+    }
+    100
+}
+
+#[test]
+fn group_deadline_is_the_end_of_a_cascade(rt: HostRuntime) {
+    for period in 2..33u64 {
+        for cost in period.div_ceil(2)..period {
+            let weight = Weight::new(cost, period).expect(&rt, "a weight");
+            for index in 1..cost + 1 {
+                assert_eq!(&rt;
+                    group_deadline(weight, index, 0),
+                    end_of_run(weight, index, 2 * cost),
+                    "subtask {index} of {cost}/{period}"
+                );
+            }
+        }
+    }
+}

@@ -1,0 +1,93 @@
+//! Reading the words.
+
+ghost use Rattle.std.specs.Prelude.{◌≡◌, IfOk};
+ghost use Rattle.pfair_words.specs.Asked.{HasCount};
+ghost use Rattle.pfair_words.specs.declared.words.WordsFault.TheVariants.{Memory};
+
+use crate::command::command;
+use clap::error::ErrorKind;
+use clap::{ArgMatches, Error};
+use pfair_weight::{Weight, WeightFault};
+use std::alloc::{AllocError, Global};
+
+/// What a command line asks for.
+#[derive(Drop)]
+pub enum Asked {
+    /// The windows of the first `count` subtasks of a weight, at most 1,000,000.
+    Windows { weight: Weight, count: u64 },
+    /// A text that tells how the program is used.
+    Help { text: String },
+}
+
+/// Why the words ask for nothing.
+#[derive(Clone, Copy, Debug, PartialEq, Eq)]
+pub enum WordsFault {
+    /// The words are in order, but their cost and period make no weight.
+    Weight(WeightFault),
+    /// No command has this form.
+    Refused,
+    /// Want of memory.
+    Memory,
+}
+
+impl From<AllocError> for WordsFault {
+    ghost from_gives = { λ _ e. e ≡ Memory };
+
+    fn from(_: AllocError) -> WordsFault {
+        WordsFault::Memory
+    }
+}
+
+/// Reads the words after the program's name.
+///
+/// A word that doesn't read as the number it should be, a count past 1,000,000, a missing or
+/// surplus word, an unknown command and no words at all are `Refused`, before a weight is looked
+/// at. Takes memory.
+pub fn read_words(alloc: Global, words: &[String]) -> Result<Asked, WordsFault>
+    ensures { IfOk result HasCount }
+{
+    match command(alloc)?.try_get_matches_from(words) {
+        Ok(matches) => read_matches(&matches),
+        Err(error) => refusal(alloc, &error),
+    }
+}
+
+// What the words that `clap` took ask for.
+fn read_matches(matches: &ArgMatches<'_>) -> Result<Asked, WordsFault>
+    ensures { IfOk result HasCount }
+{
+    match matches.subcommand() {
+        Some(("windows", words)) => read_windows(words),
+        _ => Err(WordsFault::Refused),
+    }
+}
+
+fn read_windows(words: &ArgMatches<'_>) -> Result<Asked, WordsFault>
+    ensures { IfOk result HasCount }
+{
+    let numbers = (
+        words.get_one::<u64>("cost"),
+        words.get_one::<u64>("period"),
+        words.get_one::<u64>("count"),
+    );
+    match numbers {
+        (Some(cost), Some(period), Some(count)) if count <= 1_000_000 => {
+            let weight = Weight::new(cost, period).map_err(WordsFault::Weight)?;
+            Ok(Asked::Windows { weight, count })
+        }
+        _ => Err(WordsFault::Refused),
+    }
+}
+
+// Help, or the fault.
+fn refusal(alloc: Global, error: &Error) -> Result<Asked, WordsFault>
+    ensures { IfOk result HasCount }
+{
+    match error.kind() {
+        ErrorKind::DisplayHelp => Ok(Asked::Help {
+            text: error.to_string(alloc)?,
+        }),
+        ErrorKind::OutOfMemory => Err(WordsFault::Memory),
+        _ => Err(WordsFault::Refused),
+    }
+}
