@@ -1,3 +1,6 @@
 pub mod OrderLemmas
 pub mod KeyLaws
 pub mod RankLemmas
+pub mod ByRank
+pub mod InOrder
+pub mod NamesApart

@@ -13,7 +13,7 @@ use Rattle.std.proofs.lemmas.Option.{slice_get_within, slice_get-get_or}
 use Rattle.std.specs.Prelude.{nat_le}
 use Rattle.std.specs.Cmp.{alike_right}
 use Rattle.std.proofs.lemmas.Bool.{leb-true, leb-false}
-use Rattle.pfair_order.specs.Rank.{rank, AreFirst}
+use Rattle.pfair_order.specs.Rank.{rank, AreFirst, EachOnce}
 
 some_inj : {A : Type 0} (x y : A) → Some x ≡ Some y → x ≡ y
 some_inj x y e = cc
@@ -37,6 +37,11 @@ pub at_each : {A : Type 0} (P : A → Type 0) (xs : List A) (i : ℕ) (x : A) �
 at_each P [] i x h e = absurd (none_some x e)
 at_each P (y ∷ ys) zero x h e = subst P (some_inj y x e) h.0
 at_each P (y ∷ ys) (suc i) x h e = at_each P ys i x h.1 e
+
+-- what holds at each place holds of each element
+pub each_place : {A : Type 0} (P : A → Type 0) (xs : List A) → ((i : ℕ) (x : A) → slice_get xs i ≡ Some x → P x) → AllByRecursion P xs
+each_place P [] f = tt
+each_place P (x ∷ xs) f = (f 0 x refl, each_place P xs (λ i y e. f (suc i) y e))
 
 count_cons : {A : Type 0} (p : A → Bool) (x : A) (xs : List A) (n : ℕ) → count_by p xs ≡ n → count_by p (x ∷ xs) ≡ cond (p x) 1 0 + n
 count_cons p x xs n e = sum_by-cons (λ y. cond (p y) 1 0) x xs ∙ ap (λ m. cond (p x) 1 0 + m) e
@@ -66,14 +71,14 @@ less_not_back : (r s : Ordering) → r ≡ ordering_reverse s → s ≡ Less →
 less_not_back r s e f = rw e (rw f refl)
 
 module _ {K : Type 0} {R : K → K → Ordering} (o : IsTotalOrder R) where
-  not_back : (x y : K) → R x y ≡ Less → is_lt (R y x) ≡ false
+  pub not_back : (x y : K) → R x y ≡ Less → is_lt (R y x) ≡ false
   not_back x y e = less_not_back (R y x) (R x y) (o.antisymm y x) e
 
   none_back : (x : K) (ys : List K) → AllByRecursion (λ y. R x y ≡ Less) ys → AllByRecursion (λ y. is_lt (R y x) ≡ false) ys
   none_back x [] h = tt
   none_back x (y ∷ ys) h = (not_back x y h.0, none_back x ys h.1)
 
-  itself_not_before : (x : K) → is_lt (R x x) ≡ false
+  pub itself_not_before : (x : K) → is_lt (R x x) ≡ false
   itself_not_before x = elim (R x x) as (λ r. R x x ≡ r → is_lt r ≡ false) [
     | Less ↦ λ e. rw e at (not_back x x e)
     | Equal ↦ λ e. refl
@@ -143,17 +148,13 @@ module _ {K : Type 0} {R : K → K → Ordering} (o : IsTotalOrder R) where
         ];
   }
 
-  -- no key of the list stands in it twice
-  abbrev pub Once : List K → Type 0
-  Once keys = (k : K) → count_by (λ x. is_eq (R x k)) keys ≤ 1
-
   zero_counted : (p : K → Bool) (xs : List K) → count_by p xs ≡ 0 → AllByRecursion (λ x. p x ≡ false) xs
   zero_counted p [] e = tt
   zero_counted p (x ∷ xs) e =
       let sum : cond (p x) 1 0 + count_by p xs ≡ 0 = sym (count_cons p x xs _ refl) ∙ e in
       (elim (p x) as (λ b. cond b 1 0 + count_by p xs ≡ 0 → b ≡ false) [ true ↦ λ h. absurd (omega arith) | false ↦ λ h. refl ] sum, zero_counted p xs (omega arith))
 
-  count_of_tail : (p : K → Bool) (x : K) (xs : List K) → count_by p (x ∷ xs) ≤ 1 → count_by p xs ≤ 1
+  pub count_of_tail : (p : K → Bool) (x : K) (xs : List K) → count_by p (x ∷ xs) ≤ 1 → count_by p xs ≤ 1
   count_of_tail p x xs h = let e : count_by p (x ∷ xs) ≡ cond (p x) 1 0 + count_by p xs = count_cons p x xs _ refl in omega arith
 
   pub less_of : (r s : Ordering) → r ≡ ordering_reverse s → is_lt r ≡ false → is_eq r ≡ false → s ≡ Less
@@ -163,7 +164,7 @@ module _ {K : Type 0} {R : K → K → Ordering} (o : IsTotalOrder R) where
   less_of Greater Equal e f g = cc
   less_of Greater Greater e f g = cc
 
-  is_eq_back : (r s : Ordering) → r ≡ ordering_reverse s → is_eq s ≡ false → is_eq r ≡ false
+  pub is_eq_back : (r s : Ordering) → r ≡ ordering_reverse s → is_eq s ≡ false → is_eq r ≡ false
   is_eq_back r Less e f = ap is_eq e
   is_eq_back r Equal e f = cc
   is_eq_back r Greater e f = ap is_eq e
@@ -184,38 +185,38 @@ module _ {K : Type 0} {R : K → K → Ordering} (o : IsTotalOrder R) where
   itself_equal : (x : K) → is_eq (R x x) ≡ true
   itself_equal x = ap is_eq (tied_itself o x)
 
-  apart_from_head : (x : K) (xs : List K) → Once (x ∷ xs) → AllByRecursion (λ z. is_eq (R z x) ≡ false) xs
+  pub apart_from_head : (x : K) (xs : List K) → EachOnce R (x ∷ xs) → AllByRecursion (λ z. is_eq (R z x) ≡ false) xs
   apart_from_head x xs once =
       let e : count_by (λ z. is_eq (R z x)) (x ∷ xs) ≡ cond (is_eq (R x x)) 1 0 + count_by (λ z. is_eq (R z x)) xs = count_cons (λ z. is_eq (R z x)) x xs _ refl in
       let e1 : count_by (λ z. is_eq (R z x)) (x ∷ xs) ≡ 1 + count_by (λ z. is_eq (R z x)) xs = e ∙ ap (λ b. cond b 1 0 + count_by (λ z. is_eq (R z x)) xs) (itself_equal x) in
       let h : count_by (λ z. is_eq (R z x)) (x ∷ xs) ≤ 1 = once x in
       zero_counted (λ z. is_eq (R z x)) xs (omega arith)
 
-  rising_from_sorted : (xs : List K) → IsSortedBy (λ a b. is_lt (R a b)) xs → Once xs → Rising R xs
+  rising_from_sorted : (xs : List K) → IsSortedBy (λ a b. is_lt (R a b)) xs → EachOnce R xs → Rising R xs
   rising_from_sorted [] up once = tt
   rising_from_sorted (x ∷ xs) up once = (
     all_less x xs (sorted_head x xs up) (apart_from_head x xs once),
     rising_from_sorted xs (sorted_tail x xs up) (λ k. count_of_tail (λ z. is_eq (R z k)) x xs (once k)),
   )
 
-  once_permutation : (xs ys : List K) → IsPermutation xs ys → Once xs → Once ys
+  once_permutation : (xs ys : List K) → IsPermutation xs ys → EachOnce R xs → EachOnce R ys
   once_permutation xs ys p once k = rw (sum_by-IsPermutation (λ x. cond (is_eq (R x k)) 1 0) xs ys p) (once k)
 
-  once_front : (xs ys : List K) → Once (xs ++ ys) → Once xs
+  once_front : (xs ys : List K) → EachOnce R (xs ++ ys) → EachOnce R xs
   once_front xs ys once k =
       let e : count_by (λ x. is_eq (R x k)) (xs ++ ys) ≡ count_by (λ x. is_eq (R x k)) xs + count_by (λ x. is_eq (R x k)) ys = sum_by-append (λ x. cond (is_eq (R x k)) 1 0) xs ys in
       let h : count_by (λ x. is_eq (R x k)) (xs ++ ys) ≤ 1 = once k in
       omega arith
 
   -- a key of the second part ties with none of the first
-  apart_parts : (xs ys : List K) (z : K) → Once (xs ++ z ∷ ys) → AllByRecursion (λ x. is_eq (R x z) ≡ false) xs
+  apart_parts : (xs ys : List K) (z : K) → EachOnce R (xs ++ z ∷ ys) → AllByRecursion (λ x. is_eq (R x z) ≡ false) xs
   apart_parts xs ys z once =
       let e : count_by (λ x. is_eq (R x z)) (xs ++ z ∷ ys) ≡ count_by (λ x. is_eq (R x z)) xs + count_by (λ x. is_eq (R x z)) (z ∷ ys) = sum_by-append (λ x. cond (is_eq (R x z)) 1 0) xs (z ∷ ys) in
       let f : count_by (λ x. is_eq (R x z)) (z ∷ ys) ≡ 1 + count_by (λ x. is_eq (R x z)) ys = count_cons (λ x. is_eq (R x z)) z ys _ refl ∙ ap (λ b. cond b 1 0 + count_by (λ x. is_eq (R x z)) ys) (itself_equal z) in
       let h : count_by (λ x. is_eq (R x z)) (xs ++ z ∷ ys) ≤ 1 = once z in
       zero_counted (λ x. is_eq (R x z)) xs (omega arith)
 
-  once_without : (xs ys : List K) (z : K) → Once (xs ++ z ∷ ys) → Once (xs ++ ys)
+  once_without : (xs ys : List K) (z : K) → EachOnce R (xs ++ z ∷ ys) → EachOnce R (xs ++ ys)
   once_without xs ys z once k =
       let e : count_by (λ x. is_eq (R x k)) (xs ++ z ∷ ys) ≡ count_by (λ x. is_eq (R x k)) xs + count_by (λ x. is_eq (R x k)) (z ∷ ys) = sum_by-append (λ x. cond (is_eq (R x k)) 1 0) xs (z ∷ ys) in
       let f : count_by (λ x. is_eq (R x k)) (z ∷ ys) ≡ cond (is_eq (R z k)) 1 0 + count_by (λ x. is_eq (R x k)) ys = count_cons (λ x. is_eq (R x k)) z ys _ refl in
@@ -228,7 +229,7 @@ module _ {K : Type 0} {R : K → K → Ordering} (o : IsTotalOrder R) where
   all_given_less z (k ∷ ks) f g =
       (less_of (R z k) (R k z) (o.antisymm z k) f.0 (is_eq_back (R z k) (R k z) (o.antisymm z k) g.0), all_given_less z ks f.1 g.1)
 
-  after_from_all : (given rest : List K) → Once (given ++ rest) → AllByRecursion (λ z. All (λ r. is_lt (R z r) ≡ false) given) rest → AllByRecursion (λ z. AllByRecursion (λ k. R k z ≡ Less) given) rest
+  after_from_all : (given rest : List K) → EachOnce R (given ++ rest) → AllByRecursion (λ z. All (λ r. is_lt (R z r) ≡ false) given) rest → AllByRecursion (λ z. AllByRecursion (λ k. R k z ≡ Less) given) rest
   after_from_all given [] once h = tt
   after_from_all given (z ∷ rest) once h = (
     all_given_less z given (recursion_from_All (λ r. is_lt (R z r) ≡ false) given h.0) (apart_parts given rest z once),
@@ -236,16 +237,24 @@ module _ {K : Type 0} {R : K → K → Ordering} (o : IsTotalOrder R) where
   )
 
   -- the least of keys that stand once split them
-  pub split_from_least : (keys given rest : List K) → Once keys → IsSortedBy (λ a b. is_lt (R a b)) given → IsPermutation keys (given ++ rest) → All (λ z. All (λ r. is_lt (R z r) ≡ false) given) rest → IsSplit keys given rest
+  pub split_from_least : (keys given rest : List K) → EachOnce R keys → IsSortedBy (λ a b. is_lt (R a b)) given → IsPermutation keys (given ++ rest) → All (λ z. All (λ r. is_lt (R z r) ≡ false) given) rest → IsSplit keys given rest
   split_from_least keys given rest once up p least =
-      let once' : Once (given ++ rest) = once_permutation keys (given ++ rest) p once in
+      let once' : EachOnce R (given ++ rest) = once_permutation keys (given ++ rest) p once in
       record {
         parts = p;
         rising = rising_from_sorted given up (once_front given rest once');
         after = after_from_all given rest once' (recursion_from_All (λ z. All (λ r. is_lt (R z r) ≡ false) given) rest least);
       }
 
-  -- ranks do not depend on the order in which the keys are listed
+  -- a split does not depend on the order in which the keys are listed
+  pub split_of_permutation : (keys others given rest : List K) → IsPermutation keys others → IsSplit keys given rest → IsSplit others given rest
+  split_of_permutation keys others given rest p s = record {
+    parts = IsPermutation-trans others keys (given ++ rest) (IsPermutation-sym keys others p) s.parts;
+    rising = s.rising;
+    after = s.after;
+  }
+
+  -- nor do ranks
   pub first_of_permutation : (m : ℕ) (keys others first : List K) → IsPermutation keys others → AreFirst R m keys first → AreFirst R m others first
   first_of_permutation m keys others first p a =
       let same : (k : K) → rank R others k ≡ rank R keys k = λ k. sum_by-IsPermutation (λ y. cond (is_lt (R y k)) 1 0) keys others p in
@@ -286,10 +295,6 @@ module _ {K : Type 0} {R : K → K → Ordering} (o : IsTotalOrder R) where
       (λ i k e. let f = a.at_rank i k e in subst (λ j. slice_get ys j ≡ Some k) f.1 (b.complete k f.0 (rw f.1 f.2)))
       (λ i k e. let f = b.at_rank i k e in subst (λ j. slice_get xs j ≡ Some k) f.1 (a.complete k f.0 (rw f.1 f.2)))
 
-  each_place : (P : K → Type 0) (xs : List K) → ((i : ℕ) (k : K) → slice_get xs i ≡ Some k → P k) → AllByRecursion P xs
-  each_place P [] f = tt
-  each_place P (x ∷ xs) f = (f 0 x refl, each_place P xs (λ i k e. f (suc i) k e))
-
   -- a key that does not go before another has all before it that the other has
   counted_too : (p q : K → Bool) → ((x : K) → p x ≡ true → q x ≡ true) → (xs : List K) → count_by p xs ≤ count_by q xs
   counted_too p q more [] = omega arith
@@ -299,7 +304,7 @@ module _ {K : Type 0} {R : K → K → Ordering} (o : IsTotalOrder R) where
       elim (p x) as (λ b. p x ≡ b → cond b 1 0 ≤ cond (q x) 1 0) [ true ↦ λ t. rw (more x t) (omega arith) | false ↦ λ _. omega arith ] refl in
       rw (count_cons p x xs _ refl) (rw (count_cons q x xs _ refl) (omega arith))
 
-  is_less : (r : Ordering) → is_lt r ≡ true → r ≡ Less
+  pub is_less : (r : Ordering) → is_lt r ≡ true → r ≡ Less
   is_less Less e = refl
   is_less Equal e = cc
   is_less Greater e = cc

@@ -1,10 +1,10 @@
 //! Laws of the PD2 order, and of the first keys among some keys. Each function does nothing: its contract is the law.
 
-ghost use Rattle.std.specs.Prelude.{◌≡◌, ◌≤◌, ◌⊎◌, ◌↔◌, ℕ, List, length, true, AllPairs, IsPermutation};
+ghost use Rattle.std.specs.Prelude.{◌≡◌, ◌≢◌, ◌≤◌, ◌⊎◌, ◌↔◌, ℕ, List, length, true, AllPairs, Contains, IsPermutation};
 ghost use Rattle.std.specs.declared.cmp.Ordering.TheVariants.{Less, Equal};
 ghost use Rattle.pfair_order.specs.declared.Key.{Key};
 ghost use Rattle.pfair_order.specs.Order.{pd2_cmp, GoesBefore};
-ghost use Rattle.pfair_order.specs.Rank.{AreFirst};
+ghost use Rattle.pfair_order.specs.Rank.{first_by_rank, AreFirst, EachOnce};
 
 /// What the comparison computes is the order: `Less` for what goes before, `Equal` for equal keys.
 pub fn comparison_is_the_order()
@@ -38,20 +38,46 @@ pub fn first_keys_are_unique()
         AreFirst pd2_cmp m keys xs → AreFirst pd2_cmp m keys ys → xs ≡ ys }
 {}
 
+/// Of keys that stand once each, the list that has the first m is that of the ranks below m, rank by rank.
+pub fn first_keys_are_by_rank()
+    ensures { (m : ℕ) (keys first : List Key) → EachOnce pd2_cmp keys →
+        (AreFirst pd2_cmp m keys first ↔ (first ≡ first_by_rank pd2_cmp m keys)) }
+{}
+
+/// Keys of different names stand once each.
+pub fn keys_of_different_names_stand_once()
+    ensures { (keys : List Key) →
+        AllPairs (λ k l. k.name ≢ l.name) keys → EachOnce pd2_cmp keys }
+{}
+
 /// The first m keys are at most m.
 pub fn first_keys_are_at_most()
-    ensures { (m : ℕ) (keys first : List Key) →
+    ensures first { (m : ℕ) (keys first : List Key) →
         AreFirst pd2_cmp m keys first → length first ≤ m }
+    ensures by_rank { (m : ℕ) (keys : List Key) →
+        EachOnce pd2_cmp keys → length (first_by_rank pd2_cmp m keys) ≤ m }
 {}
 
 /// The first m keys rise: each goes before all later ones.
 pub fn first_keys_rise()
-    ensures { (m : ℕ) (keys first : List Key) →
+    ensures first { (m : ℕ) (keys first : List Key) →
         AreFirst pd2_cmp m keys first → AllPairs GoesBefore first }
+    ensures by_rank { (m : ℕ) (keys : List Key) →
+        EachOnce pd2_cmp keys → AllPairs GoesBefore (first_by_rank pd2_cmp m keys) }
+{}
+
+/// No two of the first m keys have one name, where no two of the keys have one.
+pub fn first_keys_have_different_names()
+    ensures { (m : ℕ) (keys : List Key) → AllPairs (λ k l. k.name ≢ l.name) keys →
+        AllPairs (λ k l. k.name ≢ l.name) (first_by_rank pd2_cmp m keys) }
 {}
 
 /// Which keys are the first m does not depend on the order in which the keys are listed.
 pub fn first_keys_ignore_listing()
-    ensures { (m : ℕ) (keys others first : List Key) →
+    ensures first { (m : ℕ) (keys others first : List Key) →
         IsPermutation keys others → AreFirst pd2_cmp m keys first → AreFirst pd2_cmp m others first }
+    ensures by_rank { (m : ℕ) (keys others : List Key) →
+        EachOnce pd2_cmp keys → EachOnce pd2_cmp others →
+        ((k : Key) → Contains keys k ↔ Contains others k) →
+        first_by_rank pd2_cmp m keys ≡ first_by_rank pd2_cmp m others }
 {}

@@ -14,8 +14,9 @@ use Rattle.std.specs.List as list
 use Rattle.std.specs.Option.{option_map, is_some}
 use Rattle.pfair_order.specs.declared.Key.{Key}
 use Rattle.pfair_order.proofs.KeyLaws.{keys_total, keys_exact}
-use Rattle.pfair_order.proofs.RankLemmas.{Once, IsSplit, split_from_least, first_of_permutation, first_of_split}
-use Rattle.pfair_order.specs.Rank.{AreFirst}
+use Rattle.pfair_order.proofs.RankLemmas.{IsSplit, split_from_least, split_of_permutation}
+use Rattle.pfair_order.proofs.ByRank.{by_rank_of_split}
+use Rattle.pfair_order.specs.Rank.{EachOnce, first_by_rank}
 use Rattle.itertools.specs.Extremes.{IsKLeast, by_cmp}
 use Rattle.pfair_order.specs.Order.{pd2_cmp}
 use Rattle.pfair_ready.specs.declared.plain.Waiting.{Waiting}
@@ -231,17 +232,19 @@ count_released slot k (w ∷ ws) =
       | false ↦ omega arith
     ])
 
-pub released_once : (slot : ℕ) (ws : List Waiting) → EachNameOnce ws → Once keys_total (released_of slot ws)
+pub released_once : (slot : ℕ) (ws : List Waiting) → EachNameOnce ws → EachOnce pd2_cmp (released_of slot ws)
 released_once slot ws once k =
     let less : count_by (λ x. is_eq (pd2_cmp x k)) (released_of slot ws) ≤ count_by (λ w. name_eq w.key.name k.name) ws = count_released slot k ws in
     let one : count_by (λ w. name_eq w.key.name k.name) ws ≤ 1 = once k.name in
     omega arith
 
 -- the least of the list's released keys are the first of what it holds
-pub first_from_least : (slot m : ℕ) (ws : List Waiting) (first : List Key) → EachNameOnce ws → IsKLeast (by_cmp pd2_cmp) m (released_of slot ws) first → AreFirst pd2_cmp m (released slot (held_of ws)) first
+-- the least of the list are the first by rank of what it holds
+pub first_from_least : (slot m : ℕ) (ws : List Waiting) (first : List Key) → EachNameOnce ws → IsKLeast (by_cmp pd2_cmp) m (released_of slot ws) first → first ≡ first_by_rank pd2_cmp m (released slot (held_of ws))
 first_from_least slot m ws first once least =
     let split : IsSplit keys_total (released_of slot ws) first least.2 = split_from_least keys_total (released_of slot ws) first least.2 (released_once slot ws once) least.0 least.3 least.5 in
-    first_of_permutation keys_total m (released_of slot ws) (released slot (held_of ws)) first (released_held slot ws once) (first_of_split keys_total m (released_of slot ws) first least.2 split least.1 least.4)
+    by_rank_of_split keys_total (released slot (held_of ws)) first least.2
+    (split_of_permutation keys_total (released_of slot ws) (released slot (held_of ws)) first least.2 (released_held slot ws once) split) m least.1 least.4
 
 pub none_from_not_some : {A : Type 0} (o : Option A) → is_some o ≡ false → o ≡ None
 none_from_not_some None e = refl

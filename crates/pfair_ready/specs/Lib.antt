@@ -1,3 +1,4 @@
+pub mod Heap
 pub mod Names
 pub mod PlainList
 pub mod Waiting

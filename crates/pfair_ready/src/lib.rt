@@ -10,13 +10,15 @@
 ghost use Rattle.std.specs.Prelude.{◌≡◌, ◌≤◌, ℕ, IsTrue, IfOk, OnErr, false, not, if◌then◌else◌};
 ghost use Rattle.std.specs.FinMap as finmap;
 ghost use Rattle.pfair_order.specs.Order.{pd2_cmp};
-ghost use Rattle.pfair_order.specs.Rank.{AreFirst};
+ghost use Rattle.pfair_order.specs.Rank.{first_by_rank};
 ghost use Rattle.pfair_ready.specs.Waiting.{Held, released, without};
 
+mod heap;
 mod plain;
 #[cfg(test)]
 mod tests;
 
+pub use heap::HeapReady;
 use pfair_order::Key;
 use pfair_weight::TaskName;
 pub use plain::PlainReady;
@@ -80,7 +82,7 @@ pub trait Ready: Drop {
         requires { now self.old ≤ slot }
         ensures time { now self.new ≡ slot }
         ensures first { IfOk result (λ first.
-            AreFirst pd2_cmp m (released slot (held self.old)) first.items) }
+            first.items ≡ first_by_rank pd2_cmp m (released slot (held self.old))) }
         ensures removed { IfOk result (λ first.
             held self.new ≡ without first.items (held self.old)) }
         ensures err { OnErr result (held self.new ≡ held self.old) };

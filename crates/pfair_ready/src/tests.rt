@@ -2,7 +2,7 @@
 
 ghost use Rattle.std.specs.Prelude.{◌≡◌, ◌≤◌, IfOk};
 
-use crate::{PlainReady, Ready};
+use crate::{HeapReady, PlainReady, Ready};
 use pfair_order::Key;
 use pfair_weight::TaskName;
 use std::alloc::{AllocError, Global};
@@ -156,4 +156,20 @@ fn plain_gives_by_rank(rt: HostRuntime) -> Result<(), Fail> {
 #[test]
 fn plain_gives_all_in_order(rt: HostRuntime) -> Result<(), Fail> {
     gives_all_in_order::<PlainReady>(&rt, rt.alloc())
+}
+
+#[test]
+fn heap_holds_until_release(rt: HostRuntime) -> Result<(), Fail> {
+    holds_until_release::<HeapReady>(&rt, rt.alloc())
+}
+
+#[test]
+fn heap_gives_by_rank(rt: HostRuntime) -> Result<(), Fail> {
+    let mut ready = gives_by_rank::<HeapReady>(&rt, rt.alloc())?;
+    forgets_removed(&rt, &mut ready)
+}
+
+#[test]
+fn heap_gives_all_in_order(rt: HostRuntime) -> Result<(), Fail> {
+    gives_all_in_order::<HeapReady>(&rt, rt.alloc())
 }

@@ -6,10 +6,14 @@
 //! first call where it was not, and with 4 where it wanted memory for its own looking.
 #![tactic(auto)]
 
+mod admission;
+mod entries;
 mod lattice;
 mod ready;
+mod replica;
+mod table;
 
-use pfair_ready::PlainReady;
+use pfair_ready::{HeapReady, PlainReady};
 use std::alloc::AllocError;
 use std::process::ExitCode;
 
@@ -17,7 +21,7 @@ use std::process::ExitCode;
 type Look = Result<bool, AllocError>;
 
 fn main(rt: HostRuntime) -> ExitCode {
-    let looks: [(&str, Look); 6] = [
+    let looks: [(&str, Look); 24] = [
         (
             "join of maps three deep",
             lattice::join_three_deep(rt.alloc()),
@@ -38,6 +42,57 @@ fn main(rt: HostRuntime) -> ExitCode {
         (
             "take_first of a plain ready list",
             ready::take_first::<PlainReady>(rt.alloc()),
+        ),
+        (
+            "insert of a ready heap",
+            ready::insert::<HeapReady>(rt.alloc()),
+        ),
+        (
+            "take_first of a ready heap",
+            ready::take_first::<HeapReady>(rt.alloc()),
+        ),
+        ("take of a replica", replica::take(rt.alloc())),
+        ("merge of two halves", replica::merge(rt.alloc())),
+        ("copy of a replica", replica::copy(rt.alloc())),
+        ("faults of a replica", replica::faults(rt.alloc())),
+        ("what is said at a slot", replica::said(rt.alloc())),
+        ("boundary of four arrivals", admission::boundary(rt.alloc())),
+        (
+            "plans over plain lists",
+            table::plans::<PlainReady>(rt.alloc()),
+        ),
+        (
+            "reopening over plain lists",
+            table::reopen::<PlainReady>(rt.alloc()),
+        ),
+        (
+            "absorbing over plain lists",
+            table::absorb::<PlainReady>(rt.alloc()),
+        ),
+        (
+            "a run of events over plain lists",
+            table::events::<PlainReady>(rt.alloc()),
+        ),
+        (
+            "a run of logs over plain lists",
+            table::script::<PlainReady>(rt.alloc()),
+        ),
+        ("plans over heaps", table::plans::<HeapReady>(rt.alloc())),
+        (
+            "reopening over heaps",
+            table::reopen::<HeapReady>(rt.alloc()),
+        ),
+        (
+            "absorbing over heaps",
+            table::absorb::<HeapReady>(rt.alloc()),
+        ),
+        (
+            "a run of events over heaps",
+            table::events::<HeapReady>(rt.alloc()),
+        ),
+        (
+            "a run of logs over heaps",
+            table::script::<HeapReady>(rt.alloc()),
         ),
     ];
     for (what, look) in looks {

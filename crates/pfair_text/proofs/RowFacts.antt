@@ -1,5 +1,5 @@
 -- Fields without marks stand in a CSV row as they are, and decimal numbers are such fields.
-use Rattle.std.proofs.Common.{ℕ, List, [], ◌∷◌, ◌++◌, ◌≡◌, ◌+◌, ◌%◌, ◌<◌, ◌^◌, Bool, true, false, length, refl, arith}
+use Rattle.std.proofs.Common.{ℕ, List, [], ◌∷◌, ◌++◌, ◌≡◌, ◌+◌, ◌%◌, ◌<◌, ◌^◌, Bool, true, false, length, refl, arith, suc, slice_index}
 use Rattle.std.specs.Prelude.{◌||◌, ◌==◌, not}
 use Rattle.std.specs.Fmt.{decimal}
 use Rattle.std.specs.List.{join_with_byte, list_all, list_any}
@@ -7,9 +7,10 @@ use Rattle.std.proofs.lemmas.Bool.{and_parts, ne_eqb}
 use Rattle.std.proofs.lemmas.Fmt.{decimal_by_steps, decimal_nonempty}
 use Rattle.std.proofs.lemmas.List.Folds.{list_any-append}
 use Rattle.std.proofs.lemmas.List.{append-nil}
+use Rattle.std.proofs.lemmas.Grind.{flat_map-append}
 use Rattle.csv.specs.Quoting.{needs_byte}
 use Rattle.csv.specs.Writing.{default_writer, field_text, fields_text, is_blank, row_text}
-use Rattle.pfair_text.specs.Rows.{is_mark, is_plain, line}
+use Rattle.pfair_text.specs.Rows.{is_mark, is_plain, line, lines_text}
 
 same_or : (p q r s : Bool) → ((((p || q) || (r || s)) || false) || false) ≡ (((p || q) || r) || s)
 same_or true q r s = refl
@@ -69,3 +70,19 @@ pub is_plain-decimal : (n : ℕ) → n < 2 ^ 64 → is_plain (decimal n) ≡ tru
 is_plain-decimal n h =
     let some = decimal_nonempty n h in
     rw (ne_eqb (length (decimal n)) 0 (omega arith), unmarked-decimal n h) refl
+
+-- ---- fields by their bytes
+
+unmarked_by_bytes : (bytes : List ℕ) → ((place : ℕ) → place < length bytes → is_mark (slice_index bytes place) ≡ false) → list_any is_mark bytes ≡ false
+unmarked_by_bytes [] each = refl
+unmarked_by_bytes (b ∷ bytes) each =
+    rw (each 0 (omega arith), unmarked_by_bytes bytes (λ place inside. each (suc place) (omega arith))) refl
+
+-- a field that isn't empty, and none of whose bytes is a mark, is plain
+pub is_plain-by_bytes : (bytes : List ℕ) → 0 < length bytes → ((place : ℕ) → place < length bytes → is_mark (slice_index bytes place) ≡ false) → is_plain bytes ≡ true
+is_plain-by_bytes bytes some each =
+    rw (ne_eqb (length bytes) 0 (omega arith), unmarked_by_bytes bytes each) refl
+
+-- a text of lines, and then of more
+pub lines_text-append : (rows more : List (List (List ℕ))) → lines_text (rows ++ more) ≡ lines_text rows ++ lines_text more
+lines_text-append rows more = flat_map-append line rows more

@@ -1,10 +1,12 @@
-//! Texts of comma-separated rows: made whole in memory, then sent to a writer.
+//! Texts of comma-separated rows: made whole in memory, then sent to a writer. And the bytes of a reader, read whole.
 #![tactic(auto)]
 
+mod input;
 mod output;
 mod rows;
 #[cfg(test)]
 mod tests;
 
+pub use input::{LONGEST_FILE, ReadFault, read_bytes};
 pub use output::{WriteFailed, send};
 pub use rows::{add_row, finish, new_text};

@@ -1,0 +1,145 @@
+-- How far the announcements of a boundary are decided, and how far delays can lead.
+use Rattle.std.proofs.Common.{◌≡◌, ℕ, zero, suc, ◌+◌, ◌*◌, ◌<◌, ◌≤◌, Bool, true, false, cond, List, [], ◌∷◌, ◌++◌, length, take, get_or, refl, sym, ap, subst, ◌∙◌, arith}
+use Rattle.std.specs.Prelude.{not, if◌then◌else◌}
+use Rattle.std.specs.List.{AllByRecursion, filter}
+use Rattle.std.proofs.lemmas.List.{take_more}
+use Rattle.std.proofs.lemmas.List.Sums.{sum_by_push}
+use Rattle.pfair_entry.specs.Entry.{IsWithinLimits}
+use Rattle.pfair_entry.specs.declared.announcement.Announcement.{Announcement}
+use Rattle.pfair_entry.specs.declared.announcement.Announcement.TheVariants.{Arrive, Depart, Late}
+use Rattle.pfair_entry.specs.declared.said.Said.{Said}
+use Rattle.pfair_admission.specs.declared.decision.Decision.{Decision}
+use Rattle.pfair_admission.specs.declared.decision.Decision.TheVariants.{Admitted, Departing, Delayed, Refused}
+use Rattle.pfair_admission.specs.declared.delay.Delay.{Delay}
+use Rattle.pfair_admission.specs.Member.{Member, last_offset}
+use Rattle.pfair_admission.specs.Admission.{Machine, is_named, change, newcomer, with_freeing, with_delay, with_quantum, effect, is_freed, present, decision, decided, all_decided, all_decisions, announcements, ran}
+use Rattle.pfair_admission.specs.Removal.{NoneFreed, EachHasRoom}
+use Rattle.pfair_admission.specs.Roster.{Roster, EachBounded}
+use Rattle.pfair_admission.specs.Standing.{Standing}
+use Rattle.pfair_admission.proofs.MemberLists.{none_freed_present}
+
+-- ---- how far delays lead
+
+pub bounded_later : (n m : ℕ) → n ≤ m → (ms : List Member) → EachBounded n ms → EachBounded m ms
+bounded_later n m up [] h = tt
+bounded_later n m up (x ∷ ms) h = (let o = h.0 in omega arith, bounded_later n m up ms h.1)
+
+bounded_filter : (n : ℕ) (p : Member → Bool) (ms : List Member) → EachBounded n ms → EachBounded n (filter p ms)
+bounded_filter n p [] h = tt
+bounded_filter n p (x ∷ ms) h =
+    elim (p x) as (λ b. EachBounded n (cond b (x ∷ filter p ms) (filter p ms))) [
+      | true ↦ (h.0, bounded_filter n p ms h.1)
+      | false ↦ bounded_filter n p ms h.1
+    ]
+
+pub bounded_present : (n t : ℕ) (ms : List Member) → EachBounded n ms → EachBounded n (present t ms)
+bounded_present n t ms h = bounded_filter n (λ (m : Member). not (is_freed t m.freed_at)) ms h
+
+bounded_push : (n : ℕ) (ms : List Member) (m : Member) → EachBounded n ms → last_offset m ≤ 1000000 + 1048576 * n → EachBounded n (ms ++ m ∷ [])
+bounded_push n [] m h b = (b, tt)
+bounded_push n (x ∷ ms) m h b = (h.0, bounded_push n ms m h.1 b)
+
+bounded_change : (n m : ℕ) (name : List ℕ) (f : Member → Member) → n ≤ m → ((x : Member) → last_offset x ≤ 1000000 + 1048576 * n → last_offset (f x) ≤ 1000000 + 1048576 * m) → (ms : List Member) → EachBounded n ms → EachBounded m (change name f ms)
+bounded_change n m name f up keeps [] h = tt
+bounded_change n m name f up keeps (x ∷ ms) h =
+    (elim (is_named name x) as (λ b. last_offset (cond b (f x) x) ≤ 1000000 + 1048576 * m) [ true ↦ keeps x h.0 | false ↦ (let o = h.0 in omega arith) ], bounded_change n m name f up keeps ms h.1)
+
+bounded_delay : (n index by : ℕ) → by ≤ 1048576 → (x : Member) → last_offset x ≤ 1000000 + 1048576 * n → last_offset (with_delay index by x) ≤ 1000000 + 1048576 * (n + 1)
+bounded_delay n index by small x o = let s = sum_by_push (λ (d : Delay). d.by) x.delays (record { index = index; by = by }) in omega (arith, s)
+
+bounded_effect : (n t : ℕ) (ms : List Member) (a : Announcement) (d : Decision) → t ≤ 1000000 → IsWithinLimits a → EachBounded n ms → EachBounded (n + 1) (effect t ms a d)
+bounded_effect n t ms (Arrive name w early) Admitted in_time limits h =
+    bounded_push (n + 1) ms (newcomer t name w early) (bounded_later n (n + 1) (omega arith) ms h) (omega arith)
+bounded_effect n t ms (Arrive name w early) (Departing slot) in_time limits h = bounded_later n (n + 1) (omega arith) ms h
+bounded_effect n t ms (Arrive name w early) Delayed in_time limits h = bounded_later n (n + 1) (omega arith) ms h
+bounded_effect n t ms (Arrive name w early) (Refused r) in_time limits h = bounded_later n (n + 1) (omega arith) ms h
+bounded_effect n t ms (Depart name) (Departing slot) in_time limits h = bounded_change n (n + 1) name (with_freeing slot) (omega arith) (λ x o. omega arith) ms h
+bounded_effect n t ms (Depart name) Admitted in_time limits h = bounded_later n (n + 1) (omega arith) ms h
+bounded_effect n t ms (Depart name) Delayed in_time limits h = bounded_later n (n + 1) (omega arith) ms h
+bounded_effect n t ms (Depart name) (Refused r) in_time limits h = bounded_later n (n + 1) (omega arith) ms h
+bounded_effect n t ms (Late name index by) Delayed in_time limits h = bounded_change n (n + 1) name (with_delay index by) (omega arith) (bounded_delay n index by limits.1.1) ms h
+bounded_effect n t ms (Late name index by) Admitted in_time limits h = bounded_later n (n + 1) (omega arith) ms h
+bounded_effect n t ms (Late name index by) (Departing slot) in_time limits h = bounded_later n (n + 1) (omega arith) ms h
+bounded_effect n t ms (Late name index by) (Refused r) in_time limits h = bounded_later n (n + 1) (omega arith) ms h
+
+-- one announcement more
+pub bounded_decided : (machine : Machine) (n t : ℕ) (ms : List Member) (a : Announcement) → t ≤ 1000000 → IsWithinLimits a → EachBounded n ms → EachBounded (n + 1) (decided machine t ms a)
+bounded_decided machine n t ms a in_time limits h =
+    bounded_present (n + 1) t (effect t ms a (decision machine t ms a)) (bounded_effect n t ms a (decision machine t ms a) in_time limits h)
+
+pub bounded_ran : (n : ℕ) (name : List ℕ) (ms : List Member) → EachBounded n ms → EachBounded n (ran name ms)
+bounded_ran n name ms h = bounded_change n n name with_quantum (omega arith) (λ x o. o) ms h
+
+-- while fewer announcements are heard than can be, each member has room for one delay more
+pub has_room : (n : ℕ) (ms : List Member) → n < 262144 → EachBounded n ms → EachHasRoom ms
+has_room n [] few h = tt
+has_room n (x ∷ ms) few h = (let o = h.0 in omega arith, has_room n ms few h.1)
+
+-- ---- how far the announcements are decided
+
+-- nobody is freed after an announcement is decided
+none_freed_decided : (machine : Machine) (t : ℕ) (ms : List Member) (heard : List Announcement) → NoneFreed t ms → NoneFreed t (all_decided machine t ms heard)
+none_freed_decided machine t ms [] h = h
+none_freed_decided machine t ms (a ∷ more) h = none_freed_decided machine t (decided machine t ms a) more (none_freed_present t (effect t ms a (decision machine t ms a)))
+
+decided_push : (machine : Machine) (t : ℕ) (ms : List Member) (xs : List Announcement) (a : Announcement) → all_decided machine t ms (xs ++ a ∷ []) ≡ decided machine t (all_decided machine t ms xs) a
+decided_push machine t ms [] a = refl
+decided_push machine t ms (x ∷ xs) a = decided_push machine t (decided machine t ms x) xs a
+
+decisions_push : (machine : Machine) (t : ℕ) (ms : List Member) (xs : List Announcement) (a : Announcement) → all_decisions machine t ms (xs ++ a ∷ []) ≡ all_decisions machine t ms xs ++ decision machine t (all_decided machine t ms xs) a ∷ []
+decisions_push machine t ms [] a = refl
+decisions_push machine t ms (x ∷ xs) a = ap (λ (l : List Decision). decision machine t ms x ∷ l) (decisions_push machine t (decided machine t ms x) xs a)
+
+-- the first n are decided
+pub record SoFar (start : Roster) (t n : ℕ) (heard : List Announcement) (now : Roster) (all : List Decision) : Type 0 where
+  pub left : now ≡ record start { members = all_decided start.machine t start.members (take n heard); heard = start.heard + n }
+  pub told : all ≡ all_decisions start.machine t start.members (take n heard)
+
+-- nobody is freed so far
+pub none_freed_so_far : (start : Roster) (t n : ℕ) (heard : List Announcement) (now : Roster) (all : List Decision) → SoFar start t n heard now all → NoneFreed t start.members → NoneFreed t now.members
+none_freed_so_far start t n heard now all s h = subst (λ (r : Roster). NoneFreed t r.members) (sym s.left) (none_freed_decided start.machine t start.members (take n heard) h)
+
+-- one announcement more is decided
+pub one_more : (start : Roster) (t n : ℕ) (heard : List Announcement) (now after : Roster) (all : List Decision) (a : Announcement) (d : Decision) → SoFar start t n heard now all → n < length heard → get_or heard n a ≡ a
+    → d ≡ decision now.machine t now.members a → after ≡ record now { members = decided now.machine t now.members a; heard = now.heard + 1 } → SoFar start t (n + 1) heard after (all ++ d ∷ [])
+one_more start t n heard now after all a d s within at is left =
+    let front : take (n + 1) heard ≡ take n heard ++ a ∷ [] = take_more heard n a within ∙ ap (λ (x : Announcement). take n heard ++ x ∷ []) at in
+    let of : List Member → Roster = λ ms. record start { members = ms; heard = start.heard + (n + 1) } in
+    let count : start.heard + n + 1 ≡ start.heard + (n + 1) = omega arith in
+    let with : ℕ → Roster = λ k. record start { members = decided start.machine t (all_decided start.machine t start.members (take n heard)) a; heard = k } in
+    record {
+      left =
+          left ∙ ap (λ (r : Roster). record r { members = decided r.machine t r.members a; heard = r.heard + 1 }) s.left
+          ∙ ap with count
+          ∙ ap of (sym (decided_push start.machine t start.members (take n heard) a) ∙ ap (all_decided start.machine t start.members) (sym front));
+      told =
+          ap (λ (l : List Decision). l ++ d ∷ []) s.told ∙ ap (λ (x : Decision). all_decisions start.machine t start.members (take n heard) ++ x ∷ []) (is ∙ ap (λ (r : Roster). decision r.machine t r.members a) s.left)
+          ∙ sym (decisions_push start.machine t start.members (take n heard) a) ∙ ap (all_decisions start.machine t start.members) (sym front);
+    }
+
+-- ---- announcements at their places
+
+pub length_announcements : (xs : List Said) → length (announcements xs) ≡ length xs
+length_announcements [] = refl
+length_announcements (x ∷ xs) = ap suc (length_announcements xs)
+
+said_at : (xs : List Said) (i : ℕ) (x : Said) → i < length xs → get_or (announcements xs) i x.announcement ≡ (get_or xs i x).announcement
+said_at [] i x within = absurd (omega arith)
+said_at (y ∷ xs) zero x within = refl
+said_at (y ∷ xs) (suc i) x within = said_at xs i x (omega arith)
+
+pub said_item : (xs : List Said) (i : ℕ) (x : Said) → i < length xs → x ≡ get_or xs i x → get_or (announcements xs) i x.announcement ≡ x.announcement
+said_item xs i x within is = said_at xs i x within ∙ ap (λ (a : Said). a.announcement) (sym is)
+
+limits_at : (xs : List Said) (i : ℕ) (x : Said) → AllByRecursion (λ a. IsWithinLimits a.announcement) xs → i < length xs → IsWithinLimits (get_or xs i x).announcement
+limits_at [] i x h within = absurd (omega arith)
+limits_at (y ∷ xs) zero x h within = h.0
+limits_at (y ∷ xs) (suc i) x h within = limits_at xs i x h.1 (omega arith)
+
+pub limits_item : (xs : List Said) (i : ℕ) (x : Said) → AllByRecursion (λ a. IsWithinLimits a.announcement) xs → i < length xs → x ≡ get_or xs i x → IsWithinLimits x.announcement
+limits_item xs i x h within is = subst (λ (a : Said). IsWithinLimits a.announcement) (sym is) (limits_at xs i x h within)
+
+-- what a quantum leaves
+pub bounded_run : (n : ℕ) (name : List ℕ) (s after : Standing) (b : Bool) → after ≡ (if b then record s { members = ran name s.members } else s) → EachBounded n s.members → EachBounded n after.members
+bounded_run n name s after true is h = subst (λ (r : Standing). EachBounded n r.members) (sym is) (bounded_ran n name s.members h)
+bounded_run n name s after false is h = subst (λ (r : Standing). EachBounded n r.members) (sym is) h

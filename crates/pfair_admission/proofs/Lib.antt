@@ -1,0 +1,7 @@
+pub mod Boundaries
+pub mod Changes
+pub mod Deciding
+pub mod Keeping
+pub mod MemberLists
+pub mod Registers
+pub mod Sums

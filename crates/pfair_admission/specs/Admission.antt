@@ -1,0 +1,123 @@
+-- Who is a member, and what is decided at the boundary of a slot.
+use Rattle.std.specs.Prelude.{ℕ, ◌||◌, ◌+◌, ◌*◌, ◌%◌, Bool, false, not, nat_lt, nat_le, ◌==◌, List, [], ◌∷◌, ◌++◌, map, filter, find, sum_by, Option, Some, None, is_some, if◌then◌else◌}
+use Rattle.pfair_weight.specs.Share.{Share, units_of}
+use Rattle.pfair_weight.specs.Window.{release_of}
+use Rattle.pfair_entry.specs.Same.{name_eq}
+use Rattle.pfair_entry.specs.declared.announcement.Announcement.{Announcement}
+use Rattle.pfair_entry.specs.declared.announcement.Announcement.TheVariants.{Arrive, Depart, Late}
+use Rattle.pfair_entry.specs.declared.said.Said.{Said}
+use Rattle.pfair_admission.specs.declared.decision.Decision.{Decision}
+use Rattle.pfair_admission.specs.declared.decision.Decision.TheVariants.{Admitted, Departing, Delayed, Refused}
+use Rattle.pfair_admission.specs.declared.refusal.Refusal.TheVariants.{NameTaken, PeriodOutsideFrame, NoRoom, NoSuchTask, AlreadyDeparting, AlreadyReleased}
+use Rattle.pfair_admission.specs.Member.{Member, theta, is_departing, freeing_slot}
+
+-- the processors, and the slots of a frame, that weights are shares of
+pub record Machine : Type 0 where
+  pub processors : ℕ
+  pub frame : ℕ
+
+abbrev pub is_named : List ℕ → Member → Bool
+is_named name m = name_eq name m.name
+
+abbrev pub member_named : List Member → List ℕ → Option Member
+member_named members name = find (is_named name) members
+
+-- the units of all members as they are
+abbrev pub claimed : ℕ → List Member → ℕ
+claimed frame members = sum_by (λ m. units_of m.weight frame) members
+
+-- ---- decisions, each the first that applies
+
+abbrev pub arrival : Machine → List Member → List ℕ → Share → Decision
+arrival machine members name w =
+    if is_some (member_named members name) then Refused NameTaken
+    else if not (machine.frame % w.period == 0) then Refused PeriodOutsideFrame
+    else if nat_lt (machine.processors * machine.frame) (claimed machine.frame members + units_of w machine.frame) then Refused NoRoom
+    else Admitted
+
+abbrev pub departure : ℕ → Option Member → Decision
+departure t None = Refused NoSuchTask
+departure t (Some m) = if is_departing m then Refused AlreadyDeparting else Departing (freeing_slot m t)
+
+abbrev pub late_release : ℕ → Option Member → ℕ → Decision
+late_release t None index = Refused NoSuchTask
+late_release t (Some m) index =
+    if is_departing m then Refused AlreadyDeparting
+    else if nat_lt (release_of m.weight index (theta m index)) t || nat_lt index m.next then Refused AlreadyReleased
+    else Delayed
+
+-- the decision on an announcement that is stamped t
+abbrev pub decision : Machine → ℕ → List Member → Announcement → Decision
+decision machine t members (Arrive name w early) = arrival machine members name w
+decision machine t members (Depart name) = departure t (member_named members name)
+decision machine t members (Late name index by) = late_release t (member_named members name) index
+
+-- ---- what a decision does
+
+abbrev pub newcomer : ℕ → List ℕ → Share → Bool → Member
+newcomer t name w early = record { name = name; weight = w; early = early; joined = t; delays = []; next = 1; freed_at = None }
+
+abbrev pub with_freeing : ℕ → Member → Member
+with_freeing slot m = record m { freed_at = Some slot }
+
+abbrev pub with_delay : ℕ → ℕ → Member → Member
+with_delay index by m = record m { delays = m.delays ++ record { index = index; by = by } ∷ [] }
+
+-- the member of that name, changed
+abbrev pub change : List ℕ → (Member → Member) → List Member → List Member
+change name f members = map (λ m. if is_named name m then f m else m) members
+
+-- what a decision does. A refused announcement changes nothing
+abbrev pub effect : ℕ → List Member → Announcement → Decision → List Member
+effect t members (Arrive name w early) Admitted = members ++ newcomer t name w early ∷ []
+effect t members (Depart name) (Departing slot) = change name (with_freeing slot) members
+effect t members (Late name index by) Delayed = change name (with_delay index by) members
+effect t members _ _ = members
+
+-- ---- the boundary of slot t
+
+abbrev pub is_freed : ℕ → Option ℕ → Bool
+is_freed t None = false
+is_freed t (Some slot) = nat_le slot t
+
+-- those whose freeing slot is at most t are gone
+abbrev pub present : ℕ → List Member → List Member
+present t members = filter (λ m. not (is_freed t m.freed_at)) members
+
+-- the members after an announcement is decided
+abbrev pub decided : Machine → ℕ → List Member → Announcement → List Member
+decided machine t members a = present t (effect t members a (decision machine t members a))
+
+abbrev pub all_decided : Machine → ℕ → List Member → List Announcement → List Member
+all_decided machine t members [] = members
+all_decided machine t members (a ∷ more) = all_decided machine t (decided machine t members a) more
+
+abbrev pub all_decisions : Machine → ℕ → List Member → List Announcement → List Decision
+all_decisions machine t members [] = []
+all_decisions machine t members (a ∷ more) =
+    decision machine t members a ∷ all_decisions machine t (decided machine t members a) more
+
+-- first those that are freed go, and then the announcements are decided one by one
+abbrev pub boundary : Machine → ℕ → List Member → List Announcement → List Member
+boundary machine t members heard = all_decided machine t (present t members) heard
+
+abbrev pub boundary_decisions : Machine → ℕ → List Member → List Announcement → List Decision
+boundary_decisions machine t members heard = all_decisions machine t (present t members) heard
+
+-- what was announced, in order
+abbrev pub announcements : List Said → List Announcement
+announcements heard = map (λ a. a.announcement) heard
+
+-- ---- a quantum
+
+-- a member, unless it is departing
+abbrev pub running : Option Member → Option Member
+running None = None
+running (Some m) = if is_departing m then None else Some m
+
+abbrev pub with_quantum : Member → Member
+with_quantum m = record m { next = m.next + 1 }
+
+-- the members after the named one has had a quantum
+abbrev pub ran : List ℕ → List Member → List Member
+ran name members = change name with_quantum members

@@ -1,0 +1,61 @@
+-- The laws of members, over every machine, slot and list of members.
+use Rattle.std.specs.Prelude.{ℕ, ◌≡◌, ◌≢◌, ◌+◌, ◌-◌, ◌*◌, ◌<◌, ◌≤◌, true, false, List, length, AllPairs}
+use Rattle.std.specs.List.{AllByRecursion}
+use Rattle.pfair_weight.specs.Window.{release_of, starts_job_of}
+use Rattle.pfair_entry.specs.declared.announcement.Announcement.{Announcement}
+use Rattle.pfair_admission.specs.declared.decision.Decision.TheVariants.{Refused}
+use Rattle.pfair_admission.specs.declared.refusal.Refusal.{Refusal}
+use Rattle.pfair_admission.specs.Member.{Member, theta, claim_end, freeing_slot, is_delayed_at, eligible_from}
+use Rattle.pfair_admission.specs.Admission.{Machine, claimed, with_delay, decision, decided, boundary, boundary_decisions, ran}
+use Rattle.pfair_admission.specs.Removal.{NoneFreed}
+use Rattle.pfair_admission.specs.Roster.{NamesApart}
+
+-- a name stands once among the members
+pub record NamesStayApart : Type 0 where
+  pub boundaries : (machine : Machine) (t : ℕ) (members : List Member) (heard : List Announcement) → NamesApart members → NamesApart (boundary machine t members heard)
+  pub quanta : (name : List ℕ) (members : List Member) → NamesApart members → NamesApart (ran name members)
+
+-- the members' weights add to no more than the processors
+abbrev pub HaveRoom : Machine → List Member → Type 0
+HaveRoom machine members = claimed machine.frame members ≤ machine.processors * machine.frame
+
+pub record MembersKeepRoom : Type 0 where
+  pub boundaries : (machine : Machine) (t : ℕ) (members : List Member) (heard : List Announcement) → HaveRoom machine members → HaveRoom machine (boundary machine t members heard)
+  pub quanta : (machine : Machine) (name : List ℕ) (members : List Member) → HaveRoom machine members → HaveRoom machine (ran name members)
+
+-- a refused announcement changes nothing
+abbrev pub RefusalsChangeNothing : Type 0
+RefusalsChangeNothing = (machine : Machine) (t : ℕ) (members : List Member) (a : Announcement) (refusal : Refusal) → NoneFreed t members → decision machine t members a ≡ Refused refusal → decided machine t members a ≡ members
+
+-- the members stand in the order in which they joined, all of them by slot t
+pub record JoinedInOrder (t : ℕ) (members : List Member) : Type 0 where
+  pub in_order : AllPairs (λ m n. m.joined ≤ n.joined) members
+  pub by_now : AllByRecursion (λ m. m.joined ≤ t) members
+
+abbrev pub OrderIsKept : Type 0
+OrderIsKept = (machine : Machine) (t : ℕ) (members : List Member) (heard : List Announcement) → JoinedInOrder t members → JoinedInOrder t (boundary machine t members heard)
+
+-- each announcement gets one decision
+abbrev pub OneDecisionEach : Type 0
+OneDecisionEach = (machine : Machine) (t : ℕ) (members : List Member) (heard : List Announcement) → length (boundary_decisions machine t members heard) ≡ length heard
+
+-- an accepted delay moves its subtask and all later ones, and none before
+pub record DelaysMoveLaterSubtasks : Type 0 where
+  pub later : (m : Member) (index by i : ℕ) → index ≤ i → theta (with_delay index by m) i ≡ theta m i + by
+  pub earlier : (m : Member) (index by i : ℕ) → i < index → theta (with_delay index by m) i ≡ theta m i
+
+-- a leaver is freed at its stamp where it never ran, and else neither before it nor before the claim of its last subtask ends
+pub record LeaversHoldTheirClaim : Type 0 where
+  pub never_ran : (m : Member) (t : ℕ) → m.next ≡ 1 → freeing_slot m t ≡ t
+  pub stamp : (m : Member) (t : ℕ) → t ≤ freeing_slot m t
+  pub claim : (m : Member) (t : ℕ) → m.next ≢ 1 → claim_end m (m.next - 1) ≤ freeing_slot m t
+
+-- a subtask may run before its release only where the task is early, the subtask doesn't start a job, and no accepted delay has
+-- exactly its index, and never before the task has joined
+pub record EarlyReleaseKeepsBorders : Type 0 where
+  pub not_early : (m : Member) (i : ℕ) → m.early ≡ false → eligible_from m i ≡ release_of m.weight i (theta m i)
+  pub at_a_job : (m : Member) (i : ℕ) → starts_job_of m.weight i ≡ true → eligible_from m i ≡ release_of m.weight i (theta m i)
+  pub at_a_delay : (m : Member) (i : ℕ) → is_delayed_at m i ≡ true → eligible_from m i ≡ release_of m.weight i (theta m i)
+  pub else_joined : (m : Member) (i : ℕ) → m.early ≡ true → starts_job_of m.weight i ≡ false → is_delayed_at m i ≡ false → eligible_from m i ≡ m.joined
+  pub no_later : (m : Member) (i : ℕ) → eligible_from m i ≤ release_of m.weight i (theta m i)
+  pub joined : (m : Member) (i : ℕ) → m.joined ≤ eligible_from m i

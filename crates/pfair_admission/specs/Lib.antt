@@ -1,0 +1,12 @@
+pub mod Admission
+pub mod Change
+pub mod Incarnation
+pub mod Laws
+pub mod Ledger
+pub mod Member
+pub mod Members
+pub mod Refusal
+pub mod Registry
+pub mod Removal
+pub mod Roster
+pub mod Standing

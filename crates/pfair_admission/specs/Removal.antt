@@ -1,0 +1,34 @@
+-- Members that go, and when the first of them goes.
+use Rattle.std.specs.Prelude.{ℕ, ◌+◌, min, false, ◌≡◌, ◌≤◌, not, List, filter, Option, Some, None, ⊤}
+use Rattle.std.specs.List.{AllByRecursion}
+use Rattle.pfair_admission.specs.Member.{Member, last_offset}
+use Rattle.pfair_weight.specs.declared.window.TheConstants.{MAX_OFFSET}
+use Rattle.pfair_admission.specs.Admission.{is_named, is_freed}
+
+-- all members but the named one
+abbrev pub without : List ℕ → List Member → List Member
+without name members = filter (λ m. not (is_named name m)) members
+
+-- the earlier of two slots, where there are any
+abbrev pub earlier_of : Option ℕ → Option ℕ → Option ℕ
+earlier_of None right = right
+earlier_of (Some a) None = Some a
+earlier_of (Some a) (Some b) = Some (min a b)
+
+-- no freeing slot is before the first
+abbrev pub IsNotBefore : Option ℕ → Option ℕ → Type 0
+IsNotBefore first None = ⊤
+IsNotBefore None (Some slot) = ⊥
+IsNotBefore (Some first) (Some slot) = first ≤ slot
+
+-- no member is freed before the first freeing slot, and none at all where there is none
+abbrev pub NoneFreedBefore : Option ℕ → List Member → Type 0
+NoneFreedBefore first members = AllByRecursion (λ m. IsNotBefore first m.freed_at) members
+
+-- who is freed at slot t is gone
+abbrev pub NoneFreed : ℕ → List Member → Type 0
+NoneFreed t members = AllByRecursion (λ m. is_freed t m.freed_at ≡ false) members
+
+-- each member has room for one delay more
+abbrev pub EachHasRoom : List Member → Type 0
+EachHasRoom members = AllByRecursion (λ m. last_offset m + 1048576 ≤ MAX_OFFSET) members

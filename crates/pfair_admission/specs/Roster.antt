@@ -1,0 +1,25 @@
+-- What a contract sees of the members.
+use Rattle.std.specs.Prelude.{ℕ, ◌≡◌, ◌+◌, ◌*◌, ◌≤◌, List, Option, map, take}
+use Rattle.std.specs.List.{AllByRecursion, IsDistinct}
+use Rattle.pfair_entry.specs.Same.{name_eq}
+use Rattle.pfair_entry.specs.declared.announcement.Announcement.{Announcement}
+use Rattle.pfair_admission.specs.Member.{Member, last_offset}
+use Rattle.pfair_admission.specs.Admission.{Machine, present, all_decided}
+
+pub record Roster : Type 0 where
+  pub machine : Machine
+  pub members : List Member  -- in the order of admission
+  pub heard : ℕ  -- how many announcements, over all boundaries
+  pub last_slot : Option ℕ  -- of the last boundary
+
+-- what the frees and some beginning of the announcements leave
+abbrev pub LeavesBeginning : Machine → ℕ → List Member → List Announcement → List Member → Type 0
+LeavesBeginning machine t members heard after = (k : ℕ) × (after ≡ all_decided machine t (present t members) (take k heard))
+
+-- no two members have one name
+abbrev pub NamesApart : List Member → Type 0
+NamesApart members = IsDistinct name_eq (map (λ m. m.name) members)
+
+-- after so many announcements no member's offsets are past what as many of the longest delays make of the last slot
+abbrev pub EachBounded : ℕ → List Member → Type 0
+EachBounded heard members = AllByRecursion (λ m. last_offset m ≤ 1000000 + 1048576 * heard) members

@@ -1,0 +1,48 @@
+//! The laws of members, for every machine, slot and list of members.
+//!
+//! Each function states one law and does nothing.
+ghost use Rattle.pfair_admission.specs.Laws.{NamesStayApart, MembersKeepRoom, RefusalsChangeNothing, OrderIsKept, OneDecisionEach, DelaysMoveLaterSubtasks, LeaversHoldTheirClaim, EarlyReleaseKeepsBorders};
+
+/// Where a name stands once among the members, it does so after each boundary and each quantum.
+pub fn names_stay_apart()
+    ensures { NamesStayApart }
+{}
+
+/// Where the members' weights add to no more than the processors, they do so after each boundary
+/// and each quantum.
+pub fn members_keep_room()
+    ensures { MembersKeepRoom }
+{}
+
+/// A refused announcement changes nothing.
+pub fn refusals_change_nothing()
+    ensures { RefusalsChangeNothing }
+{}
+
+/// The members stay in the order in which they joined.
+pub fn order_is_kept()
+    ensures { OrderIsKept }
+{}
+
+/// Each announcement gets one decision.
+pub fn one_decision_each()
+    ensures { OneDecisionEach }
+{}
+
+/// An accepted delay moves its subtask and all later ones by as many slots, and none before it
+/// (the intra-sporadic model of Anderson and Srinivasan).
+pub fn delays_move_later_subtasks()
+    ensures { DelaysMoveLaterSubtasks }
+{}
+
+/// A leaver that never ran is freed at its stamp. Any other is freed no earlier than its stamp,
+/// and not before the claim of its last subtask ends.
+pub fn leavers_hold_their_claim()
+    ensures { LeaversHoldTheirClaim }
+{}
+
+/// A subtask may run before its release only where the task is early, the subtask doesn't start a
+/// job, and no accepted delay has exactly its index. No subtask may run before its task has joined.
+pub fn early_release_keeps_borders()
+    ensures { EarlyReleaseKeepsBorders }
+{}

@@ -1,0 +1,20 @@
+//! Members of a schedule, and the decisions at the boundary of a slot.
+#![tactic(auto)]
+
+pub mod decision;
+pub mod delay;
+pub mod incarnation;
+pub mod laws;
+pub(crate) mod ledger;
+pub mod members;
+pub mod refusal;
+pub(crate) mod registry;
+
+pub use decision::Decision;
+pub use delay::Delay;
+pub use incarnation::Incarnation;
+pub use members::Members;
+pub use refusal::Refusal;
+
+#[cfg(test)]
+mod tests;

@@ -1,0 +1,176 @@
+//! The members of a machine from slot to slot.
+ghost use Rattle.std.specs.Prelude.{◌≡◌, ◌↔◌, IsTrue, ◌≤◌, ◌<◌, ◌+◌, ℕ, [], OnOk, OnErr, IfOk, None, Some, is_some, length, slice_get, take, if◌then◌else◌};
+ghost use Rattle.std.specs.List.{AllByRecursion};
+ghost use Rattle.std.specs.Option.{ForSome, option_copied, option_map};
+ghost use Rattle.pfair_entry.specs.Entry.{IsWithinLimits};
+ghost use Rattle.pfair_admission.specs.Admission.{member_named, boundary, boundary_decisions, announcements, decision, decided, all_decided, all_decisions, running, ran};
+ghost use Rattle.pfair_admission.specs.Removal.{NoneFreed};
+ghost use Rattle.pfair_admission.specs.Roster.{LeavesBeginning};
+
+use crate::decision::Decision;
+use crate::incarnation::Incarnation;
+use crate::ledger::Ledger;
+use pfair_entry::{Announcement, Said};
+use pfair_weight::TaskName;
+use std::alloc::{AllocError, Global};
+use std::marker::Model;
+
+/// The members of a machine, in the order of their admission: the tasks that were admitted and are
+/// not freed.
+#[derive(Drop)]
+pub struct Members {
+    alloc: Global,
+    ledger: Ledger,
+    heard: u64,
+    last_slot: Option<u64>,
+}
+
+impl Model for Members {
+    ghost use Rattle.pfair_admission.specs.Roster.{Roster};
+
+    ghost Value = { Roster };
+
+    ghost use Rattle.pfair_admission.specs.Members.{roster_of, IsKept};
+
+    ghost view = { roster_of };
+
+    ghost invariant = { IsKept };
+}
+
+impl Members {
+    /// No member, on a machine of 1 to 64 processors with frames of 1 to 1,000,000,000 slots.
+    /// Takes no memory.
+    pub fn new(alloc: Global, processors: u8, frame: u64) -> Self
+        requires some_processor { 1 ≤ processors }
+        requires few_processors { processors ≤ 64 }
+        requires some_slot { 1 ≤ frame }
+        requires short_frame { frame ≤ 1000000000 }
+        ensures { result ≡ record { machine = record { processors = processors; frame = frame }; members = []; heard = 0; last_slot = None } }
+    {
+        Members {
+            alloc,
+            ledger: Ledger::new(alloc, processors, frame),
+            heard: 0,
+            last_slot: None,
+        }
+    }
+
+    /// The boundary of `slot`, which is at most 1,000,000 and not before that of an earlier call:
+    /// first each member whose freeing slot is at most `slot` is gone, and then the announcements
+    /// are decided one by one in their order. There are at most 262,144 announcements over all
+    /// calls.
+    ///
+    /// # Errors
+    /// [`AllocError`] where memory was refused. The members are then those that the frees and some
+    /// beginning of the announcements leave, and all announcements count as heard.
+    pub fn boundary(&mut self, slot: u64, heard: &[Said]) -> Result<Vec<Decision>, AllocError>
+        requires slot { slot ≤ 1000000 }
+        requires order { ForSome self.old.last_slot (λ last. last ≤ slot) }
+        requires heard { self.old.heard + length heard.now ≤ 262144 }
+        requires limits { AllByRecursion (λ a. IsWithinLimits a.announcement) heard.now }
+        ensures decisions { IfOk result (λ all. all.items ≡ boundary_decisions self.old.machine slot self.old.members (announcements heard.now)) }
+        ensures members { OnOk result (self.new.members ≡ boundary self.old.machine slot self.old.members (announcements heard.now)) }
+        ensures err { OnErr result (LeavesBeginning self.old.machine slot self.old.members (announcements heard.now) self.new.members) }
+        ensures machine { self.new.machine ≡ self.old.machine }
+        ensures heard { self.new.heard ≡ self.old.heard + length heard.now }
+        ensures last_slot { self.new.last_slot ≡ Some slot }
+    {
+        let heard_after = self.heard + heard.len() as u64;
+        self.ledger.free(slot);
+        self.last_slot = Some(slot);
+        let decisions = self.decide_all(slot, heard);
+        self.heard = heard_after;
+        decisions
+    }
+
+    // The announcements are decided one by one.
+    fn decide_all(&mut self, slot: u64, heard: &[Said]) -> Result<Vec<Decision>, AllocError>
+        requires slot { slot ≤ 1000000 }
+        requires present { NoneFreed slot self.old.members }
+        requires heard { self.old.heard + length heard.now ≤ 262144 }
+        requires limits { AllByRecursion (λ a. IsWithinLimits a.announcement) heard.now }
+        ensures decisions { IfOk result (λ all. all.items ≡ all_decisions self.old.machine slot self.old.members (announcements heard.now)) }
+        ensures members { OnOk result (self.new.members ≡ all_decided self.old.machine slot self.old.members (announcements heard.now)) }
+        ensures err { OnErr result ((k : ℕ) × (self.new.members ≡ all_decided self.old.machine slot self.old.members (take k (announcements heard.now)))) }
+        ensures machine { self.new.machine ≡ self.old.machine }
+        ensures heard { self.new.heard ≤ self.old.heard + length heard.now }
+        ensures last_slot { self.new.last_slot ≡ self.old.last_slot }
+    {
+        let mut all = Vec::new(self.alloc);
+        for said in heard {
+            all.push(self.decide(slot, said.announcement)?)?;
+        }
+        Ok(all)
+    }
+
+    // One announcement is decided, and heard.
+    fn decide(&mut self, slot: u64, announcement: Announcement) -> Result<Decision, AllocError>
+        requires slot { slot ≤ 1000000 }
+        requires present { NoneFreed slot self.old.members }
+        requires heard { self.old.heard < 262144 }
+        requires limits { IsWithinLimits announcement }
+        ensures decision { IfOk result (λ d. d ≡ decision self.old.machine slot self.old.members announcement) }
+        ensures members { OnOk result (self.new ≡ record self.old { members = decided self.old.machine slot self.old.members announcement; heard = self.old.heard + 1 }) }
+        ensures err { OnErr result (self.new ≡ self.old) }
+    {
+        let decision = self.ledger.decide(self.alloc, slot, announcement)?;
+        self.heard += 1;
+        Ok(decision)
+    }
+
+    /// Gives the next subtask of the named member a quantum and answers the subtask's index, or
+    /// `None`, with nothing changed, where no member that isn't departing has the name. The
+    /// member's next index is at most 1,000,000.
+    pub fn ran(&mut self, name: &TaskName) -> Option<u64>
+        requires { ForSome (member_named self.old.members name.now) (λ m. m.next ≤ 1000000) }
+        ensures index { result ≡ option_map (λ m. m.next) (running (member_named self.old.members name.now)) }
+        ensures members { self.new ≡ (if is_some result then record self.old { members = ran name.now self.old.members } else self.old) }
+    {
+        self.ledger.run(name)
+    }
+
+    /// The member of that name, departing or not.
+    pub fn get(&self, name: &TaskName) -> Option<&Incarnation>
+        ensures { option_copied result ≡ member_named self.now.members name.now }
+    {
+        self.ledger.registry().get(name)
+    }
+
+    /// How many members there are.
+    pub fn len(&self) -> usize
+        ensures { result ≡ length self.now.members }
+    {
+        self.ledger.registry().len()
+    }
+
+    /// Whether there is no member.
+    pub fn is_empty(&self) -> bool
+        ensures { IsTrue result ↔ (self.now.members ≡ []) }
+    {
+        self.len() == 0
+    }
+
+    /// The member at a place in the order of admission, from 0, and its name.
+    pub fn at(&self, place: usize) -> Option<(&TaskName, &Incarnation)>
+        ensures name { option_map (λ m. m.0.now) result ≡ option_map (λ m. m.name) (slice_get self.now.members place) }
+        ensures member { option_map (λ m. m.1.now) result ≡ slice_get self.now.members place }
+    {
+        self.ledger.registry().at(place)
+    }
+
+    /// How many announcements were handed in, over all boundaries, those of a call that was
+    /// refused memory included.
+    pub fn heard(&self) -> u64
+        ensures value { result ≡ self.now.heard }
+        ensures within { result ≤ 262144 }
+    {
+        self.heard
+    }
+
+    /// The slot of the last boundary, also of one that was refused memory.
+    pub fn last_slot(&self) -> Option<u64>
+        ensures { result ≡ self.now.last_slot }
+    {
+        self.last_slot
+    }
+}

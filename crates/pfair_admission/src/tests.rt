@@ -1,0 +1,426 @@
+//! Worked boundaries.
+ghost use Rattle.std.specs.Prelude.{◌≤◌};
+ghost use Rattle.std.specs.List.{AllByRecursion};
+ghost use Rattle.pfair_entry.specs.Entry.{IsWithinLimits};
+
+use crate::{Decision, Members, Refusal};
+use pfair_entry::{Announcement, Said};
+use pfair_weight::{TaskName, Weight};
+use std::alloc::{AllocError, Global};
+use std::process::Abort;
+
+const FREED_AT_ONCE: Decision = Decision::Departing { freed_at: 0 };
+
+fn name(rt: &impl Abort, text: &str) -> TaskName {
+    TaskName::from_bytes(text.as_bytes()).expect(rt, "a name")
+}
+
+fn said(announcement: Announcement) -> Said
+    requires { IsWithinLimits announcement }
+    ensures { IsWithinLimits result.announcement }
+{
+    Said {
+        processor: 0,
+        number: 1,
+        announcement,
+    }
+}
+
+fn arrives(rt: &impl Abort, text: &str, cost: u64, period: u64, early: bool) -> Said
+    ensures { IsWithinLimits result.announcement }
+{
+    let name = name(rt, text);
+    let weight = Weight::new(cost, period).expect(rt, "a weight");
+    said(Announcement::Arrive {
+        name,
+        weight,
+        early,
+    })
+}
+
+fn departs(rt: &impl Abort, text: &str) -> Said
+    ensures { IsWithinLimits result.announcement }
+{
+    said(Announcement::Depart {
+        name: name(rt, text),
+    })
+}
+
+fn is_late(rt: &impl Abort, text: &str, index: u64, by: u64) -> Said
+    requires first { 1 ≤ index }
+    requires last { index ≤ 1000000 }
+    requires some { 1 ≤ by }
+    requires longest { by ≤ 1048576 }
+    ensures { IsWithinLimits result.announcement }
+{
+    said(Announcement::Late {
+        name: name(rt, text),
+        index,
+        by,
+    })
+}
+
+// The boundary of a slot gives these decisions.
+fn decides(
+    rt: &impl Abort,
+    members: &mut Members,
+    slot: u64,
+    heard: &[Said],
+    expected: &[Decision],
+) -> Result<(), AllocError>
+    requires { AllByRecursion (λ a. IsWithinLimits a.announcement) heard.now }
+{
+    assert!(rt; slot <= 1_000_000);
+    if let Some(last) = members.last_slot() {
+        assert!(rt; last <= slot);
+    }
+    assert!(rt; heard.len() <= 1000 && members.heard() + heard.len() as u64 <= 262_144);
+    let all = members.boundary(slot, heard)?;
+    assert_eq!(rt; all.as_slice(), expected);
+    Ok(())
+}
+
+// The boundary of a slot gives this decision on one announcement.
+fn decides_one(
+    rt: &impl Abort,
+    members: &mut Members,
+    slot: u64,
+    heard: Said,
+    expected: Decision,
+) -> Result<(), AllocError>
+    requires { IsWithinLimits heard.announcement }
+{
+    decides(rt, members, slot, [heard].as_slice(), [expected].as_slice())
+}
+
+// Gives the named member a quantum, where it has more subtasks.
+fn runs(members: &mut Members, name: &TaskName) -> Option<u64> {
+    let has_more = match members.get(name) {
+        Some(member) => member.next() <= 1_000_000,
+        None => true,
+    };
+    if has_more { members.ran(name) } else { None }
+}
+
+fn refuses_arrivals_in_order(rt: &impl Abort, alloc: Global) -> Result<(), AllocError> {
+    let mut members = Members::new(alloc, 1, 12);
+    let heard = [
+        arrives(rt, "a", 1, 5, false),
+        arrives(rt, "a", 12, 12, false),
+        arrives(rt, "a", 1, 5, false),
+        arrives(rt, "b", 1, 5, false),
+        arrives(rt, "b", 1, 12, false),
+    ];
+    let expected = [
+        Decision::Refused(Refusal::PeriodOutsideFrame),
+        Decision::Admitted,
+        Decision::Refused(Refusal::NameTaken),
+        Decision::Refused(Refusal::PeriodOutsideFrame),
+        Decision::Refused(Refusal::NoRoom),
+    ];
+    decides(rt, &mut members, 0, heard.as_slice(), expected.as_slice())
+}
+
+fn holds_the_weight_of_a_leaver(rt: &impl Abort, alloc: Global) -> Result<(), AllocError> {
+    let (a, mut members) = (name(rt, "a"), Members::new(alloc, 1, 2));
+    decides_one(
+        rt,
+        &mut members,
+        0,
+        arrives(rt, "a", 1, 2, false),
+        Decision::Admitted,
+    )?;
+    assert_eq!(rt; runs(&mut members, &a), Some(1));
+    decides_one(
+        rt,
+        &mut members,
+        1,
+        departs(rt, "a"),
+        Decision::Departing { freed_at: 3 },
+    )?;
+    assert_eq!(rt; runs(&mut members, &a), None);
+    decides_one(
+        rt,
+        &mut members,
+        2,
+        arrives(rt, "b", 1, 1, false),
+        Decision::Refused(Refusal::NoRoom),
+    )?;
+    decides_one(
+        rt,
+        &mut members,
+        3,
+        arrives(rt, "b", 1, 1, false),
+        Decision::Admitted,
+    )?;
+    assert_eq!(rt;
+        (members.len(), members.heard(), members.last_slot()),
+        (1, 4, Some(3))
+    );
+    Ok(())
+}
+
+fn frees_at_the_stamp(rt: &impl Abort, alloc: Global) -> Result<(), AllocError> {
+    let mut members = Members::new(alloc, 1, 1);
+    let heard = [
+        arrives(rt, "a", 1, 1, false),
+        departs(rt, "a"),
+        arrives(rt, "a", 1, 1, false),
+    ];
+    let expected = [Decision::Admitted, FREED_AT_ONCE, Decision::Admitted];
+    decides(rt, &mut members, 0, heard.as_slice(), expected.as_slice())
+}
+
+fn refuses_what_departs(rt: &impl Abort, alloc: Global) -> Result<(), AllocError> {
+    let (a, mut members) = (name(rt, "a"), Members::new(alloc, 1, 5));
+    decides_one(
+        rt,
+        &mut members,
+        0,
+        arrives(rt, "a", 2, 5, false),
+        Decision::Admitted,
+    )?;
+    assert_eq!(rt; runs(&mut members, &a), Some(1));
+    let heard = [
+        departs(rt, "a"),
+        departs(rt, "a"),
+        departs(rt, "x"),
+        is_late(rt, "a", 2, 1),
+        arrives(rt, "a", 1, 5, false),
+    ];
+    let expected = [
+        Decision::Departing { freed_at: 4 },
+        Decision::Refused(Refusal::AlreadyDeparting),
+        Decision::Refused(Refusal::NoSuchTask),
+        Decision::Refused(Refusal::AlreadyDeparting),
+        Decision::Refused(Refusal::NameTaken),
+    ];
+    decides(rt, &mut members, 1, heard.as_slice(), expected.as_slice())?;
+    decides_one(
+        rt,
+        &mut members,
+        3,
+        arrives(rt, "b", 1, 1, false),
+        Decision::Refused(Refusal::NoRoom),
+    )?;
+    decides_one(
+        rt,
+        &mut members,
+        4,
+        arrives(rt, "b", 1, 1, false),
+        Decision::Admitted,
+    )?;
+    Ok(())
+}
+
+fn delays_what_is_not_released(rt: &impl Abort, alloc: Global) -> Result<(), AllocError> {
+    let a = name(rt, "a");
+    for (slot, expected) in [
+        (2, Decision::Delayed),
+        (3, Decision::Refused(Refusal::AlreadyReleased)),
+    ] {
+        let mut members = Members::new(alloc, 1, 2);
+        decides_one(
+            rt,
+            &mut members,
+            0,
+            arrives(rt, "a", 1, 2, false),
+            Decision::Admitted,
+        )?;
+        assert_eq!(rt; runs(&mut members, &a), Some(1));
+        decides_one(rt, &mut members, slot, is_late(rt, "a", 2, 3), expected)?;
+        let member = members.get(&a).expect(rt, "a member");
+        let (begins, key) = member.next_subtask();
+        assert_eq!(rt;
+            (member.next(), begins, key.d, key.b, key.name),
+            {
+                if slot == 2 {
+                    (2, 5, 7, 0, a)
+                } else {
+                    (2, 2, 4, 0, a)
+                }
+            }
+        );
+        assert_eq!(rt; member.theta(1), 0);
+    }
+    Ok(())
+}
+
+fn releases_early_within_a_job(rt: &impl Abort, alloc: Global) -> Result<(), AllocError> {
+    let (a, mut members) = (name(rt, "a"), Members::new(alloc, 1, 4));
+    decides_one(
+        rt,
+        &mut members,
+        0,
+        arrives(rt, "a", 2, 4, true),
+        Decision::Admitted,
+    )?;
+    assert_eq!(rt; runs(&mut members, &a), Some(1));
+    assert_eq!(rt; members.get(&a).expect(rt, "a member").eligible(2), 0);
+    decides_one(
+        rt,
+        &mut members,
+        1,
+        is_late(rt, "a", 2, 3),
+        Decision::Delayed,
+    )?;
+    assert_eq!(rt; members.get(&a).expect(rt, "a member").eligible(2), 5);
+
+    let mut members = Members::new(alloc, 1, 4);
+    decides_one(
+        rt,
+        &mut members,
+        0,
+        arrives(rt, "a", 2, 4, true),
+        Decision::Admitted,
+    )?;
+    assert_eq!(rt; runs(&mut members, &a), Some(1));
+    assert_eq!(rt; runs(&mut members, &a), Some(2));
+    decides_one(
+        rt,
+        &mut members,
+        2,
+        is_late(rt, "a", 2, 3),
+        Decision::Refused(Refusal::AlreadyReleased),
+    )?;
+    let member = members.get(&a).expect(rt, "a member");
+    assert_eq!(rt;
+        (member.next(), member.eligible(3), member.early()),
+        (3, 4, true)
+    );
+    Ok(())
+}
+
+fn keeps_the_order_of_admission(rt: &impl Abort, alloc: Global) -> Result<(), AllocError> {
+    let mut members = Members::new(alloc, 1, 4);
+    assert!(rt; members.is_empty());
+    let heard = [
+        arrives(rt, "a", 1, 4, false),
+        arrives(rt, "c", 1, 4, false),
+        arrives(rt, "b", 1, 4, false),
+        departs(rt, "a"),
+    ];
+    decides(
+        rt,
+        &mut members,
+        0,
+        heard.as_slice(),
+        [
+            Decision::Admitted,
+            Decision::Admitted,
+            Decision::Admitted,
+            FREED_AT_ONCE,
+        ]
+        .as_slice(),
+    )?;
+    decides_one(
+        rt,
+        &mut members,
+        1,
+        arrives(rt, "a", 1, 4, true),
+        Decision::Admitted,
+    )?;
+    for (place, text, joined) in [(0, "c", 0), (1, "b", 0), (2, "a", 1)] {
+        let (name, member) = members.at(place).expect(rt, "a member");
+        assert!(rt; name.as_bytes() == text.as_bytes());
+        assert!(rt; member.name() == name);
+        assert_eq!(rt; (member.joined(), member.weight().period()), (joined, 4));
+        assert_eq!(rt; (member.freed_at(), member.is_departing()), (None, false));
+    }
+    assert!(rt; members.at(3).is_none());
+    Ok(())
+}
+
+// How many members there are, and the offset of b's subtask 2, after some beginning of what
+// `leaves_a_beginning` announces.
+const BEGINNINGS: [(usize, Option<u64>); 5] = [
+    (0, None),
+    (1, None),
+    (2, Some(7)),
+    (2, Some(12)),
+    (1, Some(12)),
+];
+
+fn leaves_a_beginning(rt: &impl Abort, alloc: Global) -> Result<(), AllocError> {
+    let mut members = Members::new(alloc, 1, 3);
+    let heard = [
+        arrives(rt, "a", 1, 3, false),
+        arrives(rt, "b", 1, 3, false),
+        is_late(rt, "b", 2, 5),
+        departs(rt, "a"),
+    ];
+    let all = members.boundary(7, heard.as_slice());
+    let offset = members.get(&name(rt, "b")).map(|b| b.theta(2));
+    assert!(rt; BEGINNINGS.as_slice().contains(&(members.len(), offset)));
+    assert_eq!(rt; (members.heard(), members.last_slot()), (4, Some(7)));
+    let all = all?;
+    let expected = [
+        Decision::Admitted,
+        Decision::Admitted,
+        Decision::Delayed,
+        Decision::Departing { freed_at: 7 },
+    ];
+    assert_eq!(rt; all.as_slice(), expected.as_slice());
+    Ok(())
+}
+
+// Each row is played once more where memory was refused.
+#[test]
+fn decides_the_rows(rt: HostRuntime) {
+    if refuses_arrivals_in_order(&rt, rt.alloc()).is_err() {
+        refuses_arrivals_in_order(&rt, rt.alloc()).expect(&rt, "memory");
+    }
+    if holds_the_weight_of_a_leaver(&rt, rt.alloc()).is_err() {
+        holds_the_weight_of_a_leaver(&rt, rt.alloc()).expect(&rt, "memory");
+    }
+    if frees_at_the_stamp(&rt, rt.alloc()).is_err() {
+        frees_at_the_stamp(&rt, rt.alloc()).expect(&rt, "memory");
+    }
+    if refuses_what_departs(&rt, rt.alloc()).is_err() {
+        refuses_what_departs(&rt, rt.alloc()).expect(&rt, "memory");
+    }
+}
+
+#[test]
+fn delays_and_releases_early(rt: HostRuntime) {
+    if delays_what_is_not_released(&rt, rt.alloc()).is_err() {
+        delays_what_is_not_released(&rt, rt.alloc()).expect(&rt, "memory");
+    }
+    if releases_early_within_a_job(&rt, rt.alloc()).is_err() {
+        releases_early_within_a_job(&rt, rt.alloc()).expect(&rt, "memory");
+    }
+}
+
+#[test]
+fn keeps_order(rt: HostRuntime) {
+    if keeps_the_order_of_admission(&rt, rt.alloc()).is_err() {
+        keeps_the_order_of_admission(&rt, rt.alloc()).expect(&rt, "memory");
+    }
+}
+
+#[test]
+fn stands_refused_memory(rt: HostRuntime) {
+    if leaves_a_beginning(&rt, rt.alloc()).is_err() {
+        leaves_a_beginning(&rt, rt.alloc()).expect(&rt, "memory");
+    }
+}
+
+#[test]
+fn reports_refusals(rt: HostRuntime) {
+    let refusals = [
+        (Refusal::NameTaken, 20, "name taken"),
+        (Refusal::PeriodOutsideFrame, 21, "period outside frame"),
+        (Refusal::NoRoom, 22, "no room"),
+        (Refusal::NoSuchTask, 23, "no such task"),
+        (Refusal::AlreadyDeparting, 24, "already departing"),
+        (Refusal::AlreadyReleased, 25, "already released"),
+    ];
+    for (refusal, number, text) in refusals {
+        assert_eq!(&rt; refusal.number(), number);
+        let mut shown = format!(in rt.alloc(); "{refusal}");
+        if shown.is_err() {
+            shown = format!(in rt.alloc(); "{refusal}");
+        }
+        assert!(&rt; shown.expect(&rt, "memory").as_str() == text);
+    }
+}

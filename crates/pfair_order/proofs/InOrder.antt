@@ -1,0 +1,207 @@
+-- Keys that stand once can be put in order, so their first by rank are the first.
+use Rattle.std.proofs.Common.{◌≡◌, ℕ, zero, suc, ◌<◌, ◌≤◌, inl, inr, true, false, cond, List, [], ◌∷◌, length, take, drop, refl, sym, ap, subst, ◌∙◌, arith, Some, None}
+use Rattle.std.specs.Prelude.{◌⊎◌}
+use Rattle.std.specs.List.{AllByRecursion, Contains, slice_get}
+use Rattle.std.specs.declared.cmp.Ordering.{Ordering}
+use Rattle.std.specs.declared.cmp.Ordering.TheVariants.{Less}
+use Rattle.std.specs.Ordering.{is_lt, is_eq}
+use Rattle.std.specs.Cmp.{IsTotalOrder}
+use Rattle.std.specs.List.Sorted.{IsPermutation}
+use Rattle.std.proofs.lemmas.List.{take-append-drop}
+use Rattle.std.proofs.lemmas.List.Elements.{All-contains, All-from_recursion}
+use Rattle.std.proofs.lemmas.List.Sorted.{Contains-permutation, IsPermutation-refl, IsPermutation-sym, IsPermutation-cons, IsPermutation-trans, IsPermutation-middle}
+use Rattle.pfair_order.specs.Rank.{first_by_rank, AreFirst, EachOnce}
+use Rattle.pfair_order.proofs.RankLemmas.{Rising, IsSplit, place_of, at_place, first_of_split, first_unique, first_of_permutation, less_of, is_less, is_eq_back, itself_not_before, apart_from_head, count_of_tail}
+use Rattle.pfair_order.proofs.ByRank.{by_rank_of_split}
+
+-- a key at its place among keys that rise
+abbrev put_in : {K : Type 0} → (K → K → Ordering) → K → List K → List K
+put_in R x [] = x ∷ []
+put_in R x (y ∷ ys) = cond (is_lt (R x y)) (x ∷ y ∷ ys) (y ∷ put_in R x ys)
+
+abbrev in_order : {K : Type 0} → (K → K → Ordering) → List K → List K
+in_order R [] = []
+in_order R (x ∷ xs) = put_in R x (in_order R xs)
+
+some_inj : {A : Type 0} (x y : A) → Some x ≡ Some y → x ≡ y
+some_inj x y e = cc
+
+none_some : {A : Type 0} (x : A) → None ≡ Some x → ⊥
+none_some x e = cc
+
+in_empty : {A : Type 0} (x : A) → Contains [] x → ⊥
+in_empty x c = none_some x (place_of [] x c).1
+
+in_cons : {A : Type 0} (y : A) (ys : List A) (x : A) → Contains (y ∷ ys) x → (y ≡ x) ⊎ Contains ys x
+in_cons {A} y ys x c = at (place_of (y ∷ ys) x c).0 (place_of (y ∷ ys) x c).1
+  where
+    at : (i : ℕ) → slice_get (y ∷ ys) i ≡ Some x → (y ≡ x) ⊎ Contains ys x
+    at zero e = inl (some_inj y x e)
+    at (suc i) e = inr (at_place ys i x e)
+
+in_head : {A : Type 0} (y : A) (ys : List A) → Contains (y ∷ ys) y
+in_head y ys = at_place (y ∷ ys) 0 y refl
+
+in_tail : {A : Type 0} (y : A) (ys : List A) (x : A) → Contains ys x → Contains (y ∷ ys) x
+in_tail y ys x c = let at = place_of ys x c in at_place (y ∷ ys) (suc at.0) x at.1
+
+of_all : {A : Type 0} (P : A → Type 0) (xs : List A) (x : A) → AllByRecursion P xs → Contains xs x → P x
+of_all P xs x h c = All-contains P xs x (All-from_recursion P xs h) c
+
+both : {A : Type 0} (P Q : A → Type 0) (xs : List A) → AllByRecursion P xs → AllByRecursion Q xs → AllByRecursion (λ x. P x × Q x) xs
+both P Q [] h k = tt
+both P Q (x ∷ xs) h k = ((h.0, k.0), both P Q xs h.1 k.1)
+
+each_trivial : {A : Type 0} (xs : List A) → AllByRecursion (λ _. Unit {0}) xs
+each_trivial [] = tt
+each_trivial (x ∷ xs) = (tt, each_trivial xs)
+
+all_take : {A : Type 0} (P : A → Type 0) (m : ℕ) (xs : List A) → AllByRecursion P xs → AllByRecursion P (take m xs)
+all_take P zero xs h = tt
+all_take P (suc m) [] h = tt
+all_take P (suc m) (x ∷ xs) h = (h.0, all_take P m xs h.1)
+
+all_drop : {A : Type 0} (P : A → Type 0) (m : ℕ) (xs : List A) → AllByRecursion P xs → AllByRecursion P (drop m xs)
+all_drop P zero xs h = h
+all_drop P (suc m) [] h = tt
+all_drop P (suc m) (x ∷ xs) h = all_drop P m xs h.1
+
+take_within : {A : Type 0} (m : ℕ) (xs : List A) → length (take m xs) ≤ m
+take_within zero xs = omega arith
+take_within (suc m) [] = omega arith
+take_within (suc m) (x ∷ xs) = let rest = take_within m xs in omega (arith, rest)
+
+none_dropped : {A : Type 0} (m : ℕ) (xs : List A) → length (take m xs) < m → drop m xs ≡ []
+none_dropped zero xs h = absurd (omega arith)
+none_dropped (suc m) [] h = refl
+none_dropped (suc m) (x ∷ xs) h = none_dropped m xs (omega arith)
+
+module _ {K : Type 0} {R : K → K → Ordering} (o : IsTotalOrder R) where
+  put_in_moves : (x : K) (ys : List K) → IsPermutation (x ∷ ys) (put_in R x ys)
+  put_in_moves x [] = IsPermutation-refl (x ∷ [])
+  put_in_moves x (y ∷ ys) =
+      elim (is_lt (R x y)) as (λ b. IsPermutation (x ∷ y ∷ ys) (cond b (x ∷ y ∷ ys) (y ∷ put_in R x ys))) [
+        | true ↦ IsPermutation-refl (x ∷ y ∷ ys)
+        | false ↦
+            IsPermutation-trans (x ∷ y ∷ ys) (y ∷ x ∷ ys) (y ∷ put_in R x ys)
+            (IsPermutation-sym (y ∷ x ∷ ys) (x ∷ y ∷ ys) (IsPermutation-middle (y ∷ []) x ys))
+            (IsPermutation-cons y (x ∷ ys) (put_in R x ys) (put_in_moves x ys))
+      ]
+
+  in_order_moves : (xs : List K) → IsPermutation xs (in_order R xs)
+  in_order_moves [] = IsPermutation-refl []
+  in_order_moves (x ∷ xs) =
+      IsPermutation-trans (x ∷ xs) (x ∷ in_order R xs) (put_in R x (in_order R xs))
+      (IsPermutation-cons x xs (in_order R xs) (in_order_moves xs)) (put_in_moves x (in_order R xs))
+
+  all_put : (P : K → Type 0) (x : K) (ys : List K) → P x → AllByRecursion P ys → AllByRecursion P (put_in R x ys)
+  all_put P x [] p h = (p, tt)
+  all_put P x (y ∷ ys) p h =
+      elim (is_lt (R x y)) as (λ b. AllByRecursion P (cond b (x ∷ y ∷ ys) (y ∷ put_in R x ys))) [
+        | true ↦ (p, h)
+        | false ↦ (h.0, all_put P x ys p h.1)
+      ]
+
+  all_in_order : (P : K → Type 0) (xs : List K) → AllByRecursion P xs → AllByRecursion P (in_order R xs)
+  all_in_order P [] h = tt
+  all_in_order P (x ∷ xs) h = all_put P x (in_order R xs) h.0 (all_in_order P xs h.1)
+
+  less_all : (x y : K) (zs : List K) → R x y ≡ Less → AllByRecursion (λ z. R y z ≡ Less) zs → AllByRecursion (λ z. R x z ≡ Less) zs
+  less_all x y [] e h = tt
+  less_all x y (z ∷ zs) e h = (o.trans x y z e h.0, less_all x y zs e h.1)
+
+  rising_put : (x : K) (ys : List K) → Rising R ys → AllByRecursion (λ y. is_eq (R y x) ≡ false) ys → Rising R (put_in R x ys)
+  rising_put x [] up differ = (tt, tt)
+  rising_put x (y ∷ ys) up differ =
+      elim (is_lt (R x y)) as (λ b. is_lt (R x y) ≡ b → Rising R (cond b (x ∷ y ∷ ys) (y ∷ put_in R x ys))) [
+        | true ↦ λ e. let less : R x y ≡ Less = is_less o (R x y) e in ((less, less_all x y ys less up.0), up)
+        | false ↦ λ e.
+            let later : R y x ≡ Less = less_of o (R x y) (R y x) (o.antisymm x y) e (is_eq_back o (R x y) (R y x) (o.antisymm x y) differ.0) in
+            (all_put (λ z. R y z ≡ Less) x ys later up.0, rising_put x ys up.1 differ.1)
+      ] refl
+
+  rising_in_order : (xs : List K) → EachOnce R xs → Rising R (in_order R xs)
+  rising_in_order [] once = tt
+  rising_in_order (x ∷ xs) once =
+      rising_put x (in_order R xs) (rising_in_order xs (λ k. count_of_tail o (λ z. is_eq (R z k)) x xs (once k)))
+      (all_in_order (λ z. is_eq (R z x) ≡ false) xs (apart_from_head o x xs once))
+
+  rising_take : (m : ℕ) (xs : List K) → Rising R xs → Rising R (take m xs)
+  rising_take zero xs up = tt
+  rising_take (suc m) [] up = tt
+  rising_take (suc m) (x ∷ xs) up = (all_take (λ z. R x z ≡ Less) m xs up.0, rising_take m xs up.1)
+
+  after_take : (m : ℕ) (xs : List K) → Rising R xs → AllByRecursion (λ z. AllByRecursion (λ k. R k z ≡ Less) (take m xs)) (drop m xs)
+  after_take zero xs up = each_trivial xs
+  after_take (suc m) [] up = tt
+  after_take (suc m) (x ∷ xs) up =
+      both (λ z. R x z ≡ Less) (λ z. AllByRecursion (λ k. R k z ≡ Less) (take m xs)) (drop m xs)
+      (all_drop (λ z. R x z ≡ Less) m xs up.0) (after_take m xs up.1)
+
+  -- the first m in order are a split of keys that stand once
+  split_in_order : (m : ℕ) (keys : List K) → EachOnce R keys → IsSplit o keys (take m (in_order R keys)) (drop m (in_order R keys))
+  split_in_order m keys once = record {
+    parts = subst (IsPermutation keys) (sym (take-append-drop m (in_order R keys))) (in_order_moves keys);
+    rising = rising_take m (in_order R keys) (rising_in_order keys once);
+    after = after_take m (in_order R keys) (rising_in_order keys once);
+  }
+
+  -- the keys of rank below m, rank by rank, are the first m of keys that stand once
+  pub by_rank_first : (m : ℕ) (keys : List K) → EachOnce R keys → AreFirst R m keys (first_by_rank R m keys)
+  by_rank_first m keys once =
+      let front : List K = take m (in_order R keys) in
+      let rest : List K = drop m (in_order R keys) in
+      let split : IsSplit o keys front rest = split_in_order m keys once in
+      subst (AreFirst R m keys) (by_rank_of_split o keys front rest split m (take_within m (in_order R keys)) (none_dropped m (in_order R keys)))
+      (first_of_split o m keys front rest split (take_within m (in_order R keys)) (none_dropped m (in_order R keys)))
+
+  pub first_by_rank_unique : (m : ℕ) (keys first : List K) → EachOnce R keys → AreFirst R m keys first → first ≡ first_by_rank R m keys
+  first_by_rank_unique m keys first once a = first_unique o m keys first (first_by_rank R m keys) a (by_rank_first m keys once)
+
+  never : (x : K) → R x x ≡ Less → ⊥
+  never x e = let back : true ≡ false = ap is_lt (sym e) ∙ itself_not_before o x in true_false back
+    where
+      true_false : true ≡ false → ⊥
+      true_false h = cc
+
+  -- lists that rise and have the same keys are one
+  same_rising : (xs ys : List K) → Rising R xs → Rising R ys → ((k : K) → Contains xs k → Contains ys k) → ((k : K) → Contains ys k → Contains xs k) → xs ≡ ys
+  same_rising [] [] a b f g = refl
+  same_rising [] (y ∷ ys) a b f g = absurd (in_empty y (g y (in_head y ys)))
+  same_rising (x ∷ xs) [] a b f g = absurd (in_empty x (f x (in_head x xs)))
+  same_rising (x ∷ xs) (y ∷ ys) a b f g =
+      let later : (k : K) → Contains xs k → R x k ≡ Less = λ k c. of_all (λ z. R x z ≡ Less) xs k a.0 c in
+      let later' : (k : K) → Contains ys k → R y k ≡ Less = λ k c. of_all (λ z. R y z ≡ Less) ys k b.0 c in
+      let heads : x ≡ y =
+      elim (in_cons y ys x (f x (in_head x xs))) [
+        | inl e ↦ sym e
+        | inr c ↦ elim (in_cons x xs y (g y (in_head y ys))) [
+          | inl e ↦ e
+          | inr d ↦ absurd (never x (o.trans x y x (later y d) (later' x c)))
+        ]
+      ] in
+      ap (λ z. z ∷ xs) heads ∙ ap (λ l. y ∷ l) (same_rising xs ys a.1 b.1
+      (λ k c. elim (in_cons y ys k (f k (in_tail x xs k c))) [
+        | inl e ↦ absurd (never x (later x (subst (Contains xs) (sym (heads ∙ e)) c)))
+        | inr d ↦ d
+      ])
+      (λ k c. elim (in_cons x xs k (g k (in_tail y ys k c))) [
+        | inl e ↦ absurd (never y (later' y (subst (Contains ys) (sym (sym heads ∙ e)) c)))
+        | inr d ↦ d
+      ]))
+
+  -- lists of the same keys, each of which stands once, are permutations of one another
+  pub same_keys_move : (keys others : List K) → EachOnce R keys → EachOnce R others → ((k : K) → Contains keys k → Contains others k) → ((k : K) → Contains others k → Contains keys k) → IsPermutation keys others
+  same_keys_move keys others once once' f g =
+      let same : in_order R keys ≡ in_order R others =
+      same_rising (in_order R keys) (in_order R others) (rising_in_order keys once) (rising_in_order others once')
+      (λ k c. Contains-permutation others (in_order R others) k (in_order_moves others) (f k (Contains-permutation (in_order R keys) keys k (IsPermutation-sym keys (in_order R keys) (in_order_moves keys)) c)))
+      (λ k c. Contains-permutation keys (in_order R keys) k (in_order_moves keys) (g k (Contains-permutation (in_order R others) others k (IsPermutation-sym others (in_order R others) (in_order_moves others)) c))) in
+      IsPermutation-trans keys (in_order R keys) others (in_order_moves keys)
+      (subst (λ l. IsPermutation l others) (sym same) (IsPermutation-sym others (in_order R others) (in_order_moves others)))
+
+  -- so their first by rank are the same
+  pub by_rank_of_same : (m : ℕ) (keys others : List K) → EachOnce R keys → EachOnce R others → ((k : K) → Contains keys k → Contains others k) → ((k : K) → Contains others k → Contains keys k) → first_by_rank R m keys ≡ first_by_rank R m others
+  by_rank_of_same m keys others once once' f g =
+      first_by_rank_unique m others (first_by_rank R m keys) once'
+      (first_of_permutation o m keys others (first_by_rank R m keys) (same_keys_move keys others once once' f g) (by_rank_first m keys once))

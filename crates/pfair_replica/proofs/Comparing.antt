@@ -1,0 +1,87 @@
+-- Rows compared, read cell by cell.
+use Rattle.std.proofs.Common.{◌≡◌, refl, sym, ap, subst, ⊎_elim, inl, inr, ◌∙◌, Bool}
+use Rattle.std.specs.Prelude.{◌↔◌, ℕ, Option, None, Some, List, [], ◌∷◌, length, IsTrue, nat_eq}
+use Rattle.std.specs.Option.{option_and_then}
+use Rattle.std.proofs.lemmas.Bool.{eqb-true, eq-eqb}
+use Rattle.std.specs.Ordering.{nat_cmp, is_eq}
+use Rattle.std.specs.BTreeMap.{is_at}
+use Rattle.std.specs.Cmp.{nat_cmp_total, tied_itself}
+use Rattle.std.proofs.lemmas.Map.Entries.{lookup_head}
+use Rattle.pfair_lattice.specs.Entries.{get, IsOrdered, MapBelow}
+use Rattle.pfair_lattice.specs.Flat.{FlatBelow}
+use Rattle.pfair_lattice.specs.Option.{OptionBelow}
+use Rattle.std.specs.Prelude.{IsSomeAnd}
+use Rattle.std.proofs.Common.{⊎_elim}
+use Rattle.std.proofs.lemmas.Bool.{cases_lt}
+use Rattle.pfair_replica.specs.HeldRows.{IsFull}
+use Rattle.pfair_lattice.specs.Held.{Held, HeldBelow}
+use Rattle.pfair_lattice.specs.declared.flat.Flat.{Flat}
+use Rattle.pfair_lattice.specs.HeldLaws.{below_itself, none_below, below_held, held_below}
+use Rattle.pfair_entry.specs.Entry.{Logged}
+use Rattle.pfair_replica.specs.HeldRows.{Row, held_in}
+
+module _ (v w : Row) where
+  pub row_below : MapBelow nat_cmp FlatBelow v w → (n : ℕ) → HeldBelow (get nat_cmp v n) (get nat_cmp w n)
+  row_below h n = ⊎_elim
+      (λ e. subst (λ (u : Row). HeldBelow (get nat_cmp v n) (get nat_cmp u n)) e (below_itself (get nat_cmp v n)))
+      (λ c. below_held (get nat_cmp v n) (get nat_cmp w n) (c.each n))
+      h
+
+  pub below_row : IsOrdered nat_cmp v → IsOrdered nat_cmp w → ((n : ℕ) → HeldBelow (get nat_cmp v n) (get nat_cmp w n)) → MapBelow nat_cmp FlatBelow v w
+  below_row s t h = inr (record { ordered_first = s; ordered_second = t; each = λ n. held_below (get nat_cmp v n) (get nat_cmp w n) (h n) })
+
+not_none : (c : Flat Logged) (o : Held Logged) → o ≡ Some c → HeldBelow o None → ⊥
+not_none c o e h = elim (h c e) [ inl k ↦ absurd (cc) | inr k ↦ absurd (cc) ]
+
+-- only the empty row is below one that isn't there
+pub nothing_below : (v : Row) → ((n : ℕ) → HeldBelow (get nat_cmp v n) None) → length v ≡ 0
+nothing_below [] h = refl
+nothing_below (x ∷ xs) h = absurd (not_none x.1 (get nat_cmp (x ∷ xs) x.0) (lookup_head (is_at (nat_cmp x.0)) x xs (ap is_eq (tied_itself nat_cmp_total x.0))) (h x.0))
+
+pub empty_below : (v : Row) → length v ≡ 0 → (n : ℕ) → HeldBelow (get nat_cmp v n) None
+empty_below [] e n = none_below None
+empty_below (x ∷ xs) e n = absurd (cc)
+
+pub below_as : (x x' y y' : Held Logged) → x' ≡ x → y' ≡ y → HeldBelow x y → HeldBelow x' y'
+below_as x x' y y' e f h = subst (λ (u : Held Logged). HeldBelow u y') (sym e) (subst (HeldBelow x) (sym f) h)
+
+-- what a row holds, by the rows
+at_row : (rows : List (ℕ × Row)) (p : ℕ) (o : Option Row) → get nat_cmp rows p ≡ o → (n : ℕ) → held_in rows p n ≡ option_and_then (λ (r : Row). get nat_cmp r n) o
+at_row rows p o e n = ap (option_and_then (λ (r : Row). get nat_cmp r n)) e
+
+module _ (a b : List (ℕ × Row)) (p : ℕ) (v : Row) (ea : get nat_cmp a p ≡ Some v) where
+  pub rows_both : (w : Row) → get nat_cmp b p ≡ Some w → IsOrdered nat_cmp v → IsOrdered nat_cmp w → (r : Bool) → (IsTrue r ↔ MapBelow nat_cmp FlatBelow v w)
+      → (IsTrue r ↔ ((n : ℕ) → HeldBelow (held_in a p n) (held_in b p n)))
+  rows_both w eb s t r h = (
+    λ i n. below_as (get nat_cmp v n) (held_in a p n) (get nat_cmp w n) (held_in b p n) (at_row a p (Some v) ea n) (at_row b p (Some w) eb n) (row_below v w (h.0 i) n),
+    λ q. h.1 (below_row v w s t (λ n. below_as (held_in a p n) (get nat_cmp v n) (held_in b p n) (get nat_cmp w n) (sym (at_row a p (Some v) ea n)) (sym (at_row b p (Some w) eb n)) (q n))),
+  )
+
+  pub rows_first : get nat_cmp b p ≡ None → (l : ℕ) → l ≡ length v → (IsTrue (nat_eq l 0) ↔ ((n : ℕ) → HeldBelow (held_in a p n) (held_in b p n)))
+  rows_first eb l e = (
+    λ i n. below_as (get nat_cmp v n) (held_in a p n) None (held_in b p n) (at_row a p (Some v) ea n) (at_row b p None eb n) (empty_below v (sym e ∙ eqb-true l 0 i) n),
+    λ q. eq-eqb l 0 (e ∙ nothing_below v (λ n. below_as (held_in a p n) (get nat_cmp v n) (held_in b p n) None (sym (at_row a p (Some v) ea n)) (sym (at_row b p None eb n)) (q n))),
+  )
+
+-- ---- all rows of two replicas of one shape
+
+both_rows : (u v : Option Row) → IsSomeAnd u (IsOrdered nat_cmp) → IsSomeAnd v (IsOrdered nat_cmp)
+    → ((n : ℕ) → HeldBelow (option_and_then (λ (r : Row). get nat_cmp r n) u) (option_and_then (λ (r : Row). get nat_cmp r n) v)) → OptionBelow (MapBelow nat_cmp FlatBelow) u v
+both_rows None v p q h = absurd p
+both_rows (Some u) None p q h = absurd q
+both_rows (Some u) (Some v) p q h = below_row u v p q h
+
+pub rows_below : (m : ℕ) (a b : List (ℕ × Row)) → IsFull m a → IsFull m b → ((k n : ℕ) → HeldBelow (held_in a k n) (held_in b k n)) → MapBelow nat_cmp (MapBelow nat_cmp FlatBelow) a b
+rows_below m a b f g h = inr (record {
+  ordered_first = f.ordered;
+  ordered_second = g.ordered;
+  each = λ k. ⊎_elim
+      (λ i. both_rows (get nat_cmp a k) (get nat_cmp b k) (f.there k i) (g.there k i) (h k))
+      (λ o. subst (λ (r : Option Row). OptionBelow (MapBelow nat_cmp FlatBelow) r (get nat_cmp b k)) (sym (f.beyond k o)) tt)
+      (cases_lt k m);
+})
+
+-- where the rows of the one aren't below those of the other, neither is what it holds
+pub rows_lack : (m m' : ℕ) (a b : List (ℕ × Row)) → m ≡ m' → IsFull m a → IsFull m' b → (MapBelow nat_cmp (MapBelow nat_cmp FlatBelow) b a → ⊥)
+    → ((k n : ℕ) → HeldBelow (held_in b k n) (held_in a k n)) → ⊥
+rows_lack m m' a b e f g lack h = lack (rows_below m' b a g (subst (λ (q : ℕ). IsFull q a) e f) h)

@@ -1,0 +1,12 @@
+pub mod Marks
+pub mod Runs
+pub mod PutEntry
+pub mod Merging
+pub mod Scanning
+pub mod SameRows
+pub mod EmptyRows
+pub mod Comparing
+pub mod Listing
+pub mod Agreement
+pub mod OfferedTo
+pub mod TornKeys

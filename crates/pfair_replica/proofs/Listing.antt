@@ -1,0 +1,66 @@
+-- Numbers gone through one after another.
+use Rattle.std.proofs.Common.{ℕ, zero, suc, ◌+◌, ◌-◌, ◌<◌, ◌≤◌, ◌≡◌, refl, sym, ap, ◌∙◌, subst, arith, ⊎_elim, Bool, true, false, cond, [], ◌∷◌, ◌++◌, Option, Some, None, IsSome}
+use Rattle.std.specs.Prelude.{find, is_none}
+use Rattle.std.proofs.lemmas.Bool.{true≢false, cases_eq}
+use Rattle.std.proofs.lemmas.List.{map-append}
+use Rattle.std.proofs.lemmas.List.Folds.{find-append}
+use Rattle.std.specs.Option.{option_or}
+use Rattle.pfair_replica.specs.Replica.{Replica, IsLeastMissing, missing, numbers_below, numbers_to}
+
+next : (b : ℕ) → b + 1 ≡ suc b
+next b = omega arith
+
+pub numbers_more : (b : ℕ) → numbers_to (b + 1) ≡ numbers_to b ++ (b + 1) ∷ []
+numbers_more b = ap numbers_to (next b) ∙ map-append suc (numbers_below b) (b ∷ []) ∙ ap (λ n. numbers_to b ++ n ∷ []) (sym (next b))
+
+-- ---- the first number that meets a test
+
+module _ (p : ℕ → Bool) where
+  find_step : (b : ℕ) → find p (numbers_to (b + 1)) ≡ option_or (find p (numbers_to b)) (find p ((b + 1) ∷ []))
+  find_step b = ap (find p) (numbers_more b) ∙ find-append p (numbers_to b) ((b + 1) ∷ [])
+
+  pub find_none : (b : ℕ) → find p (numbers_to b) ≡ None → p (b + 1) ≡ false → find p (numbers_to (b + 1)) ≡ None
+  find_none b e f = find_step b ∙ ap (λ o. option_or o (find p ((b + 1) ∷ []))) e ∙ ap (λ t. cond t (Some (b + 1)) None) f
+
+  find_here : (b : ℕ) → find p (numbers_to b) ≡ None → p (b + 1) ≡ true → find p (numbers_to (b + 1)) ≡ Some (b + 1)
+  find_here b e f = find_step b ∙ ap (λ o. option_or o (find p ((b + 1) ∷ []))) e ∙ ap (λ t. cond t (Some (b + 1)) None) f
+
+  find_further : (c b n : ℕ) → find p (numbers_to b) ≡ Some n → find p (numbers_to (b + c)) ≡ Some n
+  find_further zero b n e = ap (λ q. find p (numbers_to q)) (let same : b + 0 ≡ b = omega arith in same) ∙ e
+  find_further (suc c) b n e =
+      ap (λ q. find p (numbers_to q)) (let same : b + suc c ≡ b + c + 1 = omega arith in same)
+      ∙ find_step (b + c) ∙ ap (λ o. option_or o (find p ((b + c + 1) ∷ []))) (find_further c b n e)
+
+  pub find_first : (b capacity : ℕ) → b < capacity → find p (numbers_to b) ≡ None → p (b + 1) ≡ true → find p (numbers_to capacity) ≡ Some (b + 1)
+  find_first b capacity room e f =
+      subst (λ (q : ℕ). find p (numbers_to q) ≡ Some (b + 1)) (let same : b + 1 + (capacity - (b + 1)) ≡ capacity = omega arith in same) (find_further (capacity - (b + 1)) (b + 1) (b + 1) (find_here b e f))
+
+-- none of the numbers up to b meets the test, or the least that does is this
+abbrev IsFirst : (ℕ → Bool) → ℕ → Option ℕ → Type 0
+IsFirst p b None = (n : ℕ) → 1 ≤ n → n ≤ b → p n ≡ false
+IsFirst p b (Some n) = (1 ≤ n) × (n ≤ b) × (p n ≡ true) × ((j : ℕ) → 1 ≤ j → j < n → p j ≡ false)
+
+first_found : (p : ℕ → Bool) (b : ℕ) → IsFirst p b (find p (numbers_to b))
+first_found p zero = λ n low high. absurd (omega arith)
+first_found p (suc b) =
+    subst (IsFirst p (suc b)) (sym (ap (find p) (map-append suc (numbers_below b) (b ∷ [])) ∙ find-append p (numbers_to b) (suc b ∷ []))) (by (find p (numbers_to b)) (p (suc b)) refl (first_found p b))
+  where
+    by : (o : Option ℕ) (t : Bool) → p (suc b) ≡ t → IsFirst p b o → IsFirst p (suc b) (option_or o (cond t (Some (suc b)) None))
+    by (Some n) t e h = (h.0, (let high = h.1 in omega arith), h.2, h.3)
+    by None true e h = (omega arith, omega arith, e, λ j low high. h j low (omega arith))
+    by None false e h = λ n low high. ⊎_elim (λ same. ap p same ∙ e) (λ apart. h n low (omega arith)) (cases_eq n (suc b))
+
+some_held : {X : Type 0} (o : Option X) → is_none o ≡ false → IsSome o
+some_held None e = absurd (true≢false e)
+some_held (Some v) e = refl
+
+none_held : {X : Type 0} (o : Option X) → is_none o ≡ true → o ≡ None
+none_held None e = refl
+none_held (Some v) e = absurd (true≢false (sym e))
+
+pub missing_is_least : (x : Replica) (k : ℕ) → IsLeastMissing x k (missing x k)
+missing_is_least x k = by (find (λ n. is_none (x.at k n)) (numbers_to x.capacity)) (first_found (λ n. is_none (x.at k n)) x.capacity)
+  where
+    by : (o : Option ℕ) → IsFirst (λ n. is_none (x.at k n)) x.capacity o → IsLeastMissing x k o
+    by None h = λ n low high. some_held (x.at k n) (h n low high)
+    by (Some n) h = (h.0, h.1, none_held (x.at k n) h.2, λ j low high. some_held (x.at k j) (h.3 j low high))

@@ -1,0 +1,57 @@
+-- What is held after an entry or a replica was offered.
+use Rattle.std.proofs.Common.{ℕ, ◌≡◌, refl, ap, subst, sym, inr, Bool, true, false, cond}
+use Rattle.std.specs.Prelude.{◌&&◌, nat_lt, nat_le, ◌==◌}
+use Rattle.std.proofs.lemmas.Bool.{eq-eqb, eqb-true, ltb-true, leb-true, and_from, and_parts}
+use Rattle.pfair_lattice.specs.HeldLaws.{join_first, below_itself}
+use Rattle.pfair_entry.specs.Entry.{Logged, IsEntry}
+use Rattle.pfair_entry.specs.Same.{entry_eq}
+use Rattle.pfair_entry.specs.Exact.{entry_exact}
+use Rattle.pfair_replica.specs.Replica.{Replica, IsReplica, Below, contents_join, only, join, with_entry}
+use Rattle.pfair_replica.specs.Offered.{has_key, has_shape, taken, absorbed}
+use Rattle.pfair_replica.specs.Laws.{OfferedStays}
+use Rattle.pfair_replica.proofs.Merging.{replica_taken, replica_between}
+
+-- a replica of the same shape is joined in
+pub absorbed_alike : (x y : Replica) → x.processors ≡ y.processors → x.capacity ≡ y.capacity → absorbed x y ≡ join x y
+absorbed_alike x y p c = ap (λ b. cond b (join x y) x) (and_from _ _ (eq-eqb x.processors y.processors p) (eq-eqb x.capacity y.capacity c))
+
+above : (x z : Replica) → Below x z → (b : Bool) → Below x (cond b z x)
+above x z h true = h
+above x z h false = λ k n. below_itself (x.at k n)
+
+shape : (x z : Replica) → z.processors ≡ x.processors → z.capacity ≡ x.capacity → (b : Bool) → ((cond b z x).processors ≡ x.processors) × ((cond b z x).capacity ≡ x.capacity)
+shape x z p c true = (p, c)
+shape x z p c false = (refl, refl)
+
+taken_replica : (x : Replica) (k n : ℕ) (e : Logged) → IsReplica x → IsEntry e → IsReplica (taken x k n e)
+taken_replica x j m e r good = by (has_key x j m) refl
+  where
+    by : (b : Bool) → has_key x j m ≡ b → IsReplica (cond b (with_entry x j m e) x)
+    by true p =
+        (let q = and_parts (nat_lt j x.processors) (nat_lt 0 m && nat_le m x.capacity) p in
+        let s = and_parts (nat_lt 0 m) (nat_le m x.capacity) q.1 in
+        replica_taken x j m e (contents_join x.at (only j m e)) r good (ltb-true j x.processors q.0) (ltb-true 0 m s.0) (leb-true m x.capacity s.1) (λ k n. refl))
+    by false p = r
+
+absorbed_replica : (x y : Replica) → IsReplica x → IsReplica y → IsReplica (absorbed x y)
+absorbed_replica x y r s = by (has_shape x y) refl
+  where
+    by : (b : Bool) → has_shape x y ≡ b → IsReplica (cond b (join x y) x)
+    by true p =
+        (let q = and_parts (x.processors == y.processors) (x.capacity == y.capacity) p in
+        let ep = eqb-true x.processors y.processors q.0 in
+        let ec = eqb-true x.capacity y.capacity q.1 in
+        let other : IsReplica (record { processors = x.processors; capacity = x.capacity; at = y.at }) =
+        subst (λ m. IsReplica (record { processors = m; capacity = x.capacity; at = y.at })) (sym ep) (subst (λ c. IsReplica (record { processors = y.processors; capacity = c; at = y.at })) (sym ec) s) in
+        replica_between x.processors x.capacity x.at y.at (contents_join x.at y.at) r other (λ k n. inr refl))
+    by false p = r
+
+pub offered_stays : OfferedStays
+offered_stays = record {
+  taken_above = λ x k n e. above x (with_entry x k n e) (λ k' n'. join_first entry_eq entry_exact (x.at k' n') (only k n e k' n')) (has_key x k n);
+  taken_shape = λ x k n e. shape x (with_entry x k n e) refl refl (has_key x k n);
+  taken_replica = taken_replica;
+  absorbed_above = λ x y. above x (join x y) (λ k n. join_first entry_eq entry_exact (x.at k n) (y.at k n)) (has_shape x y);
+  absorbed_shape = λ x y. shape x (join x y) refl refl (has_shape x y);
+  absorbed_replica = absorbed_replica;
+}

@@ -1,0 +1,114 @@
+-- Rows of entries, one of them changed.
+use Rattle.std.proofs.Common.{◌≡◌, refl, sym, ◌∙◌, ap, subst, ⊎_elim, Bool, true, false, cond}
+use Rattle.std.specs.Prelude.{◌≢◌, ◌==◌, ℕ, Option, None, Some, List, [], ◌∷◌, IsSome, IsSomeAnd, Result, Ok, Err, OnErr, if◌then◌else◌}
+use Rattle.std.specs.declared.cmp.Ordering.{Ordering}
+use Rattle.std.specs.declared.cmp.Ordering.TheVariants.{Less, Equal, Greater}
+use Rattle.std.specs.List.Sorted.{IsStrictlySortedBy}
+use Rattle.std.specs.Ordering.{nat_cmp, eq_by_cmp, is_eq}
+use Rattle.std.specs.Option.{option_and_then}
+use Rattle.std.specs.Map.{set_value}
+use Rattle.std.specs.BTreeMap.{is_at}
+use Rattle.std.specs.Cmp.{nat_cmp_total, eq_by_cmp_equiv, tied_itself}
+use Rattle.std.proofs.lemmas.Bool.{cases_Bool, cases_eq, eq-eqb, ne_eqb}
+use Rattle.std.proofs.lemmas.Map.{lookup-set_value, keys-set_value}
+use Rattle.std.proofs.lemmas.Map.Steps.{set_value_same}
+use Rattle.std.proofs.lemmas.Map.Lookups.{exact_unsigned}
+use Rattle.pfair_lattice.specs.Entries.{get, IsOrdered, MapJoins}
+use Rattle.pfair_lattice.specs.Flat.{FlatJoins}
+use Rattle.pfair_lattice.specs.Held.{held_join}
+use Rattle.pfair_lattice.specs.declared.flat.Flat.TheVariants.{One}
+use Rattle.pfair_lattice.specs.HeldLaws.{joins_held}
+use Rattle.pfair_entry.specs.Entry.{Logged}
+use Rattle.pfair_entry.specs.Same.{entry_eq}
+use Rattle.pfair_entry.specs.Exact.{entry_exact}
+use Rattle.pfair_replica.specs.HeldAfter.{join_none}
+use Rattle.pfair_replica.specs.Replica.{only}
+use Rattle.pfair_replica.specs.HeldRows.{Row, held_in, IsFull}
+
+from_is_eq : (r : Ordering) → is_eq r ≡ true → r ≡ Equal
+from_is_eq Less e = cc
+from_is_eq Equal e = refl
+from_is_eq Greater e = cc
+
+not_there : {X : Type 0} (v : X) → Some v ≡ None → ⊥
+not_there v e = cc
+
+either_there : {X : Type 0} (b : Bool) (o : Option (List (ℕ × X))) (after : List (ℕ × X)) → IsOrdered nat_cmp after → IsSomeAnd o (IsOrdered nat_cmp) → IsSomeAnd (cond b (Some after) o) (IsOrdered nat_cmp)
+either_there true o after s p = s
+either_there false o after s p = p
+
+pub apart : (p q : ℕ) → q ≢ p → eq_by_cmp nat_cmp p q ≡ false
+apart p q ne = ⊎_elim (λ e. absurd (ne (sym (exact_unsigned p q (from_is_eq (nat_cmp p q) e))))) (λ f. f) (cases_Bool (eq_by_cmp nat_cmp p q))
+
+pub same_test : (n m : ℕ) → eq_by_cmp nat_cmp n m ≡ (n == m)
+same_test n m = ⊎_elim
+    (λ e. subst (λ (k : ℕ). eq_by_cmp nat_cmp n k ≡ (n == k)) e (ap is_eq (tied_itself nat_cmp_total n) ∙ sym (eq-eqb n n refl)))
+    (λ ne. apart n m (λ e. ne (sym e)) ∙ sym (ne_eqb n m ne))
+    (cases_eq n m)
+
+module _ {X : Type 0} where
+  at_set : (es : List (ℕ × X)) (p q : ℕ) (w : X) → IsSome (get nat_cmp es p) → get nat_cmp (set_value (is_at (nat_cmp p)) es w) q ≡ cond (eq_by_cmp nat_cmp p q) (Some w) (get nat_cmp es q)
+  at_set es p q w h = let laws = eq_by_cmp_equiv nat_cmp_total in lookup-set_value laws (is_at (nat_cmp p)) (λ x y e. laws.congr p x y e) q w es h
+
+  get_set : (es : List (ℕ × X)) (p : ℕ) (w : X) → IsSome (get nat_cmp es p) → get nat_cmp (set_value (is_at (nat_cmp p)) es w) p ≡ Some w
+  get_set es p w h = at_set es p p w h ∙ ap (λ b. cond b (Some w) (get nat_cmp es p)) ((eq_by_cmp_equiv nat_cmp_total).refl p)
+
+  get_set_other : (es : List (ℕ × X)) (p q : ℕ) (w : X) → IsSome (get nat_cmp es p) → q ≢ p → get nat_cmp (set_value (is_at (nat_cmp p)) es w) q ≡ get nat_cmp es q
+  get_set_other es p q w h ne = at_set es p q w h ∙ ap (λ b. cond b (Some w) (get nat_cmp es q)) (apart p q ne)
+
+pub none_if : {X : Type 0} (o : Option X) → (IsSome o → ⊥) → o ≡ None
+none_if None h = refl
+none_if (Some v) h = absurd (h refl)
+
+pub on_err_both : {A E P Q R : Type 0} (r : Result A E) → (P → Q → R) → OnErr r P → OnErr r Q → OnErr r R
+on_err_both (Ok a) f p q = tt
+on_err_both (Err e) f p q = f p q
+
+module _ (rows : List (ℕ × Row)) (p : ℕ) (row after : Row) (was : get nat_cmp rows p ≡ Some row) where
+  there : IsSome (get nat_cmp rows p)
+  there = subst IsSome (sym was) refl
+
+  held_was : (n : ℕ) → held_in rows p n ≡ get nat_cmp row n
+  held_was n = ap (option_and_then (λ (r : Row). get nat_cmp r n)) was
+
+  held_set : (n : ℕ) → held_in (set_value (is_at (nat_cmp p)) rows after) p n ≡ get nat_cmp after n
+  held_set n = ap (option_and_then (λ (r : Row). get nat_cmp r n)) (get_set rows p after there)
+
+  held_other : (q n : ℕ) → q ≢ p → held_in (set_value (is_at (nat_cmp p)) rows after) q n ≡ held_in rows q n
+  held_other q n ne = ap (option_and_then (λ (r : Row). get nat_cmp r n)) (get_set_other rows p q after there ne)
+
+  pub set_same : after ≡ row → set_value (is_at (nat_cmp p)) rows after ≡ rows
+  set_same e = set_value_same (is_at (nat_cmp p)) rows after (was ∙ ap Some (sym e))
+
+  module _ (m : ℕ) (e : Logged) (j : MapJoins nat_cmp FlatJoins row ((m, One e) ∷ []) after) where
+    in_row : (n : ℕ) → get nat_cmp after n ≡ held_join entry_eq (get nat_cmp row n) (if n == m then Some (One e) else None)
+    in_row n =
+        joins_held entry_eq entry_exact (get nat_cmp row n) (get nat_cmp ((m, One e) ∷ []) n) (get nat_cmp after n) (j.each n)
+        ∙ ap (λ b. held_join entry_eq (get nat_cmp row n) (cond b (Some (One e)) None)) (same_test n m)
+
+    own_row : (n : ℕ) → held_in (set_value (is_at (nat_cmp p)) rows after) p n ≡ held_join entry_eq (held_in rows p n) (only p m e p n)
+    own_row n =
+        held_set n ∙ in_row n
+        ∙ ap (λ h. held_join entry_eq h (if n == m then Some (One e) else None)) (sym (held_was n))
+        ∙ ap (λ b. held_join entry_eq (held_in rows p n) (cond b (if n == m then Some (One e) else None) None)) (sym (eq-eqb p p refl))
+
+    -- an entry joined into one row
+    pub put_held : (k n : ℕ) → held_in (set_value (is_at (nat_cmp p)) rows after) k n ≡ held_join entry_eq (held_in rows k n) (only p m e k n)
+    put_held k n = ⊎_elim
+        (λ same. subst (λ (q : ℕ). held_in (set_value (is_at (nat_cmp p)) rows after) q n ≡ held_join entry_eq (held_in rows q n) (only p m e q n)) (sym same) (own_row n))
+        (λ ne. held_other k n ne ∙ sym (ap (λ b. held_join entry_eq (held_in rows k n) (cond b (if n == m then Some (One e) else None) None)) (ne_eqb k p ne) ∙ join_none (held_in rows k n)))
+        (cases_eq k p)
+
+-- rows that are all there stay so
+pub full_set : (m p : ℕ) (rows : List (ℕ × Row)) (row after : Row) → get nat_cmp rows p ≡ Some row → IsOrdered nat_cmp after → IsFull m rows → IsFull m (set_value (is_at (nat_cmp p)) rows after)
+full_set m p rows row after was s f =
+    let here : IsSome (get nat_cmp rows p) = subst IsSome (sym was) refl in
+    let at = λ (q : ℕ). at_set rows p q after here in
+    record {
+      ordered = subst (IsStrictlySortedBy nat_cmp) (sym (keys-set_value (is_at (nat_cmp p)) rows after)) f.ordered;
+      there = λ q h. subst (λ (r : Option Row). IsSomeAnd r (IsOrdered nat_cmp)) (sym (at q)) (either_there (eq_by_cmp nat_cmp p q) (get nat_cmp rows q) after s (f.there q h));
+      beyond = λ q h. ⊎_elim
+          (λ e. absurd (not_there row (sym was ∙ ap (get nat_cmp rows) (exact_unsigned p q (from_is_eq (nat_cmp p q) e)) ∙ f.beyond q h)))
+          (λ e. at q ∙ ap (λ b. cond b (Some after) (get nat_cmp rows q)) e ∙ f.beyond q h)
+          (cases_Bool (eq_by_cmp nat_cmp p q));
+    }

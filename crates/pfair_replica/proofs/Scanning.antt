@@ -1,0 +1,95 @@
+-- A row scanned for its sound beginning, and for what is said in it.
+use Rattle.std.proofs.Common.{ℕ, zero, suc, ◌+◌, ◌<◌, ◌≡◌, refl, sym, ap, ◌∙◌, subst, arith, Bool, true, false, cond, List, [], ◌∷◌, ◌++◌, length, min, Some, None, append_assoc}
+use Rattle.std.specs.Prelude.{map, fold, nat_le, if◌then◌else◌}
+use Rattle.std.proofs.lemmas.List.{map-append, append-nil}
+use Rattle.std.proofs.lemmas.List.Sums.{fold-append}
+use Rattle.pfair_lattice.specs.Held.{Held}
+use Rattle.pfair_lattice.specs.declared.flat.Flat.TheVariants.{One, Torn}
+use Rattle.pfair_entry.specs.Entry.{Logged}
+use Rattle.pfair_entry.specs.declared.said.Said.{Said}
+use Rattle.pfair_replica.specs.Replica.{goes_on, run_on, run_from, last_floor, numbers_below, said_by, said_in}
+
+next : (b : ℕ) → b + 1 ≡ suc b
+next b = omega arith
+
+-- an entry goes on the run
+goes : (f : ℕ) (c : Held Logged) (e : Logged) (rest : ℕ → List Logged) → goes_on c f ≡ Some e → run_on c f rest ≡ e ∷ rest e.floor
+goes f None e rest h = absurd (cc)
+goes f (Some Torn) e rest h = absurd (cc)
+goes f (Some (One d)) e rest h = by (nat_le f d.floor) h
+  where
+    by : (b : Bool) → (if b then Some d else None) ≡ Some e → cond b (d ∷ rest d.floor) [] ≡ e ∷ rest e.floor
+    by true q = (let same : d ≡ e = cc in ap (λ (v : Logged). v ∷ rest v.floor) same)
+    by false q = absurd (cc)
+
+-- none does
+ends : (f : ℕ) (c : Held Logged) (rest : ℕ → List Logged) → goes_on c f ≡ None → run_on c f rest ≡ []
+ends f None rest h = refl
+ends f (Some Torn) rest h = refl
+ends f (Some (One d)) rest h = by (nat_le f d.floor) h
+  where
+    by : (b : Bool) → (if b then Some d else None) ≡ None → cond b (d ∷ rest d.floor) [] ≡ []
+    by true q = absurd (cc)
+    by false q = refl
+
+-- before number b + 1 the run so far has b entries and the last floor f, and so many numbers are left of the row
+pub record RunsOn (row : ℕ → Held Logged) (capacity b f : ℕ) : Type 0 where
+  pub left : ℕ
+  pub room : b + left ≡ capacity
+  pub mark : last_floor f (run_from row left (suc b) f) ≡ last_floor 0 (run_from row capacity 1 0)
+  pub count : b + length (run_from row left (suc b) f) ≡ length (run_from row capacity 1 0)
+
+-- so far `now` was said after `start`, and the rest of the run says the rest
+pub record SaysOn (row : ℕ → Held Logged) (capacity t k : ℕ) (start now : List Said) (b f : ℕ) : Type 0 where
+  pub left : ℕ
+  pub room : b + left ≡ capacity
+  pub says : now ++ said_in t k (suc b) (run_from row left (suc b) f) ≡ start ++ said_in t k 1 (run_from row capacity 1 0)
+
+pub runs_start : (row : ℕ → Held Logged) (capacity : ℕ) → RunsOn row capacity 0 0
+runs_start row capacity = record { left = capacity; room = omega arith; mark = refl; count = omega arith }
+
+pub says_start : (row : ℕ → Held Logged) (capacity t k : ℕ) (start : List Said) → SaysOn row capacity t k start start 0 0
+says_start row capacity t k start = record { left = capacity; room = omega arith; says = refl }
+
+module _ (row : ℕ → Held Logged) (capacity b f : ℕ) where
+  module _ (e : Logged) (g : goes_on (row (b + 1)) f ≡ Some e) where
+    one_more : (left : ℕ) → run_from row (suc left) (suc b) f ≡ e ∷ run_from row left (suc (suc b)) e.floor
+    one_more left = goes f (row (suc b)) e (run_from row left (suc (suc b))) (subst (λ m. goes_on (row m) f ≡ Some e) (next b) g)
+
+    pub says_next : (t k : ℕ) (start now then_now : List Said) → SaysOn row capacity t k start now b f → b < capacity → then_now ≡ now ++ said_by t k (b + 1) e.said → SaysOn row capacity t k start then_now (b + 1) e.floor
+    says_next t k start now then_now s below pushed = subst (λ m. SaysOn row capacity t k start then_now m e.floor) (sym (next b)) (by s.left s.room s.says)
+      where
+        by : (left : ℕ) → b + left ≡ capacity → now ++ said_in t k (suc b) (run_from row left (suc b) f) ≡ start ++ said_in t k 1 (run_from row capacity 1 0) → SaysOn row capacity t k start then_now (suc b) e.floor
+        by zero room says = absurd (omega arith)
+        by (suc left) room says = record {
+          left = left;
+          room = omega arith;
+          says = ap (λ xs. xs ++ said_in t k (suc (suc b)) (run_from row left (suc (suc b)) e.floor)) (pushed ∙ ap (λ m. now ++ said_by t k m e.said) (next b))
+              ∙ append_assoc now (said_by t k (suc b) e.said) (said_in t k (suc (suc b)) (run_from row left (suc (suc b)) e.floor))
+              ∙ ap (λ es. now ++ said_in t k (suc b) es) (sym (one_more left))
+              ∙ says;
+        }
+
+  module _ (g : goes_on (row (b + 1)) f ≡ None) where
+    no_more : (left : ℕ) → run_from row left (suc b) f ≡ []
+    no_more zero = refl
+    no_more (suc left) = ends f (row (suc b)) (run_from row left (suc (suc b))) (subst (λ m. goes_on (row m) f ≡ None) (next b) g)
+
+    pub says_end : (t k : ℕ) (start now : List Said) → SaysOn row capacity t k start now b f → now ≡ start ++ said_in t k 1 (run_from row capacity 1 0)
+    says_end t k start now s = sym (ap (λ es. now ++ said_in t k (suc b) es) (no_more s.left) ∙ append-nil now) ∙ s.says
+
+-- at the end of the row
+module _ (row : ℕ → Held Logged) (capacity f : ℕ) where
+  none_left : (left : ℕ) → capacity + left ≡ capacity → run_from row left (suc capacity) f ≡ []
+  none_left zero room = refl
+  none_left (suc left) room = absurd (omega arith)
+
+  pub all_said : (t k : ℕ) (start now : List Said) → SaysOn row capacity t k start now capacity f → now ≡ start ++ said_in t k 1 (run_from row capacity 1 0)
+  all_said t k start now s = sym (ap (λ es. now ++ said_in t k (suc capacity) es) (none_left s.left s.room) ∙ append-nil now) ∙ s.says
+
+-- one more of the numbers of which the least is sought
+pub least_more : (f : ℕ → ℕ) (a k : ℕ) → fold min a (map f (numbers_below (k + 1))) ≡ min (fold min a (map f (numbers_below k))) (f k)
+least_more f a k =
+    ap (λ q. fold min a (map f (numbers_below q))) (let e : k + 1 ≡ suc k = omega arith in e)
+    ∙ ap (fold min a) (map-append f (numbers_below k) (k ∷ []))
+    ∙ fold-append min a (map f (numbers_below k)) (f k ∷ [])

@@ -1,0 +1,150 @@
+-- The torn keys, the first of them, and the test that there is one.
+use Rattle.std.proofs.Common.{ℕ, zero, suc, ◌+◌, ◌<◌, ◌≤◌, ◌≡◌, refl, sym, ap, ◌∙◌, subst, arith, inl, inr, Bool, true, false, cond, List, [], ◌∷◌, ◌++◌, Some, None}
+use Rattle.std.specs.Prelude.{◌⊎◌, ◌≢◌, ◌||◌, ◌↔◌, map, filter, find, flat_map, slice_get, is_some}
+use Rattle.std.specs.List.{list_any}
+use Rattle.std.specs.Option.{option_map}
+use Rattle.std.proofs.lemmas.Bool.{true≢false, or_parts, cases_lt}
+use Rattle.std.proofs.lemmas.List.{append-nil}
+use Rattle.std.proofs.lemmas.Grind.{flat_map-append}
+use Rattle.pfair_lattice.specs.Held.{Held}
+use Rattle.pfair_lattice.specs.declared.flat.Flat.TheVariants.{One, Torn}
+use Rattle.pfair_entry.specs.Entry.{Logged}
+use Rattle.pfair_replica.specs.Replica.{Replica, IsReplica, Untorn, is_torn, has_torn, entry_key, numbers_below, numbers_to, torn_in, torn_keys}
+
+-- ---- the first torn key
+
+first_filter : (p : ℕ → Bool) (xs : List ℕ) → slice_get (filter p xs) 0 ≡ find p xs
+first_filter p [] = refl
+first_filter p (x ∷ xs) = by (p x) (first_filter p xs)
+  where
+    by : (b : Bool) → slice_get (filter p xs) 0 ≡ find p xs → slice_get (cond b (x ∷ filter p xs) (filter p xs)) 0 ≡ cond b (Some x) (find p xs)
+    by true more = refl
+    by false more = more
+
+first_map : {A B : Type 0} (f : A → B) (xs : List A) → slice_get (map f xs) 0 ≡ option_map f (slice_get xs 0)
+first_map f [] = refl
+first_map f (x ∷ xs) = refl
+
+-- the first torn key of one processor
+pub torn_first : (x : Replica) (k : ℕ) → slice_get (torn_in x k) 0 ≡ option_map (entry_key k) (find (λ n. is_torn (x.at k n)) (numbers_to x.capacity))
+torn_first x k =
+    first_map (entry_key k) (filter (λ n. is_torn (x.at k n)) (numbers_to x.capacity)) ∙ ap (option_map (entry_key k)) (first_filter (λ n. is_torn (x.at k n)) (numbers_to x.capacity))
+
+module _ {A : Type 0} (f : ℕ → List A) where
+  flat_more : (p : ℕ) → flat_map f (numbers_below (suc p)) ≡ flat_map f (numbers_below p) ++ f p
+  flat_more p = flat_map-append f (numbers_below p) (p ∷ []) ∙ ap (λ xs. flat_map f (numbers_below p) ++ xs) (append-nil (f p))
+
+  empty : (xs : List A) → slice_get xs 0 ≡ None → xs ≡ []
+  empty [] e = refl
+  empty (x ∷ xs) e = absurd (cc)
+
+  -- one more number that gives nothing
+  pub flat_none : (p : ℕ) → flat_map f (numbers_below p) ≡ [] → slice_get (f p) 0 ≡ None → flat_map f (numbers_below (p + 1)) ≡ []
+  flat_none p none here =
+      ap (λ n. flat_map f (numbers_below n)) (let next : p + 1 ≡ suc p = omega arith in next) ∙ flat_more p ∙ ap (λ xs. xs ++ f p) none ∙ empty (f p) here
+
+  kept : (xs ys : List A) (a : A) → slice_get xs 0 ≡ Some a → slice_get (xs ++ ys) 0 ≡ Some a
+  kept [] ys a e = absurd (cc)
+  kept (x ∷ xs) ys a e = e
+
+  -- the first that is given
+  pub flat_first : (m p : ℕ) (a : A) → p < m → flat_map f (numbers_below p) ≡ [] → slice_get (f p) 0 ≡ Some a → slice_get (flat_map f (numbers_below m)) 0 ≡ Some a
+  flat_first zero p a below none here = absurd (omega arith)
+  flat_first (suc m) p a below none here = elim (cases_lt p m) [
+    | inl l ↦ ap (λ xs. slice_get xs 0) (flat_more m) ∙ kept (flat_map f (numbers_below m)) (f m) a (flat_first m p a l none here)
+    | inr g ↦ (let same : p ≡ m = omega arith in
+        subst (λ q. slice_get (flat_map f (numbers_below (suc q))) 0 ≡ Some a) same (ap (λ xs. slice_get xs 0) (flat_more p ∙ ap (λ xs. xs ++ f p) none) ∙ here))
+  ]
+
+-- ---- the test
+
+abbrev is_more : {A : Type 0} → List A → Bool
+is_more [] = false
+is_more (x ∷ xs) = true
+
+some_more : {A : Type 0} (xs : List A) → is_some (slice_get xs 0) ≡ is_more xs
+some_more [] = refl
+some_more (x ∷ xs) = refl
+
+more_append : {A : Type 0} (xs ys : List A) → is_more (xs ++ ys) ≡ (is_more xs || is_more ys)
+more_append [] ys = refl
+more_append (x ∷ xs) ys = refl
+
+more_flat : {A : Type 0} (f : ℕ → List A) (xs : List ℕ) → is_more (flat_map f xs) ≡ list_any (λ k. is_more (f k)) xs
+more_flat f [] = refl
+more_flat f (x ∷ xs) = more_append (f x) (flat_map f xs) ∙ ap (λ b. is_more (f x) || b) (more_flat f xs)
+
+more_filter : {A : Type 0} (g : ℕ → A) (p : ℕ → Bool) (xs : List ℕ) → is_more (map g (filter p (map suc xs))) ≡ list_any (λ n. p (suc n)) xs
+more_filter g p [] = refl
+more_filter g p (x ∷ xs) = by (p (suc x)) (more_filter g p xs)
+  where
+    by : (b : Bool) → is_more (map g (filter p (map suc xs))) ≡ list_any (λ n. p (suc n)) xs → is_more (map g (cond b (suc x ∷ filter p (map suc xs)) (filter p (map suc xs)))) ≡ (b || list_any (λ n. p (suc n)) xs)
+    by true more = refl
+    by false more = more
+
+torn_more : (x : Replica) → is_more (torn_keys x) ≡ has_torn x
+torn_more x = more_flat (torn_in x) (numbers_below x.processors) ∙ (λ i. list_any (λ k. more_filter (entry_key k) (λ n. is_torn (x.at k n)) (numbers_below x.capacity) i) (numbers_below x.processors))
+
+-- there is a first torn key exactly where the test finds one
+pub torn_test : (x : Replica) → is_some (slice_get (torn_keys x) 0) ≡ has_torn x
+torn_test x = some_more (torn_keys x) ∙ torn_more x
+
+pub no_key_no_torn : (x : Replica) → torn_keys x ≡ [] ↔ (has_torn x ≡ false)
+no_key_no_torn x = (λ e. sym (torn_more x) ∙ ap is_more e, λ e. none (torn_keys x) (torn_more x ∙ e))
+  where
+    none : {A : Type 0} (xs : List A) → is_more xs ≡ false → xs ≡ []
+    none [] e = refl
+    none (y ∷ ys) e = absurd (true≢false e)
+
+-- ---- the test, and what is held
+
+abbrev Among : ℕ → List ℕ → Type 0
+Among x [] = ⊥
+Among x (y ∷ ys) = (x ≡ y) ⊎ Among x ys
+
+among_left : (xs ys : List ℕ) (x : ℕ) → Among x xs → Among x (xs ++ ys)
+among_left [] ys x h = absurd h
+among_left (y ∷ xs) ys x (inl e) = inl e
+among_left (y ∷ xs) ys x (inr h) = inr (among_left xs ys x h)
+
+among_last : (xs : List ℕ) (y : ℕ) → Among y (xs ++ y ∷ [])
+among_last [] y = inl refl
+among_last (x ∷ xs) y = inr (among_last xs y)
+
+among_numbers : (n k : ℕ) → k < n → Among k (numbers_below n)
+among_numbers zero k h = absurd (omega arith)
+among_numbers (suc n) k h = elim (cases_lt k n) [
+  | inl l ↦ among_left (numbers_below n) (n ∷ []) k (among_numbers n k l)
+  | inr g ↦ (let e : n ≡ k = omega arith in subst (λ q. Among q (numbers_below n ++ n ∷ [])) e (among_last (numbers_below n) n))
+]
+
+any_false : (p : ℕ → Bool) (xs : List ℕ) → list_any p xs ≡ false → (x : ℕ) → Among x xs → p x ≡ false
+any_false p [] e x h = absurd h
+any_false p (y ∷ ys) e x (inl i) = ap p i ∙ (or_parts (p y) (list_any p ys) e).0
+any_false p (y ∷ ys) e x (inr h) = any_false p ys (or_parts (p y) (list_any p ys) e).1 x h
+
+none_any : (p : ℕ → Bool) → ((x : ℕ) → p x ≡ false) → (xs : List ℕ) → list_any p xs ≡ false
+none_any p h [] = refl
+none_any p h (y ∷ ys) = ap (λ b. b || list_any p ys) (h y) ∙ none_any p h ys
+
+not_torn : (c : Held Logged) → c ≢ Some Torn → is_torn c ≡ false
+not_torn None h = refl
+not_torn (Some (One e)) h = refl
+not_torn (Some Torn) h = absurd (h refl)
+
+pub untorn_by_test : (x : Replica) → IsReplica x → has_torn x ≡ false → Untorn x
+untorn_by_test x r e k n torn = at n torn (r.in_range k n Torn torn)
+  where
+    at : (n : ℕ) → x.at k n ≡ Some Torn → (k < x.processors) × (0 < n) × (n ≤ x.capacity) → ⊥
+    at zero torn range = (let pos = range.1 in absurd (omega (arith, pos)))
+    at (suc m) torn range =
+        (let row = any_false (λ k. list_any (λ n. is_torn (x.at k (suc n))) (numbers_below x.capacity)) (numbers_below x.processors) e k (among_numbers x.processors k range.0) in
+        let le = range.2 in
+        let here = any_false (λ n. is_torn (x.at k (suc n))) (numbers_below x.capacity) row m (among_numbers x.capacity m (omega (arith, le))) in
+        true≢false (sym (ap is_torn torn) ∙ here))
+
+pub test_by_untorn : (x : Replica) → Untorn x → has_torn x ≡ false
+test_by_untorn x untorn =
+    none_any (λ k. list_any (λ n. is_torn (x.at k (suc n))) (numbers_below x.capacity))
+    (λ k. none_any (λ n. is_torn (x.at k (suc n))) (λ n. not_torn (x.at k (suc n)) (untorn k (suc n))) (numbers_below x.capacity))
+    (numbers_below x.processors)

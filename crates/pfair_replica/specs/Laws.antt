@@ -1,0 +1,72 @@
+-- What holds of replicas, their join, and sound beginnings.
+use Rattle.std.specs.Prelude.{ℕ, suc, false, ◌≡◌, ◌<◌, ◌≤◌, List, [], ◌∷◌, ◌++◌, Some, ⊤, ◌↔◌}
+use Rattle.pfair_lattice.specs.declared.flat.Flat.TheVariants.{One}
+use Rattle.pfair_lattice.specs.Held.{Held, held_join}
+use Rattle.pfair_entry.specs.Entry.{Logged, IsEntry}
+use Rattle.pfair_entry.specs.Same.{entry_eq}
+use Rattle.pfair_replica.specs.Replica.{Replica, IsReplica, Below, join, with_entry, Untorn, Agree, sound_beginning, mark, frontier, said, has_torn, torn_keys}
+use Rattle.pfair_replica.specs.Offered.{taken, absorbed}
+
+-- Below is an order, and the join is the least that is above both; so it is commutative, associative and idempotent.
+pub record IsLeastJoin : Type 0 where
+  pub itself : (x : Replica) → Below x x
+  pub trans : (x y z : Replica) → Below x y → Below y z → Below x z
+  pub antisym : (x y : Replica) → Below x y → Below y x → x.at ≡ y.at
+  pub first : (x y : Replica) → Below x (join x y)
+  pub second : (x y : Replica) → Below y (join x y)
+  pub least : (x y z : Replica) → Below x z → Below y z → Below (join x y) z
+  pub comm : (x y : Replica) → (join x y).at ≡ (join y x).at
+  pub assoc : (x y z : Replica) → join (join x y) z ≡ join x (join y z)
+  pub idem : (x : Replica) → join x x ≡ x
+
+-- entries that a row holds from number n on, none of whose floors is lower than the one before
+abbrev pub IsRun : (ℕ → Held Logged) → (n floor : ℕ) → List Logged → Type 0
+IsRun row n floor [] = ⊤
+IsRun row n floor (e ∷ es) = (row n ≡ Some (One e)) × (floor ≤ e.floor) × IsRun row (suc n) e.floor es
+
+-- The sound beginning is such a run from number 1 on, and each such run begins it.
+abbrev pub IsLongestRun : Type 0
+IsLongestRun =
+    (x : Replica) → IsReplica x → (k : ℕ)
+    → IsRun (x.at k) 1 0 (sound_beginning x k) × ((es : List Logged) → IsRun (x.at k) 1 0 es → (rest : List Logged) × (es ++ rest ≡ sound_beginning x k))
+
+-- What is held after an entry was joined in, and after a merge.
+pub record IsHeldAfter : Type 0 where
+  pub same : (x : Replica) (k n : ℕ) (e : Logged) → (with_entry x k n e).at k n ≡ held_join entry_eq (x.at k n) (Some (One e))
+  pub other : (x : Replica) (k n : ℕ) (e : Logged) (k' n' : ℕ) → ((k' ≡ k) × (n' ≡ n) → ⊥) → (with_entry x k n e).at k' n' ≡ x.at k' n'
+  pub joined : (x y : Replica) (k n : ℕ) → (join x y).at k n ≡ held_join entry_eq (x.at k n) (y.at k n)
+
+-- Replicas agree exactly where neither has anything torn and no key has two entries.
+abbrev pub IsAgreement : Type 0
+IsAgreement =
+    (x y : Replica)
+    → Agree x y ↔ (Untorn x × Untorn y × ((k n : ℕ) (e f : Logged) → x.at k n ≡ Some (One e) → y.at k n ≡ Some (One f) → e ≡ f))
+
+-- A replica that is below one with nothing torn agrees with it.
+abbrev pub BelowAgrees : Type 0
+BelowAgrees = (x y : Replica) → Below x y → Untorn y → Agree x y
+
+-- Replicas of as many processors that agree say the same at a slot below both frontiers.
+abbrev pub SayTheSame : Type 0
+SayTheSame =
+    (x y : Replica) → IsReplica x → IsReplica y → x.processors ≡ y.processors → Agree x y
+    → (slot : ℕ) → slot < frontier x → slot < frontier y → said x slot ≡ said y slot
+
+-- A replica that holds more, with nothing torn, has no lower mark, and no lower frontier where it has as many processors.
+pub record MarksNeverFall : Type 0 where
+  pub mark : (x y : Replica) → IsReplica y → Below x y → Untorn y → (k : ℕ) → mark x k ≤ mark y k
+  pub frontier : (x y : Replica) → IsReplica y → x.processors ≡ y.processors → Below x y → Untorn y → frontier x ≤ frontier y
+
+-- No key is listed as torn exactly where the test finds none, and exactly where nothing is torn.
+pub record IsTornTest : Type 0 where
+  pub listed : (x : Replica) → (torn_keys x ≡ []) ↔ (has_torn x ≡ false)
+  pub held : (x : Replica) → IsReplica x → ((has_torn x ≡ false) ↔ Untorn x)
+
+-- What is offered takes nothing away, changes no shape, and leaves a replica a replica.
+pub record OfferedStays : Type 0 where
+  pub taken_above : (x : Replica) (k n : ℕ) (e : Logged) → Below x (taken x k n e)
+  pub taken_shape : (x : Replica) (k n : ℕ) (e : Logged) → ((taken x k n e).processors ≡ x.processors) × ((taken x k n e).capacity ≡ x.capacity)
+  pub taken_replica : (x : Replica) (k n : ℕ) (e : Logged) → IsReplica x → IsEntry e → IsReplica (taken x k n e)
+  pub absorbed_above : (x y : Replica) → Below x (absorbed x y)
+  pub absorbed_shape : (x y : Replica) → ((absorbed x y).processors ≡ x.processors) × ((absorbed x y).capacity ≡ x.capacity)
+  pub absorbed_replica : (x y : Replica) → IsReplica x → IsReplica y → IsReplica (absorbed x y)

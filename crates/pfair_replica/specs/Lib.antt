@@ -1,0 +1,6 @@
+pub mod Faults
+pub mod HeldAfter
+pub mod HeldRows
+pub mod Laws
+pub mod Offered
+pub mod Replica

@@ -1,0 +1,55 @@
+//! The laws of replicas: of their order and their join, of sound beginnings, marks and the frontier, and of what is torn.
+//!
+//! Each function does nothing: its contract is the law, over every replica that there can be.
+ghost use Rattle.pfair_replica.specs.Laws.{IsLeastJoin, IsLongestRun, IsHeldAfter, IsAgreement, BelowAgrees, SayTheSame, MarksNeverFall, IsTornTest, OfferedStays};
+ghost use Rattle.pfair_replica.specs.HeldRows.{IsKnownByHeld};
+
+/// The order of replicas is an order, and a merge is the least that holds both; so it is commutative, associative and idempotent.
+pub fn least_join()
+    ensures { IsLeastJoin }
+{}
+
+/// Replicas of one shape that hold the same at every key are one.
+pub fn known_by_held()
+    ensures { IsKnownByHeld }
+{}
+
+/// What is held at each key after an entry was joined in, and after a merge.
+pub fn held_after()
+    ensures { IsHeldAfter }
+{}
+
+/// What is offered, refused or not, takes nothing away, changes no shape and leaves a replica a replica.
+pub fn offered_stays()
+    ensures { OfferedStays }
+{}
+
+/// Replicas agree exactly where neither has anything torn and no key has two entries.
+pub fn agreement()
+    ensures { IsAgreement }
+{}
+
+/// A replica that is below one with nothing torn agrees with it.
+pub fn below_agrees()
+    ensures { BelowAgrees }
+{}
+
+/// A sound beginning is the longest run of held entries whose floors never fall.
+pub fn longest_run()
+    ensures { IsLongestRun }
+{}
+
+/// A replica that holds more, with nothing torn, has no lower mark and no lower frontier.
+pub fn marks_never_fall()
+    ensures { MarksNeverFall }
+{}
+
+/// Replicas that agree say the same at every slot below both frontiers.
+pub fn say_the_same()
+    ensures { SayTheSame }
+{}
+
+/// No key is listed as torn exactly where nothing is torn.
+pub fn torn_test()
+    ensures { IsTornTest }
+{}

@@ -1,0 +1,365 @@
+//! What one dispatcher holds of the logs of all processors.
+//!
+//! A replica is a finite map from keys, a processor and a number, to one entry or the mark that two different ones met there (torn). It
+//! only grows, and replicas merge by joins, as replicated data types do (Shapiro, Preguiça, Baquero and Zawirski, 2011). How far each
+//! processor has committed itself is read off its sound beginning: the longest run of its entries 1, 2, 3 and so on that is held, none of
+//! them torn, whose floors never fall.
+ghost use Rattle.std.specs.Prelude.{◌≡◌, ◌≤◌, ◌↔◌, ◌++◌, ℕ, length, slice_get, is_some, IsTrue, IfOk, IfErr, OnOk, OnErr, Ok, Err, Some};
+ghost use Rattle.pfair_lattice.specs.declared.flat.Flat.TheVariants.{One};
+ghost use Rattle.pfair_entry.specs.Entry.{Logged, IsEntry};
+ghost use Rattle.pfair_replica.specs.Replica.{IsReplica, join, with_entry, empty_replica, Below, goes_on, sound_beginning, mark, frontier, missing, IsLeastMissing, said_by, said_in, said, is_torn, has_torn, torn_in, torn_keys, fallen_in, fallen_keys};
+ghost use Rattle.pfair_replica.specs.Offered.{taken, absorbed};
+ghost use Rattle.pfair_replica.specs.HeldRows.{held, replica_of, IsHeldRows, IsShape, SameShape};
+ghost use Rattle.pfair_replica.specs.Faults.{IsKeyOf, IsTakenAs, IsTakeFaultOf, IsMergeFaultOf, IsPartlyMerged};
+
+use crate::answer::{MergeFault, TakeFault, Taken};
+use crate::key::{EntryKey, Faults};
+use crate::rows::{Rows, empty_rows, put_entry, row_le};
+use pfair_entry::{Entry, Said};
+use pfair_lattice::{Flat, Join};
+use std::alloc::{AllocError, Global};
+use std::marker::Model;
+
+/// What one dispatcher holds of the logs of all processors: 1 to 64 processors, counted from 0, and 1 to 4,096 entries in each log,
+/// counted from 1.
+#[derive(Drop)]
+pub struct Replica {
+    processors: u8,
+    capacity: u32,
+    rows: Rows,
+    alloc: Global,
+}
+
+impl Model for Replica {
+    ghost use Rattle.pfair_replica.specs.HeldRows.{HeldRows, IsHeldRows};
+
+    ghost Value = { HeldRows };
+
+    ghost view = { λ x. record { processors = x.processors; capacity = x.capacity; rows = x.rows } };
+
+    ghost invariant = { λ x. IsHeldRows (record { processors = x.processors; capacity = x.capacity; rows = x.rows }) };
+}
+
+impl Replica {
+    /// The replica of so many processors, with room for so many entries in each log, that holds nothing.
+    ///
+    /// # Errors
+    /// `AllocError` where memory was wanted and refused.
+    pub fn new(alloc: Global, processors: u8, capacity: u32) -> Result<Replica, AllocError>
+        requires { IsShape processors capacity }
+        ensures { IfOk result (λ x. replica_of x ≡ empty_replica processors capacity) }
+    {
+        let rows = empty_rows(alloc, processors)?;
+        Ok(Replica {
+            processors,
+            capacity,
+            rows,
+            alloc,
+        })
+    }
+
+    /// How many processors there are.
+    pub fn processors(&self) -> u8
+        ensures value { result ≡ self.now.processors }
+        ensures rows { IsHeldRows self.now }
+    {
+        self.processors
+    }
+
+    /// How many entries a log can have; no number is greater.
+    pub fn capacity(&self) -> u32
+        ensures value { result ≡ self.now.capacity }
+        ensures rows { IsHeldRows self.now }
+    {
+        self.capacity
+    }
+
+    /// What is held at a key: one entry, `Torn`, or `None`. A key that the replica hasn't room for holds nothing.
+    pub fn get(&self, processor: u8, number: u32) -> Option<Flat<Entry>>
+        ensures value { result ≡ held self.now processor number }
+        ensures entry { (e : Logged) → result ≡ Some (One e) → IsEntry e }
+    {
+        match self.rows.get(&processor) {
+            Some(row) => row.get(&number).copied(),
+            None => None,
+        }
+    }
+
+    /// Takes one entry in, and answers what it met there. What is held afterwards is the join with it.
+    ///
+    /// # Errors
+    /// The first of these that applies, and then nothing is changed: `NoSuchProcessor`, `NumberOutOfRange`, and `Memory`, which comes only
+    /// where nothing was held at the key.
+    pub fn take(&mut self, processor: u8, number: u32, entry: Entry) -> Result<Taken, TakeFault>
+        ensures taken { OnOk result (replica_of self.new ≡ with_entry (replica_of self.old) processor number entry) }
+        ensures answer { IfOk result (IsTakenAs (held self.old processor number) entry) }
+        ensures key { OnOk result (IsKeyOf self.old processor number) }
+        ensures fault { IfErr result (IsTakeFaultOf self.old processor number) }
+        ensures unchanged { OnErr result (self.new ≡ self.old) }
+        ensures offered { (result ≡ Err TakeFault.Memory → ⊥) → replica_of self.new ≡ taken (replica_of self.old) processor number entry }
+        ensures grows { Below (replica_of self.old) (replica_of self.new) }
+        ensures shape { SameShape self.old self.new }
+    {
+        if processor >= self.processors {
+            return Err(TakeFault::NoSuchProcessor);
+        }
+        if number == 0 || number > self.capacity {
+            return Err(TakeFault::NumberOutOfRange);
+        }
+        let _floor = entry.floor();
+        let taken = match self.get(processor, number) {
+            None => Taken::New,
+            Some(held) if held == Flat::One(entry) => Taken::Known,
+            Some(_) => Taken::Torn,
+        };
+        put_entry(&mut self.rows, processor, number, entry)?;
+        Ok(taken)
+    }
+
+    /// Merges the other in: afterwards each key holds what either held, the common entry, or `Torn`.
+    ///
+    /// # Errors
+    /// `OtherShape` where the other has another number of processors or another capacity, and then nothing is changed. `Memory` where
+    /// memory was wanted and refused, which comes only where the other holds something that this replica lacks: then a part of the
+    /// other is merged in, and merging it again gives what one merge would have given.
+    pub fn merge(&mut self, other: &Replica) -> Result<(), MergeFault>
+        ensures merged { OnOk result (replica_of self.new ≡ join (replica_of self.old) (replica_of other.now)) }
+        ensures same_shape { OnOk result (SameShape self.old other.now) }
+        ensures fault { IfErr result (IsMergeFaultOf self.old other.now) }
+        ensures unchanged { result ≡ Err MergeFault.OtherShape → self.new ≡ self.old }
+        ensures partly { OnErr result (IsPartlyMerged (replica_of self.old) (replica_of other.now) (replica_of self.new)) }
+        ensures offered { (result ≡ Err MergeFault.Memory → ⊥) → replica_of self.new ≡ absorbed (replica_of self.old) (replica_of other.now) }
+        ensures grows { Below (replica_of self.old) (replica_of self.new) }
+        ensures within { Below (replica_of self.new) (join (replica_of self.old) (replica_of other.now)) }
+        ensures shape { SameShape self.old self.new }
+    {
+        if self.processors != other.processors || self.capacity != other.capacity {
+            return Err(MergeFault::OtherShape);
+        }
+        self.rows.join(&other.rows)?;
+        Ok(())
+    }
+
+    /// A second replica that is equal to this one.
+    ///
+    /// # Errors
+    /// `AllocError` where memory was wanted and refused.
+    pub fn copy(&self) -> Result<Replica, AllocError>
+        ensures { IfOk result (λ copy. copy ≡ self.now) }
+    {
+        Ok(Replica {
+            processors: self.processors,
+            capacity: self.capacity,
+            rows: self.rows.copy()?,
+            alloc: self.alloc,
+        })
+    }
+
+    /// The slot up to which a processor has committed itself: the last floor of its sound beginning, or 0 where that is empty.
+    pub fn mark(&self, processor: u8) -> u64
+        ensures { result ≡ mark (replica_of self.now) processor }
+    {
+        self.sound_beginning(processor).1
+    }
+
+    /// The least mark of all processors: below this slot every announcement is known.
+    pub fn frontier(&self) -> u64
+        ensures value { result ≡ frontier (replica_of self.now) }
+        ensures replica { IsReplica (replica_of self.now) }
+    {
+        let mut least = self.mark(0);
+        for processor in 0..self.processors {
+            least = least.min(self.mark(processor));
+        }
+        least
+    }
+
+    /// Whether each key that is held here is held there, with the same content or torn.
+    pub fn le(&self, other: &Replica) -> bool
+        ensures { IsTrue result ↔ Below (replica_of self.now) (replica_of other.now) }
+    {
+        for processor in 0..self.processors {
+            if !row_le(&self.rows, &other.rows, processor) {
+                return false;
+            }
+        }
+        true
+    }
+
+    /// The least number of a processor's log that isn't held, or `None` where all are. What is torn is held.
+    pub fn missing(&self, processor: u8) -> Option<u32>
+        ensures value { result ≡ missing (replica_of self.now) processor }
+        ensures least { IsLeastMissing (replica_of self.now) processor result }
+    {
+        for before in 0..self.capacity {
+            if self.get(processor, before + 1).is_none() {
+                return Some(before + 1);
+            }
+        }
+        None
+    }
+
+    /// The least torn key, or `None` where nothing is torn.
+    pub fn first_torn(&self) -> Option<EntryKey>
+        ensures key { result ≡ slice_get (torn_keys (replica_of self.now)) 0 }
+        ensures some { is_some result ≡ has_torn (replica_of self.now) }
+        ensures replica { IsReplica (replica_of self.now) }
+    {
+        for processor in 0..self.processors {
+            if let Some(key) = self.first_torn_of(processor) {
+                return Some(key);
+            }
+        }
+        None
+    }
+
+    /// The announcements stamped with a slot in the sound beginnings, in order of processors, and of numbers for each processor.
+    ///
+    /// # Errors
+    /// `AllocError` where memory was wanted and refused.
+    pub fn said(&self, slot: u64) -> Result<Vec<Said>, AllocError>
+        ensures heard { IfOk result (λ heard. heard.items ≡ said (replica_of self.now) slot) }
+        ensures replica { IsReplica (replica_of self.now) }
+    {
+        let mut heard = Vec::new(self.alloc);
+        for processor in 0..self.processors {
+            self.push_said(processor, slot, &mut heard)?;
+        }
+        Ok(heard)
+    }
+
+    /// What is wrong with the logs: every torn key, and every entry that ends a sound beginning by a floor that fell.
+    ///
+    /// # Errors
+    /// `AllocError` where memory was wanted and refused.
+    pub fn faults(&self) -> Result<Faults, AllocError>
+        ensures torn { IfOk result (λ faults. faults.torn.items ≡ torn_keys (replica_of self.now)) }
+        ensures fallen { IfOk result (λ faults. faults.fallen.items ≡ fallen_keys (replica_of self.now)) }
+    {
+        let mut torn = Vec::new(self.alloc);
+        let mut fallen = Vec::new(self.alloc);
+        for processor in 0..self.processors {
+            self.push_torn(processor, &mut torn)?;
+            self.push_fallen(processor, &mut fallen)?;
+        }
+        Ok(Faults { torn, fallen })
+    }
+
+    /// Adds the torn keys of a processor.
+    fn push_torn(&self, processor: u8, torn: &mut Vec<EntryKey>) -> Result<(), AllocError>
+        ensures { OnOk result (torn.new.items ≡ torn.old.items ++ torn_in (replica_of self.now) processor) }
+    {
+        for before in 0..self.capacity {
+            let number = before + 1;
+            if let Some(Flat::Torn) = self.get(processor, number) {
+                torn.push(EntryKey { processor, number })?;
+            }
+        }
+        Ok(())
+    }
+
+    /// Adds the entry right after the sound beginning of a processor, where it has a lower floor.
+    fn push_fallen(&self, processor: u8, fallen: &mut Vec<EntryKey>) -> Result<(), AllocError>
+        ensures { OnOk result (fallen.new.items ≡ fallen.old.items ++ fallen_in (replica_of self.now) processor) }
+    {
+        let (count, mark) = self.sound_beginning(processor);
+        let number = count + 1;
+        match self.get(processor, number) {
+            Some(Flat::One(entry)) => {
+                if entry.floor() < mark {
+                    fallen.push(EntryKey { processor, number })?;
+                }
+            }
+            Some(Flat::Torn) => {}
+            None => {}
+        }
+        Ok(())
+    }
+
+    /// How many entries the sound beginning of a processor has, and its last floor.
+    fn sound_beginning(&self, processor: u8) -> (u32, u64)
+        ensures count { result.0 ≡ length (sound_beginning (replica_of self.now) processor) }
+        ensures within { result.0 ≤ 4096 }
+        ensures mark { result.1 ≡ mark (replica_of self.now) processor }
+    {
+        let mut floor = 0;
+        for before in 0..self.capacity {
+            match self.going_on(processor, before + 1, floor) {
+                Some(entry) => floor = entry.floor(),
+                None => return (before, floor),
+            }
+        }
+        (self.capacity, floor)
+    }
+
+    /// The entry that goes on a run with this last floor.
+    fn going_on(&self, processor: u8, number: u32, floor: u64) -> Option<Entry>
+        ensures { result ≡ goes_on (held self.now processor number) floor }
+    {
+        match self.get(processor, number) {
+            Some(Flat::One(entry)) if floor <= entry.floor() => Some(entry),
+            _ => None,
+        }
+    }
+
+    /// Adds what a processor says at a slot in its sound beginning.
+    fn push_said(&self, processor: u8, slot: u64, heard: &mut Vec<Said>) -> Result<(), AllocError>
+        ensures { OnOk result (heard.new.items ≡ heard.old.items ++ said_in slot processor 1 (sound_beginning (replica_of self.now) processor)) }
+    {
+        let mut floor = 0;
+        for before in 0..self.capacity {
+            match self.going_on(processor, before + 1, floor) {
+                Some(entry) => {
+                    floor = entry.floor();
+                    push_said_by(processor, before + 1, entry, slot, heard)?;
+                }
+                None => return Ok(()),
+            }
+        }
+        Ok(())
+    }
+
+    /// The least torn key of a processor.
+    fn first_torn_of(&self, processor: u8) -> Option<EntryKey>
+        ensures { result ≡ slice_get (torn_in (replica_of self.now) processor) 0 }
+    {
+        for before in 0..self.capacity {
+            if self.is_torn(processor, before + 1) {
+                return Some(EntryKey {
+                    processor,
+                    number: before + 1,
+                });
+            }
+        }
+        None
+    }
+
+    /// Whether a key is torn.
+    fn is_torn(&self, processor: u8, number: u32) -> bool
+        ensures { result ≡ is_torn (held self.now processor number) }
+    {
+        matches!(self.get(processor, number), Some(Flat::Torn))
+    }
+}
+
+/// Adds what an entry says at a slot.
+fn push_said_by(
+    processor: u8,
+    number: u32,
+    entry: Entry,
+    slot: u64,
+    heard: &mut Vec<Said>,
+) -> Result<(), AllocError>
+    ensures { OnOk result (heard.new.items ≡ heard.old.items ++ said_by slot processor number entry.said) }
+{
+    if let Some((stamp, announcement)) = entry.said() {
+        if stamp == slot {
+            heard.push(Said {
+                processor,
+                number,
+                announcement,
+            })?;
+        }
+    }
+    Ok(())
+}

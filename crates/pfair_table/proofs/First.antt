@@ -1,0 +1,254 @@
+-- The first keys of the ready structure are the first eligible subtasks of the members.
+use Rattle.std.proofs.Common.{ℕ, ◌+◌, ◌≤◌, ◌≡◌, refl, sym, ap, ◌∙◌, subst, arith, inl, inr, Bool, true, false, cond, List, [], ◌∷◌, Option, Some, None}
+use Rattle.std.specs.Prelude.{T, ◌⊎◌, ◌&&◌, IsTrue, map, filter, not, nat_le, count_by, if◌then◌else◌}
+use Rattle.std.specs.List.{AllByRecursion}
+use Rattle.std.specs.declared.cmp.Ordering.{Ordering}
+use Rattle.std.specs.declared.cmp.Ordering.TheVariants.{Less, Equal, Greater}
+use Rattle.std.specs.Ordering.{is_eq, is_lt, eq_by_cmp, ordering_reverse}
+use Rattle.std.specs.Cmp.{tied_itself}
+use Rattle.std.proofs.lemmas.Cmp.{nat_list_cmp_total}
+use Rattle.std.proofs.lemmas.Map.Lookups.{exact_bytes}
+use Rattle.std.specs.FinMap as finmap
+use Rattle.std.specs.FinMap.{get-retain_keys, get-entries, entries_sorted, entries}
+use Rattle.std.specs.FinMap.Entries as listed
+use Rattle.std.proofs.lemmas.Bool.{true≢false, false_from_ne_true, and_parts, and_from, not-true}
+use Rattle.pfair_ready.specs.Names.{NameValue as Name}
+use Rattle.pfair_order.specs.declared.Key.{Key}
+use Rattle.pfair_ready.specs.Names.{name_cmp}
+use Rattle.pfair_table.specs.Ranks.{before}
+use Rattle.pfair_entry.specs.Same.{name_eq}
+use Rattle.pfair_entry.specs.Exact.{name_exact, name_itself}
+use Rattle.pfair_table.specs.Lists.{Among, Apart}
+use Rattle.pfair_table.specs.Ranks.{rank}
+use Rattle.pfair_table.specs.Ranks.{first_by_rank}
+use Rattle.pfair_ready.specs.Waiting.{Held, released, without}
+use Rattle.pfair_table.proofs.Ranks.{count_cons, among_filter, among_map, among_all, apart_filter, apart_map, among_first, rising_first, apart_first}
+use Rattle.pfair_table.proofs.Cut.{same_rising, first_among, filter_among}
+use Rattle.pfair_admission.specs.Member.{Member, is_departing, eligible_from, next_key}
+use Rattle.pfair_admission.specs.Admission.{member_named}
+use Rattle.pfair_table.specs.Table.{eligible, is_eligible}
+use Rattle.pfair_table.specs.Queue.{queued, IsQueue, IsQueueWithout, MayRun, Named, has_key_of}
+use Rattle.pfair_table.proofs.Queues.{found_named}
+
+-- ---- two lists of the same keys have the same first
+
+module _ (xs0 : List Key) where
+  taken_out : (ys : List Key) (x : Key) → Among ys x → (rest : List Key) × ((p : Key → Bool) → count_by p ys ≡ cond (p x) 1 0 + count_by p rest) × ((y : Key) → Among ys y → (y ≡ x) ⊎ Among rest y)
+  taken_out [] x h = absurd h
+  taken_out (y ∷ ys) x (inl e) = (ys, λ p. count_cons p y ys ∙ ap (λ z. cond (p z) 1 0 + count_by p ys) (sym e), λ z h. elim h [ inl i ↦ inl (i ∙ sym e) | inr j ↦ inr j ])
+  taken_out (y ∷ ys) x (inr h) =
+      let t = taken_out ys x h in (
+        y ∷ t.0,
+        λ p. (let a = count_cons p y ys in let b = t.1 p in let c = count_cons p y t.0 in omega (arith, a, b, c)),
+        λ z i. elim i [ inl e ↦ inr (inl e) | inr j ↦ elim (t.2 z j) [ inl e ↦ inl e | inr k ↦ inr (inr k) ] ],
+      )
+
+count_below : (p : Key → Bool) (xs ys : List Key) → Apart (λ (k : Key). k.name) xs → ((x : Key) → Among xs x → Among ys x) → count_by p xs ≤ count_by p ys
+count_below p [] ys a f = omega arith
+count_below p (x ∷ xs) ys a f =
+    let t = taken_out [] ys x (f x (inl refl)) in
+    let le = count_below p xs t.0 a.1 (λ z h. elim (t.2 z (f z (inr h))) [ inl e ↦ absurd (a.0 z h (ap (λ (k : Key). k.name) (sym e))) | inr i ↦ i ]) in
+    let c = count_cons p x xs in
+    let d = t.1 p in
+    omega (arith, le, c, d)
+
+pub first_same : (m : ℕ) (xs ys : List Key) → Apart (λ (k : Key). k.name) xs → Apart (λ (k : Key). k.name) ys → ((k : Key) → Among xs k → Among ys k) → ((k : Key) → Among ys k → Among xs k) → first_by_rank m xs ≡ first_by_rank m ys
+first_same m xs ys a b f g =
+    same_rising (first_by_rank m xs) (first_by_rank m ys) (rising_first xs a m) (rising_first ys b m)
+    (λ k h. (let t = among_first xs a m k h in let less = t.1 in let same = ranks k in first_among ys m k (f k t.0) (omega (arith, less, same))))
+    (λ k h. (let t = among_first ys b m k h in let less = t.1 in let same = ranks k in first_among xs m k (g k t.0) (omega (arith, less, same))))
+  where
+    ranks : (k : Key) → rank xs k ≡ rank ys k
+    ranks k =
+        (let up = count_below (λ l. before l k) xs ys a f in
+        let down = count_below (λ l. before l k) ys xs b g in omega (arith, up, down))
+
+-- ---- members by name
+
+found_among : (members : List Member) (name : Name) (m : Member) → member_named members name ≡ Some m → Among members m
+found_among [] name m e = absurd (none_some m e)
+  where
+    none_some : (m : Member) → None ≡ Some m → ⊥
+    none_some m e = cc
+found_among (x ∷ members) name m e = by (name_eq name x.name) e (found_among members name m)
+  where
+    one : (x m : Member) → Some x ≡ Some m → m ≡ x
+    one x m e = cc
+
+    by : (b : Bool) → cond b (Some x) (member_named members name) ≡ Some m → (member_named members name ≡ Some m → Among members m) → Among (x ∷ members) m
+    by true e more = inl (one x m e)
+    by false e more = inr (more e)
+
+found_own : (members : List Member) → Named members → (m : Member) → Among members m → member_named members m.name ≡ Some m
+found_own [] a m h = absurd h
+found_own (x ∷ members) a m (inl e) = ap (λ b. cond b (Some x) (member_named members m.name)) (ap (λ (y : Member). name_eq m.name y.name) (sym e) ∙ name_itself m.name) ∙ ap Some (sym e)
+found_own (x ∷ members) a m (inr h) =
+    ap (λ b. cond b (Some x) (member_named members m.name)) (false_from_ne_true (name_eq m.name x.name) (λ e. a.0 m h (sym (name_exact m.name x.name e))))
+    ∙ found_own members a.1 m h
+
+-- ---- what is queued
+
+pub record IsQueued (o : Option Member) (from : ℕ) (key : Key) : Type 0 where
+  pub m : Member
+  pub found : o ≡ Some m
+  pub stays : is_departing m ≡ false
+  pub from_is : from ≡ eligible_from m m.next
+  pub key_is : key ≡ next_key m
+
+abbrev next_of : Member → ℕ × Key
+next_of m = (eligible_from m m.next, next_key m)
+
+queued_is : (o : Option Member) (from : ℕ) (key : Key) → queued o ≡ Some (from, key) → IsQueued o from key
+queued_is None from key e = absurd (none_some (from, key) e)
+  where
+    none_some : (e : ℕ × Key) → None ≡ Some e → ⊥
+    none_some e h = cc
+queued_is (Some m) from key e = by (is_departing m) refl e
+  where
+    none_some : (e : ℕ × Key) → None ≡ Some e → ⊥
+    none_some e h = cc
+
+    one : (d e : ℕ × Key) → Some d ≡ Some e → e ≡ d
+    one d e h = cc
+
+    by : (b : Bool) → is_departing m ≡ b → cond b None (Some (next_of m)) ≡ Some (from, key) → IsQueued (Some m) from key
+    by true p h = absurd (none_some (from, key) h)
+    by false p h = (let s = one (eligible_from m m.next, next_key m) (from, key) h in record { m = m; found = refl; stays = p; from_is = ap (λ (d : ℕ × Key). d.0) s; key_is = ap (λ (d : ℕ × Key). d.1) s })
+
+-- ---- the entries of a finite map
+
+is_true : (b : Bool) → T b → b ≡ true
+is_true true h = refl
+is_true false h = absurd h
+
+abbrev Named_entry : Type 0
+Named_entry = Name × (ℕ × Key)
+
+lt_parts : (a b : Bool) → IsTrue (a && b) → IsTrue a × IsTrue b
+lt_parts a b h = and_parts a b h
+
+below_each : (name : Name) (es : List Named_entry) → IsTrue (listed.below_all name_cmp name es) → (e : Named_entry) → Among es e → is_lt (name_cmp name e.0) ≡ true
+below_each name [] h e i = absurd i
+below_each name (d ∷ es) h e (inl i) = ap (λ (f : Named_entry). is_lt (name_cmp name f.0)) i ∙ (and_parts _ _ h).0
+below_each name (d ∷ es) h e (inr i) = below_each name es (and_parts _ _ h).1 e i
+
+not_tied : (a b : Name) → is_lt (name_cmp a b) ≡ true → eq_by_cmp name_cmp b a ≡ false
+not_tied a b h = ap is_eq (nat_list_cmp_total.antisymm b a) ∙ less (name_cmp a b) h
+  where
+    less : (r : Ordering) → is_lt r ≡ true → is_eq (ordering_reverse r) ≡ false
+    less Less e = refl
+    less Equal e = absurd (true≢false (sym e))
+    less Greater e = absurd (true≢false (sym e))
+
+entry_found : (es : List Named_entry) → IsTrue (listed.is_sorted name_cmp es) → (e : Named_entry) → Among es e → listed.find name_cmp e.0 es ≡ Some e.1
+entry_found [] s e h = absurd h
+entry_found (d ∷ es) s e (inl i) =
+    ap (λ b. cond b (Some d.1) (listed.find name_cmp e.0 es)) (ap (λ (f : Named_entry). eq_by_cmp name_cmp e.0 f.0) (sym i) ∙ ap is_eq (tied_itself nat_list_cmp_total e.0)) ∙ ap (λ (f : Named_entry). Some f.1) (sym i)
+entry_found (d ∷ es) s e (inr h) =
+    ap (λ b. cond b (Some d.1) (listed.find name_cmp e.0 es)) (not_tied d.0 e.0 (below_each d.0 es (and_parts _ _ s).0 e h)) ∙ entry_found es (and_parts _ _ s).1 e h
+
+entry_among : (es : List Named_entry) (name : Name) (v : ℕ × Key) → listed.find name_cmp name es ≡ Some v → Among (map (λ (e : Named_entry). e.1) es) v
+entry_among [] name v e = absurd (none_some v e)
+  where
+    none_some : (e : ℕ × Key) → None ≡ Some e → ⊥
+    none_some e h = cc
+entry_among (d ∷ es) name v e = by (eq_by_cmp name_cmp name d.0) e (entry_among es name v)
+  where
+    one : (d e : ℕ × Key) → Some d ≡ Some e → e ≡ d
+    one d e h = cc
+
+    by : (b : Bool) → cond b (Some d.1) (listed.find name_cmp name es) ≡ Some v → (listed.find name_cmp name es ≡ Some v → Among (map (λ (e : Named_entry). e.1) es) v) → Among (d.1 ∷ map (λ (e : Named_entry). e.1) es) v
+    by true e more = inl (one d.1 v e)
+    by false e more = inr (more e)
+
+-- where each entry's key has the entry's name, no two keys have one name
+entries_apart : (es : List Named_entry) → IsTrue (listed.is_sorted name_cmp es) → ((e : Named_entry) → Among es e → e.1.1.name ≡ e.0) → Apart (λ (e : Named_entry). e.1.1.name) es
+entries_apart [] s own = tt
+entries_apart (d ∷ es) s own = (
+  λ e h same. true≢false (sym (ap is_eq (ap (name_cmp e.0) (sym (own d (inl refl)) ∙ same ∙ own e (inr h)) ∙ tied_itself nat_list_cmp_total e.0)) ∙ not_tied d.0 e.0 (below_each d.0 es (and_parts _ _ s).0 e h)),
+  entries_apart es (and_parts _ _ s).1 (λ e h. own e (inr h)),
+)
+
+-- ---- the two lists
+
+module _ (n : ℕ) (members : List Member) (waiting : Held) (named : Named members) (queue : IsQueue members waiting) where
+  held_is : (e : Named_entry) → Among (entries waiting) e → IsQueued (member_named members e.0) e.1.0 e.1.1
+  held_is e h = queued_is (member_named members e.0) e.1.0 e.1.1 (sym (queue e.0) ∙ get-entries waiting e.0 ∙ entry_found (entries waiting) (is_true _ (entries_sorted waiting)) e h)
+
+  own_name : (e : Named_entry) → Among (entries waiting) e → e.1.1.name ≡ e.0
+  own_name e h = let q = held_is e h in ap (λ (k : Key). k.name) q.key_is ∙ found_named members e.0 q.m q.found
+
+  released_apart : Apart (λ (k : Key). k.name) (released n waiting)
+  released_apart =
+      apart_map (λ (e : ℕ × Key). e.1.name) (λ (k : Key). k.name) (λ (e : ℕ × Key). e.1) (λ e. refl) (filter (λ (e : ℕ × Key). nat_le e.0 n) (finmap.values waiting))
+      (apart_filter (λ (e : ℕ × Key). e.1.name) (λ (e : ℕ × Key). nat_le e.0 n) (finmap.values waiting)
+      (apart_map (λ (e : Named_entry). e.1.1.name) (λ (e : ℕ × Key). e.1.name) (λ (e : Named_entry). e.1) (λ e. refl) (entries waiting) (entries_apart (entries waiting) (is_true _ (entries_sorted waiting)) own_name)))
+
+  pub eligible_apart : Apart (λ (k : Key). k.name) (eligible n members)
+  eligible_apart = apart_map (λ (m : Member). m.name) (λ (k : Key). k.name) next_key (λ m. refl) (filter (is_eligible n) members) (apart_filter (λ (m : Member). m.name) (is_eligible n) members named)
+
+  released_eligible : (k : Key) → Among (released n waiting) k → Among (eligible n members) k
+  released_eligible k h =
+      let t = among_map (λ (e : ℕ × Key). e.1) (filter (λ (e : ℕ × Key). nat_le e.0 n) (finmap.values waiting)) k h in
+      let u = among_filter (λ (e : ℕ × Key). nat_le e.0 n) (finmap.values waiting) t.0 t.1 in
+      let v = among_map (λ (e : Named_entry). e.1) (entries waiting) t.0 u.0 in
+      let q = held_is v.0 v.1 in
+      let soon : nat_le (eligible_from q.m q.m.next) n ≡ true = ap (λ r. nat_le r n) (sym (ap (λ (e : ℕ × Key). e.0) v.2 ∙ q.from_is)) ∙ u.1 in
+      subst (Among (eligible n members)) (sym (t.2 ∙ ap (λ (e : ℕ × Key). e.1) v.2 ∙ q.key_is))
+      (mapped next_key (filter (is_eligible n) members) q.m
+      (filter_among (is_eligible n) members q.m (found_among members v.0.0 q.m q.found) (and_from (not (is_departing q.m)) (nat_le (eligible_from q.m q.m.next) n) (ap not q.stays) soon)))
+    where
+      mapped : {A B : Type 0} (f : A → B) (xs : List A) (x : A) → Among xs x → Among (map f xs) (f x)
+      mapped f [] x h = absurd h
+      mapped f (y ∷ ys) x (inl e) = inl (ap f e)
+      mapped f (y ∷ ys) x (inr h) = inr (mapped f ys x h)
+
+  pub eligible_member : (k : Key) → Among (eligible n members) k → (m : Member) × Among members m × (k ≡ next_key m) × (is_departing m ≡ false) × (nat_le (eligible_from m m.next) n ≡ true)
+  eligible_member k h =
+      let t = among_map next_key (filter (is_eligible n) members) k h in
+      let u = among_filter (is_eligible n) members t.0 t.1 in
+      let p = and_parts (not (is_departing t.0)) (nat_le (eligible_from t.0 t.0.next) n) u.1 in
+      (t.0, u.0, t.2, not-true (is_departing t.0) p.0, p.1)
+
+  eligible_released : (k : Key) → Among (eligible n members) k → Among (released n waiting) k
+  eligible_released k h =
+      let t = eligible_member k h in
+      let e : ℕ × Key = (eligible_from t.0 t.0.next, next_key t.0) in
+      let got : finmap.get waiting t.0.name ≡ Some e = queue t.0.name ∙ ap queued (found_own members named t.0 t.1) ∙ ap (λ d. if d then None else Some e) t.3 in
+      let held = entry_among (entries waiting) t.0.name e (sym (get-entries waiting t.0.name) ∙ got) in
+      subst (Among (released n waiting)) (sym t.2)
+      (mapped (λ (e : ℕ × Key). e.1) (filter (λ (e : ℕ × Key). nat_le e.0 n) (finmap.values waiting)) e
+      (filter_among (λ (e : ℕ × Key). nat_le e.0 n) (finmap.values waiting) e held t.4))
+    where
+      mapped : {A B : Type 0} (f : A → B) (xs : List A) (x : A) → Among xs x → Among (map f xs) (f x)
+      mapped f [] x h = absurd h
+      mapped f (y ∷ ys) x (inl e) = inl (ap f e)
+      mapped f (y ∷ ys) x (inr h) = inr (mapped f ys x h)
+
+  -- So what the ready structure gives first are the first eligible subtasks.
+  pub first_of_queue : (m : ℕ) → first_by_rank m (released n waiting) ≡ first_by_rank m (eligible n members)
+  first_of_queue m = first_same m (released n waiting) (eligible n members) released_apart eligible_apart released_eligible eligible_released
+
+  pub first_apart : (m : ℕ) (first : List Key) → first ≡ first_by_rank m (released n waiting) → Apart (λ (k : Key). k.name) first
+  first_apart m first is = subst (Apart (λ (k : Key). k.name)) (sym (is ∙ first_of_queue m)) (apart_first (eligible n members) eligible_apart m)
+
+  pub first_may_run : (m : ℕ) (first : List Key) → first ≡ first_by_rank m (released n waiting) → AllByRecursion (λ m. m.next ≤ 1000000) members → (k : Key) → Among first k → MayRun members k
+  first_may_run m first is few k h =
+      let i = (among_first (eligible n members) eligible_apart m k (subst (λ ks. Among ks k) (is ∙ first_of_queue m) h)).0 in
+      let t = eligible_member k i in
+      (t.0, ap (member_named members) (ap (λ (k : Key). k.name) t.2) ∙ found_own members named t.0 t.1, t.3, among_all (λ m. m.next ≤ 1000000) members few t.0 t.1)
+
+-- ---- and the others wait on
+
+turned : {A : Type 0} (b : Bool) (x : Option A) → cond (not b) x None ≡ (if b then None else x)
+turned true x = refl
+turned false x = refl
+
+tied_same : (keys : List Key) (a b : Name) → name_cmp a b ≡ Equal → not (has_key_of b keys) ≡ not (has_key_of a keys)
+tied_same keys a b e = ap (λ (n : Name). not (has_key_of n keys)) (sym (exact_bytes a b e))
+
+pub queue_without : (first : List Key) (members : List Member) (waiting : Held) → IsQueue members waiting → IsQueueWithout first members (without first waiting)
+queue_without first members waiting queue name =
+    get-retain_keys waiting (λ other. not (has_key_of other first)) name (λ other e. tied_same first name other e)
+    ∙ turned (has_key_of name first) (finmap.get waiting name)
+    ∙ ap (λ o. if has_key_of name first then None else o) (queue name)

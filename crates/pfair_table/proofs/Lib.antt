@@ -1,0 +1,15 @@
+pub mod KeyOrder
+pub mod Ranks
+pub mod Cut
+pub mod Members
+pub mod TableLaws
+pub mod Runs
+pub mod Counts
+pub mod Queues
+pub mod Quanta
+pub mod First
+pub mod Slots
+pub mod Steps
+pub mod Keeping
+pub mod Scripts
+pub mod Within

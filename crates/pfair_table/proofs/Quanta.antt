@@ -1,0 +1,141 @@
+-- The loop over the keys that have a quantum.
+use Rattle.std.proofs.Common.{ℕ, zero, suc, ◌+◌, ◌≤◌, ◌<◌, ◌≡◌, refl, sym, ap, ◌∙◌, subst, arith, inl, inr, Bool, true, false, List, [], ◌∷◌, ◌++◌, length, get_or, drop, take, Option, Some, None}
+use Rattle.std.specs.Prelude.{◌≢◌, ◌||◌, map, if◌then◌else◌}
+use Rattle.std.specs.Option.{ForSome, option_map}
+use Rattle.std.specs.FinMap as finmap
+use Rattle.std.proofs.lemmas.List.{map-append}
+use Rattle.std.proofs.lemmas.Bool.{false_from_ne_true, or_parts}
+use Rattle.pfair_ready.specs.Names.{NameValue as Name}
+use Rattle.pfair_order.specs.declared.Key.{Key}
+use Rattle.pfair_entry.specs.Same.{name_eq}
+use Rattle.pfair_entry.specs.Exact.{name_exact}
+use Rattle.pfair_table.specs.Lists.{Among, Apart}
+use Rattle.pfair_ready.specs.Waiting.{Held}
+use Rattle.pfair_admission.specs.Member.{Member}
+use Rattle.pfair_admission.specs.Admission.{member_named, ran, with_quantum}
+use Rattle.pfair_admission.specs.Roster.{Roster}
+use Rattle.pfair_admission.specs.Admission.{running}
+use Rattle.pfair_table.specs.declared.pick.Pick.{Pick}
+use Rattle.pfair_table.specs.Table.{Table, names_task, pick, index_of, all_ran}
+use Rattle.pfair_table.specs.Queue.{queued, IsQueueWithout, IsToldOf, MayRun, has_key_of}
+use Rattle.pfair_table.proofs.Queues.{found_other, drop_item}
+
+label : Key → Name
+label k = k.name
+
+-- the quanta of so many keys are given: the rows, the members, and what waits
+pub record RunSoFar (start : Roster) (first : List Key) (i : ℕ) (roster : Roster) (table : Table) (waiting : Held) : Type 0 where
+  pub rows : table ≡ map (pick start.members) (take i first)
+  pub ran_are : roster ≡ record start { members = all_ran (map (pick start.members) (take i first)) start.members }
+  pub queue : IsQueueWithout (drop i first) roster.members waiting
+
+-- ---- lists
+
+take_item : {A : Type 0} (xs : List A) (i : ℕ) (x : A) → i < length xs → x ≡ get_or xs i x → take (i + 1) xs ≡ take i xs ++ x ∷ []
+take_item {A} xs i x l e = ap (λ n. take n xs) (let n : i + 1 ≡ suc i = omega arith in n) ∙ at xs i l e
+  where
+    at : (xs : List A) (i : ℕ) → i < length xs → x ≡ get_or xs i x → take (suc i) xs ≡ take i xs ++ x ∷ []
+    at [] i l e = absurd (omega (arith, l))
+    at (y ∷ []) zero l e = λ j. sym e j ∷ []
+    at (y ∷ z ∷ ys) zero l e = λ j. sym e j ∷ []
+    at (y ∷ ys) (suc i) l e = ap (λ zs. y ∷ zs) (at ys i (omega (arith, l)) e)
+
+take_drop : {A : Type 0} (i : ℕ) (xs : List A) → take i xs ++ drop i xs ≡ xs
+take_drop zero [] = refl
+take_drop zero (x ∷ xs) = refl
+take_drop (suc i) [] = refl
+take_drop (suc i) (x ∷ xs) = ap (λ ys. x ∷ ys) (take_drop i xs)
+
+among_right : {A : Type 0} (xs ys : List A) (x : A) → Among ys x → Among (xs ++ ys) x
+among_right [] ys x h = h
+among_right (y ∷ xs) ys x h = inr (among_right xs ys x h)
+
+-- around one key the others have other names
+apart_before : (xs : List Key) (k : Key) (ys : List Key) → Apart (λ (k : Key). k.name) (xs ++ k ∷ ys) → has_key_of k.name xs ≡ false
+apart_before [] k ys a = refl
+apart_before (x ∷ xs) k ys a =
+    ap (λ b. b || has_key_of k.name xs) (false_from_ne_true (name_eq k.name x.name) (λ e. a.0 k (among_right xs (k ∷ ys) k (inl refl)) (sym (name_exact k.name x.name e))))
+    ∙ apart_before xs k ys a.1
+
+no_key : (ys : List Key) (name : Name) → ((y : Key) → Among ys y → name ≢ y.name) → has_key_of name ys ≡ false
+no_key [] name f = refl
+no_key (y ∷ ys) name f = ap (λ b. b || has_key_of name ys) (false_from_ne_true (name_eq name y.name) (λ e. f y (inl refl) (name_exact name y.name e))) ∙ no_key ys name (λ z h. f z (inr h))
+
+apart_after : (xs : List Key) (k : Key) (ys : List Key) → Apart (λ (k : Key). k.name) (xs ++ k ∷ ys) → has_key_of k.name ys ≡ false
+apart_after [] k ys a = no_key ys k.name (λ y h. a.0 y h)
+apart_after (x ∷ xs) k ys a = apart_after xs k ys a.1
+
+rows_named : (members : List Member) (name : Name) (keys : List Key) → names_task name (map (pick members) keys) ≡ has_key_of name keys
+rows_named members name [] = refl
+rows_named members name (k ∷ keys) = ap (λ b. name_eq name k.name || b) (rows_named members name keys)
+
+one_some : {A : Type 0} (x y : A) → Some x ≡ Some y → x ≡ y
+one_some x y e = cc
+
+-- ---- members that ran
+
+found_after : (name : Name) (picks : Table) (members : List Member) → names_task name picks ≡ false → member_named (all_ran picks members) name ≡ member_named members name
+found_after name [] members e = refl
+found_after name (p ∷ picks) members e =
+    let parts = or_parts (name_eq name p.name) (names_task name picks) e in
+    found_after name picks (ran p.name members) parts.1 ∙ found_other name p.name with_quantum (λ m. refl) parts.0 members
+
+all_ran_push : (picks : Table) (p : Pick) (members : List Member) → all_ran (picks ++ p ∷ []) members ≡ ran p.name (all_ran picks members)
+all_ran_push [] p members = refl
+all_ran_push (q ∷ picks) p members = all_ran_push picks p (ran q.name members)
+
+module _ (start : Roster) (first : List Key) (apart : Apart (λ (k : Key). k.name) first) (i : ℕ) (key : Key) (inside : i < length first) (item : key ≡ get_or first i key) where
+  split : take i first ++ key ∷ drop (i + 1) first ≡ first
+  split = ap (λ ys. take i first ++ ys) (sym (drop_item first i key inside item)) ∙ take_drop i first
+
+  split_apart : Apart (λ (k : Key). k.name) (take i first ++ key ∷ drop (i + 1) first)
+  split_apart = subst (Apart (λ (k : Key). k.name)) (sym split) apart
+
+  pub key_among : Among first key
+  key_among = subst (λ xs. Among xs key) split (among_right (take i first) (key ∷ drop (i + 1) first) key (inl refl))
+
+  -- its member is as it was at the start
+  pub still_found : (roster : Roster) (table : Table) (waiting : Held) → RunSoFar start first i roster table waiting → member_named roster.members key.name ≡ member_named start.members key.name
+  still_found roster table waiting so =
+      ap (λ (r : Roster). member_named r.members key.name) so.ran_are
+      ∙ found_after key.name (map (pick start.members) (take i first)) start.members
+      (rows_named start.members key.name (take i first) ∙ apart_before (take i first) key (drop (i + 1) first) split_apart)
+
+  -- so it may run
+  pub may_run : (roster : Roster) (table : Table) (waiting : Held) → RunSoFar start first i roster table waiting → MayRun start.members key → ForSome (member_named roster.members key.name) (λ m. m.next ≤ 1000000)
+  may_run roster table waiting so may x e = subst (λ (m : Member). m.next ≤ 1000000) (one_some may.0 x (sym (still_found roster table waiting so ∙ may.1) ∙ e)) may.3
+
+  -- and its index is that of its next subtask
+  pub runs_next : (roster : Roster) (table : Table) (waiting : Held) → RunSoFar start first i roster table waiting → (may : MayRun start.members key) → option_map (λ m. m.next) (running (member_named roster.members key.name)) ≡ Some may.0.next
+  runs_next roster table waiting so may =
+      ap (λ o. option_map (λ m. m.next) (running o)) (still_found roster table waiting so ∙ may.1)
+      ∙ ap (λ b. option_map (λ m. m.next) (if b then None else Some may.0)) may.2
+
+  -- one turn
+  pub run_turn : (roster after : Roster) (table rows : Table) (waiting anew : Held) (index : ℕ) → RunSoFar start first i roster table waiting → (may : MayRun start.members key)
+      → index ≡ may.0.next → after ≡ record roster { members = ran key.name roster.members } → rows ≡ table ++ record { name = key.name; index = index } ∷ []
+      → IsToldOf key.name after.members waiting anew → RunSoFar start first (i + 1) after rows anew
+  run_turn roster after table rows waiting anew index so may index_is after_is rows_are told = record {
+    rows = rows_are ∙ ap (λ (xs : Table). xs ++ record { name = key.name; index = index } ∷ []) so.rows ∙ ap (λ (p : Pick). map (pick start.members) (take i first) ++ p ∷ []) picked ∙ sym pushed;
+    ran_are = after_is ∙ ap (λ (r : Roster). record r { members = ran key.name r.members }) so.ran_are ∙ ap (λ (ms : List Member). record start { members = ms }) (sym (ap (λ (ps : Table). all_ran ps start.members) pushed ∙ all_ran_push (map (pick start.members) (take i first)) (pick start.members key) start.members));
+    queue = λ name. by name (name_eq name key.name) refl (told name);
+  }
+    where
+      picked : record { name = key.name; index = index } ≡ pick start.members key
+      picked = ap (λ (n : ℕ). record { name = key.name; index = n }) (index_is ∙ sym (ap index_of may.1))
+
+      pushed : map (pick start.members) (take (i + 1) first) ≡ map (pick start.members) (take i first) ++ pick start.members key ∷ []
+      pushed = ap (map (pick start.members)) (take_item first i key inside item) ∙ map-append (pick start.members) (take i first) (key ∷ [])
+
+      by : (name : Name) (b : Bool) → name_eq name key.name ≡ b → finmap.get anew name ≡ (if b then queued (member_named after.members key.name) else finmap.get waiting name)
+          → finmap.get anew name ≡ (if has_key_of name (drop (i + 1) first) then None else queued (member_named after.members name))
+      by name true q is =
+          (let same = name_exact name key.name q in
+          is ∙ ap (λ n. queued (member_named after.members n)) (sym same)
+          ∙ sym (ap (λ b. if b then None else queued (member_named after.members name)) (ap (λ n. has_key_of n (drop (i + 1) first)) same ∙ apart_after (take i first) key (drop (i + 1) first) split_apart)))
+      by name false q is =
+          is ∙ so.queue name
+          ∙ ap (λ (ks : List Key). if has_key_of name ks then None else queued (member_named roster.members name)) (drop_item first i key inside item)
+          ∙ ap (λ b. if b || has_key_of name (drop (i + 1) first) then None else queued (member_named roster.members name)) q
+          ∙ ap (λ (o : Option Member). if has_key_of name (drop (i + 1) first) then None else queued o)
+          (sym (ap (λ (r : Roster). member_named r.members name) after_is ∙ found_other name key.name with_quantum (λ m. refl) q roster.members))

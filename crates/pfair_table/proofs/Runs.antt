@@ -1,0 +1,324 @@
+-- Whatever events come, a slot that was planned has the table of a replica that is still held, and every other dispatcher
+-- that agrees has it too.
+use Rattle.pfair_replica.specs.HeldRows.{replica_of}
+use Rattle.std.proofs.Common.{ℕ, zero, suc, ◌<◌, ◌≤◌, ◌≡◌, refl, sym, ap, ◌∙◌, subst, arith, inl, inr, Bool, true, false, List, [], ◌∷◌, ◌++◌, length, min, Some, None}
+use Rattle.std.specs.Prelude.{◌⊎◌, ◌==◌, ◌&&◌, not, nat_lt, nat_le, map, slice_get, if◌then◌else◌}
+use Rattle.std.specs.List.{AllByRecursion, list_any}
+use Rattle.std.proofs.lemmas.List.{length-map, map-append, length-append}
+use Rattle.std.proofs.lemmas.Bool.{true≢false, eqb-true, ltb-true, leb-true, and_parts, not-true, or_parts, cases_lt}
+use Rattle.pfair_lattice.specs.declared.flat.Flat.{Flat}
+use Rattle.pfair_lattice.specs.declared.flat.Flat.TheVariants.{One, Torn}
+use Rattle.pfair_lattice.specs.Held.{Held, held_join}
+use Rattle.pfair_lattice.specs.HeldLaws.{join_least, join_first, join_second, below_itself, below_trans}
+use Rattle.pfair_entry.specs.Entry.{Logged, IsEntry}
+use Rattle.pfair_entry.specs.Same.{entry_eq}
+use Rattle.pfair_entry.specs.Exact.{entry_exact}
+use Rattle.pfair_table.proofs.Ranks.{Among}
+use Rattle.pfair_replica.specs.Replica.{Replica, IsReplica, Contents, Below, Untorn, Agree, join, only, contents_join, frontier, numbers_below, has_torn, is_torn}
+use Rattle.pfair_replica.proofs.Marks.{below_agree, frontier_le}
+use Rattle.pfair_table.specs.Table.{Settings, Table, table, decisions, plan}
+use Rattle.pfair_table.specs.declared.pick.Decided.{Decided}
+use Rattle.pfair_replica.specs.Offered.{has_key, has_shape, taken, absorbed}
+use Rattle.pfair_table.specs.declared.event.Event.{Event}
+use Rattle.pfair_table.specs.declared.event.Event.TheVariants.{Take, Absorb, Plan}
+use Rattle.pfair_table.specs.Events.{IsEvent, Course, start, is_plannable, with_next_slot, happens, run, run_of}
+use Rattle.pfair_table.specs.Laws.{IsOf, IsPrefixOf, OneSchedule, PlanSoFar}
+use Rattle.pfair_table.proofs.TableLaws.{one_table, prefix_map}
+
+-- ---- lists
+
+pub get_left : {A : Type 0} (xs ys : List A) (t : ℕ) → t < length xs → slice_get (xs ++ ys) t ≡ slice_get xs t
+get_left [] ys t h = absurd (omega (arith, h))
+get_left (x ∷ xs) ys zero h = refl
+get_left (x ∷ xs) ys (suc t) h = get_left xs ys t (omega (arith, h))
+
+pub get_last : {A : Type 0} (xs : List A) (y : A) → slice_get (xs ++ y ∷ []) (length xs) ≡ Some y
+get_last [] y = refl
+get_last (x ∷ xs) y = get_last xs y
+
+some_same : {A : Type 0} (x y : A) → Some x ≡ Some y → x ≡ y
+some_same x y h = cc
+
+pub same_list : {A : Type 0} (xs ys : List A) → length xs ≡ length ys → ((t : ℕ) → t < length xs → slice_get xs t ≡ slice_get ys t) → xs ≡ ys
+same_list [] [] e h = refl
+same_list [] (y ∷ ys) e h = absurd (omega (arith, e))
+same_list (x ∷ xs) [] e h = absurd (omega (arith, e))
+same_list (x ∷ xs) (y ∷ ys) e h =
+    let head = some_same x y (h zero (omega arith)) in
+    let tail = same_list xs ys (omega (arith, e)) (λ t l. h (suc t) (omega (arith, l))) in
+    λ i. head i ∷ tail i
+
+pub length_numbers : (n : ℕ) → length (numbers_below n) ≡ n
+length_numbers zero = refl
+length_numbers (suc n) = (let more = length_numbers n in let sum = length-append (numbers_below n) (n ∷ []) in omega (arith, more, sum))
+
+pub get_numbers : {B : Type 0} (f : ℕ → B) (n t : ℕ) → t < n → slice_get (map f (numbers_below n)) t ≡ Some (f t)
+get_numbers f zero t h = absurd (omega (arith, h))
+get_numbers f (suc n) t h =
+    let long = length-map (numbers_below n) f ∙ length_numbers n in
+    ap (λ xs. slice_get xs t) (map-append f (numbers_below n) (n ∷ []))
+    ∙ elim (cases_lt t n) [
+      | inl l ↦ get_left (map f (numbers_below n)) (f n ∷ []) t (omega (arith, l, long)) ∙ get_numbers f n t l
+      | inr g ↦ (let e : t ≡ length (map f (numbers_below n)) = omega (arith, h, g, long) in
+          ap (slice_get (map f (numbers_below n) ++ f n ∷ [])) e ∙ get_last (map f (numbers_below n)) (f n) ∙ ap (λ k. Some (f k)) (let e' : n ≡ t = omega (arith, h, g) in e'))
+    ]
+
+among_left : {A : Type 0} (xs ys : List A) (x : A) → Among xs x → Among (xs ++ ys) x
+among_left [] ys x h = absurd h
+among_left (y ∷ xs) ys x (inl e) = inl e
+among_left (y ∷ xs) ys x (inr h) = inr (among_left xs ys x h)
+
+among_last : {A : Type 0} (xs : List A) (y : A) → Among (xs ++ y ∷ []) y
+among_last [] y = inl refl
+among_last (x ∷ xs) y = inr (among_last xs y)
+
+pub among_numbers : (n k : ℕ) → k < n → Among (numbers_below n) k
+among_numbers zero k h = absurd (omega (arith, h))
+among_numbers (suc n) k h =
+    elim (cases_lt k n) [
+      | inl l ↦ among_left (numbers_below n) (n ∷ []) k (among_numbers n k l)
+      | inr g ↦ (let e : n ≡ k = omega (arith, h, g) in subst (Among (numbers_below n ++ n ∷ [])) e (among_last (numbers_below n) n))
+    ]
+
+any_false : {A : Type 0} (p : A → Bool) (xs : List A) → list_any p xs ≡ false → (x : A) → Among xs x → p x ≡ false
+any_false p [] e x h = absurd h
+any_false p (y ∷ ys) e x (inl i) = ap p i ∙ (or_parts (p y) (list_any p ys) e).0
+any_false p (y ∷ ys) e x (inr h) = any_false p ys (or_parts (p y) (list_any p ys) e).1 x h
+
+-- ---- nothing torn, by the test
+
+pub untorn_by_test : (x : Replica) → IsReplica x → has_torn x ≡ false → Untorn x
+untorn_by_test x r e k n torn = at n torn (r.in_range k n Torn torn)
+  where
+    at : (n : ℕ) → x.at k n ≡ Some Torn → (k < x.processors) × (0 < n) × (n ≤ x.capacity) → ⊥
+    at zero torn range = (let pos = range.1 in absurd (omega (arith, pos)))
+    at (suc m) torn range =
+        (let row = any_false (λ k. list_any (λ n. is_torn (x.at k (suc n))) (numbers_below x.capacity)) (numbers_below x.processors) e k (among_numbers x.processors k range.0) in
+        let le = range.2 in
+        let here = any_false (λ n. is_torn (x.at k (suc n))) (numbers_below x.capacity) row m (among_numbers x.capacity m (omega (arith, le))) in
+        true≢false (sym (ap is_torn torn) ∙ here))
+
+-- ---- what is held stays held
+
+join_some : (x y : Held Logged) (c : Flat Logged) → held_join entry_eq x y ≡ Some c → ((d : Flat Logged) × (x ≡ Some d)) ⊎ (y ≡ Some c)
+join_some None y c h = inr h
+join_some (Some x) y c h = inl (x, refl)
+
+join_one : (x y : Held Logged) (e : Logged) → held_join entry_eq x y ≡ Some (One e) → (x ≡ Some (One e)) ⊎ (y ≡ Some (One e))
+join_one None y e h = inr h
+join_one (Some x) None e h = inl h
+join_one (Some (One a)) (Some (One b)) e h = by (entry_eq a b) h
+  where
+    by : (t : Bool) → Some (if t then One a else Torn) ≡ Some (One e) → (Some (One a) ≡ Some (One e)) ⊎ (Some (One b) ≡ Some (One e))
+    by true h = inl h
+    by false h = absurd (cc)
+join_one (Some (One a)) (Some Torn) e h = absurd (cc)
+join_one (Some Torn) (Some y) e h = absurd (cc)
+
+InRange : Replica → ℕ → ℕ → Type 0
+InRange x k n = (k < x.processors) × (0 < n) × (n ≤ x.capacity)
+
+-- a replica, with more contents of its own range
+more_contents : (s : Settings) (x : Replica) (other : Contents) → IsOf s x
+    → ((k n : ℕ) (c : Flat Logged) → other k n ≡ Some c → (k < x.processors) × (0 < n) × (n ≤ x.capacity)) → ((k n : ℕ) (e : Logged) → other k n ≡ Some (One e) → IsEntry e)
+    → IsOf s (record x { at = contents_join x.at other })
+more_contents s x other o range stamped = record {
+  replica = record {
+    in_range = λ k n c h. elim (join_some (x.at k n) (other k n) c h) [ inl t ↦ o.replica.in_range k n t.0 t.1 | inr i ↦ range k n c i ];
+    stamped = λ k n e h. elim (join_one (x.at k n) (other k n) e h) [ inl i ↦ o.replica.stamped k n e i | inr i ↦ stamped k n e i ];
+  };
+  processors = o.processors;
+}
+
+-- the entry of one key is at that key
+only_held : (j m : ℕ) (e : Logged) (k n : ℕ) (c : Flat Logged) → only j m e k n ≡ Some c → (k ≡ j) × (n ≡ m) × (c ≡ One e)
+only_held j m e k n c h = by (k == j) (n == m) refl refl h
+  where
+    by : (b d : Bool) → (k == j) ≡ b → (n == m) ≡ d → (if b then (if d then Some (One e) else None) else None) ≡ Some c → (k ≡ j) × (n ≡ m) × (c ≡ One e)
+    by true true p q h = (eqb-true k j p, eqb-true n m q, (let same : c ≡ One e = cc in same))
+    by true false p q h = absurd (cc)
+    by false d p q h = absurd (cc)
+
+pub taken_of : (s : Settings) (x : Replica) (k n : ℕ) (e : Logged) → IsOf s x → IsEntry e → IsOf s (taken x k n e)
+taken_of s x j m e o stamped = by (has_key x j m) refl
+  where
+    by : (b : Bool) → has_key x j m ≡ b → IsOf s (if b then record x { at = contents_join x.at (only j m e) } else x)
+    by true p =
+        (let q = and_parts (nat_lt j x.processors) (nat_lt 0 m && nat_le m x.capacity) p in
+        let r = and_parts (nat_lt 0 m) (nat_le m x.capacity) q.1 in
+        let lj = ltb-true j x.processors q.0 in
+        let lm = ltb-true 0 m r.0 in
+        let le = leb-true m x.capacity r.1 in
+        more_contents s x (only j m e) o
+        (λ k n c h. (let t = only_held j m e k n c h in let ek = t.0 in let en = t.1 in (omega (arith, lj, ek), omega (arith, lm, en), omega (arith, le, en))))
+        (λ k n f h. (let t = only_held j m e k n (One f) h in subst IsEntry (let back = t.2 in let same : e ≡ f = cc in same) stamped)))
+    by false p = o
+
+pub taken_above : (x : Replica) (k n : ℕ) (e : Logged) → Below x (taken x k n e)
+taken_above x j m e = by (has_key x j m)
+  where
+    by : (b : Bool) → Below x (if b then record x { at = contents_join x.at (only j m e) } else x)
+    by true = λ k n. join_first entry_eq entry_exact (x.at k n) (only j m e k n)
+    by false = λ k n. below_itself (x.at k n)
+
+pub absorbed_of : (s : Settings) (x y : Replica) → IsOf s x → IsReplica y → IsOf s (absorbed x y)
+absorbed_of s x y o r = by (has_shape x y) refl
+  where
+    by : (b : Bool) → has_shape x y ≡ b → IsOf s (if b then join x y else x)
+    by true p =
+        (let q = and_parts (x.processors == y.processors) (x.capacity == y.capacity) p in
+        let ep = eqb-true x.processors y.processors q.0 in
+        let ec = eqb-true x.capacity y.capacity q.1 in
+        more_contents s x y.at o (λ k n c h. (let t = r.in_range k n c h in let lk = t.0 in let le = t.2 in (omega (arith, lk, ep), t.1, omega (arith, le, ec)))) r.stamped)
+    by false p = o
+
+pub absorbed_above : (x y : Replica) → Below x (absorbed x y)
+absorbed_above x y = by (has_shape x y)
+  where
+    by : (b : Bool) → Below x (if b then join x y else x)
+    by true = λ k n. join_first entry_eq entry_exact (x.at k n) (y.at k n)
+    by false = λ k n. below_itself (x.at k n)
+
+pub below_all : (x y z : Replica) → Below x y → Below y z → Below x z
+below_all x y z f g k n = below_trans (x.at k n) (y.at k n) (z.at k n) (f k n) (g k n)
+
+-- ---- what was planned
+
+-- slot t was planned of a replica that is still held
+record WasPlanned (s : Settings) (held : Replica) (tables : List Table) (decided : List (List Decided)) (t : ℕ) : Type 0 where
+  pub of : Replica
+  pub is_of : IsOf s of
+  pub kept : Below of held
+  pub whole : Untorn of
+  pub early : t < frontier of
+  pub wanted : t < s.slots
+  pub table_is : slice_get tables t ≡ Some (table s of t)
+  pub decided_is : slice_get decided t ≡ Some (decisions s of t)
+
+record IsSound (s : Settings) (c : Course) : Type 0 where
+  pub is_of : IsOf s c.held
+  pub as_many : length c.decided ≡ length c.tables
+  pub planned : (t : ℕ) → t < length c.tables → WasPlanned s c.held c.tables c.decided t
+
+-- with more held
+sound_more : (s : Settings) (c : Course) (x : Replica) → IsSound s c → IsOf s x → Below c.held x → IsSound s (record c { held = x })
+sound_more s c x sound o above = record {
+  is_of = o;
+  as_many = sound.as_many;
+  planned = λ t l. (let w = sound.planned t l in record {
+    of = w.of;
+    is_of = w.is_of;
+    kept = below_all w.of c.held x w.kept above;
+    whole = w.whole;
+    early = w.early;
+    wanted = w.wanted;
+    table_is = w.table_is;
+    decided_is = w.decided_is;
+  });
+}
+
+-- with the next slot planned
+sound_next : (s : Settings) (c : Course) → IsSound s c → is_plannable s c.held (length c.tables) ≡ true → IsSound s (with_next_slot s c)
+sound_next s c sound ok =
+    let p = and_parts (not (has_torn c.held)) (nat_lt (length c.tables) (frontier c.held) && nat_lt (length c.tables) s.slots) ok in
+    let q = and_parts (nat_lt (length c.tables) (frontier c.held)) (nat_lt (length c.tables) s.slots) p.1 in
+    let u = length c.tables in
+    let tables = c.tables ++ table s c.held u ∷ [] in
+    let decided = c.decided ++ decisions s c.held u ∷ [] in
+    let lt = length-append c.tables (table s c.held u ∷ []) in
+    let ld = length-append c.decided (decisions s c.held u ∷ []) in
+    let same = sound.as_many in
+    record {
+      is_of = sound.is_of;
+      as_many = omega (arith, lt, ld, same);
+      planned = λ t l. elim (cases_lt t u) [
+        | inl old ↦ (let w = sound.planned t old in record {
+          of = w.of;
+          is_of = w.is_of;
+          kept = w.kept;
+          whole = w.whole;
+          early = w.early;
+          wanted = w.wanted;
+          table_is = get_left c.tables (table s c.held u ∷ []) t old ∙ w.table_is;
+          decided_is = get_left c.decided (decisions s c.held u ∷ []) t (omega (arith, same, old)) ∙ w.decided_is;
+        })
+        | inr new ↦ (let e : u ≡ t = omega (arith, new, l, lt) in
+            subst (WasPlanned s c.held tables decided) e (record {
+              of = c.held;
+              is_of = sound.is_of;
+              kept = λ k n. below_itself (c.held.at k n);
+              whole = untorn_by_test c.held sound.is_of.replica (not-true (has_torn c.held) p.0);
+              early = ltb-true u (frontier c.held) q.0;
+              wanted = ltb-true u s.slots q.1;
+              table_is = get_last c.tables (table s c.held u);
+              decided_is = ap (slice_get decided) (sym same) ∙ get_last c.decided (decisions s c.held u);
+            }))
+      ];
+    }
+
+sound_happens : (s : Settings) (c : Course) (e : Event) → IsEvent e → IsSound s c → IsSound s (happens s c e)
+sound_happens s c (Take k n e) ok sound = sound_more s c (taken c.held k n e) sound (taken_of s c.held k n e sound.is_of ok) (taken_above c.held k n e)
+sound_happens s c (Absorb y) ok sound = sound_more s c (absorbed c.held (replica_of y)) sound (absorbed_of s c.held (replica_of y) sound.is_of ok) (absorbed_above c.held (replica_of y))
+sound_happens s c Plan ok sound = by (is_plannable s c.held (length c.tables)) refl
+  where
+    by : (b : Bool) → is_plannable s c.held (length c.tables) ≡ b → IsSound s (if b then with_next_slot s c else c)
+    by true p = sound_next s c sound p
+    by false p = sound
+
+sound_run : (s : Settings) (events : List Event) (c : Course) → AllByRecursion IsEvent events → IsSound s c → IsSound s (run s c events)
+sound_run s [] c all sound = sound
+sound_run s (e ∷ events) c all sound = sound_run s events (happens s c e) all.1 (sound_happens s c e all.0 sound)
+
+none_some : {A : Type 0} (x : A) → None ≡ Some x → ⊥
+none_some x h = cc
+
+sound_start : (s : Settings) (capacity : ℕ) → IsSound s (start s capacity)
+sound_start s capacity = record {
+  is_of = record { replica = record { in_range = λ k n c h. absurd (none_some c h); stamped = λ k n e h. absurd (none_some (One e) h) }; processors = refl };
+  as_many = refl;
+  planned = λ t l. absurd (omega (arith, l));
+}
+
+-- what is below two that agree agrees
+agree_down : (x a y b : Replica) → Below x a → Below y b → Agree a b → Agree x y
+agree_down x a y b f g agree k n torn =
+    let top = held_join entry_eq (a.at k n) (b.at k n) in
+    let below = join_least entry_eq entry_exact (x.at k n) (y.at k n) top
+    (below_trans (x.at k n) (a.at k n) top (f k n) (join_first entry_eq entry_exact (a.at k n) (b.at k n)))
+    (below_trans (y.at k n) (b.at k n) top (g k n) (join_second entry_eq entry_exact (a.at k n) (b.at k n))) in
+    elim (below Torn torn) [ inl h ↦ agree k n h | inr h ↦ agree k n h ]
+
+pub one_schedule : OneSchedule
+one_schedule s m n es fs all_es all_fs agree t lc ld =
+    let c = run_of s m es in
+    let d = run_of s n fs in
+    let v = (sound_run s es (start s m) all_es (sound_start s m)).planned t lc in
+    let w = (sound_run s fs (start s n) all_fs (sound_start s n)).planned t ld in
+    let same = one_table s v.of w.of v.is_of w.is_of (agree_down v.of c.held w.of d.held v.kept w.kept agree) t v.early w.early in
+    (v.table_is ∙ ap Some same.0 ∙ sym w.table_is, v.decided_is ∙ ap Some same.1 ∙ sym w.decided_is)
+
+-- a list of as many tables, each that of its slot, begins the plan
+begins_plan : (s : Settings) (x : Replica) (tables : List Table) → length tables ≤ min (frontier x) s.slots → ((t : ℕ) → t < length tables → slice_get tables t ≡ Some (table s x t)) → IsPrefixOf tables (plan s x)
+begins_plan s x tables le each =
+    let n = length tables in
+    let long = length-map (numbers_below n) (table s x) ∙ length_numbers n in
+    let is = same_list tables (map (table s x) (numbers_below n)) (sym long) (λ t l. each t l ∙ sym (get_numbers (table s x) n t l)) in
+    subst (λ (ts : List Table). IsPrefixOf ts (plan s x)) (sym is) (prefix_map (table s x) (table s x) n (min (frontier x) s.slots) le (λ t l. refl))
+
+-- each number below n is below m
+all_below : (n m : ℕ) → ((t : ℕ) → t < n → t < m) → n ≤ m
+all_below zero m h = omega arith
+all_below (suc n) m h = h n (omega arith)
+
+pub plan_so_far : PlanSoFar
+plan_so_far s m events all untorn =
+    let c = run_of s m events in
+    let sound = sound_run s events (start s m) all (sound_start s m) in
+    begins_plan s c.held c.tables
+    (all_below (length c.tables) (min (frontier c.held) s.slots) (λ t l. (let w = sound.planned t l in
+    let le = frontier_le w.of c.held sound.is_of.replica (w.is_of.processors ∙ sym sound.is_of.processors) w.kept untorn in
+    let early = w.early in let wanted = w.wanted in omega (arith, le, early, wanted))))
+    (λ t l. (let w = sound.planned t l in
+    let le = frontier_le w.of c.held sound.is_of.replica (w.is_of.processors ∙ sym sound.is_of.processors) w.kept untorn in
+    let early = w.early in
+    w.table_is ∙ ap Some (one_table s w.of c.held w.is_of sound.is_of (below_agree w.of c.held w.kept untorn) t w.early (omega (arith, le, early))).0))

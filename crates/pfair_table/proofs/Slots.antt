@@ -1,0 +1,109 @@
+-- What holds before a slot holds before the next.
+use Rattle.std.proofs.Common.{ℕ, ◌+◌, ◌≤◌, ◌≡◌, refl, sym, subst, arith, Bool, true, false, List, [], ◌∷◌, ◌++◌, map, Some}
+use Rattle.std.specs.Prelude.{filter, not, if◌then◌else◌}
+use Rattle.std.specs.Option.{ForSome}
+use Rattle.std.specs.List.{AllByRecursion}
+use Rattle.pfair_ready.specs.Names.{NameValue as Name}
+use Rattle.pfair_order.specs.declared.Key.{Key}
+use Rattle.pfair_entry.specs.declared.announcement.Announcement.{Announcement}
+use Rattle.pfair_entry.specs.declared.announcement.Announcement.TheVariants.{Arrive, Depart, Late}
+use Rattle.pfair_entry.specs.declared.said.Said.{Said}
+use Rattle.pfair_table.specs.Ranks.{first_by_rank}
+use Rattle.pfair_ready.specs.Waiting.{Held}
+use Rattle.pfair_table.proofs.Ranks.{apart_map, apart_filter, apart_first}
+use Rattle.pfair_admission.specs.Admission.{Machine, is_named, newcomer, change, effect, decision, present, is_freed, decided, all_decided, boundary, announcements, ran, with_quantum}
+use Rattle.pfair_admission.specs.Member.{Member, next_key}
+use Rattle.pfair_admission.specs.declared.decision.Decision.{Decision}
+use Rattle.pfair_admission.specs.declared.decision.Decision.TheVariants.{Admitted, Departing, Delayed, Refused}
+use Rattle.pfair_admission.specs.Roster.{Roster}
+use Rattle.pfair_table.specs.declared.pick.Pick.{Pick}
+use Rattle.pfair_table.specs.Table.{Table, eligible, is_eligible, pick, all_ran, names_task}
+use Rattle.pfair_table.specs.Laws.{EachNameOnce}
+use Rattle.pfair_table.specs.Queue.{IsQueue, IsSteady, Named}
+use Rattle.pfair_table.proofs.Members.{named_boundary, named_change}
+use Rattle.pfair_table.proofs.TableLaws.{once}
+use Rattle.pfair_table.proofs.Counts.{each_filter, each_map, each_push, all_ran_is, after_table}
+
+-- ---- next indexes
+
+AllFew : ℕ → List Member → Type 0
+AllFew n members = AllByRecursion (λ m. m.next ≤ n) members
+
+few_change : (n : ℕ) (name : Name) (f : Member → Member) → ((m : Member) → (f m).next ≡ m.next) → (members : List Member) → AllByRecursion (λ m. m.next ≤ n) members → AllByRecursion (λ m. m.next ≤ n) (change name f members)
+few_change n name f keeps members all = each_map (λ m. m.next ≤ n) (λ m. m.next ≤ n) (λ m. if is_named name m then f m else m) (λ m h. by m h (is_named name m)) members all
+  where
+    by : (m : Member) → m.next ≤ n → (b : Bool) → (if b then f m else m).next ≤ n
+    by m h true = (let e = keeps m in omega (arith, e, h))
+    by m h false = h
+
+few_effect : (n t : ℕ) → 1 ≤ n → (members : List Member) (a : Announcement) (d : Decision) → AllByRecursion (λ m. m.next ≤ n) members → AllByRecursion (λ m. m.next ≤ n) (effect t members a d)
+few_effect n t le members (Arrive name w early) Admitted all = each_push (λ m. m.next ≤ n) members (newcomer t name w early) all le
+few_effect n t le members (Arrive name w early) (Departing slot) all = all
+few_effect n t le members (Arrive name w early) Delayed all = all
+few_effect n t le members (Arrive name w early) (Refused why) all = all
+few_effect n t le members (Depart name) (Departing slot) all = few_change n name (λ m. record m { freed_at = Some slot }) (λ m. refl) members all
+few_effect n t le members (Depart name) Admitted all = all
+few_effect n t le members (Depart name) Delayed all = all
+few_effect n t le members (Depart name) (Refused why) all = all
+few_effect n t le members (Late name index by) Delayed all = few_change n name (λ m. record m { delays = m.delays ++ record { index = index; by = by } ∷ [] }) (λ m. refl) members all
+few_effect n t le members (Late name index by) Admitted all = all
+few_effect n t le members (Late name index by) (Departing slot) all = all
+few_effect n t le members (Late name index by) (Refused why) all = all
+
+few_decided : (n : ℕ) (mc : Machine) (t : ℕ) → 1 ≤ n → (heard : List Announcement) (members : List Member) → AllByRecursion (λ m. m.next ≤ n) members → AllByRecursion (λ m. m.next ≤ n) (all_decided mc t members heard)
+few_decided n mc t le [] members all = all
+few_decided n mc t le (a ∷ heard) members all =
+    few_decided n mc t le heard (decided mc t members a)
+    (each_filter (λ m. m.next ≤ n) (λ m. not (is_freed t m.freed_at)) (effect t members a (decision mc t members a)) (few_effect n t le members a (decision mc t members a) all))
+
+pub few_boundary : (n : ℕ) (mc : Machine) (t : ℕ) → 1 ≤ n → (heard : List Announcement) (members : List Member) → AllByRecursion (λ m. m.next ≤ n) members → AllByRecursion (λ m. m.next ≤ n) (boundary mc t members heard)
+few_boundary n mc t le heard members all =
+    few_decided n mc t le heard (present t members) (each_filter (λ m. m.next ≤ n) (λ m. not (is_freed t m.freed_at)) members all)
+
+pub fewer : (n k : ℕ) → n ≤ k → (members : List Member) → AllByRecursion (λ m. m.next ≤ n) members → AllByRecursion (λ m. m.next ≤ k) members
+fewer n k le [] all = tt
+fewer n k le (m ∷ members) all = (let h = all.0 in omega (arith, le, h), fewer n k le members all.1)
+
+few_ran : (n : ℕ) (picks : Table) → EachNameOnce picks → (members : List Member) → AllByRecursion (λ m. m.next ≤ n) members → AllByRecursion (λ m. m.next ≤ n + 1) (all_ran picks members)
+few_ran n picks differ members all =
+    subst (AllByRecursion (λ m. m.next ≤ n + 1)) (sym (all_ran_is picks differ members))
+    (each_map (λ m. m.next ≤ n) (λ m. m.next ≤ n + 1) (after_table picks) (λ m h. by m h (names_task m.name picks)) members all)
+  where
+    by : (m : Member) → m.next ≤ n → (b : Bool) → (if b then with_quantum m else m).next ≤ n + 1
+    by m h true = omega (arith, h)
+    by m h false = omega (arith, h)
+
+named_ran : (picks : Table) (members : List Member) → Named members → Named (all_ran picks members)
+named_ran [] members a = a
+named_ran (p ∷ picks) members a = named_ran picks (ran p.name members) (named_change p.name with_quantum (λ m. refl) members a)
+
+-- the rows of a slot have each name once
+pub rows_once : (m n : ℕ) (members : List Member) → Named members → EachNameOnce (map (pick members) (first_by_rank m (eligible n members)))
+rows_once m n members named =
+    once (map (pick members) (first_by_rank m (eligible n members)))
+    (apart_map (λ (k : Key). k.name) (λ (p : Pick). p.name) (pick members) (λ k. refl) (first_by_rank m (eligible n members))
+    (apart_first (eligible n members) (apart_map (λ (m : Member). m.name) (λ (k : Key). k.name) next_key (λ m. refl) (filter (is_eligible n) members) (apart_filter (λ (m : Member). m.name) (is_eligible n) members named)) m))
+
+pub some_slot : (slot : ℕ) → ForSome (Some slot) (λ last. last ≤ slot + 1)
+some_slot slot x e = (let s = one slot x e in omega (arith, s))
+  where
+    one : (x y : ℕ) → Some x ≡ Some y → x ≡ y
+    one x y e = cc
+
+-- after the quanta of a slot all is steady for the next
+pub steady_next : (slot now now2 : ℕ) (before after : Roster) (waiting waiting2 : Held) (heard : List Said) (m : ℕ) (rows : Table)
+    → IsSteady slot before now waiting
+    → let world = boundary before.machine slot before.members (announcements heard) in
+    rows ≡ map (pick world) (first_by_rank m (eligible slot world)) → after.members ≡ all_ran rows world → after.last_slot ≡ Some slot → now2 ≡ slot → IsQueue after.members waiting2
+    → IsSteady (slot + 1) after now2 waiting2
+steady_next slot now now2 before after waiting waiting2 heard m rows steady rows_are ran_are last_is now_is queue =
+    let world = boundary before.machine slot before.members (announcements heard) in
+    let named = named_boundary before.machine slot before.members (announcements heard) steady.named in
+    record {
+      named = subst Named (sym ran_are) (named_ran rows world named);
+      queue = queue;
+      by_now = omega (arith, now_is);
+      order = subst (λ o. ForSome o (λ last. last ≤ slot + 1)) (sym last_is) (some_slot slot);
+      few = subst (AllByRecursion (λ m. m.next ≤ slot + 1 + 1)) (sym ran_are) (few_ran (slot + 1) rows (subst EachNameOnce (sym rows_are) (rows_once m slot world named)) world
+          (few_boundary (slot + 1) before.machine slot (omega arith) (announcements heard) before.members steady.few));
+    }

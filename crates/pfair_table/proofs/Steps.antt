@@ -1,0 +1,217 @@
+-- A dispatcher's parts from one slot to the next, and from one replica to one that is above it.
+use Rattle.std.proofs.Common.{ℕ, zero, suc, ◌+◌, ◌*◌, ◌≤◌, ◌<◌, ◌≡◌, refl, sym, ap, ◌∙◌, subst, arith, inl, Bool, true, false, List, [], ◌∷◌, ◌++◌, length, map, Option, Some, None}
+use Rattle.std.specs.Prelude.{flat_map, nat_le, ◌==◌, if◌then◌else◌}
+use Rattle.std.proofs.lemmas.List.{length-append, map-append}
+use Rattle.pfair_entry.specs.Entry.{Logged}
+use Rattle.pfair_entry.specs.declared.said.Said.{Said}
+use Rattle.pfair_lattice.specs.declared.flat.Flat.TheVariants.{One, Torn}
+use Rattle.pfair_lattice.specs.Held.{Held as HeldAt}
+use Rattle.pfair_entry.specs.declared.announcement.Announcement.{Announcement}
+use Rattle.std.proofs.lemmas.Bool.{eqb-true}
+use Rattle.pfair_replica.specs.Replica.{said_by, said_in, run_on, run_from, sound_beginning, Replica, Below, Untorn, said, frontier, numbers_below}
+use Rattle.pfair_replica.proofs.Marks.{same_said, below_agree, frontier_le}
+use Rattle.pfair_table.specs.Ranks.{first_by_rank}
+use Rattle.pfair_ready.specs.Waiting.{Held}
+use Rattle.pfair_admission.specs.Admission.{boundary, boundary_decisions, announcements}
+use Rattle.pfair_admission.specs.Roster.{Roster}
+use Rattle.pfair_table.specs.declared.pick.Decided.{Decided}
+use Rattle.pfair_table.specs.Table.{Settings, Table, eligible, pick, all_ran, history, world, table, decisions, counted, with_decisions}
+use Rattle.pfair_table.specs.Laws.{IsOf}
+use Rattle.pfair_table.specs.Queue.{IsSteady}
+use Rattle.pfair_table.specs.Refinement.{IsPlanOf, IsInStep, IsKept, heard_before}
+use Rattle.pfair_table.proofs.TableLaws.{same_history, map_same, among_below, one_table}
+use Rattle.pfair_table.proofs.Counts.{runs_are_counted}
+use Rattle.pfair_table.proofs.Runs.{below_all, length_numbers}
+
+-- ---- the members that the boundary leaves are the definition's
+
+pub world_is : (s : Settings) (x : Replica) (n : ℕ) (before : Roster) (now : ℕ) (waiting : Held) → IsInStep s x n before now waiting → boundary before.machine n before.members (announcements (said x n)) ≡ world s x n
+world_is s x n before now waiting step = let m = step.machine_is in let ms = step.members_are in λ i. boundary (m i) n (ms i) (announcements (said x n))
+
+pub rows_are : (s : Settings) (x : Replica) (n : ℕ) (before : Roster) (now : ℕ) (waiting : Held) → IsInStep s x n before now waiting → (processors : ℕ) → processors ≡ s.processors → (rows : Table)
+    → (let w = boundary before.machine n before.members (announcements (said x n)) in rows ≡ map (pick w) (first_by_rank processors (eligible n w))) → rows ≡ table s x n
+rows_are s x n before now waiting step processors many rows is =
+    let w = world_is s x n before now waiting step in
+    is ∙ (λ i. map (pick (w i)) (first_by_rank (many i) (eligible n (w i))))
+
+pub decided_is : (s : Settings) (x : Replica) (n : ℕ) (before : Roster) (now : ℕ) (waiting : Held) → IsInStep s x n before now waiting → (all : List Decided)
+    → all ≡ with_decisions (said x n) (boundary_decisions before.machine n before.members (announcements (said x n))) → all ≡ decisions s x n
+decided_is s x n before now waiting step all is =
+    let m = step.machine_is in
+    let ms = step.members_are in
+    is ∙ (λ i. with_decisions (said x n) (boundary_decisions (m i) n (ms i) (announcements (said x n))))
+
+-- One slot on.
+pub step_next : (s : Settings) (x : Replica) (n : ℕ) (before after : Roster) (now now2 : ℕ) (waiting waiting2 : Held) (rows : Table) → IsInStep s x n before now waiting
+    → rows ≡ table s x n → after.machine ≡ before.machine → after.members ≡ all_ran rows (boundary before.machine n before.members (announcements (said x n)))
+    → after.heard ≡ before.heard + length (said x n) → IsSteady (n + 1) after now2 waiting2 → IsInStep s x (n + 1) after now2 waiting2
+step_next s x n before after now now2 waiting waiting2 rows step rows_is machine_is ran_is heard_is steady =
+    let w = world_is s x n before now waiting step in
+    let one : suc n ≡ n + 1 = omega arith in
+    record {
+      machine_is = machine_is ∙ step.machine_is;
+      members_are = ran_is ∙ (λ i. all_ran (rows_is i) (w i)) ∙ runs_are_counted s x n ∙ ap (λ k. counted (history s x k).tables (history s x k).members) one;
+      heard_is = heard_is ∙ ap (λ k. k + length (said x n)) step.heard_is ∙ ap (heard_before x) one;
+      steady = steady;
+    }
+
+-- ---- the growth law, for members and ready structure
+
+same_heard : (x y : Replica) (n : ℕ) → ((u : ℕ) → u < n → said x u ≡ said y u) → heard_before x n ≡ heard_before y n
+same_heard x y zero same = refl
+same_heard x y (suc n) same =
+    let now = same n (omega arith) in
+    let before = same_heard x y n (λ u h. same u (omega (arith, h))) in
+    λ i. before i + length (now i)
+
+module _ (s : Settings) (held of : Replica) (tables : List Table) (decided : List (List Decided)) (plan : IsPlanOf s held of tables decided) (is_of : IsOf s held) (whole : Untorn held) where
+  same_processors : of.processors ≡ held.processors
+  same_processors = plan.is_of.processors ∙ sym is_of.processors
+
+  further : frontier of ≤ frontier held
+  further = frontier_le of held is_of.replica same_processors plan.kept whole
+
+  alike : (u : ℕ) → u < length tables → said of u ≡ said held u
+  alike u l =
+      let early = plan.early in
+      let le = further in
+      same_said of held plan.is_of.replica is_of.replica same_processors (below_agree of held plan.kept whole) u (omega (arith, l, early)) (omega (arith, l, early, le))
+
+  past : history s of (length tables) ≡ history s held (length tables)
+  past = same_history s of held (length tables) alike
+
+  -- What was planned of a replica below is planned of this one,
+  pub plan_of_held : IsPlanOf s held held tables decided
+  plan_of_held =
+      let early = plan.early in
+      let le = further in
+      record {
+        is_of = is_of;
+        kept = λ k n c e. inl e;
+        whole = whole;
+        early = omega (arith, early, le);
+        wanted = plan.wanted;
+        tables_are = plan.tables_are ∙ ap (λ h. h.tables) past;
+        decided_are = plan.decided_are ∙ map_same (decisions s of) (decisions s held) (numbers_below (length tables))
+            (λ u i. (let l = among_below (length tables) u i in
+            (one_table s of held plan.is_of is_of (below_agree of held plan.kept whole) u (omega (arith, l, early)) (omega (arith, l, early, le))).1));
+      }
+
+  -- and members and ready structure are in step with it too.
+  pub step_of_held : (roster : Roster) (now : ℕ) (waiting : Held) → IsInStep s of (length tables) roster now waiting → IsInStep s held (length tables) roster now waiting
+  step_of_held roster now waiting step = record {
+    machine_is = step.machine_is;
+    members_are = step.members_are ∙ ap (λ h. counted h.tables h.members) past;
+    heard_is = step.heard_is ∙ same_heard of held (length tables) alike;
+    steady = step.steady;
+  }
+
+-- With the next slot planned.
+pub plan_next_slot : (s : Settings) (x : Replica) (tables : List Table) (decided : List (List Decided)) → IsPlanOf s x x tables decided → length tables < frontier x → length tables < s.slots
+    → IsPlanOf s x x (tables ++ table s x (length tables) ∷ []) (decided ++ decisions s x (length tables) ∷ [])
+plan_next_slot s x tables decided plan early wanted =
+    let n = length tables in
+    let long : length (tables ++ table s x n ∷ []) ≡ suc n = length-append tables (table s x n ∷ []) ∙ (let e : n + 1 ≡ suc n = omega arith in e) in
+    record {
+      is_of = plan.is_of;
+      kept = plan.kept;
+      whole = plan.whole;
+      early = omega (arith, long, early);
+      wanted = omega (arith, long, wanted);
+      tables_are = ap (λ (ts : List Table). ts ++ table s x n ∷ []) plan.tables_are ∙ ap (λ k. (history s x k).tables) (sym long);
+      decided_are = ap (λ (ds : List (List Decided)). ds ++ decisions s x n ∷ []) plan.decided_are ∙ sym (map-append (decisions s x) (numbers_below n) (n ∷ [])) ∙ ap (λ k. map (decisions s x) (numbers_below k)) (sym long);
+    }
+
+-- ---- what is held grows
+
+pub kept_above : (s : Settings) (held more : Replica) (tables : List Table) (decided : List (List Decided)) (spent : Bool) (roster : Roster) (now : ℕ) (waiting : Held)
+    → IsKept s held tables decided spent roster now waiting → Below held more → more.processors ≡ held.processors → more.capacity ≡ held.capacity → IsKept s more tables decided spent roster now waiting
+kept_above s held more tables decided spent roster now waiting kept above same_p same_c = record {
+  processors = same_p ∙ kept.processors;
+  capacity = (let le = kept.capacity in omega (arith, le, same_c));
+  of = kept.of;
+  room = kept.room;
+  plan = (let p = kept.plan in record {
+    is_of = p.is_of;
+    kept = below_all kept.of held more p.kept above;
+    whole = p.whole;
+    early = p.early;
+    wanted = p.wanted;
+    tables_are = p.tables_are;
+    decided_are = p.decided_are;
+  });
+  step = kept.step;
+}
+
+-- ---- how many announcements there are
+
+abbrev total : (ℕ → ℕ) → ℕ → ℕ
+total f zero = 0
+total f (suc n) = total f n + f n
+
+heard_total : (x : Replica) (n : ℕ) → heard_before x n ≡ total (λ t. length (said x t)) n
+heard_total x zero = refl
+heard_total x (suc n) = ap (λ k. k + length (said x n)) (heard_total x n)
+
+total_sum : (f g h : ℕ → ℕ) → ((t : ℕ) → f t ≡ g t + h t) → (m : ℕ) → total f m ≡ total g m + total h m
+total_sum f g h e zero = omega arith
+total_sum f g h e (suc m) = (let more = total_sum f g h e m in let one = e m in omega (arith, more, one))
+
+total_none : (f : ℕ → ℕ) → ((t : ℕ) → f t ≡ 0) → (m : ℕ) → total f m ≡ 0
+total_none f e zero = refl
+total_none f e (suc m) = (let more = total_none f e m in let one = e m in omega (arith, more, one))
+
+-- an entry is said at one slot at most
+said_once : (k n : ℕ) (s : ℕ × Announcement) (m : ℕ) → (total (λ t. length (said_by t k n (Some s))) m ≤ 1) × (m ≤ s.0 → total (λ t. length (said_by t k n (Some s))) m ≡ 0)
+said_once k n s zero = (omega arith, λ h. refl)
+said_once k n s (suc m) = by (s.0 == m) refl (said_once k n s m)
+  where
+    by : (b : Bool) → (s.0 == m) ≡ b → (total (λ t. length (said_by t k n (Some s))) m ≤ 1) × (m ≤ s.0 → total (λ t. length (said_by t k n (Some s))) m ≡ 0)
+        → (total (λ t. length (said_by t k n (Some s))) m + length {A = Said} (if b then record { processor = k; number = n; announcement = s.1 } ∷ [] else []) ≤ 1)
+        × (suc m ≤ s.0 → total (λ t. length (said_by t k n (Some s))) m + length {A = Said} (if b then record { processor = k; number = n; announcement = s.1 } ∷ [] else []) ≡ 0)
+    by true p more = (let e = eqb-true s.0 m p in let none = more.1 (omega (arith, e)) in (omega (arith, none), λ h. absurd (omega (arith, h, e))))
+    by false p more = (let le = more.0 in (omega (arith, le), λ h. (let none = more.1 (omega (arith, h)) in omega (arith, none))))
+
+entry_once : (k n : ℕ) (o : Option (ℕ × Announcement)) (m : ℕ) → total (λ t. length (said_by t k n o)) m ≤ 1
+entry_once k n None m = (let none = total_none (λ t. 0) (λ t. refl) m in omega (arith, none))
+entry_once k n (Some s) m = (said_once k n s m).0
+
+run_once : (k n : ℕ) (es : List Logged) (m : ℕ) → total (λ t. length (said_in t k n es)) m ≤ length es
+run_once k n [] m = (let none = total_none (λ t. 0) (λ t. refl) m in omega (arith, none))
+run_once k n (e ∷ es) m =
+    let sum = total_sum (λ t. length (said_in t k n (e ∷ es))) (λ t. length (said_by t k n e.said)) (λ t. length (said_in t k (suc n) es)) (λ t. length-append (said_by t k n e.said) (said_in t k (suc n) es)) m in
+    let one = entry_once k n e.said m in
+    let more = run_once k (suc n) es m in
+    omega (arith, sum, one, more)
+
+run_short : (row : ℕ → HeldAt Logged) (left n floor : ℕ) → length (run_from row left n floor) ≤ left
+run_short row zero n floor = omega arith
+run_short row (suc left) n floor = on (row n) (λ f. run_short row left (suc n) f)
+  where
+    on : (c : HeldAt Logged) → ((f : ℕ) → length (run_from row left (suc n) f) ≤ left) → length (run_on c floor (run_from row left (suc n))) ≤ suc left
+    on (Some (One e)) more = by (nat_le floor e.floor)
+      where
+        by : (b : Bool) → length (if b then e ∷ run_from row left (suc n) e.floor else []) ≤ suc left
+        by true = (let le = more e.floor in omega (arith, le))
+        by false = omega arith
+    on (Some Torn) more = omega arith
+    on None more = omega arith
+
+rows_few : (x : Replica) (ks : List ℕ) (m : ℕ) → total (λ t. length (flat_map (λ k. said_in t k 1 (sound_beginning x k)) ks)) m ≤ length ks * x.capacity
+rows_few x [] m = (let none = total_none (λ t. 0) (λ t. refl) m in omega (arith, none))
+rows_few x (k ∷ ks) m =
+    let sum = total_sum (λ t. length (flat_map (λ k. said_in t k 1 (sound_beginning x k)) (k ∷ ks))) (λ t. length (said_in t k 1 (sound_beginning x k))) (λ t. length (flat_map (λ k. said_in t k 1 (sound_beginning x k)) ks))
+    (λ t. length-append (said_in t k 1 (sound_beginning x k)) (flat_map (λ k. said_in t k 1 (sound_beginning x k)) ks)) m in
+    let one = run_once k 1 (sound_beginning x k) m in
+    let short = run_short (x.at k) x.capacity 1 0 in
+    let more = rows_few x ks m in
+    grind (arith, sum, one, short, more)
+
+pub few_heard : (x : Replica) (n : ℕ) → heard_before x n ≤ x.processors * x.capacity
+few_heard x n =
+    let all = rows_few x (numbers_below x.processors) n in
+    let is = heard_total x n in
+    subst (λ k. heard_before x n ≤ k * x.capacity) (length_numbers x.processors) (omega (arith, all, is))
+
+pub heard_fits : (x : Replica) (n : ℕ) → x.processors ≤ 64 → x.capacity ≤ 4096 → heard_before x n ≤ 262144
+heard_fits x n p c = (let few = few_heard x n in grind (arith, few))

@@ -1,0 +1,90 @@
+-- The proofs of the laws of tables and plans.
+use Rattle.std.proofs.Common.{ℕ, zero, suc, ◌<◌, ◌≤◌, ◌≡◌, refl, sym, ap, ◌∙◌, arith, inl, inr, List, [], ◌∷◌, ◌++◌, min}
+use Rattle.std.specs.Prelude.{◌≢◌, map, filter}
+use Rattle.std.proofs.lemmas.List.{length-map, map-append, append_assoc, append-nil}
+use Rattle.std.proofs.lemmas.Bool.{cases_order}
+use Rattle.pfair_order.specs.declared.Key.{Key}
+use Rattle.pfair_table.proofs.Ranks.{Among, among_append, Apart, apart_filter, apart_map, all_among, length_first, rising_first, apart_first}
+use Rattle.pfair_replica.specs.Replica.{Replica, said, frontier, numbers_below}
+use Rattle.pfair_replica.proofs.Marks.{same_said, mark_le, frontier_le, below_agree}
+use Rattle.pfair_admission.specs.Member.{next_key}
+use Rattle.pfair_table.specs.Table.{Settings, Table, eligible, is_eligible, chosen, pick, table_of, members_at, slot_after, decided_at, history, world, table}
+use Rattle.pfair_table.specs.declared.pick.Pick.{Pick}
+use Rattle.pfair_table.specs.Laws.{IsPrefixOf, EachNameOnce, OneTable, PlansGoOn, TablesAreOrdered}
+use Rattle.pfair_table.proofs.Members.{label, named_world}
+
+-- ---- one table
+
+pub same_history : (s : Settings) (x y : Replica) (t : ℕ) → ((u : ℕ) → u < t → said x u ≡ said y u) → history s x t ≡ history s y t
+same_history s x y zero same = refl
+same_history s x y (suc t) same =
+    let now = same t (omega arith) in
+    let before = same_history s x y t (λ u h. same u (omega (arith, h))) in
+    λ i. slot_after s t (now i) (before i)
+
+pub one_table : OneTable
+one_table s x y ox oy agree t h g =
+    let alike : (u : ℕ) → u < suc t → said x u ≡ said y u = λ u l. same_said x y ox.replica oy.replica (ox.processors ∙ sym oy.processors) agree u (omega (arith, h, l)) (omega (arith, g, l)) in
+    let past = same_history s x y t (λ u l. alike u (omega (arith, l))) in
+    let now = alike t (omega arith) in
+    (λ i. table_of s t (members_at s t (now i) (past i)), λ i. decided_at s t (now i) (past i))
+
+-- ---- plans go on
+
+numbers_more : (m n : ℕ) → m ≤ n → (rest : List ℕ) × (numbers_below m ++ rest ≡ numbers_below n)
+numbers_more m zero h = ([], append-nil (numbers_below m) ∙ ap numbers_below (let e : m ≡ 0 = omega (arith, h) in e))
+numbers_more m (suc n) h =
+    elim (cases_order m (suc n)) [
+      | inl e ↦ ([], append-nil (numbers_below m) ∙ ap numbers_below e)
+      | inr (inl l) ↦ (let t = numbers_more m n (omega (arith, l)) in (t.0 ++ n ∷ [], sym (append_assoc (numbers_below m) t.0 (n ∷ [])) ∙ ap (λ xs. xs ++ n ∷ []) t.1))
+      | inr (inr g) ↦ absurd (omega (arith, h, g))
+    ]
+
+pub among_below : (n k : ℕ) → Among (numbers_below n) k → k < n
+among_below zero k h = absurd h
+among_below (suc n) k h =
+    elim (among_append (numbers_below n) (n ∷ []) k h) [
+      | inl i ↦ (let l = among_below n k i in omega (arith, l))
+      | inr (inl e) ↦ omega (arith, e)
+      | inr (inr e) ↦ absurd e
+    ]
+
+pub map_same : {A B : Type 0} (f g : A → B) (xs : List A) → ((x : A) → Among xs x → f x ≡ g x) → map f xs ≡ map g xs
+map_same f g [] h = refl
+map_same f g (x ∷ xs) h = λ i. h x (inl refl) i ∷ map_same f g xs (λ y j. h y (inr j)) i
+
+pub prefix_map : {B : Type 0} (f g : ℕ → B) (m n : ℕ) → m ≤ n → ((k : ℕ) → k < m → f k ≡ g k) → IsPrefixOf (map f (numbers_below m)) (map g (numbers_below n))
+prefix_map f g m n le same =
+    let t = numbers_more m n le in
+    (map g t.0, ap (λ xs. xs ++ map g t.0) (map_same f g (numbers_below m) (λ k i. same k (among_below m k i))) ∙ sym (map-append g (numbers_below m) t.0) ∙ ap (map g) t.1)
+
+pub plans_go_on : PlansGoOn
+plans_go_on s x y ox oy below untorn =
+    let same = ox.processors ∙ sym oy.processors in
+    let le = frontier_le x y oy.replica same below untorn in
+    let agree = below_agree x y below untorn in (
+      mark_le x y oy.replica below untorn,
+      prefix_map (table s x) (table s y) (min (frontier x) s.slots) (min (frontier y) s.slots) (omega (arith, le))
+          (λ t l. (one_table s x y ox oy agree t (omega (arith, l)) (omega (arith, l, le))).0),
+    )
+
+-- ---- tables are ordered
+
+keys_apart : (s : Settings) (x : Replica) (t : ℕ) → Apart (λ (k : Key). k.name) (eligible t (world s x t))
+keys_apart s x t = apart_map label (λ (k : Key). k.name) next_key (λ m. refl) (filter (is_eligible t) (world s x t)) (apart_filter label (is_eligible t) (world s x t) (named_world s x t))
+
+pub once : (picks : Table) → Apart (λ (p : Pick). p.name) picks → EachNameOnce picks
+once [] a = tt
+once (p ∷ picks) a = (all_among (λ (r : Pick). p.name ≢ r.name) picks a.0, once picks a.1)
+
+pub tables_are_ordered : TablesAreOrdered
+tables_are_ordered s x t =
+    let members = world s x t in
+    let keys = eligible t members in
+    let apart = keys_apart s x t in
+    let few = length_first keys apart s.processors in
+    let same = length-map (chosen s t members) (pick members) in (
+      omega (arith, few, same),
+      rising_first keys apart s.processors,
+      once (map (pick members) (chosen s t members)) (apart_map (λ (k : Key). k.name) (λ (p : Pick). p.name) (pick members) (λ k. refl) (chosen s t members) (apart_first keys apart s.processors)),
+    )

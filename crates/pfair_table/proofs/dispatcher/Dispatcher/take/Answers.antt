@@ -1,0 +1,10 @@
+use Rattle.std.proofs.Common.{sym}
+use Rattle.pfair_replica.specs.HeldRows.{replica_of}
+use Rattle.pfair_table.specs.Planned.{tables_of, decided_of}
+use Rattle.pfair_table.proofs.Steps.{kept_above}
+use Rattle.pfair_table.proofs.dispatcher.Dispatcher.take.Goals as goal
+
+pub invariant_of-self : goal.invariant_of-self
+invariant_of-self g c =
+    kept_above c.self.inside.settings (replica_of c.self.inside.replica) (replica_of c.take.new.self) (tables_of c.self.inside.planned.items) (decided_of c.self.inside.planned.items) c.self.inside.spent c.self.inside.members
+    (g.R.Ready.now c.self.inside.ready) (g.R.Ready.held c.self.inside.ready) c.self.invariant c.take.ensures.grows (sym c.take.ensures.shape.0) (sym c.take.ensures.shape.1)

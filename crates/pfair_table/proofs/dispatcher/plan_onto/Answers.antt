@@ -1,0 +1,33 @@
+use Rattle.std.proofs.Common.{◌≡◌, ◌≤◌, ◌+◌, ◌∷◌, [], ◌∙◌, sym, ap, subst, arith, suc, length, ℕ}
+use Rattle.std.proofs.lemmas.List.{length-append}
+use Rattle.pfair_replica.specs.HeldRows.{replica_of}
+use Rattle.pfair_replica.specs.Replica.{Replica, said}
+use Rattle.pfair_table.specs.Refinement.{IsInStep, heard_before}
+use Rattle.pfair_table.proofs.Steps.{step_next, rows_are, heard_fits}
+use Rattle.pfair_table.proofs.dispatcher.plan_onto.Goals as goal
+
+pub plan_slot-requires-clause-heard : goal.plan_slot-requires-clause-heard
+plan_slot-requires-clause-heard g c =
+    let x : Replica = replica_of c.args.replica.now in
+    let n : ℕ = length c.args.planned.now.items in
+    let slot_is : c.len-slot.result ≡ n = omega (arith, c.len-slot.ensures) in
+    let many = c.requires.of.processors in
+    let limit = c.processors.ensures.limits.processors.1 in
+    let heard_is = c.requires.step.heard_is in
+    let fits : heard_before x (suc n) ≤ 262144 = heard_fits x (suc n) (omega (arith, many, limit)) c.requires.room in
+    subst (λ t. c.args.members.now.heard + length (said x t) ≤ 262144) (sym slot_is) (omega (arith, fits, heard_is))
+
+pub returns-clause-step : goal.returns-clause-step
+returns-clause-step g c =
+    let x : Replica = replica_of c.args.replica.now in
+    let n : ℕ = c.len-slot.result in
+    let slot_is : length c.args.planned.now.items ≡ n = omega (arith, c.len-slot.ensures) in
+    let before : IsInStep c.args.settings x n c.args.members.now (g.R.Ready.now c.args.ready.now) (g.R.Ready.held c.args.ready.now) =
+    subst (λ k. IsInStep c.args.settings x k c.args.members.now (g.R.Ready.now c.args.ready.now) (g.R.Ready.held c.args.ready.now)) slot_is c.requires.step in
+    let long : n + 1 ≡ length c.push.new.self.items =
+    ap (λ k. k + 1) (sym slot_is) ∙ sym (ap length c.in_ok-push.ensures.items ∙ length-append c.args.planned.now.items (c.in_ok-next.next ∷ [])) in
+    subst (λ k. IsInStep c.args.settings x k c.plan_slot.new.members (g.R.Ready.now c.plan_slot.new.ready) (g.R.Ready.held c.plan_slot.new.ready)) long
+    (step_next c.args.settings x n c.args.members.now c.plan_slot.new.members (g.R.Ready.now c.args.ready.now) (g.R.Ready.now c.plan_slot.new.ready) (g.R.Ready.held c.args.ready.now) (g.R.Ready.held c.plan_slot.new.ready) c.in_ok-next.next.table.items
+    before
+    (rows_are c.args.settings x n c.args.members.now (g.R.Ready.now c.args.ready.now) (g.R.Ready.held c.args.ready.now) before c.processors.result c.processors.ensures.value c.in_ok-next.next.table.items c.in_ok-next.ensures.table)
+    c.in_ok-next.ensures.machine c.in_ok-next.ensures.members c.in_ok-next.ensures.heard c.in_ok-next.ensures.steady)

@@ -1,0 +1,32 @@
+use Rattle.std.proofs.Common.{◌≤◌, ◌∙◌, arith, suc, ℕ, [], None}
+use Rattle.pfair_replica.specs.HeldRows.{replica_of}
+use Rattle.pfair_replica.specs.Replica.{Replica}
+use Rattle.pfair_table.specs.Refinement.{heard_before}
+use Rattle.pfair_table.proofs.Steps.{step_next, rows_are, heard_fits}
+use Rattle.pfair_table.proofs.Keeping.{start_step}
+use Rattle.pfair_table.proofs.dispatcher.replay.Goals as goal
+
+pub loop-slot-init : goal.loop-slot-init
+loop-slot-init g c =
+    let p = c.processors.ensures.value in
+    let f = c.frame.ensures.value in
+    start_step c.args.settings (replica_of c.args.replica.now) c.new-members.result (g.R.Ready.now c.new-ready.result) (g.R.Ready.held c.new-ready.result)
+    (c.new-members.ensures ∙ (λ i. record { machine = record { processors = p i; frame = f i }; members = []; heard = 0; last_slot = None })) c.new-ready.ensures.start c.new-ready.ensures.empty
+
+pub plan_slot-requires-clause-heard : goal.plan_slot-requires-clause-heard
+plan_slot-requires-clause-heard g c =
+    let x : Replica = replica_of c.args.replica.now in
+    let n : ℕ = c.loop-slot.slot in
+    let many = c.requires.of.processors in
+    let limit = c.processors-in-loop-slot.ensures.limits.processors.1 in
+    let heard_is = c.loop-slot.invariant.heard_is in
+    let fits : heard_before x (suc n) ≤ 262144 = heard_fits x (suc n) (omega (arith, many, limit)) c.requires.room in
+    omega (arith, fits, heard_is)
+
+pub loop-slot-preserved : goal.loop-slot-preserved
+loop-slot-preserved g c =
+    let x : Replica = replica_of c.args.replica.now in
+    step_next c.args.settings x c.loop-slot.slot c.loop-slot.members c.plan_slot.new.members (g.R.Ready.now c.loop-slot.ready) (g.R.Ready.now c.plan_slot.new.ready) (g.R.Ready.held c.loop-slot.ready) (g.R.Ready.held c.plan_slot.new.ready) c.in_ok-plan_slot.field-0.table.items
+    c.loop-slot.invariant
+    (rows_are c.args.settings x c.loop-slot.slot c.loop-slot.members (g.R.Ready.now c.loop-slot.ready) (g.R.Ready.held c.loop-slot.ready) c.loop-slot.invariant c.processors-in-loop-slot.result c.processors-in-loop-slot.ensures.value c.in_ok-plan_slot.field-0.table.items c.in_ok-plan_slot.ensures.table)
+    c.in_ok-plan_slot.ensures.machine c.in_ok-plan_slot.ensures.members c.in_ok-plan_slot.ensures.heard c.in_ok-plan_slot.ensures.steady

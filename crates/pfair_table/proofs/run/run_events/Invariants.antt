@@ -1,0 +1,7 @@
+use Rattle.std.proofs.Common.{◌≡◌, drop, false}
+use Rattle.pfair_table.specs.Events.{run, run_of}
+use Rattle.pfair_table.specs.Refinement.{course_of}
+use Rattle.pfair_table.proofs.run.run_events.Given as goal
+
+abbrev pub invariant-loop-event : goal.invariant-loop-event
+invariant-loop-event g l = (run l.fn.settings (course_of l.dispatcher) (drop l.event-index l.events) ≡ run_of l.fn.settings l.capacity l.events) × (l.dispatcher.settings ≡ l.fn.settings) × (l.dispatcher.spent ≡ false)

@@ -1,0 +1,9 @@
+use Rattle.std.proofs.Common.{arith}
+use Rattle.pfair_table.specs.Script.{lists_of}
+use Rattle.pfair_table.proofs.Scripts.{capacity_some}
+use Rattle.pfair_table.proofs.script.longest.Goals as goal
+
+pub loop-log-init : goal.loop-log-init
+loop-log-init c =
+    let some = capacity_some (lists_of c.args.logs.now) in
+    (omega arith, omega (arith, some))

@@ -1,0 +1,51 @@
+-- What a list of events leaves.
+use Rattle.pfair_replica.specs.HeldRows.{replica_of}
+use Rattle.pfair_table.specs.declared.event.Event.{Event}
+use Rattle.pfair_table.specs.declared.event.Event.TheVariants.{Take, Absorb, Plan}
+use Rattle.std.specs.Prelude.{ℕ, Bool, not, ◌&&◌, nat_lt, List, [], ◌∷◌, ◌++◌, length, ⊤, if◌then◌else◌}
+use Rattle.pfair_entry.specs.Entry.{IsEntry}
+use Rattle.pfair_replica.specs.Replica.{Replica, IsReplica, empty_replica, has_torn, frontier}
+use Rattle.pfair_replica.specs.Offered.{taken, absorbed}
+use Rattle.pfair_table.specs.Table.{Settings, Table, table, decisions}
+use Rattle.pfair_table.specs.declared.pick.Decided.{Decided}
+
+-- what can come: an entry within its limits, or a replica
+abbrev pub IsEvent : Event → Type 0
+IsEvent (Take k n e) = IsEntry e
+IsEvent (Absorb x) = IsReplica (replica_of x)
+IsEvent Plan = ⊤
+
+-- ---- what is planned
+
+-- what is held, and what was planned: the table and the decisions of each slot so far
+pub record Course : Type 0 where
+  pub held : Replica
+  pub tables : List Table
+  pub decided : List (List Decided)
+
+abbrev pub start : Settings → ℕ → Course
+start s capacity = record { held = empty_replica s.processors capacity; tables = []; decided = [] }
+
+-- slot n can be planned of x
+abbrev pub is_plannable : Settings → Replica → ℕ → Bool
+is_plannable s x n = not (has_torn x) && (nat_lt n (frontier x) && nat_lt n s.slots)
+
+-- with the next slot planned of what is held
+abbrev pub with_next_slot : Settings → Course → Course
+with_next_slot s c =
+    let t = length c.tables in
+    record { held = c.held; tables = c.tables ++ table s c.held t ∷ []; decided = c.decided ++ decisions s c.held t ∷ [] }
+
+abbrev pub happens : Settings → Course → Event → Course
+happens s c (Take k n e) = record c { held = taken c.held k n e }
+happens s c (Absorb y) = record c { held = absorbed c.held (replica_of y) }
+happens s c Plan = if is_plannable s c.held (length c.tables) then with_next_slot s c else c
+
+-- what a list of events leaves
+abbrev pub run : Settings → Course → List Event → Course
+run s c [] = c
+run s c (e ∷ events) = run s (happens s c e) events
+
+-- the same, from an empty replica of that capacity
+abbrev pub run_of : Settings → ℕ → List Event → Course
+run_of s capacity events = run s (start s capacity) events

@@ -1,0 +1,12 @@
+pub mod Lists
+pub mod Ranks
+pub mod Table
+pub mod Limits
+pub mod Events
+pub mod Script
+pub mod ScriptRun
+pub mod Laws
+pub mod Queue
+pub mod PlanFault
+pub mod Planned
+pub mod Refinement

@@ -1,0 +1,64 @@
+-- What a ready structure holds of the members: the next subtask of each that isn't departing.
+use Rattle.std.specs.Prelude.{ℕ, Bool, false, ◌+◌, ◌≡◌, ◌≤◌, Option, Some, None, List, if◌then◌else◌}
+use Rattle.std.specs.Option.{ForSome}
+use Rattle.std.specs.List.{AllByRecursion, list_any}
+use Rattle.pfair_entry.specs.Same.{name_eq}
+use Rattle.pfair_entry.specs.Names.{name_of}
+use Rattle.pfair_entry.specs.declared.said.Said.{Said}
+use Rattle.std.specs.FinMap as finmap
+use Rattle.pfair_ready.specs.Names.{NameValue as Name}
+use Rattle.pfair_order.specs.declared.Key.{Key}
+use Rattle.pfair_table.specs.Lists.{Apart}
+use Rattle.pfair_ready.specs.Waiting.{Held}
+use Rattle.pfair_admission.specs.Member.{Member, is_departing, eligible_from, next_key}
+use Rattle.pfair_admission.specs.Admission.{member_named}
+use Rattle.pfair_admission.specs.Roster.{Roster}
+
+-- the slot from which the next subtask may run, and its key
+abbrev pub queued : Option Member → Option (ℕ × Key)
+queued None = None
+queued (Some m) = if is_departing m then None else Some (eligible_from m m.next, next_key m)
+
+abbrev pub IsQueue : List Member → Held → Type 0
+IsQueue members waiting = (name : Name) → finmap.get waiting name ≡ queued (member_named members name)
+
+-- no two members have one name
+abbrev pub Named : List Member → Type 0
+Named members = Apart (λ m. m.name) members
+
+-- members and a ready structure before the boundary of a slot
+pub record IsSteady (slot : ℕ) (roster : Roster) (now : ℕ) (waiting : Held) : Type 0 where
+  pub named : Named roster.members
+  pub queue : IsQueue roster.members waiting
+  pub by_now : now ≤ slot
+  pub order : ForSome roster.last_slot (λ last. last ≤ slot)
+  pub few : AllByRecursion (λ m. m.next ≤ slot + 1) roster.members
+
+-- ---- in the middle of a slot
+
+-- some announcement is about the task
+abbrev pub is_said : Name → List Said → Bool
+is_said name heard = list_any (λ a. name_eq name (name_of a.announcement)) heard
+
+-- some key is of the task
+abbrev pub has_key_of : Name → List Key → Bool
+has_key_of name keys = list_any (λ k. name_eq name k.name) keys
+
+-- what is held of every name that nothing was said about
+abbrev pub IsQueueBut : List Said → List Member → Held → Type 0
+IsQueueBut heard members waiting =
+    (name : Name) → is_said name heard ≡ false → finmap.get waiting name ≡ queued (member_named members name)
+
+-- the same without the keys that were taken out
+abbrev pub IsQueueWithout : List Key → List Member → Held → Type 0
+IsQueueWithout keys members waiting =
+    (name : Name) → finmap.get waiting name ≡ (if has_key_of name keys then None else queued (member_named members name))
+
+-- only the named task's entry is anew
+abbrev pub IsToldOf : Name → List Member → (before after : Held) → Type 0
+IsToldOf told members before after =
+    (name : Name) → finmap.get after name ≡ (if name_eq name told then queued (member_named members told) else finmap.get before name)
+
+-- a member with the key's name may run
+abbrev pub MayRun : List Member → Key → Type 0
+MayRun members k = (m : Member) × (member_named members k.name ≡ Some m) × (is_departing m ≡ false) × (m.next ≤ 1000000)

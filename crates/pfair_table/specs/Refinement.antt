@@ -1,0 +1,97 @@
+-- What a dispatcher is seen as, and what its parts have to do with the definitions.
+use Rattle.std.specs.Prelude.{ℕ, zero, suc, ◌+◌, ◌≡◌, ◌≤◌, ◌<◌, Bool, true, false, IsTrue, List, length, map, min, Some, slice_get}
+use Rattle.pfair_replica.specs.HeldRows.{HeldRows, replica_of}
+use Rattle.pfair_replica.specs.Replica.{Replica, Below, Untorn, frontier, has_torn, torn_keys, said, numbers_below}
+use Rattle.pfair_ready.specs.Waiting.{Held}
+use Rattle.pfair_admission.specs.Roster.{Roster}
+use Rattle.pfair_table.specs.declared.pick.Decided.{Decided}
+use Rattle.pfair_table.specs.declared.answer.Step.{Step}
+use Rattle.pfair_table.specs.declared.answer.Step.TheVariants.{Planned, Waiting, Done}
+use Rattle.pfair_table.specs.declared.answer.PlanFault.{PlanFault}
+use Rattle.pfair_table.specs.declared.answer.PlanFault.TheVariants.{Torn, Spent, Memory}
+use Rattle.pfair_table.specs.Table.{Settings, Table, machine, history, counted, decisions, plan}
+use Rattle.pfair_table.specs.Events.{Course, is_plannable}
+use Rattle.pfair_table.specs.Laws.{IsOf}
+use Rattle.pfair_table.specs.Queue.{IsSteady}
+
+-- a dispatcher, as a contract sees it
+pub record Dispatch : Type 0 where
+  pub settings : Settings
+  pub held : HeldRows
+  pub tables : List Table
+  pub decided : List (List Decided)
+  pub spent : Bool
+
+abbrev pub course_of : Dispatch → Course
+course_of d = record { held = replica_of d.held; tables = d.tables; decided = d.decided }
+
+-- ---- answers
+
+-- what a plan answers where nothing is torn or spent
+abbrev pub IsStepOf : Dispatch → Step → Type 0
+IsStepOf d (Planned slot) = (slot ≡ length d.tables) × IsTrue (is_plannable d.settings (replica_of d.held) slot)
+IsStepOf d (Waiting mark) = (length d.tables < d.settings.slots) × (mark ≡ frontier (replica_of d.held)) × (mark ≤ length d.tables)
+IsStepOf d Done = d.settings.slots ≤ length d.tables
+
+-- why a plan is refused
+abbrev pub IsPlanFault : Dispatch → PlanFault → Type 0
+IsPlanFault d (Torn key) = (has_torn (replica_of d.held) ≡ true) × (slice_get (torn_keys (replica_of d.held)) 0 ≡ Some key)
+IsPlanFault d Spent = (has_torn (replica_of d.held) ≡ false) × (d.spent ≡ true)
+IsPlanFault d Memory = (d.spent ≡ false) × IsTrue (is_plannable d.settings (replica_of d.held) (length d.tables))
+
+-- what stands after that
+abbrev pub after_fault : Dispatch → PlanFault → Dispatch
+after_fault d Memory = record d { spent = true }
+after_fault d _ = d
+
+-- why nothing is reopened
+abbrev pub IsReopenFault : Dispatch → PlanFault → Type 0
+IsReopenFault d (Torn key) = (has_torn (replica_of d.held) ≡ true) × (slice_get (torn_keys (replica_of d.held)) 0 ≡ Some key)
+IsReopenFault d Spent = ⊥
+IsReopenFault d Memory = has_torn (replica_of d.held) ≡ false
+
+-- ---- where plans have come as far as they can
+
+-- nothing more can be planned of what is held
+abbrev pub IsLast : Step → Type 0
+IsLast (Planned slot) = ⊥
+IsLast (Waiting mark) = Unit {0}
+IsLast Done = Unit {0}
+
+-- the tables are the whole plan of what is held, and the decisions are those of its slots
+pub record IsWholePlan (d : Dispatch) : Type 0 where
+  pub tables_are : d.tables ≡ plan d.settings (replica_of d.held)
+  pub decided_are : d.decided ≡ map (decisions d.settings (replica_of d.held)) (numbers_below (min (frontier (replica_of d.held)) d.settings.slots))
+
+-- ---- the refinement
+
+-- The tables and decisions so far are those of a replica that is still held: whole, and settled for as many slots.
+pub record IsPlanOf (s : Settings) (held of : Replica) (tables : List Table) (decided : List (List Decided)) : Type 0 where
+  pub is_of : IsOf s of
+  pub kept : Below of held
+  pub whole : Untorn of
+  pub early : length tables ≤ frontier of
+  pub wanted : length tables ≤ s.slots
+  pub tables_are : tables ≡ (history s of (length tables)).tables
+  pub decided_are : decided ≡ map (decisions s of) (numbers_below (length tables))
+
+-- how many announcements are said before slot n
+abbrev pub heard_before : Replica → ℕ → ℕ
+heard_before x zero = 0
+heard_before x (suc n) = heard_before x n + length (said x n)
+
+-- The members are those of the definition after n slots, counted by the tables so far; and the ready structure waits for slot n.
+pub record IsInStep (s : Settings) (of : Replica) (n : ℕ) (roster : Roster) (now : ℕ) (waiting : Held) : Type 0 where
+  pub machine_is : roster.machine ≡ machine s
+  pub members_are : roster.members ≡ counted (history s of n).tables (history s of n).members
+  pub heard_is : roster.heard ≡ heard_before of n
+  pub steady : IsSteady n roster now waiting
+
+-- All of this for one replica; where memory was wanting, members and ready structure say nothing.
+pub record IsKept (s : Settings) (held : Replica) (tables : List Table) (decided : List (List Decided)) (spent : Bool) (roster : Roster) (now : ℕ) (waiting : Held) : Type 0 where
+  pub processors : held.processors ≡ s.processors
+  pub capacity : held.capacity ≤ 4096
+  pub of : Replica
+  pub room : of.capacity ≤ 4096
+  pub plan : IsPlanOf s held of tables decided
+  pub step : spent ≡ false → IsInStep s of (length tables) roster now waiting

@@ -1,0 +1,60 @@
+-- Logs, and the replica that they make.
+use Rattle.std.specs.Prelude.{ℕ, zero, suc, ◌≡◌, Bool, IsTrue, nat_le, nat_lt, ◌==◌, if◌then◌else◌, max, List, [], ◌∷◌, length, map, Option, Some, None, slice_get, Vec}
+use Rattle.std.specs.List.{list_all}
+use Rattle.std.specs.declared.alloc.Global.{Global}
+use Rattle.pfair_lattice.specs.Held.{Held}
+use Rattle.pfair_lattice.specs.declared.flat.Flat.TheVariants.{One}
+use Rattle.pfair_entry.specs.Entry.{Logged}
+use Rattle.pfair_replica.specs.Replica.{Replica, Contents}
+use Rattle.pfair_table.specs.Table.{Settings}
+
+-- a run's settings, and the log of each processor
+pub record LoggedRun : Type 0 where
+  pub settings : Settings
+  pub logs : List (List Logged)
+
+-- no more entries than a log may have
+abbrev pub is_short : List Logged → Bool
+is_short log = nat_le (length log) 4096
+
+-- one log for each processor, and none longer than a log may be
+pub record IsLoggedRun (r : LoggedRun) : Type 0 where
+  pub one_each : length r.logs ≡ r.settings.processors
+  pub short : IsTrue (list_all is_short r.logs)
+
+-- what some logs have in them
+abbrev pub lists_of : List (Vec Logged Global) → List (List Logged)
+lists_of logs = map (λ log. log.items) logs
+
+-- the length of the longest log, at least 1: the numbers that a replica of them has room for
+abbrev pub capacity_of : List (List Logged) → ℕ
+capacity_of [] = 1
+capacity_of (log ∷ logs) = max (length log) (capacity_of logs)
+
+-- entry n of a log, numbered from 1
+abbrev pub entry_of : List Logged → ℕ → Held Logged
+entry_of [] n = None
+entry_of (e ∷ log) zero = None
+entry_of (e ∷ log) (suc zero) = Some (One e)
+entry_of (e ∷ log) (suc (suc n)) = entry_of log (suc n)
+
+abbrev pub row_of : Option (List Logged) → ℕ → Held Logged
+row_of None n = None
+row_of (Some log) n = entry_of log n
+
+-- every entry at its number
+abbrev pub contents_of : List (List Logged) → Contents
+contents_of logs k n = row_of (slice_get logs k) n
+
+-- the replica of a script: every entry of the logs, and nothing else
+abbrev pub replica_of_logs : List (List Logged) → Replica
+replica_of_logs logs = record { processors = length logs; capacity = capacity_of logs; at = contents_of logs }
+
+-- ---- while the entries are taken one after another
+
+-- the first k logs, and of the next the first i entries
+abbrev pub so_far : List (List Logged) → ℕ → ℕ → Contents
+so_far logs k i j n = if nat_lt j k then contents_of logs j n else (if j == k then (if nat_le n i then contents_of logs j n else None) else None)
+
+abbrev pub held_so_far : List (List Logged) → ℕ → ℕ → Replica
+held_so_far logs k i = record { processors = length logs; capacity = capacity_of logs; at = so_far logs k i }

@@ -1,0 +1,51 @@
+//! What a plan answers.
+
+ghost use Rattle.std.specs.Prelude.{◌≡◌};
+ghost use Rattle.pfair_table.specs.PlanFault.{plan_fault_number};
+
+use pfair_replica::EntryKey;
+use thiserror::Error;
+
+/// What a plan has done.
+#[derive(Clone, Copy, Debug, PartialEq, Eq)]
+pub enum Step {
+    /// This slot was planned.
+    Planned {
+        /// The slot.
+        slot: u64,
+    },
+    /// Nothing: the next slot is at or past the frontier, up to which the logs that are held are settled.
+    Waiting {
+        /// The frontier.
+        frontier: u64,
+    },
+    /// Nothing: all slots of the run are planned.
+    Done,
+}
+
+/// Why a slot was not planned, or nothing reopened.
+#[derive(Clone, Copy, Debug, PartialEq, Eq, Error)]
+pub enum PlanFault {
+    /// Two contents of one entry met; this is the least such key. What was planned stands, and no more is planned.
+    #[error("entry {number} of processor {processor} torn", number = .0.number, processor = .0.processor)]
+    Torn(EntryKey),
+    /// A plan has wanted memory: the dispatcher has to be reopened.
+    #[error("spent")]
+    Spent,
+    /// Want of memory.
+    #[error("out of memory")]
+    Memory,
+}
+
+impl PlanFault {
+    /// The number under which the fault is reported: 30, 31 and 90, in the order of the variants.
+    pub fn number(&self) -> u8
+        ensures { result ≡ plan_fault_number self.now }
+    {
+        match self {
+            PlanFault::Torn(_) => 30,
+            PlanFault::Spent => 31,
+            PlanFault::Memory => 90,
+        }
+    }
+}

@@ -1,0 +1,277 @@
+//! The dispatcher.
+
+ghost use Rattle.std.specs.Prelude.{◌≡◌, ◌≤◌, ◌<◌, ◌++◌, ◌∷◌, [], true, false, IfOk, IfErr, OnOk, OnErr, Err, length, slice_get};
+ghost use Rattle.std.specs.Option.{option_map};
+ghost use Rattle.pfair_replica.specs.Replica.{has_torn};
+ghost use Rattle.pfair_replica.specs.Offered.{taken, absorbed};
+ghost use Rattle.pfair_replica.specs.HeldRows.{IsShape, held, replica_of};
+ghost use Rattle.pfair_replica.specs.Faults.{IsTakenAs, IsTakeFaultOf, IsMergeFaultOf, IsPartlyMerged};
+ghost use Rattle.pfair_table.specs.declared.event.Event.TheVariants.{Plan as PlanEvent};
+ghost use Rattle.pfair_table.specs.Events.{start, happens};
+ghost use Rattle.pfair_table.specs.Laws.{IsOf};
+ghost use Rattle.pfair_table.specs.Table.{table, decisions};
+ghost use Rattle.pfair_table.specs.Planned.{tables_of, decided_of};
+ghost use Rattle.pfair_table.specs.Refinement.{IsInStep, course_of, IsStepOf, IsPlanFault, after_fault, IsReopenFault, IsLast, IsWholePlan};
+
+use crate::answer::{PlanFault, Step};
+use crate::pick::{Decided, Pick};
+use crate::settings::Settings;
+use crate::slot::{PlannedSlot, plan_slot};
+use pfair_admission::Members;
+use pfair_entry::Entry;
+use pfair_ready::Ready;
+use pfair_replica::{MergeFault, Replica, TakeFault, Taken};
+use std::alloc::{AllocError, Global};
+use std::marker::Model;
+
+/// Holds what one processor has heard of all logs, and plans slot after slot what that settles.
+///
+/// A slot that is planned stays as it is, whatever comes later. The same entries give the same tables, in whatever
+/// order, with whatever losses and repeats they come.
+#[derive(Drop)]
+pub struct Dispatcher<R: Ready> {
+    alloc: Global,
+    settings: Settings,
+    replica: Replica,
+    members: Members,
+    ready: R,
+    planned: Vec<PlannedSlot>,
+    spent: bool,
+}
+
+impl<R: Ready> Model for Dispatcher<R> {
+    ghost use Rattle.pfair_table.specs.Planned.{tables_of, decided_of};
+    ghost use Rattle.pfair_replica.specs.HeldRows.{replica_of};
+    ghost use Rattle.pfair_table.specs.Refinement.{Dispatch, IsKept};
+
+    ghost Value = { Dispatch };
+
+    ghost view = { λ a. record { settings = a.settings; held = a.replica; tables = tables_of a.planned.items; decided = decided_of a.planned.items; spent = a.spent } };
+
+    ghost invariant = { λ a. IsKept a.settings (replica_of a.replica) (tables_of a.planned.items) (decided_of a.planned.items) a.spent a.members (R.now a.ready) (R.held a.ready) };
+}
+
+impl<R: Ready> Dispatcher<R> {
+    /// A dispatcher that holds nothing and has planned nothing, with room for logs of `capacity` entries, 1 to 4,096.
+    ///
+    /// # Errors
+    /// `AllocError` where memory was wanted and refused.
+    pub fn new(alloc: Global, settings: Settings, capacity: u32) -> Result<Self, AllocError>
+        requires { IsShape settings.processors capacity }
+        ensures settings { IfOk result (λ d. d.settings ≡ settings) }
+        ensures course { IfOk result (λ d. course_of d ≡ start settings capacity) }
+        ensures spent { IfOk result (λ d. d.spent ≡ false) }
+    {
+        let replica = Replica::new(alloc, settings.processors(), capacity)?;
+        let members = Members::new(alloc, settings.processors(), settings.frame());
+        Ok(Dispatcher {
+            alloc,
+            settings,
+            replica,
+            members,
+            ready: R::new(alloc),
+            planned: Vec::new(alloc),
+            spent: false,
+        })
+    }
+
+    /// Takes entry `number` (from 1) of the log of `processor` (from 0), as [`Replica::take`].
+    ///
+    /// # Errors
+    /// Those of [`Replica::take`]; the dispatcher is then as before.
+    pub fn take(&mut self, processor: u8, number: u32, entry: Entry) -> Result<Taken, TakeFault>
+        ensures answer { IfOk result (IsTakenAs (held self.old.held processor number) entry) }
+        ensures fault { IfErr result (IsTakeFaultOf self.old.held processor number) }
+        ensures unchanged { OnErr result (self.new ≡ self.old) }
+        ensures offered { (result ≡ Err TakeFault.Memory → ⊥) → replica_of self.new.held ≡ taken (replica_of self.old.held) processor number entry }
+        ensures rest { self.new ≡ record self.old { held = self.new.held } }
+    {
+        self.replica.take(processor, number, entry)
+    }
+
+    /// Takes all that another replica holds, as [`Replica::merge`].
+    ///
+    /// # Errors
+    /// Those of [`Replica::merge`]: after `OtherShape` the dispatcher is as before, and after `Memory` it holds a part
+    /// of what the other holds beside what it held.
+    pub fn absorb(&mut self, other: &Replica) -> Result<(), MergeFault>
+        ensures fault { IfErr result (IsMergeFaultOf self.old.held other.now) }
+        ensures unchanged { result ≡ Err MergeFault.OtherShape → self.new ≡ self.old }
+        ensures partly { OnErr result (IsPartlyMerged (replica_of self.old.held) (replica_of other.now) (replica_of self.new.held)) }
+        ensures offered { (result ≡ Err MergeFault.Memory → ⊥) → replica_of self.new.held ≡ absorbed (replica_of self.old.held) (replica_of other.now) }
+        ensures rest { self.new ≡ record self.old { held = self.new.held } }
+    {
+        self.replica.merge(other)
+    }
+
+    /// What the dispatcher plans for.
+    pub fn settings(&self) -> Settings
+        ensures { result ≡ self.now.settings }
+    {
+        self.settings
+    }
+
+    /// What it holds.
+    pub fn replica(&self) -> &Replica
+        ensures value { result.now ≡ self.now.held }
+    {
+        &self.replica
+    }
+
+    /// The slot that is planned next: so many slots are planned.
+    pub fn next_slot(&self) -> u64
+        ensures value { result ≡ length self.now.tables }
+        ensures decided { result ≡ length self.now.decided }
+    {
+        self.planned.len() as u64
+    }
+
+    /// The table of a slot: its quanta in the PD2 order. `None` exactly where the slot isn't planned.
+    pub fn table(&self, slot: u64) -> Option<&[Pick]>
+        ensures { option_map (λ rows. rows.now) result ≡ slice_get self.now.tables slot }
+    {
+        let planned = self.planned.get(slot as usize)?;
+        Some(&planned.table)
+    }
+
+    /// The decisions at the boundary of a slot, in the order of processor and number. `None` exactly where the slot
+    /// isn't planned.
+    pub fn decisions(&self, slot: u64) -> Option<&[Decided]>
+        ensures { option_map (λ rows. rows.now) result ≡ slice_get self.now.decided slot }
+    {
+        let planned = self.planned.get(slot as usize)?;
+        Some(&planned.decided)
+    }
+
+    /// Plans the next slot where what is held settles it.
+    ///
+    /// [`Step::Done`] exactly where all slots of the run are planned, else [`Step::Waiting`] exactly where the next
+    /// slot is not below the frontier. After either the tables are the whole plan of what is held.
+    ///
+    /// # Errors
+    /// Looked at first, in this order: [`PlanFault::Torn`] exactly where something held is torn, [`PlanFault::Spent`]
+    /// exactly where the dispatcher is spent; nothing has then changed. [`PlanFault::Memory`] where memory was wanted
+    /// and refused: what is held and what was planned stand, the slot isn't planned, and the dispatcher is spent.
+    pub fn plan_next(&mut self) -> Result<Step, PlanFault>
+        ensures course { OnOk result (course_of self.new ≡ happens self.old.settings (course_of self.old) PlanEvent) }
+        ensures rest { OnOk result (self.new ≡ record self.old { tables = self.new.tables; decided = self.new.decided }) }
+        ensures step { IfOk result (IsStepOf self.old) }
+        ensures whole { OnOk result ((has_torn (replica_of self.old.held) ≡ false) × (self.old.spent ≡ false)) }
+        ensures settled { IfOk result (λ step. IsLast step → IsWholePlan self.new) }
+        ensures fault { IfErr result (IsPlanFault self.old) }
+        ensures after { IfErr result (λ fault. self.new ≡ after_fault self.old fault) }
+    {
+        if let Some(key) = self.replica.first_torn() {
+            return Err(PlanFault::Torn(key));
+        }
+        if self.spent {
+            return Err(PlanFault::Spent);
+        }
+        let slot = self.planned.len() as u64;
+        if slot >= self.settings.slots() {
+            return Ok(Step::Done);
+        }
+        let frontier = self.replica.frontier();
+        if slot >= frontier {
+            return Ok(Step::Waiting { frontier });
+        }
+        match plan_onto(
+            self.alloc,
+            self.settings,
+            &self.replica,
+            &mut self.members,
+            &mut self.ready,
+            &mut self.planned,
+        ) {
+            Ok(()) => Ok(Step::Planned { slot }),
+            Err(_) => {
+                self.spent = true;
+                Err(PlanFault::Memory)
+            }
+        }
+    }
+
+    /// Makes all but the replica and what was planned anew from these two, after which plans go on as if no memory had
+    /// been wanted.
+    ///
+    /// # Errors
+    /// [`PlanFault::Torn`] exactly where something held is torn; nothing has then changed. [`PlanFault::Memory`] where
+    /// memory was wanted and refused; the dispatcher is then spent, and else as before.
+    pub fn reopen(&mut self) -> Result<(), PlanFault>
+        ensures ok { OnOk result ((self.new ≡ record self.old { spent = false }) × (has_torn (replica_of self.old.held) ≡ false)) }
+        ensures fault { IfErr result (IsReopenFault self.old) }
+        ensures after { IfErr result (λ fault. self.new ≡ after_fault self.old fault) }
+    {
+        if let Some(torn) = self.replica.first_torn() {
+            return Err(PlanFault::Torn(torn));
+        }
+        match replay::<R>(
+            self.alloc,
+            self.settings,
+            &self.replica,
+            self.planned.len() as u64,
+        ) {
+            Ok((members, ready)) => {
+                self.members = members;
+                self.ready = ready;
+                self.spent = false;
+                Ok(())
+            }
+            Err(_) => {
+                self.spent = true;
+                Err(PlanFault::Memory)
+            }
+        }
+    }
+}
+
+// Plans slot n of the replica, and puts it behind the n slots before it.
+fn plan_onto<R: Ready>(
+    alloc: Global,
+    settings: Settings,
+    replica: &Replica,
+    members: &mut Members,
+    ready: &mut R,
+    planned: &mut Vec<PlannedSlot>,
+) -> Result<(), AllocError>
+    requires of { IsOf settings (replica_of replica.now) }
+    requires room { replica.now.capacity ≤ 4096 }
+    requires slots { length planned.old.items < settings.slots }
+    requires step { IsInStep settings (replica_of replica.now) (length planned.old.items) members.old (R.now ready.old) (R.held ready.old) }
+    ensures tables { OnOk result (tables_of planned.new.items ≡ tables_of planned.old.items ++ table settings (replica_of replica.now) (length planned.old.items) ∷ []) }
+    ensures decided { OnOk result (decided_of planned.new.items ≡ decided_of planned.old.items ++ decisions settings (replica_of replica.now) (length planned.old.items) ∷ []) }
+    ensures step { OnOk result (IsInStep settings (replica_of replica.now) (length planned.new.items) members.new (R.now ready.new) (R.held ready.new)) }
+    ensures err { OnErr result (planned.new.items ≡ planned.old.items) }
+{
+    let slot = planned.len() as u64;
+    let next = plan_slot(alloc, replica, members, ready, settings.processors(), slot)?;
+    planned.push(next)?;
+    Ok(())
+}
+
+// The members and the ready structure after so many slots.
+fn replay<R: Ready>(
+    alloc: Global,
+    settings: Settings,
+    replica: &Replica,
+    slots: u64,
+) -> Result<(Members, R), AllocError>
+    requires of { IsOf settings (replica_of replica.now) }
+    requires room { replica.now.capacity ≤ 4096 }
+    requires slots { slots ≤ settings.slots }
+    ensures { IfOk result (λ made. IsInStep settings (replica_of replica.now) slots made.0 (R.now made.1) (R.held made.1)) }
+{
+    let mut members = Members::new(alloc, settings.processors(), settings.frame());
+    let mut ready = R::new(alloc);
+    for slot in 0..slots {
+        plan_slot(
+            alloc,
+            replica,
+            &mut members,
+            &mut ready,
+            settings.processors(),
+            slot,
+        )?;
+    }
+    Ok((members, ready))
+}

@@ -1,0 +1,22 @@
+//! What can happen to a dispatcher.
+
+use pfair_entry::Entry;
+use pfair_replica::Replica;
+
+/// What can happen to a dispatcher.
+#[derive(Drop)]
+pub enum Event {
+    /// An entry comes: that of this processor (from 0) with this number (from 1).
+    Take {
+        /// The processor in whose log it stands.
+        processor: u8,
+        /// Its number in that log.
+        number: u32,
+        /// The entry.
+        entry: Entry,
+    },
+    /// All comes that another holds.
+    Absorb(Replica),
+    /// The next slot is to be planned.
+    Plan,
+}

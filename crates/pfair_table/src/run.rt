@@ -1,0 +1,81 @@
+//! What a list of events leaves.
+
+ghost use Rattle.std.specs.Prelude.{◌≡◌, false, IfOk, OnOk};
+ghost use Rattle.pfair_replica.specs.HeldRows.{IsShape, replica_of};
+ghost use Rattle.pfair_replica.specs.Offered.{taken};
+ghost use Rattle.pfair_table.specs.Events.{happens, run_of};
+ghost use Rattle.pfair_table.specs.Refinement.{course_of};
+
+use crate::answer::PlanFault;
+use crate::dispatcher::Dispatcher;
+use crate::event::Event;
+use crate::settings::Settings;
+use pfair_entry::Entry;
+use pfair_ready::Ready;
+use pfair_replica::{MergeFault, TakeFault};
+use std::alloc::{AllocError, Global};
+
+/// The dispatcher that a list of events leaves, from one that holds nothing. An event that is refused changes nothing,
+/// and the run goes on.
+///
+/// # Errors
+/// `AllocError` where memory was wanted and refused; the run then ends.
+pub fn run_events<R: Ready>(
+    alloc: Global,
+    settings: Settings,
+    capacity: u32,
+    events: &[Event],
+) -> Result<Dispatcher<R>, AllocError>
+    requires { IsShape settings.processors capacity }
+    ensures settings { IfOk result (λ d. d.settings ≡ settings) }
+    ensures course { IfOk result (λ d. course_of d ≡ run_of settings capacity events.now) }
+    ensures spent { IfOk result (λ d. d.spent ≡ false) }
+{
+    let mut dispatcher = Dispatcher::new(alloc, settings, capacity)?;
+    for event in events {
+        happen(&mut dispatcher, event)?;
+    }
+    Ok(dispatcher)
+}
+
+// One event: what is refused changes nothing, and only want of memory is an error.
+fn happen<R: Ready>(dispatcher: &mut Dispatcher<R>, event: &Event) -> Result<(), AllocError>
+    requires { dispatcher.old.spent ≡ false }
+    ensures settings { dispatcher.new.settings ≡ dispatcher.old.settings }
+    ensures course { OnOk result (course_of dispatcher.new ≡ happens dispatcher.old.settings (course_of dispatcher.old) event.now) }
+    ensures spent { OnOk result (dispatcher.new.spent ≡ false) }
+{
+    match event {
+        Event::Take {
+            processor,
+            number,
+            entry,
+        } => offer(dispatcher, *processor, *number, *entry),
+        Event::Absorb(other) => match dispatcher.absorb(other) {
+            Err(MergeFault::Memory) => Err(AllocError),
+            _ => Ok(()),
+        },
+        Event::Plan => match dispatcher.plan_next() {
+            Err(PlanFault::Memory) => Err(AllocError),
+            Err(PlanFault::Torn(_)) => Ok(()),
+            Err(PlanFault::Spent) => Ok(()),
+            Ok(_) => Ok(()),
+        },
+    }
+}
+
+/// Offers an entry: one that is refused changes nothing, and only want of memory is an error.
+pub(crate) fn offer<R: Ready>(
+    dispatcher: &mut Dispatcher<R>,
+    processor: u8,
+    number: u32,
+    entry: Entry,
+) -> Result<(), AllocError>
+    ensures held { OnOk result (replica_of dispatcher.new.held ≡ taken (replica_of dispatcher.old.held) processor number entry) }
+    ensures rest { dispatcher.new ≡ record dispatcher.old { held = dispatcher.new.held } }
+{
+    match dispatcher.take(processor, number, entry) {
+        Err(TakeFault::Memory) => Err(AllocError),
+        _ => Ok(()),
+    }
+}

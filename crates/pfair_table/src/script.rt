@@ -1,0 +1,103 @@
+//! The logs of a run.
+
+ghost use Rattle.std.specs.Prelude.{◌≡◌, ◌<◌, ◌↔◌, IsTrue, IfOk, IfErr, Some, slice_get};
+ghost use Rattle.std.specs.List.{list_all};
+ghost use Rattle.pfair_replica.specs.HeldRows.{IsShape};
+ghost use Rattle.pfair_table.specs.Limits.{IsSettings};
+ghost use Rattle.pfair_table.specs.Script.{IsLoggedRun, is_short, lists_of, capacity_of};
+
+use crate::settings::Settings;
+use pfair_entry::Entry;
+use std::marker::Model;
+
+/// A run's settings, and the log of each of its processors.
+#[derive(Debug, Drop)]
+pub struct Script {
+    settings: Settings,
+    logs: Vec<Vec<Entry>>,
+}
+
+impl Model for Script {
+    ghost use Rattle.pfair_table.specs.Script.{LoggedRun, IsLoggedRun, lists_of};
+
+    ghost Value = { LoggedRun };
+
+    ghost view = { λ a. record { settings = a.settings; logs = lists_of a.logs.items } };
+
+    ghost invariant = { λ a. IsLoggedRun (record { settings = a.settings; logs = lists_of a.logs.items }) };
+}
+
+impl Script {
+    /// The most entries of a log.
+    pub const LONGEST_LOG: usize = 4_096;
+
+    /// A run of these settings with these logs, that of processor k at place k. The logs come back
+    /// exactly where there is not one for each processor, or one has more than
+    /// [`Script::LONGEST_LOG`] entries.
+    pub fn new(settings: Settings, logs: Vec<Vec<Entry>>) -> Result<Script, Vec<Vec<Entry>>>
+        ensures ok { IfOk result (λ script. (script ≡ record { settings = settings; logs = lists_of logs.items }) × IsLoggedRun script) }
+        ensures back { IfErr result (λ back. (back ≡ logs) × ¬ (IsLoggedRun record { settings = settings; logs = lists_of logs.items })) }
+    {
+        if fits(settings, &logs) {
+            Ok(Script { settings, logs })
+        } else {
+            Err(logs)
+        }
+    }
+
+    /// What the run is set to.
+    pub fn settings(&self) -> Settings
+        ensures value { result ≡ self.now.settings }
+        ensures run { IsLoggedRun self.now }
+    {
+        self.settings
+    }
+
+    /// The log of a processor, which is one of the run's: its entry n is at place n - 1.
+    pub fn log(&self, processor: u8) -> &[Entry]
+        requires { processor < self.now.settings.processors }
+        ensures value { slice_get self.now.logs processor ≡ Some result.now }
+        ensures run { IsLoggedRun self.now }
+    {
+        &self.logs[processor as usize]
+    }
+
+    /// The numbers that a replica of the logs has room for: the length of the longest, at least 1.
+    pub fn capacity(&self) -> u32
+        ensures value { result ≡ capacity_of self.now.logs }
+        ensures shape { IsShape self.now.settings.processors (capacity_of self.now.logs) }
+    {
+        let _processors = self.settings.processors();
+        longest(&self.logs) as u32
+    }
+}
+
+// The length of the longest log, at least 1.
+fn longest(logs: &[Vec<Entry>]) -> usize
+    ensures { result ≡ capacity_of (lists_of logs.now) }
+{
+    let mut longest = 1;
+    for log in logs {
+        longest = longest.max(log.len());
+    }
+    longest
+}
+
+// Whether there is one log for each processor, and none is too long.
+fn fits(settings: Settings, logs: &[Vec<Entry>]) -> bool
+    ensures { IsTrue result ↔ IsLoggedRun record { settings = settings; logs = lists_of logs.now } }
+{
+    logs.len() == settings.processors() as usize && are_short(logs)
+}
+
+// Whether no log is too long.
+fn are_short(logs: &[Vec<Entry>]) -> bool
+    ensures { result ≡ list_all (λ log. is_short log.items) logs.now }
+{
+    for log in logs {
+        if log.len() > Script::LONGEST_LOG {
+            return false;
+        }
+    }
+    true
+}

@@ -1,0 +1,106 @@
+//! A script's run on one dispatcher.
+
+ghost use Rattle.std.specs.Prelude.{◌≡◌, ◌+◌, ◌≤◌, List, IfOk, IfErr, OnOk, Some, slice_get, length};
+ghost use Rattle.pfair_replica.specs.HeldRows.{replica_of};
+ghost use Rattle.pfair_table.specs.Refinement.{IsWholePlan};
+ghost use Rattle.pfair_table.specs.Script.{held_so_far};
+ghost use Rattle.pfair_table.specs.ScriptRun.{IsRunOf, IsScriptFaultOf, script_fault_number};
+ghost use Rattle.pfair_entry.specs.Entry.{Logged};
+ghost use Rattle.pfair_table.specs.declared.single.ScriptFault.TheVariants.{Memory};
+
+use crate::answer::{PlanFault, Step};
+use crate::dispatcher::Dispatcher;
+use crate::run::offer;
+use crate::script::Script;
+use pfair_entry::Entry;
+use pfair_ready::Ready;
+use std::alloc::{AllocError, Global};
+use thiserror::Error;
+
+/// Why a script was not run to its end.
+#[derive(Clone, Copy, Debug, PartialEq, Eq, Error)]
+pub enum ScriptFault {
+    /// The logs settle the slots below this one alone, which is one of the run's.
+    #[error("stalled at slot {slot}")]
+    Stalled {
+        /// The frontier of the logs.
+        slot: u64,
+    },
+    /// Want of memory.
+    #[error("out of memory")]
+    Memory,
+}
+
+impl ScriptFault {
+    /// The number under which the fault is reported: 52 and 90, in the order of the variants.
+    pub fn number(&self) -> u8
+        ensures { result ≡ script_fault_number self.now }
+    {
+        match self {
+            ScriptFault::Stalled { .. } => 52,
+            ScriptFault::Memory => 90,
+        }
+    }
+}
+
+impl From<AllocError> for ScriptFault {
+    ghost use Rattle.pfair_table.specs.declared.single.ScriptFault.TheVariants.{Memory};
+
+    ghost from_gives = { λ _ e. e ≡ Memory };
+
+    fn from(_error: AllocError) -> ScriptFault {
+        ScriptFault::Memory
+    }
+}
+
+/// The dispatcher that has taken every entry of a script's logs, and planned all slots of the run.
+///
+/// # Errors
+/// [`ScriptFault::Stalled`] only where the frontier of the logs, which is that slot, is below the number of slots.
+/// [`ScriptFault::Memory`] where memory was wanted and refused.
+pub fn run_script<R: Ready>(alloc: Global, script: &Script) -> Result<Dispatcher<R>, ScriptFault>
+    ensures ok { IfOk result (IsRunOf script.now) }
+    ensures fault { IfErr result (IsScriptFaultOf script.now) }
+{
+    let settings = script.settings();
+    let mut dispatcher = Dispatcher::new(alloc, settings, script.capacity())?;
+    for processor in 0..settings.processors() {
+        take_log(&mut dispatcher, processor, script.log(processor))?;
+    }
+    let frontier = dispatcher.replica().frontier();
+    if frontier < settings.slots() {
+        return Err(ScriptFault::Stalled { slot: frontier });
+    }
+    match plan_all(&mut dispatcher) {
+        Ok(()) => Ok(dispatcher),
+        Err(_) => Err(ScriptFault::Memory),
+    }
+}
+
+// Takes the entries of one log, in order.
+fn take_log<R: Ready>(
+    dispatcher: &mut Dispatcher<R>,
+    processor: u8,
+    log: &[Entry],
+) -> Result<(), ScriptFault>
+    requires { length log.now ≤ 4096 }
+    ensures rest { dispatcher.new ≡ record dispatcher.old { held = dispatcher.new.held } }
+    ensures held { OnOk result ((logs : List (List Logged)) → slice_get logs processor ≡ Some log.now
+        → replica_of dispatcher.old.held ≡ held_so_far logs processor 0 → replica_of dispatcher.new.held ≡ held_so_far logs (processor + 1) 0) }
+    ensures fault { IfErr result (λ fault. fault ≡ Memory) }
+{
+    for (index, entry) in log.iter().enumerate() {
+        offer(dispatcher, processor, index as u32 + 1, *entry)?;
+    }
+    Ok(())
+}
+
+// Plans as many slots as what is held settles.
+fn plan_all<R: Ready>(dispatcher: &mut Dispatcher<R>) -> Result<(), PlanFault>
+    ensures settings { OnOk result (dispatcher.new.settings ≡ dispatcher.old.settings) }
+    ensures held { OnOk result (dispatcher.new.held ≡ dispatcher.old.held) }
+    ensures whole { OnOk result (IsWholePlan dispatcher.new) }
+{
+    'slots: while let Step::Planned { .. } = dispatcher.plan_next()? {}
+    Ok(())
+}

@@ -1,0 +1,170 @@
+//! One slot: the boundary, the ready structure, and the quanta.
+
+ghost use Rattle.std.specs.Prelude.{◌≡◌, ◌≤◌, ◌<◌, ◌+◌, Some, IfOk, OnOk, map, length};
+ghost use Rattle.std.specs.Option.{ForSome};
+ghost use Rattle.std.specs.List.{AllByRecursion};
+ghost use Rattle.pfair_order.specs.declared.Key.{Key};
+ghost use Rattle.pfair_table.specs.Lists.{Among, Apart};
+ghost use Rattle.pfair_table.specs.Ranks.{first_by_rank};
+ghost use Rattle.pfair_replica.specs.Replica.{said};
+ghost use Rattle.pfair_replica.specs.HeldRows.{replica_of};
+ghost use Rattle.pfair_admission.specs.Admission.{boundary, boundary_decisions, announcements};
+ghost use Rattle.pfair_entry.specs.Entry.{IsWithinLimits};
+ghost use Rattle.pfair_table.specs.Table.{with_decisions, eligible, pick, all_ran};
+ghost use Rattle.pfair_table.specs.Queue.{IsQueue, IsQueueBut, IsQueueWithout, IsToldOf, IsSteady, MayRun, Named};
+
+use crate::pick::{Decided, Pick};
+use pfair_admission::Members;
+use pfair_entry::Said;
+use pfair_order::Key;
+use pfair_ready::Ready;
+use pfair_replica::Replica;
+use pfair_weight::TaskName;
+use std::alloc::{AllocError, Global};
+
+/// What is planned of a slot.
+#[derive(Drop)]
+pub(crate) struct PlannedSlot {
+    pub table: Vec<Pick>,
+    pub decided: Vec<Decided>,
+}
+
+/// The boundary of a slot: each announcement with its decision.
+pub(crate) fn decide_all(
+    alloc: Global,
+    members: &mut Members,
+    slot: u64,
+    heard: &[Said],
+) -> Result<Vec<Decided>, AllocError>
+    requires slot { slot ≤ 1000000 }
+    requires order { ForSome members.old.last_slot (λ last. last ≤ slot) }
+    requires heard { members.old.heard + length heard.now ≤ 262144 }
+    requires limits { AllByRecursion (λ a. IsWithinLimits a.announcement) heard.now }
+    ensures decided { IfOk result (λ all. all.items ≡ with_decisions heard.now (boundary_decisions members.old.machine slot members.old.members (announcements heard.now))) }
+    ensures members { OnOk result (members.new ≡ record members.old { members = boundary members.old.machine slot members.old.members (announcements heard.now); heard = members.old.heard + length heard.now; last_slot = Some slot }) }
+{
+    let decisions = members.boundary(slot, heard)?;
+    heard
+        .iter()
+        .zip(decisions.iter())
+        .map(|(said, decision)| Decided {
+            processor: said.processor,
+            number: said.number,
+            announcement: said.announcement,
+            decision: *decision,
+        })
+        .collect(alloc)
+}
+
+/// The ready structure hears of one task.
+pub(crate) fn tell_of<R: Ready>(
+    ready: &mut R,
+    members: &Members,
+    name: &TaskName,
+) -> Result<(), AllocError>
+    ensures told { OnOk result (IsToldOf name.now members.now.members (R.held ready.old) (R.held ready.new)) }
+    ensures time { R.now ready.new ≡ R.now ready.old }
+{
+    ready.remove(name);
+    let Some(member) = members.get(name) else {
+        return Ok(());
+    };
+    if member.is_departing() {
+        return Ok(());
+    }
+    let (begins, key) = member.next_subtask();
+    ready.insert(begins, key)?;
+    Ok(())
+}
+
+/// The ready structure hears of all tasks that something was said about.
+pub(crate) fn tell_ready<R: Ready>(
+    ready: &mut R,
+    members: &Members,
+    heard: &[Said],
+) -> Result<(), AllocError>
+    requires { IsQueueBut heard.now members.now.members (R.held ready.old) }
+    ensures queue { OnOk result (IsQueue members.now.members (R.held ready.new)) }
+    ensures time { R.now ready.new ≡ R.now ready.old }
+{
+    for said in heard {
+        tell_of(ready, members, &said.announcement.name())?;
+    }
+    Ok(())
+}
+
+/// Each of these keys has a quantum, and the next subtask of its task waits.
+pub(crate) fn run_each<R: Ready>(
+    alloc: Global,
+    ready: &mut R,
+    members: &mut Members,
+    first: &[Key],
+) -> Result<Vec<Pick>, AllocError>
+    requires apart { Apart (λ (k : Key). k.name) first.now }
+    requires running { (k : Key) → Among first.now k → MayRun members.old.members k }
+    requires queue { IsQueueWithout first.now members.old.members (R.held ready.old) }
+    ensures table { IfOk result (λ table. table.items ≡ map (pick members.old.members) first.now) }
+    ensures members { OnOk result (members.new ≡ record members.old { members = all_ran (map (pick members.old.members) first.now) members.old.members }) }
+    ensures queue { OnOk result (IsQueue members.new.members (R.held ready.new)) }
+    ensures time { R.now ready.new ≡ R.now ready.old }
+{
+    let mut table = Vec::new(alloc);
+    for key in first {
+        let Some(index) = members.ran(&key.name) else {
+            continue;
+        };
+        table.push(Pick {
+            name: key.name,
+            index,
+        })?;
+        tell_of(ready, members, &key.name)?;
+    }
+    Ok(table)
+}
+
+/// The quanta of a slot: the first eligible subtasks.
+pub(crate) fn give_quanta<R: Ready>(
+    alloc: Global,
+    ready: &mut R,
+    members: &mut Members,
+    processors: u8,
+    slot: u64,
+) -> Result<Vec<Pick>, AllocError>
+    requires time { R.now ready.old ≤ slot }
+    requires named { Named members.old.members }
+    requires queue { IsQueue members.old.members (R.held ready.old) }
+    requires few { AllByRecursion (λ m. m.next ≤ 1000000) members.old.members }
+    ensures table { IfOk result (λ table. table.items ≡ map (pick members.old.members) (first_by_rank processors (eligible slot members.old.members))) }
+    ensures members { IfOk result (λ table. members.new ≡ record members.old { members = all_ran table.items members.old.members }) }
+    ensures queue { OnOk result (IsQueue members.new.members (R.held ready.new)) }
+    ensures time { R.now ready.new ≡ slot }
+{
+    let first = ready.take_first(slot, processors as usize)?;
+    run_each(alloc, ready, members, &first)
+}
+
+/// One slot, by what is said at it.
+pub(crate) fn plan_slot<R: Ready>(
+    alloc: Global,
+    replica: &Replica,
+    members: &mut Members,
+    ready: &mut R,
+    processors: u8,
+    slot: u64,
+) -> Result<PlannedSlot, AllocError>
+    requires slot { slot < 1000000 }
+    requires steady { IsSteady slot members.old (R.now ready.old) (R.held ready.old) }
+    requires heard { members.old.heard + length (said (replica_of replica.now) slot) ≤ 262144 }
+    ensures decided { IfOk result (λ p. p.decided.items ≡ with_decisions (said (replica_of replica.now) slot) (boundary_decisions members.old.machine slot members.old.members (announcements (said (replica_of replica.now) slot)))) }
+    ensures table { IfOk result (λ p. let world = boundary members.old.machine slot members.old.members (announcements (said (replica_of replica.now) slot)) in p.table.items ≡ map (pick world) (first_by_rank processors (eligible slot world))) }
+    ensures members { IfOk result (λ p. members.new.members ≡ all_ran p.table.items (boundary members.old.machine slot members.old.members (announcements (said (replica_of replica.now) slot)))) }
+    ensures machine { OnOk result (members.new.machine ≡ members.old.machine) }
+    ensures heard { OnOk result (members.new.heard ≡ members.old.heard + length (said (replica_of replica.now) slot)) }
+    ensures steady { OnOk result (IsSteady (slot + 1) members.new (R.now ready.new) (R.held ready.new)) }
+{
+    let heard = replica.said(slot)?;
+    let decided = decide_all(alloc, members, slot, &heard)?;
+    tell_ready(ready, members, &heard)?;
+    let table = give_quanta(alloc, ready, members, processors, slot)?;
+    Ok(PlannedSlot { table, decided })
+}
