@@ -8,6 +8,7 @@
 
 mod admission;
 mod entries;
+mod lag;
 mod lattice;
 mod ready;
 mod replica;
@@ -21,7 +22,7 @@ use std::process::ExitCode;
 type Look = Result<bool, AllocError>;
 
 fn main(rt: HostRuntime) -> ExitCode {
-    let looks: [(&str, Look); 24] = [
+    let looks: [(&str, Look); 25] = [
         (
             "join of maps three deep",
             lattice::join_three_deep(rt.alloc()),
@@ -94,6 +95,7 @@ fn main(rt: HostRuntime) -> ExitCode {
             "a run of logs over heaps",
             table::script::<HeapReady>(rt.alloc()),
         ),
+        ("enter of a book of lags", lag::enter(rt.alloc())),
     ];
     for (what, look) in looks {
         match look {

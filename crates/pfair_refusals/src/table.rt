@@ -40,7 +40,11 @@ fn recovers<R: Ready>(dispatcher: &mut Dispatcher<R>, slot: u64) -> Option<bool>
             Some(false)
         };
     }
-    Some(dispatcher.plan_next() == Ok(Step::Planned { slot }))
+    match dispatcher.plan_next() {
+        Ok(step) => Some(step == Step::Planned { slot }),
+        Err(PlanFault::Memory) => None,
+        Err(_) => Some(false),
+    }
 }
 
 /// Plans of all six slots, each once more after it wanted memory.

@@ -118,11 +118,13 @@ impl<R: Ready> Dispatcher<R> {
         &self.replica
     }
 
-    /// The slot that is planned next: so many slots are planned.
+    /// The slot that is planned next: so many slots are planned, at most as many as the run has.
     pub fn next_slot(&self) -> u64
         ensures value { result ≡ length self.now.tables }
         ensures decided { result ≡ length self.now.decided }
+        ensures few { result ≤ 1000000 }
     {
+        let _slots = self.settings.slots();
         self.planned.len() as u64
     }
 

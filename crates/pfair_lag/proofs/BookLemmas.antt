@@ -1,0 +1,357 @@
+-- The accounts of a book, and the book that they show.
+use Rattle.std.proofs.Common.{◌≡◌, ℕ, zero, suc, ◌+◌, ◌-◌, ◌<◌, ◌≤◌, Bool, true, false, cond, not, ◌||◌, List, [], ◌∷◌, ◌++◌, map, length, take, get_or, Option, Some, None, refl, sym, ap, subst, ◌∙◌, arith}
+use Rattle.std.specs.Prelude.{IsTrue, nat_lt, slice_get, position, filter, is_some}
+use Rattle.std.specs.List.{AllByRecursion, IsDistinct}
+use Rattle.std.specs.Option.{option_map}
+use Rattle.std.specs.Map.{keys_of, values_of, lookup, remove_entry}
+use Rattle.std.specs.Cmp.Lexicographic.{bytes_decides, nat_list_eq_equiv}
+use Rattle.std.proofs.lemmas.Bool.Decides.{nat_tests}
+use Rattle.std.proofs.lemmas.List.{take_more}
+use Rattle.std.proofs.lemmas.List.Folds.{list_any-append}
+use Rattle.std.proofs.lemmas.Option.{slice_get-get_or}
+use Rattle.std.proofs.lemmas.List.Quantifiers.{position-Some}
+use Rattle.indexmap.specs.IndexMap.{set_value_at}
+use Rattle.pfair_weight.specs.Share.{Share}
+use Rattle.pfair_lag.specs.declared.book.Account.{Account}
+use Rattle.pfair_lag.specs.Book.{NameValue, name_eq, Tally, Book, tally_of, has_run, entered_with, left, slot_more, recorded}
+use Rattle.pfair_lag.specs.Accounts.{tally_shown, entered_shown, IsSound, IsKept, EachFits, counted_at, with_quantum, with_quanta}
+
+abbrev pub Accounts : Type 0
+Accounts = List (NameValue × Account)
+
+-- the book that accounts show at a time
+abbrev pub book_shown : ℕ → Accounts → Book
+book_shown time es = record { time = time; entered = entered_shown time es }
+
+some_inj : {A : Type 0} (x y : A) → Some x ≡ Some y → x ≡ y
+some_inj x y e = cc
+
+none_some : {A : Type 0} (x : A) → None ≡ Some x → ⊥
+none_some x e = cc
+
+pub true_not_false : (b : Bool) → IsTrue b → b ≡ false → ⊥
+true_not_false b t e = cc
+
+pub nothing : {A : Type 0} (o : Option A) → is_some o ≡ false → o ≡ None
+nothing None e = refl
+nothing (Some x) e = cc
+
+pub is_some-map : {A B : Type 0} (f : A → B) (o : Option A) → is_some (option_map f o) ≡ is_some o
+is_some-map f None = refl
+is_some-map f (Some x) = refl
+
+-- ---- what the book has under a name
+
+found_shown : (time : ℕ) (name : NameValue) (es : Accounts) → lookup (name_eq name) (entered_shown time es) ≡ option_map (tally_shown time) (lookup (name_eq name) es)
+found_shown time name [] = refl
+found_shown time name (e ∷ es) =
+    elim (name_eq name e.0) as (λ b. cond b (Some (tally_shown time e.1)) (lookup (name_eq name) (entered_shown time es)) ≡ option_map (tally_shown time) (cond b (Some e.1) (lookup (name_eq name) es))) [
+      | true ↦ refl
+      | false ↦ found_shown time name es
+    ]
+
+pub tally_kept : (time : ℕ) (es : Accounts) (name : NameValue) (book : Book) → book_shown time es ≡ book → tally_of name book ≡ option_map (tally_shown time) (lookup (name_eq name) es)
+tally_kept time es name book is = ap (tally_of name) (sym is) ∙ found_shown time name es
+
+-- whether a task is entered, by a search of the accounts
+pub contained : (time : ℕ) (es : Accounts) (name : NameValue) (book : Book) (b : Bool) → book_shown time es ≡ book → b ≡ is_some (lookup (name_eq name) es) → is_some (tally_of name book) ≡ b
+contained time es name book b is found = ap is_some (tally_kept time es name book is) ∙ is_some-map (tally_shown time) (lookup (name_eq name) es) ∙ sym found
+
+sound_at : (time : ℕ) (name : NameValue) (es : Accounts) (a : Account) → AllByRecursion (λ e. IsSound time e.1) es → lookup (name_eq name) es ≡ Some a → IsSound time a
+sound_at time name [] a h e = absurd (none_some a e)
+sound_at time name (x ∷ es) a h e =
+    elim (name_eq name x.0) as (λ b. cond b (Some x.1) (lookup (name_eq name) es) ≡ Some a → IsSound time a) [
+      | true ↦ λ f. subst (IsSound time) (some_inj x.1 a f) h.0
+      | false ↦ λ f. sound_at time name es a h.1 f
+    ] e
+
+pub sound_found : (time : ℕ) (name : NameValue) (es : Accounts) (a : Account) → IsKept time es → lookup (name_eq name) es ≡ Some a → IsSound time a
+sound_found time name es a kept e = sound_at time name es a kept.each e
+
+-- ---- entering
+
+pub entered_there : (name : NameValue) (weight : Share) (book : Book) → is_some (tally_of name book) ≡ true → book ≡ entered_with name weight book
+entered_there name weight book e =
+    sym (ap (λ b. cond b book (record book { entered = book.entered ++ (name, record { weight = weight; slots = 0; ran = 0 }) ∷ [] })) e)
+
+map_append : {A B : Type 0} (f : A → B) (xs : List A) (x : A) → map f (xs ++ x ∷ []) ≡ map f xs ++ f x ∷ []
+map_append f [] x = refl
+map_append f (y ∷ ys) x = ap (λ l. f y ∷ l) (map_append f ys x)
+
+abbrev pub account_new : ℕ → Share → Account
+account_new time weight = record { weight = weight; since = time; last = time; ran = 0 }
+
+pub entered_new : (time : ℕ) (es es' : Accounts) (name : NameValue) (weight : Share) (book : Book)
+    → book_shown time es ≡ book → is_some (tally_of name book) ≡ false → es' ≡ es ++ (name, account_new time weight) ∷ []
+    → book_shown time es' ≡ entered_with name weight book
+entered_new time es es' name weight book is none added =
+    let fresh : time - time ≡ 0 = omega arith in
+    let tally : tally_shown time (account_new time weight) ≡ record { weight = weight; slots = 0; ran = 0 } = λ i. record { weight = weight; slots = fresh i; ran = 0 } in
+    let shown : entered_shown time es' ≡ entered_shown time es ++ (name, record { weight = weight; slots = 0; ran = 0 }) ∷ [] =
+    ap (entered_shown time) added ∙ map_append (λ (e : NameValue × Account). (e.0, tally_shown time e.1)) es (name, account_new time weight)
+    ∙ ap (λ (t : Tally). entered_shown time es ++ (name, t) ∷ []) tally in
+    let more : book_shown time es' ≡ record (book_shown time es) { entered = entered_shown time es ++ (name, record { weight = weight; slots = 0; ran = 0 }) ∷ [] } =
+    λ i. record { time = time; entered = shown i } in
+    more ∙ ap (λ (b : Book). record b { entered = b.entered ++ (name, record { weight = weight; slots = 0; ran = 0 }) ∷ [] }) is
+    ∙ sym (ap (λ b. cond b book (record book { entered = book.entered ++ (name, record { weight = weight; slots = 0; ran = 0 }) ∷ [] })) none)
+
+all_push : {A : Type 0} (P : A → Type 0) (xs : List A) (x : A) → AllByRecursion P xs → P x → AllByRecursion P (xs ++ x ∷ [])
+all_push P [] x h p = (p, tt)
+all_push P (y ∷ ys) x h p = (h.0, all_push P ys x h.1 p)
+
+pub kept_new : (time : ℕ) (es es' : Accounts) (name : NameValue) (weight : Share) → IsKept time es → IsDistinct name_eq (keys_of es') → es' ≡ es ++ (name, account_new time weight) ∷ [] → IsKept time es'
+kept_new time es es' name weight kept unique added = record {
+  short = kept.short;
+  unique = unique;
+  each = subst (AllByRecursion (λ (e : NameValue × Account). IsSound time e.1)) (sym added)
+      (all_push (λ (e : NameValue × Account). IsSound time e.1) es (name, account_new time weight) kept.each (record { counted = omega arith; past = omega arith }));
+}
+
+-- ---- leaving
+
+others_all : {X : Type 0} (name : NameValue) (es : List (NameValue × X)) → AllByRecursion (λ n. name_eq name n ≡ false) (keys_of es) → filter (λ (e : NameValue × X). not (name_eq name e.0)) es ≡ es
+others_all name [] apart = refl
+others_all {X} name (e ∷ es) apart =
+    ap (λ b. cond (not b) (e ∷ filter (λ (e : NameValue × X). not (name_eq name e.0)) es) (filter (λ (e : NameValue × X). not (name_eq name e.0)) es)) apart.0 ∙ ap (λ l. e ∷ l) (others_all name es apart.1)
+
+-- to take out the entry of a name is to keep all others
+removed : {X : Type 0} (name : NameValue) (es : List (NameValue × X)) → IsDistinct name_eq (keys_of es) → remove_entry (name_eq name) es ≡ filter (λ (e : NameValue × X). not (name_eq name e.0)) es
+unfolding IsDistinct
+removed name [] unique = refl
+removed {X} name (e ∷ es) unique =
+    (elim (name_eq name e.0) as (λ b. name_eq name e.0 ≡ b → cond b es (e ∷ remove_entry (name_eq name) es) ≡ cond (not b) (e ∷ filter (λ (e : NameValue × X). not (name_eq name e.0)) es) (filter (λ (e : NameValue × X). not (name_eq name e.0)) es)) [
+      | true ↦ λ found.
+          let is : name ≡ e.0 = (bytes_decides name e.0).0 found in
+          sym (others_all name es (subst (λ (k : NameValue). AllByRecursion (λ n. name_eq k n ≡ false) (keys_of es)) (sym is) unique.0))
+      | false ↦ λ other. ap (λ l. e ∷ l) (removed name es unique.1)
+    ]) refl
+
+shown_filter : (time : ℕ) (p : NameValue → Bool) (es : Accounts) → entered_shown time (filter (λ (e : NameValue × Account). p e.0) es) ≡ filter (λ (e : NameValue × Tally). p e.0) (entered_shown time es)
+shown_filter time p [] = refl
+shown_filter time p (e ∷ es) =
+    elim (p e.0) as (λ b. entered_shown time (cond b (e ∷ filter (λ (e : NameValue × Account). p e.0) es) (filter (λ (e : NameValue × Account). p e.0) es)) ≡ cond b ((e.0, tally_shown time e.1) ∷ filter (λ (e : NameValue × Tally). p e.0) (entered_shown time es)) (filter (λ (e : NameValue × Tally). p e.0) (entered_shown time es))) [
+      | true ↦ ap (λ l. (e.0, tally_shown time e.1) ∷ l) (shown_filter time p es)
+      | false ↦ shown_filter time p es
+    ]
+
+pub left_shown : (time : ℕ) (es es' : Accounts) (name : NameValue) (book : Book) → book_shown time es ≡ book → IsKept time es → es' ≡ remove_entry (name_eq name) es → book_shown time es' ≡ left name book
+left_shown time es es' name book is kept gone =
+    let shown : entered_shown time es' ≡ filter (λ (e : NameValue × Tally). not (name_eq name e.0)) (entered_shown time es) =
+    ap (entered_shown time) (gone ∙ removed name es kept.unique) ∙ shown_filter time (λ n. not (name_eq name n)) es in
+    let fewer : book_shown time es' ≡ left name (book_shown time es) = λ i. record { time = time; entered = shown i } in
+    fewer ∙ ap (left name) is
+
+all_removed : (P : NameValue × Account → Type 0) (name : NameValue) (es : Accounts) → AllByRecursion P es → AllByRecursion P (remove_entry (name_eq name) es)
+all_removed P name [] h = tt
+all_removed P name (e ∷ es) h =
+    elim (name_eq name e.0) as (λ b. AllByRecursion P (cond b es (e ∷ remove_entry (name_eq name) es))) [
+      | true ↦ h.1
+      | false ↦ (h.0, all_removed P name es h.1)
+    ]
+
+pub kept_left : (time : ℕ) (es es' : Accounts) (name : NameValue) → IsKept time es → IsDistinct name_eq (keys_of es') → es' ≡ remove_entry (name_eq name) es → IsKept time es'
+kept_left time es es' name kept unique gone = record {
+  short = kept.short;
+  unique = unique;
+  each = subst (AllByRecursion (λ (e : NameValue × Account). IsSound time e.1)) (sym gone) (all_removed (λ e. IsSound time e.1) name es kept.each);
+}
+
+-- ---- a quantum
+
+pub fits_at : (es : Accounts) (i : ℕ) (a : Account) → EachFits es → slice_get (values_of es) i ≡ Some a → a.ran ≤ a.last
+fits_at [] i a h e = absurd (none_some a e)
+fits_at (x ∷ es) zero a h e = subst (λ (a : Account). a.ran ≤ a.last) (some_inj x.1 a e) h.0
+fits_at (x ∷ es) (suc i) a h e = fits_at es i a h.1 e
+
+key_at : (ks : List NameValue) (name : NameValue) (i : ℕ) → position (name_eq name) ks ≡ Some i → slice_get ks i ≡ Some name
+key_at ks name i e =
+    let f = position-Some (name_eq name) ks i name e in
+    slice_get-get_or ks i name f.0 ∙ ap Some (sym ((bytes_decides name (get_or ks i name)).0 f.1))
+
+entry_at : {K V : Type 0} (es : List (K × V)) (i : ℕ) (k : K) (v : V) → slice_get (keys_of es) i ≡ Some k → slice_get (values_of es) i ≡ Some v → slice_get es i ≡ Some (k, v)
+entry_at [] i k v e f = absurd (none_some k e)
+entry_at (e' ∷ es) zero k v e f = λ j. Some (some_inj e'.0 k e j, some_inj e'.1 v f j)
+entry_at (e' ∷ es) (suc i) k v e f = entry_at es i k v e f
+
+abbrev changed : NameValue → (Account → Account) → Accounts → Accounts
+changed name f es = map (λ (e : NameValue × Account). (e.0, cond (name_eq name e.0) (f e.1) e.1)) es
+
+others_stay : (name : NameValue) (f : Account → Account) (es : Accounts) → AllByRecursion (λ n. name_eq name n ≡ false) (keys_of es) → changed name f es ≡ es
+others_stay name f [] apart = refl
+others_stay name f (e ∷ es) apart = ap (λ b. (e.0, cond b (f e.1) e.1) ∷ changed name f es) apart.0 ∙ ap (λ (l : Accounts). e ∷ l) (others_stay name f es apart.1)
+
+apart_at : (k : NameValue) (es : Accounts) (i : ℕ) (name : NameValue) (a : Account) → AllByRecursion (λ n. name_eq k n ≡ false) (keys_of es) → slice_get es i ≡ Some (name, a) → name_eq k name ≡ false
+apart_at k [] i name a apart e = absurd (none_some (name, a) e)
+apart_at k (x ∷ es) zero name a apart e = subst (λ n. name_eq k n ≡ false) (ap (λ (p : NameValue × Account). p.0) (some_inj x (name, a) e)) apart.0
+apart_at k (x ∷ es) (suc i) name a apart e = apart_at k es i name a apart.1 e
+
+-- to write an account at its place is to change the account of its name
+written : (es : Accounts) (i : ℕ) (name : NameValue) (a : Account) (f : Account → Account) → IsDistinct name_eq (keys_of es) → slice_get es i ≡ Some (name, a) → set_value_at es i (f a) ≡ changed name f es
+unfolding IsDistinct
+written [] i name a f unique e = absurd (none_some (name, a) e)
+written (x ∷ es) zero name a f unique e =
+    let is : x ≡ (name, a) = some_inj x (name, a) e in
+    let key : x.0 ≡ name = ap (λ (p : NameValue × Account). p.0) is in
+    let apart : AllByRecursion (λ n. name_eq name n ≡ false) (keys_of es) = subst (λ (k : NameValue). AllByRecursion (λ n. name_eq k n ≡ false) (keys_of es)) key unique.0 in
+    ap (λ (b : Account). (x.0, f b) ∷ es) (sym (ap (λ (p : NameValue × Account). p.1) is))
+    ∙ ap (λ b. (x.0, cond b (f x.1) x.1) ∷ es) (sym ((bytes_decides name x.0).1 (sym key)))
+    ∙ ap (λ (l : Accounts). (x.0, cond (name_eq name x.0) (f x.1) x.1) ∷ l) (sym (others_stay name f es apart))
+written (x ∷ es) (suc i) name a f unique e =
+    let apart : name_eq name x.0 ≡ false = nat_list_eq_equiv.symm name x.0 ∙ apart_at x.0 es i name a unique.0 e in
+    ap (λ (l : Accounts). x ∷ l) (written es i name a f unique.1 e)
+    ∙ ap (λ b. (x.0, cond b (f x.1) x.1) ∷ changed name f es) (sym apart)
+
+pub quantum_written : (time : ℕ) (es : Accounts) (name : NameValue) (i : ℕ) (a b : Account) → IsDistinct name_eq (keys_of es) → position (name_eq name) (keys_of es) ≡ Some i → slice_get (values_of es) i ≡ Some a → b ≡ counted_at time a → set_value_at es i b ≡ with_quantum time name es
+quantum_written time es name i a b unique at there is =
+    ap (set_value_at es i) is ∙ written es i name a (counted_at time) unique (entry_at es i name a (key_at (keys_of es) name i at) there)
+
+-- a stranger changes nothing
+stranger : (name : NameValue) (f : Account → Account) (es : Accounts) → lookup (name_eq name) es ≡ None → changed name f es ≡ es
+stranger name f [] none = refl
+stranger name f (e ∷ es) none =
+    elim (name_eq name e.0) as (λ b. cond b (Some e.1) (lookup (name_eq name) es) ≡ None → ((e.0, cond b (f e.1) e.1) ∷ changed name f es) ≡ e ∷ es) [
+      | true ↦ λ n. absurd (none_some e.1 (sym n))
+      | false ↦ λ n. ap (λ (l : Accounts). e ∷ l) (stranger name f es n)
+    ] none
+
+pub quantum_of_stranger : (time : ℕ) (es : Accounts) (name : NameValue) (place : Option ℕ) → ((i : ℕ) → place ≡ Some i → ⊥) → is_some place ≡ is_some (lookup (name_eq name) es) → es ≡ with_quantum time name es
+quantum_of_stranger time es name (Some i) none same = absurd (none i refl)
+quantum_of_stranger time es name None none same = sym (stranger name (counted_at time) es (nothing (lookup (name_eq name) es) (sym same)))
+
+-- ---- a slot
+
+pub no_quanta : (time : ℕ) (es : Accounts) → es ≡ with_quanta time [] es
+no_quanta time [] = refl
+no_quanta time (e ∷ es) = ap (λ (l : Accounts). e ∷ l) (no_quanta time es)
+
+once_again : (time : ℕ) (a : Account) → counted_at time (counted_at time a) ≡ counted_at time a
+once_again time a =
+    elim (nat_lt a.last time) as (λ b. nat_lt a.last time ≡ b → counted_at time (cond b (record a { last = time; ran = a.ran + 1 }) a) ≡ cond b (record a { last = time; ran = a.ran + 1 }) a) [
+      | true ↦ λ _.
+          let same : nat_lt time time ≡ false = grind (arith, nat_tests) in
+          ap (λ b. cond b (record a { last = time; ran = a.ran + 1 + 1 }) (record a { last = time; ran = a.ran + 1 })) same
+      | false ↦ λ e. ap (λ b. cond b (record a { last = time; ran = a.ran + 1 }) a) e
+    ] refl
+
+one_more : (time : ℕ) (a : Account) (b c d : Bool) → d ≡ (b || (c || false)) → cond c (counted_at time (cond b (counted_at time a) a)) (cond b (counted_at time a) a) ≡ cond d (counted_at time a) a
+one_more time a true true d e = once_again time a ∙ ap (λ v. cond v (counted_at time a) a) (sym e)
+one_more time a true false d e = ap (λ v. cond v (counted_at time a) a) (sym e)
+one_more time a false true d e = ap (λ v. cond v (counted_at time a) a) (sym e)
+one_more time a false false d e = ap (λ v. cond v (counted_at time a) a) (sym e)
+
+swapped : (a b : NameValue) → name_eq a b ≡ name_eq b a
+swapped a b = nat_list_eq_equiv.symm a b
+
+-- one quantum after others
+pub quanta_push : (time : ℕ) (names : List NameValue) (name : NameValue) (es : Accounts) → with_quantum time name (with_quanta time names es) ≡ with_quanta time (names ++ name ∷ []) es
+quanta_push time names name [] = refl
+quanta_push time names name (e ∷ es) =
+    let any : has_run (names ++ name ∷ []) e.0 ≡ (has_run names e.0 || (name_eq name e.0 || false)) =
+    list_any-append (name_eq e.0) names (name ∷ []) ∙ ap (λ b. has_run names e.0 || (b || false)) (swapped e.0 name) in
+    ap (λ (a : Account). (e.0, a) ∷ with_quantum time name (with_quanta time names es)) (one_more time e.1 (has_run names e.0) (name_eq name e.0) (has_run (names ++ name ∷ []) e.0) any)
+    ∙ ap (λ (l : Accounts). (e.0, cond (has_run (names ++ name ∷ []) e.0) (counted_at time e.1) e.1) ∷ l) (quanta_push time names name es)
+
+fits_counted : (time : ℕ) (a : Account) → a.ran ≤ a.last → (counted_at time a).ran ≤ (counted_at time a).last
+fits_counted time a h =
+    elim (nat_lt a.last time) as (λ b. nat_lt a.last time ≡ b → (cond b (record a { last = time; ran = a.ran + 1 }) a).ran ≤ (cond b (record a { last = time; ran = a.ran + 1 }) a).last) [
+      | true ↦ λ e. let less : a.last < time = grind (arith, nat_tests) in omega arith
+      | false ↦ λ _. h
+    ] refl
+
+pub fits_quanta : (time : ℕ) (names : List NameValue) (es : Accounts) → EachFits es → EachFits (with_quanta time names es)
+fits_quanta time names [] h = tt
+fits_quanta time names (e ∷ es) h = (
+  elim (has_run names e.0) as (λ b. (cond b (counted_at time e.1) e.1).ran ≤ (cond b (counted_at time e.1) e.1).last) [ true ↦ fits_counted time e.1 h.0 | false ↦ h.0 ],
+  fits_quanta time names es h.1,
+)
+
+pub each_fits : (time : ℕ) (es : Accounts) → AllByRecursion (λ e. IsSound time e.1) es → EachFits es
+each_fits time [] h = tt
+each_fits time (e ∷ es) h = (let s = h.0.counted in omega (arith, s), each_fits time es h.1)
+
+-- the names of one pick more
+pub names_more : {P : Type 0} (f : P → NameValue) (ps : List P) (i : ℕ) (p : P) → i < length ps → get_or ps i p ≡ p → map f (take (i + 1) ps) ≡ map f (take i ps) ++ f p ∷ []
+names_more f ps i p within is = ap (map f) (take_more ps i p within) ∙ map_append f (take i ps) (get_or ps i p) ∙ ap (λ x. map f (take i ps) ++ f x ∷ []) is
+
+counted_new : (time : ℕ) (a : Account) → IsSound time a → counted_at (time + 1) a ≡ record a { last = time + 1; ran = a.ran + 1 }
+counted_new time a s =
+    let past : a.last ≤ time = s.past in
+    let less : nat_lt a.last (time + 1) ≡ true = grind (arith, nat_tests) in
+    ap (λ b. cond b (record a { last = time + 1; ran = a.ran + 1 }) a) less
+
+slot_shown : (time : ℕ) (a : Account) (b : Bool) → IsSound time a → tally_shown (time + 1) (cond b (counted_at (time + 1) a) a) ≡ record (tally_shown time a) { slots = time - a.since + 1; ran = a.ran + cond b 1 0 }
+slot_shown time a true s =
+    let counted : a.since + a.ran ≤ a.last = s.counted in
+    let past : a.last ≤ time = s.past in
+    let slots : time + 1 - a.since ≡ time - a.since + 1 = omega arith in
+    ap (tally_shown (time + 1)) (counted_new time a s) ∙ (λ i. record { weight = a.weight; slots = slots i; ran = a.ran + 1 })
+slot_shown time a false s =
+    let counted : a.since + a.ran ≤ a.last = s.counted in
+    let past : a.last ≤ time = s.past in
+    let slots : time + 1 - a.since ≡ time - a.since + 1 = omega arith in
+    let ran : a.ran ≡ a.ran + 0 = omega arith in
+    λ i. record { weight = a.weight; slots = slots i; ran = ran i }
+
+recorded_entries : (time : ℕ) (names : List NameValue) (es : Accounts) → AllByRecursion (λ e. IsSound time e.1) es → entered_shown (time + 1) (with_quanta (time + 1) names es) ≡ map (λ (e : NameValue × Tally). (e.0, slot_more names e.0 e.1)) (entered_shown time es)
+recorded_entries time names [] h = refl
+recorded_entries time names (e ∷ es) h =
+    ap (λ (t : Tally). (e.0, t) ∷ entered_shown (time + 1) (with_quanta (time + 1) names es)) (slot_shown time e.1 (has_run names e.0) h.0)
+    ∙ ap (λ l. (e.0, slot_more names e.0 (tally_shown time e.1)) ∷ l) (recorded_entries time names es h.1)
+
+pub recorded_shown : (time : ℕ) (es es' : Accounts) (names : List NameValue) (book : Book) → book_shown time es ≡ book → IsKept time es → es' ≡ with_quanta (time + 1) names es → book_shown (time + 1) es' ≡ recorded names book
+recorded_shown time es es' names book is kept made =
+    let shown : entered_shown (time + 1) es' ≡ map (λ (e : NameValue × Tally). (e.0, slot_more names e.0 e.1)) (entered_shown time es) =
+    ap (entered_shown (time + 1)) made ∙ recorded_entries time names es kept.each in
+    let more : book_shown (time + 1) es' ≡ recorded names (book_shown time es) = λ i. record { time = time + 1; entered = shown i } in
+    more ∙ ap (recorded names) is
+
+keys_quanta : (time : ℕ) (names : List NameValue) (es : Accounts) → keys_of (with_quanta time names es) ≡ keys_of es
+keys_quanta time names [] = refl
+keys_quanta time names (e ∷ es) = ap (λ (l : List NameValue). e.0 ∷ l) (keys_quanta time names es)
+
+sound_quanta : (time : ℕ) (names : List NameValue) (es : Accounts) → AllByRecursion (λ e. IsSound time e.1) es → AllByRecursion (λ e. IsSound (time + 1) e.1) (with_quanta (time + 1) names es)
+sound_quanta time names [] h = tt
+sound_quanta time names (e ∷ es) h = (
+  elim (has_run names e.0) as (λ b. IsSound (time + 1) (cond b (counted_at (time + 1) e.1) e.1)) [
+    | true ↦ (
+        let counted : e.1.since + e.1.ran ≤ e.1.last = h.0.counted in
+        let past : e.1.last ≤ time = h.0.past in
+        subst (IsSound (time + 1)) (sym (counted_new time e.1 h.0)) (record { counted = omega arith; past = omega arith }))
+    | false ↦ (
+        let counted : e.1.since + e.1.ran ≤ e.1.last = h.0.counted in
+        let past : e.1.last ≤ time = h.0.past in
+        record { counted = counted; past = omega arith })
+  ],
+  sound_quanta time names es h.1,
+)
+
+pub kept_recorded : (time : ℕ) (es es' : Accounts) (names : List NameValue) → IsKept time es → time < 1000000 → es' ≡ with_quanta (time + 1) names es → IsKept (time + 1) es'
+kept_recorded time es es' names kept room made = subst (IsKept (time + 1)) (sym made) (record {
+  short = omega arith;
+  unique = subst (λ (ks : List NameValue). IsDistinct name_eq ks) (sym (keys_quanta (time + 1) names es)) kept.unique;
+  each = sound_quanta time names es kept.each;
+})
+
+-- ---- names in order
+
+name_at_place : (time : ℕ) (es : Accounts) (i : ℕ) → option_map (λ (e : NameValue × Account). e.0) (slice_get es i) ≡ option_map (λ (e : NameValue × Tally). e.0) (slice_get (entered_shown time es) i)
+name_at_place time [] i = refl
+name_at_place time (e ∷ es) zero = refl
+name_at_place time (e ∷ es) (suc i) = name_at_place time es i
+
+pub name_shown : (time : ℕ) (es : Accounts) (i : ℕ) (book : Book) → book_shown time es ≡ book → option_map (λ (e : NameValue × Account). e.0) (slice_get es i) ≡ option_map (λ (e : NameValue × Tally). e.0) (slice_get book.entered i)
+name_shown time es i book is = name_at_place time es i ∙ ap (λ (b : Book). option_map (λ (e : NameValue × Tally). e.0) (slice_get b.entered i)) is
+
+keys_shown : (time : ℕ) (es : Accounts) → map (λ (e : NameValue × Tally). e.0) (entered_shown time es) ≡ keys_of es
+keys_shown time [] = refl
+keys_shown time (e ∷ es) = ap (λ (l : List NameValue). e.0 ∷ l) (keys_shown time es)
+
+pub names_apart : (time : ℕ) (es : Accounts) (book : Book) → book_shown time es ≡ book → IsKept time es → IsDistinct name_eq (map (λ (e : NameValue × Tally). e.0) book.entered)
+names_apart time es book is kept = subst (λ (ks : List NameValue). IsDistinct name_eq ks) (sym (keys_shown time es) ∙ ap (λ (b : Book). map (λ (e : NameValue × Tally). e.0) b.entered) is) kept.unique
+
+length_entered : (time : ℕ) (es : Accounts) → length (entered_shown time es) ≡ length es
+length_entered time [] = refl
+length_entered time (e ∷ es) = ap suc (length_entered time es)
+
+pub length_shown : (time : ℕ) (es : Accounts) (book : Book) → book_shown time es ≡ book → length es ≡ length book.entered
+length_shown time es book is = sym (length_entered time es) ∙ ap (λ (b : Book). length b.entered) is

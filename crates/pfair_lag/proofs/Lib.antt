@@ -1,0 +1,5 @@
+pub mod Agree
+pub mod BookLemmas
+pub mod Counts
+pub mod MissLemmas
+pub mod RunLemmas

@@ -1,0 +1,133 @@
+-- A book counts for each task the slots since it was entered.
+use Rattle.std.proofs.Common.{◌≡◌, ◌+◌, Bool, true, false, cond, not, ◌&&◌, List, [], ◌∷◌, ◌++◌, map, length, Option, Some, None, refl, sym, ap, ◌∙◌, arith}
+use Rattle.std.specs.Prelude.{filter, is_some, count_by}
+use Rattle.std.specs.Option.{option_map}
+use Rattle.std.specs.Map.{lookup}
+use Rattle.std.specs.Cmp.Lexicographic.{bytes_decides}
+use Rattle.std.proofs.lemmas.List.Sums.{sum_by-cons}
+use Rattle.pfair_weight.specs.Share.{Share}
+use Rattle.pfair_lag.specs.Book.{NameValue, name_eq, Tally, Book, tally_of, has_run, entered_with, slot_more}
+use Rattle.pfair_lag.specs.Runs.{Enter, Leave, Record, book_after, Stay, slot_passed, stay_after, tally_in, CountsSinceEntering}
+use Rattle.pfair_lag.proofs.BookLemmas.{is_some-map}
+
+abbrev Entries : Type 0
+Entries = List (NameValue × Tally)
+
+same_name : (a b : NameValue) → name_eq a b ≡ true → a ≡ b
+same_name a b e = (bytes_decides a b).0 e
+
+some_none : {A : Type 0} (x : A) → Some x ≡ None → ⊥
+some_none x e = cc
+
+-- ---- entering
+
+found_push : (name other : NameValue) (t : Tally) (es : Entries) → lookup (name_eq name) (es ++ (other, t) ∷ []) ≡ cond (is_some (lookup (name_eq name) es)) (lookup (name_eq name) es) (cond (name_eq name other) (Some t) None)
+found_push name other t [] = refl
+found_push name other t (e ∷ es) =
+    elim (name_eq name e.0) as (λ b. cond b (Some e.1) (lookup (name_eq name) (es ++ (other, t) ∷ [])) ≡ cond (is_some (cond b (Some e.1) (lookup (name_eq name) es))) (cond b (Some e.1) (lookup (name_eq name) es)) (cond (name_eq name other) (Some t) None)) [
+      | true ↦ refl
+      | false ↦ found_push name other t es
+    ]
+
+abbrev fresh : Share → Tally
+fresh weight = record { weight = weight; slots = 0; ran = 0 }
+
+found_or_new : (o : Option Tally) (b : Bool) (t : Tally) → cond (is_some o) o (cond b (Some t) None) ≡ cond (b && not (is_some o)) (Some t) o
+found_or_new None true t = refl
+found_or_new None false t = refl
+found_or_new (Some x) true t = refl
+found_or_new (Some x) false t = refl
+
+-- a name that is there is not entered anew
+there_already : (name other : NameValue) (book : Book) (t : Tally) → is_some (tally_of other book) ≡ true → tally_of name book ≡ cond (name_eq name other && not (is_some (tally_of name book))) (Some t) (tally_of name book)
+there_already name other book t there =
+    elim (name_eq name other) as (λ b. name_eq name other ≡ b → tally_of name book ≡ cond (b && not (is_some (tally_of name book))) (Some t) (tally_of name book)) [
+      | true ↦ λ e.
+          let here : is_some (tally_of name book) ≡ true = ap (λ n. is_some (tally_of n book)) (same_name name other e) ∙ there in
+          ap (λ b. cond (not b) (Some t) (tally_of name book)) (sym here)
+      | false ↦ λ _. refl
+    ] refl
+
+found_entered : (name other : NameValue) (weight : Share) (book : Book) → tally_of name (entered_with other weight book) ≡ cond (name_eq name other && not (is_some (tally_of name book))) (Some (fresh weight)) (tally_of name book)
+found_entered name other weight book =
+    elim (is_some (tally_of other book)) as (λ b. is_some (tally_of other book) ≡ b → tally_of name (cond b book (record book { entered = book.entered ++ (other, fresh weight) ∷ [] })) ≡ cond (name_eq name other && not (is_some (tally_of name book))) (Some (fresh weight)) (tally_of name book)) [
+      | true ↦ λ e. there_already name other book (fresh weight) e
+      | false ↦ λ _. found_push name other (fresh weight) book.entered ∙ found_or_new (tally_of name book) (name_eq name other) (fresh weight)
+    ] refl
+
+-- ---- leaving
+
+found_left : (name other : NameValue) (es : Entries) → lookup (name_eq name) (filter (λ (e : NameValue × Tally). not (name_eq other e.0)) es) ≡ cond (name_eq name other) None (lookup (name_eq name) es)
+found_left name other [] = elim (name_eq name other) as (λ b. let e : Option Tally = None in e ≡ cond b e e) [ true ↦ refl | false ↦ refl ]
+found_left name other (e ∷ es) =
+    let rest : Entries = filter (λ (e : NameValue × Tally). not (name_eq other e.0)) es in
+    let later : lookup (name_eq name) rest ≡ cond (name_eq name other) None (lookup (name_eq name) es) = found_left name other es in
+    elim (name_eq other e.0) as (λ b. name_eq other e.0 ≡ b → lookup (name_eq name) (cond (not b) (e ∷ rest) rest) ≡ cond (name_eq name other) None (cond (name_eq name e.0) (Some e.1) (lookup (name_eq name) es))) [
+      | true ↦ λ gone. later ∙ elim (name_eq name other) as (λ b. name_eq name other ≡ b → cond b None (lookup (name_eq name) es) ≡ cond b None (cond (name_eq name e.0) (Some e.1) (lookup (name_eq name) es))) [
+        | true ↦ λ _. refl
+        | false ↦ λ apart.
+            let differs : name_eq name e.0 ≡ false = ap (name_eq name) (sym (same_name other e.0 gone)) ∙ apart in
+            ap (λ b. cond b (Some e.1) (lookup (name_eq name) es)) (sym differs)
+      ] refl
+      | false ↦ λ stays. elim (name_eq name e.0) as (λ b. name_eq name e.0 ≡ b → cond b (Some e.1) (lookup (name_eq name) rest) ≡ cond (name_eq name other) None (cond b (Some e.1) (lookup (name_eq name) es))) [
+        | true ↦ λ here.
+            let is : name ≡ e.0 = same_name name e.0 here in
+            elim (name_eq name other) as (λ b. name_eq name other ≡ b → Some e.1 ≡ cond b None (Some e.1)) [
+              | true ↦ λ e'. absurd (true_false (sym ((bytes_decides other e.0).1 (sym (same_name name other e') ∙ is)) ∙ stays))
+              | false ↦ λ _. refl
+            ] refl
+        | false ↦ λ _. later
+      ] refl
+    ] refl
+  where
+    true_false : true ≡ false → ⊥
+    true_false h = cc
+
+-- ---- a slot
+
+found_recorded : (names : List NameValue) (name : NameValue) (es : Entries) → lookup (name_eq name) (map (λ (e : NameValue × Tally). (e.0, slot_more names e.0 e.1)) es) ≡ option_map (slot_more names name) (lookup (name_eq name) es)
+found_recorded names name [] = refl
+found_recorded names name (e ∷ es) =
+    elim (name_eq name e.0) as (λ b. name_eq name e.0 ≡ b → cond b (Some (slot_more names e.0 e.1)) (lookup (name_eq name) (map (λ (e : NameValue × Tally). (e.0, slot_more names e.0 e.1)) es)) ≡ option_map (slot_more names name) (cond b (Some e.1) (lookup (name_eq name) es))) [
+      | true ↦ λ is. ap (λ n. Some (slot_more names n e.1)) (sym (same_name name e.0 is))
+      | false ↦ λ _. found_recorded names name es
+    ] refl
+
+slot_counted : (names : List NameValue) (name : NameValue) (s : Stay) → slot_more names name (tally_in name s) ≡ tally_in name (slot_passed names s)
+slot_counted names name s =
+    let slots : length s.slots + 1 ≡ length (names ∷ s.slots) = omega arith in
+    let cons : count_by (λ l. has_run l name) (names ∷ s.slots) ≡ cond (has_run names name) 1 0 + count_by (λ l. has_run l name) s.slots = sum_by-cons (λ l. cond (has_run l name) 1 0) names s.slots in
+    let ran : count_by (λ l. has_run l name) s.slots + cond (has_run names name) 1 0 ≡ count_by (λ l. has_run l name) (names ∷ s.slots) = omega arith in
+    λ i. record { weight = s.weight; slots = slots i; ran = ran i }
+
+counted_slot : (names : List NameValue) (name : NameValue) (o : Option Stay) → option_map (slot_more names name) (option_map (tally_in name) o) ≡ option_map (tally_in name) (option_map (slot_passed names) o)
+counted_slot names name None = refl
+counted_slot names name (Some s) = ap Some (slot_counted names name s)
+
+-- ---- any calls
+
+new_stay : (name : NameValue) (b : Bool) (weight : Share) (o : Option Stay) → cond b (Some (fresh weight)) (option_map (tally_in name) o) ≡ option_map (tally_in name) (cond b (Some (record { weight = weight; slots = [] })) o)
+new_stay name true weight o = refl
+new_stay name false weight o = refl
+
+no_stay : (name : NameValue) (b : Bool) (o : Option Stay) → cond b None (option_map (tally_in name) o) ≡ option_map (tally_in name) (cond b None o)
+no_stay name true o = refl
+no_stay name false o = refl
+
+pub counts_since_entering : CountsSinceEntering
+counts_since_entering name [] = refl
+counts_since_entering name (Enter other weight ∷ before) =
+    let so_far : tally_of name (book_after before) ≡ option_map (tally_in name) (stay_after name before) = counts_since_entering name before in
+    let there : is_some (tally_of name (book_after before)) ≡ is_some (stay_after name before) = ap is_some so_far ∙ is_some-map (tally_in name) (stay_after name before) in
+    found_entered name other weight (book_after before)
+    ∙ ap (λ b. cond (name_eq name other && not b) (Some (fresh weight)) (tally_of name (book_after before))) there
+    ∙ ap (λ o. cond (name_eq name other && not (is_some (stay_after name before))) (Some (fresh weight)) o) so_far
+    ∙ new_stay name (name_eq name other && not (is_some (stay_after name before))) weight (stay_after name before)
+counts_since_entering name (Leave other ∷ before) =
+    found_left name other (book_after before).entered
+    ∙ ap (λ o. cond (name_eq name other) None o) (counts_since_entering name before)
+    ∙ no_stay name (name_eq name other) (stay_after name before)
+counts_since_entering name (Record names ∷ before) =
+    found_recorded names name (book_after before).entered
+    ∙ ap (option_map (slot_more names name)) (counts_since_entering name before)
+    ∙ counted_slot names name (stay_after name before)

@@ -1,0 +1,38 @@
+use Rattle.std.proofs.Common.{◌≡◌, not, sym, ap, ◌∙◌}
+use Rattle.std.specs.Prelude.{is_some}
+use Rattle.indexmap.proofs.CallerLemmas.{insert_entry-new}
+use Rattle.pfair_lag.specs.Book.{name_eq, tally_of}
+use Rattle.pfair_lag.proofs.BookLemmas.{contained, nothing, true_not_false, account_new, entered_there, entered_new, kept_new}
+use Rattle.pfair_lag.proofs.book.LagBook.enter.Goals as goal
+use Rattle.pfair_lag.proofs.book.LagBook.enter.Goals.{After-contains_key}
+
+there : (c : After-contains_key) → is_some (tally_of c.args.name c.args.self.now) ≡ c.contains_key.result
+there c = contained c.self.inside.time c.self.inside.accounts.entries c.args.name c.args.self.now _ c.self.view_is c.contains_key.ensures
+
+pub returns-then-contains_key-clause-answer : goal.returns-then-contains_key-clause-answer
+returns-then-contains_key-clause-answer c = ap not (sym (there ((goal.at.returns-then-contains_key-clause-answer c).After-contains_key) ∙ c.if-contains_key.true))
+
+pub returns-then-contains_key-clause-book : goal.returns-then-contains_key-clause-book
+returns-then-contains_key-clause-book c = entered_there c.args.name c.args.weight c.args.self.now (there ((goal.at.returns-then-contains_key-clause-book c).After-contains_key) ∙ c.if-contains_key.true)
+
+pub returns-in_err-insert-clause-there : goal.returns-in_err-insert-clause-there
+returns-in_err-insert-clause-there c known = absurd (true_not_false _ known (there ((goal.at.returns-in_err-insert-clause-there c).After-contains_key) ∙ c.if-contains_key.false))
+
+pub returns-clause-answer : goal.returns-clause-answer
+returns-clause-answer c = ap not (sym (there ((goal.at.returns-clause-answer c).After-contains_key) ∙ c.if-contains_key.false))
+
+pub returns-clause-there : goal.returns-clause-there
+returns-clause-there c known = absurd (true_not_false _ known (there ((goal.at.returns-clause-there c).After-contains_key) ∙ c.if-contains_key.false))
+
+pub invariant_of-self-2 : goal.invariant_of-self-2
+invariant_of-self-2 c =
+    let none = nothing _ (sym c.contains_key.ensures ∙ c.if-contains_key.false) in
+    kept_new c.self.inside.time c.self.inside.accounts.entries c.insert.new.self.entries c.args.name c.args.weight c.self.invariant c.insert.ensures.unique
+    (c.in_ok-insert.ensures.entries ∙ insert_entry-new name_eq c.self.inside.accounts c.args.name (account_new c.self.inside.time c.args.weight) none)
+
+pub returns-clause-book : goal.returns-clause-book
+returns-clause-book c =
+    let none = nothing _ (sym c.contains_key.ensures ∙ c.if-contains_key.false) in
+    entered_new c.self.inside.time c.self.inside.accounts.entries c.insert.new.self.entries c.args.name c.args.weight c.args.self.now c.self.view_is
+    (there ((goal.at.returns-clause-book c).After-contains_key) ∙ c.if-contains_key.false)
+    (c.in_ok-insert.ensures.entries ∙ insert_entry-new name_eq c.self.inside.accounts c.args.name (account_new c.self.inside.time c.args.weight) none)

@@ -1,0 +1,6 @@
+use Rattle.std.proofs.Common.{ℕ, ◌<◌}
+use Rattle.pfair_lag.specs.Picks.{IsPick}
+use Rattle.pfair_lag.proofs.fault.check_picks.Given as goal
+
+abbrev pub invariant-loop-place : goal.invariant-loop-place
+invariant-loop-place l = (k : ℕ) → k < l.place → IsPick l.picks l.horizon k

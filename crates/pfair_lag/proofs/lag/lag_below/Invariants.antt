@@ -1,0 +1,6 @@
+use Rattle.std.proofs.Common.{◌≡◌, ◌+◌, ◌*◌, ◌<◌, ℕ}
+use Rattle.pfair_lag.specs.Lag.{quanta_before}
+use Rattle.pfair_lag.proofs.lag.lag_below.Given as goal
+
+abbrev pub invariant-loop-time : goal.invariant-loop-time
+invariant-loop-time l = (l.given ≡ quanta_before l.picks l.time) × ((t : ℕ) → t < l.time → t * l.cost < (quanta_before l.picks t + 1) * l.period)

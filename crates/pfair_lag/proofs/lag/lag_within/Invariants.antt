@@ -1,0 +1,7 @@
+use Rattle.std.proofs.Common.{◌≡◌, ◌<◌, ℕ}
+use Rattle.pfair_lag.specs.Lag.{quanta_before}
+use Rattle.pfair_lag.proofs.Agree.{LagAt}
+use Rattle.pfair_lag.proofs.lag.lag_within.Given as goal
+
+abbrev pub invariant-loop-time : goal.invariant-loop-time
+invariant-loop-time l = (l.given ≡ quanta_before l.picks l.time) × ((t : ℕ) → t < l.time → LagAt l.cost l.period l.picks t)

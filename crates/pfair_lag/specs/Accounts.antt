@@ -1,0 +1,38 @@
+-- What is kept of each task of a book.
+use Rattle.std.specs.Prelude.{ℕ, ◌+◌, ◌-◌, ◌≤◌, nat_lt, if◌then◌else◌, List, map}
+use Rattle.std.specs.List.{AllByRecursion, IsDistinct}
+use Rattle.std.specs.Map.{keys_of}
+use Rattle.pfair_lag.specs.declared.book.Account.{Account}
+use Rattle.pfair_lag.specs.Book.{NameValue, name_eq, Tally, has_run}
+
+abbrev pub tally_shown : ℕ → Account → Tally
+tally_shown time a = record { weight = a.weight; slots = time - a.since; ran = a.ran }
+
+abbrev pub entered_shown : ℕ → List (NameValue × Account) → List (NameValue × Tally)
+entered_shown time accounts = map (λ e. (e.0, tally_shown time e.1)) accounts
+
+-- a task ran in slots since it was entered, the last of which is not after the time
+pub record IsSound (time : ℕ) (a : Account) : Type 0 where
+  pub counted : a.since + a.ran ≤ a.last
+  pub past : a.last ≤ time
+
+pub record IsKept (time : ℕ) (accounts : List (NameValue × Account)) : Type 0 where
+  pub short : time ≤ 1000000
+  pub unique : IsDistinct name_eq (keys_of accounts)
+  pub each : AllByRecursion (λ e. IsSound time e.1) accounts
+
+-- no more quanta than the time of the last of them
+abbrev pub EachFits : List (NameValue × Account) → Type 0
+EachFits accounts = AllByRecursion (λ e. e.1.ran ≤ e.1.last) accounts
+
+-- a quantum of the slot that ends at the time, unless it is counted
+abbrev pub counted_at : ℕ → Account → Account
+counted_at time a = if nat_lt a.last time then record a { last = time; ran = a.ran + 1 } else a
+
+-- the accounts after a quantum of one task
+abbrev pub with_quantum : ℕ → NameValue → List (NameValue × Account) → List (NameValue × Account)
+with_quantum time name accounts = map (λ e. (e.0, (if name_eq name e.0 then counted_at time e.1 else e.1))) accounts
+
+-- the accounts after a slot in which these tasks ran
+abbrev pub with_quanta : ℕ → List NameValue → List (NameValue × Account) → List (NameValue × Account)
+with_quanta time names accounts = map (λ e. (e.0, (if has_run names e.0 then counted_at time e.1 else e.1))) accounts

@@ -1,0 +1,187 @@
+//! A book of the lags of tasks that come and go, as slots pass.
+
+ghost use Rattle.std.specs.Prelude.{◌≡◌, ◌≤◌, ◌<◌, ◌↔◌, length, IsTrue, IfOk, OnErr, false, not, is_some, map, slice_get, nat_eq};
+ghost use Rattle.std.specs.List.{IsDistinct};
+ghost use Rattle.std.specs.Option.{option_map};
+ghost use Rattle.indexmap.specs.IndexMap.{IsUnique};
+ghost use Rattle.pfair_weight.specs.Share.{IsWeight};
+ghost use Rattle.pfair_lag.specs.Book.{empty_book, name_eq, tally_of, lag_of, entered_with, left, recorded};
+ghost use Rattle.pfair_lag.specs.Accounts.{tally_shown, IsSound, EachFits, counted_at, with_quantum, with_quanta};
+
+use crate::MAX_HORIZON;
+use indexmap::IndexMap;
+use pfair_table::Pick;
+use pfair_weight::{TaskName, Weight};
+use std::alloc::{AllocError, Global};
+use std::marker::Model;
+
+/// What is kept of a task: its weight, the time at which it was entered, and how many quanta it had since, the last of
+/// them in the slot that ended at the time `last`.
+#[derive(Clone, Copy, Debug)]
+struct Account {
+    weight: Weight,
+    since: u64,
+    last: u64,
+    ran: u64,
+}
+
+impl Account {
+    /// Counts a quantum of the slot that ends at this time, unless it is counted.
+    fn count(&mut self, time: u64)
+        requires { self.old.ran ≤ self.old.last }
+        ensures { self.new ≡ counted_at time self.old }
+    {
+        if self.last < time {
+            self.last = time;
+            self.ran += 1;
+        }
+    }
+
+    /// The lag at this time, as a numerator over the period.
+    fn lag(&self, time: u64) -> (i64, u64)
+        requires sound { IsSound time self.now }
+        requires short { time ≤ MAX_HORIZON }
+        ensures { result ≡ lag_of (tally_shown time self.now) }
+    {
+        let due = self.weight.cost() * (time - self.since);
+        let done = self.weight.period() * self.ran;
+        (due as i64 - done as i64, self.weight.period())
+    }
+}
+
+/// The lags of some tasks, each counted from when the task was entered.
+///
+/// A book is told each slot that passes, with the quanta of that slot. Up to [`MAX_HORIZON`] slots can be recorded.
+#[derive(Drop)]
+pub struct LagBook {
+    time: u64,
+    accounts: IndexMap<TaskName, Account>,
+}
+
+impl Model for LagBook {
+    ghost use Rattle.pfair_lag.specs.Book.{Book};
+    ghost use Rattle.pfair_lag.specs.Accounts.{entered_shown, IsKept};
+
+    ghost Value = { Book };
+
+    ghost view = { λ a. record { time = a.time; entered = entered_shown a.time a.accounts.entries } };
+
+    ghost invariant = { λ a. IsKept a.time a.accounts.entries };
+}
+
+impl LagBook {
+    /// A book in which no task is entered and no slot recorded. It takes no memory; what is entered later comes from
+    /// `alloc`.
+    pub fn new(alloc: Global) -> Self
+        ensures { result ≡ empty_book }
+    {
+        LagBook {
+            time: 0,
+            accounts: IndexMap::new(alloc),
+        }
+    }
+
+    /// Enters a task, after all others, and answers true. Its lag is counted from the slots that are recorded from now
+    /// on. Where a task of that name is there, the answer is false, nothing changes and no memory is taken.
+    ///
+    /// # Errors
+    /// `AllocError` where a growth was refused. Nothing has changed then.
+    pub fn enter(&mut self, name: TaskName, weight: Weight) -> Result<bool, AllocError>
+        ensures answer { IfOk result (λ new. new ≡ not (is_some (tally_of name self.old))) }
+        ensures there { IsTrue (is_some (tally_of name self.old)) → result ≡ Ok false }
+        ensures book { IfOk result (λ _. self.new ≡ entered_with name weight self.old) }
+        ensures err { OnErr result (self.new ≡ self.old) }
+    {
+        if self.accounts.contains_key(&name) {
+            return Ok(false);
+        }
+        let account = Account {
+            weight,
+            since: self.time,
+            last: self.time,
+            ran: 0,
+        };
+        self.accounts.insert(name, account)?;
+        Ok(true)
+    }
+
+    /// Takes a task out, and answers whether it was there. The others keep their order and their lags.
+    pub fn leave(&mut self, name: &TaskName) -> bool
+        ensures answer { result ≡ is_some (tally_of name.now self.old) }
+        ensures book { self.new ≡ left name.now self.old }
+    {
+        self.accounts.shift_remove(name).is_some()
+    }
+
+    /// Records that one slot has passed, in which the tasks of these picks ran. A task that is named twice had one
+    /// quantum, and one that isn't entered counts for nobody.
+    ///
+    /// Fewer than [`MAX_HORIZON`] slots have been recorded. It takes no memory.
+    pub fn record(&mut self, picks: &[Pick])
+        requires { self.old.time < MAX_HORIZON }
+        ensures { self.new ≡ recorded (map (λ p. p.name) picks.now) self.old }
+    {
+        count_quanta(&mut self.accounts, picks, self.time + 1);
+        self.time += 1;
+    }
+
+    /// How many slots have been recorded.
+    pub fn time(&self) -> u64
+        ensures value { result ≡ self.now.time }
+        ensures short { result ≤ MAX_HORIZON }
+    {
+        self.time
+    }
+
+    /// The lag of a task, as a numerator over its period p: `e * t - p * A`, where e is its cost, t the number of slots
+    /// recorded since it was entered, and A the number of those of them in which it ran. `None` where it isn't there.
+    pub fn lag(&self, name: &TaskName) -> Option<(i64, u64)>
+        ensures { result ≡ option_map lag_of (tally_of name.now self.now) }
+    {
+        let account = self.accounts.get(name)?;
+        Some(account.lag(self.time))
+    }
+
+    /// How many tasks are entered.
+    pub fn len(&self) -> usize
+        ensures { result ≡ length self.now.entered }
+    {
+        self.accounts.len()
+    }
+
+    /// Whether no task is entered.
+    pub fn is_empty(&self) -> bool
+        ensures { IsTrue result ↔ (length self.now.entered ≡ 0) }
+    {
+        self.accounts.is_empty()
+    }
+
+    /// The name at a place, counted from 0, in order of entering. No name stands at two places.
+    pub fn name_at(&self, place: usize) -> Option<&TaskName>
+        ensures name { option_map (λ n. n.now) result ≡ option_map (λ e. e.0) (slice_get self.now.entered place) }
+        ensures apart { IsDistinct name_eq (map (λ e. e.0) self.now.entered) }
+    {
+        let (name, _) = self.accounts.get_index(place)?;
+        Some(name)
+    }
+}
+
+/// Counts a quantum of the slot that ends at this time for the task of that name, if it is there.
+fn count_quantum(accounts: &mut IndexMap<TaskName, Account>, name: &TaskName, time: u64)
+    requires { EachFits accounts.old.entries }
+    ensures { accounts.new.entries ≡ with_quantum time name.now accounts.old.entries }
+{
+    if let Some(place) = accounts.get_index_of(name) {
+        accounts[place].count(time);
+    }
+}
+
+/// Counts the quanta of the slot that ends at this time.
+fn count_quanta(accounts: &mut IndexMap<TaskName, Account>, picks: &[Pick], time: u64)
+    requires { EachFits accounts.old.entries }
+    ensures { accounts.new.entries ≡ with_quanta time (map (λ p. p.name) picks.now) accounts.old.entries }
+{
+    for pick in picks {
+        count_quantum(accounts, &pick.name, time);
+    }
+}

@@ -1,0 +1,182 @@
+//! Worked rows of schedules and of the book.
+
+ghost use Rattle.std.specs.Prelude.{◌≡◌, ◌≤◌, IfOk};
+
+use crate::{
+    LagBook, Miss, PickFault, first_late, first_miss, in_windows, lag_below, lag_within,
+    meets_deadlines,
+};
+use pfair_table::Pick;
+use pfair_weight::{TaskName, Weight};
+use std::alloc::{AllocError, Global};
+use std::process::Abort;
+use std::test::Fail;
+
+fn weight(rt: &impl Abort, cost: u64, period: u64) -> Weight {
+    Weight::new(cost, period).expect(rt, "a weight")
+}
+
+fn name(rt: &impl Abort, bytes: &[u8]) -> TaskName {
+    TaskName::from_bytes(bytes).expect(rt, "a name")
+}
+
+/// Asserts what both tests say of a schedule, and which subtask is the first out of its window.
+fn assert_windows(rt: &impl Abort, weight: Weight, picks: &[u64], horizon: u64, miss: Option<Miss>)
+    requires { horizon ≤ 1000000 }
+{
+    let inside = miss.is_none();
+    assert_eq!(rt;
+        first_miss(weight, picks, horizon).expect(rt, "picks"),
+        miss
+    );
+    assert_eq!(rt;
+        in_windows(weight, picks, horizon).expect(rt, "picks"),
+        inside
+    );
+    assert_eq!(rt;
+        lag_within(weight, picks, horizon).expect(rt, "picks"),
+        inside
+    );
+}
+
+/// Asserts what both one-sided tests say of a schedule, and which subtask is the first that is late.
+fn assert_deadlines(
+    rt: &impl Abort,
+    weight: Weight,
+    picks: &[u64],
+    horizon: u64,
+    late: Option<Miss>,
+)
+    requires { horizon ≤ 1000000 }
+{
+    let met = late.is_none();
+    assert_eq!(rt;
+        first_late(weight, picks, horizon).expect(rt, "picks"),
+        late
+    );
+    assert_eq!(rt;
+        meets_deadlines(weight, picks, horizon).expect(rt, "picks"),
+        met
+    );
+    assert_eq!(rt; lag_below(weight, picks, horizon).expect(rt, "picks"), met);
+}
+
+#[test]
+fn windows_and_lags_agree(rt: HostRuntime) {
+    let half = weight(&rt, 1, 2);
+    let early = Some(Miss::Early { index: 2, slot: 1 });
+    assert_windows(&rt, half, &[0, 1], 2, early);
+    assert_windows(&rt, half, &[0, 1], 4, early);
+    assert_windows(&rt, half, &[], 2, Some(Miss::Unserved { index: 1 }));
+    assert_windows(&rt, half, &[0], 4, Some(Miss::Unserved { index: 2 }));
+    assert_windows(&rt, half, &[2], 4, Some(Miss::Tardy { index: 1, slot: 2 }));
+    assert_windows(&rt, half, &[0, 2], 4, None);
+    assert_windows(&rt, half, &[], 1, None);
+    assert_windows(&rt, half, &[], 0, None);
+    assert_windows(&rt, weight(&rt, 1, 1), &[0, 1], 2, None);
+    assert_windows(&rt, weight(&rt, 1, 1), &[], 0, None);
+}
+
+#[test]
+fn deadlines_and_lags_agree(rt: HostRuntime) {
+    let half = weight(&rt, 2, 4);
+    assert_deadlines(&rt, half, &[0, 1], 4, None);
+    assert!(&rt; !in_windows(half, &[0, 1], 4).expect(&rt, "picks"));
+    assert!(&rt; !lag_within(half, &[0, 1], 4).expect(&rt, "picks"));
+    assert_deadlines(&rt, half, &[], 2, Some(Miss::Unserved { index: 1 }));
+    assert_deadlines(&rt, half, &[2], 3, Some(Miss::Tardy { index: 1, slot: 2 }));
+}
+
+#[test]
+fn faults_have_places(rt: HostRuntime) -> Result<(), Fail> {
+    let half = weight(&rt, 1, 2);
+    let falling = PickFault::PicksNotRising { at: 1 };
+    let past = PickFault::PickPastHorizon { at: 0 };
+    assert_eq!(rt; first_miss(half, &[0, 0], 4), Err(falling));
+    assert_eq!(rt; first_late(half, &[0, 0], 4), Err(falling));
+    assert_eq!(rt; in_windows(half, &[0, 0], 4), Err(falling));
+    assert_eq!(rt; lag_within(half, &[4], 4), Err(past));
+    assert_eq!(rt; meets_deadlines(half, &[4], 4), Err(past));
+    assert_eq!(rt; lag_below(half, &[4], 4), Err(past));
+    assert_eq!(rt;
+        text(rt.alloc(), falling)?.as_str(),
+        "picks not rising at 1"
+    );
+    assert_eq!(rt; text(rt.alloc(), past)?.as_str(), "pick past horizon at 0");
+    Ok(())
+}
+
+/// The text of a fault. Where memory is refused it tries once more.
+fn text(alloc: Global, fault: PickFault) -> Result<String, Fail> {
+    match format!(in alloc; "{fault}") {
+        Ok(text) => Ok(text),
+        Err(_) => Ok(format!(in alloc; "{fault}")?),
+    }
+}
+
+/// Enters a task, and where memory was refused asserts that nothing has changed and tries once more.
+fn enter(
+    rt: &impl Abort,
+    book: &mut LagBook,
+    name: TaskName,
+    weight: Weight,
+) -> Result<bool, AllocError>
+    ensures { book.new.time ≡ book.old.time }
+{
+    let (time, lag) = (book.time(), book.lag(&name));
+    let first = book.enter(name, weight);
+    if first.is_ok() {
+        return first;
+    }
+    assert_eq!(rt; book.time(), time);
+    assert_eq!(rt; book.lag(&name), lag);
+    book.enter(name, weight)
+}
+
+/// Enters a of weight 1/2, and b of weight 1/3 two slots later. In the first slot a runs.
+fn rows_book(rt: &impl Abort, alloc: Global) -> Result<LagBook, Fail>
+    ensures { IfOk result (λ book. book.time ≡ 2) }
+{
+    let (a, b) = (name(rt, b"a"), name(rt, b"b"));
+    let mut book = LagBook::new(alloc);
+    assert!(rt; enter(rt, &mut book, a, weight(rt, 1, 2))?);
+    book.record(&[Pick { name: a, index: 1 }]);
+    assert_eq!(rt; book.lag(&a), Some((-1, 2)));
+    book.record(&[]);
+    assert_eq!(rt; book.lag(&a), Some((0, 2)));
+    assert!(rt; enter(rt, &mut book, b, weight(rt, 1, 3))?);
+    Ok(book)
+}
+
+#[test]
+fn counts_lags(rt: HostRuntime) -> Result<(), Fail> {
+    let (a, b) = (name(&rt, b"a"), name(&rt, b"b"));
+    let mut book = rows_book(&rt, rt.alloc())?;
+    book.record(&[]);
+    assert_eq!(rt; book.lag(&a), Some((1, 2)));
+    assert_eq!(rt; book.lag(&b), Some((1, 3)));
+    assert_eq!(rt; book.time(), 3);
+    assert!(rt; !enter(&rt, &mut book, a, weight(&rt, 1, 3))?);
+    assert!(rt; book.name_at(0) == Some(&a));
+    assert!(rt; book.name_at(1) == Some(&b));
+    assert!(rt; book.name_at(2).is_none());
+    Ok(())
+}
+
+/// A task that is named twice had one quantum, and one that leaves and comes again starts anew.
+#[test]
+fn starts_anew(rt: HostRuntime) -> Result<(), Fail> {
+    let (a, b) = (name(&rt, b"a"), name(&rt, b"b"));
+    let pick = Pick { name: a, index: 2 };
+    let mut book = rows_book(&rt, rt.alloc())?;
+    book.record(&[pick, pick]);
+    assert_eq!(rt; book.lag(&a), Some((-1, 2)));
+    assert!(rt; book.leave(&a));
+    assert!(rt; !book.leave(&a));
+    assert_eq!(rt; book.lag(&a), None);
+    assert!(rt; enter(&rt, &mut book, a, weight(&rt, 1, 2))?);
+    assert_eq!(rt; book.lag(&a), Some((0, 2)));
+    assert!(rt; book.name_at(0) == Some(&b));
+    assert!(rt; book.name_at(1) == Some(&a));
+    Ok(())
+}

@@ -1,0 +1,5 @@
+pub mod NameFacts
+pub mod SignedFacts
+pub mod SlotFacts
+pub mod ToldFacts
+pub mod WorldFacts

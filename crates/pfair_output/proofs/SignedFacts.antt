@@ -1,0 +1,19 @@
+-- A signed decimal number stands in a line as it is.
+use Rattle.std.proofs.Common.{ℕ, ◌≡◌, suc, true, List, ◌∷◌, length, arith}
+use Rattle.std.specs.Prelude.{ℤ, pos, negsuc, ◌==◌, not, FitsSigned}
+use Rattle.std.specs.Int.{w64}
+use Rattle.std.specs.List.{list_any}
+use Rattle.std.specs.Fmt.{decimal, signed_decimal}
+use Rattle.std.proofs.lemmas.Bool.{and_parts, ne_eqb}
+use Rattle.pfair_text.specs.Rows.{is_mark, is_plain}
+use Rattle.pfair_text.proofs.RowFacts.{is_plain-decimal}
+
+-- a minus sign before a plain field
+after_minus : (field : List ℕ) → is_plain field ≡ true → is_plain (45 ∷ field) ≡ true
+after_minus field h =
+    let parts = and_parts (not (length field == 0)) (not (list_any is_mark field)) h in
+    rw (ne_eqb (length (45 ∷ field)) 0 (omega arith)) parts.1
+
+pub is_plain-signed : (z : ℤ) → FitsSigned w64 z → is_plain (signed_decimal z) ≡ true
+is_plain-signed (pos n) fits = is_plain-decimal n (omega (arith, fits))
+is_plain-signed (negsuc n) fits = after_minus (decimal (suc n)) (is_plain-decimal (suc n) (omega (arith, fits)))

@@ -1,0 +1,33 @@
+-- Texts that grow by the rows of one slot after another.
+use Rattle.std.proofs.Common.{ℕ, zero, suc, ◌+◌, ◌<◌, ◌≤◌, ◌≡◌, refl, sym, ap, ◌∙◌, arith, List, [], ◌∷◌, ◌++◌, Some, length, drop, slice_get, append_assoc}
+use Rattle.std.proofs.lemmas.List.{append-nil, drop_all}
+use Rattle.pfair_text.specs.Rows.{lines_text}
+use Rattle.pfair_text.proofs.RowFacts.{lines_text-append}
+use Rattle.pfair_output.specs.Slots.{slots_from}
+
+-- the first of what is left
+pub first_left : {A : Type 0} (xs : List A) (i : ℕ) → i < length xs → (x : A) × (slice_get xs i ≡ Some x) × (drop i xs ≡ x ∷ drop (i + 1) xs)
+first_left {A} xs i inside = let t = at xs i inside in (t.0, t.1, t.2 ∙ ap (λ n. t.0 ∷ drop n xs) (let n : suc i ≡ i + 1 = omega arith in n))
+  where
+    at : (xs : List A) (i : ℕ) → i < length xs → (x : A) × (slice_get xs i ≡ Some x) × (drop i xs ≡ x ∷ drop (suc i) xs)
+    at [] i h = absurd (omega arith)
+    at (y ∷ ys) zero h = (y, refl, refl)
+    at (y ∷ ys) (suc i) h = at ys i (omega arith)
+
+module _ {A : Type 0} (rows : ℕ → A → List (List (List ℕ))) where
+  -- the rows of one slot more
+  pub slot_more : (xs : List A) (slot : ℕ) (before after : List ℕ) → slot < length xs → ((x : A) → slice_get xs slot ≡ Some x → after ≡ before ++ lines_text (rows slot x))
+      → after ++ lines_text (slots_from rows (slot + 1) (drop (slot + 1) xs)) ≡ before ++ lines_text (slots_from rows slot (drop slot xs))
+  slot_more xs slot before after inside grown =
+      let t = first_left xs slot inside in
+      let rest : List A = drop (slot + 1) xs in
+      let next : slot + 1 ≡ suc slot = omega arith in
+      ap (λ text. text ++ lines_text (slots_from rows (slot + 1) rest)) (grown t.0 t.1)
+      ∙ append_assoc before (lines_text (rows slot t.0)) (lines_text (slots_from rows (slot + 1) rest))
+      ∙ ap (λ (n : ℕ). before ++ (lines_text (rows slot t.0) ++ lines_text (slots_from rows n rest))) next
+      ∙ ap (λ text. before ++ text) (sym (lines_text-append (rows slot t.0) (slots_from rows (suc slot) rest)))
+      ∙ ap (λ left. before ++ lines_text (slots_from rows slot left)) (sym t.2)
+
+  -- after the last slot nothing is left
+  pub slots_done : (xs : List A) (slot : ℕ) (text : List ℕ) → length xs ≤ slot → text ++ lines_text (slots_from rows slot (drop slot xs)) ≡ text
+  slots_done xs slot text past = ap (λ left. text ++ lines_text (slots_from rows slot left)) (drop_all slot xs past) ∙ append-nil text

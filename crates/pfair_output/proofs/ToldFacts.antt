@@ -1,0 +1,124 @@
+-- The rows of a book that is told one slot after another.
+use Rattle.std.proofs.Common.{ℕ, zero, suc, ◌+◌, ◌<◌, ◌≤◌, ◌≡◌, refl, sym, ap, subst, ◌∙◌, true, false, cond, List, [], ◌∷◌, ◌++◌, Option, Some, None, map, length, drop, append_assoc}
+use Rattle.std.specs.Prelude.{slice_get, is_some, ℤ}
+use Rattle.std.specs.Option.{option_map}
+use Rattle.std.specs.List.{AllByRecursion, IsDistinct}
+use Rattle.std.specs.Map.{lookup}
+use Rattle.std.specs.Cmp.Lexicographic.{bytes_decides, nat_list_eq_equiv}
+use Rattle.std.proofs.lemmas.List.{append-nil, drop_all}
+use Rattle.std.specs.Fmt.{decimal, signed_decimal}
+use Rattle.pfair_text.specs.Rows.{line, lines_text}
+use Rattle.pfair_text.proofs.RowFacts.{lines_text-append}
+use Rattle.pfair_weight.specs.Share.{Share}
+use Rattle.pfair_entry.specs.declared.announcement.Announcement.{Announcement}
+use Rattle.pfair_entry.specs.declared.announcement.Announcement.TheVariants.{Arrive, Depart, Late}
+use Rattle.pfair_admission.specs.declared.decision.Decision.{Decision}
+use Rattle.pfair_table.specs.declared.pick.Decided.{Decided}
+use Rattle.pfair_table.specs.Table.{Table}
+use Rattle.pfair_lag.specs.Book.{NameValue, name_eq, Tally, Book, tally_of, lag_of, entered_with, left}
+use Rattle.pfair_output.specs.Told.{is_admitted, is_leave, told, all_told, slot_told, tally_row, book_rows, rows_told}
+use Rattle.pfair_output.proofs.SlotFacts.{first_left}
+
+some_inj : {A : Type 0} (x y : A) → Some x ≡ Some y → x ≡ y
+some_inj x y e = cc
+
+none_some : {A : Type 0} (x : A) → None ≡ Some x → ⊥
+none_some x e = cc
+
+-- ---- time
+
+entered_time : (name : NameValue) (weight : Share) (book : Book) → (entered_with name weight book).time ≡ book.time
+entered_time name weight book =
+    elim (is_some (tally_of name book)) as (λ b. (cond b book (record book { entered = book.entered ++ (name, record { weight = weight; slots = 0; ran = 0 }) ∷ [] })).time ≡ book.time) [ true ↦ refl | false ↦ refl ]
+
+time-told : (a : Announcement) (d : Decision) (book : Book) → (told a d book).time ≡ book.time
+time-told (Arrive name weight early) d book =
+    elim (is_admitted d) as (λ b. (cond b (entered_with name weight book) book).time ≡ book.time) [ true ↦ entered_time name weight book | false ↦ refl ]
+time-told (Depart name) d book = elim (is_leave d) as (λ b. (cond b (left name book) book).time ≡ book.time) [ true ↦ refl | false ↦ refl ]
+time-told (Late name index by) d book = refl
+
+pub time-all_told : (ds : List Decided) (book : Book) → (all_told ds book).time ≡ book.time
+time-all_told [] book = refl
+time-all_told (d ∷ ds) book = time-all_told ds (told d.announcement d.decision book) ∙ time-told d.announcement d.decision book
+
+-- ---- the task at a place
+
+apart_at : (k : NameValue) (es : List (NameValue × Tally)) (i : ℕ) (e : NameValue × Tally) → AllByRecursion (λ n. name_eq k n ≡ false) (map (λ (e : NameValue × Tally). e.0) es) → slice_get es i ≡ Some e → name_eq k e.0 ≡ false
+apart_at k [] i e apart at = absurd (none_some e at)
+apart_at k (x ∷ es) zero e apart at = subst (λ (e : NameValue × Tally). name_eq k e.0 ≡ false) (some_inj x e at) apart.0
+apart_at k (x ∷ es) (suc i) e apart at = apart_at k es i e apart.1 at
+
+found_at : (es : List (NameValue × Tally)) (i : ℕ) (e : NameValue × Tally) → IsDistinct name_eq (map (λ (e : NameValue × Tally). e.0) es) → slice_get es i ≡ Some e → lookup (name_eq e.0) es ≡ Some e.1
+unfolding IsDistinct
+found_at [] i e unique at = absurd (none_some e at)
+found_at (x ∷ es) zero e unique at =
+    let is : x ≡ e = some_inj x e at in
+    ap (λ b. cond b (Some x.1) (lookup (name_eq e.0) es)) ((bytes_decides e.0 x.0).1 (ap (λ (e : NameValue × Tally). e.0) (sym is))) ∙ ap (λ (e : NameValue × Tally). Some e.1) is
+found_at (x ∷ es) (suc i) e unique at =
+    ap (λ b. cond b (Some x.1) (lookup (name_eq e.0) es)) (nat_list_eq_equiv.symm e.0 x.0 ∙ apart_at x.0 es i e unique.0 at) ∙ found_at es i e unique.1 at
+
+pub tally_at : (book : Book) (place : ℕ) (e : NameValue × Tally) → IsDistinct name_eq (map (λ e. e.0) book.entered) → slice_get book.entered place ≡ Some e → tally_of e.0 book ≡ Some e.1
+tally_at book place e unique at = found_at book.entered place e unique at
+
+pub named_at : (book : Book) (place : ℕ) (name : NameValue) (e : NameValue × Tally) → Some name ≡ option_map (λ (e : NameValue × Tally). e.0) (slice_get book.entered place) → slice_get book.entered place ≡ Some e → name ≡ e.0
+named_at book place name e named at = some_inj name e.0 (named ∙ ap (option_map (λ (e : NameValue × Tally). e.0)) at)
+
+pub lag_at : (book : Book) (place : ℕ) (name : NameValue) (e : NameValue × Tally) (o : Option (ℤ × ℕ)) → IsDistinct name_eq (map (λ e. e.0) book.entered)
+    → Some name ≡ option_map (λ (e : NameValue × Tally). e.0) (slice_get book.entered place) → slice_get book.entered place ≡ Some e → o ≡ option_map lag_of (tally_of name book) → o ≡ Some (lag_of e.1)
+lag_at book place name e o unique named at is =
+    is ∙ ap (λ (n : NameValue). option_map lag_of (tally_of n book)) (named_at book place name e named at) ∙ ap (option_map lag_of) (tally_at book place e unique at)
+
+pub no_lag : {A : Type 0} (x : A) (o : Option A) → o ≡ Some x → o ≡ None → ⊥
+no_lag x o e f = none_some x (sym f ∙ e)
+
+pub row_is : (time time' : ℕ) (name : NameValue) (e : NameValue × Tally) (numerator : ℤ) (period : ℕ) (o : Option (ℤ × ℕ)) → time' ≡ time → name ≡ e.0 → o ≡ Some (lag_of e.1) → o ≡ Some (numerator, period)
+    → (decimal time' ∷ name ∷ signed_decimal numerator ∷ decimal period ∷ []) ≡ tally_row time e
+row_is time time' name e numerator period o t n lag pair =
+    let same : (numerator, period) ≡ lag_of e.1 = some_inj (numerator, period) (lag_of e.1) (sym pair ∙ lag) in
+    λ i. decimal (t i) ∷ n i ∷ signed_decimal (same i).0 ∷ decimal (same i).1 ∷ []
+
+-- ---- rows
+
+one_line : (row : List (List ℕ)) → lines_text (row ∷ []) ≡ line row
+one_line row = append-nil (line row)
+
+-- one task more
+pub task_more : (row : NameValue × Tally → List (List ℕ)) (es : List (NameValue × Tally)) (place : ℕ) (before after : List ℕ) → place < length es
+    → ((e : NameValue × Tally) → slice_get es place ≡ Some e → after ≡ before ++ line (row e))
+    → after ++ lines_text (map row (drop (place + 1) es)) ≡ before ++ lines_text (map row (drop place es))
+task_more row es place before after inside grown =
+    let t = first_left es place inside in
+    let rest : List (List (List ℕ)) = map row (drop (place + 1) es) in
+    ap (λ text. text ++ lines_text rest) (grown t.0 t.1 ∙ ap (λ text. before ++ text) (sym (one_line (row t.0))))
+    ∙ append_assoc before (lines_text (row t.0 ∷ [])) (lines_text rest)
+    ∙ ap (λ text. before ++ text) (sym (lines_text-append (row t.0 ∷ []) rest))
+    ∙ ap (λ (l : List (NameValue × Tally)). before ++ lines_text (map row l)) (sym t.2)
+
+-- one slot more
+pub told_more : (ds : List (List Decided)) (ts : List Table) (slot : ℕ) (book book' : Book) (before after : List ℕ) → slot < length ds → slot < length ts
+    → ((d : List Decided) (t : Table) → slice_get ds slot ≡ Some d → slice_get ts slot ≡ Some t → book' ≡ slot_told d t book)
+    → ((d : List Decided) (t : Table) → slice_get ds slot ≡ Some d → slice_get ts slot ≡ Some t → after ≡ before ++ lines_text (book_rows (slot_told d t book)))
+    → after ++ lines_text (rows_told book' (drop (slot + 1) ds) (drop (slot + 1) ts)) ≡ before ++ lines_text (rows_told book (drop slot ds) (drop slot ts))
+told_more ds ts slot book book' before after inside inside' moved grown =
+    let d = first_left ds slot inside in
+    let t = first_left ts slot inside' in
+    let next : Book = slot_told d.0 t.0 book in
+    let rest : List (List (List ℕ)) = rows_told next (drop (slot + 1) ds) (drop (slot + 1) ts) in
+    ap (λ (b : Book). after ++ lines_text (rows_told b (drop (slot + 1) ds) (drop (slot + 1) ts))) (moved d.0 t.0 d.1 t.1)
+    ∙ ap (λ text. text ++ lines_text rest) (grown d.0 t.0 d.1 t.1)
+    ∙ append_assoc before (lines_text (book_rows next)) (lines_text rest)
+    ∙ ap (λ text. before ++ text) (sym (lines_text-append (book_rows next) rest))
+    ∙ ap (λ (l : List (List Decided)). before ++ lines_text (rows_told book l (t.0 ∷ drop (slot + 1) ts))) (sym d.2)
+    ∙ ap (λ (l : List Table). before ++ lines_text (rows_told book (drop slot ds) l)) (sym t.2)
+
+pub told_time : (ds : List (List Decided)) (ts : List Table) (slot : ℕ) (book book' : Book) → slot < length ds → slot < length ts
+    → ((d : List Decided) (t : Table) → slice_get ds slot ≡ Some d → slice_get ts slot ≡ Some t → book' ≡ slot_told d t book)
+    → book'.time ≡ book.time + 1
+told_time ds ts slot book book' inside inside' moved =
+    let d = first_left ds slot inside in
+    let t = first_left ts slot inside' in
+    ap (λ (b : Book). b.time) (moved d.0 t.0 d.1 t.1) ∙ ap (λ n. n + 1) (time-all_told d.0 book)
+
+-- after the last slot nothing is left
+pub told_done : (ds : List (List Decided)) (ts : List Table) (slot : ℕ) (book : Book) (text : List ℕ) → length ds ≤ slot → text ++ lines_text (rows_told book (drop slot ds) (drop slot ts)) ≡ text
+told_done ds ts slot book text past = ap (λ (l : List (List Decided)). text ++ lines_text (rows_told book l (drop slot ts))) (drop_all slot ds past) ∙ append-nil text

@@ -1,0 +1,9 @@
+use Rattle.std.proofs.Common.{◌≡◌, ◌++◌, drop, map}
+use Rattle.pfair_text.specs.Rows.{IsOpen, lines_text, text_so_far}
+use Rattle.pfair_output.specs.Decisions.{decision_row}
+use Rattle.pfair_output.proofs.decisions.add_decisions.Given as goal
+
+-- the text so far, with the rows that are left, is the whole
+abbrev pub invariant-loop-one : goal.invariant-loop-one
+invariant-loop-one l = IsOpen l.writer
+    × (text_so_far l.writer ++ lines_text (map (decision_row l.slot) (drop l.one-index l.decided)) ≡ text_so_far l.fn.writer ++ lines_text (map (decision_row l.slot) l.decided))

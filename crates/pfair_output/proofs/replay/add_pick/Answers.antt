@@ -1,0 +1,13 @@
+use Rattle.std.proofs.Common.{◌≡◌, true, rules, refl, ap, ◌∙◌}
+use Rattle.pfair_text.specs.Rows.{is_plain}
+use Rattle.pfair_text.proofs.RowFacts.{is_plain-decimal}
+use Rattle.pfair_output.proofs.NameFacts.{is_plain-name}
+use Rattle.pfair_output.proofs.replay.add_pick.Goals as goal
+
+pub add_row-requires-clause-plain : goal.add_row-requires-clause-plain
+add_row-requires-clause-plain c =
+    let slot : is_plain c.as_bytes.result.now ≡ true = search (rules, is_plain-decimal) in
+    let row : is_plain c.as_bytes-2.result.now ≡ true = search (rules, is_plain-decimal) in
+    let task : is_plain c.as_bytes-3.result.now ≡ true = ap is_plain c.as_bytes-3.ensures.value ∙ is_plain-name c.args.pick.now.name c.as_bytes-3.ensures.named in
+    let index : is_plain c.as_bytes-4.result.now ≡ true = search (rules, is_plain-decimal) in
+    rw (slot, row, task, index) refl

@@ -1,0 +1,5 @@
+pub mod Decisions
+pub mod Lags
+pub mod Replay
+pub mod Slots
+pub mod Told

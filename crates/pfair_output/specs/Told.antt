@@ -1,0 +1,49 @@
+-- A book of lags that is told what was planned, slot by slot, and the rows that it gives.
+use Rattle.std.specs.Prelude.{ℕ, Bool, true, false, if◌then◌else◌, List, [], ◌∷◌, ◌++◌, map}
+use Rattle.std.specs.Fmt.{decimal, signed_decimal}
+use Rattle.pfair_entry.specs.declared.announcement.Announcement.{Announcement}
+use Rattle.pfair_entry.specs.declared.announcement.Announcement.TheVariants.{Arrive, Depart, Late}
+use Rattle.pfair_admission.specs.declared.decision.Decision.{Decision}
+use Rattle.pfair_admission.specs.declared.decision.Decision.TheVariants.{Admitted, Departing, Delayed, Refused}
+use Rattle.pfair_table.specs.declared.pick.Decided.{Decided}
+use Rattle.pfair_table.specs.Table.{Table}
+use Rattle.pfair_lag.specs.Book.{NameValue, Tally, Book, lag_of, entered_with, left, recorded}
+
+abbrev pub is_admitted : Decision → Bool
+is_admitted Admitted = true
+is_admitted (Departing slot) = false
+is_admitted Delayed = false
+is_admitted (Refused why) = false
+
+abbrev pub is_leave : Decision → Bool
+is_leave Admitted = false
+is_leave (Departing slot) = true
+is_leave Delayed = false
+is_leave (Refused why) = false
+
+-- who is admitted enters, and who departs leaves
+abbrev pub told : Announcement → Decision → Book → Book
+told (Arrive name weight early) d book = if is_admitted d then entered_with name weight book else book
+told (Depart name) d book = if is_leave d then left name book else book
+told (Late name index by) d book = book
+
+abbrev pub all_told : List Decided → Book → Book
+all_told [] book = book
+all_told (d ∷ more) book = all_told more (told d.announcement d.decision book)
+
+-- the decisions of a slot, and then its table
+abbrev pub slot_told : List Decided → Table → Book → Book
+slot_told decided table book = recorded (map (λ p. p.name) table) (all_told decided book)
+
+abbrev pub tally_row : ℕ → NameValue × Tally → List (List ℕ)
+tally_row time e = decimal time ∷ e.0 ∷ signed_decimal (lag_of e.1).0 ∷ decimal (lag_of e.1).1 ∷ []
+
+-- a row for each task of the book, in order of entering
+abbrev pub book_rows : Book → List (List (List ℕ))
+book_rows book = map (tally_row book.time) book.entered
+
+-- the rows after each slot
+abbrev pub rows_told : Book → List (List Decided) → List Table → List (List (List ℕ))
+rows_told book [] tables = []
+rows_told book (d ∷ ds) [] = []
+rows_told book (d ∷ ds) (t ∷ ts) = book_rows (slot_told d t book) ++ rows_told (slot_told d t book) ds ts

@@ -1,0 +1,124 @@
+//! Decisions as rows: slot, processor, number, task, outcome, value.
+
+ghost use Rattle.std.specs.Prelude.{◌≡◌, ◌++◌, ◌∷◌, [], map, OnOk, IfOk, IsTrue, List, Some, slice_get};
+ghost use Rattle.pfair_text.specs.Rows.{IsOpen, is_plain, line, lines_text, text_so_far};
+ghost use Rattle.pfair_table.specs.declared.pick.Decided.{Decided};
+ghost use Rattle.pfair_output.specs.Decisions.{decided_rows, decision_row, decisions_text, outcome_of, value_of};
+
+use csv::Writer;
+use itoa::Buffer;
+use pfair_admission::Decision;
+use pfair_ready::Ready;
+use pfair_table::{Decided, Dispatcher};
+use pfair_text::{add_row, finish, new_text};
+use std::alloc::{AllocError, Global};
+
+/// The decisions at the boundaries of all slots that a dispatcher has planned: a header, and a row for each announcement,
+/// slots in order, and in each as they were decided.
+///
+/// # Errors
+/// `AllocError` where memory was wanted and refused.
+pub fn decisions_of<R: Ready>(
+    alloc: Global,
+    dispatcher: &Dispatcher<R>,
+) -> Result<Vec<u8>, AllocError>
+    ensures { IfOk result (λ text. text.items ≡ decisions_text dispatcher.now.decided) }
+{
+    let mut writer = new_text(alloc);
+    add_row(
+        &mut writer,
+        &[
+            b"slot",
+            b"processor",
+            b"number",
+            b"task",
+            b"outcome",
+            b"value",
+        ],
+    )?;
+    for slot in 0..dispatcher.next_slot() {
+        add_slot(&mut writer, dispatcher, slot)?;
+    }
+    finish(writer)
+}
+
+// Adds the rows of a slot that is planned.
+fn add_slot<R: Ready>(
+    writer: &mut Writer<Vec<u8>>,
+    dispatcher: &Dispatcher<R>,
+    slot: u64,
+) -> Result<(), AllocError>
+    requires { IsOpen writer.old }
+    ensures open { OnOk result (IsOpen writer.new) }
+    ensures text { OnOk result ((decided : List Decided) → slice_get dispatcher.now.decided slot ≡ Some decided → text_so_far writer.new ≡ text_so_far writer.old ++ lines_text (decided_rows slot decided)) }
+{
+    match dispatcher.decisions(slot) {
+        Some(decided) => add_decisions(writer, slot, decided),
+        None => Ok(()),
+    }
+}
+
+// Adds a row for each announcement that was decided at the boundary of a slot: the slot, the processor and the number
+// of its entry, the task, and what was decided.
+fn add_decisions(
+    writer: &mut Writer<Vec<u8>>,
+    slot: u64,
+    decided: &[Decided],
+) -> Result<(), AllocError>
+    requires { IsOpen writer.old }
+    ensures open { OnOk result (IsOpen writer.new) }
+    ensures text { OnOk result (text_so_far writer.new ≡ text_so_far writer.old ++ lines_text (map (decision_row slot) decided.now)) }
+{
+    for one in decided {
+        add_decision(writer, slot, one)?;
+    }
+    Ok(())
+}
+
+// Adds the row of one announcement.
+fn add_decision(
+    writer: &mut Writer<Vec<u8>>,
+    slot: u64,
+    decided: &Decided,
+) -> Result<(), AllocError>
+    requires { IsOpen writer.old }
+    ensures open { OnOk result (IsOpen writer.new) }
+    ensures text { OnOk result (text_so_far writer.new ≡ text_so_far writer.old ++ line (decision_row slot decided.now)) }
+{
+    add_row(
+        writer,
+        &[
+            Buffer::new().format(slot).as_bytes(),
+            Buffer::new().format(decided.processor).as_bytes(),
+            Buffer::new().format(decided.number).as_bytes(),
+            decided.announcement.name().as_bytes(),
+            outcome(decided.decision).as_bytes(),
+            value(decided.decision, &mut Buffer::new()).as_bytes(),
+        ],
+    )
+}
+
+// The word for what was decided.
+fn outcome(decision: Decision) -> &'static str
+    ensures word { result.now ≡ outcome_of decision }
+    ensures plain { IsTrue (is_plain result.now) }
+{
+    match decision {
+        Decision::Admitted => "admitted",
+        Decision::Departing { .. } => "departing",
+        Decision::Delayed => "delayed",
+        Decision::Refused(_) => "refused",
+    }
+}
+
+// The freeing slot, the number of the refusal, or a dash.
+fn value(decision: Decision, buffer: &mut Buffer) -> &str
+    ensures value { result.now ≡ value_of decision }
+    ensures plain { IsTrue (is_plain result.now) }
+{
+    match decision {
+        Decision::Admitted | Decision::Delayed => "-",
+        Decision::Departing { freed_at } => buffer.format(freed_at),
+        Decision::Refused(why) => buffer.format(why.number()),
+    }
+}

@@ -1,0 +1,157 @@
+//! Lags as rows: time, task, numerator, period.
+
+ghost use Rattle.std.specs.Prelude.{◌≡◌, ◌<◌, ◌++◌, ◌∷◌, [], OnOk, IfOk, List, Some, slice_get};
+ghost use Rattle.pfair_text.specs.Rows.{IsOpen, line, lines_text, text_so_far};
+ghost use Rattle.pfair_replica.specs.HeldRows.{replica_of};
+ghost use Rattle.pfair_lag.specs.Book.{NameValue, Tally, empty_book};
+ghost use Rattle.pfair_table.specs.declared.pick.Decided.{Decided};
+ghost use Rattle.pfair_table.specs.Table.{Table};
+ghost use Rattle.pfair_table.specs.Refinement.{IsWholePlan};
+ghost use Rattle.std.specs.Fmt.{decimal, signed_decimal};
+ghost use Rattle.pfair_output.specs.Lags.{lags_header, lags_text};
+ghost use Rattle.pfair_output.specs.Told.{told, all_told, slot_told, tally_row, book_rows, rows_told};
+
+use csv::Writer;
+use itoa::Buffer;
+use pfair_admission::Decision;
+use pfair_entry::Announcement;
+use pfair_lag::LagBook;
+use pfair_ready::Ready;
+use pfair_table::{Decided, Dispatcher};
+use pfair_text::{add_row, finish, new_text};
+use pfair_weight::TaskName;
+use std::alloc::{AllocError, Global};
+
+/// The lags in all slots that a dispatcher has planned: a header, and for each slot t, slots in order, a row for each
+/// member that isn't departing after the boundary of t, in the order of admission: the time t + 1, the task, and its lag
+/// at that time as a numerator over its period, counted from its joining slot.
+///
+/// Of a dispatcher that has planned all that its logs settle, the text is a function of what it holds alone.
+///
+/// # Errors
+/// `AllocError` where memory was wanted and refused.
+pub fn lags_of<R: Ready>(alloc: Global, dispatcher: &Dispatcher<R>) -> Result<Vec<u8>, AllocError>
+    ensures whole { IsWholePlan dispatcher.now → IfOk result (λ text.
+        text.items ≡ lags_text dispatcher.now.settings (replica_of dispatcher.now.held)) }
+    ensures told { IfOk result (λ text. text.items ≡
+        lines_text (lags_header ∷ rows_told empty_book dispatcher.now.decided dispatcher.now.tables)) }
+{
+    let mut writer = new_text(alloc);
+    add_row(&mut writer, &[b"time", b"task", b"numerator", b"period"])?;
+    let mut book = LagBook::new(alloc);
+    for slot in 0..dispatcher.next_slot() {
+        add_slot(&mut writer, &mut book, dispatcher, slot)?;
+    }
+    finish(writer)
+}
+
+// Tells the book a slot that is planned, and adds the rows after it.
+fn add_slot<R: Ready>(
+    writer: &mut Writer<Vec<u8>>,
+    book: &mut LagBook,
+    dispatcher: &Dispatcher<R>,
+    slot: u64,
+) -> Result<(), AllocError>
+    requires open { IsOpen writer.old }
+    requires room { book.old.time < 1000000 }
+    ensures open { OnOk result (IsOpen writer.new) }
+    ensures book { OnOk result ((decided : List Decided) (table : Table)
+        → slice_get dispatcher.now.decided slot ≡ Some decided → slice_get dispatcher.now.tables slot ≡ Some table
+        → book.new ≡ slot_told decided table book.old) }
+    ensures text { OnOk result ((decided : List Decided) (table : Table)
+        → slice_get dispatcher.now.decided slot ≡ Some decided → slice_get dispatcher.now.tables slot ≡ Some table
+        → text_so_far writer.new ≡ text_so_far writer.old ++ lines_text (book_rows (slot_told decided table book.old))) }
+{
+    let Some(decided) = dispatcher.decisions(slot) else {
+        return Ok(());
+    };
+    let Some(table) = dispatcher.table(slot) else {
+        return Ok(());
+    };
+    tell_all(book, decided)?;
+    book.record(table);
+    add_lags(writer, book)
+}
+
+// Tells the book who enters and who leaves at the boundary of a slot.
+fn tell_all(book: &mut LagBook, decided: &[Decided]) -> Result<(), AllocError>
+    ensures { OnOk result (book.new ≡ all_told decided.now book.old) }
+{
+    for one in decided {
+        tell(book, one)?;
+    }
+    Ok(())
+}
+
+// Tells the book one decision.
+fn tell(book: &mut LagBook, decided: &Decided) -> Result<(), AllocError>
+    ensures { OnOk result (book.new ≡ told decided.now.announcement decided.now.decision book.old) }
+{
+    match decided.announcement {
+        Announcement::Arrive { name, weight, .. } => {
+            if let Decision::Admitted = decided.decision {
+                book.enter(name, weight)?;
+            }
+        }
+        Announcement::Depart { name } => {
+            if let Decision::Departing { .. } = decided.decision {
+                book.leave(&name);
+            }
+        }
+        Announcement::Late { .. } => {}
+    }
+    Ok(())
+}
+
+// Adds a row for each task of the book, in order of entering.
+fn add_lags(writer: &mut Writer<Vec<u8>>, book: &LagBook) -> Result<(), AllocError>
+    requires { IsOpen writer.old }
+    ensures open { OnOk result (IsOpen writer.new) }
+    ensures text { OnOk result (text_so_far writer.new ≡ text_so_far writer.old ++ lines_text (book_rows book.now)) }
+{
+    for place in 0..book.len() {
+        add_task(writer, book, place)?;
+    }
+    Ok(())
+}
+
+// Adds the row of the task at a place of the book.
+fn add_task(writer: &mut Writer<Vec<u8>>, book: &LagBook, place: usize) -> Result<(), AllocError>
+    requires { IsOpen writer.old }
+    ensures open { OnOk result (IsOpen writer.new) }
+    ensures text { OnOk result ((task : NameValue × Tally) → slice_get book.now.entered place ≡ Some task
+        → text_so_far writer.new ≡ text_so_far writer.old ++ line (tally_row book.now.time task)) }
+{
+    let Some(name) = book.name_at(place) else {
+        return Ok(());
+    };
+    let Some((numerator, period)) = book.lag(name) else {
+        return Ok(());
+    };
+    add_lag(writer, book.time(), name, numerator, period)?;
+    Ok(())
+}
+
+// Adds a row.
+fn add_lag(
+    writer: &mut Writer<Vec<u8>>,
+    time: u64,
+    name: &TaskName,
+    numerator: i64,
+    period: u64,
+) -> Result<(), AllocError>
+    requires { IsOpen writer.old }
+    ensures open { OnOk result (IsOpen writer.new) }
+    ensures text { OnOk result (text_so_far writer.new ≡ text_so_far writer.old
+        ++ line (decimal time ∷ name.now ∷ signed_decimal numerator ∷ decimal period ∷ [])) }
+{
+    add_row(
+        writer,
+        &[
+            Buffer::new().format(time).as_bytes(),
+            name.as_bytes(),
+            Buffer::new().format(numerator).as_bytes(),
+            Buffer::new().format(period).as_bytes(),
+        ],
+    )
+}

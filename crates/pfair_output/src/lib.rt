@@ -1,0 +1,12 @@
+//! What the commands write of a run: its tables, its decisions and its lags, as rows of text.
+#![tactic(auto)]
+
+mod decisions;
+mod lags;
+mod replay;
+#[cfg(test)]
+mod tests;
+
+pub use decisions::decisions_of;
+pub use lags::lags_of;
+pub use replay::replay_of;

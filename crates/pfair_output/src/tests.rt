@@ -1,0 +1,155 @@
+//! The texts of two runs, byte for byte.
+
+use crate::{decisions_of, lags_of, replay_of};
+use pfair_entry::{Announcement, Entry};
+use pfair_ready::{HeapReady, PlainReady, Ready};
+use pfair_table::{Dispatcher, Script, ScriptFault, Settings, run_script};
+use pfair_weight::{TaskName, Weight};
+use std::alloc::{AllocError, Global};
+use std::process::Abort;
+use std::test::Fail;
+
+const REPLAY: &str =
+    "slot,processor,task,index\n0,0,b,1\n0,1,a,1\n1,0,b,2\n1,1,c,1\n3,0,b,3\n3,1,d,1\n4,0,c,2\n5,0,d,2\n";
+
+const DECISIONS: &str =
+    "slot,processor,number,task,outcome,value\n0,0,1,a,admitted,-\n0,0,2,b,admitted,-\n0,1,1,c,admitted,-\n2,0,3,a,departing,3\n3,1,2,d,admitted,-\n4,1,3,b,delayed,-\n";
+
+const LAGS: &str =
+    "time,task,numerator,period\n1,a,-1,2\n1,b,-1,3\n1,c,1,3\n2,a,0,2\n2,b,-2,3\n2,c,-1,3\n3,b,0,3\n3,c,0,3\n4,b,-1,3\n4,c,1,3\n4,d,-1,2\n5,b,1,3\n5,c,-1,3\n5,d,0,2\n6,b,3,3\n6,c,0,3\n6,d,-1,2\n";
+
+const EARLY_LAGS: &str = "time,task,numerator,period\n1,a,-2,4\n2,a,-4,4\n3,a,-2,4\n4,a,0,4\n";
+
+fn name(rt: &impl Abort, bytes: &[u8]) -> TaskName {
+    TaskName::from_bytes(bytes).expect(rt, "a name")
+}
+
+fn entry(rt: &impl Abort, floor: u64, said: Option<(u64, Announcement)>) -> Entry {
+    Entry::new(floor, said).expect(rt, "an entry")
+}
+
+/// An entry by which a task arrives.
+fn arrival(
+    rt: &impl Abort,
+    floor: u64,
+    at: u64,
+    task: &[u8],
+    share: (u64, u64),
+    early: bool,
+) -> Entry {
+    let weight = Weight::new(share.0, share.1).expect(rt, "a weight");
+    let name = name(rt, task);
+    entry(
+        rt,
+        floor,
+        Some((
+            at,
+            Announcement::Arrive {
+                name,
+                weight,
+                early,
+            },
+        )),
+    )
+}
+
+/// The script of two processors: a leaves, b is late once, and d comes in the middle.
+fn two_logs(rt: &impl Abort, alloc: Global) -> Result<Script, AllocError> {
+    let first = vec![in alloc;
+        arrival(rt, 0, 0, b"a", (1, 2), false),
+        arrival(rt, 0, 0, b"b", (2, 3), false),
+        entry(
+            rt,
+            2,
+            Some((
+                2,
+                Announcement::Depart {
+                    name: name(rt, b"a")
+                }
+            ))
+        ),
+        entry(rt, 4, None),
+        entry(rt, 6, None),
+    ]?;
+    let late = Announcement::Late {
+        name: name(rt, b"b"),
+        index: 4,
+        by: 2,
+    };
+    let second = vec![in alloc;
+        arrival(rt, 0, 0, b"c", (1, 3), false),
+        arrival(rt, 1, 3, b"d", (1, 2), false),
+        entry(rt, 3, Some((4, late))),
+        entry(rt, 5, None),
+        entry(rt, 6, None),
+    ]?;
+    let logs = vec![in alloc; first, second]?;
+    let settings = Settings::new(2, 6, 6).expect(rt, "settings");
+    Ok(Script::new(settings, logs).ok().expect(rt, "a script"))
+}
+
+/// The script of one processor, with one task that may run ahead of its windows.
+fn early_log(rt: &impl Abort, alloc: Global) -> Result<Script, AllocError> {
+    let log = vec![in alloc; arrival(rt, 0, 0, b"a", (2, 4), true), entry(rt, 4, None)]?;
+    let logs = vec![in alloc; log]?;
+    let settings = Settings::new(1, 4, 4).expect(rt, "settings");
+    Ok(Script::new(settings, logs).ok().expect(rt, "a script"))
+}
+
+/// The run of a script. Where memory is refused it tries once more.
+fn run<R: Ready>(alloc: Global, script: &Script) -> Result<Dispatcher<R>, ScriptFault> {
+    match run_script(alloc, script) {
+        Ok(dispatcher) => Ok(dispatcher),
+        Err(_) => run_script(alloc, script),
+    }
+}
+
+/// Asserts the three texts of the script of two processors. Where memory is refused each is asked for once more.
+fn assert_texts<R: Ready>(rt: &impl Abort, alloc: Global) -> Result<(), Fail> {
+    let script = match two_logs(rt, alloc) {
+        Ok(script) => script,
+        Err(_) => two_logs(rt, alloc)?,
+    };
+    let dispatcher = run::<R>(alloc, &script)?;
+    let replay = match replay_of(alloc, &dispatcher) {
+        Ok(text) => text,
+        Err(_) => replay_of(alloc, &dispatcher)?,
+    };
+    assert_eq!(rt; replay.as_slice(), REPLAY.as_bytes());
+    let decisions = match decisions_of(alloc, &dispatcher) {
+        Ok(text) => text,
+        Err(_) => decisions_of(alloc, &dispatcher)?,
+    };
+    assert_eq!(rt; decisions.as_slice(), DECISIONS.as_bytes());
+    let lags = match lags_of(alloc, &dispatcher) {
+        Ok(text) => text,
+        Err(_) => lags_of(alloc, &dispatcher)?,
+    };
+    assert_eq!(rt; lags.as_slice(), LAGS.as_bytes());
+    Ok(())
+}
+
+#[test]
+fn texts_of_two_logs(rt: HostRuntime) -> Result<(), Fail> {
+    assert_texts::<PlainReady>(&rt, rt.alloc())
+}
+
+#[test]
+fn texts_of_two_logs_by_a_heap(rt: HostRuntime) -> Result<(), Fail> {
+    assert_texts::<HeapReady>(&rt, rt.alloc())
+}
+
+#[test]
+fn lags_of_an_early_task(rt: HostRuntime) -> Result<(), Fail> {
+    let script = match early_log(&rt, rt.alloc()) {
+        Ok(script) => script,
+        Err(_) => early_log(&rt, rt.alloc())?,
+    };
+    let dispatcher = run::<HeapReady>(rt.alloc(), &script)?;
+    let lags = match lags_of(rt.alloc(), &dispatcher) {
+        Ok(text) => text,
+        Err(_) => lags_of(rt.alloc(), &dispatcher)?,
+    };
+    assert_eq!(rt; lags.as_slice(), EARLY_LAGS.as_bytes());
+    Ok(())
+}

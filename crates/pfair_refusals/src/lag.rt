@@ -1,0 +1,43 @@
+//! Books of lags.
+
+use crate::Look;
+use crate::entries::name;
+use pfair_lag::LagBook;
+use pfair_weight::{TaskName, Weight};
+use std::alloc::{AllocError, Global};
+
+// Whether the book has these tasks and no other, in this order.
+fn has_entered(book: &LagBook, names: &[TaskName]) -> bool {
+    for (place, name) in names.iter().enumerate() {
+        if book.name_at(place) != Some(name) || book.lag(name) != Some((0, 2)) {
+            return false;
+        }
+    }
+    book.name_at(names.len()).is_none() && book.time() == 0
+}
+
+// Enters a task after those that are there. After want of memory nothing has changed, and it is entered once more.
+fn enters(
+    book: &mut LagBook,
+    before: &[TaskName],
+    name: TaskName,
+    weight: Weight,
+) -> Result<bool, AllocError> {
+    match book.enter(name, weight) {
+        Ok(is_new) => Ok(is_new),
+        Err(_) if has_entered(book, before) => book.enter(name, weight),
+        Err(_) => Ok(false),
+    }
+}
+
+/// Two tasks, one after the other, and the first of them again.
+pub(crate) fn enter(alloc: Global) -> Look {
+    let (Some(a), Some(b), Ok(half)) = (name(b'a'), name(b'b'), Weight::new(1, 2)) else {
+        return Ok(false);
+    };
+    let mut book = LagBook::new(alloc);
+    let is_first = enters(&mut book, &[], a, half)?;
+    let is_second = enters(&mut book, &[a], b, half)?;
+    let is_known = book.enter(a, half) == Ok(false);
+    Ok(is_first && is_second && is_known && has_entered(&book, &[a, b]))
+}
