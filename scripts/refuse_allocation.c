@@ -13,6 +13,7 @@
 #include <stdatomic.h>
 #include <stdio.h>
 #include <stdlib.h>
+#include <sys/syscall.h>
 #include <unistd.h>
 
 static _Atomic long calls;
@@ -33,6 +34,10 @@ __attribute__((constructor)) static void start(void) {
     atomic_store(&calls, 0);
 }
 
+static void leave(int status) {
+    for (;;) syscall(SYS_exit_group, status);
+}
+
 __attribute__((destructor)) static void end(void) {
     const char *path = getenv("REFUSE_COUNT");
     char line[32];
@@ -41,8 +46,15 @@ __attribute__((destructor)) static void end(void) {
     length = snprintf(line, sizeof line, "%ld\n", atomic_load(&calls));
     file = open(path, O_WRONLY | O_CREAT | O_TRUNC, 0644);
     if (file < 0) return;
-    if (write(file, line, (size_t)length) != length) _exit(99);
+    if (write(file, line, (size_t)length) != length) leave(99);
     close(file);
+}
+
+/* A program with threads ends by this call, which runs no destructor. */
+void _exit(int status) {
+    end();
+    leave(status);
+    __builtin_unreachable();
 }
 
 static int is_refused(void) {

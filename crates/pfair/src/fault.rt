@@ -4,6 +4,7 @@ ghost use Rattle.std.specs.Prelude.{◌≡◌};
 ghost use Rattle.pfair.specs.Faults.{number_of, status_of};
 ghost use Rattle.pfair.specs.declared.fault.ProgramFault.TheVariants.{Memory};
 
+use pfair_file::FileFault;
 use pfair_weight::WeightFault;
 use std::alloc::AllocError;
 use std::io::Write;
@@ -15,6 +16,27 @@ pub enum ProgramFault {
     /// Numbers 4 to 6: a cost and a period make no weight.
     #[error("{0}")]
     Weight(WeightFault),
+    /// Number 52: the logs of a task file settle only the slots below this one, which is one of its slots.
+    #[error("stalled at slot {slot}")]
+    Stalled {
+        /// The frontier of the logs.
+        slot: u64,
+    },
+    /// Number 53: the gate of a run gave up.
+    #[error("gate gave up")]
+    GateGaveUp,
+    /// Number 54: a worker of a run learned something else than the logs say.
+    #[error("gone astray")]
+    Astray,
+    /// Numbers 60 to 65: the first fault of a task file.
+    #[error("{0}")]
+    File(FileFault),
+    /// Number 66: a task file has more bytes than are taken.
+    #[error("file too long")]
+    FileTooLong,
+    /// Number 70: a file could not be opened, or a reader answered an error.
+    #[error("reading failed")]
+    ReadFailed,
     /// Number 71: a writer answered an error, or took none of a piece that isn't empty.
     #[error("writing failed")]
     WriteFailed,
@@ -41,21 +63,29 @@ impl ProgramFault {
     {
         match self {
             ProgramFault::Weight(fault) => fault.number(),
+            ProgramFault::Stalled { .. } => 52,
+            ProgramFault::GateGaveUp => 53,
+            ProgramFault::Astray => 54,
+            ProgramFault::File(fault) => fault.number(),
+            ProgramFault::FileTooLong => 66,
+            ProgramFault::ReadFailed => 70,
             ProgramFault::WriteFailed => 71,
             ProgramFault::CommandLine => 80,
             ProgramFault::Memory => 90,
         }
     }
 
-    /// The exit status that goes with the fault: 1 for a command line or a weight, 4 for want of
-    /// memory, 5 for reading or writing.
+    /// The exit status that goes with the fault: 1 for a command line or a weight, 2 for a task file, 3 for a run that
+    /// is stalled, went astray or whose gate gave up, 4 for want of memory, 5 for reading or writing.
     pub fn status(&self) -> u8
         ensures { result ≡ status_of self.now }
     {
         match self {
             ProgramFault::Weight(_) | ProgramFault::CommandLine => 1,
+            ProgramFault::File(_) | ProgramFault::FileTooLong => 2,
+            ProgramFault::Stalled { .. } | ProgramFault::GateGaveUp | ProgramFault::Astray => 3,
             ProgramFault::Memory => 4,
-            ProgramFault::WriteFailed => 5,
+            ProgramFault::ReadFailed | ProgramFault::WriteFailed => 5,
         }
     }
 }

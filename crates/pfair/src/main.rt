@@ -1,37 +1,65 @@
-//! `pfair`: windows of Pfair tasks.
+//! `pfair`: windows of Pfair tasks, and the tables, decisions and lags of task files.
 #![tactic(auto)]
 
+mod decisions;
 mod fault;
+mod lags;
+mod replay;
+#[cfg(test)]
+mod run_tests;
+mod schedule;
 #[cfg(test)]
 mod tests;
 mod windows;
 mod words;
 
+use decisions::decisions;
 use fault::{ProgramFault, write_fault};
-use pfair_text::send;
+use lags::lags;
+use pfair_board::OpenGate;
 use pfair_words::Asked;
+use replay::replay;
+use schedule::send_text;
+use std::fs::File;
 use std::io;
 use std::process::ExitCode;
+use std::sync::Wait;
+use std::thread::Threads;
 use windows::windows;
 use words::read_words;
 
 fn main(rt: HostRuntime) -> ExitCode {
-    match run(&rt) {
+    match run(&rt, &rt) {
         Ok(()) => ExitCode::SUCCESS,
         Err(fault) => ExitCode::from(write_fault(&fault, &mut rt.stderr())),
     }
 }
 
-// Does what the command line asks for.
-fn run(rt: &HostRuntime) -> Result<(), ProgramFault> {
+// Does what the command line asks for. The second handle is the one by which threads are started.
+fn run<P: Threads + Wait + Sync>(rt: &HostRuntime, threads: &P) -> Result<(), ProgramFault> {
     let words = given_words(rt)?;
     let mut out = rt.stdout();
     match read_words(rt.alloc(), words.as_slice())? {
         Asked::Windows { weight, count } => windows(rt.alloc(), weight, count, &mut out),
-        Asked::Help { text } => match send(&mut out, text.as_bytes()) {
-            Ok(()) => Ok(()),
-            Err(_) => Err(ProgramFault::WriteFailed),
-        },
+        Asked::Replay { file } => replay(
+            threads,
+            rt.alloc(),
+            &mut opened(rt, &file)?,
+            &mut out,
+            &OpenGate,
+        ),
+        Asked::Decisions { file } => decisions(rt.alloc(), &mut opened(rt, &file)?, &mut out),
+        Asked::Lags { file } => lags(rt.alloc(), &mut opened(rt, &file)?, &mut out),
+        Asked::Help { text } => send_text(&mut out, text.as_bytes()),
+    }
+}
+
+// A task file, opened for reading.
+fn opened(rt: &HostRuntime, file: &str) -> Result<File, ProgramFault> {
+    match File::open(rt, file) {
+        Ok(reader) => Ok(reader),
+        Err(error) if error.kind() == io::ErrorKind::OutOfMemory => Err(ProgramFault::Memory),
+        Err(_) => Err(ProgramFault::ReadFailed),
     }
 }
 

@@ -8,9 +8,10 @@ ghost use Rattle.pfair.specs.Windows.{window_row, windows_text};
 ghost use Rattle.pfair.specs.declared.fault.ProgramFault.TheVariants.{WriteFailed, Memory};
 
 use crate::fault::ProgramFault;
+use crate::schedule::send_text;
 use csv::Writer;
 use itoa::Buffer;
-use pfair_text::{add_row, finish, new_text, send};
+use pfair_text::{add_row, finish, new_text};
 use pfair_weight::{Weight, b_bit, deadline, group_deadline, release};
 use std::alloc::{AllocError, Global};
 use std::io::Write;
@@ -35,10 +36,7 @@ pub fn windows<W: Write>(
     ensures only { IfErr result (λ e. (e ≡ WriteFailed) ⊎ (e ≡ Memory)) }
 {
     let text = windows_table(alloc, weight, count)?;
-    match send(writer, text.as_slice()) {
-        Ok(()) => Ok(()),
-        Err(_) => Err(ProgramFault::WriteFailed),
-    }
+    send_text(writer, text.as_slice())
 }
 
 // The text of the table.

@@ -1,46 +1,28 @@
 //! Tables as rows: slot, processor, task, index.
 
-ghost use Rattle.std.specs.Prelude.{◌≡◌, ◌++◌, ◌∷◌, [], OnOk, IfOk, Some, slice_get};
+ghost use Rattle.std.specs.Prelude.{◌≡◌, ◌++◌, ◌∷◌, [], OnOk, IfOk, map};
 ghost use Rattle.pfair_text.specs.Rows.{IsOpen, line, lines_text, text_so_far};
-ghost use Rattle.pfair_table.specs.Table.{Table};
-ghost use Rattle.pfair_output.specs.Replay.{pick_row, replay_text, rows_from, table_rows};
+ghost use Rattle.pfair_output.specs.Replay.{pick_row, replay_text, rows_from};
 
 use csv::Writer;
 use itoa::Buffer;
-use pfair_ready::Ready;
-use pfair_table::{Dispatcher, Pick};
+use pfair_table::Pick;
 use pfair_text::{add_row, finish, new_text};
 use std::alloc::{AllocError, Global};
 
-/// The tables of all slots that a dispatcher has planned: a header, and a row for each quantum, slots in order.
+/// The tables of a run as rows: a header, and a row for each quantum of the tables, that of slot k at place k.
 ///
 /// # Errors
 /// `AllocError` where memory was wanted and refused.
-pub fn replay_of<R: Ready>(alloc: Global, dispatcher: &Dispatcher<R>) -> Result<Vec<u8>, AllocError>
-    ensures { IfOk result (λ text. text.items ≡ replay_text dispatcher.now.tables) }
+pub fn replay_of(alloc: Global, tables: &[Vec<Pick>]) -> Result<Vec<u8>, AllocError>
+    ensures { IfOk result (λ text. text.items ≡ replay_text (map (λ t. t.items) tables.now)) }
 {
     let mut writer = new_text(alloc);
     add_row(&mut writer, &[b"slot", b"processor", b"task", b"index"])?;
-    for slot in 0..dispatcher.next_slot() {
-        add_slot(&mut writer, dispatcher, slot)?;
+    for (slot, table) in tables.iter().enumerate() {
+        add_table(&mut writer, slot as u64, table)?;
     }
     finish(writer)
-}
-
-// Adds the rows of a slot that is planned.
-fn add_slot<R: Ready>(
-    writer: &mut Writer<Vec<u8>>,
-    dispatcher: &Dispatcher<R>,
-    slot: u64,
-) -> Result<(), AllocError>
-    requires { IsOpen writer.old }
-    ensures open { OnOk result (IsOpen writer.new) }
-    ensures text { OnOk result ((table : Table) → slice_get dispatcher.now.tables slot ≡ Some table → text_so_far writer.new ≡ text_so_far writer.old ++ lines_text (table_rows slot table)) }
-{
-    match dispatcher.table(slot) {
-        Some(table) => add_table(writer, slot, table),
-        None => Ok(()),
-    }
 }
 
 // Adds a row for each quantum of a slot's table: the slot, the number of the table's row, the task and the index.

@@ -3,7 +3,7 @@
 use crate::{decisions_of, lags_of, replay_of};
 use pfair_entry::{Announcement, Entry};
 use pfair_ready::{HeapReady, PlainReady, Ready};
-use pfair_table::{Dispatcher, Script, ScriptFault, Settings, run_script};
+use pfair_table::{Dispatcher, Pick, Script, ScriptFault, Settings, run_script};
 use pfair_weight::{TaskName, Weight};
 use std::alloc::{AllocError, Global};
 use std::process::Abort;
@@ -104,6 +104,31 @@ fn run<R: Ready>(alloc: Global, script: &Script) -> Result<Dispatcher<R>, Script
     }
 }
 
+/// A copy of all tables of a run. Where memory is refused it tries once more.
+fn tables_of<R: Ready>(
+    alloc: Global,
+    dispatcher: &Dispatcher<R>,
+) -> Result<Vec<Vec<Pick>>, AllocError> {
+    match copy_tables(alloc, dispatcher) {
+        Ok(tables) => Ok(tables),
+        Err(_) => copy_tables(alloc, dispatcher),
+    }
+}
+
+/// A copy of all tables of a run.
+fn copy_tables<R: Ready>(
+    alloc: Global,
+    dispatcher: &Dispatcher<R>,
+) -> Result<Vec<Vec<Pick>>, AllocError> {
+    let mut all = Vec::new(alloc);
+    for slot in 0..dispatcher.next_slot() {
+        if let Some(table) = dispatcher.table(slot) {
+            all.push(Vec::from_slice(alloc, table)?)?;
+        }
+    }
+    Ok(all)
+}
+
 /// Asserts the three texts of the script of two processors. Where memory is refused each is asked for once more.
 fn assert_texts<R: Ready>(rt: &impl Abort, alloc: Global) -> Result<(), Fail> {
     let script = match two_logs(rt, alloc) {
@@ -111,9 +136,10 @@ fn assert_texts<R: Ready>(rt: &impl Abort, alloc: Global) -> Result<(), Fail> {
         Err(_) => two_logs(rt, alloc)?,
     };
     let dispatcher = run::<R>(alloc, &script)?;
-    let replay = match replay_of(alloc, &dispatcher) {
+    let tables = tables_of(alloc, &dispatcher)?;
+    let replay = match replay_of(alloc, tables.as_slice()) {
         Ok(text) => text,
-        Err(_) => replay_of(alloc, &dispatcher)?,
+        Err(_) => replay_of(alloc, tables.as_slice())?,
     };
     assert_eq!(rt; replay.as_slice(), REPLAY.as_bytes());
     let decisions = match decisions_of(alloc, &dispatcher) {

@@ -4,69 +4,222 @@ ghost use Rattle.pfair_entry.specs.Entry.{IsWithinLimits};
 
 use crate::Look;
 use crate::entries::name;
-use pfair_admission::{Decision, Members, Refusal};
+use crate::twins::{Twins, said};
+use pfair_admission::{Decision, Refusal};
 use pfair_entry::{Announcement, Said};
 use pfair_weight::Weight;
 use std::alloc::Global;
 
-// The announcement that a task of one letter arrives.
-fn arrival(number: u32, letter: u8, cost: u64, period: u64) -> Option<Said>
+const NAME_TAKEN: Decision = Decision::Refused(Refusal::NameTaken);
+
+const OUTSIDE_FRAME: Decision = Decision::Refused(Refusal::PeriodOutsideFrame);
+
+const NO_ROOM: Decision = Decision::Refused(Refusal::NoRoom);
+
+const NO_SUCH_TASK: Decision = Decision::Refused(Refusal::NoSuchTask);
+
+const DEPARTING: Decision = Decision::Refused(Refusal::AlreadyDeparting);
+
+const RELEASED: Decision = Decision::Refused(Refusal::AlreadyReleased);
+
+// A task of one letter arrives.
+fn arrival(letter: u8, cost: u64, period: u64, early: bool) -> Option<Said>
     ensures { ForSome result (λ said. IsWithinLimits said.announcement) }
 {
     let name = name(letter)?;
     let weight = Weight::new(cost, period).ok()?;
-    let announcement = Announcement::Arrive {
+    said(Announcement::Arrive {
         name,
         weight,
-        early: false,
-    };
-    Some(Said {
-        processor: 0,
-        number,
-        announcement,
+        early,
     })
 }
 
-// Whether the members are those that the first of the arrivals leave, and all four count as heard at slot 0.
-fn are_beginning(members: &Members) -> bool {
-    for (place, letter) in [b'a', b'b', b'c'].iter().enumerate() {
-        if let Some((name, _)) = members.at(place)
-            && name.as_bytes() != [*letter].as_slice()
-        {
-            return false;
-        }
-    }
-    members.len() <= 3 && members.heard() == 4 && members.last_slot() == Some(0)
+// A task of one letter departs.
+fn departure(letter: u8) -> Option<Said>
+    ensures { ForSome result (λ said. IsWithinLimits said.announcement) }
+{
+    let name = name(letter)?;
+    said(Announcement::Depart { name })
 }
 
-/// A boundary of four arrivals, the last of a name that is taken then. After want of memory the members are those of a
-/// beginning, and members of their own hear the same once more.
-pub(crate) fn boundary(alloc: Global) -> Look {
+// Subtask 2 of a task of one letter, and all after it, come late by so many slots.
+fn delay(letter: u8, by: u64) -> Option<Said>
+    ensures { ForSome result (λ said. IsWithinLimits said.announcement) }
+{
+    let name = name(letter)?;
+    said(Announcement::Late { name, index: 2, by })
+}
+
+/// Four arrivals, the last of a name that is taken then.
+pub(crate) fn four_arrivals(alloc: Global) -> Look {
     let (Some(a), Some(b), Some(c), Some(again)) = (
-        arrival(1, b'a', 1, 2),
-        arrival(2, b'b', 2, 3),
-        arrival(3, b'c', 1, 3),
-        arrival(4, b'a', 1, 3),
+        arrival(b'a', 1, 2, false),
+        arrival(b'b', 2, 3, false),
+        arrival(b'c', 1, 3, false),
+        arrival(b'a', 1, 3, false),
     ) else {
         return Ok(false);
     };
     let heard = [a, b, c, again];
-    let mut members = Members::new(alloc, 2, 6);
-    let decisions = match members.boundary(0, &heard) {
-        Ok(decisions) => decisions,
-        Err(_) => {
-            if !are_beginning(&members) {
-                return Ok(false);
-            }
-            members = Members::new(alloc, 2, 6);
-            members.boundary(0, &heard)?
-        }
-    };
-    let all = [
+    let decisions = [
         Decision::Admitted,
         Decision::Admitted,
         Decision::Admitted,
-        Decision::Refused(Refusal::NameTaken),
+        NAME_TAKEN,
     ];
-    Ok(are_beginning(&members) && members.len() == 3 && decisions.as_slice() == all.as_slice())
+    let mut twins = Twins::new(alloc, 2, 6);
+    Ok(twins.hear(0, heard.as_slice(), decisions.as_slice())? && twins.are(b"abc"))
+}
+
+/// A task that has run holds its weight until its claim ends, and another one finds no room before.
+pub(crate) fn leaver(alloc: Global) -> Look {
+    let (Some(task), Some(a), Some(leaves), Some(b)) = (
+        name(b'a'),
+        arrival(b'a', 1, 2, false),
+        departure(b'a'),
+        arrival(b'b', 1, 1, false),
+    ) else {
+        return Ok(false);
+    };
+    let departs = Decision::Departing { freed_at: 3 };
+    let mut twins = Twins::new(alloc, 1, 2);
+    Ok(
+        twins.hear(0, [a].as_slice(), [Decision::Admitted].as_slice())?
+            && twins.run(&task, Some(1))
+            && twins.hear(1, [leaves].as_slice(), [departs].as_slice())?
+            && twins.run(&task, None)
+            && twins.hear(2, [b].as_slice(), [NO_ROOM].as_slice())?
+            && twins.are(b"a")
+            && twins.hear(3, [b].as_slice(), [Decision::Admitted].as_slice())?
+            && twins.are(b"b"),
+    )
+}
+
+/// A task that never ran leaves its room and its name in the slot in which it departs.
+pub(crate) fn at_once(alloc: Global) -> Look {
+    let (Some(a), Some(leaves)) = (arrival(b'a', 1, 1, false), departure(b'a')) else {
+        return Ok(false);
+    };
+    let decisions = [
+        Decision::Admitted,
+        Decision::Departing { freed_at: 0 },
+        Decision::Admitted,
+    ];
+    let mut twins = Twins::new(alloc, 1, 1);
+    Ok(twins.hear(0, [a, leaves, a].as_slice(), decisions.as_slice())? && twins.are(b"a"))
+}
+
+/// All that is refused of a task that departs, and of one that isn't there.
+pub(crate) fn refused_leaver(alloc: Global) -> Look {
+    let (Some(task), Some(a), Some(leaves), Some(stranger)) = (
+        name(b'a'),
+        arrival(b'a', 2, 5, false),
+        departure(b'a'),
+        departure(b'x'),
+    ) else {
+        return Ok(false);
+    };
+    let (Some(late), Some(again), Some(b)) = (
+        delay(b'a', 1),
+        arrival(b'a', 1, 5, false),
+        arrival(b'b', 1, 1, false),
+    ) else {
+        return Ok(false);
+    };
+    let heard = [leaves, leaves, stranger, late, again];
+    let decisions = [
+        Decision::Departing { freed_at: 4 },
+        DEPARTING,
+        NO_SUCH_TASK,
+        DEPARTING,
+        NAME_TAKEN,
+    ];
+    let mut twins = Twins::new(alloc, 1, 5);
+    Ok(
+        twins.hear(0, [a].as_slice(), [Decision::Admitted].as_slice())?
+            && twins.run(&task, Some(1))
+            && twins.hear(1, heard.as_slice(), decisions.as_slice())?
+            && twins.hear(3, [b].as_slice(), [NO_ROOM].as_slice())?
+            && twins.hear(4, [b].as_slice(), [Decision::Admitted].as_slice())?
+            && twins.are(b"b"),
+    )
+}
+
+/// A late release up to the slot of the release is accepted, and one after it is refused.
+pub(crate) fn late_release(alloc: Global) -> Look {
+    Ok(late_release_at(alloc, 2, Decision::Delayed, 5)? && late_release_at(alloc, 3, RELEASED, 2)?)
+}
+
+// A late release in this slot, the decision on it, and the slot from which subtask 2 may run then.
+fn late_release_at(alloc: Global, slot: u64, decision: Decision, begins: u64) -> Look {
+    let (Some(task), Some(a), Some(late)) = (name(b'a'), arrival(b'a', 1, 2, false), delay(b'a', 3))
+    else {
+        return Ok(false);
+    };
+    let mut twins = Twins::new(alloc, 1, 2);
+    Ok(
+        twins.hear(0, [a].as_slice(), [Decision::Admitted].as_slice())?
+            && twins.run(&task, Some(1))
+            && twins.hear(slot, [late].as_slice(), [decision].as_slice())?
+            && may_run_from(&twins, b'a', 2, begins),
+    )
+}
+
+/// The name, the frame and the room are looked at in this order.
+pub(crate) fn refused_arrivals(alloc: Global) -> Look {
+    let (Some(odd), Some(a), Some(b), Some(small)) = (
+        arrival(b'a', 1, 5, false),
+        arrival(b'a', 12, 12, false),
+        arrival(b'b', 1, 5, false),
+        arrival(b'b', 1, 12, false),
+    ) else {
+        return Ok(false);
+    };
+    let heard = [odd, a, odd, b, small];
+    let decisions = [
+        OUTSIDE_FRAME,
+        Decision::Admitted,
+        NAME_TAKEN,
+        OUTSIDE_FRAME,
+        NO_ROOM,
+    ];
+    let mut twins = Twins::new(alloc, 1, 12);
+    Ok(twins.hear(0, heard.as_slice(), decisions.as_slice())? && twins.are(b"a"))
+}
+
+/// A task with early release is late only in what has not run, and begins its next job no earlier than its release.
+pub(crate) fn early_release(alloc: Global) -> Look {
+    let (Some(task), Some(a), Some(late)) = (name(b'a'), arrival(b'a', 2, 4, true), delay(b'a', 3))
+    else {
+        return Ok(false);
+    };
+    let mut first = Twins::new(alloc, 1, 4);
+    let is_delayed = first.hear(0, [a].as_slice(), [Decision::Admitted].as_slice())?
+        && first.run(&task, Some(1))
+        && first.hear(1, [late].as_slice(), [Decision::Delayed].as_slice())?
+        && may_run_from(&first, b'a', 2, 5);
+    let mut second = Twins::new(alloc, 1, 4);
+    let is_refused = second.hear(0, [a].as_slice(), [Decision::Admitted].as_slice())?
+        && second.run(&task, Some(1))
+        && second.run(&task, Some(2))
+        && second.hear(2, [late].as_slice(), [RELEASED].as_slice())?
+        && may_run_from(&second, b'a', 3, 4);
+    Ok(is_delayed && is_refused)
+}
+
+// Whether the next subtask of the member is this one, and may run from that slot on.
+fn may_run_from(twins: &Twins, letter: u8, index: u64, slot: u64) -> bool {
+    let Some(task) = name(letter) else {
+        return false;
+    };
+    match twins.get(&task) {
+        Some(member) => {
+            member.next() == index
+                && member.next_subtask().0 == slot
+                && (1..=8).contains(&index)
+                && member.eligible(index) == slot
+        }
+        None => false,
+    }
 }

@@ -7,12 +7,14 @@
 #![tactic(auto)]
 
 mod admission;
+mod board;
 mod entries;
 mod lag;
 mod lattice;
 mod ready;
 mod replica;
 mod table;
+mod twins;
 
 use pfair_ready::{HeapReady, PlainReady};
 use std::alloc::AllocError;
@@ -22,7 +24,7 @@ use std::process::ExitCode;
 type Look = Result<bool, AllocError>;
 
 fn main(rt: HostRuntime) -> ExitCode {
-    let looks: [(&str, Look); 25] = [
+    let looks: [(&str, Look); 43] = [
         (
             "join of maps three deep",
             lattice::join_three_deep(rt.alloc()),
@@ -57,7 +59,31 @@ fn main(rt: HostRuntime) -> ExitCode {
         ("copy of a replica", replica::copy(rt.alloc())),
         ("faults of a replica", replica::faults(rt.alloc())),
         ("what is said at a slot", replica::said(rt.alloc())),
-        ("boundary of four arrivals", admission::boundary(rt.alloc())),
+        (
+            "boundary of four arrivals",
+            admission::four_arrivals(rt.alloc()),
+        ),
+        ("boundaries of a leaver", admission::leaver(rt.alloc())),
+        (
+            "boundary of a task that leaves at once",
+            admission::at_once(rt.alloc()),
+        ),
+        (
+            "boundaries of a leaver that is named again",
+            admission::refused_leaver(rt.alloc()),
+        ),
+        (
+            "boundaries of a late release",
+            admission::late_release(rt.alloc()),
+        ),
+        (
+            "boundary of refused arrivals",
+            admission::refused_arrivals(rt.alloc()),
+        ),
+        (
+            "boundaries of an early release",
+            admission::early_release(rt.alloc()),
+        ),
         (
             "plans over plain lists",
             table::plans::<PlainReady>(rt.alloc()),
@@ -67,12 +93,24 @@ fn main(rt: HostRuntime) -> ExitCode {
             table::reopen::<PlainReady>(rt.alloc()),
         ),
         (
+            "taking over plain lists",
+            table::take::<PlainReady>(rt.alloc()),
+        ),
+        (
             "absorbing over plain lists",
             table::absorb::<PlainReady>(rt.alloc()),
         ),
         (
+            "a second content over plain lists",
+            table::tear::<PlainReady>(rt.alloc()),
+        ),
+        (
             "a run of events over plain lists",
             table::events::<PlainReady>(rt.alloc()),
+        ),
+        (
+            "a run of two halves over plain lists",
+            table::halves::<PlainReady>(rt.alloc()),
         ),
         (
             "a run of logs over plain lists",
@@ -83,19 +121,34 @@ fn main(rt: HostRuntime) -> ExitCode {
             "reopening over heaps",
             table::reopen::<HeapReady>(rt.alloc()),
         ),
+        ("taking over heaps", table::take::<HeapReady>(rt.alloc())),
         (
             "absorbing over heaps",
             table::absorb::<HeapReady>(rt.alloc()),
+        ),
+        (
+            "a second content over heaps",
+            table::tear::<HeapReady>(rt.alloc()),
         ),
         (
             "a run of events over heaps",
             table::events::<HeapReady>(rt.alloc()),
         ),
         (
+            "a run of two halves over heaps",
+            table::halves::<HeapReady>(rt.alloc()),
+        ),
+        (
             "a run of logs over heaps",
             table::script::<HeapReady>(rt.alloc()),
         ),
         ("enter of a book of lags", lag::enter(rt.alloc())),
+        ("a new board", board::new(rt.alloc())),
+        ("desks of a board", board::desks(rt.alloc())),
+        ("publish of a desk", board::publish(rt.alloc())),
+        ("look of a desk", board::look(rt.alloc())),
+        ("refresh of a desk", board::refresh(rt.alloc())),
+        ("meet of two desks", board::meet(rt.alloc())),
     ];
     for (what, look) in looks {
         match look {

@@ -6,8 +6,8 @@ use pfair_lattice::Flat;
 use pfair_replica::{MergeFault, Replica, TakeFault, Taken};
 use std::alloc::{AllocError, Global};
 
-// A replica that holds those of the ten entries whose numbers are odd, or even, or all of them.
-fn holding(alloc: Global, odd: bool, even: bool) -> Result<Replica, AllocError> {
+/// A replica that holds those of the ten entries whose numbers are odd, or even, or all of them.
+pub(crate) fn holding(alloc: Global, odd: bool, even: bool) -> Result<Replica, AllocError> {
     let mut replica = Replica::new(alloc, 2, 5)?;
     for (processor, number, entry) in ten().ok_or(AllocError)? {
         let is_wanted = if number % 2 == 1 { odd } else { even };
@@ -18,7 +18,8 @@ fn holding(alloc: Global, odd: bool, even: bool) -> Result<Replica, AllocError> 
     Ok(replica)
 }
 
-fn are_equal(left: &Replica, right: &Replica) -> bool {
+/// Whether each holds what the other does.
+pub(crate) fn are_equal(left: &Replica, right: &Replica) -> bool {
     left.le(right) && right.le(left)
 }
 

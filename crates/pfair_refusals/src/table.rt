@@ -2,24 +2,43 @@
 
 use crate::Look;
 use crate::entries::{TABLES, is_planned, quiet, ten};
+use crate::replica::{are_equal, holding};
 use pfair_entry::Entry;
 use pfair_ready::Ready;
-use pfair_replica::{EntryKey, MergeFault, TakeFault, Taken};
+use pfair_replica::{EntryKey, MergeFault, Replica, TakeFault, Taken};
 use pfair_table::{
     Dispatcher, Event, PlanFault, Script, ScriptFault, Settings, Step, run_events, run_script,
 };
 use std::alloc::{AllocError, Global};
 
-// A dispatcher that holds the ten entries.
+// A dispatcher that holds the ten entries, with room for 20 of each processor.
 fn told<R: Ready>(alloc: Global) -> Result<Dispatcher<R>, AllocError> {
     let settings = Settings::new(2, 6, 6).ok_or(AllocError)?;
-    let mut dispatcher = Dispatcher::new(alloc, settings, 5)?;
+    let mut dispatcher = Dispatcher::new(alloc, settings, 20)?;
     for (processor, number, entry) in ten().ok_or(AllocError)? {
         if dispatcher.take(processor, number, entry) == Err(TakeFault::Memory) {
             return Err(AllocError);
         }
     }
     Ok(dispatcher)
+}
+
+// Reopens, once more where memory is wanted: plans are then spent still, and what was planned stands. `None` where memory
+// is wanting again.
+fn reopens<R: Ready>(dispatcher: &mut Dispatcher<R>, slots: u64) -> Option<bool> {
+    match dispatcher.reopen() {
+        Ok(()) => return Some(is_planned(dispatcher, slots)),
+        Err(PlanFault::Memory) => {}
+        Err(_) => return Some(false),
+    }
+    if dispatcher.plan_next() != Err(PlanFault::Spent) || !is_planned(dispatcher, slots) {
+        return Some(false);
+    }
+    match dispatcher.reopen() {
+        Ok(()) => Some(is_planned(dispatcher, slots)),
+        Err(PlanFault::Memory) => None,
+        Err(_) => Some(false),
+    }
 }
 
 // After a plan that wanted memory: the slot isn't planned, plans are refused until all is made anew, and entries are
@@ -32,13 +51,8 @@ fn recovers<R: Ready>(dispatcher: &mut Dispatcher<R>, slot: u64) -> Option<bool>
     if !stands {
         return Some(false);
     }
-    if dispatcher.reopen().is_err() {
-        let is_spent = dispatcher.plan_next() == Err(PlanFault::Spent);
-        return if is_spent && is_planned(dispatcher, slot) {
-            None
-        } else {
-            Some(false)
-        };
+    if !reopens(dispatcher, slot)? {
+        return Some(false);
     }
     match dispatcher.plan_next() {
         Ok(step) => Some(step == Step::Planned { slot }),
@@ -47,13 +61,12 @@ fn recovers<R: Ready>(dispatcher: &mut Dispatcher<R>, slot: u64) -> Option<bool>
     }
 }
 
-/// Plans of all six slots, each once more after it wanted memory.
-pub(crate) fn plans<R: Ready>(alloc: Global) -> Look {
-    let mut dispatcher: Dispatcher<R> = told(alloc)?;
-    for slot in 0..TABLES.len() as u64 {
+// Plans the slots that are left, each once more after it wanted memory.
+fn plans_rest<R: Ready>(dispatcher: &mut Dispatcher<R>) -> Look {
+    for slot in dispatcher.next_slot()..TABLES.len() as u64 {
         match dispatcher.plan_next() {
             Ok(Step::Planned { slot: planned }) if planned == slot => {}
-            Err(PlanFault::Memory) => match recovers(&mut dispatcher, slot) {
+            Err(PlanFault::Memory) => match recovers(dispatcher, slot) {
                 Some(true) => {}
                 Some(false) => return Ok(false),
                 None => return Err(AllocError),
@@ -61,56 +74,95 @@ pub(crate) fn plans<R: Ready>(alloc: Global) -> Look {
             _ => return Ok(false),
         }
     }
-    Ok(is_planned(&dispatcher, 6) && dispatcher.plan_next() == Ok(Step::Done))
+    Ok(is_planned(dispatcher, 6) && dispatcher.plan_next() == Ok(Step::Done))
 }
 
-/// Reopening after three slots. After want of memory plans are spent, and it is reopened once more.
-pub(crate) fn reopen<R: Ready>(alloc: Global) -> Look {
-    let mut dispatcher: Dispatcher<R> = told(alloc)?;
+// A dispatcher that holds the ten entries, and has planned three slots.
+fn half_planned<R: Ready>(alloc: Global) -> Result<Dispatcher<R>, AllocError> {
+    let mut dispatcher = told(alloc)?;
     for _ in 0..3 {
         if dispatcher.plan_next().is_err() {
             return Err(AllocError);
         }
     }
-    if dispatcher.reopen() == Err(PlanFault::Memory) {
-        if dispatcher.plan_next() != Err(PlanFault::Spent) || !is_planned(&dispatcher, 3) {
-            return Ok(false);
+    Ok(dispatcher)
+}
+
+/// Plans of all six slots, each once more after it wanted memory.
+pub(crate) fn plans<R: Ready>(alloc: Global) -> Look {
+    let mut dispatcher: Dispatcher<R> = told(alloc)?;
+    plans_rest(&mut dispatcher)
+}
+
+/// Reopening after three slots. After want of memory plans are spent, and it is reopened once more.
+pub(crate) fn reopen<R: Ready>(alloc: Global) -> Look {
+    let mut dispatcher: Dispatcher<R> = half_planned(alloc)?;
+    if !reopens(&mut dispatcher, 3).ok_or(AllocError)? {
+        return Ok(false);
+    }
+    plans_rest(&mut dispatcher)
+}
+
+/// Entries that come after three slots are planned. After want of memory nothing has changed, and the entry is taken once
+/// more.
+pub(crate) fn take<R: Ready>(alloc: Global) -> Look {
+    let Some(entry) = quiet(6) else {
+        return Ok(false);
+    };
+    let mut dispatcher: Dispatcher<R> = half_planned(alloc)?;
+    let mut twin = dispatcher.replica().copy()?;
+    for number in 6..=20 {
+        let mut taken = dispatcher.take(0, number, entry);
+        if taken == Err(TakeFault::Memory) {
+            if !are_equal(dispatcher.replica(), &twin) || !is_planned(&dispatcher, 3) {
+                return Ok(false);
+            }
+            taken = dispatcher.take(0, number, entry);
         }
-        if dispatcher.reopen().is_err() {
+        if taken == Err(TakeFault::Memory)
+            || twin.take(0, number, entry) == Err(TakeFault::Memory)
+        {
             return Err(AllocError);
         }
-    }
-    for slot in 3..6 {
-        match dispatcher.plan_next() {
-            Ok(Step::Planned { slot: planned }) if planned == slot => {}
-            Err(PlanFault::Memory) => return Err(AllocError),
-            _ => return Ok(false),
+        if taken != Ok(Taken::New) || !are_equal(dispatcher.replica(), &twin) {
+            return Ok(false);
         }
     }
-    Ok(is_planned(&dispatcher, 6) && dispatcher.plan_next() == Ok(Step::Done))
+    plans_rest(&mut dispatcher)
 }
 
 /// A dispatcher that takes in what another holds. After want of memory it holds a part of it, and takes it in once more;
-/// then it plans all. A torn key stops plans, also after one that wanted memory.
+/// then it plans all.
 pub(crate) fn absorb<R: Ready>(alloc: Global) -> Look {
     let whole: Dispatcher<R> = told(alloc)?;
     let settings = Settings::new(2, 6, 6).ok_or(AllocError)?;
-    let mut dispatcher: Dispatcher<R> = Dispatcher::new(alloc, settings, 5)?;
+    let mut dispatcher: Dispatcher<R> = Dispatcher::new(alloc, settings, 20)?;
     if dispatcher.absorb(whole.replica()) == Err(MergeFault::Memory) {
-        if !dispatcher.replica().le(whole.replica()) {
+        if !dispatcher.replica().le(whole.replica()) || dispatcher.next_slot() != 0 {
             return Ok(false);
         }
         if dispatcher.absorb(whole.replica()).is_err() {
             return Err(AllocError);
         }
     }
-    if !whole.replica().le(dispatcher.replica()) {
+    if !are_equal(dispatcher.replica(), whole.replica()) {
         return Ok(false);
     }
+    plans_rest(&mut dispatcher)
+}
+
+/// A second content of an entry stops plans and reopening, also those of a dispatcher that is spent; what was planned
+/// stands.
+pub(crate) fn tear<R: Ready>(alloc: Global) -> Look {
     let Some(other) = quiet(6) else {
         return Ok(false);
     };
-    let _planned = dispatcher.plan_next();
+    let mut dispatcher: Dispatcher<R> = half_planned(alloc)?;
+    let slots = match dispatcher.plan_next() {
+        Ok(Step::Planned { slot: 3 }) => 4,
+        Err(PlanFault::Memory) if dispatcher.plan_next() == Err(PlanFault::Spent) => 3,
+        _ => return Ok(false),
+    };
     let torn = PlanFault::Torn(EntryKey {
         processor: 0,
         number: 1,
@@ -118,7 +170,8 @@ pub(crate) fn absorb<R: Ready>(alloc: Global) -> Look {
     Ok(
         dispatcher.take(0, 1, other) == Ok(Taken::Torn)
             && dispatcher.plan_next() == Err(torn)
-            && dispatcher.reopen() == Err(torn),
+            && dispatcher.reopen() == Err(torn)
+            && is_planned(&dispatcher, slots),
     )
 }
 
@@ -138,6 +191,27 @@ pub(crate) fn events<R: Ready>(alloc: Global) -> Look {
     }
     let dispatcher: Dispatcher<R> = run_events(alloc, settings, 5, &events)?;
     Ok(is_planned(&dispatcher, 6))
+}
+
+/// The run in which two halves of the ten entries come one after the other, among events that are refused.
+pub(crate) fn halves<R: Ready>(alloc: Global) -> Look {
+    let settings = Settings::new(2, 6, 6).ok_or(AllocError)?;
+    let entry = quiet(0).ok_or(AllocError)?;
+    let mut events = Vec::new(alloc);
+    events.push(Event::Absorb(holding(alloc, true, false)?))?;
+    events.push(Event::Take {
+        processor: 2,
+        number: 1,
+        entry,
+    })?;
+    events.push(Event::Absorb(Replica::new(alloc, 2, 6)?))?;
+    events.push(Event::Plan)?;
+    events.push(Event::Absorb(holding(alloc, false, true)?))?;
+    for _ in TABLES {
+        events.push(Event::Plan)?;
+    }
+    let dispatcher: Dispatcher<R> = run_events(alloc, settings, 5, &events)?;
+    Ok(is_planned(&dispatcher, 6) && are_equal(dispatcher.replica(), &holding(alloc, true, true)?))
 }
 
 // The logs of the two processors.

@@ -30,10 +30,11 @@ IsLongestRun =
     (x : Replica) → IsReplica x → (k : ℕ)
     → IsRun (x.at k) 1 0 (sound_beginning x k) × ((es : List Logged) → IsRun (x.at k) 1 0 es → (rest : List Logged) × (es ++ rest ≡ sound_beginning x k))
 
--- What is held after an entry was joined in, and after a merge.
+-- What is held after an entry was joined in, which changes nothing where the entry was held already, and after a merge.
 pub record IsHeldAfter : Type 0 where
   pub same : (x : Replica) (k n : ℕ) (e : Logged) → (with_entry x k n e).at k n ≡ held_join entry_eq (x.at k n) (Some (One e))
   pub other : (x : Replica) (k n : ℕ) (e : Logged) (k' n' : ℕ) → ((k' ≡ k) × (n' ≡ n) → ⊥) → (with_entry x k n e).at k' n' ≡ x.at k' n'
+  pub known : (x : Replica) (k n : ℕ) (e : Logged) → x.at k n ≡ Some (One e) → with_entry x k n e ≡ x
   pub joined : (x y : Replica) (k n : ℕ) → (join x y).at k n ≡ held_join entry_eq (x.at k n) (y.at k n)
 
 -- Replicas agree exactly where neither has anything torn and no key has two entries.

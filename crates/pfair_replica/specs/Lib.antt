@@ -1,3 +1,4 @@
+pub mod Agenda
 pub mod Faults
 pub mod HeldAfter
 pub mod HeldRows

@@ -14,7 +14,8 @@ pub fn known_by_held()
     ensures { IsKnownByHeld }
 {}
 
-/// What is held at each key after an entry was joined in, and after a merge.
+/// What is held at each key after an entry was joined in, which changes nothing where the entry was held already, and
+/// after a merge.
 pub fn held_after()
     ensures { IsHeldAfter }
 {}

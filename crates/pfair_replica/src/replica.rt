@@ -8,10 +8,12 @@ ghost use Rattle.std.specs.Prelude.{◌≡◌, ◌≤◌, ◌↔◌, ◌++◌, �
 ghost use Rattle.pfair_lattice.specs.declared.flat.Flat.TheVariants.{One};
 ghost use Rattle.pfair_entry.specs.Entry.{Logged, IsEntry};
 ghost use Rattle.pfair_replica.specs.Replica.{IsReplica, join, with_entry, empty_replica, Below, goes_on, sound_beginning, mark, frontier, missing, IsLeastMissing, said_by, said_in, said, is_torn, has_torn, torn_in, torn_keys, fallen_in, fallen_keys};
+ghost use Rattle.pfair_replica.specs.Agenda.{said_at};
 ghost use Rattle.pfair_replica.specs.Offered.{taken, absorbed};
 ghost use Rattle.pfair_replica.specs.HeldRows.{held, replica_of, IsHeldRows, IsShape, SameShape};
 ghost use Rattle.pfair_replica.specs.Faults.{IsKeyOf, IsTakenAs, IsTakeFaultOf, IsMergeFaultOf, IsPartlyMerged};
 
+use crate::agenda::Agenda;
 use crate::answer::{MergeFault, TakeFault, Taken};
 use crate::key::{EntryKey, Faults};
 use crate::rows::{Rows, empty_rows, put_entry, row_le};
@@ -228,6 +230,21 @@ impl Replica {
         Ok(heard)
     }
 
+    /// What [`Replica::said`] says, by slot, in one pass over the sound beginnings.
+    ///
+    /// # Errors
+    /// `AllocError` where memory was wanted and refused.
+    pub fn agenda(&self) -> Result<Agenda, AllocError>
+        ensures heard { IfOk result (λ agenda. (t : ℕ) → said_at agenda t ≡ said (replica_of self.now) t) }
+        ensures replica { IsReplica (replica_of self.now) }
+    {
+        let mut agenda = Agenda::new(self.alloc);
+        for processor in 0..self.processors {
+            self.note_said(processor, &mut agenda)?;
+        }
+        Ok(agenda)
+    }
+
     /// What is wrong with the logs: every torn key, and every entry that ends a sound beginning by a floor that fell.
     ///
     /// # Errors
@@ -319,6 +336,23 @@ impl Replica {
         Ok(())
     }
 
+    /// Notes in an agenda what a processor says in its sound beginning.
+    fn note_said(&self, processor: u8, agenda: &mut Agenda) -> Result<(), AllocError>
+        ensures { OnOk result ((t : ℕ) → said_at agenda.new t ≡ said_at agenda.old t ++ said_in t processor 1 (sound_beginning (replica_of self.now) processor)) }
+    {
+        let mut floor = 0;
+        for before in 0..self.capacity {
+            match self.going_on(processor, before + 1, floor) {
+                Some(entry) => {
+                    floor = entry.floor();
+                    note_said_by(processor, before + 1, entry, agenda)?;
+                }
+                None => return Ok(()),
+            }
+        }
+        Ok(())
+    }
+
     /// The least torn key of a processor.
     fn first_torn_of(&self, processor: u8) -> Option<EntryKey>
         ensures { result ≡ slice_get (torn_in (replica_of self.now) processor) 0 }
@@ -360,6 +394,21 @@ fn push_said_by(
                 announcement,
             })?;
         }
+    }
+    Ok(())
+}
+
+/// Notes in an agenda what an entry says.
+fn note_said_by(
+    processor: u8,
+    number: u32,
+    entry: Entry,
+    agenda: &mut Agenda,
+) -> Result<(), AllocError>
+    ensures { OnOk result ((t : ℕ) → said_at agenda.new t ≡ said_at agenda.old t ++ said_by t processor number entry.said) }
+{
+    if let Some((stamp, announcement)) = entry.said() {
+        agenda.push(stamp, processor, number, announcement)?;
     }
     Ok(())
 }

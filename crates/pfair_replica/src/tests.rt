@@ -210,6 +210,33 @@ fn what_is_said_at_a_slot(rt: HostRuntime) -> Result<(), Fail> {
     Ok(())
 }
 
+#[test]
+fn an_agenda_has_what_is_said_by_slot(rt: HostRuntime) -> Result<(), Fail> {
+    let name = TaskName::from_bytes(b"a").expect(&rt, "a name");
+    let other = TaskName::from_bytes(b"b").expect(&rt, "a name");
+    let mut x = empty(rt.alloc(), 2, 4)?;
+    taken(&rt, &mut x, 0, 1, departs(&rt, 0, 3, name))?;
+    taken(&rt, &mut x, 0, 2, departs(&rt, 2, 5, name))?;
+    // its floor fell
+    taken(&rt, &mut x, 0, 3, departs(&rt, 1, 5, other))?;
+    taken(&rt, &mut x, 1, 1, departs(&rt, 1, 3, other))?;
+    taken(&rt, &mut x, 1, 2, departs(&rt, 3, 3, name))?;
+    // number 3 is missing
+    taken(&rt, &mut x, 1, 4, departs(&rt, 3, 5, other))?;
+    let agenda = match x.agenda() {
+        Ok(agenda) => agenda,
+        Err(_) => x.agenda()?,
+    };
+    assert_eq!(&rt;
+        agenda.at(3),
+        [said(0, 1, name), said(1, 1, other), said(1, 2, name)].as_slice()
+    );
+    assert_eq!(&rt; agenda.at(5), [said(0, 2, name)].as_slice());
+    assert!(&rt; agenda.at(4).is_empty());
+    assert!(&rt; agenda.at(0).is_empty());
+    Ok(())
+}
+
 fn said(processor: u8, number: u32, name: TaskName) -> Said {
     Said {
         processor,

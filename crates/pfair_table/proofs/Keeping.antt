@@ -1,7 +1,8 @@
 -- The dispatcher's invariant through plans.
 use Rattle.std.proofs.Common.{ℕ, zero, suc, min, ◌+◌, ◌≤◌, ◌<◌, ◌≡◌, refl, sym, ap, ◌∙◌, subst, arith, Bool, false, List, [], ◌∷◌, ◌++◌, length, map, inl, Option, Some, None}
 use Rattle.std.proofs.lemmas.List.{length-map, map-append}
-use Rattle.pfair_replica.specs.Replica.{Replica, IsReplica, Untorn, has_torn, frontier, empty_replica, numbers_below}
+use Rattle.pfair_replica.specs.Replica.{Replica, IsReplica, Untorn, has_torn, frontier, empty_replica, with_entry, numbers_below}
+use Rattle.pfair_replica.specs.HeldAfter.{held_after}
 use Rattle.std.specs.Option.{ForSome}
 use Rattle.std.specs.List.{AllByRecursion}
 use Rattle.std.specs.FinMap as finmap
@@ -20,9 +21,15 @@ use Rattle.pfair_table.specs.declared.slot.PlannedSlot.{PlannedSlot}
 use Rattle.pfair_table.specs.Table.{Settings, Table, history, table, decisions, plan}
 use Rattle.pfair_table.specs.Laws.{IsOf}
 use Rattle.pfair_table.specs.Planned.{tables_of, decided_of}
+use Rattle.pfair_table.specs.declared.outlook.Outlook.{Outlook}
+use Rattle.pfair_table.specs.Outlook.{IsOutlookOf}
 use Rattle.pfair_table.specs.Refinement.{IsPlanOf, IsInStep, IsKept}
 use Rattle.pfair_table.proofs.Runs.{untorn_by_test}
 use Rattle.pfair_table.proofs.Steps.{plan_of_held, step_of_held, plan_next_slot}
+
+-- an entry that was held already leaves what was looked up
+pub outlook_known : (x y : Replica) (k n : ℕ) (e : Logged) (o : Outlook) → x.at k n ≡ Some (One e) → y ≡ with_entry x k n e → IsOutlookOf x o → IsOutlookOf y o
+outlook_known x y k n e o known same so = subst (λ (z : Replica). IsOutlookOf z o) (sym (same ∙ held_after.known x k n e known)) so
 
 long : (planned : List PlannedSlot) → length (tables_of planned) ≡ length planned
 long planned = length-map planned (λ (p : PlannedSlot). p.table.items)

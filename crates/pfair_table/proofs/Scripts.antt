@@ -1,5 +1,5 @@
 -- Logs as a run has them.
-use Rattle.std.proofs.Common.{ℕ, zero, suc, ◌+◌, ◌<◌, ◌≤◌, ◌≡◌, Bool, true, false, refl, sym, ap, ◌∙◌, arith, List, [], ◌∷◌, Option, Some, None, Vec, Global, length, slice_get}
+use Rattle.std.proofs.Common.{ℕ, zero, suc, ◌+◌, ◌<◌, ◌≤◌, ◌≡◌, Bool, true, false, refl, sym, ap, ◌∙◌, arith, List, [], ◌∷◌, Option, Some, None, Vec, Global, length, slice_get, slice_index_or}
 use Rattle.std.specs.Prelude.{◌==◌, ◌≢◌, nat_lt, nat_le, ◌&&◌, if◌then◌else◌}
 use Rattle.std.proofs.lemmas.Option.{slice_get_within}
 use Rattle.std.proofs.lemmas.Bool.{leb-true, leb-false, ltb-true, ltb-false, eqb-true, eq-eqb, lt-ltb, le-leb, and_from, and_parts, true≢false}
@@ -165,13 +165,19 @@ script_whole logs k n = row_whole (slice_get logs k) n
 
 -- ---- the keys of a script's entries are in range
 
-log_fits : (logs : List (List Logged)) (k : ℕ) (log : List Logged) → slice_get logs k ≡ Some log → length log ≤ capacity_of logs
+pub log_fits : (logs : List (List Logged)) (k : ℕ) (log : List Logged) → slice_get logs k ≡ Some log → length log ≤ capacity_of logs
 log_fits [] k log h = absurd (cc)
 log_fits (first ∷ logs) zero log h = let same : first ≡ log = some_one first log h in let long = ap (λ (l : List Logged). length l) same in omega (arith, long)
   where
     some_one : (x y : List Logged) → Some x ≡ Some y → x ≡ y
     some_one x y e = cc
 log_fits (first ∷ logs) (suc k) log h = let fits = log_fits logs k log h in omega (arith, fits)
+
+-- the log at a place, read where it stands
+pub log_at : (logs : List (Vec Logged Global)) (k : ℕ) (log : Vec Logged Global) → k < length logs → log ≡ slice_index_or logs k log → slice_get (lists_of logs) k ≡ Some log.items
+log_at [] k log h is = absurd (omega arith)
+log_at (first ∷ logs) zero log h is = λ i. Some (sym is i).items
+log_at (first ∷ logs) (suc k) log h is = log_at logs k log (omega arith) is
 
 -- to take the next entry of a log is to hold one more
 pub taken_next : (logs : List (List Logged)) (k i : ℕ) (log : List Logged) (e : Logged) → slice_get logs k ≡ Some log → slice_get log i ≡ Some e → taken (held_so_far logs k i) k (i + 1) e ≡ held_so_far logs k (i + 1)

@@ -10,3 +10,4 @@ pub mod Queue
 pub mod PlanFault
 pub mod Planned
 pub mod Refinement
+pub mod Outlook

@@ -11,9 +11,11 @@ ghost use Rattle.pfair_table.specs.Events.{start, happens};
 ghost use Rattle.pfair_table.specs.Laws.{IsOf};
 ghost use Rattle.pfair_table.specs.Table.{table, decisions};
 ghost use Rattle.pfair_table.specs.Planned.{tables_of, decided_of};
+ghost use Rattle.pfair_table.specs.Outlook.{IsOutlookOf};
 ghost use Rattle.pfair_table.specs.Refinement.{IsInStep, course_of, IsStepOf, IsPlanFault, after_fault, IsReopenFault, IsLast, IsWholePlan};
 
 use crate::answer::{PlanFault, Step};
+use crate::outlook::Outlook;
 use crate::pick::{Decided, Pick};
 use crate::settings::Settings;
 use crate::slot::{PlannedSlot, plan_slot};
@@ -23,6 +25,7 @@ use pfair_ready::Ready;
 use pfair_replica::{MergeFault, Replica, TakeFault, Taken};
 use std::alloc::{AllocError, Global};
 use std::marker::Model;
+use std::mem::replace;
 
 /// Holds what one processor has heard of all logs, and plans slot after slot what that settles.
 ///
@@ -33,6 +36,7 @@ pub struct Dispatcher<R: Ready> {
     alloc: Global,
     settings: Settings,
     replica: Replica,
+    outlook: Outlook,
     members: Members,
     ready: R,
     planned: Vec<PlannedSlot>,
@@ -42,13 +46,14 @@ pub struct Dispatcher<R: Ready> {
 impl<R: Ready> Model for Dispatcher<R> {
     ghost use Rattle.pfair_table.specs.Planned.{tables_of, decided_of};
     ghost use Rattle.pfair_replica.specs.HeldRows.{replica_of};
+    ghost use Rattle.pfair_table.specs.Outlook.{IsOutlookOf};
     ghost use Rattle.pfair_table.specs.Refinement.{Dispatch, IsKept};
 
     ghost Value = { Dispatch };
 
     ghost view = { λ a. record { settings = a.settings; held = a.replica; tables = tables_of a.planned.items; decided = decided_of a.planned.items; spent = a.spent } };
 
-    ghost invariant = { λ a. IsKept a.settings (replica_of a.replica) (tables_of a.planned.items) (decided_of a.planned.items) a.spent a.members (R.now a.ready) (R.held a.ready) };
+    ghost invariant = { λ a. IsKept a.settings (replica_of a.replica) (tables_of a.planned.items) (decided_of a.planned.items) a.spent a.members (R.now a.ready) (R.held a.ready) × IsOutlookOf (replica_of a.replica) a.outlook };
 }
 
 impl<R: Ready> Dispatcher<R> {
@@ -68,6 +73,7 @@ impl<R: Ready> Dispatcher<R> {
             alloc,
             settings,
             replica,
+            outlook: Outlook::new(),
             members,
             ready: R::new(alloc),
             planned: Vec::new(alloc),
@@ -86,7 +92,13 @@ impl<R: Ready> Dispatcher<R> {
         ensures offered { (result ≡ Err TakeFault.Memory → ⊥) → replica_of self.new.held ≡ taken (replica_of self.old.held) processor number entry }
         ensures rest { self.new ≡ record self.old { held = self.new.held } }
     {
-        self.replica.take(processor, number, entry)
+        let outlook = replace(&mut self.outlook, Outlook::new());
+        let taken = self.replica.take(processor, number, entry)?;
+        if let Taken::Known = taken {
+            // what was held already changes nothing
+            self.outlook = outlook;
+        }
+        Ok(taken)
     }
 
     /// Takes all that another replica holds, as [`Replica::merge`].
@@ -101,6 +113,7 @@ impl<R: Ready> Dispatcher<R> {
         ensures offered { (result ≡ Err MergeFault.Memory → ⊥) → replica_of self.new.held ≡ absorbed (replica_of self.old.held) (replica_of other.now) }
         ensures rest { self.new ≡ record self.old { held = self.new.held } }
     {
+        self.outlook = Outlook::new();
         self.replica.merge(other)
     }
 
@@ -163,9 +176,10 @@ impl<R: Ready> Dispatcher<R> {
         ensures fault { IfErr result (IsPlanFault self.old) }
         ensures after { IfErr result (λ fault. self.new ≡ after_fault self.old fault) }
     {
-        if let Some(key) = self.replica.first_torn() {
-            return Err(PlanFault::Torn(key));
-        }
+        let frontier = match self.outlook.frontier(&self.replica) {
+            Ok(frontier) => frontier,
+            Err(key) => return Err(PlanFault::Torn(key)),
+        };
         if self.spent {
             return Err(PlanFault::Spent);
         }
@@ -173,7 +187,6 @@ impl<R: Ready> Dispatcher<R> {
         if slot >= self.settings.slots() {
             return Ok(Step::Done);
         }
-        let frontier = self.replica.frontier();
         if slot >= frontier {
             return Ok(Step::Waiting { frontier });
         }
@@ -181,6 +194,7 @@ impl<R: Ready> Dispatcher<R> {
             self.alloc,
             self.settings,
             &self.replica,
+            &mut self.outlook,
             &mut self.members,
             &mut self.ready,
             &mut self.planned,
@@ -232,6 +246,7 @@ fn plan_onto<R: Ready>(
     alloc: Global,
     settings: Settings,
     replica: &Replica,
+    outlook: &mut Outlook,
     members: &mut Members,
     ready: &mut R,
     planned: &mut Vec<PlannedSlot>,
@@ -239,15 +254,20 @@ fn plan_onto<R: Ready>(
     requires of { IsOf settings (replica_of replica.now) }
     requires room { replica.now.capacity ≤ 4096 }
     requires slots { length planned.old.items < settings.slots }
+    requires outlook { IsOutlookOf (replica_of replica.now) outlook.old }
     requires step { IsInStep settings (replica_of replica.now) (length planned.old.items) members.old (R.now ready.old) (R.held ready.old) }
     ensures tables { OnOk result (tables_of planned.new.items ≡ tables_of planned.old.items ++ table settings (replica_of replica.now) (length planned.old.items) ∷ []) }
     ensures decided { OnOk result (decided_of planned.new.items ≡ decided_of planned.old.items ++ decisions settings (replica_of replica.now) (length planned.old.items) ∷ []) }
     ensures step { OnOk result (IsInStep settings (replica_of replica.now) (length planned.new.items) members.new (R.now ready.new) (R.held ready.new)) }
     ensures err { OnErr result (planned.new.items ≡ planned.old.items) }
+    ensures outlook { IsOutlookOf (replica_of replica.now) outlook.new }
 {
     let slot = planned.len() as u64;
-    let next = plan_slot(alloc, replica, members, ready, settings.processors(), slot)?;
+    let agenda = outlook.take_agenda(replica)?;
+    let heard = agenda.at(slot);
+    let next = plan_slot(alloc, heard, members, ready, settings.processors(), slot)?;
     planned.push(next)?;
+    outlook.keep_agenda(agenda);
     Ok(())
 }
 
@@ -265,10 +285,11 @@ fn replay<R: Ready>(
 {
     let mut members = Members::new(alloc, settings.processors(), settings.frame());
     let mut ready = R::new(alloc);
+    let agenda = replica.agenda()?;
     for slot in 0..slots {
         plan_slot(
             alloc,
-            replica,
+            agenda.at(slot),
             &mut members,
             &mut ready,
             settings.processors(),

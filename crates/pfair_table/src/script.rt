@@ -1,6 +1,6 @@
 //! The logs of a run.
 
-ghost use Rattle.std.specs.Prelude.{◌≡◌, ◌<◌, ◌↔◌, IsTrue, IfOk, IfErr, Some, slice_get};
+ghost use Rattle.std.specs.Prelude.{◌≡◌, ◌<◌, ◌≤◌, ◌↔◌, IsTrue, IfOk, IfErr, Some, slice_get, length};
 ghost use Rattle.std.specs.List.{list_all};
 ghost use Rattle.pfair_replica.specs.HeldRows.{IsShape};
 ghost use Rattle.pfair_table.specs.Limits.{IsSettings};
@@ -57,6 +57,7 @@ impl Script {
     pub fn log(&self, processor: u8) -> &[Entry]
         requires { processor < self.now.settings.processors }
         ensures value { slice_get self.now.logs processor ≡ Some result.now }
+        ensures fits { length result.now ≤ capacity_of self.now.logs }
         ensures run { IsLoggedRun self.now }
     {
         &self.logs[processor as usize]

@@ -1,12 +1,11 @@
 //! A script's run on one dispatcher.
 
-ghost use Rattle.std.specs.Prelude.{◌≡◌, ◌+◌, ◌≤◌, List, IfOk, IfErr, OnOk, Some, slice_get, length};
+ghost use Rattle.std.specs.Prelude.{◌≡◌, ◌+◌, ◌≤◌, List, [], IfOk, IfErr, OnOk, Some, false, slice_get, length};
 ghost use Rattle.pfair_replica.specs.HeldRows.{replica_of};
 ghost use Rattle.pfair_table.specs.Refinement.{IsWholePlan};
-ghost use Rattle.pfair_table.specs.Script.{held_so_far};
+ghost use Rattle.pfair_table.specs.Script.{held_so_far, replica_of_logs};
 ghost use Rattle.pfair_table.specs.ScriptRun.{IsRunOf, IsScriptFaultOf, script_fault_number};
 ghost use Rattle.pfair_entry.specs.Entry.{Logged};
-ghost use Rattle.pfair_table.specs.declared.single.ScriptFault.TheVariants.{Memory};
 
 use crate::answer::{PlanFault, Step};
 use crate::dispatcher::Dispatcher;
@@ -62,13 +61,9 @@ pub fn run_script<R: Ready>(alloc: Global, script: &Script) -> Result<Dispatcher
     ensures ok { IfOk result (IsRunOf script.now) }
     ensures fault { IfErr result (IsScriptFaultOf script.now) }
 {
-    let settings = script.settings();
-    let mut dispatcher = Dispatcher::new(alloc, settings, script.capacity())?;
-    for processor in 0..settings.processors() {
-        take_log(&mut dispatcher, processor, script.log(processor))?;
-    }
+    let mut dispatcher = take_script(alloc, script)?;
     let frontier = dispatcher.replica().frontier();
-    if frontier < settings.slots() {
+    if frontier < script.settings().slots() {
         return Err(ScriptFault::Stalled { slot: frontier });
     }
     match plan_all(&mut dispatcher) {
@@ -77,17 +72,34 @@ pub fn run_script<R: Ready>(alloc: Global, script: &Script) -> Result<Dispatcher
     }
 }
 
+/// The dispatcher that has taken every entry of a script's logs, and planned nothing.
+///
+/// # Errors
+/// `AllocError` where memory was wanted and refused.
+pub fn take_script<R: Ready>(alloc: Global, script: &Script) -> Result<Dispatcher<R>, AllocError>
+    ensures settings { IfOk result (λ d. d.settings ≡ script.now.settings) }
+    ensures held { IfOk result (λ d. replica_of d.held ≡ replica_of_logs script.now.logs) }
+    ensures nothing { IfOk result (λ d. d.tables ≡ []) }
+    ensures able { IfOk result (λ d. d.spent ≡ false) }
+{
+    let settings = script.settings();
+    let mut dispatcher = Dispatcher::new(alloc, settings, script.capacity())?;
+    for processor in 0..settings.processors() {
+        take_log(&mut dispatcher, processor, script.log(processor))?;
+    }
+    Ok(dispatcher)
+}
+
 // Takes the entries of one log, in order.
 fn take_log<R: Ready>(
     dispatcher: &mut Dispatcher<R>,
     processor: u8,
     log: &[Entry],
-) -> Result<(), ScriptFault>
+) -> Result<(), AllocError>
     requires { length log.now ≤ 4096 }
     ensures rest { dispatcher.new ≡ record dispatcher.old { held = dispatcher.new.held } }
     ensures held { OnOk result ((logs : List (List Logged)) → slice_get logs processor ≡ Some log.now
         → replica_of dispatcher.old.held ≡ held_so_far logs processor 0 → replica_of dispatcher.new.held ≡ held_so_far logs (processor + 1) 0) }
-    ensures fault { IfErr result (λ fault. fault ≡ Memory) }
 {
     for (index, entry) in log.iter().enumerate() {
         offer(dispatcher, processor, index as u32 + 1, *entry)?;

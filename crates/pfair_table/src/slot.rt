@@ -6,8 +6,6 @@ ghost use Rattle.std.specs.List.{AllByRecursion};
 ghost use Rattle.pfair_order.specs.declared.Key.{Key};
 ghost use Rattle.pfair_table.specs.Lists.{Among, Apart};
 ghost use Rattle.pfair_table.specs.Ranks.{first_by_rank};
-ghost use Rattle.pfair_replica.specs.Replica.{said};
-ghost use Rattle.pfair_replica.specs.HeldRows.{replica_of};
 ghost use Rattle.pfair_admission.specs.Admission.{boundary, boundary_decisions, announcements};
 ghost use Rattle.pfair_entry.specs.Entry.{IsWithinLimits};
 ghost use Rattle.pfair_table.specs.Table.{with_decisions, eligible, pick, all_ran};
@@ -18,7 +16,6 @@ use pfair_admission::Members;
 use pfair_entry::Said;
 use pfair_order::Key;
 use pfair_ready::Ready;
-use pfair_replica::Replica;
 use pfair_weight::TaskName;
 use std::alloc::{AllocError, Global};
 
@@ -146,7 +143,7 @@ pub(crate) fn give_quanta<R: Ready>(
 /// One slot, by what is said at it.
 pub(crate) fn plan_slot<R: Ready>(
     alloc: Global,
-    replica: &Replica,
+    heard: &[Said],
     members: &mut Members,
     ready: &mut R,
     processors: u8,
@@ -154,17 +151,17 @@ pub(crate) fn plan_slot<R: Ready>(
 ) -> Result<PlannedSlot, AllocError>
     requires slot { slot < 1000000 }
     requires steady { IsSteady slot members.old (R.now ready.old) (R.held ready.old) }
-    requires heard { members.old.heard + length (said (replica_of replica.now) slot) ≤ 262144 }
-    ensures decided { IfOk result (λ p. p.decided.items ≡ with_decisions (said (replica_of replica.now) slot) (boundary_decisions members.old.machine slot members.old.members (announcements (said (replica_of replica.now) slot)))) }
-    ensures table { IfOk result (λ p. let world = boundary members.old.machine slot members.old.members (announcements (said (replica_of replica.now) slot)) in p.table.items ≡ map (pick world) (first_by_rank processors (eligible slot world))) }
-    ensures members { IfOk result (λ p. members.new.members ≡ all_ran p.table.items (boundary members.old.machine slot members.old.members (announcements (said (replica_of replica.now) slot)))) }
+    requires heard { members.old.heard + length heard.now ≤ 262144 }
+    requires limits { AllByRecursion (λ a. IsWithinLimits a.announcement) heard.now }
+    ensures decided { IfOk result (λ p. p.decided.items ≡ with_decisions heard.now (boundary_decisions members.old.machine slot members.old.members (announcements heard.now))) }
+    ensures table { IfOk result (λ p. let world = boundary members.old.machine slot members.old.members (announcements heard.now) in p.table.items ≡ map (pick world) (first_by_rank processors (eligible slot world))) }
+    ensures members { IfOk result (λ p. members.new.members ≡ all_ran p.table.items (boundary members.old.machine slot members.old.members (announcements heard.now))) }
     ensures machine { OnOk result (members.new.machine ≡ members.old.machine) }
-    ensures heard { OnOk result (members.new.heard ≡ members.old.heard + length (said (replica_of replica.now) slot)) }
+    ensures heard { OnOk result (members.new.heard ≡ members.old.heard + length heard.now) }
     ensures steady { OnOk result (IsSteady (slot + 1) members.new (R.now ready.new) (R.held ready.new)) }
 {
-    let heard = replica.said(slot)?;
-    let decided = decide_all(alloc, members, slot, &heard)?;
-    tell_ready(ready, members, &heard)?;
+    let decided = decide_all(alloc, members, slot, heard)?;
+    tell_ready(ready, members, heard)?;
     let table = give_quanta(alloc, ready, members, processors, slot)?;
     Ok(PlannedSlot { table, decided })
 }

@@ -9,15 +9,60 @@ const ABOUT: &str =
 const WINDOWS_ABOUT: &str =
     "Prints the windows of a weight's subtasks at offset 0, one row each: subtask, release, deadline, b-bit, group deadline";
 
+const REPLAY_ABOUT: &str =
+    "Prints the schedule of a task file, one row for each quantum: slot, processor, task, index of the subtask";
+
+const DECISIONS_ABOUT: &str =
+    "Prints the admission decisions of a task file, one row for each announcement: slot, processor, number of the entry, task, outcome, value";
+
+const LAGS_ABOUT: &str =
+    "Prints the lags of a task file, one row for each time and task: time, task, numerator, period";
+
+const REPLAY_USAGE: &str = "pfair replay <FILE>";
+
+const DECISIONS_USAGE: &str = "pfair decisions <FILE>";
+
+const LAGS_USAGE: &str = "pfair lags <FILE>";
+
+const AFTER: &str = "Examples:
+  pfair windows 8 11 8
+  pfair replay examples/two_processors.toml
+
+A fault is one line on standard error: its number and its text. The status is 0 done, 1 command line or weight refused, 2 task file refused, 3 run stalled, 4 out of memory, 5 reading or writing failed.";
+
+const PLACES: &str =
+    "A fault of the file, as in `62 floor of wrong kind at 7`, has a place at its end: 0 is the head of the file, and n is its n-th [[entry]] table, from 1. The number of an entry, as in `entry 2 of processor 0 refused`, counts the tables of that processor alone, from 1.";
+
 /// The command line as `clap` is to read it.
 pub(crate) fn command<'a>(alloc: Global) -> Result<Command<'a>, AllocError> {
     Command::new(alloc, "pfair")
         .about(ABOUT)
-        .after_help("Example: pfair windows 8 11 8")
+        .after_help(AFTER)
         .no_binary_name(true)
         .subcommand_required(true)
         .disable_help_subcommand(true)
-        .subcommand(windows(alloc)?)
+        .subcommand(windows(alloc)?)?
+        .subcommand(over_file(alloc, "replay", REPLAY_ABOUT, REPLAY_USAGE)?)?
+        .subcommand(over_file(alloc, "decisions", DECISIONS_ABOUT, DECISIONS_USAGE)?)?
+        .subcommand(over_file(alloc, "lags", LAGS_ABOUT, LAGS_USAGE)?)
+}
+
+// A command over a task file.
+fn over_file<'a>(
+    alloc: Global,
+    name: &'a str,
+    about: &'a str,
+    usage: &'a str,
+) -> Result<Command<'a>, AllocError> {
+    let file = Arg::new(alloc, "file")
+        .value_name("FILE")
+        .help("Task file: TOML, at most 67108864 bytes")
+        .required(true);
+    Command::new(alloc, name)
+        .about(about)
+        .override_usage(usage)
+        .after_help(PLACES)
+        .arg(file)
 }
 
 fn windows<'a>(alloc: Global) -> Result<Command<'a>, AllocError> {

@@ -15,6 +15,12 @@ use std::alloc::{AllocError, Global};
 pub enum Asked {
     /// The windows of the first `count` subtasks of a weight, at most 1,000,000.
     Windows { weight: Weight, count: u64 },
+    /// The tables of a task file.
+    Replay { file: String },
+    /// The admission decisions of a task file.
+    Decisions { file: String },
+    /// The lags of a task file.
+    Lags { file: String },
     /// A text that tells how the program is used.
     Help { text: String },
 }
@@ -47,17 +53,26 @@ pub fn read_words(alloc: Global, words: &[String]) -> Result<Asked, WordsFault>
     ensures { IfOk result HasCount }
 {
     match command(alloc)?.try_get_matches_from(words) {
-        Ok(matches) => read_matches(&matches),
+        Ok(matches) => read_matches(alloc, &matches),
         Err(error) => refusal(alloc, &error),
     }
 }
 
 // What the words that `clap` took ask for.
-fn read_matches(matches: &ArgMatches<'_>) -> Result<Asked, WordsFault>
+fn read_matches(alloc: Global, matches: &ArgMatches<'_>) -> Result<Asked, WordsFault>
     ensures { IfOk result HasCount }
 {
     match matches.subcommand() {
         Some(("windows", words)) => read_windows(words),
+        Some(("replay", words)) => Ok(Asked::Replay {
+            file: read_file_name(alloc, words)?,
+        }),
+        Some(("decisions", words)) => Ok(Asked::Decisions {
+            file: read_file_name(alloc, words)?,
+        }),
+        Some(("lags", words)) => Ok(Asked::Lags {
+            file: read_file_name(alloc, words)?,
+        }),
         _ => Err(WordsFault::Refused),
     }
 }
@@ -76,6 +91,14 @@ fn read_windows(words: &ArgMatches<'_>) -> Result<Asked, WordsFault>
             Ok(Asked::Windows { weight, count })
         }
         _ => Err(WordsFault::Refused),
+    }
+}
+
+// The name of the task file.
+fn read_file_name(alloc: Global, words: &ArgMatches<'_>) -> Result<String, WordsFault> {
+    match words.get_str("file") {
+        Some(file) => Ok(String::from_str(alloc, file)?),
+        None => Err(WordsFault::Refused),
     }
 }
 

@@ -1,18 +1,27 @@
-use Rattle.std.proofs.Common.{◌≡◌, ◌<◌, ◌≤◌, ◌∙◌, sym, arith, length, subst, IfOk, List, ℕ}
-use Rattle.pfair_text.specs.Rows.{text_so_far}
+use Rattle.std.proofs.Common.{◌≡◌, ◌<◌, ◌∙◌, sym, ap, subst, refl, arith, length, map, List, ℕ, ◌++◌, Some, slice_get}
+use Rattle.std.proofs.lemmas.Option.{same_Some, slice_get-map, slice_get_read}
+use Rattle.std.proofs.lemmas.List.{length-map}
+use Rattle.std.specs.Option.{option_map}
+use Rattle.std.specs.Prelude.{Vec}
+use Rattle.std.specs.declared.alloc.Global.{Global}
+use Rattle.pfair_text.specs.Rows.{lines_text, text_so_far}
+use Rattle.pfair_table.specs.declared.pick.Pick.{Pick}
 use Rattle.pfair_output.specs.Replay.{table_rows}
-use Rattle.pfair_output.proofs.SlotFacts.{slot_more, slots_done}
+use Rattle.pfair_output.proofs.SlotFacts.{slot_more}
 use Rattle.pfair_output.proofs.replay.replay_of.Goals as goal
 
 pub loop-slot-preserved : goal.loop-slot-preserved
-loop-slot-preserved g c =
-    let inside : c.loop-slot.slot < length c.args.dispatcher.now.tables = omega (arith, c.loop-slot-test.true, c.loop-slot.auto.slot-end, c.next_slot-slot-end.ensures.value) in (
-      c.in_ok-add_slot.ensures.open,
-      slot_more table_rows c.args.dispatcher.now.tables c.loop-slot.slot (text_so_far c.loop-slot.writer) (text_so_far c.add_slot.new.writer) inside c.in_ok-add_slot.ensures.text ∙ c.loop-slot.invariant.1,
+loop-slot-preserved c =
+    let slot = c.loop-slot.slot in
+    let table = c.index-tables-slot.result in
+    let inside : slot < length c.args.tables.now = omega (arith, c.loop-slot-test.true, c.loop-slot.auto.slot-end) in
+    let here : slice_get c.args.tables.now slot ≡ Some table = slice_get_read c.args.tables.now (length c.args.tables.now) slot table refl inside c.index-tables-slot.is in
+    let rows : slice_get (map (λ (t : Vec Pick Global). t.items) c.args.tables.now) slot ≡ Some table.items =
+    slice_get-map (λ (t : Vec Pick Global). t.items) c.args.tables.now slot ∙ ap (option_map (λ (t : Vec Pick Global). t.items)) here in
+    let within : slot < length (map (λ (t : Vec Pick Global). t.items) c.args.tables.now) = rw length-map inside in (
+      c.in_ok-add_table.ensures.open,
+      slot_more table_rows (map (λ (t : Vec Pick Global). t.items) c.args.tables.now) slot (text_so_far c.loop-slot.writer) (text_so_far c.add_table.new.writer) within
+          (λ x e. subst (λ (table : List Pick). text_so_far c.add_table.new.writer ≡ text_so_far c.loop-slot.writer ++ lines_text (table_rows slot table))
+          (c.deref.ensures.value ∙ same_Some _ _ (sym rows ∙ e)) c.in_ok-add_table.ensures.text)
+          ∙ c.loop-slot.invariant.1,
     )
-
-pub returns : goal.returns
-returns g c =
-    let past : length c.args.dispatcher.now.tables ≤ c.loop-slot.slot = omega (arith, c.loop-slot-test.false, c.loop-slot.auto.slot-end, c.next_slot-slot-end.ensures.value) in
-    subst (λ (whole : List ℕ). IfOk c.finish.result (λ text. text.items ≡ whole))
-    (sym (slots_done table_rows c.args.dispatcher.now.tables c.loop-slot.slot (text_so_far c.loop-slot.writer) past) ∙ c.loop-slot.invariant.1) c.finish.ensures

@@ -1,4 +1,4 @@
-use Rattle.std.proofs.Common.{◌≡◌, ◌++◌, drop}
+use Rattle.std.proofs.Common.{◌≡◌, ◌++◌, drop, map}
 use Rattle.pfair_text.specs.Rows.{IsOpen, lines_text, text_so_far}
 use Rattle.pfair_output.specs.Slots.{slots_from}
 use Rattle.pfair_output.specs.Replay.{table_rows, replay_text}
@@ -6,5 +6,5 @@ use Rattle.pfair_output.proofs.replay.replay_of.Given as goal
 
 -- the text so far, with the rows of the slots that are left, is the whole
 abbrev pub invariant-loop-slot : goal.invariant-loop-slot
-invariant-loop-slot g l = IsOpen l.writer
-    × (text_so_far l.writer ++ lines_text (slots_from table_rows l.slot (drop l.slot l.dispatcher.tables)) ≡ replay_text l.dispatcher.tables)
+invariant-loop-slot l = IsOpen l.writer
+    × (text_so_far l.writer ++ lines_text (slots_from table_rows l.slot (drop l.slot (map (λ t. t.items) l.tables))) ≡ replay_text (map (λ t. t.items) l.tables))

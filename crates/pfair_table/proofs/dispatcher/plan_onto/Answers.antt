@@ -1,24 +1,34 @@
-use Rattle.std.proofs.Common.{◌≡◌, ◌≤◌, ◌+◌, ◌∷◌, [], ◌∙◌, sym, ap, subst, arith, suc, length, ℕ}
+use Rattle.std.proofs.Common.{List, ◌≡◌, ◌≤◌, ◌+◌, ◌∷◌, [], ◌∙◌, sym, ap, subst, arith, suc, length, ℕ}
 use Rattle.std.proofs.lemmas.List.{length-append}
+use Rattle.pfair_entry.specs.declared.said.Said.{Said}
 use Rattle.pfair_replica.specs.HeldRows.{replica_of}
 use Rattle.pfair_replica.specs.Replica.{Replica, said}
 use Rattle.pfair_table.specs.Refinement.{IsInStep, heard_before}
+use Rattle.pfair_table.proofs.Within.{AreWithinLimits, said_within}
 use Rattle.pfair_table.proofs.Steps.{step_next, rows_are, heard_fits}
 use Rattle.pfair_table.proofs.dispatcher.plan_onto.Goals as goal
 
 pub plan_slot-requires-clause-heard : goal.plan_slot-requires-clause-heard
 plan_slot-requires-clause-heard g c =
+    let heard_is : c.at-heard.result.now ≡ said (replica_of c.args.replica.now) c.len-slot.result = c.at-heard.ensures ∙ c.in_ok-agenda.ensures.agenda c.len-slot.result in
     let x : Replica = replica_of c.args.replica.now in
     let n : ℕ = length c.args.planned.now.items in
     let slot_is : c.len-slot.result ≡ n = omega (arith, c.len-slot.ensures) in
     let many = c.requires.of.processors in
     let limit = c.processors.ensures.limits.processors.1 in
-    let heard_is = c.requires.step.heard_is in
+    let so_far = c.requires.step.heard_is in
     let fits : heard_before x (suc n) ≤ 262144 = heard_fits x (suc n) (omega (arith, many, limit)) c.requires.room in
-    subst (λ t. c.args.members.now.heard + length (said x t) ≤ 262144) (sym slot_is) (omega (arith, fits, heard_is))
+    subst (λ (h : List Said). c.args.members.now.heard + length h ≤ 262144) (sym heard_is)
+    (subst (λ t. c.args.members.now.heard + length (said x t) ≤ 262144) (sym slot_is) (omega (arith, fits, so_far)))
+
+pub plan_slot-requires-clause-limits : goal.plan_slot-requires-clause-limits
+plan_slot-requires-clause-limits g c =
+    let heard_is : c.at-heard.result.now ≡ said (replica_of c.args.replica.now) c.len-slot.result = c.at-heard.ensures ∙ c.in_ok-agenda.ensures.agenda c.len-slot.result in
+    subst AreWithinLimits (sym heard_is) (said_within (replica_of c.args.replica.now) c.requires.of.replica c.len-slot.result)
 
 pub returns-clause-step : goal.returns-clause-step
 returns-clause-step g c =
+    let heard_is : c.at-heard.result.now ≡ said (replica_of c.args.replica.now) c.len-slot.result = c.at-heard.ensures ∙ c.in_ok-agenda.ensures.agenda c.len-slot.result in
     let x : Replica = replica_of c.args.replica.now in
     let n : ℕ = c.len-slot.result in
     let slot_is : length c.args.planned.now.items ≡ n = omega (arith, c.len-slot.ensures) in
@@ -29,5 +39,5 @@ returns-clause-step g c =
     subst (λ k. IsInStep c.args.settings x k c.plan_slot.new.members (g.R.Ready.now c.plan_slot.new.ready) (g.R.Ready.held c.plan_slot.new.ready)) long
     (step_next c.args.settings x n c.args.members.now c.plan_slot.new.members (g.R.Ready.now c.args.ready.now) (g.R.Ready.now c.plan_slot.new.ready) (g.R.Ready.held c.args.ready.now) (g.R.Ready.held c.plan_slot.new.ready) c.in_ok-next.next.table.items
     before
-    (rows_are c.args.settings x n c.args.members.now (g.R.Ready.now c.args.ready.now) (g.R.Ready.held c.args.ready.now) before c.processors.result c.processors.ensures.value c.in_ok-next.next.table.items c.in_ok-next.ensures.table)
-    c.in_ok-next.ensures.machine c.in_ok-next.ensures.members c.in_ok-next.ensures.heard c.in_ok-next.ensures.steady)
+    (rows_are c.args.settings x n c.args.members.now (g.R.Ready.now c.args.ready.now) (g.R.Ready.held c.args.ready.now) before c.processors.result c.processors.ensures.value c.in_ok-next.next.table.items (rw heard_is at c.in_ok-next.ensures.table))
+    c.in_ok-next.ensures.machine (rw heard_is at c.in_ok-next.ensures.members) (rw heard_is at c.in_ok-next.ensures.heard) c.in_ok-next.ensures.steady)

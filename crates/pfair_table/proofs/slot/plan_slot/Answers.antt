@@ -6,33 +6,30 @@ use Rattle.pfair_admission.specs.Member.{Member}
 use Rattle.pfair_admission.specs.Admission.{boundary, announcements, member_named}
 use Rattle.pfair_admission.specs.Roster.{Roster}
 use Rattle.pfair_table.specs.Table.{Table, eligible, pick, all_ran}
-use Rattle.pfair_table.specs.Queue.{queued, is_said, Named}
+use Rattle.pfair_table.specs.Queue.{queued, Named}
 use Rattle.pfair_table.proofs.Members.{named_boundary}
 use Rattle.pfair_table.proofs.Slots.{steady_next, few_boundary, fewer}
 use Rattle.pfair_table.proofs.Queues.{queue_after_boundary}
-use Rattle.pfair_replica.specs.HeldRows.{replica_of}
-use Rattle.pfair_table.proofs.Within.{AreWithinLimits, said_within}
 use Rattle.pfair_table.proofs.slot.plan_slot.Goals as goal
 
 pub tell_ready-requires : goal.tell_ready-requires
 tell_ready-requires g c = λ name e.
-    (let heard : List Said = c.deref.result.now in
+    (let heard : List Said = c.args.heard.now in
     let old : Roster = c.args.members.now in
-    let same : c.deref-2.result.now ≡ heard = c.deref-2.ensures.value ∙ sym c.deref.ensures.value in
     let members_are : c.decide_all.new.members.members ≡ boundary old.machine c.args.slot old.members (announcements heard) = ap (λ (r : Roster). r.members) c.in_ok-decided.ensures.members in
-    queue_after_boundary old.machine c.args.slot heard old.members (g.R.Ready.held c.args.ready.now) c.requires.steady.named c.requires.steady.queue name (ap (is_said name) (sym same) ∙ e)
+    queue_after_boundary old.machine c.args.slot heard old.members (g.R.Ready.held c.args.ready.now) c.requires.steady.named c.requires.steady.queue name e
     ∙ ap (λ (ms : List Member). queued (member_named ms name)) (sym members_are))
 
 pub give_quanta-requires-clause-named : goal.give_quanta-requires-clause-named
 give_quanta-requires-clause-named g c =
-    let heard : List Said = c.deref.result.now in
+    let heard : List Said = c.args.heard.now in
     let old : Roster = c.args.members.now in
     let members_are : c.decide_all.new.members.members ≡ boundary old.machine c.args.slot old.members (announcements heard) = ap (λ (r : Roster). r.members) c.in_ok-decided.ensures.members in
     subst Named (sym members_are) (named_boundary old.machine c.args.slot old.members (announcements heard) c.requires.steady.named)
 
 pub give_quanta-requires-clause-few : goal.give_quanta-requires-clause-few
 give_quanta-requires-clause-few g c =
-    let heard : List Said = c.deref.result.now in
+    let heard : List Said = c.args.heard.now in
     let old : Roster = c.args.members.now in
     let members_are : c.decide_all.new.members.members ≡ boundary old.machine c.args.slot old.members (announcements heard) = ap (λ (r : Roster). r.members) c.in_ok-decided.ensures.members in
     let below = c.requires.slot in
@@ -41,7 +38,7 @@ give_quanta-requires-clause-few g c =
 
 pub returns-clause-steady : goal.returns-clause-steady
 returns-clause-steady g c =
-    let heard : List Said = c.deref.result.now in
+    let heard : List Said = c.args.heard.now in
     let old : Roster = c.args.members.now in
     let mid : Roster = c.decide_all.new.members in
     let rows : Table = c.in_ok-table.table.items in
@@ -54,7 +51,3 @@ returns-clause-steady g c =
     (ap (λ (r : Roster). r.members) ran_are ∙ ap (all_ran rows) members_are)
     (ap (λ (r : Roster). r.last_slot) ran_are ∙ ap (λ (r : Roster). r.last_slot) c.in_ok-decided.ensures.members)
     c.in_ok-table.ensures.time c.in_ok-table.ensures.queue
-
-pub decide_all-requires-clause-limits : goal.decide_all-requires-clause-limits
-decide_all-requires-clause-limits g c =
-    subst AreWithinLimits (sym (c.deref.ensures.value ∙ c.in_ok-heard.ensures.heard)) (said_within (replica_of c.args.replica.now) c.in_ok-heard.ensures.replica c.args.slot)

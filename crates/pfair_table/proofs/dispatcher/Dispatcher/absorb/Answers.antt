@@ -7,9 +7,11 @@ use Rattle.pfair_table.proofs.Steps.{kept_above}
 use Rattle.pfair_table.proofs.dispatcher.Dispatcher.absorb.Goals as goal
 
 pub invariant_of-self : goal.invariant_of-self
-invariant_of-self g c =
-    kept_above c.self.inside.settings (replica_of c.self.inside.replica) (replica_of c.merge.new.self) (tables_of c.self.inside.planned.items) (decided_of c.self.inside.planned.items) c.self.inside.spent c.self.inside.members
-    (g.R.Ready.now c.self.inside.ready) (g.R.Ready.held c.self.inside.ready) c.self.invariant c.merge.ensures.grows (sym c.merge.ensures.shape.0) (sym c.merge.ensures.shape.1)
+invariant_of-self g c = (
+  kept_above c.self.inside.settings (replica_of c.self.inside.replica) (replica_of c.merge.new.self) (tables_of c.self.inside.planned.items) (decided_of c.self.inside.planned.items) c.self.inside.spent c.self.inside.members
+      (g.R.Ready.now c.self.inside.ready) (g.R.Ready.held c.self.inside.ready) c.self.invariant.0 c.merge.ensures.grows (sym c.merge.ensures.shape.0) (sym c.merge.ensures.shape.1),
+  c.new.ensures (replica_of c.merge.new.self),
+)
 
 pub returns-clause-fault : goal.returns-clause-fault
 returns-clause-fault g c = subst (λ (d : Dispatch). IfErr c.merge.result (IsMergeFaultOf d.held c.args.other.now)) c.self.view_is c.merge.ensures.fault

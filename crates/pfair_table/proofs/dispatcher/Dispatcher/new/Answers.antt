@@ -14,9 +14,11 @@ invariant_of-result g c =
     let f = c.frame.ensures.value in
     let x : Replica = replica_of c.in_ok-replica.replica in
     let cap : x.capacity ≡ c.args.capacity = ap (λ (r : Replica). r.capacity) c.in_ok-replica.ensures in
-    let few = c.requires in
-    subst (λ (l : List PlannedSlot). IsKept c.args.settings x (tables_of l) (decided_of l) false c.new-members.result (g.R.Ready.now c.new-2.result) (g.R.Ready.held c.new-2.result)) (sym c.new-3.ensures.items)
-    (start_kept c.args.settings x c.new-members.result (g.R.Ready.now c.new-2.result) (g.R.Ready.held c.new-2.result)
-    (c.in_ok-replica.ensures ∙ (λ i. empty_replica (q i) (sym cap i))) (omega (arith, cap, few))
-    (start_step c.args.settings x c.new-members.result (g.R.Ready.now c.new-2.result) (g.R.Ready.held c.new-2.result)
-    (c.new-members.ensures ∙ (λ i. record { machine = record { processors = p i; frame = f i }; members = []; heard = 0; last_slot = None })) c.new-2.ensures.start c.new-2.ensures.empty))
+    let few = c.requires in (
+      subst (λ (l : List PlannedSlot). IsKept c.args.settings x (tables_of l) (decided_of l) false c.new-members.result (g.R.Ready.now c.new-3.result) (g.R.Ready.held c.new-3.result)) (sym c.new-4.ensures.items)
+          (start_kept c.args.settings x c.new-members.result (g.R.Ready.now c.new-3.result) (g.R.Ready.held c.new-3.result)
+          (c.in_ok-replica.ensures ∙ (λ i. empty_replica (q i) (sym cap i))) (omega (arith, cap, few))
+          (start_step c.args.settings x c.new-members.result (g.R.Ready.now c.new-3.result) (g.R.Ready.held c.new-3.result)
+          (c.new-members.ensures ∙ (λ i. record { machine = record { processors = p i; frame = f i }; members = []; heard = 0; last_slot = None })) c.new-3.ensures.start c.new-3.ensures.empty)),
+      c.new-2.ensures x,
+    )

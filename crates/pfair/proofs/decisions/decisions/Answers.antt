@@ -1,0 +1,24 @@
+use Rattle.std.proofs.Common.{◌∙◌}
+use Rattle.std.specs.Io.KnownBytes.{Appends}
+use Rattle.pfair_text.specs.Output.{TakesPrefix}
+use Rattle.pfair.specs.Runs.{decisions_of_run}
+use Rattle.pfair.proofs.RunFacts.{IsTextOf, on_err, on_ok, output_of, decisions_made}
+use Rattle.pfair.proofs.decisions.decisions.Goals as goal
+
+pub returns-clause-ok : goal.returns-clause-ok
+returns-clause-ok g c =
+    let d = c.in_ok-dispatcher.dispatcher in
+    let made : IsTextOf decisions_of_run d c.as_slice.result.now = λ run is. c.as_slice.ensures.value ∙ c.in_ok-text.ensures ∙ decisions_made d run is in
+    on_ok c.send_text.result
+    (output_of decisions_of_run (g.R.Read.remaining c.args.reader.now) d c.as_slice.result.now
+    (Appends (g.W.Write.contents c.args.writer.now) (g.W.Write.contents c.send_text.new.writer)) c.in_ok-dispatcher.ensures.ok made)
+    c.send_text.ensures.ok
+
+pub returns-clause-cut : goal.returns-clause-cut
+returns-clause-cut g c failed =
+    let d = c.in_ok-dispatcher.dispatcher in
+    let made : IsTextOf decisions_of_run d c.as_slice.result.now = λ run is. c.as_slice.ensures.value ∙ c.in_ok-text.ensures ∙ decisions_made d run is in
+    on_err c.send_text.result _
+    (output_of decisions_of_run (g.R.Read.remaining c.args.reader.now) d c.as_slice.result.now
+    (TakesPrefix (g.W.Write.contents c.args.writer.now) (g.W.Write.contents c.send_text.new.writer)) c.in_ok-dispatcher.ensures.ok made)
+    c.send_text.ensures.cut failed

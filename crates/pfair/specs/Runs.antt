@@ -1,0 +1,64 @@
+-- What a command writes of a task file, and why it refuses one.
+use Rattle.std.specs.Prelude.{ℕ, Bool, true, List, map, min, ◌≡◌, ◌<◌, ◌≤◌, Ok, Err}
+use Rattle.pfair_replica.specs.Replica.{Replica, frontier, numbers_below}
+use Rattle.pfair_table.specs.Table.{decisions, plan}
+use Rattle.pfair_table.specs.Script.{LoggedRun, replica_of_logs}
+use Rattle.pfair_output.specs.Replay.{replay_text}
+use Rattle.pfair_output.specs.Decisions.{decisions_text}
+use Rattle.pfair_output.specs.Lags.{lags_text}
+use Rattle.pfair_file.specs.Documents.{script_of_file}
+use Rattle.pfair.specs.declared.fault.ProgramFault.{ProgramFault}
+use Rattle.pfair.specs.declared.fault.ProgramFault.TheVariants.{Stalled, GateGaveUp, Astray, File, FileTooLong, ReadFailed, Memory}
+
+-- the replica of all that a script says
+abbrev pub replica_of_run : LoggedRun → Replica
+replica_of_run run = replica_of_logs run.logs
+
+-- the tables of a script, as rows
+abbrev pub replay_of_run : LoggedRun → List ℕ
+replay_of_run run = replay_text (plan run.settings (replica_of_run run))
+
+-- the decisions of a script, as rows
+abbrev pub decisions_of_run : LoggedRun → List ℕ
+decisions_of_run run = decisions_text (map (decisions run.settings (replica_of_run run)) (numbers_below (min (frontier (replica_of_run run)) run.settings.slots)))
+
+-- the lags of a script, as rows
+abbrev pub lags_of_run : LoggedRun → List ℕ
+lags_of_run run = lags_text run.settings (replica_of_run run)
+
+-- the bytes are those of a script whose logs settle all its slots, and P holds of the text of its run
+abbrev pub IsOutputOf : (LoggedRun → List ℕ) → List ℕ → (List ℕ → Type 0) → Type 0
+IsOutputOf text bytes P = (run : LoggedRun) × (script_of_file bytes ≡ Ok run) × (run.settings.slots ≤ frontier (replica_of_run run)) × P (text run)
+
+-- the bytes are those of a script whose logs settle only the slots below this one, which is one of its slots
+abbrev pub IsStalledAt : List ℕ → ℕ → Type 0
+IsStalledAt bytes slot = (run : LoggedRun) × (script_of_file bytes ≡ Ok run) × (slot ≡ frontier (replica_of_run run)) × (slot < run.settings.slots)
+
+-- what a fault says of the bytes that were read
+abbrev pub IsRefusalOf : List ℕ → ProgramFault → Type 0
+IsRefusalOf bytes (File fault) = script_of_file bytes ≡ Err fault
+IsRefusalOf bytes (Stalled slot) = IsStalledAt bytes slot
+IsRefusalOf bytes _ = Unit {0}
+
+-- the faults that a command over a task file may end with before it writes
+abbrev pub IsFaultOfRun : ProgramFault → Type 0
+IsFaultOfRun (File fault) = Unit {0}
+IsFaultOfRun (Stalled slot) = Unit {0}
+IsFaultOfRun FileTooLong = Unit {0}
+IsFaultOfRun ReadFailed = Unit {0}
+IsFaultOfRun Memory = Unit {0}
+IsFaultOfRun _ = ⊥
+
+-- why the dispatchers of a script give no tables; the gate gives up only where its type may
+abbrev pub IsRunRefusal : Bool → LoggedRun → ProgramFault → Type 0
+IsRunRefusal may_give_up run (Stalled slot) = (slot ≡ frontier (replica_of_run run)) × (slot < run.settings.slots)
+IsRunRefusal may_give_up run GateGaveUp = may_give_up ≡ true
+IsRunRefusal may_give_up run Astray = Unit {0}
+IsRunRefusal may_give_up run Memory = Unit {0}
+IsRunRefusal may_give_up run _ = ⊥
+
+-- the faults that a replay may end with before it writes
+abbrev pub IsFaultOfReplay : Bool → ProgramFault → Type 0
+IsFaultOfReplay may_give_up GateGaveUp = may_give_up ≡ true
+IsFaultOfReplay may_give_up Astray = Unit {0}
+IsFaultOfReplay may_give_up fault = IsFaultOfRun fault

@@ -1,0 +1,44 @@
+//! The command `decisions`: the admission decisions of a task file.
+
+ghost use Rattle.std.specs.Prelude.{◌≡◌, ◌≢◌, ◌≤◌, OnOk, IfErr, IfSome, IsErrOf, ◌⊎◌};
+ghost use Rattle.std.specs.Io.KnownBytes.{Appends, Keeps};
+ghost use Rattle.pfair_text.specs.Input.{HasTaken};
+ghost use Rattle.pfair_text.specs.Output.{TakesPrefix};
+ghost use Rattle.pfair.specs.Runs.{IsFaultOfRun, IsOutputOf, IsRefusalOf, decisions_of_run};
+ghost use Rattle.pfair.specs.declared.fault.ProgramFault.TheVariants.{FileTooLong, ReadFailed, WriteFailed};
+
+use crate::fault::ProgramFault;
+use crate::schedule::{scheduled, send_text};
+use pfair_output::decisions_of;
+use std::alloc::Global;
+use std::io::{Read, Write};
+
+/// Writes the decisions on all announcements that are stamped below the number of slots of the script that a reader's
+/// bytes hold: a header, and for each a row of its slot, the processor and the number of its entry, the task, what was
+/// decided, and the freeing slot or the number of the refusal. They stand in the order in which they are decided.
+///
+/// The whole run is made before the first byte goes out.
+///
+/// # Errors
+/// [`ProgramFault::ReadFailed`] where the reader answers an error, [`ProgramFault::FileTooLong`] where more than
+/// 67,108,864 bytes come, [`ProgramFault::File`] with the first fault of the file, [`ProgramFault::Stalled`] with the
+/// frontier of the logs where it is below the number of slots, and [`ProgramFault::Memory`] where memory was wanted and
+/// refused: nothing has then been written. [`ProgramFault::WriteFailed`] where the writer answered an error, or took
+/// nothing; a prefix of the text has then gone out.
+pub fn decisions<R: Read, W: Write>(
+    alloc: Global,
+    reader: &mut R,
+    writer: &mut W,
+) -> Result<(), ProgramFault>
+    ensures ok { OnOk result (IfSome (R.remaining reader.old) (λ bytes. IsOutputOf decisions_of_run bytes (Appends (W.contents writer.old) (W.contents writer.new)))) }
+    ensures refused { IfErr result (λ e. IfSome (R.remaining reader.old) (λ bytes. IsRefusalOf bytes e)) }
+    ensures long { IsErrOf result FileTooLong → HasTaken (R.remaining reader.old) (R.remaining reader.new) (λ n. n ≡ 67108865) }
+    ensures unread { IsErrOf result ReadFailed → HasTaken (R.remaining reader.old) (R.remaining reader.new) (λ n. n ≤ 67108864) }
+    ensures nothing { IfErr result (λ e. e ≢ WriteFailed → Keeps (W.contents writer.old) (W.contents writer.new)) }
+    ensures cut { IsErrOf result WriteFailed → IfSome (R.remaining reader.old) (λ bytes. IsOutputOf decisions_of_run bytes (TakesPrefix (W.contents writer.old) (W.contents writer.new))) }
+    ensures only { IfErr result (λ e. IsFaultOfRun e ⊎ (e ≡ WriteFailed)) }
+{
+    let dispatcher = scheduled(alloc, reader)?;
+    let text = decisions_of(alloc, &dispatcher)?;
+    send_text(writer, text.as_slice())
+}

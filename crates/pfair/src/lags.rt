@@ -1,0 +1,44 @@
+//! The command `lags`: the lags of the tasks of a task file.
+
+ghost use Rattle.std.specs.Prelude.{◌≡◌, ◌≢◌, ◌≤◌, OnOk, IfErr, IfSome, IsErrOf, ◌⊎◌};
+ghost use Rattle.std.specs.Io.KnownBytes.{Appends, Keeps};
+ghost use Rattle.pfair_text.specs.Input.{HasTaken};
+ghost use Rattle.pfair_text.specs.Output.{TakesPrefix};
+ghost use Rattle.pfair.specs.Runs.{IsFaultOfRun, IsOutputOf, IsRefusalOf, lags_of_run};
+ghost use Rattle.pfair.specs.declared.fault.ProgramFault.TheVariants.{FileTooLong, ReadFailed, WriteFailed};
+
+use crate::fault::ProgramFault;
+use crate::schedule::{scheduled, send_text};
+use pfair_output::lags_of;
+use std::alloc::Global;
+use std::io::{Read, Write};
+
+/// Writes the lags of the script that a reader's bytes hold: a header, and for each slot t, slots in order, a row for each
+/// member that isn't departing after the boundary of t, in the order of admission: the time t + 1, the task, and its lag
+/// at that time as a numerator over its period, counted from its joining slot.
+///
+/// The whole run is made before the first byte goes out.
+///
+/// # Errors
+/// [`ProgramFault::ReadFailed`] where the reader answers an error, [`ProgramFault::FileTooLong`] where more than
+/// 67,108,864 bytes come, [`ProgramFault::File`] with the first fault of the file, [`ProgramFault::Stalled`] with the
+/// frontier of the logs where it is below the number of slots, and [`ProgramFault::Memory`] where memory was wanted and
+/// refused: nothing has then been written. [`ProgramFault::WriteFailed`] where the writer answered an error, or took
+/// nothing; a prefix of the text has then gone out.
+pub fn lags<R: Read, W: Write>(
+    alloc: Global,
+    reader: &mut R,
+    writer: &mut W,
+) -> Result<(), ProgramFault>
+    ensures ok { OnOk result (IfSome (R.remaining reader.old) (λ bytes. IsOutputOf lags_of_run bytes (Appends (W.contents writer.old) (W.contents writer.new)))) }
+    ensures refused { IfErr result (λ e. IfSome (R.remaining reader.old) (λ bytes. IsRefusalOf bytes e)) }
+    ensures long { IsErrOf result FileTooLong → HasTaken (R.remaining reader.old) (R.remaining reader.new) (λ n. n ≡ 67108865) }
+    ensures unread { IsErrOf result ReadFailed → HasTaken (R.remaining reader.old) (R.remaining reader.new) (λ n. n ≤ 67108864) }
+    ensures nothing { IfErr result (λ e. e ≢ WriteFailed → Keeps (W.contents writer.old) (W.contents writer.new)) }
+    ensures cut { IsErrOf result WriteFailed → IfSome (R.remaining reader.old) (λ bytes. IsOutputOf lags_of_run bytes (TakesPrefix (W.contents writer.old) (W.contents writer.new))) }
+    ensures only { IfErr result (λ e. IsFaultOfRun e ⊎ (e ≡ WriteFailed)) }
+{
+    let dispatcher = scheduled(alloc, reader)?;
+    let text = lags_of(alloc, &dispatcher)?;
+    send_text(writer, text.as_slice())
+}

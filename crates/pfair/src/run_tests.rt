@@ -1,0 +1,271 @@
+//! What no contract says of the commands over a task file: the rows of worked examples, readers and writers that are slow
+//! or fail.
+
+use crate::decisions::decisions;
+use crate::fault::{ProgramFault, write_fault};
+use crate::lags::lags;
+use crate::replay::replay;
+use pfair_board::{Gate, OpenGate};
+use std::io::{Read, Write};
+use std::sync::Wait;
+use std::sync::atomic::{AtomicU64, Ordering};
+use std::test::Fail;
+use std::{io, thread};
+
+const SAMPLE: &str = "version = 1\nprocessors = 2\nframe = 6\nslots = 6\n
+[[entry]]\nprocessor = 0\nfloor = 0\nkind = \"arrive\"\nat = 0\nname = \"a\"\ncost = 1\nperiod = 2\n
+[[entry]]\nprocessor = 0\nfloor = 0\nkind = \"arrive\"\nat = 0\nname = \"b\"\ncost = 2\nperiod = 3\n
+[[entry]]\nprocessor = 0\nfloor = 2\nkind = \"depart\"\nat = 2\nname = \"a\"\n
+[[entry]]\nprocessor = 0\nfloor = 4\n
+[[entry]]\nprocessor = 0\nfloor = 6\n
+[[entry]]\nprocessor = 1\nfloor = 0\nkind = \"arrive\"\nat = 0\nname = \"c\"\ncost = 1\nperiod = 3\n
+[[entry]]\nprocessor = 1\nfloor = 1\nkind = \"arrive\"\nat = 3\nname = \"d\"\ncost = 1\nperiod = 2\n
+[[entry]]\nprocessor = 1\nfloor = 3\nkind = \"late\"\nat = 4\nname = \"b\"\nindex = 4\nby = 2\n
+[[entry]]\nprocessor = 1\nfloor = 5\n
+[[entry]]\nprocessor = 1\nfloor = 6\n";
+
+const TABLES: &str =
+    "slot,processor,task,index\n0,0,b,1\n0,1,a,1\n1,0,b,2\n1,1,c,1\n3,0,b,3\n3,1,d,1\n4,0,c,2\n5,0,d,2\n";
+
+const DECISIONS: &str =
+    "slot,processor,number,task,outcome,value\n0,0,1,a,admitted,-\n0,0,2,b,admitted,-\n0,1,1,c,admitted,-\n2,0,3,a,departing,3\n3,1,2,d,admitted,-\n4,1,3,b,delayed,-\n";
+
+const LAGS: &str =
+    "time,task,numerator,period\n1,a,-1,2\n1,b,-1,3\n1,c,1,3\n2,a,0,2\n2,b,-2,3\n2,c,-1,3\n3,b,0,3\n3,c,0,3\n4,b,-1,3\n4,c,1,3\n4,d,-1,2\n5,b,1,3\n5,c,-1,3\n5,d,0,2\n6,b,3,3\n6,c,0,3\n6,d,-1,2\n";
+
+// Gives at most so many bytes a call, and fails once its calls are used up.
+#[derive(Drop)]
+struct PieceReader {
+    left: &'static [u8],
+    at_once: usize,
+    calls: usize,
+}
+
+impl Read for PieceReader {
+    fn read(&mut self, buf: &mut [u8]) -> io::Result<usize> {
+        if self.calls == 0 {
+            return Err(io::Error::from(io::ErrorKind::Other));
+        }
+        self.calls -= 1;
+        let count = self.left.len().min(buf.len()).min(self.at_once);
+        buf[..count].copy_from_slice(&self.left[..count]);
+        self.left = &self.left[count..];
+        Ok(count)
+    }
+}
+
+// The sample file, given whole.
+fn sample() -> PieceReader {
+    PieceReader {
+        left: SAMPLE.as_bytes(),
+        at_once: usize::MAX,
+        calls: usize::MAX,
+    }
+}
+
+#[test]
+fn the_sample_file_gives_its_rows(rt: HostRuntime) -> Result<(), Fail> {
+    let mut text = Vec::new(rt.alloc());
+    assert!(rt; replay(&rt, rt.alloc(), &mut sample(), &mut text, &OpenGate).is_ok());
+    assert_eq!(rt; text.as_slice(), TABLES.as_bytes());
+    let mut text = Vec::new(rt.alloc());
+    assert!(rt; decisions(rt.alloc(), &mut sample(), &mut text).is_ok());
+    assert_eq!(rt; text.as_slice(), DECISIONS.as_bytes());
+    let mut text = Vec::new(rt.alloc());
+    assert!(rt; lags(rt.alloc(), &mut sample(), &mut text).is_ok());
+    assert_eq!(rt; text.as_slice(), LAGS.as_bytes());
+    Ok(())
+}
+
+#[test]
+fn a_reader_of_one_byte_a_call(rt: HostRuntime) -> Result<(), Fail> {
+    let mut reader = sample();
+    reader.at_once = 1;
+    let mut text = Vec::new(rt.alloc());
+    assert!(rt; replay(&rt, rt.alloc(), &mut reader, &mut text, &OpenGate).is_ok());
+    assert_eq!(rt; text.as_slice(), TABLES.as_bytes());
+    Ok(())
+}
+
+#[test]
+fn a_reader_that_fails_at_each_call(rt: HostRuntime) -> Result<(), Fail> {
+    let pieces = SAMPLE.len() / 64 + 2;
+    for calls in 0..pieces {
+        let mut reader = sample();
+        reader.at_once = 64;
+        reader.calls = calls;
+        let mut text = Vec::new(rt.alloc());
+        let fault = replay(&rt, rt.alloc(), &mut reader, &mut text, &OpenGate)
+            .err()
+            .expect(&rt, "a fault");
+        let mut line = Vec::new(rt.alloc());
+        assert_eq!(rt; write_fault(&fault, &mut line), 5);
+        assert_eq!(rt; line.as_slice(), b"pfair: 70 reading failed\n".as_slice());
+        assert!(rt; text.is_empty());
+    }
+    let mut reader = sample();
+    reader.at_once = 64;
+    reader.calls = pieces;
+    let mut text = Vec::new(rt.alloc());
+    assert!(rt; replay(&rt, rt.alloc(), &mut reader, &mut text, &OpenGate).is_ok());
+    Ok(())
+}
+
+// Takes at most so many bytes a call, and fails, or takes none, once its calls are used up.
+#[derive(Drop)]
+struct PieceWriter {
+    taken: Vec<u8>,
+    at_once: usize,
+    calls: usize,
+    fails: bool,
+}
+
+impl Write for PieceWriter {
+    fn write(&mut self, buf: &[u8]) -> io::Result<usize> {
+        if self.calls == 0 && self.fails {
+            return Err(io::Error::from(io::ErrorKind::Other));
+        }
+        if self.calls == 0 {
+            return Ok(0);
+        }
+        self.calls -= 1;
+        let count = buf.len().min(self.at_once);
+        self.taken.extend_from_slice(&buf[..count])?;
+        Ok(count)
+    }
+
+    fn flush(&mut self) -> io::Result<()> {
+        Ok(())
+    }
+}
+
+#[test]
+fn a_writer_that_fails_at_each_call(rt: HostRuntime) -> Result<(), Fail> {
+    let whole = TABLES.as_bytes();
+    let pieces = whole.len().div_ceil(10);
+    for calls in 0..pieces {
+        for fails in [false, true] {
+            let mut writer = PieceWriter {
+                taken: Vec::new(rt.alloc()),
+                at_once: 10,
+                calls,
+                fails,
+            };
+            let fault = replay(&rt, rt.alloc(), &mut sample(), &mut writer, &OpenGate)
+                .err()
+                .expect(&rt, "a fault");
+            let mut line = Vec::new(rt.alloc());
+            assert_eq!(rt; write_fault(&fault, &mut line), 5);
+            assert_eq!(rt; line.as_slice(), b"pfair: 71 writing failed\n".as_slice());
+            assert_eq!(rt; writer.taken.len(), calls * 10);
+            assert!(rt; whole.starts_with(writer.taken.as_slice()));
+        }
+    }
+    Ok(())
+}
+
+// Gives so many spaces.
+#[derive(Drop)]
+struct Spaces {
+    left: usize,
+}
+
+impl Read for Spaces {
+    fn read(&mut self, buf: &mut [u8]) -> io::Result<usize> {
+        let count = buf.len().min(self.left);
+        buf[..count].fill(b' ');
+        self.left -= count;
+        Ok(count)
+    }
+}
+
+#[test]
+fn a_file_that_is_too_long_by_a_byte(rt: HostRuntime) -> Result<(), Fail> {
+    let mut text = Vec::new(rt.alloc());
+    let fault = replay(
+        &rt,
+        rt.alloc(),
+        &mut Spaces { left: 67_108_865 },
+        &mut text,
+        &OpenGate,
+    )
+    .err()
+    .expect(&rt, "a fault");
+    let mut line = Vec::new(rt.alloc());
+    assert_eq!(rt; write_fault(&fault, &mut line), 2);
+    assert_eq!(rt; line.as_slice(), b"pfair: 66 file too long\n".as_slice());
+    assert!(rt; text.is_empty());
+    Ok(())
+}
+
+// Each of two workers' first come ends only after the other's first has begun. It counts the calls of each.
+#[derive(Drop)]
+struct Meeting {
+    first: AtomicU64,
+    second: AtomicU64,
+}
+
+impl Gate for Meeting {
+    ghost use Rattle.std.specs.Prelude.{true};
+
+    ghost may_give_up = { true };
+
+    fn come<P: Wait>(&self, _rt: &P, worker: u8, _slot: u64) -> bool {
+        let (mine, other) = if worker == 0 {
+            (&self.first, &self.second)
+        } else {
+            (&self.second, &self.first)
+        };
+        if mine.fetch_add(1, Ordering::SeqCst) > 0 {
+            return true;
+        }
+        for _ in 0..10_000_000 {
+            if other.load(Ordering::SeqCst) > 0 {
+                return true;
+            }
+            thread::yield_now();
+        }
+        false
+    }
+}
+
+#[test]
+fn two_workers_that_wait_for_each_other(rt: HostRuntime) -> Result<(), Fail> {
+    let gate = Meeting {
+        first: AtomicU64::new(0),
+        second: AtomicU64::new(0),
+    };
+    let mut text = Vec::new(rt.alloc());
+    assert!(rt; replay(&rt, rt.alloc(), &mut sample(), &mut text, &gate).is_ok());
+    assert_eq!(rt; text.as_slice(), TABLES.as_bytes());
+    assert_eq!(rt; gate.first.load(Ordering::SeqCst), 6);
+    assert_eq!(rt; gate.second.load(Ordering::SeqCst), 6);
+    Ok(())
+}
+
+// Gives up at once.
+#[derive(Drop)]
+struct ShutGate;
+
+impl Gate for ShutGate {
+    ghost use Rattle.std.specs.Prelude.{true};
+
+    ghost may_give_up = { true };
+
+    fn come<P: Wait>(&self, _rt: &P, _worker: u8, _slot: u64) -> bool {
+        false
+    }
+}
+
+#[test]
+fn a_gate_that_gives_up(rt: HostRuntime) -> Result<(), Fail> {
+    let mut text = Vec::new(rt.alloc());
+    let fault = replay(&rt, rt.alloc(), &mut sample(), &mut text, &ShutGate)
+        .err()
+        .expect(&rt, "a fault");
+    let mut line = Vec::new(rt.alloc());
+    assert_eq!(rt; write_fault(&fault, &mut line), 3);
+    assert_eq!(rt; line.as_slice(), b"pfair: 53 gate gave up\n".as_slice());
+    assert!(rt; text.is_empty());
+    Ok(())
+}

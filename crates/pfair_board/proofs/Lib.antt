@@ -1,0 +1,7 @@
+pub mod Following
+pub mod Gains
+pub mod NoteLists
+pub mod NotedLemmas
+pub mod Planning
+pub mod Rows
+pub mod Working

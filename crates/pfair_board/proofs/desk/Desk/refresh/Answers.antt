@@ -1,0 +1,27 @@
+use Rattle.std.proofs.Common.{◌≡◌, sym, ◌∙◌, arith, ⊎_elim, subst, add-one}
+use Rattle.std.proofs.lemmas.Bool.{cases_lt}
+use Rattle.pfair_replica.specs.HeldRows.{replica_of}
+use Rattle.pfair_board.specs.Gained.{gained_in_row, gained_in_rows, NoGapInRow}
+use Rattle.pfair_board.proofs.Gains.{row_alike, rows_alike, same_missing, same_trans, no_gap_alike}
+use Rattle.pfair_board.proofs.desk.Desk.refresh.Goals as goal
+
+pub loop-proc-preserved : goal.loop-proc-preserved
+loop-proc-preserved c =
+    let old = replica_of c.args.self.now.replica in
+    let now = replica_of c.loop-proc.self.replica in
+    let new = replica_of c.refresh_row.new.self.replica in
+    let proc = c.loop-proc.proc in
+    let below : gained_in_rows old new proc ≡ gained_in_rows old now proc = rows_alike old new now proc c.in_ok-found.ensures.same.capacity (λ k n lt. c.in_ok-found.ensures.others k n (λ is. absurd (omega arith))) in
+    let row : gained_in_row old new proc new.capacity ≡ gained_in_row now new proc new.capacity = row_alike old new now new proc new.capacity (λ j a b. same_missing old now new proc j (sym (c.loop-proc.invariant.later proc j (omega arith)))) in
+    record {
+      same = same_trans c.args.self.now c.loop-proc.self c.refresh_row.new.self c.loop-proc.invariant.same c.in_ok-found.ensures.same;
+      kept = λ k n f is. c.in_ok-found.ensures.kept k n f (c.loop-proc.invariant.kept k n f is);
+      count = rw add-one (let count = c.loop-proc.invariant.count in let mine = c.in_ok-found.ensures.count in omega arith);
+      few = let few = c.loop-proc.invariant.few in let mine = c.in_ok-found.ensures.few in omega arith;
+      no_gap = λ k lt. ⊎_elim
+          (λ before. no_gap_alike old now new k (λ n. sym (c.in_ok-found.ensures.others k n (λ is. absurd (omega arith)))) (c.loop-proc.invariant.no_gap k before))
+          (λ last. let same : proc ≡ k = omega arith in subst (NoGapInRow old new) same
+          (λ n j none some a b. c.in_ok-found.ensures.no_gap n j (c.loop-proc.invariant.later proc n (omega arith) ∙ none) some a b))
+          (cases_lt k proc);
+      later = λ k n le. c.in_ok-found.ensures.others k n (λ is. absurd (omega arith)) ∙ c.loop-proc.invariant.later k n (omega arith);
+    }

@@ -1,0 +1,18 @@
+use Rattle.std.proofs.Common.{◌≡◌, ◌<◌, ◌≤◌, ◌-◌, ◌+◌, ℕ, IsSome}
+use Rattle.pfair_replica.specs.HeldRows.{held, replica_of}
+use Rattle.pfair_board.specs.Desks.{Keeps}
+use Rattle.pfair_board.specs.Gained.{gained_in_row, SameDesk}
+use Rattle.pfair_board.proofs.desk.Desk.refresh_row.Given as goal
+
+abbrev pub invariant-loop-number : goal.invariant-loop-number
+invariant-loop-number l = record {
+  same : SameDesk l.fn.self l.self;
+  kept : Keeps (replica_of l.fn.self.replica) (replica_of l.self.replica);
+  positive : 1 ≤ l.number;
+  room : l.number ≤ l.self.replica.capacity + 1;
+  full : (j : ℕ) → 1 ≤ j → j < l.number → IsSome (held l.self.replica l.proc j);
+  count : l.found ≡ gained_in_row (replica_of l.fn.self.replica) (replica_of l.self.replica) l.proc (l.number - 1);
+  few : l.found < l.number;
+  others : (k n : ℕ) → (k ≡ l.proc → ⊥) → held l.self.replica k n ≡ held l.fn.self.replica k n;
+  later : (n : ℕ) → l.number ≤ n → held l.self.replica l.proc n ≡ held l.fn.self.replica l.proc n;
+}

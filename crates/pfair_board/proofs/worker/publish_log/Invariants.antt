@@ -1,0 +1,15 @@
+use Rattle.std.proofs.Common.{◌≡◌, ◌+◌, ◌<◌, ℕ, slice_get, Some}
+use Rattle.pfair_lattice.specs.declared.flat.Flat.TheVariants.{One}
+use Rattle.pfair_entry.specs.Entry.{Logged}
+use Rattle.pfair_replica.specs.HeldRows.{held}
+use Rattle.pfair_board.specs.Desks.{IsDeskOf, GrownDesk}
+use Rattle.pfair_board.proofs.worker.publish_log.Given as goal
+
+-- the entries so far are held under the numbers from the old next number on
+abbrev pub invariant-loop-entry : goal.invariant-loop-entry
+invariant-loop-entry g l = record {
+  own : IsDeskOf l.desk l.board;
+  grown : GrownDesk l.fn.desk l.desk;
+  next : l.desk.next_number ≡ l.fn.desk.next_number + l.entry-index;
+  log : (i : ℕ) (e : Logged) → i < l.entry-index → slice_get l.log i ≡ Some e → held l.desk.replica l.fn.desk.proc (l.fn.desk.next_number + i) ≡ Some (One e);
+}

@@ -1,0 +1,22 @@
+-- What a desk holds of a log.
+use Rattle.std.specs.Prelude.{◌≡◌, ◌≢◌, ℕ, ◌+◌, List, Some, false, slice_get}
+use Rattle.pfair_lattice.specs.declared.flat.Flat.TheVariants.{One}
+use Rattle.pfair_entry.specs.Entry.{Logged}
+use Rattle.pfair_replica.specs.HeldRows.{held, replica_of, SameShape}
+use Rattle.pfair_replica.specs.Replica.{Below}
+use Rattle.pfair_table.specs.Refinement.{Dispatch}
+use Rattle.pfair_board.specs.Desks.{DeskView}
+
+-- it holds the log in its own row, from that number on
+abbrev pub HoldsLog : DeskView → (first : ℕ) → List Logged → Type 0
+HoldsLog d first log = (i : ℕ) (e : Logged) → slice_get log i ≡ Some e → held d.replica d.proc (first + i) ≡ Some (One e)
+
+-- its row has another entry at a number of the log
+abbrev pub IsTaken : DeskView → (first : ℕ) → List Logged → Type 0
+IsTaken d first log = (i : ℕ) × (e f : Logged) × (slice_get log i ≡ Some e) × (held d.replica d.proc (first + i) ≡ Some (One f)) × (f ≢ e)
+
+-- the dispatcher holds nothing but what the desk holds, and can plan
+pub record IsBehind (a : Dispatch) (d : DeskView) : Type 0 where
+  pub able : a.spent ≡ false
+  pub shape : SameShape a.held d.replica
+  pub below : Below (replica_of a.held) (replica_of d.replica)

@@ -1,0 +1,37 @@
+-- What each fault of a run says.
+use Rattle.std.specs.Prelude.{ℕ, ◌≡◌, ◌<◌, Bool, true, List}
+use Rattle.pfair_entry.specs.Entry.{Logged}
+use Rattle.pfair_replica.specs.Replica.{frontier}
+use Rattle.pfair_table.specs.Script.{LoggedRun, replica_of_logs}
+use Rattle.pfair_board.specs.declared.run.RunFault.{RunFault}
+use Rattle.pfair_board.specs.declared.run.RunFault.TheVariants.{Memory, GateGaveUp, Astray, Stalled}
+use Rattle.pfair_board.specs.Desks.{DeskView}
+use Rattle.pfair_board.specs.Logs.{IsTaken}
+
+-- why slots aren't planned: the gate's type may give up, or memory was wanted
+abbrev pub IsPlanningFault : (may_give_up : Bool) → RunFault → Type 0
+IsPlanningFault may_give_up Memory = Unit {0}
+IsPlanningFault may_give_up GateGaveUp = may_give_up ≡ true
+IsPlanningFault may_give_up Astray = ⊥
+IsPlanningFault may_give_up (Stalled slot) = ⊥
+
+-- why a worker gives no tables: as well where its row has another entry at a number of its log; no worker is stalled
+abbrev pub IsWorkerFault : (may_give_up : Bool) → DeskView → (first : ℕ) → List Logged → RunFault → Type 0
+IsWorkerFault may_give_up d first log Memory = Unit {0}
+IsWorkerFault may_give_up d first log GateGaveUp = may_give_up ≡ true
+IsWorkerFault may_give_up d first log Astray = IsTaken d first log
+IsWorkerFault may_give_up d first log (Stalled slot) = ⊥
+
+-- why a run of a script isn't finished: stalled only where its frontier, which is that slot, is below the number of slots
+abbrev pub IsRunFaultOf : (may_give_up : Bool) → LoggedRun → RunFault → Type 0
+IsRunFaultOf may_give_up r Memory = Unit {0}
+IsRunFaultOf may_give_up r GateGaveUp = may_give_up ≡ true
+IsRunFaultOf may_give_up r Astray = Unit {0}
+IsRunFaultOf may_give_up r (Stalled slot) = (slot ≡ frontier (replica_of_logs r.logs)) × (slot < r.settings.slots)
+
+-- under which numbers they are reported
+abbrev pub run_fault_number : RunFault → ℕ
+run_fault_number Memory = 90
+run_fault_number GateGaveUp = 53
+run_fault_number Astray = 54
+run_fault_number (Stalled slot) = 52

@@ -1,0 +1,235 @@
+//! A dispatcher's end of the board.
+ghost use Rattle.std.specs.Prelude.{◌≡◌, ◌<◌, ◌≤◌, ◌*◌, ◌+◌, ℕ, IfOk, IfErr, OnOk, OnErr, Ok, Some, None, length, map};
+ghost use Rattle.once_cell.specs.Once.{cell_name};
+ghost use Rattle.pfair_lattice.specs.declared.flat.Flat.TheVariants.{One};
+ghost use Rattle.pfair_entry.specs.Entry.{Logged};
+ghost use Rattle.pfair_replica.specs.HeldRows.{IsShape, IsHeldRows, held, replica_of};
+ghost use Rattle.pfair_replica.specs.Replica.{Below, Untorn};
+ghost use Rattle.pfair_board.specs.Boards.{BoardFrame, IsKey};
+ghost use Rattle.pfair_board.specs.Desks.{DeskView, state_of, IsDeskOf, OfOneBoard, IsPartlyMet, GrownDesk, Keeps, fresh_desk, learned, numbered, met};
+ghost use Rattle.pfair_board.specs.Faults.{IsLookFaultOf, IsPublishFaultOf};
+ghost use Rattle.pfair_board.specs.Gained.{gained, gained_in_row, NoGapInRow, SameDesk};
+
+use crate::board::Board;
+use crate::fault::{LookFault, PublishFault};
+use crate::notes::Notes;
+use crate::sharing::share_held;
+use once_cell::race::OnceBox;
+use pfair_entry::Entry;
+use pfair_replica::Replica;
+use std::alloc::{AllocError, Global};
+use std::marker::Model;
+
+/// The pen of one row of a board, a note for each of its cells, and what was learned of them.
+///
+/// A desk is used with the board that made it. What it holds it keeps, unchanged, and nothing that it holds is torn.
+#[derive(Drop)]
+pub struct Desk {
+    proc: u8,
+    next_number: u32,
+    replica: Replica,
+    notes: Notes,
+    alloc: Global,
+}
+
+impl Model for Desk {
+    ghost use Rattle.pfair_replica.specs.HeldRows.{replica_of};
+    ghost use Rattle.pfair_board.specs.Desks.{DeskView};
+    ghost use Rattle.pfair_board.specs.Noted.{IsInOrder};
+
+    ghost Value = { DeskView };
+
+    ghost view = { λ d. record { proc = d.proc; next_number = d.next_number; cells = d.notes.cells; replica = d.replica } };
+
+    ghost invariant = { λ d. IsInOrder d.proc d.next_number (replica_of d.replica) d.notes };
+}
+
+impl Desk {
+    /// The desk of a row over these cells, which holds nothing.
+    pub(crate) fn of(
+        alloc: Global,
+        processors: u8,
+        capacity: u32,
+        cells: &[OnceBox<Entry>],
+        proc: u8,
+    ) -> Result<Desk, AllocError>
+        requires shape { IsShape processors capacity }
+        requires all { length cells.now ≡ processors * capacity }
+        requires row { proc < processors }
+        ensures { IfOk result (λ desk. state_of desk ≡ fresh_desk (record { processors = processors; capacity = capacity; cells = map cell_name cells.now }) proc) }
+    {
+        let notes = Notes::of(alloc, cells)?;
+        Ok(Desk {
+            proc,
+            next_number: 1,
+            replica: Replica::new(alloc, processors, capacity)?,
+            notes,
+            alloc,
+        })
+    }
+
+    /// The processor whose row it is, counted from 0.
+    pub fn proc(&self) -> u8
+        ensures value { result ≡ self.now.proc }
+        ensures row { self.now.proc < self.now.replica.processors }
+    {
+        self.proc
+    }
+
+    /// The number at which the desk publishes next, counted from 1; past the capacity where its row is full.
+    pub fn next_number(&self) -> u32
+        ensures value { result ≡ self.now.next_number }
+        ensures numbered { (1 ≤ self.now.next_number) × (self.now.next_number ≤ self.now.replica.capacity + 1) }
+    {
+        self.next_number
+    }
+
+    /// What the desk holds.
+    pub fn replica(&self) -> &Replica
+        ensures value { result.now ≡ self.now.replica }
+        ensures rows { IsHeldRows self.now.replica }
+        ensures whole { Untorn (replica_of self.now.replica) }
+    {
+        let _processors = self.replica.processors();
+        &self.replica
+    }
+
+    /// Looks at one cell, and answers its entry, which the desk holds from then on, or `None` where it is empty: then the desk holds
+    /// nothing of that key, and is unchanged.
+    ///
+    /// # Errors
+    /// The first of these that applies, and then the desk is unchanged: `NoSuchProcessor`, `NumberOutOfRange`, and `Memory`, which comes
+    /// only where the desk held nothing of that key.
+    pub fn look(&mut self, board: &Board, proc: u8, number: u32) -> Result<Option<Entry>, LookFault>
+        requires own { IsDeskOf self.old board.now }
+        ensures some { (e : Logged) → result ≡ Ok (Some e) → state_of self.new ≡ learned (state_of self.old) proc number e }
+        ensures none { result ≡ Ok None → (held self.old.replica proc number ≡ None) × (self.new ≡ self.old) }
+        ensures key { OnOk result (IsKey self.old.replica.processors self.old.replica.capacity proc number) }
+        ensures fault { IfErr result (IsLookFaultOf self.old proc number) }
+        ensures unchanged { OnErr result (self.new ≡ self.old) }
+        ensures held_now { (e : Logged) → result ≡ Ok (Some e) → held self.new.replica proc number ≡ Some (One e) }
+        ensures kept { GrownDesk self.old self.new }
+        ensures own { IsDeskOf self.new board.now }
+    {
+        if proc >= self.replica.processors() {
+            return Err(LookFault::NoSuchProcessor);
+        }
+        if number == 0 || number > self.replica.capacity() {
+            return Err(LookFault::NumberOutOfRange);
+        }
+        let place = proc as usize * self.replica.capacity() as usize + (number as usize - 1);
+        match self.notes.read(board.cell(place), place) {
+            None => Ok(None),
+            Some(entry) => match self.replica.take(proc, number, entry) {
+                Ok(_) => Ok(Some(entry)),
+                Err(_) => Err(LookFault::Memory),
+            },
+        }
+    }
+
+    /// Puts an entry at the desk's next number, and answers that number. The desk holds the entry from then on.
+    ///
+    /// # Errors
+    /// The first of these that applies. `RowFull` exactly where the next number is past the capacity; nothing has then changed. `Taken`
+    /// where another entry stands there: the desk then holds that one, and its next number is one further. `Memory`, which comes only
+    /// where the desk held nothing at that number; it is then as before. The cell may be set by then: publishing the same entry once more
+    /// answers its number, and another one meets the first as `Taken`.
+    pub fn publish(&mut self, board: &Board, entry: Entry) -> Result<u32, PublishFault>
+        requires own { IsDeskOf self.old board.now }
+        ensures ok { IfOk result (λ n. (n ≡ self.old.next_number) × (state_of self.new ≡ numbered (state_of self.old) entry)) }
+        ensures room { OnOk result (self.old.next_number ≤ self.old.replica.capacity) }
+        ensures fault { IfErr result (IsPublishFaultOf self.old self.new entry) }
+        ensures held_now { OnOk result (held self.new.replica self.old.proc self.old.next_number ≡ Some (One entry)) }
+        ensures kept { GrownDesk self.old self.new }
+        ensures own { IsDeskOf self.new board.now }
+    {
+        if self.next_number > self.replica.capacity() {
+            return Err(PublishFault::RowFull);
+        }
+        let number = self.next_number;
+        let place = self.proc as usize * self.replica.capacity() as usize + (number as usize - 1);
+        let Ok(standing) = self.notes.set(self.alloc, board.cell(place), place, entry) else {
+            return Err(PublishFault::Memory);
+        };
+        let Ok(_) = self.replica.take(self.proc, number, standing) else {
+            return Err(PublishFault::Memory);
+        };
+        self.next_number = number + 1;
+        if standing == entry {
+            return Ok(number);
+        }
+        Err(PublishFault::Taken { standing })
+    }
+
+    /// Joins in what another desk of the same board holds. Afterwards the desk holds what either held, and nothing torn.
+    ///
+    /// # Errors
+    /// `AllocError` where memory was wanted and refused, which comes only where the other holds something that this desk lacks: then a
+    /// part of that is joined in, and another meet gives what one would have given.
+    pub fn meet(&mut self, other: &Desk) -> Result<(), AllocError>
+        requires own { OfOneBoard self.old other.now }
+        ensures ok { OnOk result (state_of self.new ≡ met (state_of self.old) (state_of other.now)) }
+        ensures partly { OnErr result (IsPartlyMet self.old other.now self.new) }
+        ensures lacking { OnErr result (Below (replica_of other.now.replica) (replica_of self.old.replica) → ⊥) }
+        ensures agree { Untorn (met (state_of self.old) (state_of other.now)).replica }
+        ensures kept { GrownDesk self.old self.new }
+        ensures own { OfOneBoard self.new other.now }
+    {
+        share_held(&mut self.notes, &other.notes, &other.replica);
+        match self.replica.merge(&other.replica) {
+            Ok(()) => Ok(()),
+            Err(_) => Err(AllocError),
+        }
+    }
+
+    /// Looks at each processor's numbers, from the first that the desk doesn't hold up to the first empty cell, and answers how many keys
+    /// are newly held. In a row that gained some, no number up to the last one gained is missing then.
+    ///
+    /// # Errors
+    /// `AllocError` where memory was wanted and refused; what was found until then is held.
+    pub fn refresh(&mut self, board: &Board) -> Result<u64, AllocError>
+        requires own { IsDeskOf self.old board.now }
+        ensures count { IfOk result (λ c. c ≡ gained (replica_of self.old.replica) (replica_of self.new.replica)) }
+        ensures no_gap { OnOk result ((k : ℕ) → NoGapInRow (replica_of self.old.replica) (replica_of self.new.replica) k) }
+        ensures next { self.new.next_number ≡ self.old.next_number }
+        ensures kept { GrownDesk self.old self.new }
+        ensures own { IsDeskOf self.new board.now }
+    {
+        let mut found = 0;
+        for proc in 0..board.processors() {
+            found += self.refresh_row(board, proc)?;
+        }
+        Ok(found)
+    }
+
+    /// The same for one row.
+    fn refresh_row(&mut self, board: &Board, proc: u8) -> Result<u64, AllocError>
+        requires own { IsDeskOf self.old board.now }
+        requires row { proc < self.old.replica.processors }
+        ensures count { IfOk result (λ c. c ≡ gained_in_row (replica_of self.old.replica) (replica_of self.new.replica) proc self.new.replica.capacity) }
+        ensures few { IfOk result (λ c. c ≤ 4096) }
+        ensures no_gap { OnOk result (NoGapInRow (replica_of self.old.replica) (replica_of self.new.replica) proc) }
+        ensures same { SameDesk self.old self.new }
+        ensures kept { Keeps (replica_of self.old.replica) (replica_of self.new.replica) }
+        ensures others { (k n : ℕ) → (k ≡ proc → ⊥) → held self.new.replica k n ≡ held self.old.replica k n }
+        ensures own { IsDeskOf self.new board.now }
+    {
+        let mut found = 0;
+        let capacity = self.replica.capacity();
+        let Some(first) = self.replica.missing(proc) else {
+            return Ok(0);
+        };
+        for number in first..capacity + 1 {
+            let is_new = self.replica.get(proc, number).is_none();
+            match self.look(board, proc, number) {
+                Ok(Some(_)) => {}
+                Ok(None) => return Ok(found),
+                Err(_) => return Err(AllocError),
+            }
+            if is_new {
+                found += 1;
+            }
+        }
+        Ok(found)
+    }
+}

@@ -1,0 +1,58 @@
+//! What a worker answers.
+ghost use Rattle.std.specs.Prelude.{◌≡◌};
+ghost use Rattle.pfair_board.specs.RunFaults.{run_fault_number};
+
+use pfair_table::Pick;
+use std::alloc::AllocError;
+use thiserror::Error;
+
+/// What a worker worked out.
+#[derive(Debug, Drop)]
+pub struct Run {
+    /// The table of each slot that was planned, from slot 0 on: its quanta in the PD2 order.
+    pub tables: Vec<Vec<Pick>>,
+}
+
+/// Why a run gave no tables.
+#[derive(Clone, Copy, Debug, PartialEq, Eq, Error)]
+pub enum RunFault {
+    /// Memory was wanted and refused, or a thread couldn't be started.
+    #[error("out of memory")]
+    Memory,
+    /// The gate answered false.
+    #[error("gate gave up")]
+    GateGaveUp,
+    /// What was learned from the board isn't what the logs say.
+    #[error("gone astray")]
+    Astray,
+    /// The logs settle the slots below this one alone, which is one of the run's.
+    #[error("stalled at slot {slot}")]
+    Stalled {
+        /// The frontier of the logs.
+        slot: u64,
+    },
+}
+
+impl RunFault {
+    /// The number under which the fault is reported: 90, 53, 54 and 52, in the order of the variants.
+    pub fn number(&self) -> u8
+        ensures { result ≡ run_fault_number self.now }
+    {
+        match self {
+            RunFault::Memory => 90,
+            RunFault::GateGaveUp => 53,
+            RunFault::Astray => 54,
+            RunFault::Stalled { .. } => 52,
+        }
+    }
+}
+
+impl From<AllocError> for RunFault {
+    ghost use Rattle.pfair_board.specs.declared.run.RunFault.TheVariants.{Memory};
+
+    ghost from_gives = { λ _ r. r ≡ Memory };
+
+    fn from(_error: AllocError) -> RunFault {
+        RunFault::Memory
+    }
+}

@@ -1,0 +1,384 @@
+//! Runs of scripts in threads.
+ghost use Rattle.std.specs.Prelude.{◌≡◌, ◌<◌, ◌≤◌, ◌+◌, IfOk, length};
+ghost use Rattle.pfair_board.specs.Boards.{BoardFrame};
+ghost use Rattle.pfair_board.specs.Desks.{IsDeskOf};
+
+use crate::tests::row;
+use crate::{
+    Board, Desk, Finished, Gate, Hints, OpenGate, Run, RunFault, run_dispatchers, run_worker,
+};
+use pfair_entry::{Announcement, Entry};
+use pfair_lattice::Flat;
+use pfair_ready::{HeapReady, PlainReady};
+use pfair_table::{Dispatcher, Script, Settings, run_script};
+use pfair_weight::{TaskName, Weight};
+use std::alloc::{AllocError, Global};
+use std::process::Abort;
+use std::sync::Wait;
+use std::sync::atomic::{AtomicU64, Ordering};
+use std::test::Fail;
+use std::thread;
+use std::thread::Threads;
+
+/// Each of two workers' first come ends only after the other's first has begun. It counts the calls of each.
+#[derive(Drop)]
+struct Meeting {
+    first: AtomicU64,
+    second: AtomicU64,
+}
+
+impl Gate for Meeting {
+    ghost use Rattle.std.specs.Prelude.{true};
+
+    ghost may_give_up = { true };
+
+    fn come<P: Wait>(&self, _rt: &P, worker: u8, _slot: u64) -> bool {
+        let (mine, other) = if worker == 0 {
+            (&self.first, &self.second)
+        } else {
+            (&self.second, &self.first)
+        };
+        if mine.fetch_add(1, Ordering::SeqCst) > 0 {
+            return true;
+        }
+        for _ in 0..10_000_000 {
+            if other.load(Ordering::SeqCst) > 0 {
+                return true;
+            }
+            thread::yield_now();
+        }
+        false
+    }
+}
+
+/// Gives up at once.
+#[derive(Drop)]
+struct ShutGate;
+
+impl Gate for ShutGate {
+    ghost use Rattle.std.specs.Prelude.{true};
+
+    ghost may_give_up = { true };
+
+    fn come<P: Wait>(&self, _rt: &P, _worker: u8, _slot: u64) -> bool {
+        false
+    }
+}
+
+/// The picks of each of the sample's six slots: the letter of the task, and the index of its subtask.
+const TABLES: [&[(u8, u64)]; 6] = [
+    &[(b'b', 1), (b'a', 1)],
+    &[(b'b', 2), (b'c', 1)],
+    &[],
+    &[(b'b', 3), (b'd', 1)],
+    &[(b'c', 2)],
+    &[(b'd', 2)],
+];
+
+/// Whether the tables are the sample's.
+fn is_sample(run: &Run) -> bool {
+    if run.tables.len() != 6 {
+        return false;
+    }
+    for (table, known) in run.tables.iter().zip(TABLES.iter()) {
+        if table.len() != known.len() {
+            return false;
+        }
+        for (pick, (letter, index)) in table.iter().zip(known.iter()) {
+            if pick.name.as_bytes() != [*letter].as_slice() || pick.index != *index {
+                return false;
+            }
+        }
+    }
+    true
+}
+
+fn name(rt: &impl Abort, letter: u8) -> TaskName {
+    TaskName::from_bytes(&[letter]).expect(rt, "a name")
+}
+
+fn entry(rt: &impl Abort, floor: u64, said: Option<(u64, Announcement)>) -> Entry {
+    Entry::new(floor, said).expect(rt, "an entry")
+}
+
+/// An entry by which a task arrives.
+fn arrival(rt: &impl Abort, floor: u64, at: u64, letter: u8, cost: u64, period: u64) -> Entry {
+    let weight = Weight::new(cost, period).expect(rt, "a weight");
+    let name = name(rt, letter);
+    let early = false;
+    entry(
+        rt,
+        floor,
+        Some((
+            at,
+            Announcement::Arrive {
+                name,
+                weight,
+                early,
+            },
+        )),
+    )
+}
+
+/// The log of the sample's first processor.
+fn first_log(rt: &impl Abort) -> [Entry; 5] {
+    let depart = Announcement::Depart {
+        name: name(rt, b'a'),
+    };
+    [
+        arrival(rt, 0, 0, b'a', 1, 2),
+        arrival(rt, 0, 0, b'b', 2, 3),
+        entry(rt, 2, Some((2, depart))),
+        entry(rt, 4, None),
+        entry(rt, 6, None),
+    ]
+}
+
+/// The log of the sample's second processor.
+fn second_log(rt: &impl Abort) -> [Entry; 5] {
+    let late = Announcement::Late {
+        name: name(rt, b'b'),
+        index: 4,
+        by: 2,
+    };
+    [
+        arrival(rt, 0, 0, b'c', 1, 3),
+        arrival(rt, 1, 3, b'd', 1, 2),
+        entry(rt, 3, Some((4, late))),
+        entry(rt, 5, None),
+        entry(rt, 6, None),
+    ]
+}
+
+/// The sample's script.
+fn sample(rt: &impl Abort, alloc: Global) -> Result<Script, AllocError> {
+    let first = Vec::from_array(alloc, first_log(rt))?;
+    let second = Vec::from_array(alloc, second_log(rt))?;
+    let settings = Settings::new(2, 6, 6).expect(rt, "settings");
+    let logs = vec![in alloc; first, second]?;
+    Ok(Script::new(settings, logs).ok().expect(rt, "a script"))
+}
+
+/// A script of one log.
+fn of_one_log(
+    rt: &impl Abort,
+    alloc: Global,
+    slots: u64,
+    log: Vec<Entry>,
+) -> Result<Script, AllocError> {
+    let settings = Settings::new(1, 1, slots).expect(rt, "settings");
+    let logs = vec![in alloc; log]?;
+    Ok(Script::new(settings, logs).ok().expect(rt, "a script"))
+}
+
+#[test]
+fn two_workers_meet(rt: HostRuntime) -> Result<(), Fail> {
+    let script = sample(&rt, rt.alloc())?;
+    let gate = Meeting {
+        first: AtomicU64::new(0),
+        second: AtomicU64::new(0),
+    };
+    let Finished { board, desks, runs } = run_dispatchers::<_, HeapReady, _>(
+        &rt,
+        rt.alloc(),
+        &script,
+        &gate,
+    )?;
+    assert!(&rt; desks.len() == 2 && runs.len() == 2);
+    assert!(&rt; runs.iter().all(is_sample));
+    assert!(&rt; gate.first.load(Ordering::SeqCst) == 6);
+    assert!(&rt; gate.second.load(Ordering::SeqCst) == 6);
+    let mut fresh = row(&board, 0)?;
+    assert!(&rt; fresh.refresh(&board)? == 10);
+    Ok(())
+}
+
+#[test]
+fn a_script_stalls(rt: HostRuntime) -> Result<(), Fail> {
+    let log = vec![in rt.alloc(); entry(&rt, 5, None), entry(&rt, 4, None)]?;
+    let script = of_one_log(&rt, rt.alloc(), 8, log)?;
+    let run = run_dispatchers::<_, HeapReady, _>(&rt, rt.alloc(), &script, &OpenGate);
+    assert!(&rt; matches!(run, Err(RunFault::Stalled { slot: 5 })));
+    Ok(())
+}
+
+#[test]
+fn a_gate_gives_up(rt: HostRuntime) -> Result<(), Fail> {
+    let script = sample(&rt, rt.alloc())?;
+    let run = run_dispatchers::<_, HeapReady, _>(&rt, rt.alloc(), &script, &ShutGate);
+    assert!(&rt; matches!(run, Err(RunFault::GateGaveUp)));
+    Ok(())
+}
+
+#[test]
+fn sixty_four_workers(rt: HostRuntime) -> Result<(), Fail> {
+    let mut logs = Vec::new(rt.alloc());
+    for _ in 0..64 {
+        logs.push(vec![in rt.alloc(); entry(&rt, 2, None)]?)?;
+    }
+    let settings = Settings::new(64, 1, 2).expect(&rt, "settings");
+    let script = Script::new(settings, logs).ok().expect(&rt, "a script");
+    let finished = run_dispatchers::<_, HeapReady, _>(&rt, rt.alloc(), &script, &OpenGate)?;
+    assert!(&rt; finished.runs.len() == 64);
+    for run in &finished.runs {
+        assert!(&rt; run.tables.len() == 2);
+        assert!(&rt; run.tables.iter().all(|table| table.is_empty()));
+    }
+    Ok(())
+}
+
+/// Whether a worker of the sample works out its tables on a board, and its desk then holds all ten entries.
+fn works_alone<P: Wait>(
+    rt: &P,
+    alloc: Global,
+    board: &Board,
+    mut desk: Desk,
+    log: &[Entry],
+    hints: Hints,
+    gate: &Meeting,
+) -> bool
+    requires own { IsDeskOf desk board.now }
+    requires room { desk.next_number + length log.now ≤ board.now.capacity + 1 }
+    requires processors { board.now.processors ≡ 2 }
+{
+    let Some(settings) = Settings::new(2, 6, 6) else {
+        return false;
+    };
+    let Ok(run) = run_worker::<P, HeapReady, Meeting>(
+        rt, alloc, settings, &mut desk, board, log, hints, gate,
+    ) else {
+        return false;
+    };
+    let held = desk.replica();
+    is_sample(&run) && held.missing(0).is_none() && held.missing(1).is_none()
+}
+
+#[test]
+fn two_workers_on_one_board(rt: HostRuntime) -> Result<(), Fail> {
+    let alloc = rt.alloc();
+    let board = Board::new(alloc, 2, 5)?;
+    let first = row(&board, 0)?;
+    let second = row(&board, 1)?;
+    let (logs, mut hints) = ((first_log(&rt), second_log(&rt)), Hints::all(alloc, 2)?);
+    let gate = Meeting {
+        first: AtomicU64::new(0),
+        second: AtomicU64::new(0),
+    };
+    let mine = hints.pop().expect(&rt, "hints");
+    let others = hints.pop().expect(&rt, "hints");
+    let (board, gate, rt) = (&board, &gate, &rt);
+    let (left, right) = (&logs.0, &logs.1);
+    let (one, other) = thread::join(
+        rt,
+        move || -> bool
+            requires { IsDeskOf first board.now × (first.next_number ≡ 1) × (board.now.capacity ≡ 5) × (board.now.processors ≡ 2) }
+        { works_alone(rt, alloc, board, first, left, others, gate) },
+        move || -> bool
+            requires { IsDeskOf second board.now × (second.next_number ≡ 1) × (board.now.capacity ≡ 5) × (board.now.processors ≡ 2) }
+        { works_alone(rt, alloc, board, second, right, mine, gate) },
+    );
+    assert!(rt; one && other);
+    Ok(())
+}
+
+#[test]
+fn another_pen_leads_astray(rt: HostRuntime) -> Result<(), Fail> {
+    let board = Board::new(rt.alloc(), 1, 1)?;
+    let mut first = row(&board, 0)?;
+    let standing = entry(&rt, 1, None);
+    assert!(&rt; first.publish(&board, standing) == Ok(1));
+    let mut desk = row(&board, 0)?;
+    let hints = Hints::all(rt.alloc(), 1)?.pop().expect(&rt, "hints");
+    let settings = Settings::new(1, 1, 1).expect(&rt, "settings");
+    let log = [entry(&rt, 2, None)];
+    let run = run_worker::<_, HeapReady, _>(
+        &rt,
+        rt.alloc(),
+        settings,
+        &mut desk,
+        &board,
+        &log,
+        hints,
+        &OpenGate,
+    );
+    assert!(&rt; matches!(run, Err(RunFault::Astray)));
+    assert!(&rt; desk.replica().get(0, 1) == Some(Flat::One(standing)));
+    Ok(())
+}
+
+/// A script of 8 processors, 60 tasks and 200 slots.
+fn busy(rt: &impl Abort, alloc: Global) -> Result<Script, AllocError> {
+    let mut logs = Vec::new(alloc);
+    for proc in 0..8u8 {
+        let mut log = Vec::new(alloc);
+        for task in 0..7 + u8::from(proc < 4) {
+            let name = TaskName::from_bytes(&[b'a' + proc, b'a' + task]).expect(rt, "a name");
+            let weight = Weight::new(1 + task as u64 % 2, 12).expect(rt, "a weight");
+            let at = task as u64 * 20;
+            let said = Announcement::Arrive {
+                name,
+                weight,
+                early: task > 5,
+            };
+            log.push(entry(rt, at, Some((at, said))))?;
+        }
+        log.push(entry(rt, 200, None))?;
+        logs.push(log)?;
+    }
+    let settings = Settings::new(8, 12, 200).expect(rt, "settings");
+    Ok(Script::new(settings, logs).ok().expect(rt, "a script"))
+}
+
+/// Whether the tables are those of this dispatcher.
+fn are_those_of(run: &Run, dispatcher: &Dispatcher<PlainReady>) -> bool {
+    if run.tables.len() as u64 != dispatcher.next_slot() {
+        return false;
+    }
+    for (slot, table) in run.tables.iter().enumerate() {
+        match dispatcher.table(slot as u64) {
+            Some(known) if table.as_slice() == known => {}
+            _ => return false,
+        }
+    }
+    true
+}
+
+/// Asserts that ten runs of the busy script, in threads, plan what one dispatcher plans.
+fn ten_runs<P: Threads + Wait + Abort + Sync>(rt: &P, alloc: Global) -> Result<(), Fail> {
+    let script = busy(rt, alloc)?;
+    let known = run_script::<PlainReady>(alloc, &script)?;
+    assert!(rt; known.next_slot() == 200);
+    for _ in 0..10 {
+        let finished = run_dispatchers::<P, HeapReady, OpenGate>(rt, alloc, &script, &OpenGate)?;
+        assert!(rt; finished.runs.len() == 8);
+        for run in &finished.runs {
+            assert!(rt; are_those_of(run, &known));
+        }
+    }
+    Ok(())
+}
+
+#[test]
+fn busy_runs_1_to_10(rt: HostRuntime) -> Result<(), Fail> {
+    ten_runs(&rt, rt.alloc())
+}
+
+#[test]
+fn busy_runs_11_to_20(rt: HostRuntime) -> Result<(), Fail> {
+    ten_runs(&rt, rt.alloc())
+}
+
+#[test]
+fn busy_runs_21_to_30(rt: HostRuntime) -> Result<(), Fail> {
+    ten_runs(&rt, rt.alloc())
+}
+
+#[test]
+fn busy_runs_31_to_40(rt: HostRuntime) -> Result<(), Fail> {
+    ten_runs(&rt, rt.alloc())
+}
+
+#[test]
+fn busy_runs_41_to_50(rt: HostRuntime) -> Result<(), Fail> {
+    ten_runs(&rt, rt.alloc())
+}

@@ -1,0 +1,19 @@
+//! What a worker's thread hands back.
+ghost use Rattle.std.specs.Prelude.{◌≡◌};
+ghost use Rattle.std.specs.Result.{ForOk};
+ghost use Rattle.pfair_replica.specs.HeldRows.{replica_of};
+ghost use Rattle.pfair_table.specs.Table.{plan};
+ghost use Rattle.pfair_board.specs.Rows.{rows};
+
+use crate::desk::Desk;
+use crate::run::{Run, RunFault};
+use pfair_table::Settings;
+
+/// A desk, and a fault or the tables, which by this type are the plan of what the desk holds.
+#[derive(Drop)]
+pub(crate) struct Worked {
+    pub(crate) settings: Settings,
+    pub(crate) desk: Desk,
+    pub(crate) run: Result<Run, RunFault>,
+    pub(crate) ghost planned: { ForOk run (λ r. rows r.tables ≡ plan settings (replica_of desk.replica)) },
+}

@@ -1,0 +1,270 @@
+//! What each worker does.
+ghost use Rattle.std.specs.Prelude.{◌≡◌, ◌<◌, ◌≤◌, ◌+◌, length, IfOk, IfErr, OnOk, false};
+ghost use Rattle.pfair_replica.specs.HeldRows.{replica_of};
+ghost use Rattle.pfair_replica.specs.Replica.{frontier, has_torn};
+ghost use Rattle.pfair_table.specs.Table.{plan};
+ghost use Rattle.pfair_table.specs.Refinement.{IsWholePlan};
+ghost use Rattle.pfair_board.specs.Desks.{IsDeskOf, GrownDesk};
+ghost use Rattle.pfair_board.specs.Rows.{rows};
+ghost use Rattle.pfair_board.specs.Logs.{HoldsLog, IsBehind};
+ghost use Rattle.pfair_board.specs.RunFaults.{IsWorkerFault, IsPlanningFault};
+ghost use Rattle.pfair_board.specs.declared.run.RunFault.TheVariants.{Memory};
+
+use crate::board::Board;
+use crate::desk::Desk;
+use crate::fault::PublishFault;
+use crate::gate::Gate;
+use crate::hints::{Hint, Hints};
+use crate::run::{Run, RunFault};
+use crossbeam_channel::{Receiver, Sender};
+use pfair_entry::Entry;
+use pfair_ready::Ready;
+use pfair_replica::MergeFault;
+use pfair_replica::laws::{least_join, torn_test};
+use pfair_table::{Dispatcher, Pick, PlanFault, Settings, Step};
+use std::alloc::{AllocError, Global};
+use std::sync::Wait;
+
+/// Works out every slot of one processor's run, given its own log alone.
+///
+/// Publishes the log from the desk's next number on, sends a hint of each entry to the other workers and drops its senders, looks where a
+/// hint points, plans what it can on a dispatcher of its own, and refreshes and plans the rest once no hint can come any more. What it
+/// answers doesn't rest on hints: at Ok the tables are the plan of what the desk then holds. So of the answers of two desks of one board,
+/// under equal settings, the shorter begins the longer.
+///
+/// # Errors
+/// `Memory` where memory was wanted and refused. `GateGaveUp` only where the gate's type may give up. `Astray` only where the desk's row
+/// has another entry at a number of the log. After each the desk holds all that it held, and what it learned.
+pub fn run_worker<P: Wait, R: Ready, G: Gate>(
+    rt: &P,
+    alloc: Global,
+    settings: Settings,
+    desk: &mut Desk,
+    board: &Board,
+    log: &[Entry],
+    hints: Hints,
+    gate: &G,
+) -> Result<Run, RunFault>
+    requires own { IsDeskOf desk.old board.now }
+    requires room { desk.old.next_number + length log.now ≤ board.now.capacity + 1 }
+    requires processors { settings.processors ≡ board.now.processors }
+    ensures grown { GrownDesk desk.old desk.new }
+    ensures log { OnOk result (HoldsLog desk.new desk.old.next_number log.now) }
+    ensures plan { IfOk result (λ run. rows run.tables ≡ plan settings (replica_of desk.new.replica)) }
+    ensures fault { IfErr result (IsWorkerFault G.may_give_up desk.new desk.old.next_number log.now) }
+    ensures own { IsDeskOf desk.new board.now }
+{
+    let Hints { receiver, senders } = hints;
+    publish_log(rt, desk, board, log, &senders)?;
+    drop(senders);
+    let mut dispatcher = Dispatcher::<R>::new(alloc, settings, board.capacity())?;
+    heed_all(rt, &mut dispatcher, desk, board, &receiver, gate)?;
+    desk.refresh(board)?;
+    catch_up(rt, &mut dispatcher, desk, gate)?;
+    let tables = tables_of(alloc, &dispatcher)?;
+    Ok(Run { tables })
+}
+
+// Publishes each entry of a log, and sends a hint of it to each other worker.
+fn publish_log<P: Wait>(
+    rt: &P,
+    desk: &mut Desk,
+    board: &Board,
+    log: &[Entry],
+    senders: &Vec<Sender<Hint, Global>>,
+) -> Result<(), RunFault>
+    requires own { IsDeskOf desk.old board.now }
+    requires room { desk.old.next_number + length log.now ≤ board.now.capacity + 1 }
+    ensures grown { GrownDesk desk.old desk.new }
+    ensures log { OnOk result (HoldsLog desk.new desk.old.next_number log.now) }
+    ensures fault { IfErr result (IsWorkerFault false desk.new desk.old.next_number log.now) }
+    ensures own { IsDeskOf desk.new board.now }
+{
+    for entry in log {
+        match desk.publish(board, *entry) {
+            Ok(number) => send_hint(
+                rt,
+                senders,
+                Hint {
+                    proc: desk.proc(),
+                    number,
+                },
+            )?,
+            Err(PublishFault::Memory) => return Err(RunFault::Memory),
+            Err(PublishFault::Taken { .. }) => return Err(RunFault::Astray),
+            Err(PublishFault::RowFull) => unreachable!(),
+        }
+    }
+    Ok(())
+}
+
+// Sends a hint to each. A worker that has left needs none.
+fn send_hint<P: Wait>(
+    rt: &P,
+    senders: &Vec<Sender<Hint, Global>>,
+    hint: Hint,
+) -> Result<(), AllocError> {
+    for sender in senders {
+        if let Err(refused) = sender.send(rt, hint) {
+            if refused.is_out_of_memory() {
+                return Err(AllocError);
+            }
+        }
+    }
+    Ok(())
+}
+
+// Looks where each hint points, and plans what that settles, until no hint can come any more.
+fn heed_all<P: Wait, R: Ready, G: Gate>(
+    rt: &P,
+    dispatcher: &mut Dispatcher<R>,
+    desk: &mut Desk,
+    board: &Board,
+    receiver: &Receiver<Hint, Global>,
+    gate: &G,
+) -> Result<(), RunFault>
+    requires own { IsDeskOf desk.old board.now }
+    requires behind { IsBehind dispatcher.old desk.old }
+    ensures grown { GrownDesk desk.old desk.new }
+    ensures own { IsDeskOf desk.new board.now }
+    ensures settings { dispatcher.new.settings ≡ dispatcher.old.settings }
+    ensures behind { OnOk result (IsBehind dispatcher.new desk.new) }
+    ensures fault { IfErr result (IsPlanningFault G.may_give_up) }
+{
+    for _ in rt.forever() {
+        let Ok(hint) = receiver.recv(rt) else {
+            return Ok(());
+        };
+        heed(rt, dispatcher, desk, board, hint, gate)?;
+    }
+    Ok(())
+}
+
+// Looks where a hint points, and plans what that settles.
+fn heed<P: Wait, R: Ready, G: Gate>(
+    rt: &P,
+    dispatcher: &mut Dispatcher<R>,
+    desk: &mut Desk,
+    board: &Board,
+    hint: Hint,
+    gate: &G,
+) -> Result<(), RunFault>
+    requires own { IsDeskOf desk.old board.now }
+    requires behind { IsBehind dispatcher.old desk.old }
+    ensures grown { GrownDesk desk.old desk.new }
+    ensures own { IsDeskOf desk.new board.now }
+    ensures settings { dispatcher.new.settings ≡ dispatcher.old.settings }
+    ensures behind { OnOk result (IsBehind dispatcher.new desk.new) }
+    ensures fault { IfErr result (IsPlanningFault G.may_give_up) }
+{
+    let found = desk.look(board, hint.proc, hint.number);
+    if let Ok(Some(_)) = found {
+        return catch_up(rt, dispatcher, desk, gate);
+    }
+    Ok(())
+}
+
+// Absorbs what the desk holds, and plans what that settles. The worker comes to the gate before each slot.
+fn catch_up<P: Wait, R: Ready, G: Gate>(
+    rt: &P,
+    dispatcher: &mut Dispatcher<R>,
+    desk: &Desk,
+    gate: &G,
+) -> Result<(), RunFault>
+    requires behind { IsBehind dispatcher.old desk.now }
+    ensures settings { dispatcher.new.settings ≡ dispatcher.old.settings }
+    ensures behind { OnOk result (IsBehind dispatcher.new desk.now) }
+    ensures plan { OnOk result (dispatcher.new.tables ≡ plan dispatcher.old.settings (replica_of desk.now.replica)) }
+    ensures fault { IfErr result (IsPlanningFault G.may_give_up) }
+{
+    least_join();
+    torn_test();
+    match dispatcher.absorb(desk.replica()) {
+        Ok(()) => plan_settled(rt, dispatcher, desk.proc(), gate),
+        Err(MergeFault::Memory) => Err(RunFault::Memory),
+        Err(MergeFault::OtherShape) => unreachable!(),
+    }
+}
+
+// Plans every slot that what is held settles. The worker comes to the gate before each.
+fn plan_settled<P: Wait, R: Ready, G: Gate>(
+    rt: &P,
+    dispatcher: &mut Dispatcher<R>,
+    worker: u8,
+    gate: &G,
+) -> Result<(), RunFault>
+    requires whole { has_torn (replica_of dispatcher.old.held) ≡ false }
+    requires able { dispatcher.old.spent ≡ false }
+    ensures settings { dispatcher.new.settings ≡ dispatcher.old.settings }
+    ensures held { dispatcher.new.held ≡ dispatcher.old.held }
+    ensures able { OnOk result (dispatcher.new.spent ≡ false) }
+    ensures whole { OnOk result (IsWholePlan dispatcher.new) }
+    ensures fault { IfErr result (IsPlanningFault G.may_give_up) }
+{
+    let settled = dispatcher
+        .replica()
+        .frontier()
+        .min(dispatcher.settings().slots());
+    for slot in dispatcher.next_slot()..settled {
+        if !gate.come(rt, worker, slot) {
+            return Err(RunFault::GateGaveUp);
+        }
+        plan_slot(dispatcher)?;
+    }
+    see_whole(dispatcher);
+    Ok(())
+}
+
+// Plans the next slot, which what is held settles.
+fn plan_slot<R: Ready>(dispatcher: &mut Dispatcher<R>) -> Result<(), AllocError>
+    requires whole { has_torn (replica_of dispatcher.old.held) ≡ false }
+    requires able { dispatcher.old.spent ≡ false }
+    requires settled { length dispatcher.old.tables < frontier (replica_of dispatcher.old.held) }
+    requires wanted { length dispatcher.old.tables < dispatcher.old.settings.slots }
+    ensures settings { dispatcher.new.settings ≡ dispatcher.old.settings }
+    ensures held { dispatcher.new.held ≡ dispatcher.old.held }
+    ensures able { OnOk result (dispatcher.new.spent ≡ false) }
+    ensures planned { OnOk result (length dispatcher.new.tables ≡ length dispatcher.old.tables + 1) }
+{
+    match dispatcher.plan_next() {
+        Ok(_) => Ok(()),
+        Err(PlanFault::Memory) => Err(AllocError),
+        Err(PlanFault::Torn(_)) => unreachable!(),
+        Err(PlanFault::Spent) => unreachable!(),
+    }
+}
+
+// Asks for the step after the last slot that what is held settles, which is no plan: so the tables are the whole plan.
+fn see_whole<R: Ready>(dispatcher: &mut Dispatcher<R>)
+    requires whole { has_torn (replica_of dispatcher.old.held) ≡ false }
+    requires able { dispatcher.old.spent ≡ false }
+    requires done { (length dispatcher.old.tables < frontier (replica_of dispatcher.old.held)) × (length dispatcher.old.tables < dispatcher.old.settings.slots) → ⊥ }
+    ensures settings { dispatcher.new.settings ≡ dispatcher.old.settings }
+    ensures held { dispatcher.new.held ≡ dispatcher.old.held }
+    ensures able { dispatcher.new.spent ≡ false }
+    ensures whole { IsWholePlan dispatcher.new }
+{
+    match dispatcher.plan_next() {
+        Ok(Step::Planned { .. }) => unreachable!(),
+        Ok(Step::Waiting { .. }) => {}
+        Ok(Step::Done) => {}
+        Err(_) => unreachable!(),
+    }
+}
+
+// A copy of all tables.
+fn tables_of<R: Ready>(
+    alloc: Global,
+    dispatcher: &Dispatcher<R>,
+) -> Result<Vec<Vec<Pick>>, AllocError>
+    ensures { IfOk result (λ tables. rows tables ≡ dispatcher.now.tables) }
+{
+    let mut all = Vec::new(alloc);
+    for slot in 0..dispatcher.next_slot() {
+        let Some(table) = dispatcher.table(slot) else {
+            unreachable!()
+        };
+        all.push(Vec::from_slice(alloc, table)?)?;
+    }
+    Ok(all)
+}

@@ -1,0 +1,4 @@
+pub mod TableFacts
+pub mod NameFacts
+pub mod LogFacts
+pub mod OrderFacts

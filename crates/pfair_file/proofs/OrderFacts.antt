@@ -1,0 +1,85 @@
+-- What each table adds to the logs.
+use Rattle.std.proofs.Common.{ℕ, List, [], ◌∷◌, ◌++◌, Result, Ok, Err, ◌≡◌, ◌≢◌, ◌∙◌, ◌+◌, ◌<◌, length, get_or, set, append_assoc, append-nil, refl, sym, ap, subst, arith, inl, inr}
+use Rattle.std.specs.Prelude.{nat_le, ◌==◌}
+use Rattle.std.proofs.lemmas.Bool.{cases_Bool, eqb-true, eq-eqb}
+use Rattle.std.proofs.lemmas.Grind.{common_steps}
+use Rattle.std.proofs.lemmas.List.{length-set, get_or-set_same, get_or-set_other}
+use Rattle.toml.specs.Data.{Members}
+use Rattle.pfair_entry.specs.Entry.{Logged}
+use Rattle.pfair_file.specs.Documents.{empty_logs}
+use Rattle.pfair_file.specs.Entries.{Logs, logs_after, with_entries, with_entry, longer_log}
+use Rattle.pfair_file.specs.FileOrder.{LogsAreInFileOrder, entries_for, entry_for, entry_list}
+use Rattle.pfair_file.specs.Tables.{made_at}
+use Rattle.pfair_file.specs.declared.entry.Made.{Made}
+use Rattle.pfair_file.specs.declared.fault.EntryCause.{EntryCause}
+use Rattle.pfair_file.specs.declared.fault.FileFault.{FileFault}
+
+-- a longer log has the entry at its end
+longer-is : (p : ℕ) (log new : List Logged) (made : Result Logged EntryCause) → longer_log p log made ≡ Ok new → new ≡ log ++ entry_list made
+longer-is p log new (Ok entry) h =
+    elim (cases_Bool (nat_le 4095 (length log))) [
+      | inl full ↦ absurd (let bad = rw full at h in cc bad)
+      | inr room ↦ (let same = rw room at h in cc same)
+    ]
+longer-is p log new (Err cause) h =
+    elim (cases_Bool (nat_le 4095 (length log))) [
+      | inl full ↦ absurd (let bad = rw full at h in cc bad)
+      | inr room ↦ absurd (let bad = rw room at h in cc bad)
+    ]
+
+-- the logs after one table, in the words of order
+record IsAfter (logs after : Logs) (found : Result Made FileFault) : Type 0 where
+  pub same_many : length after ≡ length logs
+  pub longer : (p : ℕ) → p < length logs → get_or after p [] ≡ get_or logs p [] ++ entry_for p found
+
+after-made : (logs after : Logs) (made : Made) → logs_after logs made ≡ Ok after → IsAfter logs after (Ok made)
+after-made logs after made h = go (longer_log made.processor (get_or logs made.processor []) made.entry) refl h
+  where
+    go : (r : Result (List Logged) FileFault) → longer_log made.processor (get_or logs made.processor []) made.entry ≡ r → logs_after logs made ≡ Ok after → IsAfter logs after (Ok made)
+    go (Err f) e g = absurd (let bad = rw e at g in cc bad)
+    go (Ok new) e g =
+        let is : set logs made.processor new ≡ after = (let same = rw e at g in cc same) in
+        let added = longer-is made.processor (get_or logs made.processor []) new made.entry e in
+        record {
+          same_many = ap length (sym is) ∙ length-set logs made.processor new;
+          longer = λ p within. elim (cases_Bool (made.processor == p)) [
+            | inl here ↦
+                let at : made.processor ≡ p = eqb-true made.processor p here in
+                rw here (subst (λ q. get_or after q [] ≡ get_or logs q [] ++ entry_list made.entry) at
+                (ap (λ (ls : Logs). get_or ls made.processor []) (sym is) ∙ (get_or-set_same logs made.processor new [] (subst (λ q. q < length logs) (sym at) within) ∙ added)))
+            | inr other ↦
+                let apart : p ≢ made.processor = λ e. (let bad = eq-eqb made.processor p (sym e) in absurd (let worse = rw other at bad in cc worse)) in
+                rw other (ap (λ (ls : Logs). get_or ls p []) (sym is) ∙ (get_or-set_other logs made.processor p new [] apart ∙ sym (append-nil (get_or logs p []))))
+          ];
+        }
+
+after-table : (version place : ℕ) (logs after : Logs) (table : Members) → with_entry version place logs table ≡ Ok after → IsAfter logs after (made_at version (length logs) place table)
+after-table version place logs after table h = go (made_at version (length logs) place table) refl h
+  where
+    go : (r : Result Made FileFault) → made_at version (length logs) place table ≡ r → with_entry version place logs table ≡ Ok after → IsAfter logs after (made_at version (length logs) place table)
+    go (Err f) e g = absurd (let bad = rw e at g in cc bad)
+    go (Ok made) e g = rw e (after-made logs after made (rw e at g))
+
+-- the logs after some tables
+pub after-tables : (version processors place : ℕ) (logs after : Logs) (tables : List Members) → length logs ≡ processors → with_entries version place logs tables ≡ Ok after
+    → (p : ℕ) → p < processors → get_or after p [] ≡ get_or logs p [] ++ entries_for version processors p place tables
+after-tables version processors place logs after [] size h p within = (let same : logs ≡ after = cc h in ap (λ (ls : Logs). get_or ls p []) (sym same) ∙ sym (append-nil (get_or logs p [])))
+after-tables version processors place logs after (table ∷ tables) size h p within =
+    go (with_entry version place logs table) refl h (λ next many g. after-tables version processors (place + 1) next after tables many g p within)
+  where
+    go : (r : Result Logs FileFault) → with_entry version place logs table ≡ r → with_entries version place logs (table ∷ tables) ≡ Ok after
+        → ((next : Logs) → length next ≡ processors → with_entries version (place + 1) next tables ≡ Ok after → get_or after p [] ≡ get_or next p [] ++ entries_for version processors p (place + 1) tables)
+        → get_or after p [] ≡ get_or logs p [] ++ entries_for version processors p place (table ∷ tables)
+    go (Err f) e g ih = absurd (let bad = rw e at g in cc bad)
+    go (Ok next) e g ih =
+        let step = after-table version place logs next table e in
+        let rest = ih next (step.same_many ∙ size) (rw e at g) in
+        let here : get_or next p [] ≡ get_or logs p [] ++ entry_for p (made_at version processors place table) = rw size at (step.longer p (subst (λ n. p < n) (sym size) within)) in
+        rest ∙ (ap (λ xs. xs ++ entries_for version processors p (place + 1) tables) here ∙ append_assoc (get_or logs p []) _ _)
+
+-- from empty logs on
+pub in_file_order : LogsAreInFileOrder
+in_file_order version processors tables logs h p within =
+    let size : length (empty_logs processors) ≡ processors = grind (arith, common_steps) in
+    let bare : get_or (empty_logs processors) p [] ≡ [] = grind (arith, common_steps, within) in
+    after-tables version processors 1 (empty_logs processors) logs tables size h p within ∙ ap (λ (xs : List Logged). xs ++ entries_for version processors p 1 tables) bare

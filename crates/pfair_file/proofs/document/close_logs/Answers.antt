@@ -1,0 +1,29 @@
+use Rattle.std.proofs.Common.{ℕ, List, ◌≡◌, ◌∙◌, ◌<◌, length, get_or, sym, ap, arith, set, Vec, Global}
+use Rattle.std.proofs.lemmas.List.{get_or-map, length-map, map-set}
+use Rattle.std.proofs.lemmas.List.Edits.{map_over_more}
+use Rattle.std.specs.Vec.{with_item}
+use Rattle.pfair_entry.specs.Entry.{Logged}
+use Rattle.pfair_table.specs.Script.{lists_of}
+use Rattle.pfair_file.specs.Documents.{closed}
+use Rattle.pfair_file.proofs.document.close_logs.Goals as goal
+
+-- one more log is written
+logs-written : (logs : Vec (Vec Logged Global) Global) (i : ℕ) (old new : Vec Logged Global) (f : List Logged → List Logged) → i < length logs.items
+    → old ≡ get_or logs.items i old → new.items ≡ f old.items
+    → (lists_of (with_item logs i new).items ≡ set (lists_of logs.items) i (f old.items)) × (old.items ≡ get_or (lists_of logs.items) i old.items)
+logs-written logs i old new f within at written = (
+  map-set (λ (l : Vec Logged Global). l.items) logs.items i new ∙ ap (set (lists_of logs.items) i) written,
+  ap (λ (l : Vec Logged Global). l.items) at ∙ sym (get_or-map (λ l. l.items) logs.items i old old.items within),
+)
+
+pub loop-i-preserved : goal.loop-i-preserved
+loop-i-preserved c =
+    let same = c.loop-i.invariant.1 in
+    let within : c.loop-i.i < length c.loop-i.logs.items = omega arith in
+    let size = length-map c.args.logs.now.items (λ (l : Vec Logged Global). l.items) in
+    let first : c.loop-i.i < length (lists_of c.args.logs.now.items) = omega arith in
+    let step = logs-written c.loop-i.logs c.loop-i.i c.index_mut.result.now c.close_log.new.log (closed c.args.slots) within c.index_mut.ensures.value c.in_ok-close_log.ensures in (
+      step.0 ∙ map_over_more (closed c.args.slots) (lists_of c.args.logs.now.items) (lists_of c.loop-i.logs.items) c.loop-i.i c.index_mut.result.now.items first c.loop-i.invariant.0 step.1,
+      c.loop-i.invariant.1,
+      c.loop-i.invariant.2,
+    )

@@ -1,0 +1,10 @@
+use Rattle.std.proofs.Common.{◌≡◌, ◌++◌, drop, take, vec_len}
+use Rattle.pfair_table.specs.Script.{lists_of}
+use Rattle.pfair_file.specs.Documents.{close_all}
+use Rattle.pfair_file.proofs.document.close_logs.Given as goal
+
+abbrev pub invariant-loop-i : goal.invariant-loop-i
+invariant-loop-i l =
+    (lists_of l.logs.items ≡ close_all l.slots (take l.i (lists_of l.fn.logs.items)) ++ drop l.i (lists_of l.fn.logs.items))
+    × (vec_len l.logs ≡ vec_len l.fn.logs)
+    × (l.i-end ≡ vec_len l.fn.logs)

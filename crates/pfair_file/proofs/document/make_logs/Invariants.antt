@@ -1,0 +1,8 @@
+use Rattle.std.proofs.Common.{◌≡◌, ◌≤◌, vec_len}
+use Rattle.std.specs.Prelude.{All}
+use Rattle.pfair_table.specs.Script.{lists_of}
+use Rattle.pfair_file.specs.Documents.{empty_logs}
+use Rattle.pfair_file.proofs.document.make_logs.Given as goal
+
+abbrev pub invariant-loop : goal.invariant-loop
+invariant-loop l = (lists_of l.logs.items ≡ empty_logs l.counter) × (vec_len l.logs ≡ l.counter) × All (λ log. vec_len log ≤ 4095) l.logs.items

@@ -1,0 +1,54 @@
+use Rattle.std.proofs.Common.{ℕ, List, Result, Ok, Err, ◌≡◌, ◌∙◌, ◌<◌, [], length, set, sym, ap, refl, arith, rules, get_or, Vec, Global}
+use Rattle.std.specs.Prelude.{IfErr, OnOk, ◌≢◌}
+use Rattle.std.proofs.lemmas.Grind.{common_steps}
+use Rattle.std.proofs.lemmas.List.{length-map, get_or-map, map-set}
+use Rattle.toml.specs.Data.{Members}
+use Rattle.toml.specs.View.{table_view}
+use Rattle.pfair_entry.specs.Entry.{Logged}
+use Rattle.pfair_table.specs.Script.{lists_of}
+use Rattle.pfair_file.specs.Entries.{longer_log, with_entry}
+use Rattle.pfair_file.specs.Tables.{made_at}
+use Rattle.pfair_file.specs.declared.entry.Made.{Made}
+use Rattle.pfair_file.specs.declared.fault.FileFault.{FileFault}
+use Rattle.pfair_file.specs.declared.fault.FileFault.TheVariants.{Memory}
+use Rattle.pfair_file.proofs.entries.add_entry.Goals as goal
+
+-- the log of a processor, in the words of the spec
+log_there : (logs : Vec (Vec Logged Global) Global) (i : ℕ) (log : Vec Logged Global) → i < length logs.items → log ≡ get_or logs.items i log → get_or (lists_of logs.items) i [] ≡ log.items
+log_there logs i log within at = get_or-map (λ l. l.items) logs.items i log [] within ∙ ap (λ (l : Vec Logged Global). l.items) (sym at)
+
+-- where its log is longer by what the table makes
+longer_there : (logs : Vec (Vec Logged Global) Global) (version place : ℕ) (table : Members) (made : Made) (log new : Vec Logged Global)
+    → made.processor < length logs.items → log ≡ get_or logs.items made.processor log
+    → made_at version (length (lists_of logs.items)) place table ≡ Ok made → (r : Result (Unit {0}) FileFault)
+    → OnOk r (longer_log made.processor log.items made.entry ≡ Ok new.items)
+    → OnOk r (with_entry version place (lists_of logs.items) table ≡ Ok (lists_of (set logs.items made.processor new)))
+longer_there logs version place table made log new within at read (Ok x) longer =
+    rw (read, log_there logs made.processor log within at, longer, map-set (λ (l : Vec Logged Global). l.items) logs.items made.processor new) refl
+longer_there logs version place table made log new within at read (Err e) longer = longer
+
+-- where the table's entry is refused
+refused_there : (logs : Vec (Vec Logged Global) Global) (version place : ℕ) (table : Members) (made : Made) (log : Vec Logged Global)
+    → made.processor < length logs.items → log ≡ get_or logs.items made.processor log
+    → made_at version (length (lists_of logs.items)) place table ≡ Ok made → (r : Result (Unit {0}) FileFault)
+    → IfErr r (λ f. f ≢ Memory → longer_log made.processor log.items made.entry ≡ Err f)
+    → IfErr r (λ f. f ≢ Memory → with_entry version place (lists_of logs.items) table ≡ Err f)
+refused_there logs version place table made log within at read (Ok x) refused = refused
+refused_there logs version place table made log within at read (Err e) refused =
+    λ other. rw (read, log_there logs made.processor log within at, refused other) refl
+
+pub returns-clause-ok : goal.returns-clause-ok
+returns-clause-ok c =
+    let logs = c.args.logs.now in
+    let size : length (lists_of logs.items) ≡ c.len.result = grind (arith, common_steps, length-map {A = Vec Logged Global} {B = List Logged}) in
+    let within : c.in_ok-made.made.processor < length logs.items = grind (arith, common_steps) in
+    let read : made_at c.args.version (length (lists_of logs.items)) c.args.place (table_view c.args.table.now) ≡ Ok c.in_ok-made.made = rw size (search rules) in
+    longer_there logs c.args.version c.args.place (table_view c.args.table.now) c.in_ok-made.made c.index_mut.result.now c.append.new.log within c.index_mut.ensures.value read c.append.result c.append.ensures.ok
+
+pub returns-clause-fault : goal.returns-clause-fault
+returns-clause-fault c =
+    let logs = c.args.logs.now in
+    let size : length (lists_of logs.items) ≡ c.len.result = grind (arith, common_steps, length-map {A = Vec Logged Global} {B = List Logged}) in
+    let within : c.in_ok-made.made.processor < length logs.items = grind (arith, common_steps) in
+    let read : made_at c.args.version (length (lists_of logs.items)) c.args.place (table_view c.args.table.now) ≡ Ok c.in_ok-made.made = rw size (search rules) in
+    refused_there logs c.args.version c.args.place (table_view c.args.table.now) c.in_ok-made.made c.index_mut.result.now within c.index_mut.ensures.value read c.append.result c.append.ensures.fault

@@ -1,0 +1,11 @@
+pub mod Causes
+pub mod Documents
+pub mod Entries
+pub mod Faults
+pub mod FileOrder
+pub mod Fields
+pub mod Headers
+pub mod Keys
+pub mod Kinds
+pub mod Results
+pub mod Tables

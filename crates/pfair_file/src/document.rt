@@ -1,0 +1,145 @@
+//! Task files.
+ghost use Rattle.std.specs.Prelude.{◌≡◌, ◌≢◌, ◌≤◌, ◌<◌, All, IfOk, IfErr, IsTrue, OnOk, Ok, Err, Some, None, vec_len};
+ghost use Rattle.toml.specs.View.{table_view};
+ghost use Rattle.pfair_table.specs.Limits.{IsSettings};
+ghost use Rattle.pfair_table.specs.Script.{is_short, lists_of};
+ghost use Rattle.std.specs.List.{list_all};
+ghost use Rattle.pfair_file.specs.Documents.{closed, close_all, document, empty_logs, entries_at, logs_at, script_of_file};
+ghost use Rattle.pfair_file.specs.declared.fault.FileFault.TheVariants.{Memory, NotToml};
+
+use crate::entries::add_entries;
+use crate::fault::FileFault;
+use crate::field::Field;
+use crate::header::{read_settings, read_version};
+use crate::key::find;
+use pfair_entry::Entry;
+use pfair_table::{Script, Settings};
+use std::alloc::{AllocError, Global};
+use toml::Table;
+
+/// Reads a task file: the settings and the logs of a run, each log closed by an entry whose floor is the number of
+/// slots, where its last floor is below that.
+///
+/// # Errors
+/// The file's first fault: [`FileFault::NotToml`]; then, key by key in the order of [`Field`], `Missing`, `WrongKind`
+/// and `Range`, or `Version` for a version that is none of 1 and 2; the entries table by table, and for each table
+/// after its keys `Entry`. [`FileFault::Memory`] only for want of memory.
+pub fn read_file(alloc: Global, bytes: &[u8]) -> Result<Script, FileFault>
+    ensures ok { IfOk result (λ script. script_of_file bytes.now ≡ Ok script) }
+    ensures fault { IfErr result (λ f. f ≢ Memory → script_of_file bytes.now ≡ Err f) }
+{
+    let table = parse(alloc, bytes)?;
+    let version = read_version(&table)?;
+    let settings = read_settings(&table)?;
+    let logs = read_logs(alloc, &table, version, settings)?;
+    match Script::new(settings, logs) {
+        Ok(script) => Ok(script),
+        Err(_) => unreachable!(),
+    }
+}
+
+/// The table that the bytes are the text of.
+fn parse(alloc: Global, bytes: &[u8]) -> Result<Table, FileFault>
+    ensures ok { IfOk result (λ t. document bytes.now ≡ Some (table_view t)) }
+    ensures fault { IfErr result (λ f. f ≢ Memory → (f ≡ NotToml) × (document bytes.now ≡ None)) }
+{
+    let Ok(text) = std::str::from_utf8(bytes) else {
+        return Err(FileFault::NotToml);
+    };
+    match toml::table_from_str(alloc, text) {
+        Ok(table) => Ok(table),
+        Err(fault) if fault.is_memory() => Err(FileFault::Memory),
+        Err(_) => Err(FileFault::NotToml),
+    }
+}
+
+/// The logs of a file's entries, each closed.
+fn read_logs(
+    alloc: Global,
+    table: &Table,
+    version: u64,
+    settings: Settings,
+) -> Result<Vec<Vec<Entry>>, FileFault>
+    ensures ok { IfOk result (λ logs. logs_at version settings (table_view table.now) ≡ Ok (lists_of logs.items)) }
+    ensures fault { IfErr result (λ f. f ≢ Memory → logs_at version settings (table_view table.now) ≡ Err f) }
+    ensures count { IfOk result (λ logs. vec_len logs ≡ settings.processors) }
+    ensures short { IfOk result (λ logs. IsTrue (list_all is_short (lists_of logs.items))) }
+{
+    let mut logs = make_logs(alloc, settings.processors())?;
+    add_tables(&mut logs, version, table)?;
+    close_logs(&mut logs, settings.slots())?;
+    Ok(logs)
+}
+
+/// An empty log for each processor.
+fn make_logs(alloc: Global, processors: u8) -> Result<Vec<Vec<Entry>>, AllocError>
+    ensures ok { IfOk result (λ logs. lists_of logs.items ≡ empty_logs processors) }
+    ensures count { IfOk result (λ logs. vec_len logs ≡ processors) }
+    ensures short { IfOk result (λ logs. All (λ log. vec_len log ≤ 4095) logs.items) }
+{
+    let mut logs = Vec::new(alloc);
+    for _ in 0..processors {
+        logs.push(Vec::new(alloc))?;
+    }
+    Ok(logs)
+}
+
+/// Adds the entries of a file.
+fn add_tables(logs: &mut Vec<Vec<Entry>>, version: u64, table: &Table) -> Result<(), FileFault>
+    requires some { 1 ≤ vec_len logs.old }
+    requires few { vec_len logs.old ≤ 64 }
+    requires short { All (λ log. vec_len log ≤ 4095) logs.old.items }
+    ensures ok { OnOk result (entries_at version (lists_of logs.old.items) (table_view table.now) ≡ Ok (lists_of logs.new.items)) }
+    ensures fault { IfErr result (λ f. f ≢ Memory → entries_at version (lists_of logs.old.items) (table_view table.now) ≡ Err f) }
+    ensures same { vec_len logs.new ≡ vec_len logs.old }
+    ensures short { All (λ log. vec_len log ≤ 4095) logs.new.items }
+{
+    match find(table, Field::Entries) {
+        None => Ok(()),
+        Some(value) => match value.as_array() {
+            None => Err(FileFault::WrongKind {
+                place: 0,
+                field: Field::Entries,
+            }),
+            Some(items) => add_entries(logs, version, items.as_slice()),
+        },
+    }
+}
+
+/// Closes each log.
+fn close_logs(logs: &mut Vec<Vec<Entry>>, slots: u64) -> Result<(), AllocError>
+    requires { slots ≤ 1000000 }
+    ensures closed { OnOk result (lists_of logs.new.items ≡ close_all slots (lists_of logs.old.items)) }
+    ensures same { OnOk result (vec_len logs.new ≡ vec_len logs.old) }
+{
+    for i in 0..logs.len() {
+        close_log(&mut logs[i], slots)?;
+    }
+    Ok(())
+}
+
+/// Adds the entry that closes a log, where its last floor is below the number of slots.
+fn close_log(log: &mut Vec<Entry>, slots: u64) -> Result<(), AllocError>
+    requires { slots ≤ 1000000 }
+    ensures { OnOk result (log.new.items ≡ closed slots log.old.items) }
+{
+    let is_open = match log.last() {
+        None => true,
+        Some(entry) => entry.floor() < slots,
+    };
+    if is_open {
+        log.push(closing_entry(slots))?;
+    }
+    Ok(())
+}
+
+/// The entry that closes a log of a run of so many slots.
+fn closing_entry(slots: u64) -> Entry
+    requires { slots ≤ 1000000 }
+    ensures { result ≡ record { floor = slots; said = None } }
+{
+    match Entry::new(slots, None) {
+        Ok(entry) => entry,
+        Err(_) => unreachable!(),
+    }
+}

@@ -1,0 +1,115 @@
+//! Why a task file is refused.
+ghost use Rattle.std.specs.Prelude.{◌≡◌};
+ghost use Rattle.pfair_file.specs.Faults.{cause_number, file_fault_number};
+ghost use Rattle.pfair_file.specs.declared.fault.FileFault.TheVariants.{Memory};
+
+use crate::field::Field;
+use pfair_entry::EntryFault;
+use pfair_weight::{NameFault, WeightFault};
+use std::alloc::AllocError;
+use thiserror::Error;
+
+/// Why a table whose keys are in order makes no entry.
+#[derive(Clone, Copy, Debug, PartialEq, Eq, Error)]
+pub enum EntryCause {
+    /// Number 12: the log has as many entries as a file can hold of one processor, 4,095.
+    #[error("log full")]
+    LogFull,
+    /// Numbers 1 to 3: the name is no task's name.
+    #[error("{0}")]
+    Name(NameFault),
+    /// Numbers 4 to 6: cost and period make no weight.
+    #[error("{0}")]
+    Weight(WeightFault),
+    /// Numbers 7 to 10: floor, stamp and announcement make no entry.
+    #[error("{0}")]
+    Entry(EntryFault),
+}
+
+impl EntryCause {
+    /// The number under which the cause is reported: 12, or that of the fault that it has.
+    pub fn number(&self) -> u8
+        ensures { result ≡ cause_number self.now }
+    {
+        match self {
+            EntryCause::LogFull => 12,
+            EntryCause::Name(fault) => fault.number(),
+            EntryCause::Weight(fault) => fault.number(),
+            EntryCause::Entry(fault) => fault.number(),
+        }
+    }
+}
+
+/// The first fault of a task file, or want of memory. A place is the number of the entry's table in the file, counted
+/// from 1, and 0 for the file's own keys.
+#[derive(Clone, Copy, Debug, PartialEq, Eq, Error)]
+pub enum FileFault {
+    /// Number 60: the bytes are no TOML document.
+    #[error("not TOML")]
+    NotToml,
+    /// Number 61: a key isn't there.
+    #[error("missing {field} at {place}")]
+    Missing {
+        /// The table's number, or 0.
+        place: u64,
+        /// The key.
+        field: Field,
+    },
+    /// Number 62: what stands at a key is of another kind than the key asks for.
+    #[error("{field} of wrong kind at {place}")]
+    WrongKind {
+        /// The table's number, or 0.
+        place: u64,
+        /// The key.
+        field: Field,
+    },
+    /// Number 63: what stands at a key is of the right kind, and out of the key's range.
+    #[error("{field} out of range at {place}")]
+    Range {
+        /// The table's number, or 0.
+        place: u64,
+        /// The key.
+        field: Field,
+    },
+    /// Number 64: the keys of a table are in order, and make no entry.
+    #[error("entry {number} of processor {processor} refused: {} {cause}", .cause.number())]
+    Entry {
+        /// The processor, counted from 0.
+        processor: u8,
+        /// The number that the entry would have in the processor's log, counted from 1.
+        number: u32,
+        /// Why there is no such entry.
+        cause: EntryCause,
+    },
+    /// Number 65: the version is none of 1 and 2.
+    #[error("unknown version")]
+    Version,
+    /// Number 90: want of memory.
+    #[error("out of memory")]
+    Memory,
+}
+
+impl FileFault {
+    /// The number under which the fault is reported: 60 to 65 in the order of the variants, and 90 for want of memory.
+    pub fn number(&self) -> u8
+        ensures { result ≡ file_fault_number self.now }
+    {
+        match self {
+            FileFault::NotToml => 60,
+            FileFault::Missing { .. } => 61,
+            FileFault::WrongKind { .. } => 62,
+            FileFault::Range { .. } => 63,
+            FileFault::Entry { .. } => 64,
+            FileFault::Version => 65,
+            FileFault::Memory => 90,
+        }
+    }
+}
+
+impl From<AllocError> for FileFault {
+    ghost from_gives = { λ _ e. e ≡ Memory };
+
+    fn from(_: AllocError) -> FileFault {
+        FileFault::Memory
+    }
+}

@@ -1,0 +1,92 @@
+//! One key of a table.
+ghost use Rattle.std.specs.Prelude.{◌≡◌, ok_or, option_map};
+ghost use Rattle.std.specs.Result.{result_map_both};
+ghost use Rattle.toml.specs.Data.{get_member};
+ghost use Rattle.toml.specs.View.{table_view, view};
+ghost use Rattle.pfair_file.specs.Fields.{key_of};
+ghost use Rattle.pfair_file.specs.Keys.{integer_at, natural, natural_at, number_at, ranged, text_at, value_at};
+
+use crate::fault::FileFault;
+use crate::field::Field;
+use toml::{Table, Value};
+
+/// The value at a key, if there is one.
+pub fn find(table: &Table, field: Field) -> Option<&Value>
+    ensures { option_map (λ v. view v.now) result ≡ get_member (key_of field) (table_view table.now) }
+{
+    table.get(field.key())
+}
+
+/// The value at a key that has to be there.
+fn value(table: &Table, place: u64, field: Field) -> Result<&Value, FileFault>
+    ensures { result_map_both (λ v. view v.now) (λ e. e) result ≡ value_at (table_view table.now) place field }
+{
+    match find(table, field) {
+        None => Err(FileFault::Missing { place, field }),
+        Some(found) => Ok(found),
+    }
+}
+
+/// The integer at a key.
+pub fn integer(table: &Table, place: u64, field: Field) -> Result<i64, FileFault>
+    ensures { result ≡ integer_at (table_view table.now) place field }
+{
+    match value(table, place, field)?.as_integer() {
+        None => Err(FileFault::WrongKind { place, field }),
+        Some(number) => Ok(number),
+    }
+}
+
+/// The text at a key.
+pub fn text(table: &Table, place: u64, field: Field) -> Result<&str, FileFault>
+    ensures { result_map_both (λ t. t.now) (λ e. e) result ≡ text_at (table_view table.now) place field }
+{
+    match value(table, place, field)?.as_str() {
+        None => Err(FileFault::WrongKind { place, field }),
+        Some(text) => Ok(text),
+    }
+}
+
+/// An integer that isn't negative, or the fault.
+pub fn not_negative(value: i64, fault: FileFault) -> Result<u64, FileFault>
+    ensures { result ≡ natural fault value }
+{
+    match u64::try_from(value) {
+        Ok(number) => Ok(number),
+        Err(_) => Err(fault),
+    }
+}
+
+/// An integer from `low` to `high`, or the fault.
+pub fn within(value: i64, low: u64, high: u64, fault: FileFault) -> Result<u64, FileFault>
+    ensures { result ≡ ranged low high fault value }
+{
+    let number = not_negative(value, fault)?;
+    if low <= number && number <= high {
+        Ok(number)
+    } else {
+        Err(fault)
+    }
+}
+
+/// The number at a key, from `low` to `high`.
+pub fn number(
+    table: &Table,
+    place: u64,
+    field: Field,
+    low: u64,
+    high: u64,
+) -> Result<u64, FileFault>
+    ensures { result ≡ number_at (table_view table.now) place field low high }
+{
+    let value = integer(table, place, field)?;
+    within(value, low, high, FileFault::Range { place, field })
+}
+
+/// The number at a key, which isn't negative.
+pub fn natural_number(table: &Table, place: u64, field: Field) -> Result<u64, FileFault>
+    ensures { result ≡ natural_at (table_view table.now) place field }
+{
+    let value = integer(table, place, field)?;
+    not_negative(value, FileFault::Range { place, field })
+}

@@ -1,0 +1,165 @@
+//! Boards, and what their desks publish, find and tell each other.
+ghost use Rattle.std.specs.Prelude.{◌≡◌, ◌<◌, IfOk};
+ghost use Rattle.pfair_board.specs.Desks.{IsDeskOf};
+
+use crate::Look;
+use crate::entries::quiet;
+use pfair_board::{Board, Desk, LookFault, PublishFault};
+use pfair_lattice::Flat;
+use std::alloc::{AllocError, Global};
+
+/// A board of two rows with room for two entries each.
+fn two_rows(alloc: Global) -> Result<Board, AllocError>
+    ensures { IfOk result (λ board. board.processors ≡ 2) }
+{
+    match Board::new(alloc, 2, 2) {
+        Ok(board) => Ok(board),
+        Err(_) => Board::new(alloc, 2, 2),
+    }
+}
+
+/// The desk of a row, one of a new set.
+fn row(board: &Board, processor: u8) -> Result<Desk, AllocError>
+    requires { processor < board.now.processors }
+    ensures { IfOk result (λ desk. IsDeskOf desk board.now) }
+{
+    let mut desks = board.desks()?;
+    Ok(desks.swap_remove(processor as usize))
+}
+
+/// Publishes an entry of this floor, and says whether there is such an entry.
+fn publish_one(board: &Board, desk: &mut Desk, floor: u64) -> Look
+    requires { IsDeskOf desk.old board.now }
+    ensures { IsDeskOf desk.new board.now }
+{
+    let Some(entry) = quiet(floor) else {
+        return Ok(false);
+    };
+    if desk.publish(board, entry).is_err() {
+        return Err(AllocError);
+    }
+    Ok(true)
+}
+
+/// Publishes two entries of these floors, and says whether there are such entries.
+fn publish_two(board: &Board, desk: &mut Desk, first: u64, second: u64) -> Look
+    requires { IsDeskOf desk.old board.now }
+    ensures { IsDeskOf desk.new board.now }
+{
+    if !publish_one(board, desk, first)? {
+        return Ok(false);
+    }
+    publish_one(board, desk, second)
+}
+
+/// A new board.
+pub(crate) fn new(alloc: Global) -> Look {
+    let board = two_rows(alloc)?;
+    Ok(board.processors() == 2 && board.capacity() == 2)
+}
+
+/// The desks of a board. After want of memory the board stands, and is asked for them once more.
+pub(crate) fn desks(alloc: Global) -> Look {
+    let board = two_rows(alloc)?;
+    let desks = match board.desks() {
+        Ok(desks) => desks,
+        Err(_) => board.desks()?,
+    };
+    for desk in desks {
+        let held = desk.replica();
+        if desk.next_number() != 1 || held.missing(0) != Some(1) || held.missing(1) != Some(1) {
+            return Ok(false);
+        }
+    }
+    Ok(true)
+}
+
+/// An entry that is published. After want of memory the desk is as before, and publishes it once more.
+pub(crate) fn publish(alloc: Global) -> Look {
+    let Some(entry) = quiet(3) else {
+        return Ok(false);
+    };
+    let board = two_rows(alloc)?;
+    let mut desk = row(&board, 0)?;
+    match desk.publish(&board, entry) {
+        Ok(number) => return Ok(number == 1),
+        Err(PublishFault::Memory) => {}
+        Err(_) => return Ok(false),
+    }
+    if desk.next_number() != 1 || desk.replica().get(0, 1).is_some() {
+        return Ok(false);
+    }
+    match desk.publish(&board, entry) {
+        Ok(number) => Ok(number == 1 && desk.replica().get(0, 1) == Some(Flat::One(entry))),
+        Err(PublishFault::Memory) => Err(AllocError),
+        Err(_) => Ok(false),
+    }
+}
+
+/// A look at what another desk published. After want of memory the desk is as before, and looks once more.
+pub(crate) fn look(alloc: Global) -> Look {
+    let Some(entry) = quiet(3) else {
+        return Ok(false);
+    };
+    let board = two_rows(alloc)?;
+    let mut writer = row(&board, 0)?;
+    let mut reader = row(&board, 1)?;
+    if writer.publish(&board, entry) != Ok(1) {
+        return Err(AllocError);
+    }
+    if reader.look(&board, 0, 1) == Err(LookFault::Memory) {
+        if reader.replica().get(0, 1).is_some() {
+            return Ok(false);
+        }
+        if reader.look(&board, 0, 1) == Err(LookFault::Memory) {
+            return Err(AllocError);
+        }
+    }
+    Ok(
+        reader.look(&board, 0, 1) == Ok(Some(entry))
+            && reader.replica().get(0, 1) == Some(Flat::One(entry)),
+    )
+}
+
+/// A refresh that finds two entries. After want of memory what was found is held, and another refresh finds the rest.
+pub(crate) fn refresh(alloc: Global) -> Look {
+    let board = two_rows(alloc)?;
+    let mut writer = row(&board, 0)?;
+    let mut reader = row(&board, 1)?;
+    if !publish_two(&board, &mut writer, 3, 4)? {
+        return Ok(false);
+    }
+    match reader.refresh(&board) {
+        Ok(count) => return Ok(count == 2 && reader.replica().missing(0).is_none()),
+        Err(_) => {
+            if !reader.replica().le(writer.replica()) {
+                return Ok(false);
+            }
+        }
+    }
+    reader.refresh(&board)?;
+    Ok(reader.replica().missing(0).is_none() && reader.replica().le(writer.replica()))
+}
+
+/// A meet of two desks that published. After want of memory the first holds a part of the second, and meets it again.
+pub(crate) fn meet(alloc: Global) -> Look {
+    let board = two_rows(alloc)?;
+    let mut first = row(&board, 0)?;
+    let mut second = row(&board, 1)?;
+    if !publish_two(&board, &mut first, 1, 2)? || !publish_two(&board, &mut second, 3, 4)? {
+        return Ok(false);
+    }
+    if first.meet(&second).is_err() {
+        if first.replica().missing(0).is_some() || first.replica().first_torn().is_some() {
+            return Ok(false);
+        }
+        first.meet(&second)?;
+    }
+    let held = first.replica();
+    Ok(
+        held.missing(0).is_none()
+            && held.missing(1).is_none()
+            && held.first_torn().is_none()
+            && second.replica().le(held),
+    )
+}

@@ -1,0 +1,81 @@
+//! What a replica says, kept by slot.
+ghost use Rattle.std.specs.Prelude.{◌≡◌, ◌++◌, ℕ, [], OnOk};
+ghost use Rattle.pfair_replica.specs.Agenda.{said_at, listed_at, one_at};
+
+use pfair_entry::{Announcement, Said};
+use std::alloc::{AllocError, Global};
+use std::collections::BTreeMap;
+
+/// What a replica says at each slot, gone through once: a slot is then looked up in a number of steps that grows with the logarithm of
+/// the number of slots at which something is said.
+///
+/// It stays what it was when the replica takes in more.
+#[derive(Drop)]
+pub struct Agenda {
+    by_slot: BTreeMap<u64, Vec<Said>>,
+    alloc: Global,
+}
+
+impl Agenda {
+    /// The agenda in which nothing is said.
+    pub(crate) fn new(alloc: Global) -> Agenda
+        ensures { (t : ℕ) → said_at result t ≡ [] }
+    {
+        Agenda {
+            by_slot: BTreeMap::new(alloc),
+            alloc,
+        }
+    }
+
+    /// What is said at a slot, in order of processors, and of numbers for each processor.
+    pub fn at(&self, slot: u64) -> &[Said]
+        ensures { result.now ≡ said_at self.now slot }
+    {
+        match self.by_slot.get(&slot) {
+            Some(heard) => heard,
+            None => &[],
+        }
+    }
+
+    /// Adds what is said at a slot behind what was said at it before.
+    pub(crate) fn push(
+        &mut self,
+        slot: u64,
+        processor: u8,
+        number: u32,
+        announcement: Announcement,
+    ) -> Result<(), AllocError>
+        ensures { OnOk result ((t : ℕ) → said_at self.new t ≡ said_at self.old t ++ one_at slot (record { processor = processor; number = number; announcement = announcement }) t) }
+    {
+        push_at(
+            self.alloc,
+            &mut self.by_slot,
+            slot,
+            Said {
+                processor,
+                number,
+                announcement,
+            },
+        )
+    }
+}
+
+/// Adds a value behind those that are listed under a key.
+fn push_at<T: Drop>(
+    alloc: Global,
+    lists: &mut BTreeMap<u64, Vec<T>>,
+    key: u64,
+    value: T,
+) -> Result<(), AllocError>
+    ensures { OnOk result ((t : ℕ) → listed_at lists.new t ≡ listed_at lists.old t ++ one_at key value t) }
+{
+    match lists.get_mut(&key) {
+        Some(list) => list.push(value)?,
+        None => {
+            let mut list = Vec::new(alloc);
+            list.push(value)?;
+            lists.insert(key, list)?;
+        }
+    }
+    Ok(())
+}

@@ -1,0 +1,15 @@
+//! Worked runs, from what is said to the tables: tests of the crates below by short texts.
+//!
+//! Each run is written as the events that come to a dispatcher, and what it has to answer, to plan and to decide.
+#![tactic(auto)]
+
+#[cfg(test)]
+mod notation;
+#[cfg(test)]
+mod run;
+#[cfg(test)]
+mod sample;
+#[cfg(test)]
+mod shown;
+#[cfg(test)]
+mod tests;

@@ -1,0 +1,94 @@
+//! Events as texts, one after another with a `;` between them.
+//!
+//! `0 3 2 2 depart a` is the entry of processor 0 with number 3 and floor 2, in which the departure of a is stamped 2. The
+//! others are `0 1 0 0 arrive a 1 2`, a weight of 1/2, `0 1 0 0 early a 1 2`, where it may run ahead of its windows, and
+//! `1 3 3 4 late b 4 2`, subtask 4 by 2 slots; `1 4 5` says nothing. `plan 3` asks for three slots.
+
+use pfair_entry::{Announcement, Entry};
+use pfair_table::Event;
+use pfair_weight::{TaskName, Weight};
+use std::alloc::{AllocError, Global};
+use std::process::Abort;
+
+fn word<'a>(rt: &impl Abort, words: &[&'a str], place: usize) -> &'a str {
+    words.get(place).copied().expect(rt, "a word")
+}
+
+fn number(rt: &impl Abort, words: &[&str], place: usize) -> u64 {
+    word(rt, words, place)
+        .parse::<u64>()
+        .ok()
+        .expect(rt, "a number")
+}
+
+fn announcement(rt: &impl Abort, words: &[&str]) -> Announcement {
+    let kind = word(rt, words, 4);
+    let name = TaskName::from_bytes(word(rt, words, 5).as_bytes()).expect(rt, "a name");
+    if kind == "depart" {
+        return Announcement::Depart { name };
+    }
+    let (first, second) = (number(rt, words, 6), number(rt, words, 7));
+    if kind == "late" {
+        return Announcement::Late {
+            name,
+            index: first,
+            by: second,
+        };
+    }
+    assert!(rt; kind == "arrive" || kind == "early");
+    let weight = Weight::new(first, second).expect(rt, "a weight");
+    Announcement::Arrive {
+        name,
+        weight,
+        early: kind == "early",
+    }
+}
+
+fn entry(rt: &impl Abort, words: &[&str]) -> Entry {
+    let floor = number(rt, words, 2);
+    let said = if words.len() > 3 {
+        Some((number(rt, words, 3), announcement(rt, words)))
+    } else {
+        None
+    };
+    Entry::new(floor, said).expect(rt, "an entry")
+}
+
+// Puts what some words say behind the events.
+fn push(rt: &impl Abort, events: &mut Vec<Event>, words: &[&str]) -> Result<(), AllocError> {
+    if word(rt, words, 0) == "plan" {
+        for _ in 0..number(rt, words, 1) {
+            events.push(Event::Plan)?;
+        }
+        return Ok(());
+    }
+    let processor = u8::try_from(number(rt, words, 0)).expect(rt, "a processor");
+    let number = u32::try_from(number(rt, words, 1)).expect(rt, "a number");
+    events.push(Event::Take {
+        processor,
+        number,
+        entry: entry(rt, words),
+    })?;
+    Ok(())
+}
+
+/// Puts the events of a text behind others.
+pub(crate) fn extend(
+    rt: &impl Abort,
+    alloc: Global,
+    events: &mut Vec<Event>,
+    text: &str,
+) -> Result<(), AllocError> {
+    for part in text.split(';') {
+        let words: Vec<&str> = part.split_whitespace().collect(alloc)?;
+        push(rt, events, &words)?;
+    }
+    Ok(())
+}
+
+/// The events of a text.
+pub(crate) fn events(rt: &impl Abort, alloc: Global, text: &str) -> Result<Vec<Event>, AllocError> {
+    let mut events = Vec::new(alloc);
+    extend(rt, alloc, &mut events, text)?;
+    Ok(events)
+}

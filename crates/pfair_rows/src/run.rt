@@ -1,0 +1,153 @@
+//! Runs of events, by hand and by `run_events`.
+
+use crate::{notation, shown};
+use pfair_ready::{HeapReady, PlainReady, Ready};
+use pfair_replica::Replica;
+use pfair_table::{Dispatcher, Event, Settings, run_events};
+use std::alloc::{AllocError, Global};
+use std::process::Abort;
+
+/// The room that each dispatcher has for entries of one log.
+const CAPACITY: u32 = 16;
+
+// One event comes to a dispatcher, and its answer goes behind the text.
+fn happen<R: Ready>(
+    dispatcher: &mut Dispatcher<R>,
+    event: &Event,
+    text: &mut String,
+) -> Result<(), AllocError> {
+    match event {
+        Event::Take {
+            processor,
+            number,
+            entry,
+        } => shown::push_taken(text, dispatcher.take(*processor, *number, *entry)),
+        Event::Absorb(other) => shown::push_merged(text, dispatcher.absorb(other)),
+        Event::Plan => shown::push_planned(text, dispatcher.plan_next()),
+    }
+}
+
+// The events come to a dispatcher one after another; all answers, with commas between them.
+fn answers_of<R: Ready>(
+    alloc: Global,
+    dispatcher: &mut Dispatcher<R>,
+    events: &[Event],
+) -> Result<String, AllocError> {
+    let mut text = String::new(alloc);
+    for (place, event) in events.iter().enumerate() {
+        if place > 0 {
+            text.push_str(", ")?;
+        }
+        happen(dispatcher, event, &mut text)?;
+    }
+    Ok(text)
+}
+
+/// The settings of a machine.
+pub(crate) fn settings_of(rt: &impl Abort, machine: (u8, u64, u64)) -> Settings {
+    Settings::new(machine.0, machine.1, machine.2).expect(rt, "settings")
+}
+
+fn new_dispatcher<R: Ready>(
+    alloc: Global,
+    settings: Settings,
+) -> Result<Dispatcher<R>, AllocError> {
+    let _processors = settings.processors();
+    Dispatcher::new(alloc, settings, CAPACITY)
+}
+
+// The dispatcher that the events leave.
+fn left_by<R: Ready>(
+    alloc: Global,
+    settings: Settings,
+    events: &[Event],
+) -> Result<Dispatcher<R>, AllocError> {
+    let _processors = settings.processors();
+    run_events(alloc, settings, CAPACITY, events)
+}
+
+// Asserts what a dispatcher has planned and decided.
+fn assert_planned<R: Ready>(
+    rt: &impl Abort,
+    alloc: Global,
+    dispatcher: &Dispatcher<R>,
+    tables: &str,
+    decisions: &str,
+) -> Result<(), AllocError> {
+    assert_eq!(rt; shown::tables(alloc, dispatcher)?.as_str(), tables);
+    assert_eq!(rt; shown::decisions(alloc, dispatcher)?.as_str(), decisions);
+    Ok(())
+}
+
+// Asserts what the events leave that come one by one, and what is answered to them.
+fn assert_stepped<R: Ready>(
+    rt: &impl Abort,
+    alloc: Global,
+    settings: Settings,
+    events: &[Event],
+    answers: &str,
+    tables: &str,
+    decisions: &str,
+) -> Result<(), AllocError> {
+    let mut dispatcher: Dispatcher<R> = new_dispatcher(alloc, settings)?;
+    let answered = answers_of(alloc, &mut dispatcher, events)?;
+    assert_eq!(rt; answered.as_str(), answers);
+    assert_planned(rt, alloc, &dispatcher, tables, decisions)
+}
+
+// Asserts what `run_events` leaves.
+fn assert_left<R: Ready>(
+    rt: &impl Abort,
+    alloc: Global,
+    settings: Settings,
+    events: &[Event],
+    tables: &str,
+    decisions: &str,
+) -> Result<(), AllocError> {
+    let left: Dispatcher<R> = left_by(alloc, settings, events)?;
+    assert_planned(rt, alloc, &left, tables, decisions)
+}
+
+/// Asserts what the events leave, taken one by one and by `run_events`, over plain lists and over heaps.
+pub(crate) fn assert_events(
+    rt: &impl Abort,
+    alloc: Global,
+    settings: Settings,
+    events: &[Event],
+    answers: &str,
+    tables: &str,
+    decisions: &str,
+) -> Result<(), AllocError> {
+    assert_stepped::<PlainReady>(rt, alloc, settings, events, answers, tables, decisions)?;
+    assert_stepped::<HeapReady>(rt, alloc, settings, events, answers, tables, decisions)?;
+    assert_left::<PlainReady>(rt, alloc, settings, events, tables, decisions)?;
+    assert_left::<HeapReady>(rt, alloc, settings, events, tables, decisions)
+}
+
+/// Asserts a run on a machine of so many processors, with such a frame and so many slots: the answers to the events, and
+/// the tables and decisions that they leave.
+pub(crate) fn assert_run(
+    rt: &impl Abort,
+    alloc: Global,
+    machine: (u8, u64, u64),
+    events: &str,
+    answers: &str,
+    tables: &str,
+    decisions: &str,
+) -> Result<(), AllocError> {
+    let settings = settings_of(rt, machine);
+    let events = notation::events(rt, alloc, events)?;
+    assert_events(rt, alloc, settings, &events, answers, tables, decisions)
+}
+
+/// What a dispatcher holds that took these events.
+pub(crate) fn held(
+    rt: &impl Abort,
+    alloc: Global,
+    machine: (u8, u64, u64),
+    events: &str,
+) -> Result<Replica, AllocError> {
+    let events = notation::events(rt, alloc, events)?;
+    let left: Dispatcher<HeapReady> = left_by(alloc, settings_of(rt, machine), &events)?;
+    left.replica().copy()
+}

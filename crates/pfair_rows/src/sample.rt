@@ -1,0 +1,175 @@
+//! The ten entries of two processors, in any order and in parts.
+
+use crate::notation::extend;
+use crate::run::{assert_events, assert_run, held, settings_of};
+use pfair_replica::Replica;
+use pfair_table::Event;
+use std::alloc::{AllocError, Global};
+use std::process::Abort;
+
+const FORWARD: &str =
+    "0 1 0 0 arrive a 1 2; 0 2 0 0 arrive b 2 3; 0 3 2 2 depart a; 0 4 4; 0 5 6; 1 1 0 0 arrive c 1 3; 1 2 1 3 arrive d 1 2; 1 3 3 4 late b 4 2; 1 4 5; 1 5 6; plan 7";
+
+const BACKWARD: &str =
+    "1 5 6; 1 4 5; 1 3 3 4 late b 4 2; 1 2 1 3 arrive d 1 2; 1 1 0 0 arrive c 1 3; 0 5 6; 0 4 4; 0 3 2 2 depart a; 0 2 0 0 arrive b 2 3; 0 1 0 0 arrive a 1 2; plan 7";
+
+const TWICE: &str =
+    "0 1 0 0 arrive a 1 2; 0 1 0 0 arrive a 1 2; 0 2 0 0 arrive b 2 3; 0 2 0 0 arrive b 2 3; 0 3 2 2 depart a; 0 3 2 2 depart a; 0 4 4; 0 4 4; 0 5 6; 0 5 6; 1 1 0 0 arrive c 1 3; 1 1 0 0 arrive c 1 3; 1 2 1 3 arrive d 1 2; 1 2 1 3 arrive d 1 2; 1 3 3 4 late b 4 2; 1 3 3 4 late b 4 2; 1 4 5; 1 4 5; 1 5 6; 1 5 6; plan 7";
+
+const ANSWERS: &str =
+    "new, new, new, new, new, new, new, new, new, new, slot 0, slot 1, slot 2, slot 3, slot 4, slot 5, done";
+
+// The answers where one half comes, another kind of replica, a plan, the other half, and plans.
+const HALVES: &str =
+    "merged, fault 15, waiting 0, merged, slot 0, slot 1, slot 2, slot 3, slot 4, slot 5, done";
+
+const TABLES: &str = "[b1 a1][b2 c1][][b3 d1][c2][d2]";
+
+const DECISIONS: &str =
+    "[0.1 a admitted, 0.2 b admitted, 1.1 c admitted][][0.3 a departing 3][1.2 d admitted][1.3 b delayed][]";
+
+// The entries of one processor, and those of the other.
+const FIRST: &str = "0 1 0 0 arrive a 1 2; 0 2 0 0 arrive b 2 3; 0 3 2 2 depart a; 0 4 4; 0 5 6";
+
+const SECOND: &str = "1 1 0 0 arrive c 1 3; 1 2 1 3 arrive d 1 2; 1 3 3 4 late b 4 2; 1 4 5; 1 5 6";
+
+// The machine of the sample.
+const MACHINE: (u8, u64, u64) = (2, 6, 6);
+
+// What two dispatchers hold, one merged into the other.
+fn merged(
+    rt: &impl Abort,
+    alloc: Global,
+    first: &str,
+    second: &str,
+) -> Result<Replica, AllocError> {
+    let mut merged = held(rt, alloc, MACHINE, first)?;
+    let other = held(rt, alloc, MACHINE, second)?;
+    assert!(rt; merged.merge(&other).is_ok());
+    Ok(merged)
+}
+
+// Puts the coming of what a dispatcher holds behind the events.
+fn absorb(
+    rt: &impl Abort,
+    alloc: Global,
+    events: &mut Vec<Event>,
+    text: &str,
+) -> Result<(), AllocError> {
+    let replica = held(rt, alloc, MACHINE, text)?;
+    events.push(Event::Absorb(replica))?;
+    Ok(())
+}
+
+// The coming of one half, of a replica with other room, which is refused, and of the other half, and plans of all slots.
+fn two_halves(
+    rt: &impl Abort,
+    alloc: Global,
+    first: &str,
+    second: &str,
+) -> Result<Vec<Event>, AllocError> {
+    let mut events = Vec::new(alloc);
+    absorb(rt, alloc, &mut events, first)?;
+    let stranger = Replica::new(alloc, 2, 1)?;
+    events.push(Event::Absorb(stranger))?;
+    extend(rt, alloc, &mut events, "plan 1")?;
+    absorb(rt, alloc, &mut events, second)?;
+    extend(rt, alloc, &mut events, "plan 7")?;
+    Ok(events)
+}
+
+// Asserts what comes of a replica of five entries and then of one of the five others.
+fn assert_halves(
+    rt: &impl Abort,
+    alloc: Global,
+    first: &str,
+    second: &str,
+) -> Result<(), AllocError> {
+    let events = two_halves(rt, alloc, first, second)?;
+    assert_events(
+        rt,
+        alloc,
+        settings_of(rt, MACHINE),
+        &events,
+        HALVES,
+        TABLES,
+        DECISIONS,
+    )
+}
+
+// Asserts that a replica holds just what all ten entries leave.
+fn assert_whole(rt: &impl Abort, alloc: Global, replica: &Replica) -> Result<(), AllocError> {
+    let whole = held(rt, alloc, MACHINE, FORWARD)?;
+    assert!(rt; replica.le(&whole) && whole.le(replica));
+    Ok(())
+}
+
+#[test]
+fn in_any_order(rt: HostRuntime) -> Result<(), AllocError> {
+    assert_run(
+        &rt,
+        rt.alloc(),
+        MACHINE,
+        FORWARD,
+        ANSWERS,
+        TABLES,
+        DECISIONS,
+    )?;
+    assert_run(
+        &rt,
+        rt.alloc(),
+        MACHINE,
+        BACKWARD,
+        ANSWERS,
+        TABLES,
+        DECISIONS,
+    )?;
+    assert_run(
+        &rt,
+        rt.alloc(),
+        MACHINE,
+        TWICE,
+        "new, known, new, known, new, known, new, known, new, known, new, known, new, known, new, known, new, known, new, known, slot 0, slot 1, slot 2, slot 3, slot 4, slot 5, done",
+        TABLES,
+        DECISIONS,
+    )
+}
+
+#[test]
+fn in_two_halves(rt: HostRuntime) -> Result<(), AllocError> {
+    assert_halves(&rt, rt.alloc(), FIRST, SECOND)?;
+    assert_halves(&rt, rt.alloc(), SECOND, FIRST)
+}
+
+#[test]
+fn as_one_replica(rt: HostRuntime) -> Result<(), AllocError> {
+    assert_whole(&rt, rt.alloc(), &held(&rt, rt.alloc(), MACHINE, BACKWARD)?)?;
+    assert_whole(&rt, rt.alloc(), &held(&rt, rt.alloc(), MACHINE, TWICE)?)?;
+    assert_whole(&rt, rt.alloc(), &merged(&rt, rt.alloc(), FIRST, SECOND)?)?;
+    assert_whole(&rt, rt.alloc(), &merged(&rt, rt.alloc(), SECOND, FIRST)?)
+}
+
+#[test]
+fn with_a_gap(rt: HostRuntime) -> Result<(), AllocError> {
+    let gap =
+        "0 1 0 0 arrive a 1 2; 0 2 0 0 arrive b 2 3; 0 3 2 2 depart a; 0 4 4; 0 5 6; 1 1 0 0 arrive c 1 3; 1 2 1 3 arrive d 1 2; plan 2";
+    assert_run(
+        &rt,
+        rt.alloc(),
+        MACHINE,
+        gap,
+        "new, new, new, new, new, new, new, slot 0, waiting 1",
+        "[b1 a1]",
+        "[0.1 a admitted, 0.2 b admitted, 1.1 c admitted]",
+    )?;
+    assert_eq!(rt; held(&rt, rt.alloc(), MACHINE, gap)?.frontier(), 1);
+    assert_run(
+        &rt,
+        rt.alloc(),
+        MACHINE,
+        "0 1 0 0 arrive a 1 2; 0 2 0 0 arrive b 2 3; 0 3 2 2 depart a; 0 4 4; 0 5 6; 1 1 0 0 arrive c 1 3; 1 2 1 3 arrive d 1 2; plan 2; 1 5 6; 1 4 5; plan 1; 1 3 3 4 late b 4 2; plan 6",
+        "new, new, new, new, new, new, new, slot 0, waiting 1, new, new, waiting 1, new, slot 1, slot 2, slot 3, slot 4, slot 5, done",
+        TABLES,
+        DECISIONS,
+    )
+}

@@ -1,0 +1,197 @@
+//! The runs.
+
+use crate::run::{assert_run, held};
+use std::alloc::AllocError;
+
+#[test]
+fn the_order_of_priority(rt: HostRuntime) -> Result<(), AllocError> {
+    assert_run(
+        &rt,
+        rt.alloc(),
+        (2, 3, 3),
+        "0 1 0 0 arrive a 2 3; 0 2 0 0 arrive b 2 3; 0 3 0 0 arrive c 2 3; 0 4 3; 1 1 3; plan 4",
+        "new, new, new, new, new, slot 0, slot 1, slot 2, done",
+        "[a1 b1][c1 a2][b2 c2]",
+        "[0.1 a admitted, 0.2 b admitted, 0.3 c admitted][][]",
+    )?;
+    assert_run(
+        &rt,
+        rt.alloc(),
+        (2, 33, 4),
+        "0 1 0 0 arrive z 8 11; 0 2 0 0 arrive a 2 3; 0 3 4; 1 1 4; plan 5",
+        "new, new, new, new, slot 0, slot 1, slot 2, slot 3, done",
+        "[z1 a1][z2 a2][z3][a3]",
+        "[0.1 z admitted, 0.2 a admitted][][][]",
+    )
+}
+
+#[test]
+fn late_releases(rt: HostRuntime) -> Result<(), AllocError> {
+    assert_run(
+        &rt,
+        rt.alloc(),
+        (1, 2, 8),
+        "0 1 0 0 arrive a 1 2; 0 2 2 2 late a 2 3; 0 3 8; plan 8",
+        "new, new, new, slot 0, slot 1, slot 2, slot 3, slot 4, slot 5, slot 6, slot 7",
+        "[a1][][][][][a2][][a3]",
+        "[0.1 a admitted][][0.2 a delayed][][][][][]",
+    )?;
+    assert_run(
+        &rt,
+        rt.alloc(),
+        (1, 2, 8),
+        "0 1 0 0 arrive a 1 2; 0 2 3 3 late a 2 3; 0 3 8; plan 8",
+        "new, new, new, slot 0, slot 1, slot 2, slot 3, slot 4, slot 5, slot 6, slot 7",
+        "[a1][][a2][][a3][][a4][]",
+        "[0.1 a admitted][][][0.2 a refused 25][][][][]",
+    )
+}
+
+#[test]
+fn slots_that_are_settled(rt: HostRuntime) -> Result<(), AllocError> {
+    assert_run(
+        &rt,
+        rt.alloc(),
+        (1, 1, 20),
+        "plan 1; 0 1 10; plan 11",
+        "waiting 0, new, slot 0, slot 1, slot 2, slot 3, slot 4, slot 5, slot 6, slot 7, slot 8, slot 9, waiting 10",
+        "[][][][][][][][][][]",
+        "[][][][][][][][][][]",
+    )?;
+    assert_run(
+        &rt,
+        rt.alloc(),
+        (1, 1, 10),
+        "plan 1; 0 1 10; plan 11",
+        "waiting 0, new, slot 0, slot 1, slot 2, slot 3, slot 4, slot 5, slot 6, slot 7, slot 8, slot 9, done",
+        "[][][][][][][][][][]",
+        "[][][][][][][][][][]",
+    )?;
+    assert_run(
+        &rt,
+        rt.alloc(),
+        (1, 1, 9),
+        "0 1 3; 0 2 2 4 arrive a 1 1; 0 3 9; plan 4",
+        "new, new, new, slot 0, slot 1, slot 2, waiting 3",
+        "[][][]",
+        "[][][]",
+    )?;
+    assert_run(
+        &rt,
+        rt.alloc(),
+        (1, 1, 3),
+        "1 1 3; 0 0 3; 0 17 3; plan 1; 0 16 3; plan 1; 0 1 3; plan 4",
+        "fault 13, fault 14, fault 14, waiting 0, new, waiting 0, new, slot 0, slot 1, slot 2, done",
+        "[][][]",
+        "[][][]",
+    )
+}
+
+#[test]
+fn a_second_content(rt: HostRuntime) -> Result<(), AllocError> {
+    let text = "0 1 3; plan 3; 0 2 4; 0 2 5; plan 1; 0 2 4; plan 1";
+    assert_run(
+        &rt,
+        rt.alloc(),
+        (1, 1, 9),
+        text,
+        "new, slot 0, slot 1, slot 2, new, torn, fault 30 at 0.2, torn, fault 30 at 0.2",
+        "[][][]",
+        "[][][]",
+    )?;
+    assert_eq!(rt; held(&rt, rt.alloc(), (1, 1, 9), text)?.mark(0), 3);
+    Ok(())
+}
+
+#[test]
+fn leavers(rt: HostRuntime) -> Result<(), AllocError> {
+    assert_run(
+        &rt,
+        rt.alloc(),
+        (1, 2, 4),
+        "0 1 0 0 arrive a 1 2; 0 2 1 1 depart a; 0 3 2 2 arrive b 1 1; 0 4 3 3 arrive b 1 1; 0 5 4; plan 5",
+        "new, new, new, new, new, slot 0, slot 1, slot 2, slot 3, done",
+        "[a1][][][b1]",
+        "[0.1 a admitted][0.2 a departing 3][0.3 b refused 22][0.4 b admitted]",
+    )?;
+    assert_run(
+        &rt,
+        rt.alloc(),
+        (1, 1, 1),
+        "0 1 0 0 arrive a 1 1; 0 2 0 0 depart a; 0 3 0 0 arrive a 1 1; 0 4 1; plan 2",
+        "new, new, new, new, slot 0, done",
+        "[a1]",
+        "[0.1 a admitted, 0.2 a departing 0, 0.3 a admitted]",
+    )?;
+    assert_run(
+        &rt,
+        rt.alloc(),
+        (1, 5, 5),
+        "0 1 0 0 arrive a 2 5; 0 2 1 1 depart a; 0 3 1 1 depart a; 0 4 1 1 depart x; 0 5 1 1 late a 2 1; 0 6 1 1 arrive a 1 5; 0 7 3 3 arrive b 1 1; 0 8 4 4 arrive b 1 1; 0 9 5; plan 5",
+        "new, new, new, new, new, new, new, new, new, slot 0, slot 1, slot 2, slot 3, slot 4",
+        "[a1][][][][b1]",
+        "[0.1 a admitted][0.2 a departing 4, 0.3 a refused 24, 0.4 x refused 23, 0.5 a refused 24, 0.6 a refused 20][][0.7 b refused 22][0.8 b admitted]",
+    )
+}
+
+#[test]
+fn arrivals(rt: HostRuntime) -> Result<(), AllocError> {
+    assert_run(
+        &rt,
+        rt.alloc(),
+        (1, 12, 1),
+        "0 1 0 0 arrive a 1 5; 0 2 0 0 arrive a 12 12; 0 3 0 0 arrive a 1 5; 0 4 0 0 arrive b 1 5; 0 5 0 0 arrive b 1 12; 0 6 1; plan 2",
+        "new, new, new, new, new, new, slot 0, done",
+        "[a1]",
+        "[0.1 a refused 21, 0.2 a admitted, 0.3 a refused 20, 0.4 b refused 21, 0.5 b refused 22]",
+    )?;
+    assert_run(
+        &rt,
+        rt.alloc(),
+        (1, 4, 4),
+        "0 1 0 0 arrive a 1 2; 0 2 0 0 arrive a 1 4; 0 3 0 0 arrive d 1 3; 0 4 0 0 arrive b 1 4; 0 5 0 0 arrive c 1 2; 0 6 4; plan 5",
+        "new, new, new, new, new, new, slot 0, slot 1, slot 2, slot 3, done",
+        "[a1][b1][a2][]",
+        "[0.1 a admitted, 0.2 a refused 20, 0.3 d refused 21, 0.4 b admitted, 0.5 c refused 22][][][]",
+    )
+}
+
+#[test]
+fn early_releases(rt: HostRuntime) -> Result<(), AllocError> {
+    assert_run(
+        &rt,
+        rt.alloc(),
+        (1, 4, 4),
+        "0 1 0 0 early a 2 4; 0 2 4; plan 5",
+        "new, new, slot 0, slot 1, slot 2, slot 3, done",
+        "[a1][a2][][]",
+        "[0.1 a admitted][][][]",
+    )?;
+    assert_run(
+        &rt,
+        rt.alloc(),
+        (1, 4, 4),
+        "0 1 0 0 arrive a 2 4; 0 2 4; plan 5",
+        "new, new, slot 0, slot 1, slot 2, slot 3, done",
+        "[a1][][a2][]",
+        "[0.1 a admitted][][][]",
+    )?;
+    assert_run(
+        &rt,
+        rt.alloc(),
+        (1, 4, 8),
+        "0 1 0 0 early a 2 4; 0 2 1 1 late a 2 3; 0 3 8; plan 8",
+        "new, new, new, slot 0, slot 1, slot 2, slot 3, slot 4, slot 5, slot 6, slot 7",
+        "[a1][][][][][a2][][a3]",
+        "[0.1 a admitted][0.2 a delayed][][][][][][]",
+    )?;
+    assert_run(
+        &rt,
+        rt.alloc(),
+        (1, 4, 8),
+        "0 1 0 0 early a 2 4; 0 2 2 2 late a 2 3; 0 3 8; plan 8",
+        "new, new, new, slot 0, slot 1, slot 2, slot 3, slot 4, slot 5, slot 6, slot 7",
+        "[a1][a2][][][a3][a4][][]",
+        "[0.1 a admitted][][0.2 a refused 25][][][][][]",
+    )
+}

@@ -1,0 +1,15 @@
+use Rattle.std.proofs.Common.{arith, ◌≡◌, ◌<◌, ◌∙◌, sym, ap, Some, slice_get, length, List}
+use Rattle.std.proofs.lemmas.List.{length-map}
+use Rattle.pfair_entry.specs.Entry.{Logged}
+use Rattle.pfair_table.specs.Script.{LoggedRun, capacity_of, lists_of}
+use Rattle.pfair_table.proofs.Scripts.{log_fits, log_at}
+use Rattle.pfair_table.proofs.script.Script.log.Goals as goal
+
+pub returns-clause-fits : goal.returns-clause-fits
+returns-clause-fits c =
+    let logs = c.self.inside.logs.items in
+    let count : length (lists_of logs) ≡ c.self.inside.settings.processors = c.self.invariant.one_each in
+    let same : c.self.inside.settings.processors ≡ c.args.self.now.settings.processors = ap (λ (r : LoggedRun). r.settings.processors) c.self.view_is in
+    let inside : c.args.processor < length logs = omega (arith, c.requires, count, same, length-map logs (λ log. log.items)) in
+    let at : slice_get (lists_of logs) c.args.processor ≡ Some c.deref.result.now = log_at logs c.args.processor c.index.result.now inside c.index.ensures ∙ ap Some (sym c.deref.ensures.value) in
+    rw (← c.self.view_is) (log_fits (lists_of logs) c.args.processor c.deref.result.now at)

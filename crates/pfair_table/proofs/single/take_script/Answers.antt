@@ -1,0 +1,58 @@
+use Rattle.std.proofs.Common.{◌≡◌, ◌∙◌, sym, ap, arith, length, ℕ, List, rules}
+use Rattle.pfair_replica.specs.Replica.{empty_replica}
+use Rattle.pfair_entry.specs.Entry.{Logged}
+use Rattle.pfair_replica.specs.HeldRows.{HeldRows, replica_of}
+use Rattle.pfair_table.specs.Table.{Settings}
+use Rattle.pfair_table.specs.Events.{Course}
+use Rattle.pfair_table.specs.Refinement.{Dispatch}
+use Rattle.pfair_table.specs.Script.{held_so_far, replica_of_logs}
+use Rattle.pfair_table.proofs.Scripts.{none_taken, all_taken, log_is_short}
+use Rattle.pfair_table.proofs.single.take_script.Goals as goal
+
+pub loop-processor-init : goal.loop-processor-init
+loop-processor-init g c =
+    let settings_are = c.settings-settings.ensures.value in
+    let run = c.settings-settings.ensures.run in
+    let count : c.settings-settings.result.processors ≡ length c.args.script.now.logs = ap (λ (s : Settings). s.processors) settings_are ∙ sym run.one_each in
+    record {
+      settings = c.in_ok-dispatcher.ensures.settings ∙ settings_are;
+      held = ap (λ (x : Course). x.held) c.in_ok-dispatcher.ensures.course
+          ∙ (λ i. empty_replica (count i) (c.capacity.ensures.value i))
+          ∙ none_taken c.args.script.now.logs;
+      nothing = ap (λ (x : Course). x.tables) c.in_ok-dispatcher.ensures.course;
+      able = c.in_ok-dispatcher.ensures.spent;
+    }
+
+pub take_log-requires : goal.take_log-requires
+take_log-requires g c = log_is_short c.args.script.now.logs c.loop-processor.processor c.log.result.now c.log.ensures.run.short c.log.ensures.value
+
+-- the whole script is held once the logs of all processors are taken
+taken_whole : (logs : List (List Logged)) (k : ℕ) (held : HeldRows) → replica_of held ≡ held_so_far logs k 0 → k ≡ length logs → replica_of held ≡ replica_of_logs logs
+taken_whole logs k held is all = is ∙ ap (λ (k : ℕ). held_so_far logs k 0) all ∙ all_taken logs
+
+pub returns-clause-held : goal.returns-clause-held
+returns-clause-held g c =
+    let logs = c.args.script.now.logs in
+    let settings_are = c.settings-settings.ensures.value in
+    let count : c.settings-settings.result.processors ≡ length logs = ap (λ (s : Settings). s.processors) settings_are ∙ sym c.settings-settings.ensures.run.one_each in
+    let all : c.loop-processor.processor ≡ length logs = omega (arith, c.loop-processor-test.false, c.loop-processor.auto.processor-end, c.processors-processor-end.ensures.value, count) in
+    taken_whole logs c.loop-processor.processor c.loop-processor.dispatcher.held c.loop-processor.invariant.held all
+
+pub returns-clause-settings : goal.returns-clause-settings
+returns-clause-settings g c = c.loop-processor.invariant.settings
+
+pub returns-clause-nothing : goal.returns-clause-nothing
+returns-clause-nothing g c = c.loop-processor.invariant.nothing
+
+pub returns-clause-able : goal.returns-clause-able
+returns-clause-able g c = c.loop-processor.invariant.able
+
+pub loop-processor-preserved : goal.loop-processor-preserved
+loop-processor-preserved g c =
+    let rest = c.in_ok-take_log.ensures.rest in
+    record {
+      settings = ap (λ (d : Dispatch). d.settings) rest ∙ c.loop-processor.invariant.settings;
+      held = c.in_ok-take_log.ensures.held c.args.script.now.logs c.log.ensures.value c.loop-processor.invariant.held;
+      nothing = ap (λ (d : Dispatch). d.tables) rest ∙ c.loop-processor.invariant.nothing;
+      able = ap (λ (d : Dispatch). d.spent) rest ∙ c.loop-processor.invariant.able;
+    }
