@@ -50,6 +50,7 @@ pub fn replay<P: Threads + Wait + Sync, R: Read, W: Write, G: Gate + Sync>(
     ensures only { IfErr result (λ e. IsFaultOfReplay G.may_give_up e ⊎ (e ≡ WriteFailed)) }
 {
     let script = read_script(alloc, reader)?;
+    // settings have a processor, so that there is a run
     let _processors = script.settings().processors();
     let finished = finish(rt, alloc, &script, gate)?;
     let Some(run) = finished.runs.first() else {

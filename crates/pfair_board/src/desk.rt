@@ -90,6 +90,7 @@ impl Desk {
         ensures rows { IsHeldRows self.now.replica }
         ensures whole { Untorn (replica_of self.now.replica) }
     {
+        // what every replica keeps comes with the contract of its reader
         let _processors = self.replica.processors();
         &self.replica
     }

@@ -108,6 +108,7 @@ impl Replica {
         if number == 0 || number > self.capacity {
             return Err(TakeFault::NumberOutOfRange);
         }
+        // an entry is stamped at or after its floor
         let _floor = entry.floor();
         let taken = match self.get(processor, number) {
             None => Taken::New,

@@ -51,6 +51,7 @@ pub(crate) fn row_le(rows: &Rows, other: &Rows, processor: u8) -> bool
     match rows.get(&processor) {
         Some(row) => match other.get(&processor) {
             Some(held) => {
+                // the keys of both rows are in order
                 let _ = row.len();
                 let _ = held.len();
                 row.le(held)

@@ -52,6 +52,7 @@ fn new_dispatcher<R: Ready>(
     alloc: Global,
     settings: Settings,
 ) -> Result<Dispatcher<R>, AllocError> {
+    // settings have 1 to 64 processors
     let _processors = settings.processors();
     Dispatcher::new(alloc, settings, CAPACITY)
 }
@@ -62,6 +63,7 @@ fn left_by<R: Ready>(
     settings: Settings,
     events: &[Event],
 ) -> Result<Dispatcher<R>, AllocError> {
+    // settings have 1 to 64 processors
     let _processors = settings.processors();
     run_events(alloc, settings, CAPACITY, events)
 }

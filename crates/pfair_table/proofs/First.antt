@@ -1,6 +1,6 @@
 -- The first keys of the ready structure are the first eligible subtasks of the members.
-use Rattle.std.proofs.Common.{ℕ, ◌+◌, ◌≤◌, ◌≡◌, refl, sym, ap, ◌∙◌, subst, arith, inl, inr, Bool, true, false, cond, List, [], ◌∷◌, Option, Some, None}
-use Rattle.std.specs.Prelude.{T, ◌⊎◌, ◌&&◌, IsTrue, map, filter, not, nat_le, count_by, if◌then◌else◌}
+use Rattle.std.proofs.Common.{ℕ, ◌≤◌, ◌≡◌, refl, sym, ap, ◌∙◌, subst, inl, inr, Bool, true, false, cond, List, [], ◌∷◌, Option, Some, None}
+use Rattle.std.specs.Prelude.{T, ◌&&◌, IsTrue, map, filter, not, nat_le, if◌then◌else◌}
 use Rattle.std.specs.List.{AllByRecursion}
 use Rattle.std.specs.declared.cmp.Ordering.{Ordering}
 use Rattle.std.specs.declared.cmp.Ordering.TheVariants.{Less, Equal, Greater}
@@ -15,53 +15,18 @@ use Rattle.std.proofs.lemmas.Bool.{true≢false, false_from_ne_true, and_parts, 
 use Rattle.pfair_ready.specs.Names.{NameValue as Name}
 use Rattle.pfair_order.specs.declared.Key.{Key}
 use Rattle.pfair_ready.specs.Names.{name_cmp}
-use Rattle.pfair_table.specs.Ranks.{before}
 use Rattle.pfair_entry.specs.Same.{name_eq}
 use Rattle.pfair_entry.specs.Exact.{name_exact, name_itself}
 use Rattle.pfair_table.specs.Lists.{Among, Apart}
-use Rattle.pfair_table.specs.Ranks.{rank}
 use Rattle.pfair_table.specs.Ranks.{first_by_rank}
 use Rattle.pfair_ready.specs.Waiting.{Held, released, without}
-use Rattle.pfair_table.proofs.Ranks.{count_cons, among_filter, among_map, among_all, apart_filter, apart_map, among_first, rising_first, apart_first}
-use Rattle.pfair_table.proofs.Cut.{same_rising, first_among, filter_among}
+use Rattle.pfair_table.proofs.Apart.{among_filter, filter_among, among_map, among_mapped, among_all, apart_filter, apart_map}
+use Rattle.pfair_table.proofs.Firsts.{among_first, apart_first, first_same}
 use Rattle.pfair_admission.specs.Member.{Member, is_departing, eligible_from, next_key}
 use Rattle.pfair_admission.specs.Admission.{member_named}
 use Rattle.pfair_table.specs.Table.{eligible, is_eligible}
 use Rattle.pfair_table.specs.Queue.{queued, IsQueue, IsQueueWithout, MayRun, Named, has_key_of}
 use Rattle.pfair_table.proofs.Queues.{found_named}
-
--- ---- two lists of the same keys have the same first
-
-module _ (xs0 : List Key) where
-  taken_out : (ys : List Key) (x : Key) → Among ys x → (rest : List Key) × ((p : Key → Bool) → count_by p ys ≡ cond (p x) 1 0 + count_by p rest) × ((y : Key) → Among ys y → (y ≡ x) ⊎ Among rest y)
-  taken_out [] x h = absurd h
-  taken_out (y ∷ ys) x (inl e) = (ys, λ p. count_cons p y ys ∙ ap (λ z. cond (p z) 1 0 + count_by p ys) (sym e), λ z h. elim h [ inl i ↦ inl (i ∙ sym e) | inr j ↦ inr j ])
-  taken_out (y ∷ ys) x (inr h) =
-      let t = taken_out ys x h in (
-        y ∷ t.0,
-        λ p. (let a = count_cons p y ys in let b = t.1 p in let c = count_cons p y t.0 in omega (arith, a, b, c)),
-        λ z i. elim i [ inl e ↦ inr (inl e) | inr j ↦ elim (t.2 z j) [ inl e ↦ inl e | inr k ↦ inr (inr k) ] ],
-      )
-
-count_below : (p : Key → Bool) (xs ys : List Key) → Apart (λ (k : Key). k.name) xs → ((x : Key) → Among xs x → Among ys x) → count_by p xs ≤ count_by p ys
-count_below p [] ys a f = omega arith
-count_below p (x ∷ xs) ys a f =
-    let t = taken_out [] ys x (f x (inl refl)) in
-    let le = count_below p xs t.0 a.1 (λ z h. elim (t.2 z (f z (inr h))) [ inl e ↦ absurd (a.0 z h (ap (λ (k : Key). k.name) (sym e))) | inr i ↦ i ]) in
-    let c = count_cons p x xs in
-    let d = t.1 p in
-    omega (arith, le, c, d)
-
-pub first_same : (m : ℕ) (xs ys : List Key) → Apart (λ (k : Key). k.name) xs → Apart (λ (k : Key). k.name) ys → ((k : Key) → Among xs k → Among ys k) → ((k : Key) → Among ys k → Among xs k) → first_by_rank m xs ≡ first_by_rank m ys
-first_same m xs ys a b f g =
-    same_rising (first_by_rank m xs) (first_by_rank m ys) (rising_first xs a m) (rising_first ys b m)
-    (λ k h. (let t = among_first xs a m k h in let less = t.1 in let same = ranks k in first_among ys m k (f k t.0) (omega (arith, less, same))))
-    (λ k h. (let t = among_first ys b m k h in let less = t.1 in let same = ranks k in first_among xs m k (g k t.0) (omega (arith, less, same))))
-  where
-    ranks : (k : Key) → rank xs k ≡ rank ys k
-    ranks k =
-        (let up = count_below (λ l. before l k) xs ys a f in
-        let down = count_below (λ l. before l k) ys xs b g in omega (arith, up, down))
 
 -- ---- members by name
 
@@ -195,13 +160,8 @@ module _ (n : ℕ) (members : List Member) (waiting : Held) (named : Named membe
       let q = held_is v.0 v.1 in
       let soon : nat_le (eligible_from q.m q.m.next) n ≡ true = ap (λ r. nat_le r n) (sym (ap (λ (e : ℕ × Key). e.0) v.2 ∙ q.from_is)) ∙ u.1 in
       subst (Among (eligible n members)) (sym (t.2 ∙ ap (λ (e : ℕ × Key). e.1) v.2 ∙ q.key_is))
-      (mapped next_key (filter (is_eligible n) members) q.m
+      (among_mapped next_key (filter (is_eligible n) members) q.m
       (filter_among (is_eligible n) members q.m (found_among members v.0.0 q.m q.found) (and_from (not (is_departing q.m)) (nat_le (eligible_from q.m q.m.next) n) (ap not q.stays) soon)))
-    where
-      mapped : {A B : Type 0} (f : A → B) (xs : List A) (x : A) → Among xs x → Among (map f xs) (f x)
-      mapped f [] x h = absurd h
-      mapped f (y ∷ ys) x (inl e) = inl (ap f e)
-      mapped f (y ∷ ys) x (inr h) = inr (mapped f ys x h)
 
   pub eligible_member : (k : Key) → Among (eligible n members) k → (m : Member) × Among members m × (k ≡ next_key m) × (is_departing m ≡ false) × (nat_le (eligible_from m m.next) n ≡ true)
   eligible_member k h =
@@ -217,13 +177,8 @@ module _ (n : ℕ) (members : List Member) (waiting : Held) (named : Named membe
       let got : finmap.get waiting t.0.name ≡ Some e = queue t.0.name ∙ ap queued (found_own members named t.0 t.1) ∙ ap (λ d. if d then None else Some e) t.3 in
       let held = entry_among (entries waiting) t.0.name e (sym (get-entries waiting t.0.name) ∙ got) in
       subst (Among (released n waiting)) (sym t.2)
-      (mapped (λ (e : ℕ × Key). e.1) (filter (λ (e : ℕ × Key). nat_le e.0 n) (finmap.values waiting)) e
+      (among_mapped (λ (e : ℕ × Key). e.1) (filter (λ (e : ℕ × Key). nat_le e.0 n) (finmap.values waiting)) e
       (filter_among (λ (e : ℕ × Key). nat_le e.0 n) (finmap.values waiting) e held t.4))
-    where
-      mapped : {A B : Type 0} (f : A → B) (xs : List A) (x : A) → Among xs x → Among (map f xs) (f x)
-      mapped f [] x h = absurd h
-      mapped f (y ∷ ys) x (inl e) = inl (ap f e)
-      mapped f (y ∷ ys) x (inr h) = inr (mapped f ys x h)
 
   -- So what the ready structure gives first are the first eligible subtasks.
   pub first_of_queue : (m : ℕ) → first_by_rank m (released n waiting) ≡ first_by_rank m (eligible n members)
@@ -234,7 +189,7 @@ module _ (n : ℕ) (members : List Member) (waiting : Held) (named : Named membe
 
   pub first_may_run : (m : ℕ) (first : List Key) → first ≡ first_by_rank m (released n waiting) → AllByRecursion (λ m. m.next ≤ 1000000) members → (k : Key) → Among first k → MayRun members k
   first_may_run m first is few k h =
-      let i = (among_first (eligible n members) eligible_apart m k (subst (λ ks. Among ks k) (is ∙ first_of_queue m) h)).0 in
+      let i = among_first (eligible n members) eligible_apart m k (subst (λ ks. Among ks k) (is ∙ first_of_queue m) h) in
       let t = eligible_member k i in
       (t.0, ap (member_named members) (ap (λ (k : Key). k.name) t.2) ∙ found_own members named t.0 t.1, t.3, among_all (λ m. m.next ≤ 1000000) members few t.0 t.1)
 

@@ -24,7 +24,7 @@ use Rattle.pfair_table.specs.Planned.{tables_of, decided_of}
 use Rattle.pfair_table.specs.declared.outlook.Outlook.{Outlook}
 use Rattle.pfair_table.specs.Outlook.{IsOutlookOf}
 use Rattle.pfair_table.specs.Refinement.{IsPlanOf, IsInStep, IsKept}
-use Rattle.pfair_table.proofs.Runs.{untorn_by_test}
+use Rattle.pfair_replica.proofs.TornKeys.{untorn_by_test}
 use Rattle.pfair_table.proofs.Steps.{plan_of_held, step_of_held, plan_next_slot}
 
 -- an entry that was held already leaves what was looked up

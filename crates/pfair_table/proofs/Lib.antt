@@ -1,6 +1,5 @@
-pub mod KeyOrder
-pub mod Ranks
-pub mod Cut
+pub mod Apart
+pub mod Firsts
 pub mod Members
 pub mod TableLaws
 pub mod Runs

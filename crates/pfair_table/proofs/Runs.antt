@@ -2,23 +2,23 @@
 -- that agrees has it too.
 use Rattle.pfair_replica.specs.HeldRows.{replica_of}
 use Rattle.std.proofs.Common.{ℕ, zero, suc, ◌<◌, ◌≤◌, ◌≡◌, refl, sym, ap, ◌∙◌, subst, arith, inl, inr, Bool, true, false, List, [], ◌∷◌, ◌++◌, length, min, Some, None}
-use Rattle.std.specs.Prelude.{◌⊎◌, ◌==◌, ◌&&◌, not, nat_lt, nat_le, map, slice_get, if◌then◌else◌}
-use Rattle.std.specs.List.{AllByRecursion, list_any}
+use Rattle.std.specs.Prelude.{◌&&◌, not, nat_lt, map, slice_get, if◌then◌else◌}
+use Rattle.std.specs.List.{AllByRecursion}
 use Rattle.std.proofs.lemmas.List.{length-map, map-append, length-append}
-use Rattle.std.proofs.lemmas.Bool.{true≢false, eqb-true, ltb-true, leb-true, and_parts, not-true, or_parts, cases_lt}
-use Rattle.pfair_lattice.specs.declared.flat.Flat.{Flat}
+use Rattle.std.proofs.lemmas.Bool.{ltb-true, and_parts, not-true, cases_lt}
 use Rattle.pfair_lattice.specs.declared.flat.Flat.TheVariants.{One, Torn}
-use Rattle.pfair_lattice.specs.Held.{Held, held_join}
+use Rattle.pfair_lattice.specs.Held.{held_join}
 use Rattle.pfair_lattice.specs.HeldLaws.{join_least, join_first, join_second, below_itself, below_trans}
 use Rattle.pfair_entry.specs.Entry.{Logged, IsEntry}
 use Rattle.pfair_entry.specs.Same.{entry_eq}
 use Rattle.pfair_entry.specs.Exact.{entry_exact}
-use Rattle.pfair_table.proofs.Ranks.{Among}
-use Rattle.pfair_replica.specs.Replica.{Replica, IsReplica, Contents, Below, Untorn, Agree, join, only, contents_join, frontier, numbers_below, has_torn, is_torn}
+use Rattle.pfair_replica.specs.Replica.{Replica, IsReplica, Below, Untorn, Agree, frontier, numbers_below, has_torn}
 use Rattle.pfair_replica.proofs.Marks.{below_agree, frontier_le}
+use Rattle.pfair_replica.proofs.OfferedTo.{offered_stays}
+use Rattle.pfair_replica.proofs.TornKeys.{untorn_by_test}
 use Rattle.pfair_table.specs.Table.{Settings, Table, table, decisions, plan}
 use Rattle.pfair_table.specs.declared.pick.Decided.{Decided}
-use Rattle.pfair_replica.specs.Offered.{has_key, has_shape, taken, absorbed}
+use Rattle.pfair_replica.specs.Offered.{taken, absorbed}
 use Rattle.pfair_table.specs.declared.event.Event.{Event}
 use Rattle.pfair_table.specs.declared.event.Event.TheVariants.{Take, Absorb, Plan}
 use Rattle.pfair_table.specs.Events.{IsEvent, Course, start, is_plannable, with_next_slot, happens, run, run_of}
@@ -63,121 +63,19 @@ get_numbers f (suc n) t h =
           ap (slice_get (map f (numbers_below n) ++ f n ∷ [])) e ∙ get_last (map f (numbers_below n)) (f n) ∙ ap (λ k. Some (f k)) (let e' : n ≡ t = omega (arith, h, g) in e'))
     ]
 
-among_left : {A : Type 0} (xs ys : List A) (x : A) → Among xs x → Among (xs ++ ys) x
-among_left [] ys x h = absurd h
-among_left (y ∷ xs) ys x (inl e) = inl e
-among_left (y ∷ xs) ys x (inr h) = inr (among_left xs ys x h)
-
-among_last : {A : Type 0} (xs : List A) (y : A) → Among (xs ++ y ∷ []) y
-among_last [] y = inl refl
-among_last (x ∷ xs) y = inr (among_last xs y)
-
-pub among_numbers : (n k : ℕ) → k < n → Among (numbers_below n) k
-among_numbers zero k h = absurd (omega (arith, h))
-among_numbers (suc n) k h =
-    elim (cases_lt k n) [
-      | inl l ↦ among_left (numbers_below n) (n ∷ []) k (among_numbers n k l)
-      | inr g ↦ (let e : n ≡ k = omega (arith, h, g) in subst (Among (numbers_below n ++ n ∷ [])) e (among_last (numbers_below n) n))
-    ]
-
-any_false : {A : Type 0} (p : A → Bool) (xs : List A) → list_any p xs ≡ false → (x : A) → Among xs x → p x ≡ false
-any_false p [] e x h = absurd h
-any_false p (y ∷ ys) e x (inl i) = ap p i ∙ (or_parts (p y) (list_any p ys) e).0
-any_false p (y ∷ ys) e x (inr h) = any_false p ys (or_parts (p y) (list_any p ys) e).1 x h
-
--- ---- nothing torn, by the test
-
-pub untorn_by_test : (x : Replica) → IsReplica x → has_torn x ≡ false → Untorn x
-untorn_by_test x r e k n torn = at n torn (r.in_range k n Torn torn)
-  where
-    at : (n : ℕ) → x.at k n ≡ Some Torn → (k < x.processors) × (0 < n) × (n ≤ x.capacity) → ⊥
-    at zero torn range = (let pos = range.1 in absurd (omega (arith, pos)))
-    at (suc m) torn range =
-        (let row = any_false (λ k. list_any (λ n. is_torn (x.at k (suc n))) (numbers_below x.capacity)) (numbers_below x.processors) e k (among_numbers x.processors k range.0) in
-        let le = range.2 in
-        let here = any_false (λ n. is_torn (x.at k (suc n))) (numbers_below x.capacity) row m (among_numbers x.capacity m (omega (arith, le))) in
-        true≢false (sym (ap is_torn torn) ∙ here))
-
 -- ---- what is held stays held
 
-join_some : (x y : Held Logged) (c : Flat Logged) → held_join entry_eq x y ≡ Some c → ((d : Flat Logged) × (x ≡ Some d)) ⊎ (y ≡ Some c)
-join_some None y c h = inr h
-join_some (Some x) y c h = inl (x, refl)
-
-join_one : (x y : Held Logged) (e : Logged) → held_join entry_eq x y ≡ Some (One e) → (x ≡ Some (One e)) ⊎ (y ≡ Some (One e))
-join_one None y e h = inr h
-join_one (Some x) None e h = inl h
-join_one (Some (One a)) (Some (One b)) e h = by (entry_eq a b) h
-  where
-    by : (t : Bool) → Some (if t then One a else Torn) ≡ Some (One e) → (Some (One a) ≡ Some (One e)) ⊎ (Some (One b) ≡ Some (One e))
-    by true h = inl h
-    by false h = absurd (cc)
-join_one (Some (One a)) (Some Torn) e h = absurd (cc)
-join_one (Some Torn) (Some y) e h = absurd (cc)
-
-InRange : Replica → ℕ → ℕ → Type 0
-InRange x k n = (k < x.processors) × (0 < n) × (n ≤ x.capacity)
-
--- a replica, with more contents of its own range
-more_contents : (s : Settings) (x : Replica) (other : Contents) → IsOf s x
-    → ((k n : ℕ) (c : Flat Logged) → other k n ≡ Some c → (k < x.processors) × (0 < n) × (n ≤ x.capacity)) → ((k n : ℕ) (e : Logged) → other k n ≡ Some (One e) → IsEntry e)
-    → IsOf s (record x { at = contents_join x.at other })
-more_contents s x other o range stamped = record {
-  replica = record {
-    in_range = λ k n c h. elim (join_some (x.at k n) (other k n) c h) [ inl t ↦ o.replica.in_range k n t.0 t.1 | inr i ↦ range k n c i ];
-    stamped = λ k n e h. elim (join_one (x.at k n) (other k n) e h) [ inl i ↦ o.replica.stamped k n e i | inr i ↦ stamped k n e i ];
-  };
-  processors = o.processors;
+pub taken_of : (s : Settings) (x : Replica) (k n : ℕ) (e : Logged) → IsOf s x → IsEntry e → IsOf s (taken x k n e)
+taken_of s x k n e o stamped = record {
+  replica = offered_stays.taken_replica x k n e o.replica stamped;
+  processors = (offered_stays.taken_shape x k n e).0 ∙ o.processors;
 }
 
--- the entry of one key is at that key
-only_held : (j m : ℕ) (e : Logged) (k n : ℕ) (c : Flat Logged) → only j m e k n ≡ Some c → (k ≡ j) × (n ≡ m) × (c ≡ One e)
-only_held j m e k n c h = by (k == j) (n == m) refl refl h
-  where
-    by : (b d : Bool) → (k == j) ≡ b → (n == m) ≡ d → (if b then (if d then Some (One e) else None) else None) ≡ Some c → (k ≡ j) × (n ≡ m) × (c ≡ One e)
-    by true true p q h = (eqb-true k j p, eqb-true n m q, (let same : c ≡ One e = cc in same))
-    by true false p q h = absurd (cc)
-    by false d p q h = absurd (cc)
-
-pub taken_of : (s : Settings) (x : Replica) (k n : ℕ) (e : Logged) → IsOf s x → IsEntry e → IsOf s (taken x k n e)
-taken_of s x j m e o stamped = by (has_key x j m) refl
-  where
-    by : (b : Bool) → has_key x j m ≡ b → IsOf s (if b then record x { at = contents_join x.at (only j m e) } else x)
-    by true p =
-        (let q = and_parts (nat_lt j x.processors) (nat_lt 0 m && nat_le m x.capacity) p in
-        let r = and_parts (nat_lt 0 m) (nat_le m x.capacity) q.1 in
-        let lj = ltb-true j x.processors q.0 in
-        let lm = ltb-true 0 m r.0 in
-        let le = leb-true m x.capacity r.1 in
-        more_contents s x (only j m e) o
-        (λ k n c h. (let t = only_held j m e k n c h in let ek = t.0 in let en = t.1 in (omega (arith, lj, ek), omega (arith, lm, en), omega (arith, le, en))))
-        (λ k n f h. (let t = only_held j m e k n (One f) h in subst IsEntry (let back = t.2 in let same : e ≡ f = cc in same) stamped)))
-    by false p = o
-
-pub taken_above : (x : Replica) (k n : ℕ) (e : Logged) → Below x (taken x k n e)
-taken_above x j m e = by (has_key x j m)
-  where
-    by : (b : Bool) → Below x (if b then record x { at = contents_join x.at (only j m e) } else x)
-    by true = λ k n. join_first entry_eq entry_exact (x.at k n) (only j m e k n)
-    by false = λ k n. below_itself (x.at k n)
-
 pub absorbed_of : (s : Settings) (x y : Replica) → IsOf s x → IsReplica y → IsOf s (absorbed x y)
-absorbed_of s x y o r = by (has_shape x y) refl
-  where
-    by : (b : Bool) → has_shape x y ≡ b → IsOf s (if b then join x y else x)
-    by true p =
-        (let q = and_parts (x.processors == y.processors) (x.capacity == y.capacity) p in
-        let ep = eqb-true x.processors y.processors q.0 in
-        let ec = eqb-true x.capacity y.capacity q.1 in
-        more_contents s x y.at o (λ k n c h. (let t = r.in_range k n c h in let lk = t.0 in let le = t.2 in (omega (arith, lk, ep), t.1, omega (arith, le, ec)))) r.stamped)
-    by false p = o
-
-pub absorbed_above : (x y : Replica) → Below x (absorbed x y)
-absorbed_above x y = by (has_shape x y)
-  where
-    by : (b : Bool) → Below x (if b then join x y else x)
-    by true = λ k n. join_first entry_eq entry_exact (x.at k n) (y.at k n)
-    by false = λ k n. below_itself (x.at k n)
+absorbed_of s x y o r = record {
+  replica = offered_stays.absorbed_replica x y o.replica r;
+  processors = (offered_stays.absorbed_shape x y).0 ∙ o.processors;
+}
 
 pub below_all : (x y z : Replica) → Below x y → Below y z → Below x z
 below_all x y z f g k n = below_trans (x.at k n) (y.at k n) (z.at k n) (f k n) (g k n)
@@ -257,8 +155,8 @@ sound_next s c sound ok =
     }
 
 sound_happens : (s : Settings) (c : Course) (e : Event) → IsEvent e → IsSound s c → IsSound s (happens s c e)
-sound_happens s c (Take k n e) ok sound = sound_more s c (taken c.held k n e) sound (taken_of s c.held k n e sound.is_of ok) (taken_above c.held k n e)
-sound_happens s c (Absorb y) ok sound = sound_more s c (absorbed c.held (replica_of y)) sound (absorbed_of s c.held (replica_of y) sound.is_of ok) (absorbed_above c.held (replica_of y))
+sound_happens s c (Take k n e) ok sound = sound_more s c (taken c.held k n e) sound (taken_of s c.held k n e sound.is_of ok) (offered_stays.taken_above c.held k n e)
+sound_happens s c (Absorb y) ok sound = sound_more s c (absorbed c.held (replica_of y)) sound (absorbed_of s c.held (replica_of y) sound.is_of ok) (offered_stays.absorbed_above c.held (replica_of y))
 sound_happens s c Plan ok sound = by (is_plannable s c.held (length c.tables)) refl
   where
     by : (b : Bool) → is_plannable s c.held (length c.tables) ≡ b → IsSound s (if b then with_next_slot s c else c)

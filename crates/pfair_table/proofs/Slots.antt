@@ -10,7 +10,8 @@ use Rattle.pfair_entry.specs.declared.announcement.Announcement.TheVariants.{Arr
 use Rattle.pfair_entry.specs.declared.said.Said.{Said}
 use Rattle.pfair_table.specs.Ranks.{first_by_rank}
 use Rattle.pfair_ready.specs.Waiting.{Held}
-use Rattle.pfair_table.proofs.Ranks.{apart_map, apart_filter, apart_first}
+use Rattle.pfair_table.proofs.Apart.{apart_map, apart_filter}
+use Rattle.pfair_table.proofs.Firsts.{apart_first}
 use Rattle.pfair_admission.specs.Admission.{Machine, is_named, newcomer, change, effect, decision, present, is_freed, decided, all_decided, boundary, announcements, ran, with_quantum}
 use Rattle.pfair_admission.specs.Member.{Member, next_key}
 use Rattle.pfair_admission.specs.declared.decision.Decision.{Decision}

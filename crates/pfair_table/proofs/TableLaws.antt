@@ -4,7 +4,8 @@ use Rattle.std.specs.Prelude.{◌≢◌, map, filter}
 use Rattle.std.proofs.lemmas.List.{length-map, map-append, append_assoc, append-nil}
 use Rattle.std.proofs.lemmas.Bool.{cases_order}
 use Rattle.pfair_order.specs.declared.Key.{Key}
-use Rattle.pfair_table.proofs.Ranks.{Among, among_append, Apart, apart_filter, apart_map, all_among, length_first, rising_first, apart_first}
+use Rattle.pfair_table.proofs.Apart.{Among, among_append, Apart, apart_filter, apart_map, all_among}
+use Rattle.pfair_table.proofs.Firsts.{length_first, rising_first, apart_first}
 use Rattle.pfair_replica.specs.Replica.{Replica, said, frontier, numbers_below}
 use Rattle.pfair_replica.proofs.Marks.{same_said, mark_le, frontier_le, below_agree}
 use Rattle.pfair_admission.specs.Member.{next_key}

@@ -1,7 +1,7 @@
 -- What holds of tables, marks and plans, whatever the replicas are.
-use Rattle.std.specs.Prelude.{ℕ, suc, ◌≡◌, ◌≢◌, ◌≤◌, ◌<◌, List, [], ◌∷◌, ◌++◌, length, ⊤, slice_get}
+use Rattle.std.specs.Prelude.{ℕ, suc, ◌≡◌, ◌≢◌, ◌≤◌, ◌<◌, List, [], ◌∷◌, ◌++◌, length, ⊤, slice_get, AllPairs}
 use Rattle.std.specs.List.{AllByRecursion}
-use Rattle.pfair_table.specs.Ranks.{Rising}
+use Rattle.pfair_order.specs.Order.{GoesBefore}
 use Rattle.pfair_replica.specs.Replica.{Replica, IsReplica, Below, Untorn, Agree, mark, frontier}
 use Rattle.pfair_table.specs.declared.event.Event.{Event}
 use Rattle.pfair_table.specs.Events.{IsEvent, run_of}
@@ -33,11 +33,12 @@ PlansGoOn =
     (s : Settings) (x y : Replica) → IsOf s x → IsOf s y → Below x y → Untorn y
     → ((k : ℕ) → mark x k ≤ mark y k) × IsPrefixOf (plan s x) (plan s y)
 
--- A table has no more rows than there are processors; its keys rise in the PD2 order; and it has each name once.
+-- A table has no more rows than there are processors; of its keys each goes before all later ones in the PD2 order; and it has each name
+-- once.
 abbrev pub TablesAreOrdered : Type 0
 TablesAreOrdered =
     (s : Settings) (x : Replica) (t : ℕ)
-    → (length (table s x t) ≤ s.processors) × Rising (chosen s t (world s x t)) × EachNameOnce (table s x t)
+    → (length (table s x t) ≤ s.processors) × AllPairs GoesBefore (chosen s t (world s x t)) × EachNameOnce (table s x t)
 
 -- To add one for each row of a table is to count by the tables anew.
 abbrev pub RunsAreCounted : Type 0

@@ -137,6 +137,7 @@ impl<R: Ready> Dispatcher<R> {
         ensures decided { result ≡ length self.now.decided }
         ensures few { result ≤ 1000000 }
     {
+        // a run has at most 1,000,000 slots
         let _slots = self.settings.slots();
         self.planned.len() as u64
     }

@@ -68,6 +68,7 @@ impl Script {
         ensures value { result ≡ capacity_of self.now.logs }
         ensures shape { IsShape self.now.settings.processors (capacity_of self.now.logs) }
     {
+        // settings have 1 to 64 processors
         let _processors = self.settings.processors();
         longest(&self.logs) as u32
     }
