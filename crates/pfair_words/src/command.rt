@@ -28,7 +28,7 @@ const AFTER: &str = "Examples:
   pfair windows 8 11 8
   pfair replay examples/two_processors.toml
 
-A fault is one line on standard error: its number and its text. The status is 0 done, 1 command line or weight refused, 2 task file refused, 3 run stalled, 4 out of memory, 5 reading or writing failed.";
+A fault is one line on standard error: its number and its text. The status is 0 done, 1 command line or weight refused, 2 task file refused, 3 run stalled or gone astray, 4 out of memory, 5 reading or writing failed.";
 
 const PLACES: &str =
     "A fault of the file, as in `62 floor of wrong kind at 7`, has a place at its end: 0 is the head of the file, and n is its n-th [[entry]] table, from 1. The number of an entry, as in `entry 2 of processor 0 refused`, counts the tables of that processor alone, from 1.";
