@@ -91,11 +91,18 @@ impl Ord for Key {
         ensures before { (result ≡ Less) ↔ GoesBefore self.now other.now }
         ensures equal { (result ≡ Equal) ↔ (self.now ≡ other.now) }
     {
-        self.d
-            .cmp(&other.d)
-            .then(other.b.cmp(&self.b))
-            .then(other.tie_group().cmp(&self.tie_group()))
-            .then(self.name.cmp(&other.name))
+        if self.d != other.d {
+            return self.d.cmp(&other.d);
+        }
+        if self.b != other.b {
+            return other.b.cmp(&self.b);
+        }
+        let groups = other.tie_group().cmp(&self.tie_group());
+        if groups != Ordering::Equal {
+            return groups;
+        }
+        self.name
+            .cmp(&other.name)
             .then(self.group.cmp(&other.group))
     }
 }

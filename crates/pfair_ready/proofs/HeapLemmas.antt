@@ -1,29 +1,30 @@
--- A `BTreeMap` from names, as the map that it holds.
-use Rattle.std.proofs.Common.{◌≡◌, ℕ, Bool, true, false, cond, List, [], ◌∷◌, refl, sym, ap, subst, ◌∙◌, Option, Some, None}
-use Rattle.std.specs.Ordering.{nat_cmp}
-use Rattle.std.specs.Cmp.{nat_cmp_total, eq_by_cmp_equiv}
-use Rattle.std.specs.Map.{lookup}
+-- The slots of names, as the map of what they hold.
+use Rattle.std.proofs.Common.{◌≡◌, ℕ, zero, suc, ◌<◌, ◌≤◌, ◌⊎◌, inl, inr, Bool, true, false, cond, List, [], ◌∷◌, ◌++◌, length, refl, sym, ap, subst, ◌∙◌, arith, Option, Some, None, get_or}
+use Rattle.std.specs.Prelude.{Result, Ok, Err, OnErr, Contains, is_some, slice_get, position, All, IfSome, IfNone, slice_index_or, nat_lt, ◌==◌}
+use Rattle.std.proofs.lemmas.Bool.Decides.{nat_tests}
+use Rattle.std.specs.Ordering.{nat_cmp, is_eq, is_lt, ordering_then}
+use Rattle.std.specs.Cmp.{eq_by_cmp_equiv, tied_itself}
+use Rattle.std.specs.List.{AllByRecursion, IsDistinct}
+use Rattle.std.specs.List.Sorted.{IsPermutation}
+use Rattle.std.specs.Map.{lookup, keys_of}
 use Rattle.std.specs.BTreeMap.{is_at}
+use Rattle.std.specs.BinaryHeap.{IsHeap, IsUpperBound, PopsGreatest}
 use Rattle.std.specs.FinMap as finmap
+use Rattle.std.specs.FinMap.{find, get-from_entries, get-insert, get-remove, same_map}
 use Rattle.std.specs.declared.cmp.Ordering.{Ordering}
 use Rattle.std.specs.declared.cmp.Ordering.TheVariants.{Less, Equal, Greater}
 use Rattle.std.specs.declared.cmp.Reverse.{Reverse}
-use Rattle.std.specs.Prelude.{◌⊎◌, Contains, ◌≤◌, is_some}
-use Rattle.std.proofs.Common.{inl, inr, arith}
-use Rattle.std.specs.Ordering.{is_eq}
-use Rattle.std.specs.Cmp.{IsTotalOrder, tied_itself}
-use Rattle.std.proofs.lemmas.Cmp.{on_total, then_total}
-use Rattle.std.specs.List.Sorted.{IsPermutation}
+use Rattle.std.specs.Cmp.Lexicographic.{bytes_decides}
 use Rattle.std.proofs.lemmas.List.Sorted.{Contains-permutation}
-use Rattle.std.proofs.lemmas.List.Elements.{Contains-append_right}
+use Rattle.std.proofs.lemmas.List.Elements.{Contains-append_right, All-from_recursion}
+use Rattle.std.proofs.lemmas.List.Quantifiers.{position-Some}
+use Rattle.std.proofs.lemmas.Option.{slice_get-get_or}
+use Rattle.indexmap.specs.IndexMap.{set_value_at}
 use Rattle.pfair_order.specs.declared.Key.{Key}
-use Rattle.pfair_order.specs.Order.{pd2_cmp}
-use Rattle.pfair_order.proofs.KeyLaws.{keys_total, keys_exact}
-use Rattle.pfair_ready.specs.Names.{NameValue, name_cmp}
-use Rattle.pfair_ready.proofs.Names.{names_total, names_exact}
-use Rattle.pfair_ready.specs.Heap.{date_cmp, has, entry_of, Moves, IsCovered}
-use Rattle.std.proofs.lemmas.Map.Lookups.{exact_pairs, exact_unsigned}
-use Rattle.std.specs.FinMap.{find, get-from_entries, get-insert, get-remove, same_map}
+use Rattle.pfair_order.proofs.RankLemmas.{place_of, at_place}
+use Rattle.pfair_ready.specs.Names.{NameValue, name_cmp, name_eq}
+use Rattle.pfair_ready.specs.Slots.{SlotList, with_slot, live, entry_of, in_slot, IsPlaced, Keeps, Moves, IsCovered, later_cmp}
+use Rattle.pfair_ready.proofs.Names.{names_total, names_exact, tied_names}
 
 module _ {X : Type 0} where
   -- what stands under a name
@@ -52,18 +53,7 @@ module _ {X : Type 0} where
       get_found fs q ∙ h q ∙ ap (λ b. cond b None (found es q)) ((eq_by_cmp_equiv names_total).symm s q)
       ∙ sym (get-remove names_total (finmap.from_entries es) s q ∙ ap (cond (is_at (name_cmp q) s) None) (get_found es q)))
 
-pub dates_total : IsTotalOrder date_cmp
-dates_total = then_total (on_total (λ e. e.0) nat_cmp_total) (on_total (λ e. e.1) keys_total)
-
-pub dates_exact : (a b : ℕ × Key) → date_cmp a b ≡ Equal → a ≡ b
-dates_exact a b e = exact_pairs nat_cmp pd2_cmp exact_unsigned keys_exact a b e
-
-equal_of : (r : Ordering) → is_eq r ≡ true → r ≡ Equal
-equal_of Less e = cc
-equal_of Equal e = refl
-equal_of Greater e = cc
-
-some_inj : {A : Type 0} (x y : A) → Some x ≡ Some y → x ≡ y
+pub some_inj : {A : Type 0} (x y : A) → Some x ≡ Some y → x ≡ y
 some_inj x y e = cc
 
 none_some : {A : Type 0} (x : A) → None ≡ Some x → ⊥
@@ -72,86 +62,357 @@ none_some x e = cc
 true_false : true ≡ false → ⊥
 true_false e = cc
 
-Held : Type 0
-Held = List (NameValue × (ℕ × Key))
+equal_of : (r : Ordering) → is_eq r ≡ true → r ≡ Equal
+equal_of Less e = cc
+equal_of Equal e = refl
+equal_of Greater e = cc
 
--- a calendar with one date more
-pub has_more : (e0 e : ℕ × Key) (b c : Bool) → c ≡ cond (is_at (date_cmp e0) e) true b → b ≡ true → c ≡ true
-has_more e0 e b c h t = h ∙ ap (λ b. cond (is_at (date_cmp e0) e) true b) t ∙ elim (is_at (date_cmp e0) e) as (λ v. cond v true true ≡ true) [ true ↦ refl | false ↦ refl ]
+Entries : Type 0
+Entries = List (NameValue × (ℕ × Key))
 
-pub has_itself : (e : ℕ × Key) (b c : Bool) → c ≡ cond (is_at (date_cmp e) e) true b → c ≡ true
-has_itself e b c h = h ∙ ap (λ r. cond (is_eq r) true b) (tied_itself dates_total e)
+-- an entry of another name
+slot_other : (n : NameValue) (o : Option (ℕ × Key)) (es : List (NameValue × (ℕ × Key))) (q : NameValue) → is_eq (name_cmp q n) ≡ false → entry_of (with_slot n o es) q ≡ entry_of es q
+slot_other n None es q e = refl
+slot_other n (Some v) es q e = ap (λ b. cond b (Some v) (entry_of es q)) e
 
-pub covered_more : (now : ℕ) (held : List (NameValue × (ℕ × Key))) (dates dates' : List (ℕ × Key)) (heap : List (Reverse Key)) → ((e : ℕ × Key) → has dates e ≡ true → has dates' e ≡ true) → IsCovered now held dates heap → IsCovered now held dates' heap
-covered_more now held dates dates' heap more c =
+-- the entry of a name that no other has
+slot_own : (n : NameValue) (o : Option (ℕ × Key)) (es : List (NameValue × (ℕ × Key))) (q : NameValue) → is_eq (name_cmp q n) ≡ true → entry_of es q ≡ None → entry_of (with_slot n o es) q ≡ o
+slot_own n None es q e none = none
+slot_own n (Some v) es q e none = ap (λ b. cond b (Some v) (entry_of es q)) e
+
+slot_same : (n : NameValue) (o : Option (ℕ × Key)) (es fs : List (NameValue × (ℕ × Key))) (q : NameValue) → entry_of es q ≡ entry_of fs q → entry_of (with_slot n o es) q ≡ entry_of (with_slot n o fs) q
+slot_same n None es fs q e = e
+slot_same n (Some v) es fs q e = ap (λ x. cond (is_at (name_cmp q) n) (Some v) x) e
+
+no_live : (es : SlotList) (q : NameValue) → AllByRecursion (λ y. name_eq q y ≡ false) (keys_of es) → entry_of (live es) q ≡ None
+no_live [] q h = refl
+no_live (e ∷ es) q h = slot_other e.0 e.1 (live es) q (tied_names q e.0 ∙ h.0) ∙ no_live es q h.1
+
+key_holds : (Q : NameValue → Type 0) (es : SlotList) (p : ℕ) (n : NameValue) (u : Option (ℕ × Key)) → slice_get es p ≡ Some (n, u) → AllByRecursion Q (keys_of es) → Q n
+key_holds Q [] p n u at h = absurd (none_some (n, u) at)
+key_holds Q (e ∷ es) zero n u at h = subst (λ (x : NameValue × Option (ℕ × Key)). Q x.0) (some_inj e (n, u) at) h.0
+key_holds Q (e ∷ es) (suc p) n u at h = key_holds Q es p n u at h.1
+
+itself : (n : NameValue) → is_eq (name_cmp n n) ≡ true
+itself n = ap is_eq (tied_itself names_total n)
+
+-- what the slot of a name has is held under the name
+pub live_at : (es : SlotList) (p : ℕ) (n : NameValue) (u : Option (ℕ × Key)) → slice_get es p ≡ Some (n, u) → IsDistinct name_eq (keys_of es) → entry_of (live es) n ≡ u
+unfolding IsDistinct
+live_at [] p n u at h = absurd (none_some (n, u) at)
+live_at (e ∷ es) zero n u at h =
+    let is : e ≡ (n, u) = some_inj e (n, u) at in
+    let names : e.0 ≡ n = ap (λ (x : NameValue × Option (ℕ × Key)). x.0) is in
+    slot_own e.0 e.1 (live es) n (subst (λ (x : NameValue). is_eq (name_cmp x e.0) ≡ true) names (itself e.0)) (subst (λ (x : NameValue). entry_of (live es) x ≡ None) names (no_live es e.0 h.0))
+    ∙ ap (λ (x : NameValue × Option (ℕ × Key)). x.1) is
+live_at (e ∷ es) (suc p) n u at h =
+    let apart : is_eq (name_cmp n e.0) ≡ false = (eq_by_cmp_equiv names_total).symm n e.0 ∙ tied_names e.0 n ∙ key_holds (λ y. name_eq e.0 y ≡ false) es p n u at h.0 in
+    slot_other e.0 e.1 (live es) n apart ∙ live_at es p n u at h.1
+
+-- another slot of one name
+pub live_set : (es : SlotList) (p : ℕ) (n : NameValue) (u w : Option (ℕ × Key)) → slice_get es p ≡ Some (n, u) → IsDistinct name_eq (keys_of es) → (q : NameValue) → entry_of (live (set_value_at es p w)) q ≡ cond (is_at (name_cmp n) q) w (entry_of (live es) q)
+unfolding IsDistinct
+live_set [] p n u w at h q = absurd (none_some (n, u) at)
+live_set (e ∷ es) zero n u w at h q =
+    subst (λ (x : NameValue × Option (ℕ × Key)). entry_of (with_slot e.0 w (live es)) q ≡ cond (is_at (name_cmp x.0) q) w (entry_of (with_slot e.0 e.1 (live es)) q)) (some_inj e (n, u) at)
+    (elim (is_eq (name_cmp e.0 q)) as (λ b. is_eq (name_cmp e.0 q) ≡ b → entry_of (with_slot e.0 w (live es)) q ≡ cond b w (entry_of (with_slot e.0 e.1 (live es)) q)) [
+      | true ↦ λ t.
+          let back : is_eq (name_cmp q e.0) ≡ true = (eq_by_cmp_equiv names_total).symm q e.0 ∙ t in
+          let none : entry_of (live es) q ≡ None = subst (λ x. entry_of (live es) x ≡ None) (names_exact e.0 q (equal_of (name_cmp e.0 q) t)) (no_live es e.0 h.0) in
+          slot_own e.0 w (live es) q back none
+      | false ↦ λ t.
+          let back : is_eq (name_cmp q e.0) ≡ false = (eq_by_cmp_equiv names_total).symm q e.0 ∙ t in
+          slot_other e.0 w (live es) q back ∙ sym (slot_other e.0 e.1 (live es) q back)
+    ] refl)
+live_set (e ∷ es) (suc p) n u w at h q =
+    let rest = live_set es p n u w at h.1 q in
+    elim (is_eq (name_cmp n q)) as (λ b. is_eq (name_cmp n q) ≡ b → entry_of (live (set_value_at es p w)) q ≡ cond b w (entry_of (live es) q) → entry_of (with_slot e.0 e.1 (live (set_value_at es p w))) q ≡ cond b w (entry_of (with_slot e.0 e.1 (live es)) q)) [
+      | true ↦ λ t r.
+          let apart : is_eq (name_cmp q e.0) ≡ false =
+          subst (λ x. is_eq (name_cmp x e.0) ≡ false) (names_exact n q (equal_of (name_cmp n q) t))
+          ((eq_by_cmp_equiv names_total).symm n e.0 ∙ tied_names e.0 n ∙ key_holds (λ y. name_eq e.0 y ≡ false) es p n u at h.0) in
+          slot_other e.0 e.1 (live (set_value_at es p w)) q apart ∙ r
+      | false ↦ λ t r. slot_same e.0 e.1 (live (set_value_at es p w)) (live es) q r
+    ] refl rest
+
+-- what is held under a name stands in some slot
+pub record Stands (es : SlotList) (q : NameValue) (v : ℕ × Key) : Type 0 where
+  pub place : ℕ
+  pub name : NameValue
+  pub at : slice_get es place ≡ Some (name, Some v)
+  pub is : name ≡ q
+
+further : (e : NameValue × Option (ℕ × Key)) (es : SlotList) (q : NameValue) (v : ℕ × Key) → Stands es q v → Stands (e ∷ es) q v
+further e es q v s = record { place = suc s.place; name = s.name; at = s.at; is = s.is }
+
+pub stands : (es : SlotList) (q : NameValue) (v : ℕ × Key) → entry_of (live es) q ≡ Some v → Stands es q v
+stands [] q v h = absurd (none_some v h)
+stands (e ∷ es) q v h =
+    elim e.1 as (λ o. e.1 ≡ o → entry_of (with_slot e.0 o (live es)) q ≡ Some v → Stands (e ∷ es) q v) [
+      | None ↦ λ _ g. further e es q v (stands es q v g)
+      | Some x ↦ λ i g. elim (is_eq (name_cmp q e.0)) as (λ b. is_eq (name_cmp q e.0) ≡ b → cond b (Some x) (entry_of (live es) q) ≡ Some v → Stands (e ∷ es) q v) [
+        | true ↦ λ t j. record { place = 0; name = e.0; at = ap (λ (o : Option (ℕ × Key)). Some (e.0, o)) (i ∙ j); is = sym (names_exact q e.0 (equal_of (name_cmp q e.0) t)) }
+        | false ↦ λ _ j. further e es q v (stands es q v j)
+      ] refl g
+    ] refl h
+
+pub entry_in : (o : Option (NameValue × Option (ℕ × Key))) (v : ℕ × Key) → in_slot o ≡ Some v → (n : NameValue) × (o ≡ Some (n, Some v))
+entry_in None v h = absurd (none_some v h)
+entry_in (Some e) v h = (e.0, ap (λ (o : Option (ℕ × Key)). Some (e.0, o)) h)
+
+in_entry : (x y : NameValue × Option (ℕ × Key)) → Some x ≡ Some y → (x.0 ≡ y.0) × (x.1 ≡ y.1)
+in_entry x y e = (ap (λ (z : NameValue × Option (ℕ × Key)). z.0) (some_inj x y e), ap (λ (z : NameValue × Option (ℕ × Key)). z.1) (some_inj x y e))
+
+-- what stands in a slot after another was emptied
+pub set_none : (es : SlotList) (p q : ℕ) (n : NameValue) (v : ℕ × Key) → slice_get (set_value_at es p None) q ≡ Some (n, Some v) → (p ≡ q → ⊥) × (slice_get es q ≡ Some (n, Some v))
+set_none [] p q n v e = absurd (none_some (n, Some v) e)
+set_none (e0 ∷ es) zero zero n v e = absurd (none_some v (in_entry (e0.0, None) (n, Some v) e).1)
+set_none (e0 ∷ es) zero (suc q) n v e = (λ h. omega arith, e)
+set_none (e0 ∷ es) (suc p) zero n v e = (λ h. omega arith, e)
+set_none (e0 ∷ es) (suc p) (suc q) n v e = let r = set_none es p q n v e in ((λ h. r.0 (omega arith)), r.1)
+
+-- what stands in a slot after one was filled
+pub record IsFilled (es : SlotList) (p q : ℕ) (w : ℕ × Key) (n : NameValue) (v : ℕ × Key) : Type 0 where
+  pub place : p ≡ q
+  pub is : w ≡ v
+  pub named : (m : NameValue) (u : Option (ℕ × Key)) → slice_get es p ≡ Some (m, u) → m ≡ n
+
+pub set_some : (es : SlotList) (p q : ℕ) (w : ℕ × Key) (n : NameValue) (v : ℕ × Key) → slice_get (set_value_at es p (Some w)) q ≡ Some (n, Some v) → IsFilled es p q w n v ⊎ (slice_get es q ≡ Some (n, Some v))
+set_some [] p q w n v e = absurd (none_some (n, Some v) e)
+set_some (e0 ∷ es) zero zero w n v e =
+    inl (record {
+      place = refl;
+      is = some_inj w v (in_entry (e0.0, Some w) (n, Some v) e).1;
+      named = λ m u at. sym (in_entry (e0.0, e0.1) (m, u) at).0 ∙ (in_entry (e0.0, Some w) (n, Some v) e).0;
+    })
+set_some (e0 ∷ es) zero (suc q) w n v e = inr e
+set_some (e0 ∷ es) (suc p) zero w n v e = inr e
+set_some (e0 ∷ es) (suc p) (suc q) w n v e = elim (set_some es p q w n v e) [
+  | inl f ↦ inl (record { place = ap suc f.place; is = f.is; named = f.named })
+  | inr o ↦ inr o
+]
+
+pub keys_set : (es : SlotList) (p : ℕ) (w : Option (ℕ × Key)) → keys_of (set_value_at es p w) ≡ keys_of es
+keys_set [] p w = refl
+keys_set (e ∷ es) zero w = refl
+keys_set (e ∷ es) (suc p) w = ap (λ (l : List NameValue). e.0 ∷ l) (keys_set es p w)
+
+-- the place that is found for a name
+key_entry : (es : SlotList) (i : ℕ) (k : NameValue) → slice_get (keys_of es) i ≡ Some k → (u : Option (ℕ × Key)) × (slice_get es i ≡ Some (k, u))
+key_entry [] i k e = absurd (none_some k e)
+key_entry (e0 ∷ es) zero k e = (e0.1, ap (λ (n : NameValue). Some (n, e0.1)) (some_inj e0.0 k e))
+key_entry (e0 ∷ es) (suc i) k e = key_entry es i k e
+
+key_at : (ks : List NameValue) (name : NameValue) (i : ℕ) → position (name_eq name) ks ≡ Some i → slice_get ks i ≡ Some name
+key_at ks name i e =
+    let f = position-Some (name_eq name) ks i name e in
+    slice_get-get_or ks i name f.0 ∙ ap Some (sym ((bytes_decides name (get_or ks i name)).0 f.1))
+
+pub placed : (es : SlotList) (name : NameValue) (i : ℕ) → position (name_eq name) (keys_of es) ≡ Some i → IsDistinct name_eq (keys_of es) → IsPlaced es i name
+placed es name i e h =
+    let there = key_entry es i name (key_at (keys_of es) name i e) in
+    record { at = there.1 ∙ ap (λ (o : Option (ℕ × Key)). Some (name, o)) (sym (live_at es i name there.0 there.1 h)); apart = h }
+
+-- nothing is held under a name that has no place
+pub not_placed : (es : SlotList) (q : NameValue) → lookup (name_eq q) es ≡ None → entry_of (live es) q ≡ None
+not_placed [] q h = refl
+not_placed (e ∷ es) q h =
+    elim (name_eq q e.0) as (λ b. name_eq q e.0 ≡ b → cond b (Some e.1) (lookup (name_eq q) es) ≡ None → entry_of (with_slot e.0 e.1 (live es)) q ≡ None) [
+      | true ↦ λ _ g. absurd (none_some e.1 (sym g))
+      | false ↦ λ t g. slot_other e.0 e.1 (live es) q (tied_names q e.0 ∙ t) ∙ not_placed es q g
+    ] refl h
+
+-- a name more, with an empty slot
+live_push : (es : SlotList) (n : NameValue) → live (es ++ (n, None) ∷ []) ≡ live es
+live_push [] n = refl
+live_push (e ∷ es) n = ap (with_slot e.0 e.1) (live_push es n)
+
+get_push : (es : SlotList) (n q : NameValue) (p : ℕ) (v : ℕ × Key) → slice_get (es ++ (n, None) ∷ []) p ≡ Some (q, Some v) → slice_get es p ≡ Some (q, Some v)
+get_push [] n q zero v e = absurd (none_some v (in_entry (n, None) (q, Some v) e).1)
+get_push [] n q (suc p) v e = e
+get_push (e0 ∷ es) n q zero v e = e
+get_push (e0 ∷ es) n q (suc p) v e = get_push es n q p v e
+
+get_last : (es : SlotList) (n : NameValue) → slice_get (es ++ (n, None) ∷ []) (length es) ≡ Some (n, None)
+get_last [] n = refl
+get_last (e ∷ es) n = get_last es n
+
+pub pushed_keeps : (es es' : SlotList) (n : NameValue) → es' ≡ es ++ (n, None) ∷ [] → IsDistinct name_eq (keys_of es') → Keeps es es'
+pushed_keeps es es' n e h =
     record {
-      named = c.named;
-      covered = λ name r k e. elim (c.covered name r k e) [ inl d ↦ inl (more (r, k) d) | inr h ↦ inr h ];
+      held = ap live e ∙ live_push es n;
+      slots = λ p q v at. get_push es n q p v (subst (λ (x : SlotList). slice_get x p ≡ Some (q, Some v)) e at);
+      apart = h;
+    }
+
+pub pushed_place : (es es' : SlotList) (n : NameValue) → es' ≡ es ++ (n, None) ∷ [] → IsDistinct name_eq (keys_of es') → IsPlaced es' (length es) n
+pushed_place es es' n e h =
+    let there : slice_get es' (length es) ≡ Some (n, None) = ap (λ (x : SlotList). slice_get x (length es)) e ∙ get_last es n in
+    record { at = there ∙ ap (λ (o : Option (ℕ × Key)). Some (n, o)) (sym (live_at es' (length es) n None there h)); apart = h }
+
+pub same_keeps : (es es' : SlotList) → es' ≡ es → IsDistinct name_eq (keys_of es) → Keeps es es'
+same_keeps es es' e h =
+    record {
+      held = ap live e;
+      slots = λ p q v at. subst (λ (x : SlotList). slice_get x p ≡ Some (q, Some v)) e at;
+      apart = subst (λ (x : SlotList). IsDistinct name_eq (keys_of x)) (sym e) h;
+    }
+
+Dates : Type 0
+Dates = List (Reverse (ℕ × ℕ))
+
+pub covered_kept : (now : ℕ) (es es' : SlotList) (dates : List (Reverse (ℕ × ℕ))) (heap : List (Reverse (Key × ℕ))) → Keeps es es' → IsCovered now es dates heap → IsCovered now es' dates heap
+covered_kept now es es' dates heap k c =
+    record {
+      apart = k.apart;
+      named = λ p n r key at. c.named p n r key (k.slots p n (r, key) at);
+      covered = λ p r key at. let e = entry_in (slice_get es' p) (r, key) at in c.covered p r key (ap in_slot (k.slots p e.0 (r, key) e.1));
+      date_order = c.date_order;
       in_order = c.in_order;
     }
 
--- one more is held, and in the calendar
-pub covered_given : (now r : ℕ) (k : Key) (held held' : List (NameValue × (ℕ × Key))) (dates dates' : List (ℕ × Key)) (heap : List (Reverse Key))
-    → ((q : NameValue) → entry_of held' q ≡ cond (is_at (name_cmp k.name) q) (Some (r, k)) (entry_of held q)) → ((e : ℕ × Key) → has dates' e ≡ cond (is_at (date_cmp (r, k)) e) true (has dates e))
-    → IsCovered now held dates heap → IsCovered now held' dates' heap
-covered_given now r k held held' dates dates' heap g h c =
+-- a slot is emptied
+pub covered_emptied : (now place : ℕ) (es es' : SlotList) (dates : List (Reverse (ℕ × ℕ))) (heap : List (Reverse (Key × ℕ))) → es' ≡ set_value_at es place None → IsCovered now es dates heap → IsCovered now es' dates heap
+covered_emptied now place es es' dates heap e c =
+    subst (λ (x : SlotList). IsCovered now x dates heap) (sym e) (record {
+      apart = subst (IsDistinct name_eq) (sym (keys_set es place None)) c.apart;
+      named = λ p n r key at. c.named p n r key (set_none es place p n (r, key) at).1;
+      covered = λ p r key at. let f = entry_in (slice_get (set_value_at es place None) p) (r, key) at in c.covered p r key (ap in_slot (set_none es place p f.0 (r, key) f.1).1);
+      date_order = c.date_order;
+      in_order = c.in_order;
+    })
+
+-- a slot is filled, and its date is in the calendar
+pub covered_filled : (now place r : ℕ) (k : Key) (es es' : SlotList) (dates dates' : List (Reverse (ℕ × ℕ))) (heap : List (Reverse (Key × ℕ)))
+    → IsPlaced es place k.name → es' ≡ set_value_at es place (Some (r, k)) → IsPermutation (record { 0 = (r, place) } ∷ dates) dates' → IsHeap later_cmp dates'
+    → IsCovered now es dates heap → IsCovered now es' dates' heap
+covered_filled now place r k es es' dates dates' heap here e perm up c =
+    let more : (x : Reverse (ℕ × ℕ)) → Contains dates x → Contains dates' x = λ x h. Contains-permutation (record { 0 = (r, place) } ∷ dates) dates' x perm (Contains-append_right (record { 0 = (r, place) } ∷ []) dates x h) in
+    let top : Contains dates' (record { 0 = (r, place) }) = Contains-permutation (record { 0 = (r, place) } ∷ dates) dates' (record { 0 = (r, place) }) perm (0, omega arith, refl) in
+    subst (λ (x : SlotList). IsCovered now x dates' heap) (sym e) (record {
+      apart = subst (IsDistinct name_eq) (sym (keys_set es place (Some (r, k)))) c.apart;
+      named = λ p n r' k' at. elim (set_some es place p (r, k) n (r', k') at) [
+        | inl f ↦ sym (ap (λ (x : ℕ × Key). x.1.name) f.is) ∙ f.named k.name (entry_of (live es) k.name) here.at
+        | inr o ↦ c.named p n r' k' o
+      ];
+      covered = λ p r' k' at.
+          let g = entry_in (slice_get (set_value_at es place (Some (r, k))) p) (r', k') at in
+          elim (set_some es place p (r, k) g.0 (r', k') g.1) [
+            | inl f ↦ inl (subst (λ (x : ℕ). Contains dates' (record { 0 = (r', x) })) f.place (subst (λ (x : ℕ × Key). Contains dates' (record { 0 = (x.0, place) })) f.is top))
+            | inr o ↦ elim (c.covered p r' k' (ap in_slot o)) [
+              | inl d ↦ inl (more (record { 0 = (r', p) }) d)
+              | inr h ↦ inr h
+            ]
+          ];
+      date_order = up;
+      in_order = c.in_order;
+    })
+
+-- nothing has moved
+pub moves_none : (slot : ℕ) (es : SlotList) (dates : List (Reverse (ℕ × ℕ))) (heap : List (Reverse (Key × ℕ))) → Moves slot es dates dates heap heap
+moves_none slot es dates heap = record { kept = λ x h. h; moved = λ p r k at h. inl h }
+
+in_cons : {A : Type 0} (y : A) (xs : List A) (x : A) (i : ℕ) → slice_get (y ∷ xs) i ≡ Some x → (y ≡ x) ⊎ Contains xs x
+in_cons y xs x zero e = inl (some_inj y x e)
+in_cons y xs x (suc i) e = inr (at_place xs i x e)
+
+-- an element is the top or stays
+pub top_or_stays : {A : Type 0} (top x : A) (xs ys : List A) → IsPermutation xs (top ∷ ys) → Contains xs x → (top ≡ x) ⊎ Contains ys x
+top_or_stays top x xs ys p c =
+    let at = place_of (top ∷ ys) x (Contains-permutation xs (top ∷ ys) x p c) in
+    in_cons top ys x at.0 at.1
+
+-- one date more has gone
+pub moves_more : (slot : ℕ) (es : SlotList) (date : Reverse (ℕ × ℕ)) (dates0 dates dates' : List (Reverse (ℕ × ℕ))) (heap0 heap heap' : List (Reverse (Key × ℕ)))
+    → Moves slot es dates0 dates heap0 heap → date.0.0 ≤ slot → IsPermutation dates (date ∷ dates')
+    → ((x : Reverse (Key × ℕ)) → Contains heap x → Contains heap' x) → ((k : Key) → in_slot (slice_get es date.0.1) ≡ Some (date.0.0, k) → Contains heap' (record { 0 = (k, date.0.1) }))
+    → Moves slot es dates0 dates' heap0 heap'
+moves_more slot es date dates0 dates dates' heap0 heap heap' m due perm kept there =
     record {
-      named = λ name r' k' e. elim (is_at (name_cmp k.name) name) as (λ b. is_at (name_cmp k.name) name ≡ b → cond b (Some (r, k)) (entry_of held name) ≡ Some (r', k') → k'.name ≡ name) [
-        | true ↦ λ t o. sym (ap (λ (p : ℕ × Key). p.1.name) (some_inj (r, k) (r', k') o)) ∙ names_exact k.name name (equal_of (name_cmp k.name name) t)
-        | false ↦ λ _ o. c.named name r' k' o
-      ] refl (sym (g name) ∙ e);
-      covered = λ name r' k' e. elim (is_at (name_cmp k.name) name) as (λ b. cond b (Some (r, k)) (entry_of held name) ≡ Some (r', k') → (has dates' (r', k') ≡ true) ⊎ ((r' ≤ now) × Contains heap (record { 0 = k' }))) [
-        | true ↦ λ o. inl (subst (λ (p : ℕ × Key). has dates' p ≡ true) (some_inj (r, k) (r', k') o) (has_itself (r, k) (has dates (r, k)) (has dates' (r, k)) (h (r, k))))
-        | false ↦ λ o. elim (c.covered name r' k' o) [
-          | inl d ↦ inl (has_more (r, k) (r', k') (has dates (r', k')) (has dates' (r', k')) (h (r', k')) d)
-          | inr u ↦ inr u
+      kept = λ x h. kept x (m.kept x h);
+      moved = λ p r k at h. elim (m.moved p r k at h) [
+        | inl stays ↦ elim (top_or_stays date (record { 0 = (r, p) }) dates dates' perm stays) [
+          | inl same ↦
+              let P : Reverse (ℕ × ℕ) → Type 0 = λ x. in_slot (slice_get es x.0.1) ≡ Some (x.0.0, k) → (x.0.0 ≤ slot) × Contains heap' (record { 0 = (k, x.0.1) }) in
+              inr (subst P same (λ a. (due, there k a)) at)
+          | inr later ↦ inl later
         ]
-      ] (sym (g name) ∙ e);
-      in_order = c.in_order;
-    }
-
--- what was held under a name goes, and its date
-pub covered_taken : (now : ℕ) (name0 : NameValue) (r0 : ℕ) (k0 : Key) (held held' : List (NameValue × (ℕ × Key))) (dates dates' : List (ℕ × Key)) (heap : List (Reverse Key))
-    → entry_of held name0 ≡ Some (r0, k0) → ((q : NameValue) → entry_of held' q ≡ cond (is_at (name_cmp name0) q) None (entry_of held q)) → ((e : ℕ × Key) → has dates' e ≡ cond (is_at (date_cmp (r0, k0)) e) false (has dates e))
-    → IsCovered now held dates heap → IsCovered now held' dates' heap
-covered_taken now name0 r0 k0 held held' dates dates' heap was g h c =
-    record {
-      named = λ name r k e. elim (is_at (name_cmp name0) name) as (λ b. cond b None (entry_of held name) ≡ Some (r, k) → k.name ≡ name) [
-        | true ↦ λ o. absurd (none_some (r, k) o)
-        | false ↦ λ o. c.named name r k o
-      ] (sym (g name) ∙ e);
-      covered = λ name r k e. elim (is_at (name_cmp name0) name) as (λ b. is_at (name_cmp name0) name ≡ b → cond b None (entry_of held name) ≡ Some (r, k) → (has dates' (r, k) ≡ true) ⊎ ((r ≤ now) × Contains heap (record { 0 = k }))) [
-        | true ↦ λ _ o. absurd (none_some (r, k) o)
-        | false ↦ λ apart o. elim (c.covered name r k o) [
-          | inl d ↦ inl (h (r, k) ∙ ap (λ b. cond (is_at (date_cmp (r0, k0)) (r, k)) false b) d
-              ∙ elim (is_at (date_cmp (r0, k0)) (r, k)) as (λ b. is_at (date_cmp (r0, k0)) (r, k) ≡ b → cond b false true ≡ true) [
-                | true ↦ λ t.
-                    let same : name0 ≡ name = sym (c.named name0 r0 k0 was) ∙ ap (λ (p : ℕ × Key). p.1.name) (dates_exact (r0, k0) (r, k) (equal_of (date_cmp (r0, k0) (r, k)) t)) ∙ c.named name r k o in
-                    absurd (true_false (sym (ap is_eq (tied_itself names_total name0)) ∙ ap (λ n. is_eq (name_cmp name0 n)) same ∙ apart))
-                | false ↦ λ _. refl
-              ] refl)
-          | inr u ↦ inr u
-        ]
-      ] refl (sym (g name) ∙ e);
-      in_order = c.in_order;
-    }
-
--- one date more moves
-pub moves_more : (slot r : ℕ) (k : Key) (dates0 dates dates' : List (ℕ × Key)) (heap0 heap heap' : List (Reverse Key))
-    → Moves slot dates0 dates heap0 heap → r ≤ slot → ((e : ℕ × Key) → has dates' e ≡ cond (is_at (date_cmp (r, k)) e) false (has dates e)) → IsPermutation (record { 0 = k } ∷ heap) heap'
-    → Moves slot dates0 dates' heap0 heap'
-moves_more slot r k dates0 dates dates' heap0 heap heap' m due h p =
-    let more : (x : Reverse Key) → Contains heap x → Contains heap' x = λ x c. Contains-permutation (record { 0 = k } ∷ heap) heap' x p (Contains-append_right (record { 0 = k } ∷ []) heap x c) in
-    let top : Contains heap' (record { 0 = k }) = Contains-permutation (record { 0 = k } ∷ heap) heap' (record { 0 = k }) p (0, omega arith, refl) in
-    record {
-      kept = λ x c. more x (m.kept x c);
-      moved = λ r' k' t. elim (m.moved r' k' t) [
-        | inl there ↦ elim (is_at (date_cmp (r, k)) (r', k')) as (λ b. is_at (date_cmp (r, k)) (r', k') ≡ b → has dates' (r', k') ≡ cond b false true → (has dates' (r', k') ≡ true) ⊎ ((r' ≤ slot) × Contains heap' (record { 0 = k' }))) [
-          | true ↦ λ u _.
-              let same : (r, k) ≡ (r', k') = dates_exact (r, k) (r', k') (equal_of (date_cmp (r, k) (r', k')) u) in
-              inr (subst (λ (e : ℕ × Key). (e.0 ≤ slot) × Contains heap' (record { 0 = e.1 })) same (due, top))
-          | false ↦ λ _ v. inl v
-        ] refl (h (r', k') ∙ ap (λ b. cond (is_at (date_cmp (r, k)) (r', k')) false b) there)
-        | inr gone ↦ inr (gone.0, more (record { 0 = k' }) gone.1)
+        | inr gone ↦ inr (gone.0, kept (record { 0 = (k, p) }) gone.1)
       ];
     }
+
+-- what is not before the first date is later than the slot
+not_less : (slot a b x y : ℕ) → slot < b → is_lt (ordering_then (nat_cmp a b) (nat_cmp x y)) ≡ false → slot < a
+not_less slot a b x y h e =
+    elim (nat_lt a b) as (λ c. nat_lt a b ≡ c → is_lt (ordering_then (cond c Less (cond (a == b) Equal Greater)) (nat_cmp x y)) ≡ false → slot < a) [
+      | true ↦ λ _ g. absurd (true_false g)
+      | false ↦ λ t _. grind (arith, nat_tests)
+    ] refl e
+
+later_each : (slot : ℕ) (top : Reverse (ℕ × ℕ)) (dates : List (Reverse (ℕ × ℕ))) → slot < top.0.0 → IsUpperBound later_cmp top dates → AllByRecursion (λ e. slot < e.0.0) dates
+later_each slot top [] h b = tt
+later_each slot top (e ∷ es) h b = (not_less slot e.0.0 top.0.0 e.0.1 top.0.1 h b.0, later_each slot top es h b.1)
+
+pub all_later : (slot : ℕ) (top : Reverse (ℕ × ℕ)) (dates : List (Reverse (ℕ × ℕ))) → slot < top.0.0 → IsUpperBound later_cmp top dates → All (λ e. slot < e.0.0) dates
+all_later slot top dates h b = All-from_recursion (λ e. slot < e.0.0) dates (later_each slot top dates h b)
+
+pub pushed_more : {A : Type 0} (item x : A) (xs ys : List A) → IsPermutation (item ∷ xs) ys → Contains xs x → Contains ys x
+pushed_more item x xs ys p h = Contains-permutation (item ∷ xs) ys x p (Contains-append_right (item ∷ []) xs x h)
+
+pub pushed_top : {A : Type 0} (item : A) (xs ys : List A) → IsPermutation (item ∷ xs) ys → Contains ys item
+pushed_top item xs ys p = Contains-permutation (item ∷ xs) ys item p (0, omega arith, refl)
+
+pub get_within : {A : Type 0} (xs : List A) (i : ℕ) (x : A) → slice_get xs i ≡ Some x → i < length xs
+get_within [] i x e = absurd (none_some x e)
+get_within (y ∷ xs) zero x e = omega arith
+get_within (y ∷ xs) (suc i) x e = let h = get_within xs i x e in omega arith
+
+same_head : {A : Type 0} (xs : List A) (x y : A) → 0 < length xs → x ≡ slice_index_or xs 0 x → y ≡ slice_index_or xs 0 y → x ≡ y
+same_head [] x y h e f = absurd (omega arith)
+same_head (z ∷ xs) x y h e f = e ∙ sym f
+
+pub popped : {A : Type 0} (o : Option A) (xs ys : List A) (top : A) (n : ℕ) → n ≡ length xs → 0 < length xs → top ≡ slice_index_or xs 0 top
+    → IfNone o (n ≡ 0) → IfSome o (λ x. x ≡ slice_index_or xs 0 x) → IfSome o (λ x. IsPermutation xs (x ∷ ys)) → IsPermutation xs (top ∷ ys)
+popped None xs ys top n e some t none at p = absurd (omega arith)
+popped (Some x) xs ys top n e some t none at p = subst (λ z. IsPermutation xs (z ∷ ys)) (same_head xs x top some at t) p
+
+pub popped_order : (o : Option (Reverse (ℕ × ℕ))) (xs ys : List (Reverse (ℕ × ℕ))) (n : ℕ) → n ≡ length xs → 0 < length xs → IfNone o (n ≡ 0) → IfSome o (λ x. PopsGreatest later_cmp xs x ys) → IsHeap later_cmp xs → IsHeap later_cmp ys
+popped_order None xs ys n e some none h up = absurd (omega arith)
+popped_order (Some x) xs ys n e some none h up = (h up).0
+
+pub on_err : {A E : Type 0} (r : Result A E) (P : Type 0) → P → OnErr r P
+on_err (Ok x) P h = tt
+on_err (Err e) P h = h
+
+pub in_slot_within : (es : SlotList) (i : ℕ) (v : ℕ × Key) → in_slot (slice_get es i) ≡ Some v → i < length es
+in_slot_within es i v e = let f = entry_in (slice_get es i) v e in get_within es i (f.0, Some v) f.1
+
+absent_of : {A B : Type 0} (o : Option A) (v : Option B) → o ≡ None → is_some o ≡ is_some v → v ≡ None
+absent_of o None e f = refl
+absent_of o (Some x) e f = absurd (true_false (sym f ∙ ap is_some e))
+
+pub absent : (es : SlotList) (name : NameValue) (o : Option ℕ) → o ≡ None → is_some o ≡ is_some (lookup (name_eq name) es) → lookup (name_eq name) es ≡ None
+absent es name o e f = absent_of o (lookup (name_eq name) es) e f
+
+pub some_placed : (es : SlotList) (name : NameValue) (o : Option ℕ) → o ≡ position (name_eq name) (keys_of es) → IsDistinct name_eq (keys_of es) → IfSome o (λ p. IsPlaced es p name)
+some_placed es name None e h = tt
+some_placed es name (Some i) e h = placed es name i (sym e) h
+
+pub none_placed : (es : SlotList) (name : NameValue) (o : Option ℕ) → is_some o ≡ is_some (lookup (name_eq name) es) → IfNone o (entry_of (live es) name ≡ None)
+none_placed es name None f = not_placed es name (absent_of {A = ℕ} None (lookup (name_eq name) es) refl f)
+none_placed es name (Some i) f = tt
+
+-- nothing is held under the name, so nothing goes
+pub none_gone : (es : List (NameValue × (ℕ × Key))) (name q : NameValue) → entry_of es name ≡ None → entry_of es q ≡ cond (is_at (name_cmp name) q) None (entry_of es q)
+none_gone es name q h =
+    elim (is_eq (name_cmp name q)) as (λ b. is_eq (name_cmp name q) ≡ b → entry_of es q ≡ cond b None (entry_of es q)) [
+      | true ↦ λ t. ap (entry_of es) (sym (names_exact name q (equal_of (name_cmp name q) t))) ∙ h
+      | false ↦ λ _. refl
+    ] refl
+
+-- what is held after a slot was filled, or emptied
+pub filled : (es es1 es' : SlotList) (place : ℕ) (name : NameValue) (w : Option (ℕ × Key)) → IsPlaced es1 place name → live es1 ≡ live es → es' ≡ set_value_at es1 place w → (q : NameValue) → entry_of (live es') q ≡ cond (is_at (name_cmp name) q) w (entry_of (live es) q)
+filled es es1 es' place name w here same e q =
+    ap (λ (x : SlotList). entry_of (live x) q) e
+    ∙ live_set es1 place name (entry_of (live es1) name) w here.at here.apart q
+    ∙ ap (λ (l : List (NameValue × (ℕ × Key))). cond (is_at (name_cmp name) q) w (entry_of l q)) same

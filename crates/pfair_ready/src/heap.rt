@@ -1,34 +1,45 @@
-//! A ready structure that keeps released keys in a heap, and the others in a calendar.
+//! A ready structure that keeps released keys in a heap, and the dates of the others in a calendar.
 //!
-//! Nothing in it looks through all that is held: what waits for a later release costs a selection nothing.
+//! Nothing in it looks through all that is held: what waits for a later release costs a selection nothing. A name is
+//! looked for once for each key that is inserted; from then on the key goes by the place of its name.
 
-ghost use Rattle.std.specs.Prelude.{◌≡◌, ◌<◌, OnOk, All};
-ghost use Rattle.std.specs.BTreeMap as map;
+ghost use Rattle.std.specs.Prelude.{◌≡◌, ◌<◌, ◌≤◌, ℕ, OnOk, IfSome, IfNone, All, Contains, Some, false, slice_get};
+ghost use Rattle.std.specs.declared.cmp.Reverse.{Reverse};
 ghost use Rattle.std.specs.BinaryHeap.{heap_items, IsHeap};
-ghost use Rattle.pfair_ready.specs.Names.{name_cmp};
-ghost use Rattle.pfair_ready.specs.Heap.{reverse_cmp, is_due, Moves};
+ghost use Rattle.pfair_order.specs.declared.Key.{Key};
+ghost use Rattle.pfair_ready.specs.Heap.{is_due};
+ghost use Rattle.pfair_ready.specs.Slots.{in_slot, reverse_cmp, later_cmp, Moves, IsNextDate, IsTurn};
 
 use crate::Ready;
+use crate::slots::{Slots, own_place, place_of, put_at, slot_at};
+use indexmap::IndexMap;
 use pfair_order::Key;
 use pfair_weight::TaskName;
 use std::alloc::{AllocError, Global};
 use std::cmp::Reverse;
-use std::collections::{BTreeMap, BTreeSet, BinaryHeap};
+use std::collections::BinaryHeap;
 use std::marker::Model;
 
-/// A ready structure that keeps released keys in a heap, the least on top, and the others in a calendar by release.
+/// A ready structure that keeps released keys in a heap, the least on top, and the dates of the others in a calendar.
 ///
-/// `insert` and `remove` take a number of steps that grows with the logarithm of the number of keys held. A selection
-/// takes such a number of steps for each key that it gives, for each that was released since the last selection, and
-/// once for each key that was removed after its release: its copy stays in the heap until it comes to the top. So a
-/// slot costs no more for tasks whose next subtask is not released.
+/// What the calls cost, where n is the number of keys that are held and of those that were removed and whose date has not
+/// come or whose copy has not come to the top of the heap:
+///
+/// - `new` and `now`: the same always. `held` and `remove`: one look-up of the name, whatever is held.
+/// - `insert`: one look-up of the name, and a second one where the name is new; then a number of steps that grows with
+///   the logarithm of n. Now and then what is held is moved to where it has room.
+/// - `take_first`: a number of steps that grows with the logarithm of n for each key that it gives, for each whose date
+///   has come since the last selection, and twice at most for each that was removed. So a slot costs no more for
+///   tasks whose next subtask is not released.
+///
+/// A name that was once inserted keeps its place, so the memory grows with the number of different names.
 #[derive(Drop)]
 pub struct HeapReady {
     alloc: Global,
     now: u64,
-    held: BTreeMap<TaskName, (u64, Key)>,
-    calendar: BTreeSet<(u64, Key)>,
-    released: BinaryHeap<Reverse<Key>>,
+    slots: Slots,
+    calendar: BinaryHeap<Reverse<(u64, usize)>>,
+    released: BinaryHeap<Reverse<(Key, usize)>>,
 }
 
 impl Model for HeapReady {
@@ -40,11 +51,11 @@ impl Model for HeapReady {
 
     ghost use Rattle.std.specs.FinMap.{from_entries};
     ghost use Rattle.std.specs.BinaryHeap.{heap_items};
-    ghost use Rattle.pfair_ready.specs.Heap.{IsCovered};
+    ghost use Rattle.pfair_ready.specs.Slots.{live, IsCovered};
 
-    ghost view = { λ a. record { now = a.now; held = from_entries a.held.entries } };
+    ghost view = { λ a. record { now = a.now; held = from_entries (live a.slots.entries) } };
 
-    ghost invariant = { λ a. IsCovered a.now a.held.entries a.calendar.keys (heap_items a.released) };
+    ghost invariant = { λ a. IsCovered a.now a.slots.entries (heap_items a.calendar) (heap_items a.released) };
 }
 
 impl Ready for HeapReady {
@@ -56,8 +67,8 @@ impl Ready for HeapReady {
         HeapReady {
             alloc,
             now: 0,
-            held: BTreeMap::new(alloc),
-            calendar: BTreeSet::new(alloc),
+            slots: IndexMap::new(alloc),
+            calendar: BinaryHeap::new(alloc),
             released: BinaryHeap::new(alloc),
         }
     }
@@ -67,36 +78,40 @@ impl Ready for HeapReady {
     }
 
     fn held(&self, name: &TaskName) -> Option<(u64, Key)> {
-        self.held.get(name).copied()
+        match place_of(&self.slots, name) {
+            Some(place) => slot_at(&self.slots, place),
+            None => None,
+        }
     }
 
     fn insert(&mut self, release: u64, key: Key) -> Result<bool, AllocError> {
-        if self.held.contains_key(&key.name) {
+        let place = own_place(&mut self.slots, key.name)?;
+        if slot_at(&self.slots, place).is_some() {
             return Ok(false);
         }
-        self.calendar.insert((release, key))?;
-        self.held.insert(key.name, (release, key))?;
+        self.calendar.push(Reverse((release, place)))?;
+        put_at(&mut self.slots, place, Some((release, key)));
         Ok(true)
     }
 
     fn remove(&mut self, name: &TaskName) -> bool {
-        let Some(date) = self.held.remove(name) else {
+        let Some(place) = place_of(&self.slots, name) else {
             return false;
         };
-        self.calendar.remove(&date);
-        true
+        let there = slot_at(&self.slots, place).is_some();
+        put_at(&mut self.slots, place, None);
+        there
     }
 
     fn take_first(&mut self, slot: u64, m: usize) -> Result<Vec<Key>, AllocError> {
         self.now = slot;
-        let mut first = Vec::with_capacity(self.alloc, m.min(self.held.len()))?;
-        move_released(&mut self.calendar, &mut self.released, slot)?;
-        while first.len() < m {
-            let Some(Reverse(key)) = self.released.pop() else {
+        move_released(&self.slots, &mut self.calendar, &mut self.released, slot)?;
+        let mut first = Vec::with_capacity(self.alloc, m.min(self.released.len()))?;
+        'turns: while first.len() < m {
+            let Some(Reverse(turn)) = self.released.pop() else {
                 break;
             };
-            if is_live(&self.held, slot, key) {
-                self.held.remove(&key.name);
+            if let Some(key) = take_turn(&mut self.slots, slot, turn) {
                 first.push(key)?;
             }
         }
@@ -104,12 +119,28 @@ impl Ready for HeapReady {
     }
 }
 
-/// Whether a key of the heap is the one that is held under its name, and released by the slot.
-fn is_live(held: &BTreeMap<TaskName, (u64, Key)>, slot: u64, key: Key) -> bool
-    ensures { result ≡ is_due key slot (map.get name_cmp held.now key.name) }
+/// The key of a turn, which its slot holds no more, where it is due.
+fn take_turn(slots: &mut Slots, slot: u64, turn: (Key, usize)) -> Option<Key>
+    ensures some { IfSome result (IsTurn slot slots.old.entries slots.new.entries turn) }
+    ensures none { IfNone result (is_due turn.0 slot (in_slot (slice_get slots.old.entries turn.1)) ≡ false) }
+    ensures same { IfNone result (slots.new.entries ≡ slots.old.entries) }
 {
-    match held.get(&key.name) {
-        Some(&(release, there)) => release <= slot && there == key,
+    let key = turn.0;
+    let place = turn.1;
+    if !is_live(slots, slot, key, place) {
+        return None;
+    }
+    put_at(slots, place, None);
+    let given = turn.0;
+    Some(given)
+}
+
+/// Whether a key of the heap is the one that its slot holds, and released by the slot of time.
+fn is_live(slots: &Slots, slot: u64, key: Key, place: usize) -> bool
+    ensures { result ≡ is_due key slot (in_slot (slice_get slots.now.entries place)) }
+{
+    match slot_at(slots, place) {
+        Some((release, there)) => release <= slot && there == key,
         None => false,
     }
 }
@@ -118,22 +149,56 @@ fn is_live(held: &BTreeMap<TaskName, (u64, Key)>, slot: u64, key: Key) -> bool
 ///
 /// Where a growth is refused, some of it has moved, and nothing is lost.
 fn move_released(
-    calendar: &mut BTreeSet<(u64, Key)>,
-    released: &mut BinaryHeap<Reverse<Key>>,
+    slots: &Slots,
+    calendar: &mut BinaryHeap<Reverse<(u64, usize)>>,
+    released: &mut BinaryHeap<Reverse<(Key, usize)>>,
     slot: u64,
 ) -> Result<(), AllocError>
-    requires { IsHeap reverse_cmp (heap_items released.old) }
-    ensures moves { Moves slot calendar.old.keys calendar.new.keys
+    requires date_order { IsHeap later_cmp (heap_items calendar.old) }
+    requires in_order { IsHeap reverse_cmp (heap_items released.old) }
+    ensures moves { Moves slot slots.now.entries (heap_items calendar.old) (heap_items calendar.new)
         (heap_items released.old) (heap_items released.new) }
+    ensures date_order { IsHeap later_cmp (heap_items calendar.new) }
     ensures in_order { IsHeap reverse_cmp (heap_items released.new) }
-    ensures done { OnOk result (All (λ e. slot < e.0) calendar.new.keys) }
+    ensures done { OnOk result (All (λ e. slot < e.0.0) (heap_items calendar.new)) }
 {
-    while let Some(date) = calendar.first().copied() {
-        if date.0 > slot {
-            break;
+    while let Some(date) = next_date(calendar, slot) {
+        release_one(slots, released, date)?;
+        let _ = calendar.pop();
+    }
+    Ok(())
+}
+
+/// The first date, where it has come.
+fn next_date(calendar: &BinaryHeap<Reverse<(u64, usize)>>, slot: u64) -> Option<(u64, usize)>
+    requires { IsHeap later_cmp (heap_items calendar.now) }
+    ensures some { IfSome result (IsNextDate slot (heap_items calendar.now)) }
+    ensures none { IfNone result (All (λ e. slot < e.0.0) (heap_items calendar.now)) }
+{
+    let top = calendar.peek()?;
+    let date = top.0;
+    if date.0 > slot {
+        return None;
+    }
+    Some(date)
+}
+
+/// Puts the key of a slot whose date has come into the heap.
+fn release_one(
+    slots: &Slots,
+    released: &mut BinaryHeap<Reverse<(Key, usize)>>,
+    date: (u64, usize),
+) -> Result<(), AllocError>
+    requires in_order { IsHeap reverse_cmp (heap_items released.old) }
+    ensures kept { (x : Reverse (Key × ℕ)) → Contains (heap_items released.old) x → Contains (heap_items released.new) x }
+    ensures there { OnOk result ((k : Key) → in_slot (slice_get slots.now.entries date.1) ≡ Some (date.0, k)
+        → Contains (heap_items released.new) (record { 0 = (k, date.1) })) }
+    ensures in_order { IsHeap reverse_cmp (heap_items released.new) }
+{
+    if let Some((release, key)) = slot_at(slots, date.1) {
+        if release == date.0 {
+            released.push(Reverse((key, date.1)))?;
         }
-        released.push(Reverse(date.1))?;
-        calendar.remove(&date);
     }
     Ok(())
 }

@@ -15,6 +15,7 @@ ghost use Rattle.pfair_ready.specs.Waiting.{Held, released, without};
 
 mod heap;
 mod plain;
+mod slots;
 #[cfg(test)]
 mod tests;
 
@@ -26,7 +27,8 @@ use std::alloc::{AllocError, Global};
 
 /// A ready structure: a slot, and for each of some names a release and a key.
 ///
-/// The slot never falls. It is that of the last selection, whether or not there was memory for it.
+/// The slot never falls. It is that of the last selection, whether or not there was memory for it. What a call costs is
+/// said at each structure: [`HeapReady`] and [`PlainReady`].
 pub trait Ready: Drop {
     /// The slot of the last selection, and 0 before the first.
     ghost now: { Self → ℕ };

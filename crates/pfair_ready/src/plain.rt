@@ -23,7 +23,10 @@ struct Waiting {
     key: Key,
 }
 
-/// A ready structure that is one list. Each call looks through all that is held.
+/// A ready structure that is one list.
+///
+/// `new` and `now` cost the same always. `held`, `insert` and `remove` look through all that is held, and so many steps
+/// they take. `take_first` looks through it as well, and takes up to m steps for each key that is held.
 #[derive(Drop)]
 pub struct PlainReady {
     alloc: Global,

@@ -1,36 +1,51 @@
-use Rattle.std.proofs.Common.{not, sym, ap, ◌∙◌}
-use Rattle.pfair_ready.proofs.PlainListLemmas.{true_not_false}
+use Rattle.std.proofs.Common.{ℕ, List, Some, true, false, not, sym, ap, subst, ◌∙◌}
+use Rattle.std.specs.Prelude.{is_some}
 use Rattle.std.specs.FinMap as finmap
-use Rattle.pfair_ready.proofs.HeapLemmas.{contained, one_given, covered_more, covered_given, has_more}
 use Rattle.std.specs.BinaryHeap.{heap_items}
+use Rattle.pfair_order.specs.declared.Key.{Key}
+use Rattle.pfair_ready.specs.Names.{NameValue}
+use Rattle.pfair_ready.specs.Slots.{live, in_slot, entry_of, IsCovered}
+use Rattle.pfair_ready.proofs.PlainListLemmas.{true_not_false}
+use Rattle.pfair_ready.proofs.HeapLemmas.{contained, one_given, covered_kept, covered_filled, filled, get_within}
 use Rattle.pfair_ready.proofs.heap.HeapReadyReady.insert.Goals as goal
 
-pub returns-then-contains_key-clause-answer : goal.returns-then-contains_key-clause-answer
-returns-then-contains_key-clause-answer c = ap not (sym (contained _ c.self.inside.held.entries c.args.key.name _ (ap (λ v. v.held) c.self.view_is) c.contains_key.ensures ∙ c.if-contains_key.true))
+pub invariant_of-self : goal.invariant_of-self
+invariant_of-self c = (covered_kept c.self.inside.now c.self.inside.slots.entries c.own_place.new.slots.entries (heap_items c.self.inside.calendar) (heap_items c.self.inside.released) c.own_place.ensures.keeps c.self.invariant)
 
-pub returns-in_err-insert-clause-there : goal.returns-in_err-insert-clause-there
-returns-in_err-insert-clause-there c there = absurd (true_not_false _ there (contained _ c.self.inside.held.entries c.args.key.name _ (ap (λ v. v.held) c.self.view_is) c.contains_key.ensures ∙ c.if-contains_key.false))
+pub returns-in_err-place-clause-there : goal.returns-in_err-place-clause-there
+returns-in_err-place-clause-there c there = absurd (true_not_false _ there (contained _ (live c.self.inside.slots.entries) c.args.key.name false (ap (λ v. v.held) c.self.view_is) (sym (ap is_some c.in_err-place.ensures.err))))
 
-pub returns-in_err-insert-2-clause-there : goal.returns-in_err-insert-2-clause-there
-returns-in_err-insert-2-clause-there c there = absurd (true_not_false _ there (contained _ c.self.inside.held.entries c.args.key.name _ (ap (λ v. v.held) c.self.view_is) c.contains_key.ensures ∙ c.if-contains_key.false))
+pub invariant_of-self-then-is_some : goal.invariant_of-self-then-is_some
+invariant_of-self-then-is_some c = (covered_kept c.self.inside.now c.self.inside.slots.entries c.own_place.new.slots.entries (heap_items c.self.inside.calendar) (heap_items c.self.inside.released) c.own_place.ensures.keeps c.self.invariant)
 
-pub returns-clause-answer : goal.returns-clause-answer
-returns-clause-answer c = ap not (sym (contained _ c.self.inside.held.entries c.args.key.name _ (ap (λ v. v.held) c.self.view_is) c.contains_key.ensures ∙ c.if-contains_key.false))
+pub returns-then-is_some-clause-answer : goal.returns-then-is_some-clause-answer
+returns-then-is_some-clause-answer c = ap not (sym (contained _ (live c.self.inside.slots.entries) c.args.key.name true (ap (λ v. v.held) c.self.view_is) (sym (sym (ap is_some (c.slot_at.ensures ∙ ap in_slot c.in_ok-place.ensures.place.at ∙ ap (λ (l : List (NameValue × (ℕ × Key))). entry_of l c.args.key.name) c.own_place.ensures.keeps.held)) ∙ sym c.is_some.ensures ∙ c.if-is_some.true))))
 
-pub returns-clause-there : goal.returns-clause-there
-returns-clause-there c there = absurd (true_not_false _ there (contained _ c.self.inside.held.entries c.args.key.name _ (ap (λ v. v.held) c.self.view_is) c.contains_key.ensures ∙ c.if-contains_key.false))
+pub invariant_of-self-in_err-push : goal.invariant_of-self-in_err-push
+invariant_of-self-in_err-push c =
+    subst (λ d. IsCovered c.self.inside.now c.own_place.new.slots.entries d (heap_items c.self.inside.released)) (sym c.in_err-push.ensures.unchanged.0)
+    (covered_kept c.self.inside.now c.self.inside.slots.entries c.own_place.new.slots.entries (heap_items c.self.inside.calendar) (heap_items c.self.inside.released) c.own_place.ensures.keeps c.self.invariant)
 
-pub returns-clause-content : goal.returns-clause-content
-returns-clause-content c =
-    one_given c.self.inside.held.entries c.insert-2.new.self.entries c.args.key.name (c.args.release, c.args.key) c.in_ok-insert-2.ensures.updates.0
-    ∙ ap (λ v. finmap.insert v.held c.args.key.name (c.args.release, c.args.key)) c.self.view_is
+pub returns-in_err-push-clause-there : goal.returns-in_err-push-clause-there
+returns-in_err-push-clause-there c there = absurd (true_not_false _ there (contained _ (live c.self.inside.slots.entries) c.args.key.name false (ap (λ v. v.held) c.self.view_is) (sym (sym (ap is_some (c.slot_at.ensures ∙ ap in_slot c.in_ok-place.ensures.place.at ∙ ap (λ (l : List (NameValue × (ℕ × Key))). entry_of l c.args.key.name) c.own_place.ensures.keeps.held)) ∙ sym c.is_some.ensures ∙ c.if-is_some.false))))
 
-pub invariant_of-self-in_err-insert-2 : goal.invariant_of-self-in_err-insert-2
-invariant_of-self-in_err-insert-2 c =
-    rw c.in_err-insert-2.ensures.err (covered_more c.self.inside.now c.self.inside.held.entries c.self.inside.calendar.keys c.insert.new.self.keys (heap_items c.self.inside.released)
-    (λ e t. has_more (c.args.release, c.args.key) e _ _ (c.in_ok-insert.ensures.updates.0 e) t) c.self.invariant)
+pub put_at-requires : goal.put_at-requires
+put_at-requires c = get_within c.own_place.new.slots.entries c.in_ok-place.place _ c.in_ok-place.ensures.place.at
 
 pub invariant_of-self-2 : goal.invariant_of-self-2
 invariant_of-self-2 c =
-    covered_given c.self.inside.now c.args.release c.args.key c.self.inside.held.entries c.insert-2.new.self.entries c.self.inside.calendar.keys c.insert.new.self.keys (heap_items c.self.inside.released)
-    c.in_ok-insert-2.ensures.updates.0 c.in_ok-insert.ensures.updates.0 c.self.invariant
+    covered_filled c.self.inside.now c.in_ok-place.place c.args.release c.args.key c.own_place.new.slots.entries c.put_at.new.slots.entries (heap_items c.self.inside.calendar) (heap_items c.push.new.self) (heap_items c.self.inside.released)
+    c.in_ok-place.ensures.place c.put_at.ensures c.in_ok-push.ensures.permutation (c.in_ok-push.ensures.heap_order c.self.invariant.date_order)
+    (covered_kept c.self.inside.now c.self.inside.slots.entries c.own_place.new.slots.entries (heap_items c.self.inside.calendar) (heap_items c.self.inside.released) c.own_place.ensures.keeps c.self.invariant)
+
+pub returns-clause-answer : goal.returns-clause-answer
+returns-clause-answer c = ap not (sym (contained _ (live c.self.inside.slots.entries) c.args.key.name false (ap (λ v. v.held) c.self.view_is) (sym (sym (ap is_some (c.slot_at.ensures ∙ ap in_slot c.in_ok-place.ensures.place.at ∙ ap (λ (l : List (NameValue × (ℕ × Key))). entry_of l c.args.key.name) c.own_place.ensures.keeps.held)) ∙ sym c.is_some.ensures ∙ c.if-is_some.false))))
+
+pub returns-clause-there : goal.returns-clause-there
+returns-clause-there c there = absurd (true_not_false _ there (contained _ (live c.self.inside.slots.entries) c.args.key.name false (ap (λ v. v.held) c.self.view_is) (sym (sym (ap is_some (c.slot_at.ensures ∙ ap in_slot c.in_ok-place.ensures.place.at ∙ ap (λ (l : List (NameValue × (ℕ × Key))). entry_of l c.args.key.name) c.own_place.ensures.keeps.held)) ∙ sym c.is_some.ensures ∙ c.if-is_some.false))))
+
+pub returns-clause-content : goal.returns-clause-content
+returns-clause-content c =
+    one_given (live c.self.inside.slots.entries) (live c.put_at.new.slots.entries) c.args.key.name (c.args.release, c.args.key)
+    (filled c.self.inside.slots.entries c.own_place.new.slots.entries c.put_at.new.slots.entries c.in_ok-place.place c.args.key.name (Some (c.args.release, c.args.key)) c.in_ok-place.ensures.place c.own_place.ensures.keeps.held c.put_at.ensures)
+    ∙ ap (λ v. finmap.insert v.held c.args.key.name (c.args.release, c.args.key)) c.self.view_is

@@ -1,0 +1,87 @@
+-- The slots of names, at places, and what is held in them.
+use Rattle.std.specs.Prelude.{◌≡◌, ℕ, ◌≤◌, ◌⊎◌, List, [], ◌∷◌, Option, Some, None, slice_get, slice_index_or, length, ◌<◌, true, Contains}
+use Rattle.std.specs.declared.cmp.Ordering.{Ordering}
+use Rattle.std.specs.declared.cmp.Reverse.{Reverse}
+use Rattle.std.specs.Ordering.{nat_cmp, ordering_then}
+use Rattle.std.specs.Map.{lookup, keys_of}
+use Rattle.std.specs.BTreeMap.{is_at}
+use Rattle.std.specs.List.{IsDistinct}
+use Rattle.std.specs.BinaryHeap.{IsHeap}
+use Rattle.pfair_order.specs.declared.Key.{Key}
+use Rattle.pfair_order.specs.Order.{pd2_cmp}
+use Rattle.indexmap.specs.IndexMap.{set_value_at}
+use Rattle.pfair_ready.specs.Heap.{is_due}
+use Rattle.pfair_ready.specs.Names.{NameValue, name_cmp, name_eq}
+
+-- names with their slots, place by place
+abbrev pub SlotList : Type 0
+SlotList = List (NameValue × Option (ℕ × Key))
+
+-- an entry of one name, where its slot holds something, before the others
+abbrev pub with_slot : NameValue → Option (ℕ × Key) → List (NameValue × (ℕ × Key)) → List (NameValue × (ℕ × Key))
+with_slot name None es = es
+with_slot name (Some v) es = (name, v) ∷ es
+
+-- the names whose slots hold something, with that
+abbrev pub live : SlotList → List (NameValue × (ℕ × Key))
+live [] = []
+live (e ∷ es) = with_slot e.0 e.1 (live es)
+
+-- what is held under a name
+abbrev pub entry_of : List (NameValue × (ℕ × Key)) → NameValue → Option (ℕ × Key)
+entry_of held name = lookup (is_at (name_cmp name)) held
+
+-- what the slot of an entry holds
+abbrev pub in_slot : Option (NameValue × Option (ℕ × Key)) → Option (ℕ × Key)
+in_slot None = None
+in_slot (Some e) = e.1
+
+-- the name has the place, and what is held under it is in the slot there
+pub record IsPlaced (es : SlotList) (place : ℕ) (name : NameValue) : Type 0 where
+  pub at : slice_get es place ≡ Some (name, entry_of (live es) name)
+  pub apart : IsDistinct name_eq (keys_of es)
+
+-- the same is held, and in the same slots
+pub record Keeps (es es' : SlotList) : Type 0 where
+  pub held : live es' ≡ live es
+  pub slots : (p : ℕ) (name : NameValue) (v : ℕ × Key) → slice_get es' p ≡ Some (name, Some v) → slice_get es p ≡ Some (name, Some v)
+  pub apart : IsDistinct name_eq (keys_of es')
+
+-- a release and a place, the earlier release first
+abbrev pub date_cmp : ℕ × ℕ → ℕ × ℕ → Ordering
+date_cmp a b = ordering_then (nat_cmp a.0 b.0) (nat_cmp a.1 b.1)
+
+abbrev pub later_cmp : Reverse (ℕ × ℕ) → Reverse (ℕ × ℕ) → Ordering
+later_cmp a b = date_cmp b.0 a.0
+
+-- a key and a place, by the PD2 order first
+abbrev pub turn_cmp : Key × ℕ → Key × ℕ → Ordering
+turn_cmp a b = ordering_then (pd2_cmp a.0 b.0) (nat_cmp a.1 b.1)
+
+abbrev pub reverse_cmp : Reverse (Key × ℕ) → Reverse (Key × ℕ) → Ordering
+reverse_cmp a b = turn_cmp b.0 a.0
+
+-- the date is on top of the calendar, and has come
+pub record IsNextDate (slot : ℕ) (dates : List (Reverse (ℕ × ℕ))) (date : ℕ × ℕ) : Type 0 where
+  pub due : date.0 ≤ slot
+  pub some : 0 < length dates
+  pub top : record { 0 = date } ≡ slice_index_or dates 0 (record { 0 = date })
+
+-- the key is that of the turn and due, and its slot is emptied
+pub record IsTurn (slot : ℕ) (es es' : SlotList) (turn : Key × ℕ) (key : Key) : Type 0 where
+  pub is : key ≡ turn.0
+  pub due : is_due turn.0 slot (in_slot (slice_get es turn.1)) ≡ true
+  pub emptied : es' ≡ set_value_at es turn.1 None
+
+-- what moved from a calendar to a heap: the heap loses nothing, and a date of a slot that left the calendar has come, and the slot's key is in the heap
+pub record Moves (slot : ℕ) (es : SlotList) (dates dates' : List (Reverse (ℕ × ℕ))) (heap heap' : List (Reverse (Key × ℕ))) : Type 0 where
+  pub kept : (x : Reverse (Key × ℕ)) → Contains heap x → Contains heap' x
+  pub moved : (p : ℕ) (r : ℕ) (k : Key) → in_slot (slice_get es p) ≡ Some (r, k) → Contains dates (record { 0 = (r, p) }) → Contains dates' (record { 0 = (r, p) }) ⊎ ((r ≤ slot) × Contains heap' (record { 0 = (k, p) }))
+
+-- each slot holds a key of its name, which is in the calendar at its release, or released and in the heap; and the orders of both
+pub record IsCovered (now : ℕ) (es : SlotList) (dates : List (Reverse (ℕ × ℕ))) (heap : List (Reverse (Key × ℕ))) : Type 0 where
+  pub apart : IsDistinct name_eq (keys_of es)
+  pub named : (p : ℕ) (name : NameValue) (r : ℕ) (k : Key) → slice_get es p ≡ Some (name, Some (r, k)) → k.name ≡ name
+  pub covered : (p : ℕ) (r : ℕ) (k : Key) → in_slot (slice_get es p) ≡ Some (r, k) → Contains dates (record { 0 = (r, p) }) ⊎ ((r ≤ now) × Contains heap (record { 0 = (k, p) }))
+  pub date_order : IsHeap later_cmp dates
+  pub in_order : IsHeap reverse_cmp heap
