@@ -10,3 +10,9 @@ pub mod Listing
 pub mod Agreement
 pub mod OfferedTo
 pub mod TornKeys
+pub mod Beginnings
+pub mod FirstTorn
+pub mod Following
+pub mod SoundEntries
+pub mod LeastMark
+pub mod Listed

@@ -1,6 +1,6 @@
 -- Rows joined, and what stays true of what they hold.
 use Rattle.std.proofs.Common.{◌≡◌, refl, sym, ◌∙◌, ap, subst, inl, inr, ⊎_elim, Bool, true, false, cond, arith}
-use Rattle.std.specs.Prelude.{◌⊎◌, ◌==◌, ◌<◌, ◌≤◌, ℕ, Option, None, Some, List, IsSomeAnd, Result, Ok, Err, OnErr}
+use Rattle.std.specs.Prelude.{◌⊎◌, ◌==◌, ◌<◌, ◌≤◌, ℕ, Option, None, Some, List, IsSomeAnd, Result, Ok, Err, OnOk, OnErr}
 use Rattle.std.specs.Ordering.{nat_cmp}
 use Rattle.std.specs.Option.{option_and_then}
 use Rattle.std.proofs.lemmas.Bool.{eqb-true}
@@ -198,6 +198,9 @@ same_shape m c m' c' b em ec h =
     (subst (λ (q : ℕ). IsHeldRows (record { processors = m'; capacity = q; rows = b })) (sym ec) h)
 
 module _ (m c m' c' : ℕ) (a b z : List (ℕ × Row)) (em : m ≡ m') (ec : c ≡ c') (h : IsHeldRows (record { processors = m; capacity = c; rows = a })) (h' : IsHeldRows (record { processors = m'; capacity = c'; rows = b })) where
+  pub between_rows : ((k n : ℕ) → Between (held_in a k n) (held_in b k n) (held_in z k n)) → IsReplica (record { processors = m; capacity = c; at = held_in z })
+  between_rows = let g = same_shape m c m' c' b em ec h' in replica_between m c (held_in a) (held_in b) (held_in z) h.entries g.entries
+
   pub merged_rows : MapJoins nat_cmp (MapJoins nat_cmp FlatJoins) a b z → IsHeldRows (record { processors = m; capacity = c; rows = z })
   merged_rows j =
       let g = same_shape m c m' c' b em ec h' in
@@ -215,6 +218,12 @@ module _ (m c m' c' : ℕ) (a b z : List (ℕ × Row)) (em : m ≡ m') (ec : c �
         full = full_between m a b z h.full g.full j;
         entries = replica_between m c (held_in a) (held_in b) (held_in z) h.entries g.entries (between_held a b z j);
       }
+
+-- whatever the join answered, each content is as it was, or joined
+pub either_held : {A E : Type 0} (r : Result A E) (a b z : List (ℕ × Row)) → OnOk r (MapJoins nat_cmp (MapJoins nat_cmp FlatJoins) a b z) → OnErr r (PartlyJoins a b z)
+    → (k n : ℕ) → Between (held_in a k n) (held_in b k n) (held_in z k n)
+either_held (Ok v) a b z joined partly k n = inr (joined_held a b z joined k n)
+either_held (Err e) a b z joined partly k n = between_held a b z partly k n
 
 pub on_err_here : {A E P : Type 0} (r : Result A E) → P → OnErr r P
 on_err_here (Ok a) p = tt

@@ -24,7 +24,7 @@ least_join = record {
   idem = λ x i. record { processors = x.processors; capacity = x.capacity; at = λ k n. join_idem entry_eq entry_exact (x.at k n) i };
 }
 
-run_is_run : (row : ℕ → Held Logged) (left n floor : ℕ) → IsRun row n floor (run_from row left n floor)
+pub run_is_run : (row : ℕ → Held Logged) (left n floor : ℕ) → IsRun row n floor (run_from row left n floor)
 run_is_run row zero n floor = tt
 run_is_run row (suc left) n floor = by (row n) refl (λ f. run_is_run row left (suc n) f)
   where

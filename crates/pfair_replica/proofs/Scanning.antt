@@ -45,9 +45,6 @@ pub record SaysOn (row : ℕ → Held Logged) (capacity t k : ℕ) (start now : 
   pub room : b + left ≡ capacity
   pub says : now ++ said_in t k (suc b) (run_from row left (suc b) f) ≡ start ++ said_in t k 1 (run_from row capacity 1 0)
 
-pub runs_start : (row : ℕ → Held Logged) (capacity : ℕ) → RunsOn row capacity 0 0
-runs_start row capacity = record { left = capacity; room = omega arith; mark = refl; count = omega arith }
-
 pub says_start : (row : ℕ → Held Logged) (capacity t k : ℕ) (start : List Said) → SaysOn row capacity t k start start 0 0
 says_start row capacity t k start = record { left = capacity; room = omega arith; says = refl }
 

@@ -34,6 +34,10 @@ module _ {A : Type 0} (f : ℕ → List A) where
   flat_more : (p : ℕ) → flat_map f (numbers_below (suc p)) ≡ flat_map f (numbers_below p) ++ f p
   flat_more p = flat_map-append f (numbers_below p) (p ∷ []) ∙ ap (λ xs. flat_map f (numbers_below p) ++ xs) (append-nil (f p))
 
+  -- one more number
+  pub flat_next : (p : ℕ) → flat_map f (numbers_below (p + 1)) ≡ flat_map f (numbers_below p) ++ f p
+  flat_next p = ap (λ n. flat_map f (numbers_below n)) (let next : p + 1 ≡ suc p = omega arith in next) ∙ flat_more p
+
   empty : (xs : List A) → slice_get xs 0 ≡ None → xs ≡ []
   empty [] e = refl
   empty (x ∷ xs) e = absurd (cc)
@@ -41,7 +45,7 @@ module _ {A : Type 0} (f : ℕ → List A) where
   -- one more number that gives nothing
   pub flat_none : (p : ℕ) → flat_map f (numbers_below p) ≡ [] → slice_get (f p) 0 ≡ None → flat_map f (numbers_below (p + 1)) ≡ []
   flat_none p none here =
-      ap (λ n. flat_map f (numbers_below n)) (let next : p + 1 ≡ suc p = omega arith in next) ∙ flat_more p ∙ ap (λ xs. xs ++ f p) none ∙ empty (f p) here
+      flat_next p ∙ ap (λ xs. xs ++ f p) none ∙ empty (f p) here
 
   kept : (xs ys : List A) (a : A) → slice_get xs 0 ≡ Some a → slice_get (xs ++ ys) 0 ≡ Some a
   kept [] ys a e = absurd (cc)
@@ -127,7 +131,7 @@ none_any : (p : ℕ → Bool) → ((x : ℕ) → p x ≡ false) → (xs : List �
 none_any p h [] = refl
 none_any p h (y ∷ ys) = ap (λ b. b || list_any p ys) (h y) ∙ none_any p h ys
 
-not_torn : (c : Held Logged) → c ≢ Some Torn → is_torn c ≡ false
+pub not_torn : (c : Held Logged) → c ≢ Some Torn → is_torn c ≡ false
 not_torn None h = refl
 not_torn (Some (One e)) h = refl
 not_torn (Some Torn) h = absurd (h refl)

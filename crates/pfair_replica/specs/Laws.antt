@@ -1,10 +1,11 @@
 -- What holds of replicas, their join, and sound beginnings.
-use Rattle.std.specs.Prelude.{ℕ, suc, false, ◌≡◌, ◌<◌, ◌≤◌, List, [], ◌∷◌, ◌++◌, Some, ⊤, ◌↔◌}
-use Rattle.pfair_lattice.specs.declared.flat.Flat.TheVariants.{One}
+use Rattle.std.specs.Prelude.{ℕ, suc, false, ◌≡◌, ◌<◌, ◌≤◌, List, [], ◌∷◌, ◌++◌, ◌+◌, length, slice_get, Some, ⊤, ◌↔◌}
+use Rattle.std.specs.List.{Contains}
+use Rattle.pfair_lattice.specs.declared.flat.Flat.TheVariants.{One, Torn}
 use Rattle.pfair_lattice.specs.Held.{Held, held_join}
 use Rattle.pfair_entry.specs.Entry.{Logged, IsEntry}
 use Rattle.pfair_entry.specs.Same.{entry_eq}
-use Rattle.pfair_replica.specs.Replica.{Replica, IsReplica, Below, join, with_entry, Untorn, Agree, sound_beginning, mark, frontier, said, has_torn, torn_keys}
+use Rattle.pfair_replica.specs.Replica.{Replica, IsReplica, Below, join, with_entry, Untorn, Agree, sound_beginning, mark, frontier, said, has_torn, entry_key, torn_keys, fallen_keys}
 use Rattle.pfair_replica.specs.Offered.{taken, absorbed}
 
 -- Below is an order, and the join is the least that is above both; so it is commutative, associative and idempotent.
@@ -29,6 +30,20 @@ abbrev pub IsLongestRun : Type 0
 IsLongestRun =
     (x : Replica) → IsReplica x → (k : ℕ)
     → IsRun (x.at k) 1 0 (sound_beginning x k) × ((es : List Logged) → IsRun (x.at k) 1 0 es → (rest : List Logged) × (es ++ rest ≡ sound_beginning x k))
+
+-- What a sound beginning has at a place is held at the number of that place, counted from 1, and it has no more entries than the logs can have.
+pub record IsReadByNumber : Type 0 where
+  pub entry : (x : Replica) (k i : ℕ) (e : Logged) → slice_get (sound_beginning x k) i ≡ Some e → x.at k (i + 1) ≡ Some (One e)
+  pub within : (x : Replica) (k : ℕ) → length (sound_beginning x k) ≤ x.capacity
+
+-- A replica that holds more, with nothing torn, has sound beginnings that go on those of the other.
+abbrev pub BeginningsGrow : Type 0
+BeginningsGrow = (x y : Replica) → IsReplica y → Below x y → Untorn y → (k : ℕ) → (rest : List Logged) × (sound_beginning x k ++ rest ≡ sound_beginning y k)
+
+-- The frontier is no greater than any mark, and it is one of them.
+pub record IsLeastMark : Type 0 where
+  pub below : (x : Replica) (k : ℕ) → k < x.processors → frontier x ≤ mark x k
+  pub reached : (x : Replica) → 1 ≤ x.processors → (k : ℕ) × (k < x.processors) × (frontier x ≡ mark x k)
 
 -- What is held after an entry was joined in, which changes nothing where the entry was held already, and after a merge.
 pub record IsHeldAfter : Type 0 where
@@ -62,6 +77,12 @@ pub record MarksNeverFall : Type 0 where
 pub record IsTornTest : Type 0 where
   pub listed : (x : Replica) → (torn_keys x ≡ []) ↔ (has_torn x ≡ false)
   pub held : (x : Replica) → IsReplica x → ((has_torn x ≡ false) ↔ Untorn x)
+
+-- The torn keys are those of which the content is torn; and the fallen ones are those of one entry, right after a sound beginning, whose floor is lower than the mark.
+pub record IsListed : Type 0 where
+  pub torn : (x : Replica) → IsReplica x → (k n : ℕ) → (Contains (torn_keys x) (entry_key k n) ↔ (x.at k n ≡ Some Torn))
+  pub fallen : (x : Replica) → IsReplica x → (k n : ℕ)
+      → (Contains (fallen_keys x) (entry_key k n) ↔ ((n ≡ length (sound_beginning x k) + 1) × ((e : Logged) × (x.at k n ≡ Some (One e)) × (e.floor < mark x k))))
 
 -- What is offered takes nothing away, changes no shape, and leaves a replica a replica.
 pub record OfferedStays : Type 0 where

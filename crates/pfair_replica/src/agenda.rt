@@ -1,13 +1,13 @@
-//! What a replica says, kept by slot.
-ghost use Rattle.std.specs.Prelude.{◌≡◌, ◌++◌, ℕ, [], OnOk};
+//! What is said, kept by slot.
+ghost use Rattle.std.specs.Prelude.{◌≡◌, ◌++◌, ℕ, [], OnOk, OnErr};
 ghost use Rattle.pfair_replica.specs.Agenda.{said_at, listed_at, one_at};
 
 use pfair_entry::{Announcement, Said};
 use std::alloc::{AllocError, Global};
 use std::collections::BTreeMap;
 
-/// What a replica says at each slot, gone through once: a slot is then looked up in a number of steps that grows with the logarithm of
-/// the number of slots at which something is said.
+/// What is said at each slot, as [`crate::Replica::agenda`] has it, or as it is added piece by piece: a slot is looked up in a number of
+/// steps that grows with the logarithm of the number of slots at which something is said.
 ///
 /// It stays what it was when the replica takes in more.
 #[derive(Drop)]
@@ -17,8 +17,8 @@ pub struct Agenda {
 }
 
 impl Agenda {
-    /// The agenda in which nothing is said.
-    pub(crate) fn new(alloc: Global) -> Agenda
+    /// The agenda in which nothing is said. It wants no memory.
+    pub fn new(alloc: Global) -> Agenda
         ensures { (t : ℕ) → said_at result t ≡ [] }
     {
         Agenda {
@@ -27,7 +27,8 @@ impl Agenda {
         }
     }
 
-    /// What is said at a slot, in order of processors, and of numbers for each processor.
+    /// What is said at a slot, in the order in which it was added: by processors, and by numbers for each processor, where the agenda is
+    /// that of a replica. It costs one look-up of the slot.
     pub fn at(&self, slot: u64) -> &[Said]
         ensures { result.now ≡ said_at self.now slot }
     {
@@ -37,15 +38,20 @@ impl Agenda {
         }
     }
 
-    /// Adds what is said at a slot behind what was said at it before.
-    pub(crate) fn push(
+    /// Adds what is said at a slot behind what was said at it before. It costs one look-up of the slot, and a second one where nothing was
+    /// said at it; now and then what is said at the slot is moved to where it has room.
+    ///
+    /// # Errors
+    /// `AllocError` where memory was wanted and refused, and then the agenda says what it said before.
+    pub fn push(
         &mut self,
         slot: u64,
         processor: u8,
         number: u32,
         announcement: Announcement,
     ) -> Result<(), AllocError>
-        ensures { OnOk result ((t : ℕ) → said_at self.new t ≡ said_at self.old t ++ one_at slot (record { processor = processor; number = number; announcement = announcement }) t) }
+        ensures ok { OnOk result ((t : ℕ) → said_at self.new t ≡ said_at self.old t ++ one_at slot (record { processor = processor; number = number; announcement = announcement }) t) }
+        ensures err { OnErr result ((t : ℕ) → said_at self.new t ≡ said_at self.old t) }
     {
         push_at(
             self.alloc,
@@ -67,12 +73,13 @@ fn push_at<T: Drop>(
     key: u64,
     value: T,
 ) -> Result<(), AllocError>
-    ensures { OnOk result ((t : ℕ) → listed_at lists.new t ≡ listed_at lists.old t ++ one_at key value t) }
+    ensures ok { OnOk result ((t : ℕ) → listed_at lists.new t ≡ listed_at lists.old t ++ one_at key value t) }
+    ensures err { OnErr result ((t : ℕ) → listed_at lists.new t ≡ listed_at lists.old t) }
 {
     match lists.get_mut(&key) {
         Some(list) => list.push(value)?,
         None => {
-            let mut list = Vec::new(alloc);
+            let mut list = Vec::with_capacity(alloc, 1)?;
             list.push(value)?;
             lists.insert(key, list)?;
         }

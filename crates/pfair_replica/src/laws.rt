@@ -1,7 +1,7 @@
 //! The laws of replicas: of their order and their join, of sound beginnings, marks and the frontier, and of what is torn.
 //!
 //! Each function does nothing: its contract is the law, over every replica that there can be.
-ghost use Rattle.pfair_replica.specs.Laws.{IsLeastJoin, IsLongestRun, IsHeldAfter, IsAgreement, BelowAgrees, SayTheSame, MarksNeverFall, IsTornTest, OfferedStays};
+ghost use Rattle.pfair_replica.specs.Laws.{IsLeastJoin, IsLongestRun, IsHeldAfter, IsAgreement, BelowAgrees, SayTheSame, MarksNeverFall, IsReadByNumber, BeginningsGrow, IsLeastMark, IsTornTest, IsListed, OfferedStays};
 ghost use Rattle.pfair_replica.specs.HeldRows.{IsKnownByHeld};
 
 /// The order of replicas is an order, and a merge is the least that holds both; so it is commutative, associative and idempotent.
@@ -40,6 +40,21 @@ pub fn longest_run()
     ensures { IsLongestRun }
 {}
 
+/// What a sound beginning has at a place is held at the number of that place.
+pub fn read_by_number()
+    ensures { IsReadByNumber }
+{}
+
+/// A replica that holds more, with nothing torn, has sound beginnings that go on those of the other.
+pub fn beginnings_grow()
+    ensures { BeginningsGrow }
+{}
+
+/// The frontier is no greater than any mark, and it is one of them.
+pub fn least_mark()
+    ensures { IsLeastMark }
+{}
+
 /// A replica that holds more, with nothing torn, has no lower mark and no lower frontier.
 pub fn marks_never_fall()
     ensures { MarksNeverFall }
@@ -53,4 +68,9 @@ pub fn say_the_same()
 /// No key is listed as torn exactly where nothing is torn.
 pub fn torn_test()
     ensures { IsTornTest }
+{}
+
+/// The torn keys are those of which the content is torn, and the fallen ones those of an entry right after a sound beginning with a floor below the mark.
+pub fn listed()
+    ensures { IsListed }
 {}

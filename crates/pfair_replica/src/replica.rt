@@ -15,8 +15,9 @@ ghost use Rattle.pfair_replica.specs.Faults.{IsKeyOf, IsTakenAs, IsTakeFaultOf, 
 
 use crate::agenda::Agenda;
 use crate::answer::{MergeFault, TakeFault, Taken};
+use crate::counters::{Counters, going_on};
 use crate::key::{EntryKey, Faults};
-use crate::rows::{Rows, empty_rows, put_entry, row_le};
+use crate::rows::{Rows, empty_rows, held_at, put_entry, row_le};
 use pfair_entry::{Entry, Said};
 use pfair_lattice::{Flat, Join};
 use std::alloc::{AllocError, Global};
@@ -24,26 +25,33 @@ use std::marker::Model;
 
 /// What one dispatcher holds of the logs of all processors: 1 to 64 processors, counted from 0, and 1 to 4,096 entries in each log,
 /// counted from 1.
+///
+/// A look-up of a key, of which the calls speak, takes a number of steps that grows with the logarithm of the number of processors, and of
+/// the number of entries that are held in the log.
 #[derive(Drop)]
 pub struct Replica {
     processors: u8,
     capacity: u32,
     rows: Rows,
+    /// How far the sound beginnings in the rows go, and what is torn in them first.
+    counters: Counters,
     alloc: Global,
 }
 
 impl Model for Replica {
-    ghost use Rattle.pfair_replica.specs.HeldRows.{HeldRows, IsHeldRows};
+    ghost use Rattle.pfair_replica.specs.HeldRows.{HeldRows};
+    ghost use Rattle.pfair_replica.specs.Counters.{IsKept};
 
     ghost Value = { HeldRows };
 
     ghost view = { λ x. record { processors = x.processors; capacity = x.capacity; rows = x.rows } };
 
-    ghost invariant = { λ x. IsHeldRows (record { processors = x.processors; capacity = x.capacity; rows = x.rows }) };
+    ghost invariant = { λ x. IsKept (record { processors = x.processors; capacity = x.capacity; rows = x.rows }) x.counters.beginnings.items x.counters.torn };
 }
 
 impl Replica {
-    /// The replica of so many processors, with room for so many entries in each log, that holds nothing.
+    /// The replica of so many processors, with room for so many entries in each log, that holds nothing. It costs a step for each
+    /// processor, whatever the capacity.
     ///
     /// # Errors
     /// `AllocError` where memory was wanted and refused.
@@ -56,6 +64,7 @@ impl Replica {
             processors,
             capacity,
             rows,
+            counters: Counters::new(alloc, processors)?,
             alloc,
         })
     }
@@ -76,18 +85,17 @@ impl Replica {
         self.capacity
     }
 
-    /// What is held at a key: one entry, `Torn`, or `None`. A key that the replica hasn't room for holds nothing.
+    /// What is held at a key: one entry, `Torn`, or `None`. A key that the replica hasn't room for holds nothing. It costs one look-up.
     pub fn get(&self, processor: u8, number: u32) -> Option<Flat<Entry>>
         ensures value { result ≡ held self.now processor number }
         ensures entry { (e : Logged) → result ≡ Some (One e) → IsEntry e }
     {
-        match self.rows.get(&processor) {
-            Some(row) => row.get(&number).copied(),
-            None => None,
-        }
+        held_at(&self.rows, processor, number)
     }
 
     /// Takes one entry in, and answers what it met there. What is held afterwards is the join with it.
+    ///
+    /// It costs a few look-ups, and one more for each entry by which the sound beginning of the processor grows.
     ///
     /// # Errors
     /// The first of these that applies, and then nothing is changed: `NoSuchProcessor`, `NumberOutOfRange`, and `Memory`, which comes only
@@ -116,10 +124,15 @@ impl Replica {
             Some(_) => Taken::Torn,
         };
         put_entry(&mut self.rows, processor, number, entry)?;
+        let key = EntryKey { processor, number };
+        self.counters.follow_entry(&self.rows, self.capacity, key);
         Ok(taken)
     }
 
     /// Merges the other in: afterwards each key holds what either held, the common entry, or `Torn`.
+    ///
+    /// It costs two look-ups for each entry that the other holds, and in each row where it holds something, be it known here already, a
+    /// look-up for each entry of the sound beginning, and for each number up to the first torn one, or up to the capacity where none is.
     ///
     /// # Errors
     /// `OtherShape` where the other has another number of processors or another capacity, and then nothing is changed. `Memory` where
@@ -139,11 +152,15 @@ impl Replica {
         if self.processors != other.processors || self.capacity != other.capacity {
             return Err(MergeFault::OtherShape);
         }
-        self.rows.join(&other.rows)?;
+        let joined = self.rows.join(&other.rows);
+        // want of memory leaves a part of the other joined in
+        self.counters
+            .follow_join(&self.rows, &other.rows, self.processors, self.capacity);
+        joined?;
         Ok(())
     }
 
-    /// A second replica that is equal to this one.
+    /// A second replica that is equal to this one. It costs two look-ups for each entry that is held.
     ///
     /// # Errors
     /// `AllocError` where memory was wanted and refused.
@@ -154,18 +171,29 @@ impl Replica {
             processors: self.processors,
             capacity: self.capacity,
             rows: self.rows.copy()?,
+            counters: self.counters.copy()?,
             alloc: self.alloc,
         })
     }
 
-    /// The slot up to which a processor has committed itself: the last floor of its sound beginning, or 0 where that is empty.
+    /// The slot up to which a processor has committed itself: the last floor of its sound beginning, or 0 where that is empty. It is kept,
+    /// not looked for.
     pub fn mark(&self, processor: u8) -> u64
         ensures { result ≡ mark (replica_of self.now) processor }
     {
         self.sound_beginning(processor).1
     }
 
-    /// The least mark of all processors: below this slot every announcement is known.
+    /// How many entries the sound beginning of a processor has: these are its entries 1, 2, 3 and so on, which `get` gives. It is kept,
+    /// not counted.
+    pub fn sound_count(&self, processor: u8) -> u32
+        ensures value { result ≡ length (sound_beginning (replica_of self.now) processor) }
+        ensures within { result ≤ self.now.capacity }
+    {
+        self.sound_beginning(processor).0
+    }
+
+    /// The least mark of all processors: below this slot every announcement is known. It costs a step for each processor.
     pub fn frontier(&self) -> u64
         ensures value { result ≡ frontier (replica_of self.now) }
         ensures replica { IsReplica (replica_of self.now) }
@@ -177,7 +205,8 @@ impl Replica {
         least
     }
 
-    /// Whether each key that is held here is held there, with the same content or torn.
+    /// Whether each key that is held here is held there, with the same content or torn. It costs a look-up there for each entry that is
+    /// held here, up to the first that isn't held there.
     pub fn le(&self, other: &Replica) -> bool
         ensures { IsTrue result ↔ Below (replica_of self.now) (replica_of other.now) }
     {
@@ -189,7 +218,8 @@ impl Replica {
         true
     }
 
-    /// The least number of a processor's log that isn't held, or `None` where all are. What is torn is held.
+    /// The least number of a processor's log that isn't held, or `None` where all are. What is torn is held. It costs a look-up for each
+    /// number up to that one.
     pub fn missing(&self, processor: u8) -> Option<u32>
         ensures value { result ≡ missing (replica_of self.now) processor }
         ensures least { IsLeastMissing (replica_of self.now) processor result }
@@ -202,21 +232,17 @@ impl Replica {
         None
     }
 
-    /// The least torn key, or `None` where nothing is torn.
+    /// The least torn key, by processors and then by numbers, or `None` where nothing is torn. It is kept, not looked for.
     pub fn first_torn(&self) -> Option<EntryKey>
         ensures key { result ≡ slice_get (torn_keys (replica_of self.now)) 0 }
         ensures some { is_some result ≡ has_torn (replica_of self.now) }
         ensures replica { IsReplica (replica_of self.now) }
     {
-        for processor in 0..self.processors {
-            if let Some(key) = self.first_torn_of(processor) {
-                return Some(key);
-            }
-        }
-        None
+        self.counters.torn
     }
 
-    /// The announcements stamped with a slot in the sound beginnings, in order of processors, and of numbers for each processor.
+    /// The announcements stamped with a slot in the sound beginnings, in order of processors, and of numbers for each processor. It costs
+    /// a look-up for each entry of the sound beginnings, and one for each processor.
     ///
     /// # Errors
     /// `AllocError` where memory was wanted and refused.
@@ -231,7 +257,8 @@ impl Replica {
         Ok(heard)
     }
 
-    /// What [`Replica::said`] says, by slot, in one pass over the sound beginnings.
+    /// What [`Replica::said`] says, by slot, in one pass over the sound beginnings: a look-up for each of their entries, and one for each
+    /// processor, and what [`Agenda::push`] costs for each announcement.
     ///
     /// # Errors
     /// `AllocError` where memory was wanted and refused.
@@ -246,7 +273,8 @@ impl Replica {
         Ok(agenda)
     }
 
-    /// What is wrong with the logs: every torn key, and every entry that ends a sound beginning by a floor that fell.
+    /// What is wrong with the logs: every torn key, and every entry that ends a sound beginning by a floor that fell. It costs a look-up
+    /// for each number of each log, so as many as the processors times the capacity.
     ///
     /// # Errors
     /// `AllocError` where memory was wanted and refused.
@@ -297,27 +325,21 @@ impl Replica {
     /// How many entries the sound beginning of a processor has, and its last floor.
     fn sound_beginning(&self, processor: u8) -> (u32, u64)
         ensures count { result.0 ≡ length (sound_beginning (replica_of self.now) processor) }
-        ensures within { result.0 ≤ 4096 }
+        ensures within { result.0 ≤ self.now.capacity }
+        ensures shape { IsShape self.now.processors self.now.capacity }
         ensures mark { result.1 ≡ mark (replica_of self.now) processor }
     {
-        let mut floor = 0;
-        for before in 0..self.capacity {
-            match self.going_on(processor, before + 1, floor) {
-                Some(entry) => floor = entry.floor(),
-                None => return (before, floor),
-            }
+        match self.counters.beginnings.get(processor as usize) {
+            Some(beginning) => (beginning.count, beginning.mark),
+            None => (0, 0),
         }
-        (self.capacity, floor)
     }
 
     /// The entry that goes on a run with this last floor.
     fn going_on(&self, processor: u8, number: u32, floor: u64) -> Option<Entry>
         ensures { result ≡ goes_on (held self.now processor number) floor }
     {
-        match self.get(processor, number) {
-            Some(Flat::One(entry)) if floor <= entry.floor() => Some(entry),
-            _ => None,
-        }
+        going_on(&self.rows, processor, number, floor)
     }
 
     /// Adds what a processor says at a slot in its sound beginning.
@@ -352,28 +374,6 @@ impl Replica {
             }
         }
         Ok(())
-    }
-
-    /// The least torn key of a processor.
-    fn first_torn_of(&self, processor: u8) -> Option<EntryKey>
-        ensures { result ≡ slice_get (torn_in (replica_of self.now) processor) 0 }
-    {
-        for before in 0..self.capacity {
-            if self.is_torn(processor, before + 1) {
-                return Some(EntryKey {
-                    processor,
-                    number: before + 1,
-                });
-            }
-        }
-        None
-    }
-
-    /// Whether a key is torn.
-    fn is_torn(&self, processor: u8, number: u32) -> bool
-        ensures { result ≡ is_torn (held self.now processor number) }
-    {
-        matches!(self.get(processor, number), Some(Flat::Torn))
     }
 }
 

@@ -1,8 +1,10 @@
 //! The rows of a replica.
-ghost use Rattle.std.specs.Prelude.{◌≡◌, ◌↔◌, ℕ, None, IsTrue, IsSome, IfOk, OnOk, OnErr};
+ghost use Rattle.std.specs.Prelude.{◌≡◌, ◌↔◌, ℕ, None, Some, IsTrue, IsSome, IfOk, OnOk, OnErr};
 ghost use Rattle.std.specs.Ordering.{nat_cmp};
 ghost use Rattle.pfair_lattice.specs.Entries.{get};
 ghost use Rattle.pfair_lattice.specs.Held.{held_join, HeldBelow};
+ghost use Rattle.pfair_lattice.specs.declared.flat.Flat.TheVariants.{One};
+ghost use Rattle.pfair_entry.specs.Entry.{Logged, IsEntry};
 ghost use Rattle.pfair_entry.specs.Same.{entry_eq};
 ghost use Rattle.pfair_replica.specs.Replica.{only};
 ghost use Rattle.pfair_replica.specs.HeldRows.{held_in, IsFull, AreEmptyRows};
@@ -30,6 +32,27 @@ pub(crate) fn put_entry(
     match rows.get_mut(&processor) {
         Some(row) => row.put(number, &Flat::One(entry)),
         None => Ok(()),
+    }
+}
+
+/// What is held at a key.
+pub(crate) fn held_at(rows: &Rows, processor: u8, number: u32) -> Option<Flat<Entry>>
+    ensures value { result ≡ held_in rows.now processor number }
+    ensures entry { (e : Logged) → result ≡ Some (One e) → IsEntry e }
+{
+    match rows.get(&processor) {
+        Some(row) => row.get(&number).copied(),
+        None => None,
+    }
+}
+
+/// Whether a processor's row isn't there, or has nothing in it.
+pub(crate) fn holds_nothing(rows: &Rows, processor: u8) -> bool
+    ensures { IsTrue result → (n : ℕ) → held_in rows.now processor n ≡ None }
+{
+    match rows.get(&processor) {
+        Some(row) => row.len() == 0,
+        None => true,
     }
 }
 

@@ -1,8 +1,8 @@
 //! Worked replicas with ample memory, what stays where memory is refused on the way, and the texts of the faults.
-ghost use Rattle.std.specs.Prelude.{IfOk, ◌≡◌};
+ghost use Rattle.std.specs.Prelude.{IfOk, ◌≡◌, ◌<◌};
 ghost use Rattle.pfair_replica.specs.HeldRows.{IsShape};
 
-use crate::{EntryKey, MergeFault, Replica, TakeFault, Taken};
+use crate::{Agenda, EntryKey, MergeFault, Replica, TakeFault, Taken};
 use pfair_entry::{Announcement, Entry, Said};
 use pfair_lattice::Flat;
 use pfair_weight::TaskName;
@@ -56,10 +56,12 @@ fn merged(rt: &impl Abort, x: &Replica, y: &Replica) -> Result<Replica, MergeFau
     }
     let mut now = copied(x)?;
     if now.merge(y).is_err() {
+        assert_scanned(rt, &now);
         assert!(rt; x.le(&now));
         assert!(rt; now.le(&full));
         now.merge(y)?;
     }
+    assert_scanned(rt, &now);
     assert!(rt; are_same(&now, &full));
     Ok(now)
 }
@@ -245,6 +247,41 @@ fn said(processor: u8, number: u32, name: TaskName) -> Said {
     }
 }
 
+/// Adds a departure to an agenda. Where memory was refused on the way, as much was said at the slot as before.
+fn pushed(
+    rt: &impl Abort,
+    agenda: &mut Agenda,
+    slot: u64,
+    number: u32,
+    name: TaskName,
+) -> Result<(), AllocError> {
+    let before = agenda.at(slot).len();
+    let first = agenda.push(slot, 0, number, Announcement::Depart { name });
+    if first.is_ok() {
+        return first;
+    }
+    assert_eq!(rt; agenda.at(slot).len(), before);
+    agenda.push(slot, 0, number, Announcement::Depart { name })
+}
+
+#[test]
+fn an_agenda_grows_piece_by_piece(rt: HostRuntime) -> Result<(), Fail> {
+    let name = TaskName::from_bytes(b"a").expect(&rt, "a name");
+    let other = TaskName::from_bytes(b"b").expect(&rt, "a name");
+    let mut agenda = Agenda::new(rt.alloc());
+    assert!(&rt; agenda.at(3).is_empty());
+    pushed(&rt, &mut agenda, 3, 2, name)?;
+    pushed(&rt, &mut agenda, 5, 1, name)?;
+    pushed(&rt, &mut agenda, 3, 1, other)?;
+    assert_eq!(&rt;
+        agenda.at(3),
+        [said(0, 2, name), said(0, 1, other)].as_slice()
+    );
+    assert_eq!(&rt; agenda.at(5), [said(0, 1, name)].as_slice());
+    assert!(&rt; agenda.at(4).is_empty());
+    Ok(())
+}
+
 #[test]
 fn faults_have_their_texts(rt: HostRuntime) -> Result<(), Fail> {
     for (fault, number, text) in [
@@ -270,5 +307,237 @@ fn faults_have_their_texts(rt: HostRuntime) -> Result<(), Fail> {
         };
         assert_eq!(&rt; shown.as_str(), text);
     }
+    Ok(())
+}
+
+#[test]
+fn a_torn_number_takes_the_mark_back(rt: HostRuntime) -> Result<(), Fail> {
+    let mut x = empty(rt.alloc(), 1, 4)?;
+    taken(&rt, &mut x, 0, 1, floor(&rt, 2))?;
+    taken(&rt, &mut x, 0, 2, floor(&rt, 3))?;
+    taken(&rt, &mut x, 0, 3, floor(&rt, 5))?;
+    assert_eq!(&rt; x.mark(0), 5);
+    assert_eq!(&rt; taken(&rt, &mut x, 0, 2, floor(&rt, 4)), Ok(Taken::Torn));
+    assert_eq!(&rt; x.mark(0), 2);
+    let faults = match x.faults() {
+        Ok(faults) => faults,
+        Err(_) => x.faults()?,
+    };
+    let torn = EntryKey {
+        processor: 0,
+        number: 2,
+    };
+    assert_eq!(&rt; faults.torn.as_slice(), [torn].as_slice());
+    assert_eq!(&rt; faults.fallen.len(), 0);
+    Ok(())
+}
+
+#[test]
+fn a_filled_gap_carries_the_mark_on(rt: HostRuntime) -> Result<(), Fail> {
+    let mut x = empty(rt.alloc(), 1, 4)?;
+    taken(&rt, &mut x, 0, 1, floor(&rt, 2))?;
+    taken(&rt, &mut x, 0, 3, floor(&rt, 5))?;
+    taken(&rt, &mut x, 0, 4, floor(&rt, 4))?;
+    assert_eq!(&rt; x.mark(0), 2);
+    taken(&rt, &mut x, 0, 2, floor(&rt, 3))?;
+    assert_eq!(&rt; x.mark(0), 5);
+    let faults = match x.faults() {
+        Ok(faults) => faults,
+        Err(_) => x.faults()?,
+    };
+    let fallen = EntryKey {
+        processor: 0,
+        number: 4,
+    };
+    assert_eq!(&rt; faults.fallen.as_slice(), [fallen].as_slice());
+    assert_eq!(&rt; faults.torn.len(), 0);
+    Ok(())
+}
+
+/// A walk by a linear rule, and what it came through.
+#[derive(Drop)]
+struct Walk {
+    state: u64,
+    /// How many takes carried a sound beginning on by two entries or more.
+    carried_on: u32,
+    /// How many takes took a sound beginning back.
+    taken_back: u32,
+    /// How many takes tore a key before the first torn one.
+    torn_before: u32,
+    /// How many merges carried a sound beginning on.
+    merged_on: u32,
+    /// How many merges took a sound beginning back.
+    merged_back: u32,
+}
+
+impl Walk {
+    fn new() -> Walk {
+        Walk {
+            state: 1,
+            carried_on: 0,
+            taken_back: 0,
+            torn_before: 0,
+            merged_on: 0,
+            merged_back: 0,
+        }
+    }
+
+    /// A number below this one, which isn't 0.
+    fn below(&mut self, end: u64) -> u64
+        requires { 0 < end }
+        ensures { result < end }
+    {
+        self.state = self
+            .state
+            .wrapping_mul(6364136223846793005)
+            .wrapping_add(1442695040888963407);
+        (self.state >> 33) % end
+    }
+
+    /// Any key of a replica.
+    fn key(&mut self, x: &Replica) -> EntryKey {
+        let processor = self.below(x.processors() as u64) as u8;
+        let before = self.below(x.capacity() as u64) as u32;
+        EntryKey {
+            processor,
+            number: before + 1,
+        }
+    }
+
+    /// Any entry for a number: one of five has a floor that falls, or tears where another one is held.
+    fn entry(&mut self, rt: &impl Abort, number: u32) -> Entry {
+        if self.below(5) == 0 {
+            floor(rt, self.below(7))
+        } else {
+            floor(rt, number as u64)
+        }
+    }
+
+    /// Notes from where to where a take brought a sound beginning.
+    fn note_take(&mut self, before: u32, count: u32) {
+        if count < before {
+            self.taken_back = self.taken_back.saturating_add(1);
+        } else if count - before > 1 {
+            self.carried_on = self.carried_on.saturating_add(1);
+        }
+    }
+
+    /// Notes from where to where a merge brought a sound beginning.
+    fn note_merge(&mut self, before: u32, count: u32) {
+        if count < before {
+            self.merged_back = self.merged_back.saturating_add(1);
+        } else if count > before {
+            self.merged_on = self.merged_on.saturating_add(1);
+        }
+    }
+}
+
+/// A step of a walk: a take at any key.
+fn step(rt: &impl Abort, walk: &mut Walk, x: &mut Replica) -> Result<(), TakeFault> {
+    let key = walk.key(x);
+    let entry = walk.entry(rt, key.number);
+    let (before, torn) = (x.sound_count(key.processor), x.first_torn());
+    taken(rt, x, key.processor, key.number, entry)?;
+    walk.note_take(before, x.sound_count(key.processor));
+    if torn.is_some() && x.first_torn() != torn {
+        walk.torn_before = walk.torn_before.saturating_add(1);
+    }
+    assert_scanned(rt, x);
+    Ok(())
+}
+
+/// A merge of a walk.
+fn step_merged(
+    rt: &impl Abort,
+    walk: &mut Walk,
+    x: &Replica,
+    y: &Replica,
+) -> Result<Replica, MergeFault> {
+    let now = merged(rt, x, y)?;
+    for processor in 0..x.processors() {
+        walk.note_merge(x.sound_count(processor), now.sound_count(processor));
+    }
+    Ok(now)
+}
+
+/// How many entries the sound beginning of a processor has, and its mark, by going through the row.
+fn scanned(x: &Replica, processor: u8) -> (u32, u64) {
+    let mut mark = 0;
+    for before in 0..x.capacity() {
+        match x.get(processor, before + 1) {
+            Some(Flat::One(entry)) if mark <= entry.floor() => mark = entry.floor(),
+            _ => return (before, mark),
+        }
+    }
+    (x.capacity(), mark)
+}
+
+/// The first torn key of a processor, by going through the row.
+fn first_scanned(x: &Replica, processor: u8) -> Option<EntryKey> {
+    for before in 0..x.capacity() {
+        if x.get(processor, before + 1) == Some(Flat::Torn) {
+            return Some(EntryKey {
+                processor,
+                number: before + 1,
+            });
+        }
+    }
+    None
+}
+
+/// What a replica has looked up is what going through its rows finds.
+fn assert_scanned(rt: &impl Abort, x: &Replica) {
+    let (mut least, mut torn) = (u64::MAX, None);
+    for processor in 0..x.processors() {
+        let (count, mark) = scanned(x, processor);
+        assert_eq!(rt; x.sound_count(processor), count);
+        assert_eq!(rt; x.mark(processor), mark);
+        least = least.min(mark);
+        torn = torn.or(first_scanned(x, processor));
+    }
+    assert_eq!(rt; x.frontier(), least);
+    assert_eq!(rt; x.first_torn(), torn);
+}
+
+/// Forty steps of two replicas in turn, now and then merged.
+fn walked(
+    rt: &impl Abort,
+    alloc: Global,
+    walk: &mut Walk,
+    processors: u8,
+    capacity: u32,
+) -> Result<(), Fail>
+    requires { IsShape processors capacity }
+{
+    let mut x = empty(alloc, processors, capacity)?;
+    let mut y = empty(alloc, processors, capacity)?;
+    for turn in 0..20u8 {
+        step(rt, walk, &mut x)?;
+        step(rt, walk, &mut y)?;
+        if turn % 4 == 3 {
+            x = step_merged(rt, walk, &x, &y)?;
+        }
+        if turn % 10 == 9 {
+            y = step_merged(rt, walk, &y, &x)?;
+        }
+    }
+    Ok(())
+}
+
+#[test]
+fn four_thousand_steps_agree_with_a_scan(rt: HostRuntime) -> Result<(), Fail> {
+    let mut walk = Walk::new();
+    for _ in 0..25u8 {
+        walked(&rt, rt.alloc(), &mut walk, 1, 4)?;
+        walked(&rt, rt.alloc(), &mut walk, 1, 9)?;
+        walked(&rt, rt.alloc(), &mut walk, 2, 6)?;
+        walked(&rt, rt.alloc(), &mut walk, 3, 5)?;
+    }
+    // the walks came through all that the counters follow
+    assert!(&rt; walk.carried_on > 50);
+    assert!(&rt; walk.taken_back > 50);
+    assert!(&rt; walk.torn_before > 50);
+    assert!(&rt; walk.merged_on > 50);
+    assert!(&rt; walk.merged_back > 50);
     Ok(())
 }

@@ -25,7 +25,7 @@ pub returns : goal.returns
 returns c = (
   λ t k n. ⊎_elim
       (λ row. c.loop-processor.invariant k (omega (arith, row)) n)
-      (λ past. rw (← c.self.view_is) (subst (λ o. HeldBelow o (held c.args.other.now k n)) (sym (ap (option_and_then (λ (r : Row). get nat_cmp r n)) (c.self.invariant.full.beyond k past))) (none_below (held c.args.other.now k n))))
+      (λ past. rw (← c.self.view_is) (subst (λ o. HeldBelow o (held c.args.other.now k n)) (sym (ap (option_and_then (λ (r : Row). get nat_cmp r n)) (c.self.invariant.rows.full.beyond k past))) (none_below (held c.args.other.now k n))))
       (cases_lt k c.self.inside.processors),
   λ h. refl,
 )

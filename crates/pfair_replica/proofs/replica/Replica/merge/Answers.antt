@@ -3,44 +3,59 @@ use Rattle.pfair_replica.specs.Replica.{Below}
 use Rattle.pfair_replica.specs.HeldRows.{held_in, replica_of}
 use Rattle.pfair_replica.proofs.Comparing.{rows_lack}
 use Rattle.pfair_replica.proofs.OfferedTo.{absorbed_alike}
-use Rattle.pfair_replica.proofs.Merging.{joined_held, between_held, between_below, between_within, partly_merged, merged_rows, partly_rows, on_err_here}
+use Rattle.pfair_replica.proofs.Merging.{joined_held, between_held, between_below, between_within, partly_merged, merged_rows, partly_rows, between_rows, either_held, on_err_here}
+use Rattle.pfair_replica.proofs.Following.{before_join}
 use Rattle.pfair_replica.proofs.replica.Replica.merge.Goals as goal
 
+pub follow_join-requires-clause-before : goal.follow_join-requires-clause-before
+follow_join-requires-clause-before c =
+    let x = replica_of (record { processors = c.self.inside.processors; capacity = c.self.inside.capacity; rows = c.self.inside.rows }) in
+    let between = either_held c.join-joined.result c.self.inside.rows c.other.inside.rows c.join-joined.new.self c.join-joined.ensures.joined c.join-joined.ensures.partly in
+    before_join x c.self.inside.counters.beginnings.items c.self.inside.counters.torn c.self.invariant.counters (held_in c.other.inside.rows) (held_in c.join-joined.new.self) c.self.invariant.so_many
+    (between_rows c.self.inside.processors c.self.inside.capacity c.other.inside.processors c.other.inside.capacity c.self.inside.rows c.other.inside.rows c.join-joined.new.self
+    c.if-self-other.false c.if-self-other-2.false c.self.invariant.rows c.other.invariant.rows between) between
+
 pub invariant_of-self : goal.invariant_of-self
-invariant_of-self c =
-    partly_rows c.self.inside.processors c.self.inside.capacity c.other.inside.processors c.other.inside.capacity c.self.inside.rows c.other.inside.rows c.join.new.self
-    c.if-self-other.false c.if-self-other-2.false c.self.invariant c.other.invariant c.in_err-join.ensures.partly
+invariant_of-self c = record {
+  rows = partly_rows c.self.inside.processors c.self.inside.capacity c.other.inside.processors c.other.inside.capacity c.self.inside.rows c.other.inside.rows c.join-joined.new.self
+      c.if-self-other.false c.if-self-other-2.false c.self.invariant.rows c.other.invariant.rows c.in_err-joined.ensures.partly;
+  so_many = c.follow_join.ensures.so_many ∙ c.self.invariant.so_many;
+  counters = c.follow_join.ensures.counters;
+}
 
 pub invariant_of-self-2 : goal.invariant_of-self-2
-invariant_of-self-2 c =
-    merged_rows c.self.inside.processors c.self.inside.capacity c.other.inside.processors c.other.inside.capacity c.self.inside.rows c.other.inside.rows c.join.new.self
-    c.if-self-other.false c.if-self-other-2.false c.self.invariant c.other.invariant c.in_ok-join.ensures.joined
+invariant_of-self-2 c = record {
+  rows = merged_rows c.self.inside.processors c.self.inside.capacity c.other.inside.processors c.other.inside.capacity c.self.inside.rows c.other.inside.rows c.join-joined.new.self
+      c.if-self-other.false c.if-self-other-2.false c.self.invariant.rows c.other.invariant.rows c.in_ok-joined.ensures.joined;
+  so_many = c.follow_join.ensures.so_many ∙ c.self.invariant.so_many;
+  counters = c.follow_join.ensures.counters;
+}
 
-pub returns-in_err-join-clause-partly : goal.returns-in_err-join-clause-partly
-returns-in_err-join-clause-partly c = rw (← c.self.view_is, ← c.other.view_is) (on_err_here c.from_residual.result
-    (partly_merged c.self.inside.processors c.self.inside.capacity c.other.inside.processors c.other.inside.capacity (held_in c.self.inside.rows) (held_in c.other.inside.rows) (held_in c.join.new.self)
-    (between_held c.self.inside.rows c.other.inside.rows c.join.new.self c.in_err-join.ensures.partly)))
+pub returns-in_err-joined-clause-partly : goal.returns-in_err-joined-clause-partly
+returns-in_err-joined-clause-partly c = rw (← c.self.view_is, ← c.other.view_is) (on_err_here c.from_residual.result
+    (partly_merged c.self.inside.processors c.self.inside.capacity c.other.inside.processors c.other.inside.capacity (held_in c.self.inside.rows) (held_in c.other.inside.rows) (held_in c.join-joined.new.self)
+    (between_held c.self.inside.rows c.other.inside.rows c.join-joined.new.self c.in_err-joined.ensures.partly)))
 
 pub returns-clause-merged : goal.returns-clause-merged
 returns-clause-merged c = rw (← c.self.view_is, ← c.other.view_is) (λ i. record {
   processors = c.self.inside.processors;
   capacity = c.self.inside.capacity;
-  at = λ k n. joined_held c.self.inside.rows c.other.inside.rows c.join.new.self c.in_ok-join.ensures.joined k n i;
+  at = λ k n. joined_held c.self.inside.rows c.other.inside.rows c.join-joined.new.self c.in_ok-joined.ensures.joined k n i;
 })
 
-pub returns-in_err-join-clause-fault : goal.returns-in_err-join-clause-fault
-returns-in_err-join-clause-fault c =
+pub returns-in_err-joined-clause-fault : goal.returns-in_err-joined-clause-fault
+returns-in_err-joined-clause-fault c =
     let lacks : Below (replica_of c.args.other.now) (replica_of c.args.self.now) → ⊥ =
-    rw (← c.self.view_is, ← c.other.view_is) (rows_lack c.self.inside.processors c.other.inside.processors c.self.inside.rows c.other.inside.rows c.if-self-other.false c.self.invariant.full c.other.invariant.full c.in_err-join.ensures.lacking) in
+    rw (← c.self.view_is, ← c.other.view_is) (rows_lack c.self.inside.processors c.other.inside.processors c.self.inside.rows c.other.inside.rows c.if-self-other.false c.self.invariant.rows.full c.other.invariant.rows.full c.in_err-joined.ensures.lacking) in
     search rules
 
-pub returns-in_err-join-clause-grows : goal.returns-in_err-join-clause-grows
-returns-in_err-join-clause-grows c = rw (← c.self.view_is) (λ k n. between_below (held_in c.self.inside.rows k n) (held_in c.other.inside.rows k n) (held_in c.join.new.self k n)
-    (between_held c.self.inside.rows c.other.inside.rows c.join.new.self c.in_err-join.ensures.partly k n))
+pub returns-in_err-joined-clause-grows : goal.returns-in_err-joined-clause-grows
+returns-in_err-joined-clause-grows c = rw (← c.self.view_is) (λ k n. between_below (held_in c.self.inside.rows k n) (held_in c.other.inside.rows k n) (held_in c.join-joined.new.self k n)
+    (between_held c.self.inside.rows c.other.inside.rows c.join-joined.new.self c.in_err-joined.ensures.partly k n))
 
 pub returns-clause-grows : goal.returns-clause-grows
-returns-clause-grows c = rw (← c.self.view_is) (λ k n. between_below (held_in c.self.inside.rows k n) (held_in c.other.inside.rows k n) (held_in c.join.new.self k n)
-    (inr (joined_held c.self.inside.rows c.other.inside.rows c.join.new.self c.in_ok-join.ensures.joined k n)))
+returns-clause-grows c = rw (← c.self.view_is) (λ k n. between_below (held_in c.self.inside.rows k n) (held_in c.other.inside.rows k n) (held_in c.join-joined.new.self k n)
+    (inr (joined_held c.self.inside.rows c.other.inside.rows c.join-joined.new.self c.in_ok-joined.ensures.joined k n)))
 
 pub returns-clause-offered : goal.returns-clause-offered
 returns-clause-offered c = rw (← c.self.view_is, ← c.other.view_is) (λ _.
@@ -49,13 +64,13 @@ returns-clause-offered c = rw (← c.self.view_is, ← c.other.view_is) (λ _.
     (λ i. record {
       processors = c.self.inside.processors;
       capacity = c.self.inside.capacity;
-      at = λ k n. joined_held c.self.inside.rows c.other.inside.rows c.join.new.self c.in_ok-join.ensures.joined k n i;
+      at = λ k n. joined_held c.self.inside.rows c.other.inside.rows c.join-joined.new.self c.in_ok-joined.ensures.joined k n i;
     }) ∙ sym (absorbed_alike x y c.if-self-other.false c.if-self-other-2.false))
 
-pub returns-in_err-join-clause-within : goal.returns-in_err-join-clause-within
-returns-in_err-join-clause-within c = rw (← c.self.view_is, ← c.other.view_is) (λ k n. between_within (held_in c.self.inside.rows k n) (held_in c.other.inside.rows k n) (held_in c.join.new.self k n)
-    (between_held c.self.inside.rows c.other.inside.rows c.join.new.self c.in_err-join.ensures.partly k n))
+pub returns-in_err-joined-clause-within : goal.returns-in_err-joined-clause-within
+returns-in_err-joined-clause-within c = rw (← c.self.view_is, ← c.other.view_is) (λ k n. between_within (held_in c.self.inside.rows k n) (held_in c.other.inside.rows k n) (held_in c.join-joined.new.self k n)
+    (between_held c.self.inside.rows c.other.inside.rows c.join-joined.new.self c.in_err-joined.ensures.partly k n))
 
 pub returns-clause-within : goal.returns-clause-within
-returns-clause-within c = rw (← c.self.view_is, ← c.other.view_is) (λ k n. between_within (held_in c.self.inside.rows k n) (held_in c.other.inside.rows k n) (held_in c.join.new.self k n)
-    (inr (joined_held c.self.inside.rows c.other.inside.rows c.join.new.self c.in_ok-join.ensures.joined k n)))
+returns-clause-within c = rw (← c.self.view_is, ← c.other.view_is) (λ k n. between_within (held_in c.self.inside.rows k n) (held_in c.other.inside.rows k n) (held_in c.join-joined.new.self k n)
+    (inr (joined_held c.self.inside.rows c.other.inside.rows c.join-joined.new.self c.in_ok-joined.ensures.joined k n)))

@@ -1,0 +1,142 @@
+-- Parts of sound beginnings, and what stays of one when something comes into its row.
+use Rattle.std.proofs.Common.{ℕ, zero, suc, ◌+◌, ◌-◌, ◌<◌, ◌≤◌, ◌≡◌, refl, sym, ap, ◌∙◌, subst, arith, inl, inr, ⊎_elim, cond, List, [], ◌∷◌, length, Some, None}
+use Rattle.std.specs.Prelude.{◌⊎◌, ◌≢◌}
+use Rattle.std.proofs.lemmas.Bool.{le-leb, cases_eq}
+use Rattle.pfair_lattice.specs.declared.flat.Flat.{Flat}
+use Rattle.pfair_lattice.specs.declared.flat.Flat.TheVariants.{One, Torn}
+use Rattle.pfair_lattice.specs.Held.{Held, HeldBelow}
+use Rattle.pfair_entry.specs.Entry.{Logged}
+use Rattle.pfair_replica.specs.declared.counters.Beginning.{Beginning}
+use Rattle.pfair_replica.specs.Replica.{run_on, run_from, last_floor}
+use Rattle.pfair_replica.specs.Laws.{IsRun}
+use Rattle.pfair_replica.specs.Counters.{beginning_in, IsPart, IsRunBefore, IsLeftAt}
+use Rattle.pfair_replica.proofs.Runs.{run_is_run}
+use Rattle.pfair_replica.proofs.Scanning.{RunsOn}
+
+-- ---- runs
+
+module _ (row : ℕ → Held Logged) where
+  -- the whole sound beginning is a part of itself
+  pub whole_part : (capacity : ℕ) → IsPart row (beginning_in capacity row)
+  whole_part capacity = record { entries = run_from row capacity 1 0; run = run_is_run row capacity 1 0; count = refl; mark = refl }
+
+  -- so many entries of a run are a run
+  pub shorter_run : (es : List Logged) (j n floor : ℕ) → j ≤ length es → IsRun row n floor es → (fs : List Logged) × IsRun row n floor fs × (length fs ≡ j)
+  shorter_run es zero n floor short run = ([], tt, refl)
+  shorter_run [] (suc j) n floor short run = absurd (omega arith)
+  shorter_run (e ∷ es) (suc j) n floor short run =
+      let more = shorter_run es j (suc n) e.floor (omega arith) run.2 in (e ∷ more.0, (run.0, run.1, more.1), ap suc more.2)
+
+  -- a run goes on as the longest one
+  pub goes_on_as : (es : List Logged) (n floor left total m : ℕ) → IsRun row n floor es → total ≡ length es + left → m ≡ n + length es
+      → (last_floor (last_floor floor es) (run_from row left m (last_floor floor es)) ≡ last_floor floor (run_from row total n floor))
+      × (length es + length (run_from row left m (last_floor floor es)) ≡ length (run_from row total n floor))
+  goes_on_as [] n floor left total m run sum at =
+      let same : left ≡ total = omega arith in
+      let here : m ≡ n = omega arith in
+      let runs : run_from row left m floor ≡ run_from row total n floor = λ i. run_from row (same i) (here i) floor in
+      let counts = ap length runs in
+      (ap (last_floor floor) runs, omega (arith, counts))
+  goes_on_as (e ∷ es) n floor left zero m run sum at = absurd (omega arith)
+  goes_on_as (e ∷ es) n floor left (suc total) m run sum at =
+      let more = goes_on_as es (suc n) e.floor left total m run.2 (omega arith) (omega arith) in
+      let first : run_from row (suc total) n floor ≡ e ∷ run_from row total (suc n) e.floor =
+      ap (λ c. run_on c floor (run_from row total (suc n))) run.0 ∙ ap (λ b. cond b (e ∷ run_from row total (suc n) e.floor) []) (le-leb floor e.floor run.1) in
+      let counts = more.1 in
+      let longer = ap length first in
+      (more.0 ∙ sym (ap (last_floor floor) first), omega (arith, counts, longer))
+
+  pub part_runs_on : (capacity : ℕ) (part : Beginning) → IsPart row part → part.count ≤ capacity → RunsOn row capacity part.count part.mark
+  part_runs_on capacity part p room =
+      let count = p.count in
+      let on = goes_on_as p.entries 1 0 (capacity - part.count) capacity (suc part.count) p.run (omega (arith, count, room)) (omega (arith, count)) in
+      record {
+        left = capacity - part.count;
+        room = omega (arith, room);
+        mark = subst (λ f. last_floor f (run_from row (capacity - part.count) (suc part.count) f) ≡ last_floor 0 (run_from row capacity 1 0)) p.mark on.0;
+        count = subst (λ f. part.count + length (run_from row (capacity - part.count) (suc part.count) f) ≡ length (run_from row capacity 1 0)) p.mark
+            (subst (λ c. c + length (run_from row (capacity - part.count) (suc part.count) (last_floor 0 p.entries)) ≡ length (run_from row capacity 1 0)) count on.1);
+      }
+
+  -- a run's entries are held
+  pub run_entry : (es : List Logged) (n floor m : ℕ) → IsRun row n floor es → n ≤ m → m < n + length es → (e : Logged) × (row m ≡ Some (One e))
+  run_entry [] n floor m run low high = absurd (omega arith)
+  run_entry (e ∷ es) n floor m run low high = ⊎_elim
+      (λ same. (e, ap row same ∙ run.0))
+      (λ ne. run_entry es (suc n) e.floor m run.2 (omega (arith, low, ne)) (omega (arith, high)))
+      (cases_eq m n)
+
+  -- the last entry of a run, where it has any
+  last_of : (es : List Logged) (n floor m : ℕ) → IsRun row n floor es → m + 1 ≡ n + length es → (length es ≡ 0) ⊎ ((e : Logged) × (row m ≡ Some (One e)) × (last_floor floor es ≡ e.floor))
+  last_of [] n floor m run at = inl refl
+  last_of (e ∷ []) n floor m run at = inr (e, ap row (let here : m ≡ n = omega arith in here) ∙ run.0, refl)
+  last_of (e ∷ f ∷ es) n floor m run at = ⊎_elim (λ none. absurd (omega (arith, none))) inr (last_of (f ∷ es) (suc n) e.floor m run.2 (omega arith))
+
+  module _ (number : ℕ) (before : IsRunBefore row number) where
+    last_before : (length before.entries ≡ 0) ⊎ ((e : Logged) × (row (number - 1) ≡ Some (One e)) × (last_floor 0 before.entries ≡ e.floor))
+    last_before = let count = before.count in last_of before.entries 1 0 (number - 1) before.run (omega (arith, count))
+
+    part_to : (floor : ℕ) → last_floor 0 before.entries ≡ floor → IsPart row (record { count = number - 1; mark = floor })
+    part_to floor mark = let count = before.count in record { entries = before.entries; run = before.run; count = omega (arith, count); mark = mark }
+
+    at_zero : length before.entries ≡ 0 → row (number - 1) ≡ None
+    at_zero none = let count = before.count in ap row (let first : number - 1 ≡ 0 = omega (arith, count, none) in first) ∙ before.zero
+
+    no_floor : (es : List Logged) → length es ≡ 0 → last_floor 0 es ≡ 0
+    no_floor [] none = refl
+    no_floor (e ∷ es) none = absurd (omega (arith, none))
+
+    -- the part before that number ends with the entry that is held there
+    pub part_to_entry : (e : Logged) → row (number - 1) ≡ Some (One e) → IsPart row (record { count = number - 1; mark = e.floor })
+    part_to_entry e held = ⊎_elim
+        (λ none. (let gone = sym held ∙ at_zero none in absurd (cc)))
+        (λ last. (let same = sym last.1 ∙ held in part_to e.floor (last.2 ∙ (let one : last.0 ≡ e = cc in ap (λ l. l.floor) one))))
+        last_before
+
+    -- or it is empty
+    pub part_to_none : ((e : Logged) → row (number - 1) ≡ Some (One e) → ⊥) → IsPart row (record { count = number - 1; mark = 0 })
+    part_to_none nothing = ⊎_elim (λ none. part_to 0 (no_floor before.entries none)) (λ last. absurd (nothing last.0 last.1)) last_before
+
+-- ---- a row that differs at one number
+
+module _ (old now : ℕ → Held Logged) where
+  moved_run : (es : List Logged) (n floor : ℕ) → ((m : ℕ) → n ≤ m → m < n + length es → now m ≡ old m) → IsRun old n floor es → IsRun now n floor es
+  moved_run [] n floor same run = tt
+  moved_run (e ∷ es) n floor same run = (same n (omega arith) (omega arith) ∙ run.0, run.1, moved_run es (suc n) e.floor (λ m low high. same m (omega arith) (omega arith)) run.2)
+
+  -- a part that ends before that number, or of which none is changed, stays a part
+  pub moved_part : (part : Beginning) → ((m : ℕ) → 1 ≤ m → m ≤ part.count → now m ≡ old m) → IsPart old part → IsPart now part
+  moved_part part same p = let count = p.count in record {
+    entries = p.entries;
+    run = moved_run p.entries 1 0 (λ m low high. same m low (omega (arith, count, high))) p.run;
+    count = p.count;
+    mark = p.mark;
+  }
+
+  pub moved_before : (capacity number : ℕ) → 1 ≤ number → number ≤ length (run_from old capacity 1 0) → ((m : ℕ) → 1 ≤ m → m < number → now m ≡ old m) → now 0 ≡ None → IsRunBefore now number
+  moved_before capacity number first within same nothing =
+      let short = shorter_run old (run_from old capacity 1 0) (number - 1) 1 0 (omega (arith, within)) (run_is_run old capacity 1 0) in
+      let count = short.2 in
+      record {
+        entries = short.0;
+        run = moved_run short.0 1 0 (λ m low high. same m low (omega (arith, count, high, first))) short.1;
+        count = omega (arith, count, first);
+        zero = nothing;
+      }
+
+-- what is left of a sound beginning after something came at one number, and nothing was taken away
+pub left_at : (capacity number : ℕ) (old now : ℕ → Held Logged) → 1 ≤ number → now 0 ≡ None → ((m : ℕ) → m ≢ number → now m ≡ old m) → HeldBelow (old number) (now number)
+    → IsLeftAt now number (beginning_in capacity old)
+left_at capacity number old now first nothing elsewhere below = record {
+  stands = λ untorn. moved_part old now (beginning_in capacity old) (λ m low high. ⊎_elim
+      (λ same. subst (λ n. now n ≡ old n) (sym same) (kept (untorn (subst (λ n. n ≤ length (run_from old capacity 1 0)) same high)) (entry_at same low high)))
+      (λ ne. elsewhere m ne)
+      (cases_eq m number)) (whole_part old capacity);
+  before = λ within. moved_before old now capacity number first within (λ m low high. elsewhere m (λ same. omega (arith, same, high))) nothing;
+}
+  where
+    kept : now number ≢ Some Torn → ((c : Flat Logged) × (old number ≡ Some c)) → now number ≡ old number
+    kept untorn held = ⊎_elim (λ h. h ∙ sym held.1) (λ h. absurd (untorn h)) (below held.0 held.1)
+
+    entry_at : {m : ℕ} → m ≡ number → 1 ≤ m → m ≤ length (run_from old capacity 1 0) → (c : Flat Logged) × (old number ≡ Some c)
+    entry_at same low high = (let e = run_entry old (run_from old capacity 1 0) 1 0 number (run_is_run old capacity 1 0) (omega (arith, low, same)) (omega (arith, high, same)) in (One e.0, e.1))

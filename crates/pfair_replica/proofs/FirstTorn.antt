@@ -1,0 +1,110 @@
+-- The first torn key, as a replica keeps it.
+use Rattle.std.proofs.Common.{ℕ, zero, suc, ◌+◌, ◌-◌, ◌≤◌, ◌≡◌, refl, sym, ap, ◌∙◌, subst, arith, inl, inr, ⊎_elim, true, [], Option, Some, None}
+use Rattle.std.specs.Prelude.{◌⊎◌, find, flat_map, slice_get, IsSomeAnd}
+use Rattle.std.specs.Option.{option_map}
+use Rattle.std.proofs.lemmas.Bool.{cases_eq, cases_lt}
+use Rattle.pfair_lattice.specs.declared.flat.Flat.TheVariants.{Torn}
+use Rattle.pfair_replica.specs.declared.key.EntryKey.{EntryKey}
+use Rattle.pfair_replica.specs.Replica.{Contents, Replica, IsReplica, is_torn, entry_key, numbers_below, numbers_to, torn_in, torn_keys}
+use Rattle.pfair_replica.specs.Counters.{ComesFirst, IsFirst, IsTornAt, IsFirstTornIn, IsEarlier}
+use Rattle.pfair_replica.proofs.Listing.{find_none, find_first}
+use Rattle.pfair_replica.proofs.TornKeys.{torn_first, flat_none, flat_first, not_torn, no_key_no_torn, test_by_untorn}
+
+-- ---- the first of some keys
+
+comes_later : (a b : EntryKey) (k n : ℕ) → ComesFirst a b.processor b.number → ComesFirst b k n → ComesFirst a k n
+comes_later a b k n (inl h) (inl g) = inl (omega (arith, h, g))
+comes_later a b k n (inl h) (inr g) = (let same = g.0 in inl (omega (arith, h, same)))
+comes_later a b k n (inr h) (inl g) = (let same = h.0 in inl (omega (arith, same, g)))
+comes_later a b k n (inr h) (inr g) = (let first = h.1 in let then = g.1 in inr (h.0 ∙ g.0, omega (arith, first, then)))
+
+pub first_alike : (P R : ℕ → ℕ → Type 0) (first : Option EntryKey) → ((k n : ℕ) → P k n → R k n) → ((k n : ℕ) → R k n → P k n) → IsFirst P first → IsFirst R first
+first_alike P R None to from h = λ k n r. h k n (from k n r)
+first_alike P R (Some key) to from h = (to key.processor key.number h.0, λ k n r. h.1 k n (from k n r))
+
+first_bounds : (P : ℕ → ℕ → Type 0) (first : Option EntryKey) → IsFirst P first → (k n : ℕ) → P k n → (key : EntryKey) × (first ≡ Some key) × ComesFirst key k n
+first_bounds P None h k n here = absurd (h k n here)
+first_bounds P (Some key) h k n here = (key, refl, h.1 k n here)
+
+-- of two first keys the earlier one
+pub earlier_first : (P Q R : ℕ → ℕ → Type 0) (first other result : Option EntryKey) → IsFirst P first → IsFirst Q other → IsEarlier first other result
+    → ((k n : ℕ) → P k n → R k n) → ((k n : ℕ) → Q k n → R k n) → ((k n : ℕ) → R k n → P k n ⊎ Q k n) → IsFirst R result
+earlier_first P Q R first other result p q e one two from = by result e.either (λ k n r. ⊎_elim
+    (λ here. (let f = first_bounds P first p k n here in later result f.0 k n (e.before_first f.0 f.1) f.2))
+    (λ here. (let f = first_bounds Q other q k n here in later result f.0 k n (e.before_other f.0 f.1) f.2))
+    (from k n r))
+  where
+    later : (o : Option EntryKey) (f : EntryKey) (k n : ℕ) → IsSomeAnd o (λ key. ComesFirst key f.processor f.number) → ComesFirst f k n → IsSomeAnd o (λ key. ComesFirst key k n)
+    later None f k n h g = absurd h
+    later (Some key) f k n h g = comes_later key f k n h g
+
+    by : (o : Option EntryKey) → (o ≡ first) ⊎ (o ≡ other) → ((k n : ℕ) → R k n → IsSomeAnd o (λ key. ComesFirst key k n)) → IsFirst R o
+    by None is h = λ k n r. h k n r
+    by (Some key) (inl is) h = (let own : IsFirst P (Some key) = subst (IsFirst P) (sym is) p in (one key.processor key.number own.0, h))
+    by (Some key) (inr is) h = (let own : IsFirst Q (Some key) = subst (IsFirst Q) (sym is) q in (two key.processor key.number own.0, h))
+
+-- ---- the first torn key of a row
+
+module _ (at : Contents) (k b : ℕ) (untorn : (n : ℕ) → 1 ≤ n → n ≤ b → IsTornAt at k n → ⊥) where
+  pub torn_here : ((n : ℕ) → IsTornAt at k n → 1 ≤ n) → IsTornAt at k (b + 1) → IsFirstTornIn at k (Some (entry_key k (b + 1)))
+  torn_here first torn = (
+    (refl, torn),
+    λ j n h. (let row : k ≡ j = sym h.0 in
+        let here : IsTornAt at k n = subst (λ (i : ℕ). IsTornAt at i n) h.0 h.1 in
+        let low = first n here in
+        inr (
+          row,
+          elim (cases_lt b n) [
+            | inl past ↦ omega (arith, past)
+            | inr within ↦ absurd (untorn n low within here)
+          ],
+        )),
+  )
+
+  pub torn_not_yet : (IsTornAt at k (b + 1) → ⊥) → (n : ℕ) → 1 ≤ n → n ≤ b + 1 → IsTornAt at k n → ⊥
+  torn_not_yet not_here n low high torn = ⊎_elim
+      (λ same. not_here (subst (IsTornAt at k) same torn))
+      (λ ne. untorn n low (omega (arith, high, ne)) torn)
+      (cases_eq n (b + 1))
+
+pub torn_nowhere : (at : Contents) (k capacity : ℕ) → ((n : ℕ) → IsTornAt at k n → (1 ≤ n) × (n ≤ capacity)) → ((n : ℕ) → 1 ≤ n → n ≤ capacity → IsTornAt at k n → ⊥) → IsFirstTornIn at k None
+torn_nowhere at k capacity within untorn = λ j n h. (let here : IsTornAt at k n = subst (λ (i : ℕ). IsTornAt at i n) h.0 h.1 in untorn n (within n here).0 (within n here).1 here)
+
+-- ---- it is the first of the list of torn keys
+
+module _ (x : Replica) where
+  -- no number up to b is torn
+  none_found : (k b : ℕ) → ((n : ℕ) → 1 ≤ n → n ≤ b → IsTornAt x.at k n → ⊥) → find (λ n. is_torn (x.at k n)) (numbers_to b) ≡ None
+  none_found k zero untorn = refl
+  none_found k (suc b) untorn =
+      subst (λ (m : ℕ). find (λ n. is_torn (x.at k n)) (numbers_to m) ≡ None) (let next : b + 1 ≡ suc b = omega arith in next)
+      (find_none (λ n. is_torn (x.at k n)) b (none_found k b (λ n low high. untorn n low (omega (arith, high)))) (not_torn (x.at k (b + 1)) (untorn (b + 1) (omega arith) (omega arith))))
+
+  none_before : (p : ℕ) → ((k n : ℕ) → IsTornAt x.at k n → p ≤ k) → flat_map (torn_in x) (numbers_below p) ≡ []
+  none_before zero later = refl
+  none_before (suc p) later =
+      subst (λ (m : ℕ). flat_map (torn_in x) (numbers_below m) ≡ []) (let next : p + 1 ≡ suc p = omega arith in next)
+      (flat_none (torn_in x) p (none_before p (λ k n torn. (let high = later k n torn in omega (arith, high))))
+      (torn_first x p ∙ ap (option_map (entry_key p)) (none_found p x.capacity (λ n low high torn. (let high = later p n torn in omega (arith, high))))))
+
+  pub first_listed : IsReplica x → (first : Option EntryKey) → IsFirst (IsTornAt x.at) first → first ≡ slice_get (torn_keys x) 0
+  first_listed r None h = sym (ap (λ keys. slice_get keys 0) ((no_key_no_torn x).1 (test_by_untorn x h)))
+  first_listed r (Some key) h =
+      let range = r.in_range key.processor key.number Torn h.0 in
+      let row = range.0 in
+      let low = range.1 in
+      let high = range.2 in
+      let number : key.number - 1 + 1 ≡ key.number = omega (arith, low) in
+      let here : is_torn (x.at key.processor (key.number - 1 + 1)) ≡ true = ap (λ n. is_torn (x.at key.processor n)) number ∙ ap is_torn h.0 in
+      let found = find_first (λ n. is_torn (x.at key.processor n)) (key.number - 1) x.capacity (omega (arith, low, high))
+      (none_found key.processor (key.number - 1) (λ n first last torn. not_before n last (h.1 key.processor n torn))) here in
+      sym (flat_first (torn_in x) x.processors key.processor key row (none_before key.processor (λ k n torn. not_above k n (h.1 k n torn)))
+      (torn_first x key.processor ∙ ap (option_map (entry_key key.processor)) found ∙ ap (λ n. Some (entry_key key.processor n)) number))
+    where
+      not_above : (k n : ℕ) → ComesFirst key k n → key.processor ≤ k
+      not_above k n (inl l) = omega (arith, l)
+      not_above k n (inr e) = (let same = e.0 in omega (arith, same))
+
+      not_before : (n : ℕ) → n ≤ key.number - 1 → ComesFirst key key.processor n → ⊥
+      not_before n last (inl l) = omega (arith, l)
+      not_before n last (inr e) = (let high = e.1 in let low = (r.in_range key.processor key.number Torn h.0).1 in omega (arith, high, last, low))

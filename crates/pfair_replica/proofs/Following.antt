@@ -1,0 +1,239 @@
+-- Counters that follow what comes into the rows.
+use Rattle.std.proofs.Common.{ℕ, zero, suc, ◌+◌, ◌<◌, ◌≤◌, ◌≡◌, refl, sym, ap, ◌∙◌, subst, arith, inl, inr, ⊎_elim, Bool, true, false, cond, List, [], ◌∷◌, length, Option, Some, None}
+use Rattle.std.specs.Prelude.{◌⊎◌, ◌≢◌, ◌==◌, nat_le, slice_get, set, replicate}
+use Rattle.std.proofs.lemmas.Bool.{cases_eq, eq-eqb, ne_eqb}
+use Rattle.std.proofs.lemmas.List.{length-set, get_or-set_other, length-replicate, get_or-replicate}
+use Rattle.std.proofs.lemmas.Grind.{get_or-set_at}
+use Rattle.std.proofs.lemmas.Option.{slice_get_within, slice_get-get_or, get_or_from_slice_get}
+use Rattle.pfair_lattice.specs.declared.flat.Flat.{Flat}
+use Rattle.pfair_lattice.specs.declared.flat.Flat.TheVariants.{One, Torn}
+use Rattle.pfair_lattice.specs.Held.{Held, HeldBelow, held_join}
+use Rattle.pfair_lattice.specs.HeldLaws.{below_itself}
+use Rattle.pfair_entry.specs.Entry.{Logged}
+use Rattle.pfair_entry.specs.Same.{entry_eq}
+use Rattle.pfair_replica.specs.declared.counters.Beginning.{Beginning}
+use Rattle.pfair_replica.specs.declared.key.EntryKey.{EntryKey}
+use Rattle.pfair_replica.specs.Replica.{Contents, Replica, IsReplica, run_on, run_from, last_floor, sound_beginning, mark, entry_key, only}
+use Rattle.pfair_replica.specs.HeldAfter.{held_after, join_none}
+use Rattle.pfair_replica.specs.Counters.{beginning_in, IsLeftAt, IsTornAt, IsFirstTornIn, IsEarlier, AreCounters, WereBefore, WereApart}
+use Rattle.pfair_replica.proofs.Beginnings.{left_at}
+use Rattle.pfair_replica.proofs.Merging.{Between, between_below}
+use Rattle.pfair_replica.proofs.FirstTorn.{first_alike, earlier_first}
+
+-- ---- one counter changed
+
+set_at : (xs : List Beginning) (p k : ℕ) (y b : Beginning) → p < length xs → slice_get (set xs p y) k ≡ Some b → ((k ≡ p) × (b ≡ y)) ⊎ ((k ≢ p) × (slice_get xs k ≡ Some b))
+set_at xs p k y b room e =
+    let here = get_or_from_slice_get (set xs p y) k b b e in
+    let within : k < length xs = (let h = slice_get_within (set xs p y) k b e in let same = length-set xs p y in omega (arith, h, same)) in
+    ⊎_elim
+    (λ same. inl (same, sym here ∙ get_or-set_at xs p k y b same room))
+    (λ ne. inr (ne, slice_get-get_or xs k b within ∙ ap Some (sym (get_or-set_other xs p k y b ne) ∙ here)))
+    (cases_eq k p)
+
+-- the beginnings of a list of rows
+abbrev Beginnings : ℕ → Contents → List Beginning → Type 0
+Beginnings capacity at xs = (k : ℕ) (b : Beginning) → slice_get xs k ≡ Some b → b ≡ beginning_in capacity (at k)
+
+one_followed : (capacity p : ℕ) (old now : Contents) (xs : List Beginning) (y : Beginning) → p < length xs → y ≡ beginning_in capacity (now p)
+    → ((k n : ℕ) → k ≢ p → now k n ≡ old k n) → Beginnings capacity old xs → Beginnings capacity now (set xs p y)
+one_followed capacity p old now xs y room is elsewhere h k b e = ⊎_elim
+    (λ same. same.1 ∙ is ∙ ap (λ j. beginning_in capacity (now j)) (sym same.0))
+    (λ other. h k b other.1 ∙ sym (λ i. beginning_in capacity (λ n. elsewhere k n other.0 i)))
+    (set_at xs p k y b room e)
+
+still_torn : (a b : Held Logged) → HeldBelow a b → a ≡ Some Torn → b ≡ Some Torn
+still_torn a b below torn = ⊎_elim (λ h. h) (λ h. h) (below Torn torn)
+
+-- ---- after something came at one key
+
+-- a run has no more entries than are left
+pub run_room : (row : ℕ → Held Logged) (left n floor : ℕ) → length (run_from row left n floor) ≤ left
+run_room row zero n floor = omega arith
+run_room row (suc left) n floor = by (row n) (run_room row left (suc n))
+  where
+    on : (e : Logged) (b : Bool) → length (run_from row left (suc n) e.floor) ≤ left → length (cond b (e ∷ run_from row left (suc n) e.floor) []) ≤ suc left
+    on e true more = omega (arith, more)
+    on e false more = omega arith
+
+    by : (c : Held Logged) → ((f : ℕ) → length (run_from row left (suc n) f) ≤ left) → length (run_on c floor (run_from row left (suc n))) ≤ suc left
+    by None more = omega arith
+    by (Some Torn) more = omega arith
+    by (Some (One e)) more = on e (nat_le floor e.floor) (more e.floor)
+
+module _ (capacity p i : ℕ) (now : Contents) (xs : List Beginning) (first : Option EntryKey) (w : WereBefore capacity p i now xs first) where
+  pub left_by_entry : (b : Beginning) → slice_get xs p ≡ Some b → IsLeftAt (now p) i b
+  left_by_entry b e =
+      subst (IsLeftAt (now p) i) (sym (w.counters.beginnings p b e))
+      (left_at capacity i (w.old p) (now p) w.number w.zero (λ m ne. w.elsewhere p m (λ h. ne h.1)) (w.below p i))
+
+  pub room_by_entry : (b part : Beginning) → slice_get xs p ≡ Some b → part.count ≤ b.count → part.count ≤ capacity
+  room_by_entry b part e shorter =
+      let count : b.count ≡ length (run_from (w.old p) capacity 1 0) = ap (λ r. r.count) (w.counters.beginnings p b e) in
+      let room = run_room (w.old p) capacity 1 0 in
+      omega (arith, count, room, shorter)
+
+  elsewhere_torn : (k n : ℕ) → IsTornAt now k n → IsTornAt w.old k n ⊎ ((k ≡ p) × (n ≡ i))
+  elsewhere_torn k n torn = ⊎_elim
+      (λ row. ⊎_elim
+      (λ number. inr (row, number))
+      (λ ne. inl (sym (w.elsewhere k n (λ h. ne h.1)) ∙ torn))
+      (cases_eq n i))
+      (λ ne. inl (sym (w.elsewhere k n (λ h. ne h.0)) ∙ torn))
+      (cases_eq k p)
+
+  module _ (y : Beginning) (room : p < length xs) (is : y ≡ beginning_in capacity (now p)) where
+    beginnings_followed : Beginnings capacity now (set xs p y)
+    beginnings_followed = one_followed capacity p w.old now xs y room is (λ k n ne. w.elsewhere k n (λ h. ne h.0)) w.counters.beginnings
+
+    pub entry_torn : (result : Option EntryKey) → IsTornAt now p i → IsEarlier first (Some (entry_key p i)) result → AreCounters capacity now (set xs p y) result
+    entry_torn result torn e = record {
+      beginnings = beginnings_followed;
+      torn = earlier_first (IsTornAt w.old) (λ k n. (k ≡ p) × (n ≡ i)) (IsTornAt now) first (Some (entry_key p i)) result w.counters.torn
+          ((refl, refl), λ k n h. inr (sym h.0, (let same = h.1 in omega (arith, same)))) e
+          (λ k n. still_torn (w.old k n) (now k n) (w.below k n))
+          (λ k n h. subst (λ (j : ℕ). IsTornAt now j n) (sym h.0) (subst (IsTornAt now p) (sym h.1) torn))
+          elsewhere_torn;
+    }
+
+    pub entry_untorn : (IsTornAt now p i → ⊥) → AreCounters capacity now (set xs p y) first
+    entry_untorn untorn = record {
+      beginnings = beginnings_followed;
+      torn = first_alike (IsTornAt w.old) (IsTornAt now) first
+          (λ k n. still_torn (w.old k n) (now k n) (w.below k n))
+          (λ k n torn. ⊎_elim (λ h. h) (λ h. absurd (untorn (subst (IsTornAt now p) h.1 (subst (λ (j : ℕ). IsTornAt now j n) h.0 torn)))) (elsewhere_torn k n torn))
+          w.counters.torn;
+    }
+
+-- ---- after other rows came in
+
+-- the rows below p have been gone through
+pub record Midway (capacity p : ℕ) (other now : Contents) (xs : List Beginning) (first : Option EntryKey) : Type 0 where
+  pub apart : WereApart capacity other now xs first
+  pub done : (k n : ℕ) → k < p → apart.old k n ≡ now k n
+
+module _ (capacity : ℕ) (other now : Contents) (xs : List Beginning) (first : Option EntryKey) where
+  pub midway_start : WereApart capacity other now xs first → Midway capacity 0 other now xs first
+  midway_start w = record { apart = w; done = λ k n low. absurd (omega (arith, low)) }
+
+  pub midway_end : (p : ℕ) → length xs ≤ p → Midway capacity p other now xs first → AreCounters capacity now xs first
+  midway_end p whole m =
+      let w = m.apart in
+      record {
+        beginnings = λ k b e. w.counters.beginnings k b e
+            ∙ (λ i. beginning_in capacity (λ n. m.done k n (let h = slice_get_within xs k b e in omega (arith, h, whole)) i));
+        torn = first_alike (IsTornAt w.old) (IsTornAt now) first
+            (λ k n. still_torn (w.old k n) (now k n) (w.below k n))
+            (λ k n torn. m.done k n (let h = (w.within k n torn).0 in omega (arith, h, whole)) ∙ torn)
+            w.counters.torn;
+      }
+
+  module _ (p : ℕ) (m : Midway capacity p other now xs first) where
+    pub midway_as_it_was : ((n : ℕ) → other p n ≡ None) → Midway capacity (p + 1) other now xs first
+    midway_as_it_was nothing = record {
+      apart = m.apart;
+      done = λ k n low. ⊎_elim
+          (λ same. sym (m.apart.same k (λ j. ap (λ q. other q j) same ∙ nothing j) n))
+          (λ ne. m.done k n (omega (arith, low, ne)))
+          (cases_eq k p);
+    }
+
+    abbrev mid : Contents
+    mid k n = cond (k == p) (now k n) (m.apart.old k n)
+
+    mid_here : (k n : ℕ) → k ≡ p → mid k n ≡ now k n
+    mid_here k n same = ap (λ b. cond b (now k n) (m.apart.old k n)) (eq-eqb k p same)
+
+    mid_there : (k n : ℕ) → k ≢ p → mid k n ≡ m.apart.old k n
+    mid_there k n ne = ap (λ b. cond b (now k n) (m.apart.old k n)) (ne_eqb k p ne)
+
+    pub midway_next : (y : Beginning) (found result : Option EntryKey) → p < length xs → y ≡ beginning_in capacity (now p) → IsFirstTornIn now p found → IsEarlier first found result
+        → Midway capacity (p + 1) other now (set xs p y) result
+    midway_next y found result room is torn e =
+        let w = m.apart in
+        record {
+          apart = record {
+            old = mid;
+            counters = record {
+              beginnings = one_followed capacity p w.old mid xs y room (is ∙ sym (λ i. beginning_in capacity (λ n. mid_here p n refl i))) mid_there w.counters.beginnings;
+              torn = earlier_first (IsTornAt w.old) (λ k n. (k ≡ p) × IsTornAt now k n) (IsTornAt mid) first found result w.counters.torn torn e
+                  (λ k n h. ⊎_elim
+                  (λ same. mid_here k n same ∙ still_torn (w.old k n) (now k n) (w.below k n) h)
+                  (λ ne. mid_there k n ne ∙ h)
+                  (cases_eq k p))
+                  (λ k n h. mid_here k n h.0 ∙ h.1)
+                  (λ k n h. ⊎_elim
+                  (λ same. inr (same, sym (mid_here k n same) ∙ h))
+                  (λ ne. inl (sym (mid_there k n ne) ∙ h))
+                  (cases_eq k p));
+            };
+            same = λ k nothing n. ⊎_elim (λ same. sym (mid_here k n same)) (λ ne. w.same k nothing n ∙ sym (mid_there k n ne)) (cases_eq k p);
+            below = λ k n. ⊎_elim
+                (λ same. subst (λ (h : Held Logged). HeldBelow h (now k n)) (sym (mid_here k n same)) (below_itself (now k n)))
+                (λ ne. subst (λ (h : Held Logged). HeldBelow h (now k n)) (sym (mid_there k n ne)) (w.below k n))
+                (cases_eq k p);
+            within = λ k n h. subst (λ (l : ℕ). (k < l) × (1 ≤ n) × (n ≤ capacity)) (sym (length-set xs p y)) (w.within k n h);
+          };
+          done = λ k n low. ⊎_elim
+              (λ same. mid_here k n same)
+              (λ ne. mid_there k n ne ∙ m.done k n (omega (arith, low, ne)))
+              (cases_eq k p);
+        }
+
+-- ---- the counters of a replica
+
+nothing_if : (h : Held Logged) → ((c : Flat Logged) → h ≡ Some c → ⊥) → h ≡ None
+nothing_if None none = refl
+nothing_if (Some c) none = absurd (none c refl)
+
+-- a number that no log has
+pub none_at_zero : (x : Replica) → IsReplica x → (k : ℕ) → x.at k 0 ≡ None
+none_at_zero x r k = nothing_if (x.at k 0) (λ c e. (let low = (r.in_range k 0 c e).1 in omega (arith, low)))
+
+module _ (x : Replica) (xs : List Beginning) (first : Option EntryKey) (counters : AreCounters x.capacity x.at xs first) where
+  -- after an entry was joined in
+  pub before_entry : (p i : ℕ) (e : Logged) (now : Contents) → 1 ≤ i → IsReplica (record { processors = x.processors; capacity = x.capacity; at = now })
+      → ((k n : ℕ) → now k n ≡ held_join entry_eq (x.at k n) (only p i e k n)) → WereBefore x.capacity p i now xs first
+  before_entry p i e now low r joined = record {
+    old = x.at;
+    counters = counters;
+    elsewhere = λ k n apart. joined k n ∙ held_after.other x p i e k n apart;
+    below = λ k n. between_below (x.at k n) (only p i e k n) (now k n) (inr (joined k n));
+    number = low;
+    zero = none_at_zero (record { processors = x.processors; capacity = x.capacity; at = now }) r p;
+  }
+
+  -- after other rows were joined in, or a part of them
+  pub before_join : (other now : Contents) → length xs ≡ x.processors → IsReplica (record { processors = x.processors; capacity = x.capacity; at = now })
+      → ((k n : ℕ) → Between (x.at k n) (other k n) (now k n)) → WereApart x.capacity other now xs first
+  before_join other now so_many r between = record {
+    old = x.at;
+    counters = counters;
+    same = λ k nothing n. ⊎_elim (λ e. e) (λ e. e ∙ ap (held_join entry_eq (x.at k n)) (nothing n) ∙ join_none (x.at k n)) (between k n);
+    below = λ k n. between_below (x.at k n) (other k n) (now k n) (between k n);
+    within = λ k n torn. (let range = r.in_range k n Torn torn in (subst (λ (l : ℕ). k < l) (sym so_many) range.0, range.1, range.2));
+  }
+
+-- where nothing is held
+begins_empty : (row : ℕ → Held Logged) → ((n : ℕ) → row n ≡ None) → (capacity : ℕ) → beginning_in capacity row ≡ record { count = 0; mark = 0 }
+begins_empty row nothing zero = refl
+begins_empty row nothing (suc left) = ap (λ c. record { count = length (run_on c 0 (run_from row left 2)); mark = last_floor 0 (run_on c 0 (run_from row left 2)) }) (nothing 1)
+
+pub counters_of_nothing : (m capacity : ℕ) (at : Contents) → ((k n : ℕ) → at k n ≡ None) → AreCounters capacity at (replicate m (record { count = 0; mark = 0 })) None
+counters_of_nothing m capacity at nothing = record {
+  beginnings = λ k b e.
+      (let empty : Beginning = record { count = 0; mark = 0 } in
+      let within = slice_get_within (replicate m empty) k b e in
+      let many = length-replicate m empty in
+      sym (get_or_from_slice_get (replicate m empty) k b b e) ∙ get_or-replicate m k empty b (omega (arith, within, many)) ∙ sym (begins_empty (at k) (nothing k) capacity));
+  torn = λ k n torn. (let none = sym (nothing k n) ∙ torn in absurd (cc));
+}
+
+-- how far the sound beginning of a processor goes
+module _ (x : Replica) (r : IsReplica x) (xs : List Beginning) (first : Option EntryKey) (so_many : length xs ≡ x.processors) (counters : AreCounters x.capacity x.at xs first) (k : ℕ) where
+  pub counted : (b : Beginning) → slice_get xs k ≡ Some b → (b.count ≡ length (sound_beginning x k)) × (b.count ≤ x.capacity) × (b.mark ≡ mark x k)
+  counted b e =
+      let is = counters.beginnings k b e in
+      let count : b.count ≡ length (sound_beginning x k) = ap (λ b. b.count) is in
+      let room = run_room (x.at k) x.capacity 1 0 in
+      (count, omega (arith, count, room), ap (λ b. b.mark) is)

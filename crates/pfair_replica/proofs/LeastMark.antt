@@ -1,0 +1,36 @@
+-- The frontier is the least of the marks.
+use Rattle.std.proofs.Common.{ℕ, zero, suc, ◌+◌, ◌<◌, ◌≤◌, ◌≡◌, refl, sym, ◌∙◌, subst, arith, inl, inr, ⊎_elim, min}
+use Rattle.std.specs.Prelude.{◌⊎◌, map, fold}
+use Rattle.std.proofs.lemmas.Bool.{cases_eq, cases_lt}
+use Rattle.pfair_replica.specs.Replica.{mark, numbers_below}
+use Rattle.pfair_replica.specs.Laws.{IsLeastMark}
+use Rattle.pfair_replica.proofs.Scanning.{least_more}
+
+module _ (f : ℕ → ℕ) (a : ℕ) where
+  least_next : (m : ℕ) → fold min a (map f (numbers_below (suc m))) ≡ min (fold min a (map f (numbers_below m))) (f m)
+  least_next m = subst (λ (q : ℕ). fold min a (map f (numbers_below q)) ≡ min (fold min a (map f (numbers_below m))) (f m)) (let next : m + 1 ≡ suc m = omega arith in next) (least_more f a m)
+
+  at_most_each : (m k : ℕ) → k < m → fold min a (map f (numbers_below m)) ≤ f k
+  at_most_each zero k h = absurd (omega (arith, h))
+  at_most_each (suc m) k h =
+      let next = least_next m in
+      ⊎_elim
+      (λ same. subst (λ (j : ℕ). fold min a (map f (numbers_below (suc m))) ≤ f j) (sym same) (omega (arith, next)))
+      (λ ne. (let more = at_most_each m k (omega (arith, h, ne)) in omega (arith, next, more)))
+      (cases_eq k m)
+
+  one_of_them : (m : ℕ) → (fold min a (map f (numbers_below m)) ≡ a) ⊎ ((k : ℕ) × (k < m) × (fold min a (map f (numbers_below m)) ≡ f k))
+  one_of_them zero = inl refl
+  one_of_them (suc m) =
+      let next = least_next m in
+      elim (cases_lt (f m) (fold min a (map f (numbers_below m)))) [
+        | inl lower ↦ inr (m, omega arith, omega (arith, next, lower))
+        | inr higher ↦ (let same : fold min a (map f (numbers_below (suc m))) ≡ fold min a (map f (numbers_below m)) = omega (arith, next, higher) in
+            ⊎_elim (λ first. inl (same ∙ first)) (λ k. inr (k.0, (let low = k.1 in omega (arith, low)), same ∙ k.2)) (one_of_them m))
+      ]
+
+pub least_mark : IsLeastMark
+least_mark = record {
+  below = λ x k h. at_most_each (mark x) (mark x 0) x.processors k h;
+  reached = λ x some. ⊎_elim (λ first. (0, omega (arith, some), first)) (λ k. k) (one_of_them (mark x) (mark x 0) x.processors);
+}

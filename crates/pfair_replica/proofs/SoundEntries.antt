@@ -1,0 +1,31 @@
+-- The entries of sound beginnings, read by their numbers, and kept by a replica that holds more.
+use Rattle.std.proofs.Common.{ℕ, zero, suc, ◌+◌, ◌≡◌, ap, ◌∙◌, arith, List, [], ◌∷◌, Some}
+use Rattle.std.specs.Prelude.{slice_get}
+use Rattle.pfair_lattice.specs.declared.flat.Flat.TheVariants.{One}
+use Rattle.pfair_lattice.specs.Held.{Held}
+use Rattle.pfair_entry.specs.Entry.{Logged}
+use Rattle.pfair_replica.specs.Replica.{sound_beginning}
+use Rattle.pfair_replica.specs.Laws.{IsRun, IsReadByNumber, BeginningsGrow}
+use Rattle.pfair_replica.proofs.Runs.{run_is_run, longest_run}
+use Rattle.pfair_replica.proofs.Marks.{held_within}
+use Rattle.pfair_replica.proofs.Following.{run_room}
+
+entry_in : (row : ℕ → Held Logged) (es : List Logged) (n floor i m : ℕ) (e : Logged) → m ≡ n + i → IsRun row n floor es → slice_get es i ≡ Some e → row m ≡ Some (One e)
+entry_in row [] n floor i m e at run is = absurd (cc)
+entry_in row (d ∷ es) n floor zero m e at run is = (let here : m ≡ n = omega (arith, at) in let one : d ≡ e = cc in ap row here ∙ run.0 ∙ ap (λ l. Some (One l)) one)
+entry_in row (d ∷ es) n floor (suc i) m e at run is = entry_in row es (suc n) d.floor i m e (omega (arith, at)) run.2 is
+
+pub read_by_number : IsReadByNumber
+read_by_number = record {
+  entry = λ x k i e is. entry_in (x.at k) (sound_beginning x k) 1 0 i (i + 1) e (omega arith) (run_is_run (x.at k) x.capacity 1 0) is;
+  within = λ x k. run_room (x.at k) x.capacity 1 0;
+}
+
+kept_run : (row now : ℕ → Held Logged) → ((m : ℕ) (e : Logged) → row m ≡ Some (One e) → now m ≡ Some (One e)) → (es : List Logged) (n floor : ℕ) → IsRun row n floor es → IsRun now n floor es
+kept_run row now kept [] n floor run = tt
+kept_run row now kept (e ∷ es) n floor run = (kept n e run.0, run.1, kept_run row now kept es (suc n) e.floor run.2)
+
+pub beginnings_grow : BeginningsGrow
+beginnings_grow x y r below untorn k =
+    (longest_run y r k).1 (sound_beginning x k)
+    (kept_run (x.at k) (y.at k) (λ m e. held_within x y below untorn k m (One e)) (sound_beginning x k) 1 0 (run_is_run (x.at k) x.capacity 1 0))

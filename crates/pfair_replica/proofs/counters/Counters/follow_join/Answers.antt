@@ -1,0 +1,36 @@
+use Rattle.std.proofs.Common.{◌<◌, ◌≤◌, refl, ◌∙◌, length, arith}
+use Rattle.std.proofs.lemmas.List.{length-set}
+use Rattle.pfair_replica.specs.HeldRows.{held_in}
+use Rattle.pfair_replica.proofs.Following.{midway_start, midway_end, midway_as_it_was, midway_next}
+use Rattle.pfair_replica.proofs.counters.Counters.follow_join.Goals as goal
+
+pub loop-processor-init : goal.loop-processor-init
+loop-processor-init c = record {
+  so_many = refl;
+  midway = midway_start c.args.capacity (held_in c.args.other.now) (held_in c.args.rows.now) c.args.self.now.beginnings.items c.args.self.now.torn c.requires.before;
+}
+
+pub loop-processor-preserved-then-holds_nothing : goal.loop-processor-preserved-then-holds_nothing
+loop-processor-preserved-then-holds_nothing c = record {
+  so_many = c.loop-processor.invariant.so_many;
+  midway = midway_as_it_was c.args.capacity (held_in c.args.other.now) (held_in c.args.rows.now) c.loop-processor.self.beginnings.items c.loop-processor.self.torn c.loop-processor.processor c.loop-processor.invariant.midway
+      (c.holds_nothing.ensures c.if-holds_nothing.true);
+}
+
+pub loop-processor-preserved : goal.loop-processor-preserved
+loop-processor-preserved c =
+    let same = c.loop-processor.invariant.so_many in
+    let rows = c.requires.rows in
+    let row : c.loop-processor.processor < length c.loop-processor.self.beginnings.items = omega arith in
+    record {
+      so_many = length-set c.loop-processor.self.beginnings.items c.loop-processor.processor c.carried_on.result ∙ same;
+      midway = midway_next c.args.capacity (held_in c.args.other.now) (held_in c.args.rows.now) c.loop-processor.self.beginnings.items c.loop-processor.self.torn c.loop-processor.processor c.loop-processor.invariant.midway
+          c.carried_on.result c.first_torn_in.result c.earlier-self.result row c.carried_on.ensures c.first_torn_in.ensures c.earlier-self.ensures;
+    }
+
+pub returns-clause-counters : goal.returns-clause-counters
+returns-clause-counters c =
+    let same = c.loop-processor.invariant.so_many in
+    let rows = c.requires.rows in
+    let whole : length c.loop-processor.self.beginnings.items ≤ c.loop-processor.processor = omega arith in
+    midway_end c.args.capacity (held_in c.args.other.now) (held_in c.args.rows.now) c.loop-processor.self.beginnings.items c.loop-processor.self.torn c.loop-processor.processor whole c.loop-processor.invariant.midway

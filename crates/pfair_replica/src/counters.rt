@@ -1,0 +1,196 @@
+//! What a replica keeps beside its rows, so that it is looked up: how far each sound beginning goes, and the first torn key.
+ghost use Rattle.std.specs.Prelude.{◌≡◌, ◌≤◌, ◌<◌, ◌↔◌, ◌+◌, ℕ, length, IsTrue, IfOk, Some, None, replicate};
+ghost use Rattle.pfair_replica.specs.Replica.{goes_on};
+ghost use Rattle.pfair_replica.specs.HeldRows.{held_in};
+ghost use Rattle.pfair_replica.specs.Counters.{beginning_in, IsPart, IsRunBefore, IsLeftAt, IsFirstTornIn, IsEarlier, IsTornAt, AreCounters, WereBefore, WereApart, ComesFirst};
+
+use crate::key::EntryKey;
+use crate::rows::{Rows, held_at, holds_nothing};
+use pfair_entry::Entry;
+use pfair_lattice::Flat;
+use std::alloc::{AllocError, Global};
+
+/// How far the sound beginning of a row goes.
+#[derive(Clone, Copy, Debug, PartialEq, Eq)]
+pub(crate) struct Beginning {
+    /// How many entries it has.
+    pub count: u32,
+    /// Its last floor, or 0 where it is empty.
+    pub mark: u64,
+}
+
+impl Beginning {
+    /// That of a row with nothing in it.
+    pub const EMPTY: Beginning = Beginning { count: 0, mark: 0 };
+}
+
+/// How far the sound beginning of each row goes, and which key is the first torn one.
+#[derive(Drop)]
+pub(crate) struct Counters {
+    /// By processors.
+    pub beginnings: Vec<Beginning>,
+    /// `None` where nothing is torn.
+    pub torn: Option<EntryKey>,
+}
+
+impl Counters {
+    /// Those of so many rows with nothing in them.
+    pub fn new(alloc: Global, processors: u8) -> Result<Counters, AllocError>
+        ensures beginnings { IfOk result (λ counters. counters.beginnings.items ≡ replicate processors (record { count = 0; mark = 0 })) }
+        ensures torn { IfOk result (λ counters. counters.torn ≡ None) }
+    {
+        Ok(Counters {
+            beginnings: vec![in alloc; Beginning::EMPTY; processors as usize]?,
+            torn: None,
+        })
+    }
+
+    /// The same again.
+    pub fn copy(&self) -> Result<Counters, AllocError>
+        ensures beginnings { IfOk result (λ copy. copy.beginnings.items ≡ self.now.beginnings.items) }
+        ensures torn { IfOk result (λ copy. copy.torn ≡ self.now.torn) }
+    {
+        Ok(Counters {
+            beginnings: self.beginnings.clone()?,
+            torn: self.torn,
+        })
+    }
+
+    /// Follows the rows after something came at one key: carries the sound beginning on over all that is held behind it, or takes it
+    /// back to before the key where that is torn in it.
+    pub fn follow_entry(&mut self, rows: &Rows, capacity: u32, key: EntryKey)
+        requires row { key.processor < length self.old.beginnings.items }
+        requires before { WereBefore capacity key.processor key.number (held_in rows.now) self.old.beginnings.items self.old.torn }
+        ensures counters { AreCounters capacity (held_in rows.now) self.new.beginnings.items self.new.torn }
+        ensures so_many { length self.new.beginnings.items ≡ length self.old.beginnings.items }
+    {
+        let row = key.processor as usize;
+        let part = part_left(rows, key, self.beginnings[row]);
+        self.beginnings[row] = carried_on(rows, capacity, key.processor, part);
+        if is_torn(rows, key.processor, key.number) {
+            self.torn = earlier(self.torn, Some(key));
+        }
+    }
+
+    /// Follows the rows after the other rows were joined in, or a part of them.
+    pub fn follow_join(&mut self, rows: &Rows, other: &Rows, processors: u8, capacity: u32)
+        requires rows { length self.old.beginnings.items ≡ processors }
+        requires before { WereApart capacity (held_in other.now) (held_in rows.now) self.old.beginnings.items self.old.torn }
+        ensures counters { AreCounters capacity (held_in rows.now) self.new.beginnings.items self.new.torn }
+        ensures so_many { length self.new.beginnings.items ≡ length self.old.beginnings.items }
+    {
+        for processor in 0..processors {
+            // where the other holds nothing the row is as it was
+            if holds_nothing(other, processor) {
+                continue;
+            }
+            self.beginnings[processor as usize] = carried_on(
+                rows,
+                capacity,
+                processor,
+                Beginning::EMPTY,
+            );
+            self.torn = earlier(self.torn, first_torn_in(rows, capacity, processor));
+        }
+    }
+}
+
+/// The entry that goes on a run with this last floor.
+pub(crate) fn going_on(rows: &Rows, processor: u8, number: u32, floor: u64) -> Option<Entry>
+    ensures { result ≡ goes_on (held_in rows.now processor number) floor }
+{
+    match held_at(rows, processor, number) {
+        Some(Flat::One(entry)) if floor <= entry.floor() => Some(entry),
+        _ => None,
+    }
+}
+
+/// The whole sound beginning of a row, from a part of it on.
+fn carried_on(rows: &Rows, capacity: u32, processor: u8, part: Beginning) -> Beginning
+    requires part { IsPart (held_in rows.now processor) part }
+    requires room { part.count ≤ capacity }
+    ensures { result ≡ beginning_in capacity (held_in rows.now processor) }
+{
+    let mut mark = part.mark;
+    for count in part.count..capacity {
+        match going_on(rows, processor, count + 1, mark) {
+            Some(entry) => mark = entry.floor(),
+            None => return Beginning { count, mark },
+        }
+    }
+    Beginning {
+        count: capacity,
+        mark,
+    }
+}
+
+/// The part of a sound beginning that is left after something came at one key.
+fn part_left(rows: &Rows, key: EntryKey, before: Beginning) -> Beginning
+    requires { IsLeftAt (held_in rows.now key.processor) key.number before }
+    ensures part { IsPart (held_in rows.now key.processor) result }
+    ensures shorter { result.count ≤ before.count }
+{
+    if key.number <= before.count && is_torn(rows, key.processor, key.number) {
+        part_before(rows, key)
+    } else {
+        before
+    }
+}
+
+/// The part of a sound beginning before an entry in it.
+fn part_before(rows: &Rows, key: EntryKey) -> Beginning
+    requires { IsRunBefore (held_in rows.now key.processor) key.number }
+    ensures part { IsPart (held_in rows.now key.processor) result }
+    ensures count { result.count + 1 ≡ key.number }
+{
+    let count = key.number - 1;
+    let mark = match held_at(rows, key.processor, count) {
+        Some(Flat::One(entry)) => entry.floor(),
+        _ => 0,
+    };
+    Beginning { count, mark }
+}
+
+/// Whether a key is torn.
+fn is_torn(rows: &Rows, processor: u8, number: u32) -> bool
+    ensures { IsTrue result ↔ IsTornAt (held_in rows.now) processor number }
+{
+    matches!(held_at(rows, processor, number), Some(Flat::Torn))
+}
+
+/// The first torn key of a processor.
+fn first_torn_in(rows: &Rows, capacity: u32, processor: u8) -> Option<EntryKey>
+    requires { (n : ℕ) → IsTornAt (held_in rows.now) processor n → (1 ≤ n) × (n ≤ capacity) }
+    ensures { IsFirstTornIn (held_in rows.now) processor result }
+{
+    for before in 0..capacity {
+        if is_torn(rows, processor, before + 1) {
+            return Some(EntryKey {
+                processor,
+                number: before + 1,
+            });
+        }
+    }
+    None
+}
+
+/// The one of two keys that comes first: by processors, and then by numbers.
+fn earlier(first: Option<EntryKey>, other: Option<EntryKey>) -> Option<EntryKey>
+    ensures { IsEarlier first other result }
+{
+    match first {
+        Some(key) => match other {
+            Some(next) if !comes_first(key, next) => other,
+            _ => first,
+        },
+        None => other,
+    }
+}
+
+/// Whether a key is the other or comes before it.
+fn comes_first(first: EntryKey, key: EntryKey) -> bool
+    ensures { IsTrue result ↔ ComesFirst first key.processor key.number }
+{
+    first.processor < key.processor
+        || (first.processor == key.processor && first.number <= key.number)
+}
