@@ -11,6 +11,8 @@ use Rattle.pfair_entry.specs.declared.said.Said.{Said}
 use Rattle.pfair_admission.specs.declared.decision.Decision.{Decision}
 use Rattle.pfair_admission.specs.declared.decision.Decision.TheVariants.{Admitted, Departing, Delayed, Refused}
 use Rattle.pfair_admission.specs.declared.delay.Delay.{Delay}
+use Rattle.pfair_entry.specs.declared.entry.TheConstants.Entry.{LAST_SLOT, LONGEST_DELAY}
+use Rattle.pfair_admission.specs.declared.members.TheConstants.Members.{MAX_HEARD}
 use Rattle.pfair_admission.specs.Member.{Member, last_offset}
 use Rattle.pfair_admission.specs.Admission.{Machine, is_named, change, newcomer, with_freeing, with_delay, with_quantum, effect, is_freed, present, decision, decided, all_decided, all_decisions, announcements, ran}
 use Rattle.pfair_admission.specs.Removal.{NoneFreed, EachHasRoom}
@@ -35,19 +37,19 @@ bounded_filter n p (x ∷ ms) h =
 pub bounded_present : (n t : ℕ) (ms : List Member) → EachBounded n ms → EachBounded n (present t ms)
 bounded_present n t ms h = bounded_filter n (λ (m : Member). not (is_freed t m.freed_at)) ms h
 
-bounded_push : (n : ℕ) (ms : List Member) (m : Member) → EachBounded n ms → last_offset m ≤ 1000000 + 1048576 * n → EachBounded n (ms ++ m ∷ [])
+bounded_push : (n : ℕ) (ms : List Member) (m : Member) → EachBounded n ms → last_offset m ≤ LAST_SLOT + LONGEST_DELAY * n → EachBounded n (ms ++ m ∷ [])
 bounded_push n [] m h b = (b, tt)
 bounded_push n (x ∷ ms) m h b = (h.0, bounded_push n ms m h.1 b)
 
-bounded_change : (n m : ℕ) (name : List ℕ) (f : Member → Member) → n ≤ m → ((x : Member) → last_offset x ≤ 1000000 + 1048576 * n → last_offset (f x) ≤ 1000000 + 1048576 * m) → (ms : List Member) → EachBounded n ms → EachBounded m (change name f ms)
+bounded_change : (n m : ℕ) (name : List ℕ) (f : Member → Member) → n ≤ m → ((x : Member) → last_offset x ≤ LAST_SLOT + LONGEST_DELAY * n → last_offset (f x) ≤ LAST_SLOT + LONGEST_DELAY * m) → (ms : List Member) → EachBounded n ms → EachBounded m (change name f ms)
 bounded_change n m name f up keeps [] h = tt
 bounded_change n m name f up keeps (x ∷ ms) h =
-    (elim (is_named name x) as (λ b. last_offset (cond b (f x) x) ≤ 1000000 + 1048576 * m) [ true ↦ keeps x h.0 | false ↦ (let o = h.0 in omega arith) ], bounded_change n m name f up keeps ms h.1)
+    (elim (is_named name x) as (λ b. last_offset (cond b (f x) x) ≤ LAST_SLOT + LONGEST_DELAY * m) [ true ↦ keeps x h.0 | false ↦ (let o = h.0 in omega arith) ], bounded_change n m name f up keeps ms h.1)
 
-bounded_delay : (n index by : ℕ) → by ≤ 1048576 → (x : Member) → last_offset x ≤ 1000000 + 1048576 * n → last_offset (with_delay index by x) ≤ 1000000 + 1048576 * (n + 1)
+bounded_delay : (n index by : ℕ) → by ≤ LONGEST_DELAY → (x : Member) → last_offset x ≤ LAST_SLOT + LONGEST_DELAY * n → last_offset (with_delay index by x) ≤ LAST_SLOT + LONGEST_DELAY * (n + 1)
 bounded_delay n index by small x o = let s = sum_by_push (λ (d : Delay). d.by) x.delays (record { index = index; by = by }) in omega (arith, s)
 
-bounded_effect : (n t : ℕ) (ms : List Member) (a : Announcement) (d : Decision) → t ≤ 1000000 → IsWithinLimits a → EachBounded n ms → EachBounded (n + 1) (effect t ms a d)
+bounded_effect : (n t : ℕ) (ms : List Member) (a : Announcement) (d : Decision) → t ≤ LAST_SLOT → IsWithinLimits a → EachBounded n ms → EachBounded (n + 1) (effect t ms a d)
 bounded_effect n t ms (Arrive name w early) Admitted in_time limits h =
     bounded_push (n + 1) ms (newcomer t name w early) (bounded_later n (n + 1) (omega arith) ms h) (omega arith)
 bounded_effect n t ms (Arrive name w early) (Departing slot) in_time limits h = bounded_later n (n + 1) (omega arith) ms h
@@ -63,7 +65,7 @@ bounded_effect n t ms (Late name index by) (Departing slot) in_time limits h = b
 bounded_effect n t ms (Late name index by) (Refused r) in_time limits h = bounded_later n (n + 1) (omega arith) ms h
 
 -- one announcement more
-pub bounded_decided : (machine : Machine) (n t : ℕ) (ms : List Member) (a : Announcement) → t ≤ 1000000 → IsWithinLimits a → EachBounded n ms → EachBounded (n + 1) (decided machine t ms a)
+pub bounded_decided : (machine : Machine) (n t : ℕ) (ms : List Member) (a : Announcement) → t ≤ LAST_SLOT → IsWithinLimits a → EachBounded n ms → EachBounded (n + 1) (decided machine t ms a)
 bounded_decided machine n t ms a in_time limits h =
     bounded_present (n + 1) t (effect t ms a (decision machine t ms a)) (bounded_effect n t ms a (decision machine t ms a) in_time limits h)
 
@@ -71,7 +73,7 @@ pub bounded_ran : (n : ℕ) (name : List ℕ) (ms : List Member) → EachBounded
 bounded_ran n name ms h = bounded_change n n name with_quantum (omega arith) (λ x o. o) ms h
 
 -- while fewer announcements are heard than can be, each member has room for one delay more
-pub has_room : (n : ℕ) (ms : List Member) → n < 262144 → EachBounded n ms → EachHasRoom ms
+pub has_room : (n : ℕ) (ms : List Member) → n < MAX_HEARD → EachBounded n ms → EachHasRoom ms
 has_room n [] few h = tt
 has_room n (x ∷ ms) few h = (let o = h.0 in omega arith, has_room n ms few h.1)
 

@@ -11,6 +11,8 @@ use Rattle.pfair_entry.specs.declared.announcement.Announcement.TheVariants.{Arr
 use Rattle.pfair_admission.specs.declared.decision.Decision.{Decision}
 use Rattle.pfair_admission.specs.declared.decision.Decision.TheVariants.{Admitted, Departing, Delayed, Refused}
 use Rattle.pfair_admission.specs.declared.refusal.Refusal.TheVariants.{NameTaken, PeriodOutsideFrame, NoRoom}
+use Rattle.pfair_entry.specs.declared.entry.TheConstants.Entry.{LONGEST_DELAY}
+use Rattle.pfair_admission.specs.declared.members.TheConstants.Members.{MAX_PROCESSORS, MAX_FRAME}
 use Rattle.pfair_admission.specs.Member.{Member, last_offset}
 use Rattle.pfair_admission.specs.Admission.{Machine, is_named, member_named, claimed, arrival, departure, late_release, change, newcomer, with_freeing, with_delay, with_quantum, effect, present, decided, ran}
 use Rattle.pfair_admission.specs.Removal.{without, NoneFreedBefore, NoneFreed, EachHasRoom}
@@ -18,7 +20,7 @@ use Rattle.pfair_admission.specs.Roster.{NamesApart}
 use Rattle.pfair_admission.specs.Standing.{Standing}
 use Rattle.pfair_admission.proofs.MemberLists.{present_all, none_freed_push, none_freed_change, gone_at_once, first_change, claimed_change, claimed_without, units_named}
 
-pub product_fits : (p f : ℕ) → p ≤ 64 → f ≤ 1000000000 → p * f ≤ 64000000000
+pub product_fits : (p f : ℕ) → p ≤ MAX_PROCESSORS → f ≤ MAX_FRAME → p * f ≤ MAX_PROCESSORS * MAX_FRAME
 product_fits p f a b = grind arith
 
 -- ---- arrivals
@@ -110,11 +112,11 @@ claimed_gone frame slot ms after gone name m apart changed removed found =
 -- ---- late releases
 
 -- the named member has room for one delay more
-pub room_of_named : (ms : List Member) (name : List ℕ) (m : Member) → EachHasRoom ms → member_named ms name ≡ Some m → last_offset m + 1048576 ≤ MAX_OFFSET
+pub room_of_named : (ms : List Member) (name : List ℕ) (m : Member) → EachHasRoom ms → member_named ms name ≡ Some m → last_offset m + LONGEST_DELAY ≤ MAX_OFFSET
 room_of_named [] name m h found = absurd (cc)
 room_of_named (x ∷ ms) name m h found =
-    (elim (is_named name x) as (λ b. cond b (Some x) (member_named ms name) ≡ Some m → last_offset m + 1048576 ≤ MAX_OFFSET) [
-      | true ↦ λ e. subst (λ (l : Member). last_offset l + 1048576 ≤ MAX_OFFSET) (same x m e) h.0
+    (elim (is_named name x) as (λ b. cond b (Some x) (member_named ms name) ≡ Some m → last_offset m + LONGEST_DELAY ≤ MAX_OFFSET) [
+      | true ↦ λ e. subst (λ (l : Member). last_offset l + LONGEST_DELAY ≤ MAX_OFFSET) (same x m e) h.0
       | false ↦ λ e. room_of_named ms name m h.1 e
     ]) found
   where

@@ -1,7 +1,8 @@
-pub mod Boundaries
-pub mod Changes
-pub mod Deciding
-pub mod Keeping
-pub mod MemberLists
-pub mod Registers
-pub mod Sums
+mod Boundaries
+mod Changes
+mod Deciding
+mod Delays
+mod Keeping
+mod MemberLists
+mod Registers
+mod Sums

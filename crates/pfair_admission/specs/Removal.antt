@@ -1,8 +1,9 @@
 -- Members that go, and when the first of them goes.
-use Rattle.std.specs.Prelude.{ℕ, ◌+◌, min, false, ◌≡◌, ◌≤◌, not, List, filter, Option, Some, None, ⊤}
+use Rattle.std.specs.Prelude.{ℕ, ◌+◌, min, false, ◌≡◌, ◌≤◌, not, List, filter, Option, Some, None, IfSome, Any, ⊤}
 use Rattle.std.specs.List.{AllByRecursion}
 use Rattle.pfair_admission.specs.Member.{Member, last_offset}
 use Rattle.pfair_weight.specs.declared.window.TheConstants.{MAX_OFFSET}
+use Rattle.pfair_entry.specs.declared.entry.TheConstants.Entry.{LONGEST_DELAY}
 use Rattle.pfair_admission.specs.Admission.{is_named, is_freed}
 
 -- all members but the named one
@@ -25,10 +26,14 @@ IsNotBefore (Some first) (Some slot) = first ≤ slot
 abbrev pub NoneFreedBefore : Option ℕ → List Member → Type 0
 NoneFreedBefore first members = AllByRecursion (λ m. IsNotBefore first m.freed_at) members
 
+-- some member is freed at the slot, where there is one
+abbrev pub SomeFreedAt : Option ℕ → List Member → Type 0
+SomeFreedAt slot members = IfSome slot (λ s. Any (λ m. m.freed_at ≡ Some s) members)
+
 -- who is freed at slot t is gone
 abbrev pub NoneFreed : ℕ → List Member → Type 0
 NoneFreed t members = AllByRecursion (λ m. is_freed t m.freed_at ≡ false) members
 
 -- each member has room for one delay more
 abbrev pub EachHasRoom : List Member → Type 0
-EachHasRoom members = AllByRecursion (λ m. last_offset m + 1048576 ≤ MAX_OFFSET) members
+EachHasRoom members = AllByRecursion (λ m. last_offset m + LONGEST_DELAY ≤ MAX_OFFSET) members

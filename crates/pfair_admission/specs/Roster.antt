@@ -3,6 +3,7 @@ use Rattle.std.specs.Prelude.{ℕ, ◌≡◌, ◌+◌, ◌*◌, ◌≤◌, List,
 use Rattle.std.specs.List.{AllByRecursion, IsDistinct}
 use Rattle.pfair_entry.specs.Same.{name_eq}
 use Rattle.pfair_entry.specs.declared.announcement.Announcement.{Announcement}
+use Rattle.pfair_entry.specs.declared.entry.TheConstants.Entry.{LAST_SLOT, LONGEST_DELAY}
 use Rattle.pfair_admission.specs.Member.{Member, last_offset}
 use Rattle.pfair_admission.specs.Admission.{Machine, present, all_decided}
 
@@ -22,4 +23,4 @@ NamesApart members = IsDistinct name_eq (map (λ m. m.name) members)
 
 -- after so many announcements no member's offsets are past what as many of the longest delays make of the last slot
 abbrev pub EachBounded : ℕ → List Member → Type 0
-EachBounded heard members = AllByRecursion (λ m. last_offset m ≤ 1000000 + 1048576 * heard) members
+EachBounded heard members = AllByRecursion (λ m. last_offset m ≤ LAST_SLOT + LONGEST_DELAY * heard) members

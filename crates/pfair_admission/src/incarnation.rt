@@ -1,20 +1,21 @@
 //! One incarnation of a task: from its joining slot to its freeing slot.
-ghost use Rattle.std.specs.Prelude.{◌≡◌, ◌≤◌, ◌<◌, ◌+◌, ◌^◌, Some, IfOk, OnErr, sum_by, filter, nat_le};
-ghost use Rattle.pfair_admission.specs.Member.{IsMember, last_offset, theta, is_departing, is_delayed_at, eligible_from, next_key, claim_end, freeing_slot};
-ghost use Rattle.std.specs.Prelude.{◌==◌};
-ghost use Rattle.std.specs.List.{list_any};
-ghost use Rattle.pfair_admission.specs.Admission.{newcomer, is_freed, departure, late_release, running};
+ghost use Rattle.std.specs.Prelude.{◌≡◌, ◌≤◌, ◌<◌, ◌+◌, Some, IfOk, OnOk, OnErr, nat_lt};
+ghost use Rattle.pfair_weight.specs.Window.{release_of};
+ghost use Rattle.pfair_admission.specs.Member.{IsMember, last_offset, theta, is_departing, eligible_from, next_key, claim_end, freeing_slot};
+ghost use Rattle.pfair_admission.specs.Admission.{newcomer, with_delay, is_freed, departure, late_release, running};
 ghost use Rattle.pfair_admission.specs.Change.{after_departure, after_late_release, after_quantum};
 ghost use Rattle.std.specs.Option.{option_map};
 
 use crate::decision::Decision;
-use crate::delay::Delay;
+use crate::delay::{Delay, add_at, delay_up_to, is_delayed_at};
 use crate::refusal::Refusal;
 use pfair_order::Key;
 use pfair_weight::{
-    MAX_INDEX, MAX_OFFSET, TaskName, Weight, b_bit, deadline, group_deadline, release, starts_job,
+    MAX_INDEX, MAX_OFFSET, Stepper, TaskName, Weight, b_bit, deadline, group_deadline, release,
+    starts_job,
 };
 use std::alloc::{AllocError, Global};
+use std::collections::BTreeMap;
 use std::marker::Model;
 
 /// One incarnation of a task, as a member: from its joining slot to its freeing slot.
@@ -27,20 +28,25 @@ pub struct Incarnation {
     early: bool,
     joined: u64,
     delays: Vec<Delay>,
-    next: u64,
+    // Stands at the next subtask.
+    stepper: Stepper,
+    // Whether an accepted delay has exactly the index of the next subtask.
+    is_put_off: bool,
+    // The delays of the subtasks after the next one, those of one index added up.
+    coming: BTreeMap<u64, u64>,
     freed_at: Option<u64>,
 }
 
 impl Model for Incarnation {
-    ghost use Rattle.pfair_admission.specs.Member.{Member, IsMember};
+    ghost use Rattle.pfair_admission.specs.Member.{Member};
 
     ghost Value = { Member };
 
-    ghost use Rattle.pfair_admission.specs.Incarnation.{member_of};
+    ghost use Rattle.pfair_admission.specs.Incarnation.{member_of, IsIncarnation};
 
     ghost view = { member_of };
 
-    ghost invariant = { λ a. IsMember (member_of a) };
+    ghost invariant = { IsIncarnation };
 }
 
 impl Incarnation {
@@ -55,7 +61,9 @@ impl Incarnation {
             early,
             joined: slot,
             delays: Vec::new(alloc),
-            next: 1,
+            stepper: Stepper::new(weight, slot),
+            is_put_off: false,
+            coming: BTreeMap::new(alloc),
             freed_at: None,
         }
     }
@@ -98,7 +106,7 @@ impl Incarnation {
         ensures value { result ≡ self.now.next }
         ensures member { IsMember self.now }
     {
-        self.next
+        self.stepper.index()
     }
 
     /// The slot from which its weight and its name are free, where it is departing.
@@ -118,7 +126,7 @@ impl Incarnation {
 
     /// The offset of the windows of subtask `index`, in slots: the joining slot and the accepted
     /// delays of this subtask and of those before it (the intra-sporadic model of Anderson and
-    /// Srinivasan).
+    /// Srinivasan). It goes through the accepted delays once.
     pub fn theta(&self, index: u64) -> u64
         ensures value { result ≡ theta self.now index }
         ensures within { result ≤ MAX_OFFSET }
@@ -129,7 +137,7 @@ impl Incarnation {
 
     /// The slot from which subtask `index` may run, once the one before it has run: its release,
     /// or, for an early task, the joining slot where the subtask doesn't start a job and no
-    /// accepted delay has exactly its index.
+    /// accepted delay has exactly its index. It goes through the accepted delays, twice at most.
     pub fn eligible(&self, index: u64) -> u64
         requires first { 1 ≤ index }
         requires last { index ≤ MAX_INDEX }
@@ -142,16 +150,33 @@ impl Incarnation {
         }
     }
 
-    /// The slot from which the next subtask may run, and its key.
+    /// The slot from which the next subtask may run, and its key. It costs the same however many
+    /// delays were accepted.
     pub fn next_subtask(&self) -> (u64, Key)
         ensures { result ≡ (eligible_from self.now self.now.next, next_key self.now) }
     {
-        let key = Key::of(self.weight, self.next, self.theta(self.next), self.name);
-        (self.eligible(self.next), key)
+        let key = Key {
+            d: self.stepper.deadline(),
+            b: self.stepper.b_bit(),
+            group: self.stepper.group_deadline(),
+            name: self.name,
+        };
+        (self.eligible_next(), key)
+    }
+
+    // The slot from which the next subtask may run.
+    fn eligible_next(&self) -> u64
+        ensures { result ≡ eligible_from self.now self.now.next }
+    {
+        if self.early && !self.is_put_off && !starts_job(self.weight, self.stepper.index()) {
+            return self.joined;
+        }
+        self.stepper.release()
     }
 
     /// It departs at `slot`, unless that is refused. Its weight and its name are free from that
-    /// slot on where it never ran, and else no slot before the claim of its last subtask ends.
+    /// slot on where it never ran, and else from the later of that slot and the one in which the
+    /// claim of its last subtask ends.
     pub(crate) fn depart(&mut self, slot: u64) -> Decision
         ensures decision { result ≡ departure slot (Some self.old) }
         ensures member { self.new ≡ after_departure result self.old }
@@ -177,11 +202,44 @@ impl Incarnation {
         if self.is_departing() {
             return Ok(Decision::Refused(Refusal::AlreadyDeparting));
         }
-        if release(self.weight, index, self.theta(index)) < slot || index < self.next {
+        if index < self.next() || self.is_released_before(slot, index) {
             return Ok(Decision::Refused(Refusal::AlreadyReleased));
         }
-        self.delays.push(Delay { index, by })?;
+        self.put_off(index, by)?;
         Ok(Decision::Delayed)
+    }
+
+    // Whether subtask `index`, which is the next one or a later one, is released before `slot`. Its
+    // offset is at least that of the next one; only where the next one's would not do are the
+    // accepted delays gone through.
+    fn is_released_before(&self, slot: u64, index: u64) -> bool
+        requires later { self.now.next ≤ index }
+        requires last { index ≤ MAX_INDEX }
+        ensures { result ≡ nat_lt (release_of self.now.weight index (theta self.now index)) slot }
+    {
+        if release(self.weight, index, self.stepper.theta()) >= slot {
+            return false;
+        }
+        release(self.weight, index, self.theta(index)) < slot
+    }
+
+    // Subtask `index`, which is the next one or a later one, and all after it come so many slots
+    // later.
+    fn put_off(&mut self, index: u64, by: u64) -> Result<(), AllocError>
+        requires later { self.old.next ≤ index }
+        requires room { last_offset self.old + by ≤ MAX_OFFSET }
+        ensures ok { OnOk result (self.new ≡ with_delay index by self.old) }
+        ensures err { OnErr result (self.new ≡ self.old) }
+    {
+        self.delays.reserve(1)?;
+        if index == self.stepper.index() {
+            self.stepper.delay(by);
+            self.is_put_off = true;
+        } else {
+            add_at(&mut self.coming, index, by)?;
+        }
+        self.delays.push(Delay { index, by })?;
+        Ok(())
     }
 
     /// It has one quantum more, unless it is departing, and the answer is the subtask's index.
@@ -193,8 +251,13 @@ impl Incarnation {
         if self.is_departing() {
             return None;
         }
-        let index = self.next;
-        self.next += 1;
+        let index = self.stepper.index();
+        self.stepper.advance();
+        let delay = self.coming.remove(&(index + 1));
+        self.is_put_off = delay.is_some();
+        if let Some(by) = delay {
+            self.stepper.delay(by);
+        }
         Some(index)
     }
 
@@ -202,10 +265,10 @@ impl Incarnation {
     fn freeing_slot(&self, slot: u64) -> u64
         ensures { result ≡ freeing_slot self.now slot }
     {
-        if self.next == 1 {
+        if self.next() == 1 {
             slot
         } else {
-            slot.max(self.claim_end(self.next - 1))
+            slot.max(self.claim_end(self.next() - 1))
         }
     }
 
@@ -222,25 +285,6 @@ impl Incarnation {
             deadline(self.weight, index, theta) + b_bit(self.weight, index)
         }
     }
-}
-
-// The sum of the delays whose index is at most `index`.
-fn delay_up_to(delays: &[Delay], index: u64) -> u64
-    requires { sum_by (λ d. d.by) delays.now < 2 ^ 64 }
-    ensures { result ≡ sum_by (λ d. d.by) (filter (λ d. nat_le d.index index) delays.now) }
-{
-    delays
-        .iter()
-        .filter(|d| d.index <= index)
-        .map(|d| d.by)
-        .sum()
-}
-
-// Whether a delay has exactly this index.
-fn is_delayed_at(delays: &[Delay], index: u64) -> bool
-    ensures { result ≡ list_any (λ d. d.index == index) delays.now }
-{
-    delays.iter().any(|d| d.index == index)
 }
 
 /// Whether a freeing slot has come at `slot`.

@@ -10,6 +10,7 @@ ghost use Rattle.pfair_admission.specs.Removal.{NoneFreed, EachHasRoom};
 
 use crate::decision::Decision;
 use crate::incarnation::{Incarnation, has_come};
+use crate::members::Members;
 use crate::refusal::Refusal;
 use crate::registry::{Registry, claim_of, earlier};
 use pfair_entry::Announcement;
@@ -42,8 +43,8 @@ impl Model for Ledger {
 
 impl Ledger {
     pub(crate) fn new(alloc: Global, processors: u8, frame: u64) -> Self
-        requires processors { processors ≤ 64 }
-        requires frame { frame ≤ 1000000000 }
+        requires processors { processors ≤ Members.MAX_PROCESSORS }
+        requires frame { frame ≤ Members.MAX_FRAME }
         ensures { result ≡ record { machine = record { processors = processors; frame = frame }; members = [] } }
     {
         Ledger {

@@ -10,7 +10,7 @@ ghost use Rattle.pfair_admission.specs.Roster.{LeavesBeginning};
 use crate::decision::Decision;
 use crate::incarnation::Incarnation;
 use crate::ledger::Ledger;
-use pfair_entry::{Announcement, Said};
+use pfair_entry::{Announcement, Entry, Said};
 use pfair_weight::TaskName;
 use std::alloc::{AllocError, Global};
 use std::marker::Model;
@@ -38,6 +38,15 @@ impl Model for Members {
 }
 
 impl Members {
+    /// The most processors of a machine.
+    pub const MAX_PROCESSORS: u8 = 64;
+
+    /// The longest frame, in slots.
+    pub const MAX_FRAME: u64 = 1_000_000_000;
+
+    /// The most announcements over all boundaries.
+    pub const MAX_HEARD: u64 = 262_144;
+
     /// No member, on a machine of 1 to 64 processors with frames of 1 to 1,000,000,000 slots.
     /// Takes no memory.
     pub fn new(alloc: Global, processors: u8, frame: u64) -> Self
@@ -60,9 +69,20 @@ impl Members {
     /// are decided one by one in their order. There are at most 262,144 announcements over all
     /// calls.
     ///
+    /// It costs three passes over all members where a freeing slot has come since the last
+    /// boundary, and none where not. Then each announcement costs a look-up of its name, and
+    ///
+    /// - an arrival: a second one where it is admitted;
+    /// - a departure: a pass over the accepted delays of the member where it ran, and one over the
+    ///   members admitted after it where it is freed at its very stamp;
+    /// - a late release: a number of steps that grows with the logarithm of the number of later
+    ///   subtasks that are put off, and a pass over the accepted delays of the member where the
+    ///   offset of its next subtask would have the named one released before `slot`.
+    ///
     /// # Errors
-    /// [`AllocError`] where memory was refused. The members are then those that the frees and some
-    /// beginning of the announcements leave, and all announcements count as heard.
+    /// [`AllocError`] where memory was refused, which is only where something was announced. The
+    /// members are then those that the frees and some beginning of the announcements leave, and all
+    /// announcements count as heard.
     pub fn boundary(&mut self, slot: u64, heard: &[Said]) -> Result<Vec<Decision>, AllocError>
         requires slot { slot ≤ 1000000 }
         requires order { ForSome self.old.last_slot (λ last. last ≤ slot) }
@@ -71,6 +91,7 @@ impl Members {
         ensures decisions { IfOk result (λ all. all.items ≡ boundary_decisions self.old.machine slot self.old.members (announcements heard.now)) }
         ensures members { OnOk result (self.new.members ≡ boundary self.old.machine slot self.old.members (announcements heard.now)) }
         ensures err { OnErr result (LeavesBeginning self.old.machine slot self.old.members (announcements heard.now) self.new.members) }
+        ensures wanted { OnErr result (0 < length heard.now) }
         ensures machine { self.new.machine ≡ self.old.machine }
         ensures heard { self.new.heard ≡ self.old.heard + length heard.now }
         ensures last_slot { self.new.last_slot ≡ Some slot }
@@ -85,13 +106,14 @@ impl Members {
 
     // The announcements are decided one by one.
     fn decide_all(&mut self, slot: u64, heard: &[Said]) -> Result<Vec<Decision>, AllocError>
-        requires slot { slot ≤ 1000000 }
+        requires slot { slot ≤ Entry.LAST_SLOT }
         requires present { NoneFreed slot self.old.members }
-        requires heard { self.old.heard + length heard.now ≤ 262144 }
+        requires heard { self.old.heard + length heard.now ≤ Members.MAX_HEARD }
         requires limits { AllByRecursion (λ a. IsWithinLimits a.announcement) heard.now }
         ensures decisions { IfOk result (λ all. all.items ≡ all_decisions self.old.machine slot self.old.members (announcements heard.now)) }
         ensures members { OnOk result (self.new.members ≡ all_decided self.old.machine slot self.old.members (announcements heard.now)) }
         ensures err { OnErr result ((k : ℕ) × (self.new.members ≡ all_decided self.old.machine slot self.old.members (take k (announcements heard.now)))) }
+        ensures wanted { OnErr result (0 < length heard.now) }
         ensures machine { self.new.machine ≡ self.old.machine }
         ensures heard { self.new.heard ≤ self.old.heard + length heard.now }
         ensures last_slot { self.new.last_slot ≡ self.old.last_slot }
@@ -105,9 +127,9 @@ impl Members {
 
     // One announcement is decided, and heard.
     fn decide(&mut self, slot: u64, announcement: Announcement) -> Result<Decision, AllocError>
-        requires slot { slot ≤ 1000000 }
+        requires slot { slot ≤ Entry.LAST_SLOT }
         requires present { NoneFreed slot self.old.members }
-        requires heard { self.old.heard < 262144 }
+        requires heard { self.old.heard < Members.MAX_HEARD }
         requires limits { IsWithinLimits announcement }
         ensures decision { IfOk result (λ d. d ≡ decision self.old.machine slot self.old.members announcement) }
         ensures members { OnOk result (self.new ≡ record self.old { members = decided self.old.machine slot self.old.members announcement; heard = self.old.heard + 1 }) }
@@ -121,6 +143,9 @@ impl Members {
     /// Gives the next subtask of the named member a quantum and answers the subtask's index, or
     /// `None`, with nothing changed, where no member that isn't departing has the name. The
     /// member's next index is at most 1,000,000.
+    ///
+    /// It costs a look-up of the name, and a number of steps that grows with the logarithm of the
+    /// number of later subtasks that are put off.
     pub fn ran(&mut self, name: &TaskName) -> Option<u64>
         requires { ForSome (member_named self.old.members name.now) (λ m. m.next ≤ 1000000) }
         ensures index { result ≡ option_map (λ m. m.next) (running (member_named self.old.members name.now)) }
@@ -129,7 +154,7 @@ impl Members {
         self.ledger.run(name)
     }
 
-    /// The member of that name, departing or not.
+    /// The member of that name, departing or not. It costs one look-up, whatever the members are.
     pub fn get(&self, name: &TaskName) -> Option<&Incarnation>
         ensures { option_copied result ≡ member_named self.now.members name.now }
     {
@@ -150,7 +175,8 @@ impl Members {
         self.len() == 0
     }
 
-    /// The member at a place in the order of admission, from 0, and its name.
+    /// The member at a place in the order of admission, from 0, and its name. It goes through no
+    /// others.
     pub fn at(&self, place: usize) -> Option<(&TaskName, &Incarnation)>
         ensures name { option_map (λ m. m.0.now) result ≡ option_map (λ m. m.name) (slice_get self.now.members place) }
         ensures member { option_map (λ m. m.1.now) result ≡ slice_get self.now.members place }

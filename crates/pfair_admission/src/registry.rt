@@ -4,7 +4,7 @@ ghost use Rattle.std.specs.Option.{ForSome, option_copied, option_map};
 ghost use Rattle.pfair_entry.specs.declared.announcement.Announcement.TheVariants.{Arrive, Depart, Late};
 ghost use Rattle.pfair_admission.specs.Member.{last_offset};
 ghost use Rattle.pfair_admission.specs.Admission.{member_named, departure, late_release, effect, present, claimed, running, ran, is_freed};
-ghost use Rattle.pfair_admission.specs.Removal.{without, earlier_of, NoneFreedBefore};
+ghost use Rattle.pfair_admission.specs.Removal.{without, earlier_of, NoneFreedBefore, SomeFreedAt};
 ghost use Rattle.pfair_weight.specs.Share.{units_of};
 ghost use Rattle.pfair_admission.specs.Roster.{NamesApart};
 
@@ -152,7 +152,8 @@ impl Registry {
 
     /// The first slot in which a member is freed.
     pub(crate) fn first_freeing(&self) -> Option<u64>
-        ensures { NoneFreedBefore result self.now }
+        ensures first { NoneFreedBefore result self.now }
+        ensures freed { SomeFreedAt result self.now }
     {
         let mut first = None;
         for place in 0..self.members.len() {

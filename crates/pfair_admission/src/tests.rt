@@ -1,5 +1,5 @@
 //! Worked boundaries.
-ghost use Rattle.std.specs.Prelude.{◌≤◌};
+ghost use Rattle.std.specs.Prelude.{◌≤◌, ◌<◌};
 ghost use Rattle.std.specs.List.{AllByRecursion};
 ghost use Rattle.pfair_entry.specs.Entry.{IsWithinLimits};
 
@@ -291,6 +291,101 @@ fn releases_early_within_a_job(rt: &impl Abort, alloc: Global) -> Result<(), All
     Ok(())
 }
 
+// The member's next subtask is this one, from this slot on, with this deadline.
+fn is_next(
+    rt: &impl Abort,
+    members: &Members,
+    name: &TaskName,
+    index: u64,
+    begins_at: u64,
+    deadline: u64,
+) {
+    let member = members.get(name).expect(rt, "a member");
+    let (begins, key) = member.next_subtask();
+    assert_eq!(rt;
+        (member.next(), begins, key.d),
+        (index, begins_at, deadline)
+    );
+    assert!(rt; key.name == *name);
+}
+
+fn adds_up_delays(rt: &impl Abort, alloc: Global) -> Result<(), AllocError> {
+    let (a, mut members) = (name(rt, "a"), Members::new(alloc, 1, 2));
+    let heard = [
+        arrives(rt, "a", 1, 2, false),
+        is_late(rt, "a", 3, 1),
+        is_late(rt, "a", 2, 2),
+    ];
+    let expected = [Decision::Admitted, Decision::Delayed, Decision::Delayed];
+    decides(rt, &mut members, 0, heard.as_slice(), expected.as_slice())?;
+    is_next(rt, &members, &a, 1, 0, 2);
+    assert_eq!(rt; runs(&mut members, &a), Some(1));
+    is_next(rt, &members, &a, 2, 4, 6);
+    decides_one(
+        rt,
+        &mut members,
+        1,
+        is_late(rt, "a", 3, 4),
+        Decision::Delayed,
+    )?;
+    is_next(rt, &members, &a, 2, 4, 6);
+    let member = members.get(&a).expect(rt, "a member");
+    for (index, theta, eligible) in [(1, 0, 0), (2, 2, 4), (3, 7, 11)] {
+        assert_eq!(rt;
+            (member.theta(index), member.eligible(index)),
+            (theta, eligible)
+        );
+    }
+    assert_eq!(rt; runs(&mut members, &a), Some(2));
+    is_next(rt, &members, &a, 3, 11, 13);
+    decides_one(
+        rt,
+        &mut members,
+        2,
+        is_late(rt, "a", 3, 5),
+        Decision::Delayed,
+    )?;
+    is_next(rt, &members, &a, 3, 16, 18);
+    assert_eq!(rt; runs(&mut members, &a), Some(3));
+    is_next(rt, &members, &a, 4, 18, 20);
+    Ok(())
+}
+
+// Subtask 3 is released in slot 8 once it is put off by 4, in slot 9 after 1 more, and then in slot
+// 10; without its delays it would be in slot 4.
+fn weighs_a_late_release_by_its_own_offset(
+    rt: &impl Abort,
+    alloc: Global,
+) -> Result<(), AllocError> {
+    let (a, mut members) = (name(rt, "a"), Members::new(alloc, 1, 2));
+    let heard = [arrives(rt, "a", 1, 2, false), is_late(rt, "a", 3, 4)];
+    let expected = [Decision::Admitted, Decision::Delayed];
+    decides(rt, &mut members, 0, heard.as_slice(), expected.as_slice())?;
+    for (slot, expected) in [
+        (6, Decision::Delayed),
+        (9, Decision::Delayed),
+        (11, Decision::Refused(Refusal::AlreadyReleased)),
+    ] {
+        decides_one(rt, &mut members, slot, is_late(rt, "a", 3, 1), expected)?;
+    }
+    let member = members.get(&a).expect(rt, "a member");
+    assert_eq!(rt; (member.theta(3), member.eligible(3)), (6, 10));
+    is_next(rt, &members, &a, 1, 0, 2);
+    Ok(())
+}
+
+fn waits_for_its_own_delay_alone(rt: &impl Abort, alloc: Global) -> Result<(), AllocError> {
+    let (a, mut members) = (name(rt, "a"), Members::new(alloc, 1, 4));
+    let heard = [arrives(rt, "a", 3, 4, true), is_late(rt, "a", 2, 3)];
+    let expected = [Decision::Admitted, Decision::Delayed];
+    decides(rt, &mut members, 0, heard.as_slice(), expected.as_slice())?;
+    for (index, begins_at, deadline) in [(1, 0, 2), (2, 4, 6), (3, 0, 7), (4, 7, 9)] {
+        is_next(rt, &members, &a, index, begins_at, deadline);
+        assert_eq!(rt; runs(&mut members, &a), Some(index));
+    }
+    Ok(())
+}
+
 fn keeps_the_order_of_admission(rt: &impl Abort, alloc: Global) -> Result<(), AllocError> {
     let mut members = Members::new(alloc, 1, 4);
     assert!(rt; members.is_empty());
@@ -328,6 +423,45 @@ fn keeps_the_order_of_admission(rt: &impl Abort, alloc: Global) -> Result<(), Al
         assert_eq!(rt; (member.freed_at(), member.is_departing()), (None, false));
     }
     assert!(rt; members.at(3).is_none());
+    Ok(())
+}
+
+// A task of its own for each place, of the least weight in a frame of 199 slots.
+fn arrives_light(rt: &impl Abort, place: u8) -> Said
+    requires { place < 200 }
+    ensures { IsWithinLimits result.announcement }
+{
+    let text = [
+        b't',
+        b'0' + place / 100,
+        b'0' + place / 10 % 10,
+        b'0' + place % 10,
+    ];
+    let name = TaskName::from_bytes(text.as_slice()).expect(rt, "a name");
+    let weight = Weight::new(1, 199).expect(rt, "a weight");
+    said(Announcement::Arrive {
+        name,
+        weight,
+        early: false,
+    })
+}
+
+fn admits_as_many_as_fit(rt: &impl Abort, alloc: Global) -> Result<(), AllocError> {
+    let mut members = Members::new(alloc, 1, 199);
+    let mut heard = Vec::with_capacity(alloc, 200)?;
+    let mut expected = Vec::with_capacity(alloc, 200)?;
+    for place in 0..200_u8 {
+        heard.push(arrives_light(rt, place))?;
+        expected.push(if place < 199 {
+            Decision::Admitted
+        } else {
+            Decision::Refused(Refusal::NoRoom)
+        })?;
+    }
+    decides(rt, &mut members, 0, &heard, &expected)?;
+    assert_eq!(rt; (members.len(), members.heard()), (199, 200));
+    let (last, _member) = members.at(198).expect(rt, "a member");
+    assert!(rt; last.as_bytes() == b"t198".as_slice());
     Ok(())
 }
 
@@ -370,6 +504,9 @@ fn decides_the_rows(rt: HostRuntime) {
     if refuses_arrivals_in_order(&rt, rt.alloc()).is_err() {
         refuses_arrivals_in_order(&rt, rt.alloc()).expect(&rt, "memory");
     }
+    if admits_as_many_as_fit(&rt, rt.alloc()).is_err() {
+        admits_as_many_as_fit(&rt, rt.alloc()).expect(&rt, "memory");
+    }
     if holds_the_weight_of_a_leaver(&rt, rt.alloc()).is_err() {
         holds_the_weight_of_a_leaver(&rt, rt.alloc()).expect(&rt, "memory");
     }
@@ -388,6 +525,15 @@ fn delays_and_releases_early(rt: HostRuntime) {
     }
     if releases_early_within_a_job(&rt, rt.alloc()).is_err() {
         releases_early_within_a_job(&rt, rt.alloc()).expect(&rt, "memory");
+    }
+    if adds_up_delays(&rt, rt.alloc()).is_err() {
+        adds_up_delays(&rt, rt.alloc()).expect(&rt, "memory");
+    }
+    if weighs_a_late_release_by_its_own_offset(&rt, rt.alloc()).is_err() {
+        weighs_a_late_release_by_its_own_offset(&rt, rt.alloc()).expect(&rt, "memory");
+    }
+    if waits_for_its_own_delay_alone(&rt, rt.alloc()).is_err() {
+        waits_for_its_own_delay_alone(&rt, rt.alloc()).expect(&rt, "memory");
     }
 }
 

@@ -11,7 +11,7 @@ within : (c : After-delay_up_to) → c.self.inside.joined + c.delay_up_to.result
 within c =
     let part = sum_filter (λ d. d.by) (λ d. nat_le d.index c.args.index) c.deref.result.now in
     let all = ap (sum_by (λ d. d.by)) c.deref.ensures.value in
-    omega (arith, part, all, c.delay_up_to.ensures, c.self.invariant.offset)
+    omega (arith, part, all, c.delay_up_to.ensures, c.self.invariant.member.offset)
 
 pub overflow_add-result : goal.overflow_add-result
 overflow_add-result c = let fits = within ((goal.at.overflow_add-result c).After-delay_up_to) in omega (arith, fits)

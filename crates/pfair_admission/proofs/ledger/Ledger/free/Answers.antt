@@ -27,7 +27,7 @@ invariant_of-self c =
       short_frame = c.self.invariant.short_frame;
       room = let fits = room ((goal.at.invariant_of-self c).After-keep_present) in omega (arith, fits, c.claimed-self-inside.ensures);
       total = c.claimed-self-inside.ensures;
-      first = c.first_freeing-self-inside.ensures;
+      first = c.first_freeing-self-inside.ensures.first;
     }
 
 pub returns-then-has_come-clause-present : goal.returns-then-has_come-clause-present
