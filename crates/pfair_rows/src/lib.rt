@@ -6,6 +6,8 @@
 #[cfg(test)]
 mod notation;
 #[cfg(test)]
+mod placed;
+#[cfg(test)]
 mod run;
 #[cfg(test)]
 mod sample;

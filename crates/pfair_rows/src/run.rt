@@ -57,8 +57,8 @@ fn new_dispatcher<R: Ready>(
     Dispatcher::new(alloc, settings, CAPACITY)
 }
 
-// The dispatcher that the events leave.
-fn left_by<R: Ready>(
+/// The dispatcher that the events leave.
+pub(crate) fn left_by<R: Ready>(
     alloc: Global,
     settings: Settings,
     events: &[Event],

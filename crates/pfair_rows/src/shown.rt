@@ -35,6 +35,25 @@ pub(crate) fn tables<R: Ready>(
     Ok(text)
 }
 
+/// The places of each slot that is planned, in brackets, as `[0 1][][1]`.
+pub(crate) fn places<R: Ready>(
+    alloc: Global,
+    dispatcher: &Dispatcher<R>,
+) -> Result<String, AllocError> {
+    let mut text = String::new(alloc);
+    for slot in 0..dispatcher.next_slot() {
+        text.push('[')?;
+        for (row, place) in dispatcher.places(slot).unwrap_or(&[]).iter().enumerate() {
+            if row > 0 {
+                text.push(' ')?;
+            }
+            write!(text, "{place}")?;
+        }
+        text.push(']')?;
+    }
+    Ok(text)
+}
+
 // Puts what was decided behind the text, as `admitted`, `departing 3`, `delayed` or `refused 22`.
 fn push_decision(text: &mut String, decision: Decision) -> Result<(), AllocError> {
     match decision {

@@ -195,3 +195,27 @@ fn early_releases(rt: HostRuntime) -> Result<(), AllocError> {
         "[0.1 a admitted][][0.2 a refused 25][][][][][]",
     )
 }
+
+#[test]
+fn announcements_stand_by_processor_and_number(rt: HostRuntime) -> Result<(), AllocError> {
+    // what processor 1 says of slot 1 is known when slot 0 is planned, and what processor 0 says of it comes later
+    assert_run(
+        &rt,
+        rt.alloc(),
+        (2, 1, 3),
+        "1 1 0 1 arrive a 1 1; 0 1 1; 1 2 1; plan 1; 0 2 1 1 arrive a 1 1; 1 3 3; 0 3 3; plan 3",
+        "new, new, new, slot 0, new, new, new, slot 1, slot 2, done",
+        "[][a1][a2]",
+        "[][0.2 a admitted, 1.1 a refused 20][]",
+    )?;
+    // of one processor, in order of numbers, whatever the order in which they come, and each once
+    assert_run(
+        &rt,
+        rt.alloc(),
+        (1, 2, 3),
+        "0 3 1 2 depart a; 0 2 1 2 arrive a 1 2; 0 1 0 2 depart a; plan 1; 0 4 2 2 arrive a 1 2; plan 2; 0 5 3; plan 2",
+        "new, new, new, slot 0, new, slot 1, waiting 2, new, slot 2, done",
+        "[][][a1]",
+        "[][][0.1 a refused 23, 0.2 a admitted, 0.3 a departing 2, 0.4 a admitted]",
+    )
+}

@@ -12,3 +12,10 @@ pub mod Steps
 pub mod Keeping
 pub mod Scripts
 pub mod Within
+pub mod FreePlaces
+pub mod PlacesKept
+pub mod Filling
+pub mod PlacesOn
+pub mod Alike
+pub mod ReadOn
+pub mod Bucketed

@@ -8,7 +8,7 @@ use Rattle.std.proofs.lemmas.Bool.{false_from_ne_true, or_parts}
 use Rattle.pfair_ready.specs.Names.{NameValue as Name}
 use Rattle.pfair_order.specs.declared.Key.{Key}
 use Rattle.pfair_entry.specs.Same.{name_eq}
-use Rattle.pfair_entry.specs.Exact.{name_exact}
+use Rattle.pfair_entry.specs.Exact.{name_exact, name_itself}
 use Rattle.pfair_table.specs.Lists.{Among, Apart}
 use Rattle.pfair_ready.specs.Waiting.{Held}
 use Rattle.pfair_admission.specs.Member.{Member}
@@ -110,6 +110,13 @@ module _ (start : Roster) (first : List Key) (apart : Apart (λ (k : Key). k.nam
   runs_next roster table waiting so may =
       ap (λ o. option_map (λ m. m.next) (running o)) (still_found roster table waiting so ∙ may.1)
       ∙ ap (λ b. option_map (λ m. m.next) (if b then None else Some may.0)) may.2
+
+  -- nothing waits under its name
+  pub not_waiting : (roster : Roster) (table : Table) (waiting : Held) → RunSoFar start first i roster table waiting → finmap.get waiting key.name ≡ None
+  not_waiting roster table waiting so =
+      so.queue key.name
+      ∙ ap (λ (ks : List Key). if has_key_of key.name ks then None else queued (member_named roster.members key.name)) (drop_item first i key inside item)
+      ∙ ap (λ b. if b || has_key_of key.name (drop (i + 1) first) then None else queued (member_named roster.members key.name)) (name_itself key.name)
 
   -- one turn
   pub run_turn : (roster after : Roster) (table rows : Table) (waiting anew : Held) (index : ℕ) → RunSoFar start first i roster table waiting → (may : MayRun start.members key)

@@ -7,7 +7,8 @@ use Rattle.std.specs.Ordering.{is_eq, eq_by_cmp}
 use Rattle.std.specs.Cmp.{tied_itself, both_ways}
 use Rattle.std.proofs.lemmas.Cmp.{nat_list_cmp_total}
 use Rattle.std.specs.FinMap as finmap
-use Rattle.std.specs.FinMap.{get-insert, get-remove}
+use Rattle.std.specs.FinMap.{get-insert, get-remove, same_map}
+use Rattle.pfair_ready.proofs.Names.{names_exact}
 use Rattle.std.proofs.lemmas.Bool.{true≢false, false_from_ne_true, or_parts}
 use Rattle.std.proofs.lemmas.Map.Lookups.{exact_bytes}
 use Rattle.pfair_ready.specs.Names.{NameValue as Name}
@@ -149,6 +150,32 @@ found_named (x ∷ members) name m e = by (name_eq name x.name) refl e (found_na
     by : (b : Bool) → name_eq name x.name ≡ b → cond b (Some x) (member_named members name) ≡ Some m → (member_named members name ≡ Some m → m.name ≡ name) → m.name ≡ name
     by true q e more = ap (λ (y : Member). y.name) (sym (one x m e)) ∙ sym (name_exact name x.name q)
     by false q e more = more e
+
+-- what is absent need not go
+pub absent_removed : (held : Held) (name : Name) → finmap.get held name ≡ None → held ≡ finmap.remove held name
+absent_removed held name none =
+    same_map nat_list_cmp_total names_exact _ _ (λ q.
+    at q (eq_by_cmp name_cmp q name) refl
+    ∙ sym (get-remove nat_list_cmp_total held name q))
+  where
+    at : (q : Name) (b : Bool) → eq_by_cmp name_cmp q name ≡ b → finmap.get held q ≡ cond b None (finmap.get held q)
+    at q true e = ap (finmap.get held) (name_exact q name (sym (same_name q name) ∙ e)) ∙ none
+    at q false e = refl
+
+-- what is told of a task does not depend on what was there
+pub told_over : (told : Name) (members : List Member) (before gone after : Held) → gone ≡ finmap.remove before told → IsToldOf told members gone after → IsToldOf told members before after
+told_over told members before gone after is tells name = tells name ∙ by (name_eq name told) refl
+  where
+    by : (b : Bool) → name_eq name told ≡ b → (if b then queued (member_named members told) else finmap.get gone name) ≡ (if b then queued (member_named members told) else finmap.get before name)
+    by true e = refl
+    by false e =
+        ap (λ (h : Held). finmap.get h name) is ∙ get-remove nat_list_cmp_total before told name
+        ∙ ap (λ b. cond b None (finmap.get before name)) (same_name name told ∙ e)
+
+pub gone_from : (before gone : Held) (told : Name) → gone ≡ finmap.remove before told → finmap.get gone told ≡ None
+gone_from before gone told is =
+    ap (λ (h : Held). finmap.get h told) is ∙ get-remove nat_list_cmp_total before told told
+    ∙ ap (λ b. cond b None (finmap.get before told)) (ap is_eq (tied_itself nat_list_cmp_total told))
 
 -- where there is no such member, or it is departing
 pub told_gone : (told : Name) (members : List Member) (before after : Held) → queued (member_named members told) ≡ None → after ≡ finmap.remove before told → IsToldOf told members before after

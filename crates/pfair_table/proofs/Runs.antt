@@ -186,14 +186,27 @@ agree_down x a y b f g agree k n torn =
     (below_trans (y.at k n) (b.at k n) top (g k n) (join_second entry_eq entry_exact (a.at k n) (b.at k n))) in
     elim (below Torn torn) [ inl h ↦ agree k n h | inr h ↦ agree k n h ]
 
+pub untorn_left : (x y : Replica) → Agree x y → Untorn x
+untorn_left x y agree k n torn = elim (join_first entry_eq entry_exact (x.at k n) (y.at k n) Torn torn) [ inl h ↦ agree k n h | inr h ↦ agree k n h ]
+
 pub one_schedule : OneSchedule
 one_schedule s m n es fs all_es all_fs agree t lc ld =
     let c = run_of s m es in
     let d = run_of s n fs in
-    let v = (sound_run s es (start s m) all_es (sound_start s m)).planned t lc in
+    let sound = sound_run s es (start s m) all_es (sound_start s m) in
+    let v = sound.planned t lc in
     let w = (sound_run s fs (start s n) all_fs (sound_start s n)).planned t ld in
-    let same = one_table s v.of w.of v.is_of w.is_of (agree_down v.of c.held w.of d.held v.kept w.kept agree) t v.early w.early in
-    (v.table_is ∙ ap Some same.0 ∙ sym w.table_is, v.decided_is ∙ ap Some same.1 ∙ sym w.decided_is)
+    let whole = untorn_left c.held d.held agree in
+    let le = frontier_le v.of c.held sound.is_of.replica (v.is_of.processors ∙ sym sound.is_of.processors) v.kept whole in
+    let soon = v.early in
+    let early : t < frontier c.held = omega (arith, le, soon) in
+    let here = one_table s v.of c.held v.is_of sound.is_of (below_agree v.of c.held v.kept whole) t v.early early in
+    let there = one_table s c.held w.of sound.is_of w.is_of (agree_down c.held c.held w.of d.held (λ k n. below_itself (c.held.at k n)) w.kept agree) t early w.early in (
+      v.table_is ∙ ap Some here.0,
+      w.table_is ∙ ap Some (sym there.0),
+      v.decided_is ∙ ap Some here.1,
+      w.decided_is ∙ ap Some (sym there.1),
+    )
 
 -- a list of as many tables, each that of its slot, begins the plan
 begins_plan : (s : Settings) (x : Replica) (tables : List Table) → length tables ≤ min (frontier x) s.slots → ((t : ℕ) → t < length tables → slice_get tables t ≡ Some (table s x t)) → IsPrefixOf tables (plan s x)

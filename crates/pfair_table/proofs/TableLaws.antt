@@ -11,7 +11,7 @@ use Rattle.pfair_replica.proofs.Marks.{same_said, mark_le, frontier_le, below_ag
 use Rattle.pfair_admission.specs.Member.{next_key}
 use Rattle.pfair_table.specs.Table.{Settings, Table, eligible, is_eligible, chosen, pick, table_of, members_at, slot_after, decided_at, history, world, table}
 use Rattle.pfair_table.specs.declared.pick.Pick.{Pick}
-use Rattle.pfair_table.specs.Laws.{IsPrefixOf, EachNameOnce, OneTable, PlansGoOn, TablesAreOrdered}
+use Rattle.pfair_table.specs.Laws.{IsPrefixOf, EachNameOnce, OneTable, PlansGoOn, OnePlan, TablesAreOrdered}
 use Rattle.pfair_table.proofs.Members.{label, named_world}
 
 -- ---- one table
@@ -68,6 +68,16 @@ plans_go_on s x y ox oy below untorn =
       prefix_map (table s x) (table s y) (min (frontier x) s.slots) (min (frontier y) s.slots) (omega (arith, le))
           (λ t l. (one_table s x y ox oy agree t (omega (arith, l)) (omega (arith, l, le))).0),
     )
+
+pub one_plan : OnePlan
+one_plan s x y ox oy agree =
+    let m = min (frontier x) s.slots in
+    let n = min (frontier y) s.slots in
+    elim (cases_order m n) [
+      | inl e ↦ inl (prefix_map (table s x) (table s y) m n (omega (arith, e)) (λ t l. (one_table s x y ox oy agree t (omega (arith, l)) (omega (arith, l, e))).0))
+      | inr (inl less) ↦ inl (prefix_map (table s x) (table s y) m n (omega (arith, less)) (λ t l. (one_table s x y ox oy agree t (omega (arith, l)) (omega (arith, l, less))).0))
+      | inr (inr more) ↦ inr (prefix_map (table s y) (table s x) n m (omega (arith, more)) (λ t l. sym (one_table s x y ox oy agree t (omega (arith, l, more)) (omega (arith, l))).0))
+    ]
 
 -- ---- tables are ordered
 

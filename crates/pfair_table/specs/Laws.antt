@@ -1,5 +1,5 @@
 -- What holds of tables, marks and plans, whatever the replicas are.
-use Rattle.std.specs.Prelude.{ℕ, suc, ◌≡◌, ◌≢◌, ◌≤◌, ◌<◌, List, [], ◌∷◌, ◌++◌, length, ⊤, slice_get, AllPairs}
+use Rattle.std.specs.Prelude.{ℕ, suc, ◌≡◌, ◌≢◌, ◌≤◌, ◌<◌, ◌⊎◌, List, [], ◌∷◌, ◌++◌, length, ⊤, Some, slice_get, AllPairs}
 use Rattle.std.specs.List.{AllByRecursion}
 use Rattle.pfair_order.specs.Order.{GoesBefore}
 use Rattle.pfair_replica.specs.Replica.{Replica, IsReplica, Below, Untorn, Agree, mark, frontier}
@@ -33,6 +33,12 @@ PlansGoOn =
     (s : Settings) (x y : Replica) → IsOf s x → IsOf s y → Below x y → Untorn y
     → ((k : ℕ) → mark x k ≤ mark y k) × IsPrefixOf (plan s x) (plan s y)
 
+-- Of the plans of replicas that agree, the shorter begins the longer.
+abbrev pub OnePlan : Type 0
+OnePlan =
+    (s : Settings) (x y : Replica) → IsOf s x → IsOf s y → Agree x y
+    → IsPrefixOf (plan s x) (plan s y) ⊎ IsPrefixOf (plan s y) (plan s x)
+
 -- A table has no more rows than there are processors; of its keys each goes before all later ones in the PD2 order; and it has each name
 -- once.
 abbrev pub TablesAreOrdered : Type 0
@@ -47,13 +53,14 @@ RunsAreCounted =
     → all_ran (table s x t) (world s x t) ≡ counted (history s x (suc t)).tables (world s x t)
 
 -- Two dispatchers of equal settings, after any events, where what they hold agrees: a slot that both have planned has one
--- table and the same decisions.
+-- table and the same decisions, which are those of what either holds.
 abbrev pub OneSchedule : Type 0
 OneSchedule =
     (s : Settings) (m n : ℕ) (es fs : List Event) → AllByRecursion IsEvent es → AllByRecursion IsEvent fs
     → let c = run_of s m es in let d = run_of s n fs in
     Agree c.held d.held → (t : ℕ) → t < length c.tables → t < length d.tables
-    → (slice_get c.tables t ≡ slice_get d.tables t) × (slice_get c.decided t ≡ slice_get d.decided t)
+    → (slice_get c.tables t ≡ Some (table s c.held t)) × (slice_get d.tables t ≡ Some (table s c.held t))
+    × (slice_get c.decided t ≡ Some (decisions s c.held t)) × (slice_get d.decided t ≡ Some (decisions s c.held t))
 
 -- While nothing is torn, what was planned is the beginning of the plan of what is held.
 abbrev pub PlanSoFar : Type 0

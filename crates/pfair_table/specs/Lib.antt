@@ -2,6 +2,9 @@ pub mod Lists
 pub mod Ranks
 pub mod Table
 pub mod Limits
+pub mod Places
+pub mod Buckets
+pub mod PlacesInUse
 pub mod Events
 pub mod Script
 pub mod ScriptRun
@@ -10,4 +13,5 @@ pub mod Queue
 pub mod PlanFault
 pub mod Planned
 pub mod Refinement
-pub mod Outlook
+pub mod PlaceLaws
+pub mod Readings

@@ -1,11 +1,28 @@
--- The tables and decisions of planned slots.
-use Rattle.std.specs.Prelude.{List, map}
-use Rattle.pfair_table.specs.declared.slot.PlannedSlot.{PlannedSlot}
+-- The tables, decisions and places of planned slots.
+use Rattle.std.specs.Prelude.{ℕ, Vec, List, [], ◌∷◌, map}
+use Rattle.std.specs.declared.alloc.Global.{Global}
+use Rattle.pfair_table.specs.declared.pick.Pick.{Pick}
 use Rattle.pfair_table.specs.declared.pick.Decided.{Decided}
 use Rattle.pfair_table.specs.Table.{Table}
 
-abbrev pub tables_of : List PlannedSlot → List Table
-tables_of planned = map (λ (p : PlannedSlot). p.table.items) planned
+-- the table of each slot from slot 0 on, and what was decided at its boundary
+pub record PlannedSlots : Type 0 where
+  pub tables : List Table
+  pub decided : List (List Decided)
 
-abbrev pub decided_of : List PlannedSlot → List (List Decided)
-decided_of planned = map (λ (p : PlannedSlot). p.decided.items) planned
+-- tables, slot by slot
+abbrev pub rows : Vec (Vec Pick Global) Global → List Table
+rows tables = map (λ (t : Vec Pick Global). t.items) tables.items
+
+-- places, slot by slot
+abbrev pub place_rows : Vec (Vec ℕ Global) Global → List (List ℕ)
+place_rows places = map (λ (p : Vec ℕ Global). p.items) places.items
+
+-- decisions, slot by slot
+abbrev pub decided_rows : Vec (Vec Decided Global) Global → List (List Decided)
+decided_rows decided = map (λ (d : Vec Decided Global). d.items) decided.items
+
+-- the last of a list, or d where it is empty
+abbrev pub last_or : {A : Type 0} → A → List A → A
+last_or d [] = d
+last_or d (x ∷ xs) = last_or x xs

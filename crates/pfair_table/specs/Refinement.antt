@@ -1,7 +1,7 @@
 -- What a dispatcher is seen as, and what its parts have to do with the definitions.
 use Rattle.std.specs.Prelude.{ℕ, zero, suc, ◌+◌, ◌≡◌, ◌≤◌, ◌<◌, Bool, true, false, IsTrue, List, length, map, min, Some, slice_get}
 use Rattle.pfair_replica.specs.HeldRows.{HeldRows, replica_of}
-use Rattle.pfair_replica.specs.Replica.{Replica, Below, Untorn, frontier, has_torn, torn_keys, said, numbers_below}
+use Rattle.pfair_replica.specs.Replica.{Replica, Below, Untorn, Agree, frontier, has_torn, torn_keys, said, numbers_below}
 use Rattle.pfair_ready.specs.Waiting.{Held}
 use Rattle.pfair_admission.specs.Roster.{Roster}
 use Rattle.pfair_table.specs.declared.pick.Decided.{Decided}
@@ -9,7 +9,7 @@ use Rattle.pfair_table.specs.declared.answer.Step.{Step}
 use Rattle.pfair_table.specs.declared.answer.Step.TheVariants.{Planned, Waiting, Done}
 use Rattle.pfair_table.specs.declared.answer.PlanFault.{PlanFault}
 use Rattle.pfair_table.specs.declared.answer.PlanFault.TheVariants.{Torn, Spent, Memory}
-use Rattle.pfair_table.specs.Table.{Settings, Table, machine, history, counted, decisions, plan}
+use Rattle.pfair_table.specs.Table.{Settings, Table, machine, history, counted, table, decisions, plan}
 use Rattle.pfair_table.specs.Events.{Course, is_plannable}
 use Rattle.pfair_table.specs.Laws.{IsOf}
 use Rattle.pfair_table.specs.Queue.{IsSteady}
@@ -95,3 +95,13 @@ pub record IsKept (s : Settings) (held : Replica) (tables : List Table) (decided
   pub room : of.capacity ≤ 4096
   pub plan : IsPlanOf s held of tables decided
   pub step : spent ≡ false → IsInStep s of (length tables) roster now waiting
+
+-- ---- two dispatchers
+
+-- Where settings are equal and what is held agrees, a slot that both have planned has one table and one list of decisions: those of what
+-- either holds.
+abbrev pub HavePlannedAlike : Dispatch → Dispatch → Type 0
+HavePlannedAlike c d =
+    c.settings ≡ d.settings → Agree (replica_of c.held) (replica_of d.held) → (t : ℕ) → t < length c.tables → t < length d.tables
+    → (slice_get c.tables t ≡ Some (table c.settings (replica_of c.held) t)) × (slice_get d.tables t ≡ Some (table c.settings (replica_of c.held) t))
+    × (slice_get c.decided t ≡ Some (decisions c.settings (replica_of c.held) t)) × (slice_get d.decided t ≡ Some (decisions c.settings (replica_of c.held) t))

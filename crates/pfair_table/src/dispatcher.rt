@@ -2,30 +2,34 @@
 
 ghost use Rattle.std.specs.Prelude.{◌≡◌, ◌≤◌, ◌<◌, ◌++◌, ◌∷◌, [], true, false, IfOk, IfErr, OnOk, OnErr, Err, length, slice_get};
 ghost use Rattle.std.specs.Option.{option_map};
-ghost use Rattle.pfair_replica.specs.Replica.{has_torn};
+ghost use Rattle.pfair_replica.specs.Replica.{Untorn, has_torn};
 ghost use Rattle.pfair_replica.specs.Offered.{taken, absorbed};
-ghost use Rattle.pfair_replica.specs.HeldRows.{IsShape, held, replica_of};
-ghost use Rattle.pfair_replica.specs.Faults.{IsTakenAs, IsTakeFaultOf, IsMergeFaultOf, IsPartlyMerged};
+ghost use Rattle.pfair_replica.specs.HeldRows.{IsShape, SameShape, held, replica_of};
+ghost use Rattle.pfair_replica.specs.Faults.{IsKeyOf, IsTakenAs, IsTakeFaultOf, IsMergeFaultOf, IsPartlyMerged};
 ghost use Rattle.pfair_table.specs.declared.event.Event.TheVariants.{Plan as PlanEvent};
 ghost use Rattle.pfair_table.specs.Events.{start, happens};
 ghost use Rattle.pfair_table.specs.Laws.{IsOf};
 ghost use Rattle.pfair_table.specs.Table.{table, decisions};
-ghost use Rattle.pfair_table.specs.Planned.{tables_of, decided_of};
-ghost use Rattle.pfair_table.specs.Outlook.{IsOutlookOf};
-ghost use Rattle.pfair_table.specs.Refinement.{IsInStep, course_of, IsStepOf, IsPlanFault, after_fault, IsReopenFault, IsLast, IsWholePlan};
+ghost use Rattle.std.specs.List.{AllByRecursion};
+ghost use Rattle.pfair_table.specs.Planned.{rows, place_rows};
+ghost use Rattle.pfair_table.specs.Places.{places_of};
+ghost use Rattle.pfair_table.specs.PlaceLaws.{IsFit, HavePlacedAlike};
+ghost use Rattle.pfair_table.specs.Readings.{AreReadingsOf};
+ghost use Rattle.pfair_table.specs.Refinement.{IsInStep, course_of, IsStepOf, IsPlanFault, after_fault, IsReopenFault, IsLast, IsWholePlan, HavePlannedAlike};
 
 use crate::answer::{PlanFault, Step};
-use crate::outlook::Outlook;
 use crate::pick::{Decided, Pick};
+use crate::places::next_places;
+use crate::planned::{Planned, Schedule};
+use crate::readings::Readings;
 use crate::settings::Settings;
-use crate::slot::{PlannedSlot, plan_slot};
+use crate::slot::plan_slot;
 use pfair_admission::Members;
 use pfair_entry::Entry;
 use pfair_ready::Ready;
 use pfair_replica::{MergeFault, Replica, TakeFault, Taken};
 use std::alloc::{AllocError, Global};
 use std::marker::Model;
-use std::mem::replace;
 
 /// Holds what one processor has heard of all logs, and plans slot after slot what that settles.
 ///
@@ -36,28 +40,28 @@ pub struct Dispatcher<R: Ready> {
     alloc: Global,
     settings: Settings,
     replica: Replica,
-    outlook: Outlook,
+    readings: Readings,
     members: Members,
     ready: R,
-    planned: Vec<PlannedSlot>,
+    planned: Planned,
     spent: bool,
 }
 
 impl<R: Ready> Model for Dispatcher<R> {
-    ghost use Rattle.pfair_table.specs.Planned.{tables_of, decided_of};
     ghost use Rattle.pfair_replica.specs.HeldRows.{replica_of};
-    ghost use Rattle.pfair_table.specs.Outlook.{IsOutlookOf};
+    ghost use Rattle.pfair_table.specs.Readings.{AreReadingsOf};
     ghost use Rattle.pfair_table.specs.Refinement.{Dispatch, IsKept};
 
     ghost Value = { Dispatch };
 
-    ghost view = { λ a. record { settings = a.settings; held = a.replica; tables = tables_of a.planned.items; decided = decided_of a.planned.items; spent = a.spent } };
+    ghost view = { λ a. record { settings = a.settings; held = a.replica; tables = a.planned.tables; decided = a.planned.decided; spent = a.spent } };
 
-    ghost invariant = { λ a. IsKept a.settings (replica_of a.replica) (tables_of a.planned.items) (decided_of a.planned.items) a.spent a.members (R.now a.ready) (R.held a.ready) × IsOutlookOf (replica_of a.replica) a.outlook };
+    ghost invariant = { λ a. IsKept a.settings (replica_of a.replica) a.planned.tables a.planned.decided a.spent a.members (R.now a.ready) (R.held a.ready) × AreReadingsOf (replica_of a.replica) a.readings.by_processor.items };
 }
 
 impl<R: Ready> Dispatcher<R> {
-    /// A dispatcher that holds nothing and has planned nothing, with room for logs of `capacity` entries, 1 to 4,096.
+    /// A dispatcher that holds nothing and has planned nothing, with room for logs of `capacity` entries, 1 to 4,096. It
+    /// costs the number of processors.
     ///
     /// # Errors
     /// `AllocError` where memory was wanted and refused.
@@ -68,52 +72,49 @@ impl<R: Ready> Dispatcher<R> {
         ensures spent { IfOk result (λ d. d.spent ≡ false) }
     {
         let replica = Replica::new(alloc, settings.processors(), capacity)?;
+        let readings = Readings::new(alloc, settings.processors())?;
         let members = Members::new(alloc, settings.processors(), settings.frame());
         Ok(Dispatcher {
             alloc,
             settings,
             replica,
-            outlook: Outlook::new(),
+            readings,
             members,
             ready: R::new(alloc),
-            planned: Vec::new(alloc),
+            planned: Planned::new(alloc),
             spent: false,
         })
     }
 
-    /// Takes entry `number` (from 1) of the log of `processor` (from 0), as [`Replica::take`].
+    /// Takes entry `number` (from 1) of the log of `processor` (from 0), as [`Replica::take`], and costs what that costs:
+    /// nothing is planned or read for it.
     ///
     /// # Errors
     /// Those of [`Replica::take`]; the dispatcher is then as before.
     pub fn take(&mut self, processor: u8, number: u32, entry: Entry) -> Result<Taken, TakeFault>
         ensures answer { IfOk result (IsTakenAs (held self.old.held processor number) entry) }
+        ensures key { OnOk result (IsKeyOf self.old.held processor number) }
         ensures fault { IfErr result (IsTakeFaultOf self.old.held processor number) }
         ensures unchanged { OnErr result (self.new ≡ self.old) }
         ensures offered { (result ≡ Err TakeFault.Memory → ⊥) → replica_of self.new.held ≡ taken (replica_of self.old.held) processor number entry }
         ensures rest { self.new ≡ record self.old { held = self.new.held } }
     {
-        let outlook = replace(&mut self.outlook, Outlook::new());
-        let taken = self.replica.take(processor, number, entry)?;
-        if let Taken::Known = taken {
-            // what was held already changes nothing
-            self.outlook = outlook;
-        }
-        Ok(taken)
+        self.replica.take(processor, number, entry)
     }
 
-    /// Takes all that another replica holds, as [`Replica::merge`].
+    /// Takes all that another replica holds, as [`Replica::merge`], and costs what that costs.
     ///
     /// # Errors
     /// Those of [`Replica::merge`]: after `OtherShape` the dispatcher is as before, and after `Memory` it holds a part
     /// of what the other holds beside what it held.
     pub fn absorb(&mut self, other: &Replica) -> Result<(), MergeFault>
+        ensures same_shape { OnOk result (SameShape self.old.held other.now) }
         ensures fault { IfErr result (IsMergeFaultOf self.old.held other.now) }
         ensures unchanged { result ≡ Err MergeFault.OtherShape → self.new ≡ self.old }
         ensures partly { OnErr result (IsPartlyMerged (replica_of self.old.held) (replica_of other.now) (replica_of self.new.held)) }
         ensures offered { (result ≡ Err MergeFault.Memory → ⊥) → replica_of self.new.held ≡ absorbed (replica_of self.old.held) (replica_of other.now) }
         ensures rest { self.new ≡ record self.old { held = self.new.held } }
     {
-        self.outlook = Outlook::new();
         self.replica.merge(other)
     }
 
@@ -131,6 +132,17 @@ impl<R: Ready> Dispatcher<R> {
         &self.replica
     }
 
+    /// The headline at two dispatchers, whatever was called on either: where their settings are equal and what they hold
+    /// agrees, each slot that both have planned has one table, that of what either holds, the same decisions and the same
+    /// places. It does nothing.
+    pub fn plans_alike<Q: Ready>(&self, other: &Dispatcher<Q>)
+        ensures planned { HavePlannedAlike self.now other.now }
+        ensures placed { HavePlacedAlike self.now other.now }
+    {
+        let _ = self.replica.processors();
+        let _ = other.replica.processors();
+    }
+
     /// The slot that is planned next: so many slots are planned, at most as many as the run has.
     pub fn next_slot(&self) -> u64
         ensures value { result ≡ length self.now.tables }
@@ -146,8 +158,18 @@ impl<R: Ready> Dispatcher<R> {
     pub fn table(&self, slot: u64) -> Option<&[Pick]>
         ensures { option_map (λ rows. rows.now) result ≡ slice_get self.now.tables slot }
     {
-        let planned = self.planned.get(slot as usize)?;
-        Some(&planned.table)
+        self.planned.table(slot as usize)
+    }
+
+    /// The places of a slot: for each row of its table the processor that runs it. A task that is in the table before stays
+    /// where it was, and the others, in row order, each take the least processor that no row keeps and none has taken.
+    /// `None` exactly where the slot isn't planned. The law [`places_are_kept`](crate::laws::places_are_kept) holds of
+    /// them, since no table has more rows than there are processors, or a task twice.
+    pub fn places(&self, slot: u64) -> Option<&[u8]>
+        ensures value { option_map (λ places. places.now) result ≡ slice_get (places_of self.now.tables) slot }
+        ensures fit { AllByRecursion (IsFit self.now.settings.processors) self.now.tables }
+    {
+        self.planned.places(slot as usize)
     }
 
     /// The decisions at the boundary of a slot, in the order of processor and number. `None` exactly where the slot
@@ -155,14 +177,32 @@ impl<R: Ready> Dispatcher<R> {
     pub fn decisions(&self, slot: u64) -> Option<&[Decided]>
         ensures { option_map (λ rows. rows.now) result ≡ slice_get self.now.decided slot }
     {
-        let planned = self.planned.get(slot as usize)?;
-        Some(&planned.decided)
+        self.planned.decided(slot as usize)
+    }
+
+    /// The tables of all slots that are planned, and their places, with no copy.
+    pub fn into_schedule(self) -> Schedule
+        ensures tables { rows result.tables ≡ self.tables }
+        ensures places { place_rows result.places ≡ places_of self.tables }
+    {
+        self.planned.into_schedule()
+    }
+
+    /// What is held, with no copy.
+    pub fn into_replica(self) -> Replica
+        ensures { result ≡ self.held }
+    {
+        self.replica
     }
 
     /// Plans the next slot where what is held settles it.
     ///
     /// [`Step::Done`] exactly where all slots of the run are planned, else [`Step::Waiting`] exactly where the next
     /// slot is not below the frontier. After either the tables are the whole plan of what is held.
+    ///
+    /// It costs a look-up for each processor; what is said at the slot, and for each of its quanta a number of steps that
+    /// grows with the logarithm of the number of tasks; and the entries that have come into sound beginnings since the last
+    /// slot was planned, each of which is looked at once over all plans. It doesn't grow with the entries held.
     ///
     /// # Errors
     /// Looked at first, in this order: [`PlanFault::Torn`] exactly where something held is torn, [`PlanFault::Spent`]
@@ -177,10 +217,9 @@ impl<R: Ready> Dispatcher<R> {
         ensures fault { IfErr result (IsPlanFault self.old) }
         ensures after { IfErr result (λ fault. self.new ≡ after_fault self.old fault) }
     {
-        let frontier = match self.outlook.frontier(&self.replica) {
-            Ok(frontier) => frontier,
-            Err(key) => return Err(PlanFault::Torn(key)),
-        };
+        if let Some(torn) = self.replica.first_torn() {
+            return Err(PlanFault::Torn(torn));
+        }
         if self.spent {
             return Err(PlanFault::Spent);
         }
@@ -188,6 +227,7 @@ impl<R: Ready> Dispatcher<R> {
         if slot >= self.settings.slots() {
             return Ok(Step::Done);
         }
+        let frontier = self.replica.frontier();
         if slot >= frontier {
             return Ok(Step::Waiting { frontier });
         }
@@ -195,7 +235,7 @@ impl<R: Ready> Dispatcher<R> {
             self.alloc,
             self.settings,
             &self.replica,
-            &mut self.outlook,
+            &mut self.readings,
             &mut self.members,
             &mut self.ready,
             &mut self.planned,
@@ -209,7 +249,7 @@ impl<R: Ready> Dispatcher<R> {
     }
 
     /// Makes all but the replica and what was planned anew from these two, after which plans go on as if no memory had
-    /// been wanted.
+    /// been wanted. It costs what the plans of all slots so far cost.
     ///
     /// # Errors
     /// [`PlanFault::Torn`] exactly where something held is torn; nothing has then changed. [`PlanFault::Memory`] where
@@ -226,6 +266,7 @@ impl<R: Ready> Dispatcher<R> {
             self.alloc,
             self.settings,
             &self.replica,
+            &mut self.readings,
             self.planned.len() as u64,
         ) {
             Ok((members, ready)) => {
@@ -247,28 +288,30 @@ fn plan_onto<R: Ready>(
     alloc: Global,
     settings: Settings,
     replica: &Replica,
-    outlook: &mut Outlook,
+    readings: &mut Readings,
     members: &mut Members,
     ready: &mut R,
-    planned: &mut Vec<PlannedSlot>,
+    planned: &mut Planned,
 ) -> Result<(), AllocError>
     requires of { IsOf settings (replica_of replica.now) }
+    requires untorn { Untorn (replica_of replica.now) }
     requires room { replica.now.capacity ≤ 4096 }
-    requires slots { length planned.old.items < settings.slots }
-    requires outlook { IsOutlookOf (replica_of replica.now) outlook.old }
-    requires step { IsInStep settings (replica_of replica.now) (length planned.old.items) members.old (R.now ready.old) (R.held ready.old) }
-    ensures tables { OnOk result (tables_of planned.new.items ≡ tables_of planned.old.items ++ table settings (replica_of replica.now) (length planned.old.items) ∷ []) }
-    ensures decided { OnOk result (decided_of planned.new.items ≡ decided_of planned.old.items ++ decisions settings (replica_of replica.now) (length planned.old.items) ∷ []) }
-    ensures step { OnOk result (IsInStep settings (replica_of replica.now) (length planned.new.items) members.new (R.now ready.new) (R.held ready.new)) }
-    ensures err { OnErr result (planned.new.items ≡ planned.old.items) }
-    ensures outlook { IsOutlookOf (replica_of replica.now) outlook.new }
+    requires slots { length planned.old.tables < settings.slots }
+    requires readings { AreReadingsOf (replica_of replica.now) readings.old.by_processor.items }
+    requires fit { AllByRecursion (IsFit settings.processors) planned.old.tables }
+    requires step { IsInStep settings (replica_of replica.now) (length planned.old.tables) members.old (R.now ready.old) (R.held ready.old) }
+    ensures tables { OnOk result (planned.new.tables ≡ planned.old.tables ++ table settings (replica_of replica.now) (length planned.old.tables) ∷ []) }
+    ensures decided { OnOk result (planned.new.decided ≡ planned.old.decided ++ decisions settings (replica_of replica.now) (length planned.old.tables) ∷ []) }
+    ensures step { OnOk result (IsInStep settings (replica_of replica.now) (length planned.new.tables) members.new (R.now ready.new) (R.held ready.new)) }
+    ensures err { OnErr result (planned.new ≡ planned.old) }
+    ensures readings { AreReadingsOf (replica_of replica.now) readings.new.by_processor.items }
 {
     let slot = planned.len() as u64;
-    let agenda = outlook.take_agenda(replica)?;
-    let heard = agenda.at(slot);
-    let next = plan_slot(alloc, heard, members, ready, settings.processors(), slot)?;
-    planned.push(next)?;
-    outlook.keep_agenda(agenda);
+    readings.read_on(replica)?;
+    let heard = readings.said(slot)?;
+    let next = plan_slot(alloc, &heard, members, ready, settings.processors(), slot)?;
+    let places = next_places(alloc, planned, &next.table)?;
+    planned.push(next.table, places, next.decided)?;
     Ok(())
 }
 
@@ -277,20 +320,25 @@ fn replay<R: Ready>(
     alloc: Global,
     settings: Settings,
     replica: &Replica,
+    readings: &mut Readings,
     slots: u64,
 ) -> Result<(Members, R), AllocError>
     requires of { IsOf settings (replica_of replica.now) }
+    requires untorn { Untorn (replica_of replica.now) }
     requires room { replica.now.capacity ≤ 4096 }
+    requires readings { AreReadingsOf (replica_of replica.now) readings.old.by_processor.items }
     requires slots { slots ≤ settings.slots }
-    ensures { IfOk result (λ made. IsInStep settings (replica_of replica.now) slots made.0 (R.now made.1) (R.held made.1)) }
+    ensures step { IfOk result (λ made. IsInStep settings (replica_of replica.now) slots made.0 (R.now made.1) (R.held made.1)) }
+    ensures readings { AreReadingsOf (replica_of replica.now) readings.new.by_processor.items }
 {
+    readings.read_on(replica)?;
     let mut members = Members::new(alloc, settings.processors(), settings.frame());
     let mut ready = R::new(alloc);
-    let agenda = replica.agenda()?;
     for slot in 0..slots {
+        let said = readings.said(slot)?;
         plan_slot(
             alloc,
-            agenda.at(slot),
+            &said,
             &mut members,
             &mut ready,
             settings.processors(),

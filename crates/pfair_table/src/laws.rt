@@ -1,6 +1,7 @@
 //! The laws of agreement, over all replicas and all events. Each function does nothing: its contract is the law.
 
-ghost use Rattle.pfair_table.specs.Laws.{OneTable, PlansGoOn, TablesAreOrdered, OneSchedule, PlanSoFar, RunsAreCounted};
+ghost use Rattle.pfair_table.specs.Laws.{OneTable, PlansGoOn, OnePlan, TablesAreOrdered, OneSchedule, PlanSoFar, RunsAreCounted};
+ghost use Rattle.pfair_table.specs.PlaceLaws.{PlacesAreKept, PlacesFollowTables, OnePlacing};
 
 /// Agreement: two replicas no number of which has two contents give every slot below both frontiers one table and the
 /// same decisions.
@@ -11,6 +12,11 @@ pub fn one_table()
 /// Growth: a replica that holds more, and nothing torn, has no lower mark, and its plan begins with the plan of the smaller one.
 pub fn plans_go_on()
     ensures { PlansGoOn }
+{}
+
+/// One plan: of the plans of two replicas no number of which has two contents, the shorter begins the longer.
+pub fn one_plan()
+    ensures { OnePlan }
 {}
 
 /// A table has at most as many rows as there are processors, rising in the PD2 order, and each task once.
@@ -32,4 +38,21 @@ pub fn plan_so_far()
 /// To add one to the next index of each task of a table is to count by the tables anew.
 pub fn runs_are_counted()
     ensures { RunsAreCounted }
+{}
+
+/// The places of tables with at most so many rows as there are processors, and each task once in a table: one for each
+/// row, each a processor, no two of a table equal; and a task that is in two tables running has one place in both.
+pub fn places_are_kept()
+    ensures { PlacesAreKept }
+{}
+
+/// The places of a slot follow from the tables up to it, so that those who plan the same tables give the same places.
+pub fn places_follow_tables()
+    ensures { PlacesFollowTables }
+{}
+
+/// The headline, of places: two dispatchers of equal settings, after any events, where what they hold agrees: a slot that both
+/// have planned has the same places.
+pub fn one_placing()
+    ensures { OnePlacing }
 {}

@@ -7,11 +7,14 @@
 #![tactic(auto)]
 
 pub mod answer;
+mod buckets;
 pub mod dispatcher;
 pub mod event;
 pub mod laws;
-mod outlook;
 pub mod pick;
+mod places;
+pub mod planned;
+mod readings;
 pub mod run;
 pub mod script;
 pub mod settings;
@@ -22,6 +25,7 @@ pub use answer::{PlanFault, Step};
 pub use dispatcher::Dispatcher;
 pub use event::Event;
 pub use pick::{Decided, Pick};
+pub use planned::Schedule;
 pub use run::run_events;
 pub use script::Script;
 pub use settings::Settings;

@@ -3,7 +3,8 @@
 ghost use Rattle.std.specs.Prelude.{◌≡◌, false, IfOk, OnOk};
 ghost use Rattle.pfair_replica.specs.HeldRows.{IsShape, replica_of};
 ghost use Rattle.pfair_replica.specs.Offered.{taken};
-ghost use Rattle.pfair_table.specs.Events.{happens, run_of};
+ghost use Rattle.std.specs.List.{AllByRecursion};
+ghost use Rattle.pfair_table.specs.Events.{IsEvent, happens, run_of};
 ghost use Rattle.pfair_table.specs.Refinement.{course_of};
 
 use crate::answer::PlanFault;
@@ -16,7 +17,7 @@ use pfair_replica::{MergeFault, TakeFault};
 use std::alloc::{AllocError, Global};
 
 /// The dispatcher that a list of events leaves, from one that holds nothing. An event that is refused changes nothing,
-/// and the run goes on.
+/// and the run goes on. It costs what its events cost.
 ///
 /// # Errors
 /// `AllocError` where memory was wanted and refused; the run then ends.
@@ -30,6 +31,7 @@ pub fn run_events<R: Ready>(
     ensures settings { IfOk result (λ d. d.settings ≡ settings) }
     ensures course { IfOk result (λ d. course_of d ≡ run_of settings capacity events.now) }
     ensures spent { IfOk result (λ d. d.spent ≡ false) }
+    ensures events { OnOk result (AllByRecursion IsEvent events.now) }
 {
     let mut dispatcher = Dispatcher::new(alloc, settings, capacity)?;
     for event in events {
@@ -44,17 +46,26 @@ fn happen<R: Ready>(dispatcher: &mut Dispatcher<R>, event: &Event) -> Result<(),
     ensures settings { dispatcher.new.settings ≡ dispatcher.old.settings }
     ensures course { OnOk result (course_of dispatcher.new ≡ happens dispatcher.old.settings (course_of dispatcher.old) event.now) }
     ensures spent { OnOk result (dispatcher.new.spent ≡ false) }
+    ensures event { IsEvent event.now }
 {
     match event {
         Event::Take {
             processor,
             number,
             entry,
-        } => offer(dispatcher, *processor, *number, *entry),
-        Event::Absorb(other) => match dispatcher.absorb(other) {
-            Err(MergeFault::Memory) => Err(AllocError),
-            _ => Ok(()),
-        },
+        } => {
+            // an entry is within its limits
+            let _floor = entry.floor();
+            offer(dispatcher, *processor, *number, *entry)
+        }
+        Event::Absorb(other) => {
+            // a replica holds entries of its own logs
+            let _processors = other.processors();
+            match dispatcher.absorb(other) {
+                Err(MergeFault::Memory) => Err(AllocError),
+                _ => Ok(()),
+            }
+        }
         Event::Plan => match dispatcher.plan_next() {
             Err(PlanFault::Memory) => Err(AllocError),
             Err(PlanFault::Torn(_)) => Ok(()),

@@ -1,6 +1,7 @@
 //! One slot: the boundary, the ready structure, and the quanta.
 
-ghost use Rattle.std.specs.Prelude.{◌≡◌, ◌≤◌, ◌<◌, ◌+◌, Some, IfOk, OnOk, map, length};
+ghost use Rattle.std.specs.Prelude.{◌≡◌, ◌≤◌, ◌<◌, ◌+◌, Some, None, IfOk, OnOk, map, length};
+ghost use Rattle.std.specs.FinMap as finmap;
 ghost use Rattle.std.specs.Option.{ForSome};
 ghost use Rattle.std.specs.List.{AllByRecursion};
 ghost use Rattle.pfair_order.specs.declared.Key.{Key};
@@ -19,9 +20,9 @@ use pfair_ready::Ready;
 use pfair_weight::TaskName;
 use std::alloc::{AllocError, Global};
 
-/// What is planned of a slot.
+/// What the members and what is said give of a slot.
 #[derive(Drop)]
-pub(crate) struct PlannedSlot {
+pub(crate) struct SlotPlan {
     pub table: Vec<Pick>,
     pub decided: Vec<Decided>,
 }
@@ -63,6 +64,19 @@ pub(crate) fn tell_of<R: Ready>(
     ensures time { R.now ready.new ≡ R.now ready.old }
 {
     ready.remove(name);
+    tell_next(ready, members, name)
+}
+
+/// The ready structure hears of the next subtask of a task that it holds nothing of.
+pub(crate) fn tell_next<R: Ready>(
+    ready: &mut R,
+    members: &Members,
+    name: &TaskName,
+) -> Result<(), AllocError>
+    requires { finmap.get (R.held ready.old) name.now ≡ None }
+    ensures told { OnOk result (IsToldOf name.now members.now.members (R.held ready.old) (R.held ready.new)) }
+    ensures time { R.now ready.new ≡ R.now ready.old }
+{
     let Some(member) = members.get(name) else {
         return Ok(());
     };
@@ -105,7 +119,7 @@ pub(crate) fn run_each<R: Ready>(
     ensures queue { OnOk result (IsQueue members.new.members (R.held ready.new)) }
     ensures time { R.now ready.new ≡ R.now ready.old }
 {
-    let mut table = Vec::new(alloc);
+    let mut table = Vec::with_capacity(alloc, first.len())?;
     for key in first {
         let Some(index) = members.ran(&key.name) else {
             continue;
@@ -114,7 +128,7 @@ pub(crate) fn run_each<R: Ready>(
             name: key.name,
             index,
         })?;
-        tell_of(ready, members, &key.name)?;
+        tell_next(ready, members, &key.name)?;
     }
     Ok(table)
 }
@@ -148,7 +162,7 @@ pub(crate) fn plan_slot<R: Ready>(
     ready: &mut R,
     processors: u8,
     slot: u64,
-) -> Result<PlannedSlot, AllocError>
+) -> Result<SlotPlan, AllocError>
     requires slot { slot < 1000000 }
     requires steady { IsSteady slot members.old (R.now ready.old) (R.held ready.old) }
     requires heard { members.old.heard + length heard.now ≤ 262144 }
@@ -163,5 +177,5 @@ pub(crate) fn plan_slot<R: Ready>(
     let decided = decide_all(alloc, members, slot, heard)?;
     tell_ready(ready, members, heard)?;
     let table = give_quanta(alloc, ready, members, processors, slot)?;
-    Ok(PlannedSlot { table, decided })
+    Ok(SlotPlan { table, decided })
 }

@@ -6,6 +6,7 @@ use Rattle.pfair_table.specs.Refinement.{heard_before}
 use Rattle.pfair_table.proofs.Within.{AreWithinLimits, said_within}
 use Rattle.pfair_table.proofs.Steps.{step_next, rows_are, heard_fits}
 use Rattle.pfair_table.proofs.Keeping.{start_step}
+use Rattle.pfair_table.proofs.ReadOn.{whole_said}
 use Rattle.pfair_table.proofs.dispatcher.replay.Goals as goal
 
 pub loop-slot-init : goal.loop-slot-init
@@ -17,7 +18,10 @@ loop-slot-init g c =
 
 pub plan_slot-requires-clause-heard : goal.plan_slot-requires-clause-heard
 plan_slot-requires-clause-heard g c =
-    let heard_is : c.at.result.now ≡ said (replica_of c.args.replica.now) c.loop-slot.slot = c.at.ensures ∙ c.in_ok-agenda.ensures.heard c.loop-slot.slot in
+    let heard_is : c.deref.result.now ≡ said (replica_of c.args.replica.now) c.loop-slot.slot =
+    c.deref.ensures.value
+    ∙ c.in_ok-said.ensures
+    ∙ whole_said (replica_of c.args.replica.now) c.read_on.new.self.by_processor.items c.in_ok-read_on.ensures.readings c.requires.of.replica c.requires.untorn c.in_ok-read_on.ensures.whole c.loop-slot.slot in
     let x : Replica = replica_of c.args.replica.now in
     let n : ℕ = c.loop-slot.slot in
     let many = c.requires.of.processors in
@@ -28,12 +32,18 @@ plan_slot-requires-clause-heard g c =
 
 pub plan_slot-requires-clause-limits : goal.plan_slot-requires-clause-limits
 plan_slot-requires-clause-limits g c =
-    let heard_is : c.at.result.now ≡ said (replica_of c.args.replica.now) c.loop-slot.slot = c.at.ensures ∙ c.in_ok-agenda.ensures.heard c.loop-slot.slot in
+    let heard_is : c.deref.result.now ≡ said (replica_of c.args.replica.now) c.loop-slot.slot =
+    c.deref.ensures.value
+    ∙ c.in_ok-said.ensures
+    ∙ whole_said (replica_of c.args.replica.now) c.read_on.new.self.by_processor.items c.in_ok-read_on.ensures.readings c.requires.of.replica c.requires.untorn c.in_ok-read_on.ensures.whole c.loop-slot.slot in
     subst AreWithinLimits (sym heard_is) (said_within (replica_of c.args.replica.now) c.requires.of.replica c.loop-slot.slot)
 
 pub loop-slot-preserved : goal.loop-slot-preserved
 loop-slot-preserved g c =
-    let heard_is : c.at.result.now ≡ said (replica_of c.args.replica.now) c.loop-slot.slot = c.at.ensures ∙ c.in_ok-agenda.ensures.heard c.loop-slot.slot in
+    let heard_is : c.deref.result.now ≡ said (replica_of c.args.replica.now) c.loop-slot.slot =
+    c.deref.ensures.value
+    ∙ c.in_ok-said.ensures
+    ∙ whole_said (replica_of c.args.replica.now) c.read_on.new.self.by_processor.items c.in_ok-read_on.ensures.readings c.requires.of.replica c.requires.untorn c.in_ok-read_on.ensures.whole c.loop-slot.slot in
     let x : Replica = replica_of c.args.replica.now in
     step_next c.args.settings x c.loop-slot.slot c.loop-slot.members c.plan_slot.new.members (g.R.Ready.now c.loop-slot.ready) (g.R.Ready.now c.plan_slot.new.ready) (g.R.Ready.held c.loop-slot.ready) (g.R.Ready.held c.plan_slot.new.ready) c.in_ok-plan_slot.field-0.table.items
     c.loop-slot.invariant

@@ -1,7 +1,8 @@
-use Rattle.std.proofs.Common.{◌≡◌, ◌+◌, ◌∙◌, sym, ap, drop, List}
+use Rattle.std.proofs.Common.{◌≡◌, ◌+◌, ◌∙◌, sym, ap, subst, drop, List}
+use Rattle.std.specs.List.{AllByRecursion}
 use Rattle.pfair_table.specs.declared.event.Event.{Event}
 use Rattle.pfair_table.specs.Table.{Settings}
-use Rattle.pfair_table.specs.Events.{Course, happens, run}
+use Rattle.pfair_table.specs.Events.{IsEvent, Course, happens, run}
 use Rattle.pfair_table.specs.Refinement.{course_of}
 use Rattle.pfair_table.proofs.Queues.{drop_item}
 use Rattle.pfair_table.proofs.run.run_events.Goals as goal
@@ -17,4 +18,5 @@ loop-event-preserved g c =
           ∙ c.loop-event.invariant.0,
       c.in_ok-happen.ensures.settings ∙ c.loop-event.invariant.1,
       c.in_ok-happen.ensures.spent,
+      λ all. c.loop-event.invariant.3 (subst (AllByRecursion IsEvent) (sym (drop_item c.args.events.now c.loop-event.event-index c.event-item.result c.loop-event-test.true c.event-item.is)) (c.happen.ensures.event, all)),
     )

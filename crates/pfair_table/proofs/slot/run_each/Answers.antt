@@ -2,7 +2,7 @@ use Rattle.std.proofs.Common.{ℕ, ◌≡◌, ◌∙◌, sym, ap, Some, None, Op
 use Rattle.std.specs.Prelude.{is_some, if◌then◌else◌}
 use Rattle.pfair_admission.specs.Admission.{ran}
 use Rattle.pfair_table.specs.Queue.{MayRun}
-use Rattle.pfair_table.proofs.Quanta.{key_among, may_run, runs_next, run_turn}
+use Rattle.pfair_table.proofs.Quanta.{key_among, may_run, runs_next, run_turn, not_waiting}
 use Rattle.pfair_table.proofs.slot.run_each.Goals as goal
 
 some_one : {A : Type 0} (x y : A) → Some x ≡ Some y → x ≡ y
@@ -23,6 +23,11 @@ loop-key-preserved-in_default g c =
     absurd (none_some may.0.next (sym c.in_default.is ∙ c.ran.ensures.index ∙ runs_next c.args.members.now c.args.first.now c.requires.apart c.loop-key.key-index c.key-item.result c.loop-key-test.true c.key-item.is
     c.loop-key.members c.loop-key.table.items (g.R.Ready.held c.loop-key.ready) c.loop-key.invariant.0 may))
 
+pub tell_next-requires : goal.tell_next-requires
+tell_next-requires g c =
+    not_waiting c.args.members.now c.args.first.now c.requires.apart c.loop-key.key-index c.key-item.result c.loop-key-test.true c.key-item.is
+    c.loop-key.members c.loop-key.table.items (g.R.Ready.held c.loop-key.ready) c.loop-key.invariant.0
+
 pub loop-key-preserved : goal.loop-key-preserved
 loop-key-preserved g c =
     let may : MayRun c.args.members.now.members c.key-item.result = c.requires.running c.key-item.result (key_among c.args.members.now c.args.first.now c.requires.apart c.loop-key.key-index c.key-item.result c.loop-key-test.true c.key-item.is) in
@@ -31,7 +36,7 @@ loop-key-preserved g c =
     let after_is : c.ran.new.self ≡ record c.loop-key.members { members = ran c.key-item.result.name c.loop-key.members.members } =
     c.ran.ensures.members ∙ ap (λ (o : Option ℕ). if is_some o then record c.loop-key.members { members = ran c.key-item.result.name c.loop-key.members.members } else c.loop-key.members) c.in-Some.is in (
       run_turn c.args.members.now c.args.first.now c.requires.apart c.loop-key.key-index c.key-item.result c.loop-key-test.true c.key-item.is
-          c.loop-key.members c.ran.new.self c.loop-key.table.items c.push.new.self.items (g.R.Ready.held c.loop-key.ready) (g.R.Ready.held c.tell_of.new.ready) c.in-Some.index
-          c.loop-key.invariant.0 may index_is after_is c.in_ok-push.ensures.items c.in_ok-tell_of.ensures.told,
-      c.in_ok-tell_of.ensures.time ∙ c.loop-key.invariant.1,
+          c.loop-key.members c.ran.new.self c.loop-key.table.items c.push.new.self.items (g.R.Ready.held c.loop-key.ready) (g.R.Ready.held c.tell_next.new.ready) c.in-Some.index
+          c.loop-key.invariant.0 may index_is after_is c.in_ok-push.ensures.items c.in_ok-tell_next.ensures.told,
+      c.in_ok-tell_next.ensures.time ∙ c.loop-key.invariant.1,
     )

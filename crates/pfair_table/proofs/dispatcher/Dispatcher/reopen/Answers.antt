@@ -3,21 +3,27 @@ use Rattle.std.specs.Prelude.{is_some}
 use Rattle.pfair_replica.specs.HeldRows.{replica_of}
 use Rattle.pfair_replica.specs.Replica.{has_torn}
 use Rattle.pfair_table.specs.Refinement.{IsInStep}
-use Rattle.pfair_table.proofs.Keeping.{is_of_held, kept_anew}
+use Rattle.pfair_table.proofs.Keeping.{is_of_held, whole_held, kept_anew}
 use Rattle.pfair_table.proofs.dispatcher.Dispatcher.reopen.Goals as goal
 
 pub replay-requires-clause-of : goal.replay-requires-clause-of
 replay-requires-clause-of g c =
     let test : has_torn (replica_of c.self.inside.replica) ≡ false = sym c.first_torn.ensures.some ∙ ap is_some c.in_default.is in
-    is_of_held c.self.inside.settings (replica_of c.self.inside.replica) c.self.inside.planned.items c.self.inside.spent c.self.inside.members (g.R.Ready.now c.self.inside.ready) (g.R.Ready.held c.self.inside.ready)
+    is_of_held c.self.inside.settings (replica_of c.self.inside.replica) c.self.inside.planned.tables c.self.inside.planned.decided c.self.inside.spent c.self.inside.members (g.R.Ready.now c.self.inside.ready) (g.R.Ready.held c.self.inside.ready)
+    c.self.invariant.0 c.first_torn.ensures.replica test
+
+pub replay-requires-clause-untorn : goal.replay-requires-clause-untorn
+replay-requires-clause-untorn g c =
+    let test : has_torn (replica_of c.self.inside.replica) ≡ false = sym c.first_torn.ensures.some ∙ ap is_some c.in_default.is in
+    whole_held c.self.inside.settings (replica_of c.self.inside.replica) c.self.inside.planned.tables c.self.inside.planned.decided c.self.inside.spent c.self.inside.members (g.R.Ready.now c.self.inside.ready) (g.R.Ready.held c.self.inside.ready)
     c.self.invariant.0 c.first_torn.ensures.replica test
 
 pub invariant_of-self : goal.invariant_of-self
 invariant_of-self g c =
     let test : has_torn (replica_of c.self.inside.replica) ≡ false = sym c.first_torn.ensures.some ∙ ap is_some c.in_default.is in
-    let long : c.len.result ≡ length c.self.inside.planned.items = omega (arith, c.len.ensures) in (
-      kept_anew c.self.inside.settings (replica_of c.self.inside.replica) c.self.inside.planned.items c.self.inside.spent c.self.inside.members (g.R.Ready.now c.self.inside.ready) (g.R.Ready.held c.self.inside.ready)
+    let long : c.len.result ≡ length c.self.inside.planned.tables = omega (arith, c.len.ensures) in (
+      kept_anew c.self.inside.settings (replica_of c.self.inside.replica) c.self.inside.planned.tables c.self.inside.planned.decided c.self.inside.spent c.self.inside.members (g.R.Ready.now c.self.inside.ready) (g.R.Ready.held c.self.inside.ready)
           c.self.invariant.0 c.first_torn.ensures.replica test false c.in-Ok.members (g.R.Ready.now c.in-Ok.ready) (g.R.Ready.held c.in-Ok.ready)
-          (subst (λ n. IsInStep c.self.inside.settings (replica_of c.self.inside.replica) n c.in-Ok.members (g.R.Ready.now c.in-Ok.ready) (g.R.Ready.held c.in-Ok.ready)) long c.in-Ok.ensures),
-      c.self.invariant.1,
+          (subst (λ n. IsInStep c.self.inside.settings (replica_of c.self.inside.replica) n c.in-Ok.members (g.R.Ready.now c.in-Ok.ready) (g.R.Ready.held c.in-Ok.ready)) long c.in-Ok.ensures.step),
+      c.replay.ensures.readings,
     )

@@ -1,0 +1,84 @@
+-- Rows found by their buckets.
+use Rattle.std.proofs.Common.{ℕ, zero, suc, ◌+◌, ◌≤◌, ◌<◌, ◌≡◌, true, refl, sym, ap, ◌∙◌, subst, arith, ⊎_elim, List, [], ◌∷◌, length, Some, None}
+use Rattle.std.specs.Prelude.{◌≢◌, slice_get, slice_index, set, replicate, if◌then◌else◌}
+use Rattle.std.specs.List.{AllByRecursion}
+use Rattle.std.proofs.lemmas.Bool.{cases_eq, false_from_ne_true}
+use Rattle.std.proofs.lemmas.List.{length-set, length-replicate, get_or-set_same, get_or-set_other}
+use Rattle.pfair_ready.specs.Names.{NameValue as Name}
+use Rattle.pfair_entry.specs.Same.{name_eq}
+use Rattle.pfair_entry.specs.Exact.{name_exact, name_itself}
+use Rattle.pfair_table.specs.declared.pick.Pick.{Pick}
+use Rattle.pfair_table.specs.Table.{Table}
+use Rattle.pfair_table.specs.Laws.{EachNameOnce}
+use Rattle.pfair_table.specs.Places.{place_of}
+use Rattle.pfair_table.specs.Buckets.{bucket, AreBucketsOf}
+
+-- a task that no row names has no place
+no_place : (rows : Table) (places : List ℕ) (name : Name) → ((r : ℕ) (p : Pick) → slice_get rows r ≡ Some p → name ≡ p.name → ⊥) → place_of rows places name ≡ None
+no_place [] places name none = refl
+no_place (p ∷ rows) [] name none = refl
+no_place (p ∷ rows) (k ∷ places) name none =
+    ap (λ b. if b then Some k else place_of rows places name) (false_from_ne_true (name_eq name p.name) (λ e. none 0 p refl (name_exact name p.name e)))
+    ∙ no_place rows places name (λ r q h. none (suc r) q h)
+
+pub none_by_bucket : (rows : Table) (ends places : List ℕ) (name : Name) → AreBucketsOf rows ends → slice_index ends (bucket name) ≡ 0 → None ≡ place_of rows places name
+none_by_bucket rows ends places name of none = sym (no_place rows places name (λ r p h e. of.found r p h (ap (λ n. slice_index ends (bucket n)) (sym e) ∙ none)))
+
+unlike_at : (rows : Table) (name : Name) (r : ℕ) (p : Pick) → AllByRecursion (λ q. name ≢ q.name) rows → slice_get rows r ≡ Some p → name ≢ p.name
+unlike_at [] name r p all h = absurd (cc)
+unlike_at (q ∷ rows) name zero p all h = (let one : q ≡ p = cc in λ e. all.0 (e ∙ ap (λ (x : Pick). x.name) (sym one)))
+unlike_at (q ∷ rows) name (suc r) p all h = unlike_at rows name r p all.1 h
+
+-- the place of the one row that names a task
+pub place_by_row : (rows : Table) (places : List ℕ) (name : Name) (r : ℕ) (p : Pick) → EachNameOnce rows → slice_get rows r ≡ Some p → p.name ≡ name → slice_get places r ≡ place_of rows places name
+place_by_row [] places name r p once h same = absurd (cc)
+place_by_row (q ∷ rows) [] name r p once h same = refl
+place_by_row (q ∷ rows) (k ∷ places) name zero p once h same =
+    let one : q ≡ p = cc in
+    let named : name ≡ q.name = sym (ap (λ (x : Pick). x.name) one ∙ same) in
+    sym (ap (λ b. if b then Some k else place_of rows places name) (subst (λ n. name_eq name n ≡ true) named (name_itself name)))
+place_by_row (q ∷ rows) (k ∷ places) name (suc r) p once h same =
+    let unlike = unlike_at rows q.name r p once.0 h in
+    place_by_row rows places name r p once.1 h same
+    ∙ sym (ap (λ b. if b then Some k else place_of rows places name) (false_from_ne_true (name_eq name q.name) (λ e. unlike (sym (name_exact name q.name e) ∙ sym same))))
+
+-- ---- the rows entered so far
+
+pub record AreBucketsBelow (rows : Table) (ends : List ℕ) (i : ℕ) : Type 0 where
+  pub long : length ends ≡ 256
+  pub within : (b : ℕ) → slice_index ends b ≤ i
+  pub found : (r : ℕ) (p : Pick) → r < i → slice_get rows r ≡ Some p → slice_index ends (bucket p.name) ≢ 0
+
+pub one_more : (rows : Table) (ends : List ℕ) (i b : ℕ) (p : Pick) → AreBucketsBelow rows ends i → slice_get rows i ≡ Some p → b ≡ bucket p.name → b < 256 → AreBucketsBelow rows (set ends b (i + 1)) (i + 1)
+one_more rows ends i b p below at_i is room =
+    let long = below.long in
+    let inside : b < length ends = omega (arith, long, room) in
+    record {
+      long = length-set ends b (i + 1) ∙ below.long;
+      within = λ c. ⊎_elim
+          (λ same. (let here : slice_index (set ends b (i + 1)) c ≡ i + 1 = ap (slice_index (set ends b (i + 1))) same ∙ get_or-set_same ends b (i + 1) 0 inside in omega (arith, here)))
+          (λ other. (let there : slice_index (set ends b (i + 1)) c ≡ slice_index ends c = get_or-set_other ends b c (i + 1) 0 other in let le = below.within c in omega (arith, there, le)))
+          (cases_eq c b);
+      found = λ r q l h e. ⊎_elim
+          (λ same. (let here : slice_index (set ends b (i + 1)) (bucket q.name) ≡ i + 1 = ap (slice_index (set ends b (i + 1))) same ∙ get_or-set_same ends b (i + 1) 0 inside in absurd (omega (arith, here, e))))
+          (λ other.
+          (let there : slice_index (set ends b (i + 1)) (bucket q.name) ≡ slice_index ends (bucket q.name) = get_or-set_other ends b (bucket q.name) (i + 1) 0 other in
+          ⊎_elim
+          (λ last. (let at_r : slice_get rows i ≡ Some q = ap (slice_get rows) (sym last) ∙ h in let one : p ≡ q = cc in other (ap (λ (x : Pick). bucket x.name) (sym one) ∙ sym is)))
+          (λ before. below.found r q (omega (arith, l, before)) h (sym there ∙ e))
+          (cases_eq r i)))
+          (cases_eq (bucket q.name) b);
+    }
+
+zeros : (n b : ℕ) → slice_index (replicate n 0) b ≡ 0
+zeros zero b = refl
+zeros (suc n) zero = refl
+zeros (suc n) (suc b) = zeros n b
+
+-- no row yet
+pub no_rows_yet : (rows : Table) → AreBucketsBelow rows (replicate 256 0) 0
+no_rows_yet rows = record {
+  long = length-replicate {A = ℕ} 256 0;
+  within = λ b. (let none = zeros 256 b in omega (arith, none));
+  found = λ r p l h e. absurd (omega (arith, l));
+}

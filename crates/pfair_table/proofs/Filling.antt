@@ -1,0 +1,123 @@
+-- Processors in use as bits, and the rows that take the least ones that are not.
+use Rattle.std.proofs.Common.{ℕ, ◌+◌, ◌-◌, ◌*◌, ◌^◌, ◌%◌, ◌<◌, ◌≤◌, ◌≡◌, refl, sym, ap, ◌∙◌, arith, inl, inr, w64, bit_or, Bool, true, false, List, [], ◌∷◌, ◌++◌, length, Option, Some, None}
+use Rattle.std.specs.Prelude.{◌||◌, ◌==◌, if◌then◌else◌}
+use Rattle.std.specs.List.{AllByRecursion}
+use Rattle.std.specs.Int.{bit_at, trailing_ones}
+use Rattle.std.proofs.lemmas.Nat.Bits.{bit_at-trailing_ones, bit_at_set_same, bit_at_set_other, bit_at_ones, bit_at-zero}
+use Rattle.std.proofs.lemmas.List.{append_assoc}
+use Rattle.std.proofs.lemmas.Bool.{true≢false, eqb-true, eq-eqb, cases_lt}
+use Rattle.pfair_table.specs.Places.{is_used, free_place, all_kept, filled}
+use Rattle.pfair_table.specs.PlacesInUse.{AreInUse}
+use Rattle.pfair_table.proofs.FreePlaces.{pigeons, free_is}
+use Rattle.pfair_table.proofs.PlacesKept.{count_others}
+
+-- ---- bits
+
+is_clear : (b : Bool) (n : ℕ) → n ≡ (if b then 1 else 0) → n ≡ 0 → b ≡ false
+is_clear true n e z = absurd (omega (arith, e, z))
+is_clear false n e z = refl
+
+is_set : (b : Bool) (n : ℕ) → n ≡ (if b then 1 else 0) → n ≡ 1 → b ≡ true
+is_set true n e z = refl
+is_set false n e z = absurd (omega (arith, e, z))
+
+pub none_in_use : AreInUse 0 []
+none_in_use k l = bit_at-zero k
+
+-- while fewer than 64 are in use, some bit is clear
+pub not_full : (bits : ℕ) (used : List ℕ) → bits < 2 ^ 64 → AreInUse bits used → length used < 64 → bits + 1 < 2 ^ 64
+not_full bits used fits in_use few =
+    elim (cases_lt (bits + 1) (2 ^ 64)) [
+      | inl l ↦ l
+      | inr g ↦ (let full : bits ≡ 2 ^ 64 - 1 = omega (arith, g, fits) in
+          let all = pigeons 64 used (λ k l. is_set (is_used used k) (bit_at bits k) (in_use k l) (ap (λ n. bit_at n k) full ∙ bit_at_ones 64 k l)) in
+          absurd (omega (arith, all, few)))
+    ]
+
+-- the lowest bit that is clear is that of the free place
+pub lowest_is_free : (bits : ℕ) (used : List ℕ) → bits + 1 < 2 ^ 64 → AreInUse bits used → (trailing_ones w64 bits ≡ free_place used) × (trailing_ones w64 bits < 64)
+lowest_is_free bits used fits in_use =
+    let lowest = bit_at-trailing_ones w64 bits fits in
+    let k = trailing_ones w64 bits in
+    let within : k < 64 = lowest.0 in (
+      sym (free_is used k (is_clear (is_used used k) (bit_at bits k) (in_use k within) lowest.1)
+          (λ i l. is_set (is_used used i) (bit_at bits i) (in_use i (omega (arith, l, within))) (lowest.2 i l))).0,
+      within,
+    )
+
+pub in_use_with : (bits : ℕ) (used : List ℕ) (k : ℕ) → k < 64 → AreInUse bits used → AreInUse (bit_or bits (1 * 2 ^ k % 2 ^ 64)) (k ∷ used)
+in_use_with bits used k within in_use i l = by (k == i) refl
+  where
+    by : (b : Bool) → (k == i) ≡ b → bit_at (bit_or bits (1 * 2 ^ k % 2 ^ 64)) i ≡ (if (b || is_used used i) then 1 else 0)
+    by true e = ap (bit_at (bit_or bits (1 * 2 ^ k % 2 ^ 64))) (sym (eqb-true k i e)) ∙ bit_at_set_same w64 bits k within
+    by false e = bit_at_set_other w64 bits k within i (λ same. true≢false (sym (eq-eqb k i (sym same)) ∙ e)) ∙ in_use i l
+
+-- ---- the rows that keep a place
+
+-- what some rows keep is in use, and what the others keep is still to come
+pub record AreUsedSoFar (bits : ℕ) (rest kept : List (Option ℕ)) : Type 0 where
+  pub used : List ℕ
+  pub in_use : AreInUse bits used
+  pub same : (k : ℕ) → (is_used used k || is_used (all_kept rest) k) ≡ is_used (all_kept kept) k
+  pub below : AllByRecursion (λ k. k < 64) (all_kept rest)
+
+pub used_start : (kept : List (Option ℕ)) → AllByRecursion (λ k. k < 64) (all_kept kept) → AreUsedSoFar 0 kept kept
+used_start kept below = record { used = []; in_use = none_in_use; same = λ k. refl; below = below }
+
+pub used_other : (bits : ℕ) (rest kept : List (Option ℕ)) → AreUsedSoFar bits (None ∷ rest) kept → AreUsedSoFar bits rest kept
+used_other bits rest kept s = record { used = s.used; in_use = s.in_use; same = s.same; below = s.below }
+
+pub used_kept : (bits : ℕ) (j : ℕ) (rest kept : List (Option ℕ)) → AreUsedSoFar bits (Some j ∷ rest) kept → AreUsedSoFar (bit_or bits (1 * 2 ^ j % 2 ^ 64)) rest kept
+used_kept bits j rest kept s = record {
+  used = j ∷ s.used;
+  in_use = in_use_with bits s.used j s.below.0 s.in_use;
+  same = λ k. swap (j == k) (is_used s.used k) (is_used (all_kept rest) k) ∙ s.same k;
+  below = s.below.1;
+}
+  where
+    swap : (a b c : Bool) → ((a || b) || c) ≡ (b || (a || c))
+    swap true true c = refl
+    swap true false c = refl
+    swap false b c = refl
+
+pub used_end : (bits : ℕ) (kept : List (Option ℕ)) → AreUsedSoFar bits [] kept → AreInUse bits (all_kept kept)
+used_end bits kept s k l = s.in_use k l ∙ ap (λ b. if b then 1 else 0) (or_none (is_used s.used k) ∙ s.same k)
+  where
+    or_none : (b : Bool) → b ≡ (b || false)
+    or_none true = refl
+    or_none false = refl
+
+-- ---- row after row
+
+-- some rows have their places, and the others' are still to come
+pub record AreFilledSoFar (bits : ℕ) (places : List ℕ) (rest : List (Option ℕ)) (whole : List ℕ) : Type 0 where
+  pub used : List ℕ
+  pub in_use : AreInUse bits used
+  pub fits : bits < 2 ^ 64
+  pub so_far : places ++ filled used rest ≡ whole
+  pub room : length used + count_others rest ≤ 64
+
+pub filled_kept : (bits : ℕ) (places : List ℕ) (j : ℕ) (rest : List (Option ℕ)) (whole : List ℕ) → AreFilledSoFar bits places (Some j ∷ rest) whole → AreFilledSoFar bits (places ++ j ∷ []) rest whole
+filled_kept bits places j rest whole s = record {
+  used = s.used;
+  in_use = s.in_use;
+  fits = s.fits;
+  so_far = append_assoc places (j ∷ []) (filled s.used rest) ∙ s.so_far;
+  room = s.room;
+}
+
+-- a row that keeps none takes the free place
+pub filled_free : (bits bits2 : ℕ) (places : List ℕ) (k : ℕ) (rest : List (Option ℕ)) (whole : List ℕ) → (s : AreFilledSoFar bits places (None ∷ rest) whole)
+    → k ≡ free_place s.used → AreInUse bits2 (free_place s.used ∷ s.used) → bits2 < 2 ^ 64 → AreFilledSoFar bits2 (places ++ k ∷ []) rest whole
+filled_free bits bits2 places k rest whole s free in_use fits =
+    let room = s.room in
+    record {
+      used = free_place s.used ∷ s.used;
+      in_use = in_use;
+      fits = fits;
+      so_far = ap (λ j. (places ++ j ∷ []) ++ filled (free_place s.used ∷ s.used) rest) free ∙ append_assoc places (free_place s.used ∷ []) (filled (free_place s.used ∷ s.used) rest) ∙ s.so_far;
+      room = omega (arith, room);
+    }
+
+pub room_left : (bits : ℕ) (places : List ℕ) (rest : List (Option ℕ)) (whole : List ℕ) → (s : AreFilledSoFar bits places (None ∷ rest) whole) → length s.used < 64
+room_left bits places rest whole s = let room = s.room in omega (arith, room)

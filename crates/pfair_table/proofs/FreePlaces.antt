@@ -1,0 +1,100 @@
+-- The least processor that is not in use.
+use Rattle.std.proofs.Common.{ℕ, zero, suc, ◌<◌, ◌≤◌, ◌≡◌, refl, sym, ap, ◌∙◌, arith, inl, inr, Bool, true, false, cond, List, [], ◌∷◌, ◌++◌, length, Option, Some, None}
+use Rattle.std.specs.Prelude.{◌⊎◌, ◌==◌, find, filter, not, unwrap_or}
+use Rattle.std.proofs.lemmas.List.Sums.{length-filter}
+use Rattle.std.proofs.lemmas.List.Sums.{count_by-le-length}
+use Rattle.std.proofs.lemmas.Bool.{true≢false, eqb-true, eq-eqb, ne_eqb, or_cases, or_left, or_right, cases_lt}
+use Rattle.pfair_replica.specs.Replica.{numbers_below}
+use Rattle.pfair_table.proofs.Apart.{Among, filter_among}
+use Rattle.pfair_table.proofs.TableLaws.{among_below}
+use Rattle.pfair_table.specs.Places.{is_used, free_place}
+
+-- ---- the first that passes
+
+find_left : {A : Type 0} (p : A → Bool) (xs ys : List A) (x : A) → find p xs ≡ Some x → find p (xs ++ ys) ≡ Some x
+find_left p [] ys x e = absurd (cc)
+find_left {A} p (y ∷ xs) ys x e = by (p y) refl e (find_left p xs ys x)
+  where
+    by : (b : Bool) → p y ≡ b → cond b (Some y) (find p xs) ≡ Some x → (find p xs ≡ Some x → find p (xs ++ ys) ≡ Some x) → cond b (Some y) (find p (xs ++ ys)) ≡ Some x
+    by true q e more = e
+    by false q e more = more e
+
+find_right : {A : Type 0} (p : A → Bool) (xs ys : List A) → ((x : A) → Among xs x → p x ≡ false) → find p (xs ++ ys) ≡ find p ys
+find_right p [] ys none = refl
+find_right p (x ∷ xs) ys none = ap (λ b. cond b (Some x) (find p (xs ++ ys))) (none x (inl refl)) ∙ find_right p xs ys (λ y h. none y (inr h))
+
+-- where a number passes and none below it does
+find_number : (p : ℕ → Bool) (n k : ℕ) → k < n → p k ≡ true → ((i : ℕ) → i < k → p i ≡ false) → find p (numbers_below n) ≡ Some k
+find_number p zero k l e least = absurd (omega (arith, l))
+find_number p (suc n) k l e least =
+    elim (cases_lt k n) [
+      | inl h ↦ find_left p (numbers_below n) (n ∷ []) k (find_number p n k h e least)
+      | inr h ↦ (let same : k ≡ n = omega (arith, l, h) in
+          find_right p (numbers_below n) (n ∷ []) (λ i a. (let b = among_below n i a in least i (omega (arith, b, same))))
+          ∙ ap (λ j. find p (j ∷ [])) (sym same) ∙ ap (λ b. cond b (Some k) None) e)
+    ]
+
+find_no_number : (p : ℕ → Bool) (n : ℕ) → ((i : ℕ) → i < n → p i ≡ false) → find p (numbers_below n) ≡ None
+find_no_number p zero none = refl
+find_no_number p (suc n) none =
+    find_right p (numbers_below n) (n ∷ []) (λ i a. (let b = among_below n i a in none i (omega (arith, b))))
+    ∙ ap (λ b. cond b (Some n) None) (none n (omega arith))
+
+-- ---- in use
+
+pub used_among : (used : List ℕ) (k : ℕ) → is_used used k ≡ true → Among used k
+used_among [] k e = absurd (true≢false (sym e))
+used_among (j ∷ used) k e = elim (or_cases (j == k) (is_used used k) e) [ inl i ↦ inl (sym (eqb-true j k i)) | inr i ↦ inr (used_among used k i) ]
+
+pub among_used : (used : List ℕ) (k : ℕ) → Among used k → is_used used k ≡ true
+among_used [] k h = absurd h
+among_used (j ∷ used) k (inl e) = or_left (j == k) (is_used used k) (eq-eqb j k (sym e))
+among_used (j ∷ used) k (inr h) = or_right (j == k) (is_used used k) (among_used used k h)
+
+count_short : {A : Type 0} (p : A → Bool) (xs : List A) (x : A) → Among xs x → p x ≡ false → length (filter p xs) < length xs
+count_short p [] x h e = absurd h
+count_short {A} p (y ∷ ys) x h e = by (p y) refl h (λ i. count_short p ys x i e)
+  where
+    by : (b : Bool) → p y ≡ b → Among (y ∷ ys) x → (Among ys x → length (filter p ys) < length ys) → length (cond b (y ∷ filter p ys) (filter p ys)) < suc (length ys)
+    by true q (inl i) more = absurd (true≢false (sym q ∙ sym (ap p i) ∙ e))
+    by true q (inr i) more = (let m = more i in omega (arith, m))
+    by false q i more = (let m = count_by-le-length p ys in let same = length-filter p ys in omega (arith, m, same))
+
+-- a list that has each number below n is no shorter than n
+pub pigeons : (n : ℕ) (used : List ℕ) → ((k : ℕ) → k < n → is_used used k ≡ true) → n ≤ length used
+pigeons zero used f = omega arith
+pigeons (suc n) used f =
+    let others = λ (j : ℕ). not (j == n) in
+    let more = pigeons n (filter others used) (λ k l. among_used (filter others used) k (filter_among others used k (used_among used k (f k (omega (arith, l)))) (ap not (ne_eqb k n (λ e. omega (arith, l, e)))))) in
+    let short = count_short others used n (used_among used n (f n (omega arith))) (ap not (eq-eqb n n refl)) in
+    omega (arith, more, short)
+
+-- A number that is not in use, while all below it are, is the free place, and not above the count of those in use.
+pub free_is : (used : List ℕ) (k : ℕ) → is_used used k ≡ false → ((i : ℕ) → i < k → is_used used i ≡ true) → (free_place used ≡ k) × (k ≤ length used)
+free_is used k e least =
+    let le = pigeons k used least in
+    let free = λ (i : ℕ). not (is_used used i) in (
+      elim (cases_lt k (length used)) [
+        | inl l ↦ ap (λ (o : Option ℕ). unwrap_or o (length used)) (find_number free (length used) k l (ap not e) (λ i h. ap not (least i h)))
+        | inr g ↦ (let same : length used ≡ k = omega (arith, g, le) in
+            ap (λ (o : Option ℕ). unwrap_or o (length used)) (find_no_number free (length used) (λ i h. ap not (least i (omega (arith, h, same))))) ∙ same)
+      ],
+      le,
+    )
+
+-- there is such a number: of the first ones, or the next
+least_free : (used : List ℕ) (n : ℕ) → ((k : ℕ) → k < n → is_used used k ≡ true) ⊎ ((k : ℕ) × (is_used used k ≡ false) × ((i : ℕ) → i < k → is_used used i ≡ true))
+least_free used zero = inl (λ k l. absurd (omega (arith, l)))
+least_free used (suc n) = elim (least_free used n) [ inl f ↦ by (is_used used n) refl f | inr t ↦ inr t ]
+  where
+    by : (b : Bool) → is_used used n ≡ b → ((k : ℕ) → k < n → is_used used k ≡ true) → ((k : ℕ) → k < suc n → is_used used k ≡ true) ⊎ ((k : ℕ) × (is_used used k ≡ false) × ((i : ℕ) → i < k → is_used used i ≡ true))
+    by true e f = inl (λ k l. elim (cases_lt k n) [ inl h ↦ f k h | inr g ↦ (let same : k ≡ n = omega (arith, l, g) in ap (is_used used) same ∙ e) ])
+    by false e f = inr (n, e, f)
+
+-- The free place is not in use, and not above the count of those that are.
+pub free_place_is_free : (used : List ℕ) → (is_used used (free_place used) ≡ false) × (free_place used ≤ length used)
+free_place_is_free used =
+    elim (least_free used (suc (length used))) [
+      | inl f ↦ (let full = pigeons (suc (length used)) used f in absurd (omega (arith, full)))
+      | inr t ↦ (let is = free_is used t.0 t.1 t.2 in let same = is.0 in let le = is.1 in (ap (is_used used) same ∙ t.1, omega (arith, same, le)))
+    ]

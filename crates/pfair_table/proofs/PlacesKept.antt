@@ -1,0 +1,249 @@
+-- Places are processors, no two of a table are equal, and a task that goes on running keeps its own.
+use Rattle.std.proofs.Common.{ℕ, zero, suc, ◌+◌, ◌<◌, ◌≤◌, ◌≡◌, refl, sym, ap, ◌∙◌, subst, arith, inl, inr, Bool, true, false, List, [], ◌∷◌, length, Option, Some, None}
+use Rattle.std.specs.Prelude.{◌⊎◌, ◌≢◌, ◌||◌, slice_get, if◌then◌else◌}
+use Rattle.std.specs.List.{AllByRecursion}
+use Rattle.std.proofs.lemmas.Bool.{true≢false}
+use Rattle.std.proofs.lemmas.List.{length-map}
+use Rattle.pfair_ready.specs.Names.{NameValue as Name}
+use Rattle.pfair_entry.specs.Same.{name_eq}
+use Rattle.pfair_entry.specs.Exact.{name_exact}
+use Rattle.pfair_table.specs.Table.{Table, names_task}
+use Rattle.pfair_table.specs.declared.pick.Pick.{Pick}
+use Rattle.pfair_table.specs.Laws.{EachNameOnce}
+use Rattle.pfair_table.specs.Places.{place_of, kept_places, all_kept, free_place, filled, places_after, places_from}
+use Rattle.pfair_table.specs.PlaceLaws.{IsFit, AllDiffer, ArePlacesOf, PlacesAreKept, PlacesFollowTables}
+use Rattle.pfair_table.proofs.Apart.{Among, all_among, among_all}
+use Rattle.pfair_table.proofs.FreePlaces.{among_used, free_place_is_free}
+
+-- ---- a task that goes on running
+
+kept_place : (used : List ℕ) (before : Table) (old : List ℕ) (now : Table) (name : Name) (k : ℕ) → place_of before old name ≡ Some k → names_task name now ≡ true → place_of now (filled used (kept_places before old now)) name ≡ Some k
+kept_place used before old [] name k e h = absurd (true≢false (sym h))
+kept_place used before old (p ∷ picks) name k e h =
+    by (place_of before old p.name) refl (name_eq name p.name) refl h (λ u i. kept_place u before old picks name k e i)
+  where
+    by : (o : Option ℕ) → place_of before old p.name ≡ o → (b : Bool) → name_eq name p.name ≡ b → (b || names_task name picks) ≡ true
+        → ((u : List ℕ) → names_task name picks ≡ true → place_of picks (filled u (kept_places before old picks)) name ≡ Some k)
+        → place_of (p ∷ picks) (filled used (o ∷ kept_places before old picks)) name ≡ Some k
+    by None q true i h more = (let same : place_of before old name ≡ None = ap (place_of before old) (name_exact name p.name i) ∙ q in absurd (cc))
+    by None q false i h more =
+        ap (λ b. if b then Some (free_place used) else place_of picks (filled (free_place used ∷ used) (kept_places before old picks)) name) i
+        ∙ more (free_place used ∷ used) h
+    by (Some j) q true i h more =
+        ap (λ b. if b then Some j else place_of picks (filled used (kept_places before old picks)) name) i
+        ∙ sym (ap (place_of before old) (name_exact name p.name i) ∙ q) ∙ e
+    by (Some j) q false i h more =
+        ap (λ b. if b then Some j else place_of picks (filled used (kept_places before old picks)) name) i
+        ∙ more used h
+
+-- a task of a table has a place, where each row has one
+has_place : (rows : Table) (places : List ℕ) → length places ≡ length rows → (name : Name) → names_task name rows ≡ true → (k : ℕ) × (place_of rows places name ≡ Some k)
+has_place [] places long name h = absurd (true≢false (sym h))
+has_place (p ∷ picks) [] long name h = absurd (omega (arith, long))
+has_place (p ∷ picks) (j ∷ places) long name h = by (name_eq name p.name) h (λ i. has_place picks places (omega (arith, long)) name i)
+  where
+    by : (b : Bool) → (b || names_task name picks) ≡ true → (names_task name picks ≡ true → (k : ℕ) × (place_of picks places name ≡ Some k)) → (k : ℕ) × ((if b then Some j else place_of picks places name) ≡ Some k)
+    by true h more = (j, refl)
+    by false h more = more h
+
+-- ---- the rows
+
+-- no two are equal, by what is among the later ones
+abbrev Differ : List ℕ → Type 0
+Differ [] = Unit {0}
+Differ (k ∷ ks) = ((j : ℕ) → Among ks j → k ≢ j) × Differ ks
+
+abbrev pub count_others : List (Option ℕ) → ℕ
+count_others [] = 0
+count_others (None ∷ kept) = suc (count_others kept)
+count_others (Some k ∷ kept) = count_others kept
+
+-- the free place is a processor, while there are fewer in use
+free_below : (m : ℕ) (used : List ℕ) → length used < m → free_place used < m
+free_below m used room = let le = (free_place_is_free used).1 in omega (arith, le, room)
+
+free_apart : (used : List ℕ) → Among used (free_place used) → ⊥
+free_apart used h = true≢false (sym (among_used used (free_place used) h) ∙ (free_place_is_free used).0)
+
+-- each place is a processor, and kept or not in use
+filled_in : (m : ℕ) (used : List ℕ) (kept : List (Option ℕ)) → ((k : ℕ) → Among (all_kept kept) k → k < m) → length used + count_others kept ≤ m
+    → (k : ℕ) → Among (filled used kept) k → (k < m) × (Among (all_kept kept) k ⊎ (Among used k → ⊥))
+filled_in m used [] below room k h = absurd h
+filled_in m used (Some j ∷ kept) below room k (inl e) = (below k (inl e), inl (inl e))
+filled_in m used (Some j ∷ kept) below room k (inr h) =
+    (let t = filled_in m used kept (λ i l. below i (inr l)) room k h in (t.0, elim t.1 [ inl a ↦ inl (inr a) | inr b ↦ inr b ]))
+filled_in m used (None ∷ kept) below room k (inl e) =
+    (subst (λ j. j < m) (sym e) (free_below m used (omega (arith, room))), inr (λ h. free_apart used (subst (Among used) e h)))
+filled_in m used (None ∷ kept) below room k (inr h) =
+    (let t = filled_in m (free_place used ∷ used) kept below (omega (arith, room)) k h in (t.0, elim t.1 [ inl a ↦ inl a | inr b ↦ inr (λ u. b (inr u)) ]))
+
+filled_differ : (m : ℕ) (used : List ℕ) (kept : List (Option ℕ)) → ((k : ℕ) → Among (all_kept kept) k → k < m) → length used + count_others kept ≤ m
+    → Differ (all_kept kept) → ((k : ℕ) → Among (all_kept kept) k → Among used k) → Differ (filled used kept)
+filled_differ m used [] below room differ in_use = tt
+filled_differ m used (Some k ∷ kept) below room differ in_use = (
+  λ j h e. (let t = filled_in m used kept (λ i l. below i (inr l)) room j h in
+      elim t.1 [ inl a ↦ differ.0 j a e | inr b ↦ b (subst (Among used) e (in_use k (inl refl))) ]),
+  filled_differ m used kept (λ i l. below i (inr l)) room differ.1 (λ i l. in_use i (inr l)),
+)
+filled_differ m used (None ∷ kept) below room differ in_use = (
+  λ j h e. (let t = filled_in m (free_place used ∷ used) kept below (omega (arith, room)) j h in
+      elim t.1 [ inl a ↦ free_apart used (subst (Among used) (sym e) (in_use j a)) | inr b ↦ b (inl (sym e)) ]),
+  filled_differ m (free_place used ∷ used) kept below (omega (arith, room)) differ (λ i l. inr (in_use i l)),
+)
+
+filled_long : (used : List ℕ) (kept : List (Option ℕ)) → length (filled used kept) ≡ length kept
+filled_long used [] = refl
+filled_long used (Some k ∷ kept) = ap suc (filled_long used kept)
+filled_long used (None ∷ kept) = ap suc (filled_long (free_place used ∷ used) kept)
+
+pub kept_long : (before : Table) (old : List ℕ) (now : Table) → length (kept_places before old now) ≡ length now
+kept_long before old now = length-map now (λ p. place_of before old p.name)
+
+pub kept_count : (kept : List (Option ℕ)) → length (all_kept kept) + count_others kept ≡ length kept
+kept_count [] = refl
+kept_count (None ∷ kept) = (let more = kept_count kept in omega (arith, more))
+kept_count (Some k ∷ kept) = (let more = kept_count kept in omega (arith, more))
+
+-- a place that is found is one of the places
+place_among : (before : Table) (old : List ℕ) (name : Name) (k : ℕ) → place_of before old name ≡ Some k → Among old k
+place_among [] old name k e = absurd (cc)
+place_among (p ∷ picks) [] name k e = absurd (cc)
+place_among (p ∷ picks) (j ∷ old) name k e = by (name_eq name p.name) e (place_among picks old name k)
+  where
+    by : (b : Bool) → (if b then Some j else place_of picks old name) ≡ Some k → (place_of picks old name ≡ Some k → Among old k) → Among (j ∷ old) k
+    by true e more = inl (let same : k ≡ j = cc in same)
+    by false e more = inr (more e)
+
+-- a place leads back to its task
+place_once : (before : Table) (old : List ℕ) → Differ old → (a b : Name) (k : ℕ) → place_of before old a ≡ Some k → place_of before old b ≡ Some k → a ≡ b
+place_once [] old differ a b k e f = absurd (cc)
+place_once (p ∷ picks) [] differ a b k e f = absurd (cc)
+place_once (p ∷ picks) (j ∷ old) differ a b k e f = by (name_eq a p.name) refl (name_eq b p.name) refl e f (place_once picks old differ.1 a b k)
+  where
+    by : (s : Bool) → name_eq a p.name ≡ s → (t : Bool) → name_eq b p.name ≡ t → (if s then Some j else place_of picks old a) ≡ Some k → (if t then Some j else place_of picks old b) ≡ Some k
+        → (place_of picks old a ≡ Some k → place_of picks old b ≡ Some k → a ≡ b) → a ≡ b
+    by true q true r e f more = name_exact a p.name q ∙ sym (name_exact b p.name r)
+    by true q false r e f more = (let same : j ≡ k = cc in absurd (differ.0 k (place_among picks old b k f) same))
+    by false q true r e f more = (let same : j ≡ k = cc in absurd (differ.0 k (place_among picks old a k e) same))
+    by false q false r e f more = more e f
+
+-- what is kept is the place of some row
+kept_from : (before : Table) (old : List ℕ) (now : Table) (k : ℕ) → Among (all_kept (kept_places before old now)) k → (p : Pick) × Among now p × (place_of before old p.name ≡ Some k)
+kept_from before old [] k h = absurd h
+kept_from before old (p ∷ picks) k h = by (place_of before old p.name) refl h (kept_from before old picks k)
+  where
+    by : (o : Option ℕ) → place_of before old p.name ≡ o → Among (all_kept (o ∷ kept_places before old picks)) k
+        → (Among (all_kept (kept_places before old picks)) k → (r : Pick) × Among picks r × (place_of before old r.name ≡ Some k)) → (r : Pick) × Among (p ∷ picks) r × (place_of before old r.name ≡ Some k)
+    by None e h more = (let t = more h in (t.0, inr t.1, t.2))
+    by (Some j) e (inl i) more = (p, inl refl, e ∙ ap (λ n. Some n) (sym i))
+    by (Some j) e (inr h) more = (let t = more h in (t.0, inr t.1, t.2))
+
+-- what is kept was a place before
+pub kept_among : (before : Table) (old : List ℕ) (now : Table) (k : ℕ) → Among (all_kept (kept_places before old now)) k → Among old k
+kept_among before old now k h = let t = kept_from before old now k h in place_among before old t.0.name k t.2
+
+kept_differ : (before : Table) (old : List ℕ) → Differ old → (now : Table) → EachNameOnce now → Differ (all_kept (kept_places before old now))
+kept_differ before old differ [] once = tt
+kept_differ before old differ (p ∷ picks) once = by (place_of before old p.name) refl (kept_differ before old differ picks once.1)
+  where
+    by : (o : Option ℕ) → place_of before old p.name ≡ o → Differ (all_kept (kept_places before old picks)) → Differ (all_kept (o ∷ kept_places before old picks))
+    by None e more = more
+    by (Some k) e more = (
+      λ j h same. (let t = kept_from before old picks j h in
+          among_all (λ (r : Pick). p.name ≢ r.name) picks once.0 t.0 t.1 (place_once before old differ p.name t.0.name k e (t.2 ∙ ap (λ n. Some n) (sym same)))),
+      more,
+    )
+
+-- ---- table after table
+
+-- so many places, each a processor
+pub record AreBelow (m : ℕ) (rows : Table) (places : List ℕ) : Type 0 where
+  pub one_each : length places ≡ length rows
+  pub below : (k : ℕ) → Among places k → k < m
+
+room_after : (m : ℕ) (before : Table) (old : List ℕ) (now : Table) → length now ≤ m → length (all_kept (kept_places before old now)) + count_others (kept_places before old now) ≤ m
+room_after m before old now few = let c = kept_count (kept_places before old now) in let l = kept_long before old now in omega (arith, c, l, few)
+
+pub below_after : (m : ℕ) (before : Table) (old : List ℕ) (now : Table) → ((k : ℕ) → Among old k → k < m) → length now ≤ m → AreBelow m now (places_after before old now)
+below_after m before old now below few =
+    let kept = kept_places before old now in
+    record {
+      one_each = filled_long (all_kept kept) kept ∙ kept_long before old now;
+      below = λ k h. (filled_in m (all_kept kept) kept (λ j i. below j (kept_among before old now j i)) (room_after m before old now few) k h).0;
+    }
+
+differ_after : (m : ℕ) (before : Table) (old : List ℕ) (now : Table) → ((k : ℕ) → Among old k → k < m) → Differ old → IsFit m now → Differ (places_after before old now)
+differ_after m before old now below differ fit =
+    let kept = kept_places before old now in
+    filled_differ m (all_kept kept) kept (λ j i. below j (kept_among before old now j i)) (room_after m before old now fit.0) (kept_differ before old differ now fit.1) (λ k h. h)
+
+some_same : {A : Type 0} (x y : A) → Some x ≡ Some y → x ≡ y
+some_same x y h = cc
+
+all_differ : (places : List ℕ) → Differ places → AllDiffer places
+all_differ [] d = tt
+all_differ (k ∷ places) d = (all_among (λ j. k ≢ j) places d.0, all_differ places d.1)
+
+are_places : (m : ℕ) (before : Table) (old : List ℕ) (now : Table) → ((k : ℕ) → Among old k → k < m) → Differ old → IsFit m now → ArePlacesOf m now (places_after before old now)
+are_places m before old now below differ fit =
+    let here = below_after m before old now below fit.0 in
+    record {
+      one_each = here.one_each;
+      below = all_among (λ k. k < m) (places_after before old now) here.below;
+      differ = all_differ (places_after before old now) (differ_after m before old now below differ fit);
+    }
+
+-- the law, from any table on
+kept_on : (m : ℕ) (before : Table) (old : List ℕ) → ((k : ℕ) → Among old k → k < m) → Differ old → (tables : List Table) → AllByRecursion (IsFit m) tables
+    → (t : ℕ) (rows : Table) (places : List ℕ) → slice_get tables t ≡ Some rows → slice_get (places_from before old tables) t ≡ Some places
+    → ArePlacesOf m rows places
+    × ((next : Table) (there : List ℕ) → slice_get tables (suc t) ≡ Some next → slice_get (places_from before old tables) (suc t) ≡ Some there
+    → (name : Name) → names_task name rows ≡ true → names_task name next ≡ true → place_of rows places name ≡ place_of next there name)
+kept_on m before old below differ [] fit t rows places e f = absurd (cc)
+kept_on m before old below differ (now ∷ tables) fit zero rows places e f =
+    let here = places_after before old now in
+    let same : now ≡ rows = some_same now rows e in
+    let alike : here ≡ places = some_same here places f in
+    let are : ArePlacesOf m now here = are_places m before old now below differ fit.0 in (
+      subst (λ (r : Table). ArePlacesOf m r places) same (subst (ArePlacesOf m now) alike are),
+      subst (λ (r : Table). (next : Table) (there : List ℕ) → slice_get tables zero ≡ Some next → slice_get (places_from now here tables) zero ≡ Some there
+          → (name : Name) → names_task name r ≡ true → names_task name next ≡ true → place_of r places name ≡ place_of next there name) same
+          (subst (λ (ps : List ℕ). (next : Table) (there : List ℕ) → slice_get tables zero ≡ Some next → slice_get (places_from now here tables) zero ≡ Some there
+          → (name : Name) → names_task name now ≡ true → names_task name next ≡ true → place_of now ps name ≡ place_of next there name) alike
+          (stays_first now here are.one_each tables)),
+    )
+  where
+    stays_first : (now : Table) (here : List ℕ) → length here ≡ length now → (tables : List Table) (next : Table) (there : List ℕ) → slice_get tables zero ≡ Some next → slice_get (places_from now here tables) zero ≡ Some there
+        → (name : Name) → names_task name now ≡ true → names_task name next ≡ true → place_of now here name ≡ place_of next there name
+    stays_first now here long [] next there e f name h g = absurd (cc)
+    stays_first now here long (x ∷ tables) next there e f name h g =
+        let same : x ≡ next = some_same x next e in
+        let alike : places_after now here x ≡ there = some_same (places_after now here x) there f in
+        let t = has_place now here long name h in
+        let kept = kept_places now here x in
+        t.1 ∙ sym (kept_place (all_kept kept) now here x name t.0 t.1 (ap (names_task name) same ∙ g)) ∙ (λ i. place_of (same i) (alike i) name)
+kept_on m before old below differ (now ∷ tables) fit (suc t) rows places e f =
+    kept_on m now (places_after before old now) (below_after m before old now below fit.0.0).below (differ_after m before old now below differ fit.0) tables fit.1 t rows places e f
+
+pub places_are_kept : PlacesAreKept
+places_are_kept m tables fit = kept_on m [] [] (λ k h. absurd h) tt tables fit
+
+-- ---- the places follow from the tables
+
+follow_on : (before : Table) (old : List ℕ) (xs ys : List Table) (t : ℕ) → ((u : ℕ) → u ≤ t → slice_get xs u ≡ slice_get ys u) → slice_get (places_from before old xs) t ≡ slice_get (places_from before old ys) t
+follow_on before old [] [] t same = refl
+follow_on before old [] (y ∷ ys) t same = absurd (none_some y (same zero (omega arith)))
+  where
+    none_some : (y : Table) → None ≡ Some y → ⊥
+    none_some y e = cc
+follow_on before old (x ∷ xs) [] t same = absurd (some_none x (same zero (omega arith)))
+  where
+    some_none : (x : Table) → Some x ≡ None → ⊥
+    some_none x e = cc
+follow_on before old (x ∷ xs) (y ∷ ys) zero same = ap (λ (r : Table). Some (places_after before old r)) (some_same x y (same zero (omega arith)))
+follow_on before old (x ∷ xs) (y ∷ ys) (suc t) same =
+    ap (λ (r : Table). slice_get (places_from r (places_after before old r) xs) t) (some_same x y (same zero (omega arith)))
+    ∙ follow_on y (places_after before old y) xs ys t (λ u l. same (suc u) (omega (arith, l)))
+
+pub places_follow_tables : PlacesFollowTables
+places_follow_tables xs ys t same = follow_on [] [] xs ys t same

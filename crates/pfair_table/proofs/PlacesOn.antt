@@ -1,0 +1,79 @@
+-- The places of one more table, and those of the tables that a dispatcher plans.
+use Rattle.std.proofs.Common.{ℕ, zero, suc, ◌-◌, ◌<◌, ◌≤◌, ◌≡◌, refl, sym, ap, ◌∙◌, subst, arith, List, [], ◌∷◌, ◌++◌, length, map, Some, None}
+use Rattle.std.specs.Prelude.{slice_get}
+use Rattle.std.specs.List.{AllByRecursion}
+use Rattle.pfair_replica.specs.Replica.{Replica, numbers_below}
+use Rattle.pfair_table.specs.declared.pick.Decided.{Decided}
+use Rattle.pfair_table.specs.Table.{Settings, Table, table}
+use Rattle.pfair_table.specs.Places.{places_after, places_from, places_of}
+use Rattle.pfair_table.specs.PlaceLaws.{IsFit}
+use Rattle.pfair_table.specs.Planned.{last_or}
+use Rattle.pfair_table.specs.Refinement.{IsPlanOf}
+use Rattle.pfair_table.proofs.Apart.{Among, all_among, among_map}
+use Rattle.pfair_table.proofs.TableLaws.{tables_are_ordered}
+use Rattle.pfair_table.proofs.Keeping.{tables_listed}
+use Rattle.pfair_table.proofs.PlacesKept.{below_after}
+
+-- ---- the last of a list
+
+pub last_is : {A B : Type 0} (f : A → B) (d : B) (xs : List A) (n : ℕ) (y : A) → n ≡ length xs - 1 → Some y ≡ slice_get xs n → last_or d (map f xs) ≡ f y
+last_is f d [] n y e h = absurd (cc)
+last_is f d (x ∷ []) zero y e h = ap f (let same : x ≡ y = cc in same)
+last_is f d (x ∷ []) (suc n) y e h = absurd (omega (arith, e))
+last_is f d (x ∷ z ∷ zs) zero y e h = absurd (omega (arith, e))
+last_is f d (x ∷ z ∷ zs) (suc n) y e h = last_is f d (z ∷ zs) n y (omega (arith, e)) h
+
+pub none_is : {A : Type 0} (xs : List A) (n : ℕ) → n ≡ length xs - 1 → None ≡ slice_get xs n → xs ≡ []
+none_is [] n e h = refl
+none_is (x ∷ []) zero e h = absurd (cc)
+none_is (x ∷ []) (suc n) e h = absurd (omega (arith, e))
+none_is (x ∷ z ∷ zs) zero e h = absurd (omega (arith, e))
+none_is (x ∷ z ∷ zs) (suc n) e h = (let none = ap length (none_is (z ∷ zs) n (omega (arith, e)) h) in absurd (omega (arith, none)))
+
+last_all : {A : Type 0} (P : A → Type 0) (d : A) (xs : List A) → P d → AllByRecursion P xs → P (last_or d xs)
+last_all P d [] h all = h
+last_all P d (x ∷ xs) h all = last_all P x xs all.0 all.1
+
+-- ---- one more table
+
+places_more : (before : Table) (old : List ℕ) (tables : List Table) (now : Table)
+    → places_from before old (tables ++ now ∷ []) ≡ places_from before old tables ++ places_after (last_or before tables) (last_or old (places_from before old tables)) now ∷ []
+places_more before old [] now = refl
+places_more before old (x ∷ tables) now = ap (λ (ps : List (List ℕ)). places_after before old x ∷ ps) (places_more x (places_after before old x) tables now)
+
+pub next_are : (tables : List Table) (now : Table) → places_of (tables ++ now ∷ []) ≡ places_of tables ++ places_after (last_or [] tables) (last_or [] (places_of tables)) now ∷ []
+next_are tables now = places_more [] [] tables now
+
+-- ---- places are processors, where tables have no more rows
+
+few_below : (m : ℕ) (before : Table) (old : List ℕ) → ((k : ℕ) → Among old k → k < m) → (tables : List Table) → AllByRecursion (λ (rows : Table). length rows ≤ m) tables
+    → AllByRecursion (λ (ps : List ℕ). AllByRecursion (λ k. k < m) ps) (places_from before old tables)
+few_below m before old below [] few = tt
+few_below m before old below (now ∷ tables) few =
+    let here = below_after m before old now below few.0 in
+    (all_among (λ k. k < m) (places_after before old now) here.below, few_below m now (places_after before old now) here.below tables few.1)
+
+pub last_below : (m : ℕ) (tables : List Table) → AllByRecursion (λ (rows : Table). length rows ≤ m) tables → AllByRecursion (λ k. k < m) (last_or [] (places_of tables))
+last_below m tables few = last_all (λ (ps : List ℕ). AllByRecursion (λ k. k < m) ps) [] (places_of tables) tt (few_below m [] [] (λ k h. absurd h) tables few)
+
+-- ---- what a dispatcher plans
+
+-- the tables of a plan are fit
+pub fit_plan : (s : Settings) (held of : Replica) (tables : List Table) (decided : List (List Decided)) → IsPlanOf s held of tables decided → AllByRecursion (IsFit s.processors) tables
+fit_plan s held of tables decided plan =
+    subst (AllByRecursion (IsFit s.processors)) (sym (plan.tables_are ∙ tables_listed s of (length tables)))
+    (all_among (IsFit s.processors) (map (table s of) (numbers_below (length tables)))
+    (λ rows h. (let t = among_map (table s of) (numbers_below (length tables)) rows h in
+    let o = tables_are_ordered s of t.0 in
+    subst (IsFit s.processors) (sym t.2) (o.0, o.2))))
+
+pub last_fit : (m : ℕ) (tables : List Table) → AllByRecursion (IsFit m) tables → IsFit m (last_or [] tables)
+last_fit m tables fit = last_all (IsFit m) [] tables (omega arith, tt) fit
+
+pub fit_wider : (m n : ℕ) → m ≤ n → (tables : List Table) → AllByRecursion (IsFit m) tables → AllByRecursion (IsFit n) tables
+fit_wider m n le [] fit = tt
+fit_wider m n le (rows ∷ tables) fit = (let few = fit.0.0 in ((omega (arith, few, le), fit.0.1), fit_wider m n le tables fit.1))
+
+pub fit_few : (m n : ℕ) → m ≤ n → (tables : List Table) → AllByRecursion (IsFit m) tables → AllByRecursion (λ (rows : Table). length rows ≤ n) tables
+fit_few m n le [] fit = tt
+fit_few m n le (rows ∷ tables) fit = (let few = fit.0.0 in omega (arith, few, le), fit_few m n le tables fit.1)

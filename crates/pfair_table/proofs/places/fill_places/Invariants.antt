@@ -1,0 +1,7 @@
+use Rattle.std.proofs.Common.{drop}
+use Rattle.pfair_table.specs.Places.{all_kept, filled}
+use Rattle.pfair_table.proofs.Filling.{AreFilledSoFar}
+use Rattle.pfair_table.proofs.places.fill_places.Given as goal
+
+abbrev pub invariant-loop-kept_place : goal.invariant-loop-kept_place
+invariant-loop-kept_place l = AreFilledSoFar l.in_use l.places.items (drop l.kept_place-index l.kept) (filled (all_kept l.kept) l.kept)

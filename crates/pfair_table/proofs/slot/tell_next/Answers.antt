@@ -1,0 +1,25 @@
+use Rattle.std.proofs.Common.{◌≡◌, sym, ap, ◌∙◌, None}
+use Rattle.std.specs.Option.{option_copied}
+use Rattle.pfair_admission.specs.Admission.{member_named}
+use Rattle.pfair_table.proofs.Queues.{told_gone, told_next, queued_departing, absent_removed}
+use Rattle.pfair_table.specs.Queue.{queued}
+use Rattle.pfair_table.proofs.slot.tell_next.Goals as goal
+
+pub returns-in_default-clause-told : goal.returns-in_default-clause-told
+returns-in_default-clause-told g c =
+    told_gone c.args.name.now c.args.members.now.members _ _
+    (let e : member_named c.args.members.now.members c.args.name.now ≡ None = sym c.get.ensures ∙ ap option_copied c.in_default.is in ap queued e) (absent_removed (g.R.Ready.held c.args.ready.now) c.args.name.now c.requires)
+
+pub returns-then-is_departing-clause-told : goal.returns-then-is_departing-clause-told
+returns-then-is_departing-clause-told g c =
+    told_gone c.args.name.now c.args.members.now.members _ _
+    (queued_departing _ c.in-Some.member.now (sym c.get.ensures ∙ ap option_copied c.in-Some.is) (sym c.is_departing.ensures ∙ c.if-is_departing.true)) (absent_removed (g.R.Ready.held c.args.ready.now) c.args.name.now c.requires)
+
+pub returns-clause-told : goal.returns-clause-told
+returns-clause-told g c =
+    told_next c.args.name.now c.args.members.now.members c.in-Some.member.now (g.R.Ready.held c.args.ready.now) (g.R.Ready.held c.args.ready.now) (g.R.Ready.held c.insert.new.self) c.in_ok-insert.field-0 c.next_subtask-begins.result.0 c.next_subtask-begins.result.1
+    (sym c.get.ensures ∙ ap option_copied c.in-Some.is)
+    (sym c.is_departing.ensures ∙ c.if-is_departing.false)
+    (ap (λ p. p.0) c.next_subtask-begins.ensures)
+    (ap (λ p. p.1) c.next_subtask-begins.ensures)
+    (absent_removed (g.R.Ready.held c.args.ready.now) c.args.name.now c.requires) c.in_ok-insert.ensures.answer c.in_ok-insert.ensures.content

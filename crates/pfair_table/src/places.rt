@@ -1,0 +1,102 @@
+//! Places: which processor runs each row of a table, where a task that goes on running stays where it is.
+
+ghost use Rattle.std.specs.Prelude.{ℕ, ◌≡◌, ◌≤◌, ◌<◌, ◌+◌, ◌^◌, ◌++◌, ◌∷◌, [], List, IfOk, length};
+ghost use Rattle.std.specs.List.{AllByRecursion};
+ghost use Rattle.pfair_table.specs.Places.{kept_places, all_kept, free_place, filled, places_after, places_of};
+ghost use Rattle.pfair_table.specs.PlaceLaws.{IsFit};
+ghost use Rattle.pfair_table.specs.PlacesInUse.{AreInUse};
+
+use crate::buckets::Buckets;
+use crate::pick::Pick;
+use crate::planned::Planned;
+use std::alloc::{AllocError, Global};
+
+/// The places of the table that comes after the slots so far.
+pub(crate) fn next_places(
+    alloc: Global,
+    planned: &Planned,
+    table: &[Pick],
+) -> Result<Vec<u8>, AllocError>
+    requires fit { AllByRecursion (IsFit 64) planned.now.tables }
+    requires rows { length table.now ≤ 64 }
+    ensures { IfOk result (λ places. places_of (planned.now.tables ++ table.now ∷ []) ≡ places_of planned.now.tables ++ places.items ∷ []) }
+{
+    places_beside(alloc, planned.last_table(), planned.last_places(), table)
+}
+
+/// The places of a table, where the one before it has those places.
+fn places_beside(
+    alloc: Global,
+    before: &[Pick],
+    places: &[u8],
+    table: &[Pick],
+) -> Result<Vec<u8>, AllocError>
+    requires before { IsFit 64 before.now }
+    requires below { AllByRecursion (λ k. k < 64) places.now }
+    requires rows { length table.now ≤ 64 }
+    ensures { IfOk result (λ here. here.items ≡ places_after before.now places.now table.now) }
+{
+    let kept = keep_places(alloc, before, places, table)?;
+    fill_places(alloc, &kept)
+}
+
+/// Where each row stays: the place that its task had before.
+fn keep_places(
+    alloc: Global,
+    before: &[Pick],
+    places: &[u8],
+    table: &[Pick],
+) -> Result<Vec<Option<u8>>, AllocError>
+    requires { IsFit 64 before.now }
+    ensures { IfOk result (λ kept. kept.items ≡ kept_places before.now places.now table.now) }
+{
+    let buckets = Buckets::of(before);
+    let mut kept = Vec::with_capacity(alloc, table.len())?;
+    for pick in table {
+        kept.push(buckets.place(before, places, &pick.name))?;
+    }
+    Ok(kept)
+}
+
+/// The kept places, and for each other row the least processor that is not in use.
+fn fill_places(alloc: Global, kept: &[Option<u8>]) -> Result<Vec<u8>, AllocError>
+    requires below { AllByRecursion (λ k. k < 64) (all_kept kept.now) }
+    requires rows { length kept.now ≤ 64 }
+    ensures { IfOk result (λ here. here.items ≡ filled (all_kept kept.now) kept.now) }
+{
+    let mut in_use = use_kept(kept);
+    let mut places = Vec::new(alloc);
+    for kept_place in kept {
+        let place = match kept_place {
+            Some(place) => *place,
+            None => use_least(&mut in_use),
+        };
+        places.push(place)?;
+    }
+    Ok(places)
+}
+
+/// The processors that some rows keep, each as a bit.
+fn use_kept(kept: &[Option<u8>]) -> u64
+    requires { AllByRecursion (λ k. k < 64) (all_kept kept.now) }
+    ensures { AreInUse result (all_kept kept.now) }
+{
+    let mut in_use = 0;
+    for kept_place in kept {
+        if let Some(place) = kept_place {
+            in_use |= 1 << *place;
+        }
+    }
+    in_use
+}
+
+/// The least processor that is not in use, which from now on is.
+fn use_least(in_use: &mut u64) -> u8
+    requires { in_use.old + 1 < 2 ^ 64 }
+    ensures fits { in_use.new < 2 ^ 64 }
+    ensures least { (used : List ℕ) → AreInUse in_use.old used → length used < 64 → (result ≡ free_place used) × AreInUse in_use.new (free_place used ∷ used) }
+{
+    let place = in_use.trailing_ones() as u8;
+    *in_use |= 1 << place;
+    place
+}

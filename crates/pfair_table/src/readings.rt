@@ -1,0 +1,111 @@
+//! What the sound beginnings of a replica say, where each entry is looked at once.
+
+ghost use Rattle.std.specs.Prelude.{◌≡◌, ◌+◌, ◌++◌, ℕ, [], IfOk, OnOk, OnErr, length};
+ghost use Rattle.pfair_replica.specs.Agenda.{said_at};
+ghost use Rattle.pfair_replica.specs.HeldRows.{replica_of};
+ghost use Rattle.pfair_replica.specs.Replica.{Replica as Held, IsReplica, Untorn, said_by, sound_beginning};
+ghost use Rattle.pfair_table.specs.Readings.{IsReadingOf, AreReadingsOf, AreWhole, said_by_all};
+
+use pfair_entry::{Entry, Said};
+use pfair_lattice::Flat;
+use pfair_replica::{Agenda, Replica};
+use std::alloc::{AllocError, Global};
+
+/// What the sound beginning of one processor says, as far as it was read.
+#[derive(Drop)]
+pub(crate) struct Reading {
+    /// How many entries were read.
+    pub count: u32,
+    /// What these say, by slot.
+    pub agenda: Agenda,
+}
+
+impl Reading {
+    /// Nothing was read.
+    fn new(alloc: Global) -> Reading
+        ensures count { result.count ≡ 0 }
+        ensures nothing { (t : ℕ) → said_at result.agenda t ≡ [] }
+    {
+        Reading {
+            count: 0,
+            agenda: Agenda::new(alloc),
+        }
+    }
+
+    /// Reads on in the sound beginning of a processor, from where it stood.
+    fn read_on(&mut self, replica: &Replica, processor: u8) -> Result<(), AllocError>
+        requires { IsReadingOf processor (sound_beginning (replica_of replica.now) processor) self.old }
+        ensures reading { IsReadingOf processor (sound_beginning (replica_of replica.now) processor) self.new }
+        ensures whole { OnOk result (self.new.count ≡ length (sound_beginning (replica_of replica.now) processor)) }
+    {
+        for place in self.count..replica.sound_count(processor) {
+            match replica.get(processor, place + 1) {
+                Some(Flat::One(entry)) => self.note(processor, place + 1, entry)?,
+                _ => unreachable!(),
+            }
+        }
+        Ok(())
+    }
+
+    /// Reads the next entry, which has that number.
+    fn note(&mut self, processor: u8, number: u32, entry: Entry) -> Result<(), AllocError>
+        ensures count { OnOk result (self.new.count ≡ number) }
+        ensures says { OnOk result ((t : ℕ) → said_at self.new.agenda t ≡ said_at self.old.agenda t ++ said_by t processor number entry.said) }
+        ensures not_counted { OnErr result (self.new.count ≡ self.old.count) }
+        ensures not_said { OnErr result ((t : ℕ) → said_at self.new.agenda t ≡ said_at self.old.agenda t) }
+    {
+        if let Some((stamp, announcement)) = entry.said() {
+            self.agenda.push(stamp, processor, number, announcement)?;
+        }
+        self.count = number;
+        Ok(())
+    }
+}
+
+/// What the sound beginnings of all processors say, as far as they were read.
+#[derive(Drop)]
+pub(crate) struct Readings {
+    by_processor: Vec<Reading>,
+    alloc: Global,
+}
+
+impl Readings {
+    /// Nothing was read.
+    pub(crate) fn new(alloc: Global, processors: u8) -> Result<Readings, AllocError>
+        ensures { IfOk result (λ r. (x : Held) → x.processors ≡ processors → AreReadingsOf x r.by_processor.items) }
+    {
+        let mut by_processor = Vec::with_capacity(alloc, processors as usize)?;
+        for _ in 0..processors {
+            by_processor.push(Reading::new(alloc))?;
+        }
+        Ok(Readings {
+            by_processor,
+            alloc,
+        })
+    }
+
+    /// Reads on in all sound beginnings, from where it stood in each.
+    pub(crate) fn read_on(&mut self, replica: &Replica) -> Result<(), AllocError>
+        requires replica { IsReplica (replica_of replica.now) }
+        requires untorn { Untorn (replica_of replica.now) }
+        requires readings { AreReadingsOf (replica_of replica.now) self.old.by_processor.items }
+        ensures readings { AreReadingsOf (replica_of replica.now) self.new.by_processor.items }
+        ensures whole { OnOk result (AreWhole (replica_of replica.now) self.new.by_processor.items) }
+    {
+        for processor in 0..replica.processors() {
+            self.by_processor[processor as usize].read_on(replica, processor)?;
+        }
+        Ok(())
+    }
+
+    /// What was read for a slot, in order of processors, and of numbers for each processor.
+    pub(crate) fn said(&self, slot: u64) -> Result<Vec<Said>, AllocError>
+        ensures { IfOk result (λ heard. heard.items ≡ said_by_all self.now.by_processor.items slot) }
+    {
+        let mut heard = Vec::new(self.alloc);
+        for reading in &self.by_processor {
+            heard.extend_from_slice(reading.agenda.at(slot))?;
+        }
+        Ok(heard)
+    }
+}
