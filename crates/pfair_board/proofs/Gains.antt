@@ -1,9 +1,12 @@
 -- How many keys are newly held.
-use Rattle.std.proofs.Common.{◌≡◌, ℕ, zero, suc, ◌+◌, ◌-◌, ◌<◌, ◌≤◌, Bool, true, false, not, cond, ◌&&◌, is_some, is_none, Some, None, IsSome, refl, sym, ap, ◌∙◌, subst, arith}
+use Rattle.std.proofs.Common.{◌≡◌, ℕ, zero, suc, ◌+◌, ◌-◌, ◌<◌, ◌≤◌, Bool, true, false, not, cond, ◌&&◌, is_some, is_none, Some, None, IsSome, length, inl, inr, refl, sym, ap, ◌∙◌, subst, arith}
+use Rattle.std.proofs.lemmas.Option.{slice_get_cases}
 use Rattle.pfair_lattice.specs.declared.flat.Flat.{Flat}
+use Rattle.pfair_lattice.specs.declared.flat.Flat.TheVariants.{One}
 use Rattle.pfair_lattice.specs.Held.{Held}
 use Rattle.pfair_entry.specs.Entry.{Logged}
-use Rattle.pfair_replica.specs.Replica.{Replica}
+use Rattle.pfair_replica.specs.Replica.{Replica, sound_beginning}
+use Rattle.pfair_replica.specs.Laws.{IsReadByNumber}
 use Rattle.pfair_replica.specs.HeldRows.{held, replica_of}
 use Rattle.pfair_replica.specs.HeldAfter.{held_after}
 use Rattle.pfair_board.specs.Desks.{DeskView, DeskState, GrownDesk, Keeps, state_of, learned}
@@ -85,8 +88,18 @@ row_step old now new p m f one same some below =
     let before : gained_in_row old new p (m - 1) ≡ gained_in_row old now p (m - 1) = row_alike old new old now p (m - 1) (λ j a b. same_gained old new now p j (below j (omega arith))) in
     row_next old new p m one ∙ (ap (λ c. c + cond (is_gained old new p m) 1 0) before ∙ ap (λ b. gained_in_row old now p (m - 1) + cond b 1 0) (gained_now (old.at p m) (now.at p m) (new.at p m) f same some))
 
-pub plus_none : (n : ℕ) (b : Bool) → b ≡ false → n ≡ n + cond b 1 0
-plus_none n b is = rw is (omega arith)
+-- nothing is gained at a number at which both hold the same
+pub row_same : (old now : Replica) (p m : ℕ) → 1 ≤ m → now.at p m ≡ old.at p m → gained_in_row old now p m ≡ gained_in_row old now p (m - 1)
+row_same old now p m one same =
+    let nothing : gained_in_row old now p (m - 1) + 0 ≡ gained_in_row old now p (m - 1) = omega arith in
+    row_next old now p m one ∙ (ap (λ b. gained_in_row old now p (m - 1) + cond b 1 0) (none_gained (old.at p m) (now.at p m) (sym same)) ∙ nothing)
+
+-- each number of a sound beginning is held
+pub beginning_held : IsReadByNumber → (x : Replica) (k j : ℕ) → 1 ≤ j → j < length (sound_beginning x k) + 1 → IsSome (x.at k j)
+beginning_held law x k j first last = elim (slice_get_cases (sound_beginning x k) (j - 1)).1 [
+  | inl t ↦ (let here : j - 1 + 1 ≡ j = omega arith in subst (λ n. IsSome (x.at k n)) here (is_some_some (x.at k (j - 1 + 1)) (One t.0) (law.entry x k (j - 1) t.0 t.2)))
+  | inr t ↦ (let past = t.0 in absurd (omega arith))
+]
 
 pub none_of : (h : Held Logged) (b : Bool) → is_some h ≡ not b → b ≡ is_none h
 none_of None true e = refl

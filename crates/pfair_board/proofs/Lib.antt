@@ -1,3 +1,4 @@
+pub mod FirstFaults
 pub mod Following
 pub mod Gains
 pub mod NoteLists

@@ -1,12 +1,16 @@
 -- A list seen through a function of its elements, after a push or a write.
-use Rattle.std.proofs.Common.{◌≡◌, ℕ, ◌+◌, ◌<◌, List, [], ◌∷◌, ◌++◌, length, map, take, Option, Some, None, slice_index_or, slice_set, replicate, sym, ap, ◌∙◌, ⊎_elim, arith}
+use Rattle.std.proofs.Common.{◌≡◌, ℕ, ◌+◌, ◌<◌, List, [], ◌∷◌, ◌++◌, length, map, take, Option, Some, None, slice_index_or, slice_set, replicate, sym, ap, ◌∙◌, ⊎_elim, arith, IfSome}
 use Rattle.std.proofs.lemmas.Bool.{cases_lt}
 use Rattle.std.proofs.lemmas.List.{get_or_past, map-append, take_more, replicate_more, get_or-map, length-map, map-set}
 use Rattle.std.proofs.Math.Seq.{map-set_same}
 use Rattle.std.proofs.Math.ListN.{get_or-map as seen_or}
 use Rattle.once_cell.specs.declared.race.note.Note.{Note}
 use Rattle.pfair_entry.specs.Entry.{Logged}
+use Rattle.once_cell.specs.Once.{Agrees}
+use Rattle.pfair_notes.specs.Knowledge.{told}
 use Rattle.pfair_board.specs.Knowledge.{Knowledge, knowing}
+use Rattle.pfair_board.specs.Noted.{KnowMore}
+use Rattle.pfair_board.proofs.NotedLemmas.{more_refl, more_learned, learned_at}
 
 abbrev pub says : List (Note Logged) → Knowledge
 says ns = record { cells = map (λ x. x.cell) ns; known = map (λ x. x.known) ns }
@@ -65,3 +69,18 @@ known_at ns p n e is known =
     ⊎_elim (λ within. sym (seen_at (λ x. x.known) ns p n None within is) ∙ known)
     (λ past. let none : slice_index_or (says ns).known p None ≡ None = get_or_past (says ns).known p None (omega (arith, length-map ns (λ (x : Note Logged). x.known))) in absurd (cc (none, known)))
     (cases_lt p (length ns))
+
+-- a note list after one note was told what another of its cell knows: it knows no less
+pub more_told : (ns : List (Note Logged)) (p : ℕ) (n m : Note Logged) (theirs : Option Logged) → p < length ns → n ≡ slice_index_or ns p n → m.cell ≡ n.cell → m.known ≡ told n.known theirs
+    → IfSome theirs (Agrees n.known) → KnowMore (says ns) (says (slice_set ns p m))
+more_told ns p n m None within is cell known agrees = rw (view_same ns p n m is cell known) (more_refl (says ns))
+more_told ns p n m (Some e) within is cell known agrees =
+    let mine : slice_index_or (says ns).known p None ≡ n.known = seen_at (λ x. x.known) ns p n None within is in
+    more_learned (says ns) (says (slice_set ns p m)) p e (view_learned ns p n m e is cell known) (rw mine agrees)
+
+-- and what the other knows
+pub told_at : (ns : List (Note Logged)) (p : ℕ) (n m : Note Logged) (theirs : Option Logged) (e : Logged) → p < length ns → n ≡ slice_index_or ns p n → m.cell ≡ n.cell → m.known ≡ told n.known theirs
+    → theirs ≡ Some e → slice_index_or (says (slice_set ns p m)).known p None ≡ Some e
+told_at ns p n m theirs e within is cell known some =
+    let long : p < length (says ns).known = omega (arith, length-map ns (λ (x : Note Logged). x.known)) in
+    learned_at (says ns) (says (slice_set ns p m)) p e (view_learned ns p n m e is cell (known ∙ ap (told n.known) some)) long

@@ -1,5 +1,5 @@
 -- What the notes know of what is held.
-use Rattle.std.proofs.Common.{is_some, ◌≡◌, ⊎_elim, ℕ, ◌+◌, ◌-◌, ◌*◌, ◌<◌, ◌≤◌, true, List, length, Option, Some, None, slice_index_or, slice_set, replicate, refl, sym, ap, ◌∙◌, subst, arith, IfSome}
+use Rattle.std.proofs.Common.{◌≡◌, ⊎_elim, ℕ, ◌+◌, ◌-◌, ◌*◌, ◌<◌, ◌≤◌, List, length, Option, Some, None, slice_index_or, slice_set, replicate, refl, sym, ap, ◌∙◌, subst, arith, IfSome}
 use Rattle.std.proofs.lemmas.List.{get_or_past, length-set, get_or-set_same, get_or-set_other, length-replicate}
 use Rattle.std.proofs.lemmas.Grind.{get_or-set_at}
 use Rattle.std.proofs.lemmas.Bool.{cases_eq, cases_lt}
@@ -20,7 +20,7 @@ use Rattle.pfair_replica.specs.HeldAfter.{held_after}
 use Rattle.pfair_board.specs.Boards.{BoardFrame, IsKey, place_of}
 use Rattle.pfair_board.specs.Desks.{DeskView, DeskState, state_of, fresh_desk, IsDeskOf, Keeps}
 use Rattle.pfair_board.specs.Knowledge.{Knowledge, knowing}
-use Rattle.pfair_board.specs.Noted.{IsNoted, AllNoted, RowNoted, KnowMore, IsInOrder}
+use Rattle.pfair_board.specs.Noted.{IsNoted, AllNoted, Grows, KnowMore, IsInOrder}
 
 -- a note that comes to know e
 noted_known : (h : Held Logged) (known : Option Logged) (e : Logged) → IsNoted h known → IfSome known (λ y. y ≡ e) → IsNoted h (Some e)
@@ -180,17 +180,8 @@ noted_more None old new more is = tt
 noted_more (Some (One e)) old new more is = more e is
 noted_more (Some Torn) old new more is = is
 
-pub all_noted_more : (x : Replica) (v w : Knowledge) → KnowMore v w → AllNoted x v.known → AllNoted x w.known
-all_noted_more x v w more all k n = noted_more (x.at k n) _ _ (more.grows (place_of x.capacity k n)) (all k n)
-
-pub row_noted_more : (x : Replica) (v w : Knowledge) (k : ℕ) → KnowMore v w → RowNoted x v.known k → RowNoted x w.known k
-row_noted_more x v w k more all n = noted_more (x.at k n) _ _ (more.grows (place_of x.capacity k n)) (all n)
-
--- where something is held, its note knows it
-pub known_of : (h : Held Logged) (known : Option Logged) → IsNoted h known → is_some h ≡ true → (e : Logged) × (known ≡ Some e)
-known_of None known is some = absurd (cc some)
-known_of (Some (One e)) known is some = (e, is)
-known_of (Some Torn) known is some = absurd is
+pub all_noted_more : (x : Replica) (v w : List (Option Logged)) → Grows v w → AllNoted x v → AllNoted x w
+all_noted_more x v w grows all k n = noted_more (x.at k n) _ _ (grows (place_of x.capacity k n)) (all k n)
 
 pub learned_at : (w v : Knowledge) (p : ℕ) (e : Logged) → v ≡ knowing w p e → p < length w.known → slice_index_or v.known p None ≡ Some e
 learned_at w v p e is within = rw is (get_or-set_same w.known p (Some e) None within)

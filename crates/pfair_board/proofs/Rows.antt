@@ -9,7 +9,7 @@ use Rattle.pfair_board.specs.declared.run.RunFault.{RunFault}
 use Rattle.pfair_board.specs.Boards.{BoardFrame}
 use Rattle.pfair_board.specs.Desks.{IsDeskOf}
 use Rattle.pfair_board.specs.Works.{IsWorkOf}
-use Rattle.pfair_board.specs.Finish.{IsGood, IsFullRun}
+use Rattle.pfair_board.specs.Finish.{IsGood, IsFullRun, IsPlacedRun}
 
 -- one more element
 pub each_snoc : {A : Type 0} (P : ℕ → A → Type 0) (xs : List A) (x : A) → ((k : ℕ) (y : A) → slice_get xs k ≡ Some y → P k y) → P (length xs) x → (k : ℕ) (y : A) → slice_get (xs ++ x ∷ []) k ≡ Some y → P k y
@@ -29,6 +29,10 @@ none_in_empty xs k x empty at = let none : slice_get [] k ≡ Some x = subst (λ
 -- the tables of good work are the plan of the script's replica
 pub full_run : (r : LoggedRun) (b : BoardFrame) (k : ℕ) (w : Worked) (run : Run) → IsGood r b k w → w.run ≡ Ok run → IsFullRun r run
 full_run r b k w run good is = w.planned run is ∙ (λ i. plan (good.settings i) (good.desk.replica i))
+
+-- the places of any work are those of its tables
+pub placed_run : (w : Worked) (run : Run) → w.run ≡ Ok run → IsPlacedRun run
+placed_run w run is = w.placed run is
 
 -- good work has tables
 pub not_failed : (r : LoggedRun) (b : BoardFrame) (k : ℕ) (w : Worked) (f : RunFault) → IsGood r b k w → w.run ≡ Err f → ⊥

@@ -3,12 +3,13 @@ use Rattle.std.specs.Prelude.{ℕ, ◌≤◌, ◌≡◌, List, length, slice_get
 use Rattle.pfair_replica.specs.HeldRows.{replica_of}
 use Rattle.pfair_replica.specs.Replica.{frontier}
 use Rattle.pfair_table.specs.Table.{plan}
+use Rattle.pfair_table.specs.Places.{places_of}
 use Rattle.pfair_table.specs.Script.{LoggedRun, capacity_of, replica_of_logs}
 use Rattle.pfair_board.specs.declared.run.Run.{Run}
 use Rattle.pfair_board.specs.declared.worked.Worked.{Worked}
 use Rattle.pfair_board.specs.Boards.{BoardFrame}
 use Rattle.pfair_board.specs.Desks.{DeskView, IsDeskOf}
-use Rattle.pfair_board.specs.Rows.{rows}
+use Rattle.pfair_table.specs.Planned.{rows, place_rows}
 
 -- the desk of row k of this board, which holds the script's replica
 pub record IsFullDesk (r : LoggedRun) (b : BoardFrame) (k : ℕ) (d : DeskView) : Type 0 where
@@ -20,8 +21,12 @@ pub record IsFullDesk (r : LoggedRun) (b : BoardFrame) (k : ℕ) (d : DeskView) 
 abbrev pub IsFullRun : LoggedRun → Run → Type 0
 IsFullRun r run = rows run.tables ≡ plan r.settings (replica_of_logs r.logs)
 
+-- the places are those of the tables
+abbrev pub IsPlacedRun : Run → Type 0
+IsPlacedRun run = place_rows run.places ≡ places_of (rows run.tables)
+
 -- A board as large as the script, with the desk of each of its rows, which holds the script's replica, and a run of each, whose tables
--- are the plan of it; and the script's frontier doesn't stop the plan.
+-- are the plan of it, and whose places are those of the tables; and the script's frontier doesn't stop the plan.
 pub record IsFinished (r : LoggedRun) (b : BoardFrame) (ds : List DeskView) (rs : List Run) : Type 0 where
   pub processors : b.processors ≡ r.settings.processors
   pub capacity : b.capacity ≡ capacity_of r.logs
@@ -29,6 +34,7 @@ pub record IsFinished (r : LoggedRun) (b : BoardFrame) (ds : List DeskView) (rs 
   pub desks : (k : ℕ) (d : DeskView) → slice_get ds k ≡ Some d → IsFullDesk r b k d
   pub run_count : length rs ≡ r.settings.processors
   pub runs : (k : ℕ) (run : Run) → slice_get rs k ≡ Some run → IsFullRun r run
+  pub places : (k : ℕ) (run : Run) → slice_get rs k ≡ Some run → IsPlacedRun run
   pub far_enough : r.settings.slots ≤ frontier (replica_of_logs r.logs)
 
 -- row k's work went well: its desk holds the script's replica, and there are tables

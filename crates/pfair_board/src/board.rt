@@ -37,6 +37,8 @@ impl Model for Board {
 impl Board {
     /// A board of empty cells, for 1 to 64 processors, counted from 0, and logs of 1 to 4,096 entries, counted from 1.
     ///
+    /// It costs a step and the room of a pointer for each cell, of which there are `processors` times `capacity`.
+    ///
     /// # Errors
     /// `AllocError` where memory was wanted and refused.
     pub fn new(alloc: Global, processors: u8, capacity: u32) -> Result<Board, AllocError>
@@ -73,6 +75,9 @@ impl Board {
 
     /// One desk for each row, that of processor k at place k, each with an empty replica. A second call gives desks of their own, so that
     /// a row can have two pens.
+    ///
+    /// It costs a step for each cell and each desk: processors times processors times capacity. The room grows with the number of desks
+    /// alone, as notes of cells take none.
     ///
     /// # Errors
     /// `AllocError` where memory was wanted and refused.

@@ -13,10 +13,10 @@ ghost use Rattle.pfair_board.specs.Gained.{gained, gained_in_row, NoGapInRow, Sa
 use crate::board::Board;
 use crate::fault::{LookFault, PublishFault};
 use crate::notes::Notes;
-use crate::sharing::share_held;
 use once_cell::race::OnceBox;
 use pfair_entry::Entry;
 use pfair_replica::Replica;
+use pfair_replica::laws::read_by_number;
 use std::alloc::{AllocError, Global};
 use std::marker::Model;
 
@@ -98,6 +98,9 @@ impl Desk {
     /// Looks at one cell, and answers its entry, which the desk holds from then on, or `None` where it is empty: then the desk holds
     /// nothing of that key, and is unchanged.
     ///
+    /// It costs a number of steps that grows with the logarithm of the entries held in the row; and where the entry fills the first gap of
+    /// its row, the same for each entry that is held right behind the gap, which happens once to each entry.
+    ///
     /// # Errors
     /// The first of these that applies, and then the desk is unchanged: `NoSuchProcessor`, `NumberOutOfRange`, and `Memory`, which comes
     /// only where the desk held nothing of that key.
@@ -128,7 +131,7 @@ impl Desk {
         }
     }
 
-    /// Puts an entry at the desk's next number, and answers that number. The desk holds the entry from then on.
+    /// Puts an entry at the desk's next number, and answers that number. The desk holds the entry from then on. It costs what a look costs.
     ///
     /// # Errors
     /// The first of these that applies. `RowFull` exactly where the next number is past the capacity; nothing has then changed. `Taken`
@@ -164,6 +167,9 @@ impl Desk {
 
     /// Joins in what another desk of the same board holds. Afterwards the desk holds what either held, and nothing torn.
     ///
+    /// It costs a step for each cell of the board, and a look-up for each entry that the other holds and for each number of a row in which it
+    /// holds one.
+    ///
     /// # Errors
     /// `AllocError` where memory was wanted and refused, which comes only where the other holds something that this desk lacks: then a
     /// part of that is joined in, and another meet gives what one would have given.
@@ -176,7 +182,7 @@ impl Desk {
         ensures kept { GrownDesk self.old self.new }
         ensures own { OfOneBoard self.new other.now }
     {
-        share_held(&mut self.notes, &other.notes, &other.replica);
+        self.notes.share(&other.notes);
         match self.replica.merge(&other.replica) {
             Ok(()) => Ok(()),
             Err(_) => Err(AllocError),
@@ -185,6 +191,9 @@ impl Desk {
 
     /// Looks at each processor's numbers, from the first that the desk doesn't hold up to the first empty cell, and answers how many keys
     /// are newly held. In a row that gained some, no number up to the last one gained is missing then.
+    ///
+    /// It costs, for each processor, a look at each number that is newly held and at one empty cell, and a look-up for each number past its
+    /// sound beginning that was held already. What is in a sound beginning isn't gone through again.
     ///
     /// # Errors
     /// `AllocError` where memory was wanted and refused; what was found until then is held.
@@ -215,20 +224,16 @@ impl Desk {
         ensures others { (k n : ℕ) → (k ≡ proc → ⊥) → held self.new.replica k n ≡ held self.old.replica k n }
         ensures own { IsDeskOf self.new board.now }
     {
+        read_by_number();
         let mut found = 0;
-        let capacity = self.replica.capacity();
-        let Some(first) = self.replica.missing(proc) else {
-            return Ok(0);
-        };
-        for number in first..capacity + 1 {
-            let is_new = self.replica.get(proc, number).is_none();
+        for number in self.replica.sound_count(proc) + 1..self.replica.capacity() + 1 {
+            if self.replica.get(proc, number).is_some() {
+                continue;
+            }
             match self.look(board, proc, number) {
-                Ok(Some(_)) => {}
+                Ok(Some(_)) => found += 1,
                 Ok(None) => return Ok(found),
                 Err(_) => return Err(AllocError),
-            }
-            if is_new {
-                found += 1;
             }
         }
         Ok(found)

@@ -1,14 +1,14 @@
 //! Dispatchers in threads of their own.
-ghost use Rattle.std.specs.Prelude.{◌≡◌, ◌≤◌, ◌+◌, ℕ, length, IfOk, IfErr, IsOk, IsTrue, Some, slice_get, vec_len, true};
+ghost use Rattle.std.specs.Prelude.{◌≡◌, ◌≤◌, ◌+◌, ◌↔◌, ℕ, length, IfOk, IfErr, IsTrue, Some, slice_get, vec_len};
 ghost use Rattle.pfair_replica.specs.HeldRows.{replica_of};
-ghost use Rattle.pfair_replica.specs.Replica.{Below, frontier};
+ghost use Rattle.pfair_replica.specs.Replica.{frontier};
 ghost use Rattle.pfair_table.specs.Script.{capacity_of, replica_of_logs};
 ghost use Rattle.pfair_board.specs.Desks.{IsDeskOf};
 ghost use Rattle.pfair_board.specs.Works.{IsWorkOf, AreWorks, AreFirstDesks};
 ghost use Rattle.pfair_board.specs.Finish.{IsFinished, IsGood};
+ghost use Rattle.pfair_board.specs.FirstFault.{SomeEndsIn, Holds, AllHold, IsFirstFault};
 ghost use Rattle.pfair_board.specs.RunFaults.{IsRunFaultOf};
 ghost use Rattle.pfair_board.specs.declared.worked.Worked.{Worked};
-ghost use Rattle.pfair_board.specs.declared.run.RunFault.TheVariants.{GateGaveUp};
 
 use crate::board::Board;
 use crate::desk::Desk;
@@ -44,7 +44,10 @@ pub struct Finished {
 /// No master decides: each works out every slot itself.
 ///
 /// The board has the capacity of the script's longest log, at least 1. At Ok each desk holds the script's replica, every entry of its logs
-/// and nothing else, and the tables of each run are the plan of it. Nothing rests on hints.
+/// and nothing else, the tables of each run are the plan of it, and its places are those of the tables. Nothing rests on hints.
+///
+/// Each thread costs what [`run_worker`] costs. Beside that the entries of all logs are gone through once to take the script, and once for
+/// each thread, to compare what it holds. While it plans, a thread holds all entries twice, in its desk and in its dispatcher.
 ///
 /// # Errors
 /// The first of these that applies: `Memory` where memory was wanted and refused, or a thread couldn't be started. `GateGaveUp`, only
@@ -61,23 +64,13 @@ pub fn run_dispatchers<P: Threads + Wait + Sync, R: Ready + Send, G: Gate + Sync
 {
     least_join();
     let settings = script.settings();
-    let whole = take_script::<R>(alloc, script)?;
+    let whole = take_script::<R>(alloc, script)?.into_replica();
     let board = Board::new(alloc, settings.processors(), script.capacity())?;
     let desks = board.desks()?;
     let hints = Hints::all(alloc, settings.processors())?;
     let works = run_all::<P, R, G>(rt, alloc, script, &board, desks, hints, gate)?;
-    if has_no_memory(works.as_slice()) {
-        return Err(RunFault::Memory);
-    }
-    if has_shut_gate(works.as_slice(), gate) {
-        return Err(RunFault::GateGaveUp);
-    }
-    if !all_hold(works.as_slice(), whole.replica()) {
-        return Err(RunFault::Astray);
-    }
-    let slot = whole.replica().frontier();
-    if slot < settings.slots() {
-        return Err(RunFault::Stalled { slot });
+    if let Some(fault) = first_fault(works.as_slice(), &whole, settings.slots()) {
+        return Err(fault);
     }
     Ok(hand_back(alloc, script, board, works)?)
 }
@@ -174,24 +167,33 @@ fn run_all<P: Threads + Wait + Sync, R: Ready + Send, G: Gate + Sync>(
     )
 }
 
-// Whether some worker wanted memory.
-fn has_no_memory(works: &[Worked]) -> bool {
-    for work in works {
-        if let Err(RunFault::Memory) = &work.run {
-            return true;
-        }
+// The first of a run's faults, where it has one.
+fn first_fault(works: &[Worked], whole: &Replica, slots: u64) -> Option<RunFault>
+    ensures { IsFirstFault works.now (replica_of whole.now) slots result }
+{
+    if some_ends_in(works, RunFault::Memory) {
+        return Some(RunFault::Memory);
     }
-    false
+    if some_ends_in(works, RunFault::GateGaveUp) {
+        return Some(RunFault::GateGaveUp);
+    }
+    if !all_hold(works, whole) {
+        return Some(RunFault::Astray);
+    }
+    let slot = whole.frontier();
+    if slot < slots {
+        return Some(RunFault::Stalled { slot });
+    }
+    None
 }
 
-// Whether some worker's gate gave up.
-fn has_shut_gate<G: Gate>(works: &[Worked], _gate: &G) -> bool
-    requires { (k : ℕ) (w : Worked) → slice_get works.now k ≡ Some w → IfErr w.run (λ f. f ≡ GateGaveUp → G.may_give_up ≡ true) }
-    ensures { IsTrue result → G.may_give_up ≡ true }
+// Whether some worker ends in this fault.
+fn some_ends_in(works: &[Worked], fault: RunFault) -> bool
+    ensures { IsTrue result ↔ SomeEndsIn works.now fault }
 {
     for work in works {
-        if let Err(fault) = &work.run {
-            if *fault == RunFault::GateGaveUp {
+        if let Err(own) = &work.run {
+            if *own == fault {
                 return true;
             }
         }
@@ -201,15 +203,22 @@ fn has_shut_gate<G: Gate>(works: &[Worked], _gate: &G) -> bool
 
 // Whether each worker has tables and holds what this replica holds.
 fn all_hold(works: &[Worked], replica: &Replica) -> bool
-    ensures { IsTrue result → (k : ℕ) (w : Worked) → slice_get works.now k ≡ Some w → IsOk w.run × Below (replica_of w.desk.replica) (replica_of replica.now) × Below (replica_of replica.now) (replica_of w.desk.replica) }
+    ensures { IsTrue result ↔ AllHold works.now (replica_of replica.now) }
 {
     for work in works {
-        let held = work.desk.replica();
-        if work.run.is_err() || !held.le(replica) || !replica.le(held) {
+        if !holds(work, replica) {
             return false;
         }
     }
     true
+}
+
+// Whether a worker has tables and holds what this replica holds.
+fn holds(work: &Worked, replica: &Replica) -> bool
+    ensures { IsTrue result ↔ Holds work.now (replica_of replica.now) }
+{
+    let held = work.desk.replica();
+    work.run.is_ok() && held.le(replica) && replica.le(held)
 }
 
 // Takes the works apart.

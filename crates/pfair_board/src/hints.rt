@@ -21,7 +21,7 @@ pub struct Hints {
 }
 
 impl Hints {
-    /// The ends of all workers of so many processors, that of processor k at place k.
+    /// The ends of all workers of so many processors, that of processor k at place k. It costs a sender for each two workers.
     ///
     /// # Errors
     /// `AllocError` where memory was wanted and refused.

@@ -16,7 +16,6 @@ pub mod hints;
 pub mod laws;
 mod notes;
 pub mod run;
-mod sharing;
 mod worked;
 pub mod worker;
 

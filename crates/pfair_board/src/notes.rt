@@ -3,6 +3,7 @@ ghost use Rattle.std.specs.Prelude.{◌≡◌, ◌<◌, IfOk, IfSome, OnErr, Som
 ghost use Rattle.once_cell.specs.Once.{cell_name};
 ghost use Rattle.pfair_entry.specs.Entry.{Logged};
 ghost use Rattle.pfair_board.specs.Knowledge.{Knowledge, knowing};
+ghost use Rattle.pfair_board.specs.Noted.{Grows, KnowMore};
 
 use once_cell::race::{Note, OnceBox};
 use pfair_entry::Entry;
@@ -71,13 +72,23 @@ impl Notes {
         Ok(*standing)
     }
 
-    /// Takes over what the other list knows of one cell. Both know the same entry of it, if both know one.
-    pub(crate) fn share(&mut self, other: &Notes, place: usize)
+    /// Takes over all that the other list knows. What both know of a cell is the same entry. As notes take no bytes, neither does this.
+    pub(crate) fn share(&mut self, other: &Notes)
+        requires { self.old.cells ≡ other.now.cells }
+        ensures mine { KnowMore self.old self.new }
+        ensures theirs { Grows other.now.known self.new.known }
+    {
+        for place in 0..other.notes.len() {
+            self.share_one(other, place);
+        }
+    }
+
+    /// The same for one cell.
+    fn share_one(&mut self, other: &Notes, place: usize)
         requires here { place < length self.old.cells }
         requires cells { self.old.cells ≡ other.now.cells }
-        requires known { (e : Logged) × (slice_index_or other.now.known place None ≡ Some e) }
-        ensures known { (e : Logged) → slice_index_or other.now.known place None ≡ Some e → self.new ≡ knowing self.old place e }
-        ensures same { (e : Logged) → slice_index_or other.now.known place None ≡ Some e → IfSome (slice_index_or self.old.known place None) (λ known. known ≡ e) }
+        ensures mine { KnowMore self.old self.new }
+        ensures theirs { (e : Logged) → slice_index_or other.now.known place None ≡ Some e → slice_index_or self.new.known place None ≡ Some e }
     {
         learn(&mut self.notes[place], &other.notes[place]);
     }

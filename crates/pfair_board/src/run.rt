@@ -11,6 +11,8 @@ use thiserror::Error;
 pub struct Run {
     /// The table of each slot that was planned, from slot 0 on: its quanta in the PD2 order.
     pub tables: Vec<Vec<Pick>>,
+    /// The places of each of these slots: for each row of its table the processor that runs it.
+    pub places: Vec<Vec<u8>>,
 }
 
 /// Why a run gave no tables.

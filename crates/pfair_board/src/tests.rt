@@ -59,6 +59,24 @@ fn two_pens_of_one_row(rt: HostRuntime) -> Result<(), Fail> {
     Ok(())
 }
 
+/// After a publish that was refused memory another entry takes its number, or meets it as taken where the cell was set by then.
+#[test]
+fn a_publish_after_want_of_memory(rt: HostRuntime) -> Result<(), Fail> {
+    let board = Board::new(rt.alloc(), 1, 2)?;
+    let mut desk = row(&board, 0)?;
+    let standing = floor(&rt, 3);
+    let published = desk.publish(&board, standing);
+    let again = desk.publish(&board, floor(&rt, 5));
+    if published == Ok(1) {
+        assert!(&rt; desk.replica().get(0, 1) == Some(Flat::One(standing)));
+    } else {
+        assert!(&rt; published == Err(PublishFault::Memory));
+        assert!(&rt; again == Ok(1) || again == Err(PublishFault::Taken { standing }));
+        assert!(&rt; desk.next_number() == 2);
+    }
+    Ok(())
+}
+
 #[test]
 fn a_refresh_fills_the_gap(rt: HostRuntime) -> Result<(), Fail> {
     let board = Board::new(rt.alloc(), 2, 2)?;

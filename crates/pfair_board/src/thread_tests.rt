@@ -5,7 +5,7 @@ ghost use Rattle.pfair_board.specs.Desks.{IsDeskOf};
 
 use crate::tests::row;
 use crate::{
-    Board, Desk, Finished, Gate, Hints, OpenGate, Run, RunFault, run_dispatchers, run_worker,
+    Board, Desk, Finished, Gate, Hint, Hints, OpenGate, Run, RunFault, run_dispatchers, run_worker,
 };
 use pfair_entry::{Announcement, Entry};
 use pfair_lattice::Flat;
@@ -65,6 +65,77 @@ impl Gate for ShutGate {
     }
 }
 
+/// Gives up from the call after so many good ones.
+#[derive(Drop)]
+struct Tiring {
+    calls: AtomicU64,
+    good: u64,
+}
+
+impl Gate for Tiring {
+    ghost use Rattle.std.specs.Prelude.{true};
+
+    ghost may_give_up = { true };
+
+    fn come<P: Wait>(&self, _rt: &P, _worker: u8, _slot: u64) -> bool {
+        self.calls.fetch_add(1, Ordering::SeqCst) < self.good
+    }
+}
+
+/// Gives up for one worker alone.
+#[derive(Drop)]
+struct ShutTo {
+    worker: u8,
+}
+
+impl Gate for ShutTo {
+    ghost use Rattle.std.specs.Prelude.{true};
+
+    ghost may_give_up = { true };
+
+    fn come<P: Wait>(&self, _rt: &P, worker: u8, _slot: u64) -> bool {
+        worker != self.worker
+    }
+}
+
+/// Opens to each of two workers at slots 0, 1, 2 and so on, once for each.
+#[derive(Drop)]
+struct InTurn {
+    first: AtomicU64,
+    second: AtomicU64,
+}
+
+impl Gate for InTurn {
+    ghost use Rattle.std.specs.Prelude.{true};
+
+    ghost may_give_up = { true };
+
+    fn come<P: Wait>(&self, _rt: &P, worker: u8, slot: u64) -> bool {
+        let mine = if worker == 0 {
+            &self.first
+        } else {
+            &self.second
+        };
+        mine.fetch_add(1, Ordering::SeqCst) == slot
+    }
+}
+
+/// Counts the calls.
+#[derive(Drop)]
+struct Counting {
+    calls: AtomicU64,
+}
+
+impl Gate for Counting {
+    ghost use Rattle.std.specs.Prelude.{true};
+
+    ghost may_give_up = { true };
+
+    fn come<P: Wait>(&self, _rt: &P, _worker: u8, _slot: u64) -> bool {
+        self.calls.fetch_add(1, Ordering::SeqCst) < u64::MAX
+    }
+}
+
 /// The picks of each of the sample's six slots: the letter of the task, and the index of its subtask.
 const TABLES: [&[(u8, u64)]; 6] = [
     &[(b'b', 1), (b'a', 1)],
@@ -75,9 +146,22 @@ const TABLES: [&[(u8, u64)]; 6] = [
     &[(b'd', 2)],
 ];
 
-/// Whether the tables are the sample's.
+/// The places of these picks.
+const PLACES: [&[u8]; 6] = [&[0, 1], &[0, 1], &[], &[0, 1], &[0], &[0]];
+
+/// Whether the places are the sample's.
+fn has_places(run: &Run) -> bool {
+    run.places.len() == 6
+        && run
+            .places
+            .iter()
+            .zip(PLACES.iter())
+            .all(|(places, known)| places.as_slice() == *known)
+}
+
+/// Whether the tables are the sample's, and the places.
 fn is_sample(run: &Run) -> bool {
-    if run.tables.len() != 6 {
+    if run.tables.len() != 6 || !has_places(run) {
         return false;
     }
     for (table, known) in run.tables.iter().zip(TABLES.iter()) {
@@ -211,6 +295,207 @@ fn a_gate_gives_up(rt: HostRuntime) -> Result<(), Fail> {
 }
 
 #[test]
+fn a_gate_tires(rt: HostRuntime) -> Result<(), Fail> {
+    let script = sample(&rt, rt.alloc())?;
+    for good in 0..12 {
+        let gate = Tiring {
+            calls: AtomicU64::new(0),
+            good,
+        };
+        let run = run_dispatchers::<_, HeapReady, _>(&rt, rt.alloc(), &script, &gate);
+        assert!(&rt; matches!(run, Err(RunFault::GateGaveUp)));
+    }
+    Ok(())
+}
+
+#[test]
+fn a_gate_is_shut_to_one_worker(rt: HostRuntime) -> Result<(), Fail> {
+    let script = sample(&rt, rt.alloc())?;
+    for worker in 0..2u8 {
+        let gate = ShutTo { worker };
+        let run = run_dispatchers::<_, HeapReady, _>(&rt, rt.alloc(), &script, &gate);
+        assert!(&rt; matches!(run, Err(RunFault::GateGaveUp)));
+    }
+    Ok(())
+}
+
+#[test]
+fn a_shut_gate_comes_before_a_stall(rt: HostRuntime) -> Result<(), Fail> {
+    let log = vec![in rt.alloc(); entry(&rt, 5, None), entry(&rt, 4, None)]?;
+    let script = of_one_log(&rt, rt.alloc(), 8, log)?;
+    let run = run_dispatchers::<_, HeapReady, _>(&rt, rt.alloc(), &script, &ShutGate);
+    assert!(&rt; matches!(run, Err(RunFault::GateGaveUp)));
+    Ok(())
+}
+
+#[test]
+fn workers_come_to_each_slot_in_turn(rt: HostRuntime) -> Result<(), Fail> {
+    let script = sample(&rt, rt.alloc())?;
+    let gate = InTurn {
+        first: AtomicU64::new(0),
+        second: AtomicU64::new(0),
+    };
+    let finished = run_dispatchers::<_, HeapReady, _>(&rt, rt.alloc(), &script, &gate)?;
+    assert!(&rt; finished.runs.iter().all(is_sample));
+    Ok(())
+}
+
+/// Publishes a log. Answers whether all went well.
+fn publish_all(board: &Board, desk: &mut Desk, log: &[Entry]) -> bool
+    requires { IsDeskOf desk.old board.now }
+    ensures { IsDeskOf desk.new board.now }
+{
+    for entry in log {
+        if desk.publish(board, *entry).is_err() {
+            return false;
+        }
+    }
+    true
+}
+
+#[test]
+fn a_worker_without_hints_reads_the_board(rt: HostRuntime) -> Result<(), Fail> {
+    let alloc = rt.alloc();
+    let board = Board::new(alloc, 2, 5)?;
+    let mut first = row(&board, 0)?;
+    assert!(&rt; publish_all(&board, &mut first, &first_log(&rt)));
+    let mut second = row(&board, 1)?;
+    let hints = Hints::all(alloc, 1)?.pop().expect(&rt, "hints");
+    let settings = Settings::new(2, 6, 6).expect(&rt, "settings");
+    let log = second_log(&rt);
+    let run = run_worker::<_, HeapReady, _>(
+        &rt,
+        alloc,
+        settings,
+        &mut second,
+        &board,
+        &log,
+        hints,
+        &OpenGate,
+    )?;
+    assert!(&rt; is_sample(&run));
+    Ok(())
+}
+
+#[test]
+fn a_worker_tells_the_others_of_its_log(rt: HostRuntime) -> Result<(), Fail> {
+    let alloc = rt.alloc();
+    let board = Board::new(alloc, 2, 5)?;
+    let mut desk = row(&board, 0)?;
+    let mut all = Hints::all(alloc, 2)?;
+    let Hints { receiver, senders } = all.pop().expect(&rt, "hints");
+    drop(senders);
+    let hints = all.pop().expect(&rt, "hints");
+    let settings = Settings::new(2, 6, 6).expect(&rt, "settings");
+    let log = first_log(&rt);
+    let run = run_worker::<_, HeapReady, _>(
+        &rt, alloc, settings, &mut desk, &board, &log, hints, &OpenGate,
+    )?;
+    assert!(&rt; run.tables.is_empty());
+    for number in 1..6 {
+        let hint = receiver.recv(&rt).expect(&rt, "a hint");
+        assert!(&rt; hint.proc == 0 && hint.number == number);
+    }
+    assert!(&rt; receiver.recv(&rt).is_err());
+    Ok(())
+}
+
+/// Publishes the log of the sample's second processor, sends a hint of each entry, and waits until some worker has come to the gate. Answers
+/// whether one came.
+fn tells_and_waits<P: Wait>(
+    rt: &P,
+    board: &Board,
+    mut desk: Desk,
+    log: &[Entry],
+    hints: Hints,
+    gate: &Counting,
+) -> bool
+    requires { IsDeskOf desk board.now }
+{
+    let Hints { receiver, senders } = hints;
+    if !publish_all(board, &mut desk, log) {
+        return false;
+    }
+    for number in 1..6 {
+        for sender in &senders {
+            if sender.send(rt, Hint { proc: 1, number }).is_err() {
+                return false;
+            }
+        }
+    }
+    for _ in 0..10_000_000 {
+        if gate.calls.load(Ordering::SeqCst) > 0 {
+            drop(receiver);
+            return true;
+        }
+        thread::yield_now();
+    }
+    false
+}
+
+/// Whether a worker of the sample works out its tables on a board.
+fn works_with_hints<P: Wait>(
+    rt: &P,
+    alloc: Global,
+    board: &Board,
+    mut desk: Desk,
+    log: &[Entry],
+    hints: Hints,
+    gate: &Counting,
+) -> bool
+    requires own { IsDeskOf desk board.now }
+    requires room { desk.next_number + length log.now ≤ board.now.capacity + 1 }
+    requires processors { board.now.processors ≡ 2 }
+{
+    let Some(settings) = Settings::new(2, 6, 6) else {
+        return false;
+    };
+    match run_worker::<P, HeapReady, Counting>(
+        rt, alloc, settings, &mut desk, board, log, hints, gate,
+    ) {
+        Ok(run) => is_sample(&run) && desk.next_number() == 6,
+        Err(_) => false,
+    }
+}
+
+#[test]
+fn hints_are_planned_before_the_last_refresh(rt: HostRuntime) -> Result<(), Fail> {
+    let alloc = rt.alloc();
+    let board = Board::new(alloc, 2, 5)?;
+    let first = row(&board, 0)?;
+    let second = row(&board, 1)?;
+    let (logs, mut hints) = ((first_log(&rt), second_log(&rt)), Hints::all(alloc, 2)?);
+    let gate = Counting {
+        calls: AtomicU64::new(0),
+    };
+    let others = hints.pop().expect(&rt, "hints");
+    let mine = hints.pop().expect(&rt, "hints");
+    let (board, gate, rt) = (&board, &gate, &rt);
+    let (left, right) = (&logs.0, &logs.1);
+    let (worked, came) = thread::join(
+        rt,
+        move || -> bool
+            requires { IsDeskOf first board.now × (first.next_number ≡ 1) × (board.now.capacity ≡ 5) × (board.now.processors ≡ 2) }
+        { works_with_hints(rt, alloc, board, first, left, mine, gate) },
+        move || -> bool
+            requires { IsDeskOf second board.now }
+        { tells_and_waits(rt, board, second, right, others, gate) },
+    );
+    assert!(rt; worked && came);
+    Ok(())
+}
+
+#[test]
+fn a_refresh_goes_on_past_an_empty_cell(rt: HostRuntime) -> Result<(), Fail> {
+    let board = Board::new(rt.alloc(), 2, 2)?;
+    let mut writer = row(&board, 1)?;
+    let mut reader = row(&board, 0)?;
+    assert!(&rt; writer.publish(&board, entry(&rt, 3, None)) == Ok(1));
+    assert!(&rt; reader.refresh(&board)? == 1);
+    Ok(())
+}
+
+#[test]
 fn sixty_four_workers(rt: HostRuntime) -> Result<(), Fail> {
     let mut logs = Vec::new(rt.alloc());
     for _ in 0..64 {
@@ -329,10 +614,17 @@ fn busy(rt: &impl Abort, alloc: Global) -> Result<Script, AllocError> {
     Ok(Script::new(settings, logs).ok().expect(rt, "a script"))
 }
 
-/// Whether the tables are those of this dispatcher.
+/// Whether the tables and the places are those of this dispatcher.
 fn are_those_of(run: &Run, dispatcher: &Dispatcher<PlainReady>) -> bool {
-    if run.tables.len() as u64 != dispatcher.next_slot() {
+    let slots = dispatcher.next_slot();
+    if run.tables.len() as u64 != slots || run.places.len() as u64 != slots {
         return false;
+    }
+    for (slot, places) in run.places.iter().enumerate() {
+        match dispatcher.places(slot as u64) {
+            Some(known) if places.as_slice() == known => {}
+            _ => return false,
+        }
     }
     for (slot, table) in run.tables.iter().enumerate() {
         match dispatcher.table(slot as u64) {

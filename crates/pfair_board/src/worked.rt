@@ -3,17 +3,19 @@ ghost use Rattle.std.specs.Prelude.{◌≡◌};
 ghost use Rattle.std.specs.Result.{ForOk};
 ghost use Rattle.pfair_replica.specs.HeldRows.{replica_of};
 ghost use Rattle.pfair_table.specs.Table.{plan};
-ghost use Rattle.pfair_board.specs.Rows.{rows};
+ghost use Rattle.pfair_table.specs.Places.{places_of};
+ghost use Rattle.pfair_table.specs.Planned.{rows, place_rows};
 
 use crate::desk::Desk;
 use crate::run::{Run, RunFault};
 use pfair_table::Settings;
 
-/// A desk, and a fault or the tables, which by this type are the plan of what the desk holds.
+/// A desk, and a fault or the tables, which by this type are the plan of what the desk holds, with their places.
 #[derive(Drop)]
 pub(crate) struct Worked {
     pub(crate) settings: Settings,
     pub(crate) desk: Desk,
     pub(crate) run: Result<Run, RunFault>,
     pub(crate) ghost planned: { ForOk run (λ r. rows r.tables ≡ plan settings (replica_of desk.replica)) },
+    pub(crate) ghost placed: { ForOk run (λ r. place_rows r.places ≡ places_of (rows r.tables)) },
 }

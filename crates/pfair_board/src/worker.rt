@@ -3,9 +3,10 @@ ghost use Rattle.std.specs.Prelude.{◌≡◌, ◌<◌, ◌≤◌, ◌+◌, leng
 ghost use Rattle.pfair_replica.specs.HeldRows.{replica_of};
 ghost use Rattle.pfair_replica.specs.Replica.{frontier, has_torn};
 ghost use Rattle.pfair_table.specs.Table.{plan};
+ghost use Rattle.pfair_table.specs.Places.{places_of};
+ghost use Rattle.pfair_table.specs.Planned.{rows, place_rows};
 ghost use Rattle.pfair_table.specs.Refinement.{IsWholePlan};
 ghost use Rattle.pfair_board.specs.Desks.{IsDeskOf, GrownDesk};
-ghost use Rattle.pfair_board.specs.Rows.{rows};
 ghost use Rattle.pfair_board.specs.Logs.{HoldsLog, IsBehind};
 ghost use Rattle.pfair_board.specs.RunFaults.{IsWorkerFault, IsPlanningFault};
 ghost use Rattle.pfair_board.specs.declared.run.RunFault.TheVariants.{Memory};
@@ -21,7 +22,7 @@ use pfair_entry::Entry;
 use pfair_ready::Ready;
 use pfair_replica::MergeFault;
 use pfair_replica::laws::{least_join, torn_test};
-use pfair_table::{Dispatcher, Pick, PlanFault, Settings, Step};
+use pfair_table::{Dispatcher, PlanFault, Schedule, Settings, Step};
 use std::alloc::{AllocError, Global};
 use std::sync::Wait;
 
@@ -29,8 +30,15 @@ use std::sync::Wait;
 ///
 /// Publishes the log from the desk's next number on, sends a hint of each entry to the other workers and drops its senders, looks where a
 /// hint points, plans what it can on a dispatcher of its own, and refreshes and plans the rest once no hint can come any more. What it
-/// answers doesn't rest on hints: at Ok the tables are the plan of what the desk then holds. So of the answers of two desks of one board,
-/// under equal settings, the shorter begins the longer.
+/// answers doesn't rest on hints: at Ok the tables are the plan of what the desk then holds, the places are those of the tables, and the
+/// desk's next number is as many further as the log has entries. So of the answers of two desks of one board, under equal settings, the
+/// shorter begins the longer.
+///
+/// It costs, beside what [`Dispatcher::plan_next`] costs for each slot: a publish of each entry of the log, and a hint of it to each other
+/// worker; for each hint that comes a look, and as much again to take over the entry; a look-up for each processor where no further hint
+/// waits; and a refresh at the end. Before the first hint and after the refresh the dispatcher takes over all that the desk holds, at a
+/// look-up for each number of each row. So what is done for a hint grows with the entries held no more than a look does. The tables and
+/// the places aren't copied.
 ///
 /// # Errors
 /// `Memory` where memory was wanted and refused. `GateGaveUp` only where the gate's type may give up. `Astray` only where the desk's row
@@ -50,7 +58,9 @@ pub fn run_worker<P: Wait, R: Ready, G: Gate>(
     requires processors { settings.processors ≡ board.now.processors }
     ensures grown { GrownDesk desk.old desk.new }
     ensures log { OnOk result (HoldsLog desk.new desk.old.next_number log.now) }
+    ensures next { OnOk result (desk.new.next_number ≡ desk.old.next_number + length log.now) }
     ensures plan { IfOk result (λ run. rows run.tables ≡ plan settings (replica_of desk.new.replica)) }
+    ensures places { IfOk result (λ run. place_rows run.places ≡ places_of (rows run.tables)) }
     ensures fault { IfErr result (IsWorkerFault G.may_give_up desk.new desk.old.next_number log.now) }
     ensures own { IsDeskOf desk.new board.now }
 {
@@ -58,11 +68,12 @@ pub fn run_worker<P: Wait, R: Ready, G: Gate>(
     publish_log(rt, desk, board, log, &senders)?;
     drop(senders);
     let mut dispatcher = Dispatcher::<R>::new(alloc, settings, board.capacity())?;
+    catch_up(rt, &mut dispatcher, desk, gate)?;
     heed_all(rt, &mut dispatcher, desk, board, &receiver, gate)?;
     desk.refresh(board)?;
     catch_up(rt, &mut dispatcher, desk, gate)?;
-    let tables = tables_of(alloc, &dispatcher)?;
-    Ok(Run { tables })
+    let Schedule { tables, places } = dispatcher.into_schedule();
+    Ok(Run { tables, places })
 }
 
 // Publishes each entry of a log, and sends a hint of it to each other worker.
@@ -77,6 +88,7 @@ fn publish_log<P: Wait>(
     requires room { desk.old.next_number + length log.now ≤ board.now.capacity + 1 }
     ensures grown { GrownDesk desk.old desk.new }
     ensures log { OnOk result (HoldsLog desk.new desk.old.next_number log.now) }
+    ensures next { OnOk result (desk.new.next_number ≡ desk.old.next_number + length log.now) }
     ensures fault { IfErr result (IsWorkerFault false desk.new desk.old.next_number log.now) }
     ensures own { IsDeskOf desk.new board.now }
 {
@@ -114,7 +126,7 @@ fn send_hint<P: Wait>(
     Ok(())
 }
 
-// Looks where each hint points, and plans what that settles, until no hint can come any more.
+// Takes the entry that each hint points to, and plans what is settled where no further hint waits, until no hint can come any more.
 fn heed_all<P: Wait, R: Ready, G: Gate>(
     rt: &P,
     dispatcher: &mut Dispatcher<R>,
@@ -126,6 +138,7 @@ fn heed_all<P: Wait, R: Ready, G: Gate>(
     requires own { IsDeskOf desk.old board.now }
     requires behind { IsBehind dispatcher.old desk.old }
     ensures grown { GrownDesk desk.old desk.new }
+    ensures next { desk.new.next_number ≡ desk.old.next_number }
     ensures own { IsDeskOf desk.new board.now }
     ensures settings { dispatcher.new.settings ≡ dispatcher.old.settings }
     ensures behind { OnOk result (IsBehind dispatcher.new desk.new) }
@@ -135,36 +148,39 @@ fn heed_all<P: Wait, R: Ready, G: Gate>(
         let Ok(hint) = receiver.recv(rt) else {
             return Ok(());
         };
-        heed(rt, dispatcher, desk, board, hint, gate)?;
+        heed(dispatcher, desk, board, hint)?;
+        if receiver.is_empty() {
+            plan_held(rt, dispatcher, desk, gate)?;
+        }
     }
     Ok(())
 }
 
-// Looks where a hint points, and plans what that settles.
-fn heed<P: Wait, R: Ready, G: Gate>(
-    rt: &P,
+// Looks where a hint points, and takes the entry that stands there.
+fn heed<R: Ready>(
     dispatcher: &mut Dispatcher<R>,
     desk: &mut Desk,
     board: &Board,
     hint: Hint,
-    gate: &G,
-) -> Result<(), RunFault>
+) -> Result<(), AllocError>
     requires own { IsDeskOf desk.old board.now }
     requires behind { IsBehind dispatcher.old desk.old }
     ensures grown { GrownDesk desk.old desk.new }
+    ensures next { desk.new.next_number ≡ desk.old.next_number }
     ensures own { IsDeskOf desk.new board.now }
     ensures settings { dispatcher.new.settings ≡ dispatcher.old.settings }
-    ensures behind { OnOk result (IsBehind dispatcher.new desk.new) }
-    ensures fault { IfErr result (IsPlanningFault G.may_give_up) }
+    ensures behind { IsBehind dispatcher.new desk.new }
 {
-    let found = desk.look(board, hint.proc, hint.number);
-    if let Ok(Some(_)) = found {
-        return catch_up(rt, dispatcher, desk, gate);
+    let Ok(Some(entry)) = desk.look(board, hint.proc, hint.number) else {
+        return Ok(());
+    };
+    match dispatcher.take(hint.proc, hint.number, entry) {
+        Ok(_) => Ok(()),
+        Err(_) => Err(AllocError),
     }
-    Ok(())
 }
 
-// Absorbs what the desk holds, and plans what that settles. The worker comes to the gate before each slot.
+// Absorbs what the desk holds, and plans what that settles.
 fn catch_up<P: Wait, R: Ready, G: Gate>(
     rt: &P,
     dispatcher: &mut Dispatcher<R>,
@@ -178,12 +194,31 @@ fn catch_up<P: Wait, R: Ready, G: Gate>(
     ensures fault { IfErr result (IsPlanningFault G.may_give_up) }
 {
     least_join();
-    torn_test();
     match dispatcher.absorb(desk.replica()) {
-        Ok(()) => plan_settled(rt, dispatcher, desk.proc(), gate),
+        Ok(()) => plan_held(rt, dispatcher, desk, gate),
         Err(MergeFault::Memory) => Err(RunFault::Memory),
         Err(MergeFault::OtherShape) => unreachable!(),
     }
+}
+
+// Plans what is settled of what the dispatcher holds, where the desk holds all of that.
+fn plan_held<P: Wait, R: Ready, G: Gate>(
+    rt: &P,
+    dispatcher: &mut Dispatcher<R>,
+    desk: &Desk,
+    gate: &G,
+) -> Result<(), RunFault>
+    requires behind { IsBehind dispatcher.old desk.now }
+    ensures settings { dispatcher.new.settings ≡ dispatcher.old.settings }
+    ensures held { dispatcher.new.held ≡ dispatcher.old.held }
+    ensures behind { OnOk result (IsBehind dispatcher.new desk.now) }
+    ensures whole { OnOk result (IsWholePlan dispatcher.new) }
+    ensures fault { IfErr result (IsPlanningFault G.may_give_up) }
+{
+    torn_test();
+    // nothing that a desk holds is torn
+    let _held = desk.replica();
+    plan_settled(rt, dispatcher, desk.proc(), gate)
 }
 
 // Plans every slot that what is held settles. The worker comes to the gate before each.
@@ -250,21 +285,4 @@ fn see_whole<R: Ready>(dispatcher: &mut Dispatcher<R>)
         Ok(Step::Done) => {}
         Err(_) => unreachable!(),
     }
-}
-
-// A copy of all tables.
-fn tables_of<R: Ready>(
-    alloc: Global,
-    dispatcher: &Dispatcher<R>,
-) -> Result<Vec<Vec<Pick>>, AllocError>
-    ensures { IfOk result (λ tables. rows tables ≡ dispatcher.now.tables) }
-{
-    let mut all = Vec::new(alloc);
-    for slot in 0..dispatcher.next_slot() {
-        let Some(table) = dispatcher.table(slot) else {
-            unreachable!()
-        };
-        all.push(Vec::from_slice(alloc, table)?)?;
-    }
-    Ok(all)
 }

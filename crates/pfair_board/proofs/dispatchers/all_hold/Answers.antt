@@ -1,25 +1,28 @@
-use Rattle.std.proofs.Common.{◌≡◌, ◌∙◌, subst, refl, arith, rules, ⊎_elim, IsOk, Some, slice_get}
-use Rattle.std.proofs.lemmas.Bool.{cases_lt}
-use Rattle.std.proofs.lemmas.Option.{slice_get_within, get_or_from_slice_get}
-use Rattle.pfair_replica.specs.Replica.{Below}
-use Rattle.pfair_replica.specs.HeldRows.{HeldRows, replica_of}
+use Rattle.std.proofs.Common.{◌≡◌, ◌∙◌, sym, subst, refl, arith, ⊎_elim, length, Some, slice_get}
+use Rattle.std.proofs.lemmas.Bool.{cases_lt, true≢false}
+use Rattle.std.proofs.lemmas.Option.{slice_get_read, slice_get_within, get_or_from_slice_get}
+use Rattle.pfair_replica.specs.HeldRows.{replica_of}
 use Rattle.pfair_board.specs.declared.worked.Worked.{Worked}
+use Rattle.pfair_board.specs.FirstFault.{Holds}
 use Rattle.pfair_board.proofs.dispatchers.all_hold.Goals as goal
+
+pub returns-then-not-holds : goal.returns-then-not-holds
+returns-then-not-holds c =
+    let at = slice_get_read c.args.works.now (length c.args.works.now) c.loop-work.work-index c.work-item.result refl c.loop-work-test.true c.work-item.is in
+    (λ yes. absurd (true≢false (sym yes)), λ all. sym c.if-not-holds.true ∙ c.holds.ensures.1 (all c.loop-work.work-index c.work-item.result at))
 
 pub loop-work-preserved : goal.loop-work-preserved
 loop-work-preserved c = λ k w below at. ⊎_elim (λ before. c.loop-work.invariant k w before at)
     (λ last.
     let here : k ≡ c.loop-work.work-index = omega arith in
     let item : c.work-item.result ≡ w = c.work-item.is ∙ get_or_from_slice_get c.args.works.now c.loop-work.work-index w c.work-item.result (subst (λ j. slice_get c.args.works.now j ≡ Some w) here at) in
-    let ok : IsOk c.work-item.result.run = search rules in
-    let first : Below (replica_of c.work-item.result.desk.replica) (replica_of c.args.replica.now)
-    = subst (λ (x : HeldRows). Below (replica_of x) (replica_of c.args.replica.now)) c.replica-held.ensures.value (c.if-not-le.ensures.0 refl) in
-    let second : Below (replica_of c.args.replica.now) (replica_of c.work-item.result.desk.replica)
-    = subst (λ (x : HeldRows). Below (replica_of c.args.replica.now) (replica_of x)) c.replica-held.ensures.value (c.if-not-le-2.ensures.0 refl) in
-    subst (λ (v : Worked). IsOk v.run × Below (replica_of v.desk.replica) (replica_of c.args.replica.now) × Below (replica_of c.args.replica.now) (replica_of v.desk.replica)) item (ok, first, second))
+    subst (λ (v : Worked). Holds v (replica_of c.args.replica.now)) item (c.holds.ensures.0 c.if-not-holds.false))
     (cases_lt k c.loop-work.work-index)
 
 pub returns : goal.returns
-returns c = λ yes k w at.
-    (let within = slice_get_within c.args.works.now k w at in
-    c.loop-work.invariant k w (omega (arith, within, c.loop-work-test.false, c.loop-work.auto.work-index-end)) at)
+returns c = (
+  λ yes k w at.
+      (let within = slice_get_within c.args.works.now k w at in
+      c.loop-work.invariant k w (omega (arith, within, c.loop-work-test.false, c.loop-work.auto.work-index-end)) at),
+  λ all. refl,
+)

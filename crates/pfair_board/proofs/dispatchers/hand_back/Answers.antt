@@ -1,8 +1,8 @@
 use Rattle.std.proofs.Common.{◌≡◌, ◌+◌, ◌∷◌, rules, arith, subst, add-one, length, slice_get, Some, vec_len}
 use Rattle.std.proofs.lemmas.Grind.{common_steps}
 use Rattle.std.specs.Vec.Iter.{into_iter_items}
-use Rattle.pfair_board.specs.Finish.{IsGood, IsFullDesk, IsFullRun}
-use Rattle.pfair_board.proofs.Rows.{each_snoc, none_in_empty, full_run, not_failed}
+use Rattle.pfair_board.specs.Finish.{IsGood, IsFullDesk, IsFullRun, IsPlacedRun}
+use Rattle.pfair_board.proofs.Rows.{each_snoc, none_in_empty, full_run, placed_run, not_failed}
 use Rattle.pfair_board.proofs.dispatchers.hand_back.Goals as goal
 
 pub loop-work-init : goal.loop-work-init
@@ -16,6 +16,7 @@ loop-work-init c = record {
       subst (λ j. IsGood c.args.script.now c.args.board j w) place (c.requires.good k w there));
   desks = λ k d at. absurd (none_in_empty c.new-desks.result.items k d c.new-desks.ensures.items at);
   runs = λ k run at. absurd (none_in_empty c.new-runs.result.items k run c.new-runs.ensures.items at);
+  places = λ k run at. absurd (none_in_empty c.new-runs.result.items k run c.new-runs.ensures.items at);
 }
 
 pub unreachable-requires : goal.unreachable-requires
@@ -45,4 +46,6 @@ loop-work-preserved c =
           (subst (λ j. IsFullDesk script board j work.desk) here good.desk) k d (rw (← c.in_ok-push.ensures.items) at);
       runs = λ k run at. each_snoc (λ j x. IsFullRun script x) c.loop-work.runs.items c.in-Ok.run' c.loop-work.invariant.runs
           (full_run script board (vec_len c.loop-work.desks + 0) work c.in-Ok.run' good c.in-Ok.is) k run (rw (← c.in_ok-push-2.ensures.items) at);
+      places = λ k run at. each_snoc (λ j x. IsPlacedRun x) c.loop-work.runs.items c.in-Ok.run' c.loop-work.invariant.places
+          (placed_run work c.in-Ok.run' c.in-Ok.is) k run (rw (← c.in_ok-push-2.ensures.items) at);
     }

@@ -3,7 +3,7 @@ use Rattle.std.specs.Vec.Iter.{into_iter_items, into_iter_len}
 use Rattle.pfair_board.specs.declared.worked.Worked.{Worked}
 use Rattle.pfair_board.specs.declared.run.Run.{Run}
 use Rattle.pfair_board.specs.Desks.{DeskView}
-use Rattle.pfair_board.specs.Finish.{IsGood, IsFullDesk, IsFullRun}
+use Rattle.pfair_board.specs.Finish.{IsGood, IsFullDesk, IsFullRun, IsPlacedRun}
 use Rattle.pfair_board.proofs.dispatchers.hand_back.Given as goal
 
 -- what was taken apart is full, and what is left is good
@@ -16,4 +16,5 @@ invariant-loop-work l =
       good : (k : ℕ) (w : Worked) → slice_get (into_iter_items rest) k ≡ Some w → IsGood l.fn.script l.fn.board (done + k) w;
       desks : (k : ℕ) (d : DeskView) → slice_get l.desks.items k ≡ Some d → IsFullDesk l.fn.script l.fn.board k d;
       runs : (k : ℕ) (run : Run) → slice_get l.runs.items k ≡ Some run → IsFullRun l.fn.script run;
+      places : (k : ℕ) (run : Run) → slice_get l.runs.items k ≡ Some run → IsPlacedRun run;
     }

@@ -7,6 +7,7 @@ abbrev pub invariant-loop : goal.invariant-loop
 invariant-loop g l = record {
   own : IsDeskOf l.desk l.board;
   grown : GrownDesk l.fn.desk l.desk;
+  next : l.desk.next_number ≡ l.fn.desk.next_number;
   settings : l.dispatcher.settings ≡ l.fn.dispatcher.settings;
   behind : IsBehind l.dispatcher l.desk;
 }

@@ -1,0 +1,27 @@
+-- With which fault a run ends, where several apply.
+use Rattle.std.specs.Prelude.{ℕ, ◌≡◌, ◌<◌, ◌≤◌, List, Option, Some, None, Err, IsOk, slice_get}
+use Rattle.pfair_replica.specs.HeldRows.{replica_of}
+use Rattle.pfair_replica.specs.Replica.{Replica, Below, frontier}
+use Rattle.pfair_board.specs.declared.worked.Worked.{Worked}
+use Rattle.pfair_board.specs.declared.run.RunFault.{RunFault}
+use Rattle.pfair_board.specs.declared.run.RunFault.TheVariants.{Memory, GateGaveUp, Astray, Stalled}
+
+-- some worker ends in this fault
+abbrev pub SomeEndsIn : List Worked → RunFault → Type 0
+SomeEndsIn ws f = (k : ℕ) × (w : Worked) × (slice_get ws k ≡ Some w) × (w.run ≡ Err f)
+
+-- the worker has tables, and holds what this replica holds
+abbrev pub Holds : Worked → Replica → Type 0
+Holds w x = IsOk w.run × Below (replica_of w.desk.replica) x × Below x (replica_of w.desk.replica)
+
+-- each worker does
+abbrev pub AllHold : List Worked → Replica → Type 0
+AllHold ws x = (k : ℕ) (w : Worked) → slice_get ws k ≡ Some w → Holds w x
+
+-- the first that applies: want of memory, a gate that gave up, a worker astray, and logs that end before the slots do
+abbrev pub IsFirstFault : List Worked → Replica → (slots : ℕ) → Option RunFault → Type 0
+IsFirstFault ws x slots (Some Memory) = SomeEndsIn ws Memory
+IsFirstFault ws x slots (Some GateGaveUp) = ¬ (SomeEndsIn ws Memory) × SomeEndsIn ws GateGaveUp
+IsFirstFault ws x slots (Some Astray) = ¬ (SomeEndsIn ws Memory) × ¬ (SomeEndsIn ws GateGaveUp) × ¬ (AllHold ws x)
+IsFirstFault ws x slots (Some (Stalled slot)) = AllHold ws x × (slot ≡ frontier x) × (slot < slots)
+IsFirstFault ws x slots None = AllHold ws x × (slots ≤ frontier x)
