@@ -1,18 +1,22 @@
 -- What is known of the text of a dispatcher that ran a file's script is known of the output of the file.
-use Rattle.std.proofs.Common.{ℕ, ◌≤◌, List, Option, None, Some, Result, Ok, Err, OnOk, OnErr, ◌≡◌, refl, ap, ◌∙◌, subst, map}
-use Rattle.std.specs.Prelude.{IfSome, min}
+use Rattle.std.proofs.Common.{ℕ, List, Option, None, Some, Result, Ok, Err, OnOk, OnErr, ◌≡◌, refl, sym, ap, ◌∙◌, subst, map}
+use Rattle.std.specs.Prelude.{IfSome, IfErr, IsErrAnd, min}
+use Rattle.pfair.specs.declared.fault.ProgramFault.{ProgramFault}
+use Rattle.pfair.specs.declared.fault.ProgramFault.TheVariants.{Memory, WriteFailed}
 use Rattle.pfair_replica.specs.Replica.{Replica, frontier, numbers_below}
 use Rattle.pfair_replica.specs.HeldRows.{replica_of}
-use Rattle.pfair_table.specs.Table.{Settings, decisions, plan}
+use Rattle.pfair_table.specs.Table.{Settings, decisions}
 use Rattle.pfair_table.specs.declared.pick.Decided.{Decided}
 use Rattle.pfair_table.specs.Script.{LoggedRun}
 use Rattle.pfair_table.specs.ScriptRun.{IsRunOf}
 use Rattle.pfair_table.specs.Refinement.{Dispatch}
-use Rattle.pfair_output.specs.Replay.{replay_text}
+use Rattle.pfair_board.specs.declared.run.Run.{Run}
+use Rattle.pfair_table.specs.Planned.{place_rows, rows}
+use Rattle.pfair_output.specs.Replay.{placed_replay_text, placed_text, replay_text}
 use Rattle.pfair_output.specs.Decisions.{decisions_text}
 use Rattle.pfair_output.specs.Lags.{lags_text}
 use Rattle.pfair_file.specs.Documents.{script_of_file}
-use Rattle.pfair.specs.Runs.{IsOutputOf, replica_of_run, replay_of_run, decisions_of_run, lags_of_run}
+use Rattle.pfair.specs.Runs.{IsOutputOf, IsRefusalOf, IsWholeRun, replay_of_run, placed_replay_of_run, decisions_of_run, lags_of_run}
 
 -- the bytes are known to hold a script that the dispatcher has run
 abbrev pub HasRun : Option (List ℕ) → Dispatch → Type 0
@@ -29,9 +33,6 @@ output_of text (Some bytes) d made P (run, read, is) same p = (run, read, is.far
 
 both : {A : Type 0} → (f : Settings → Replica → A) → {s s′ : Settings} → {x x′ : Replica} → s ≡ s′ → x ≡ x′ → f s x ≡ f s′ x′
 both f same equal = rw (same, equal) refl
-
-pub replay_made : (d : Dispatch) → IsTextOf replay_of_run d (replay_text d.tables)
-replay_made d run is = ap replay_text is.whole.tables_are ∙ both (λ s x. replay_text (plan s x)) is.settings_are is.held_is
 
 -- the decisions of all slots that are planned of what is held
 abbrev pub decided_of : Settings → Replica → List (List Decided)
@@ -52,8 +53,30 @@ pub on_err : {T E : Type 0} {A B : Type 0} → (r : Result T E) → (e : E) → 
 on_err (Ok x) e f a same = cc same
 on_err (Err x) e f a same = f a
 
--- the same of a script whose frontier is known, and of the text of its tables
-pub output_of_script : (text : LoggedRun → List ℕ) (o : Option (List ℕ)) (run : LoggedRun) (made : List ℕ) (P : List ℕ → Type 0)
-    → IfSome o (λ bytes. script_of_file bytes ≡ Ok run) → run.settings.slots ≤ frontier (replica_of_run run) → made ≡ text run → P made → IfSome o (λ bytes. IsOutputOf text bytes P)
-output_of_script text None run made P read far same p = tt
-output_of_script text (Some bytes) run made P read far same p = (run, read, far, subst P same p)
+-- the bytes are known to hold a script of which this is a dispatcher's run
+abbrev pub HasWholeRun : Option (List ℕ) → Run → Type 0
+HasWholeRun o made = IfSome o (λ bytes. (run : LoggedRun) × (script_of_file bytes ≡ Ok run) × IsWholeRun run made)
+
+-- what is known of the text of a dispatcher's run is known of the output of the file
+pub output_of_whole : (text : LoggedRun → List ℕ) (o : Option (List ℕ)) (made : Run) (bytes : List ℕ) (P : List ℕ → Type 0)
+    → HasWholeRun o made → ((run : LoggedRun) → IsWholeRun run made → bytes ≡ text run) → P bytes → IfSome o (λ given. IsOutputOf text given P)
+output_of_whole text None made bytes P has same p = tt
+output_of_whole text (Some given) made bytes P (run, read, is) same p = (run, read, is.far_enough, subst P (same run is) p)
+
+pub tables_made : (made : Run) (run : LoggedRun) → IsWholeRun run made → replay_text (rows made.tables) ≡ replay_of_run run
+tables_made made run is = ap replay_text is.tables
+
+pub places_made : (made : Run) (run : LoggedRun) → IsWholeRun run made → placed_text (rows made.tables) (place_rows made.places) ≡ placed_replay_of_run run
+places_made made run is = ap (placed_text (rows made.tables)) is.places ∙ ap placed_replay_text is.tables
+
+-- a failed write refuses nothing
+pub no_refusal : {T : Type 0} → (r : Result T ProgramFault) → (o : Option (List ℕ)) → IfErr r (λ e. e ≡ WriteFailed) → IfErr r (λ e. IfSome o (λ bytes. IsRefusalOf bytes e))
+no_refusal (Ok x) o is = tt
+no_refusal (Err e) None is = tt
+no_refusal (Err e) (Some bytes) is = subst (IsRefusalOf bytes) (sym is) tt
+
+-- nor does want of memory
+pub memory_refuses_nothing : {T : Type 0} → (r : Result T ProgramFault) → (o : Option (List ℕ)) → IsErrAnd r (λ e. e ≡ Memory) → IfErr r (λ e. IfSome o (λ bytes. IsRefusalOf bytes e))
+memory_refuses_nothing (Ok x) o is = tt
+memory_refuses_nothing (Err e) None is = tt
+memory_refuses_nothing (Err e) (Some bytes) is = subst (IsRefusalOf bytes) (sym is) tt

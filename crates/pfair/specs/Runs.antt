@@ -1,14 +1,19 @@
 -- What a command writes of a task file, and why it refuses one.
-use Rattle.std.specs.Prelude.{ℕ, Bool, true, List, map, min, ◌≡◌, ◌<◌, ◌≤◌, Ok, Err}
+use Rattle.std.specs.Prelude.{ℕ, Bool, true, List, map, min, ◌≡◌, ◌≢◌, ◌<◌, ◌≤◌, ◌⊎◌, Option, Result, Ok, Err, IfErr, IfSome, IsErrOf, OnOk}
+use Rattle.std.specs.Io.KnownBytes.{Appends, Keeps}
+use Rattle.pfair_text.specs.Input.{HasTaken}
+use Rattle.pfair_text.specs.Output.{TakesPrefix}
 use Rattle.pfair_replica.specs.Replica.{Replica, frontier, numbers_below}
 use Rattle.pfair_table.specs.Table.{decisions, plan}
 use Rattle.pfair_table.specs.Script.{LoggedRun, replica_of_logs}
-use Rattle.pfair_output.specs.Replay.{replay_text}
+use Rattle.pfair_board.specs.declared.run.Run.{Run}
+use Rattle.pfair_board.specs.Finish.{IsFullRun, IsPlacedRun}
+use Rattle.pfair_output.specs.Replay.{placed_replay_text, replay_text}
 use Rattle.pfair_output.specs.Decisions.{decisions_text}
 use Rattle.pfair_output.specs.Lags.{lags_text}
 use Rattle.pfair_file.specs.Documents.{script_of_file}
 use Rattle.pfair.specs.declared.fault.ProgramFault.{ProgramFault}
-use Rattle.pfair.specs.declared.fault.ProgramFault.TheVariants.{Stalled, GateGaveUp, Astray, File, FileTooLong, ReadFailed, Memory}
+use Rattle.pfair.specs.declared.fault.ProgramFault.TheVariants.{Stalled, GateGaveUp, Astray, File, FileTooLong, ReadFailed, WriteFailed, Memory}
 
 -- the replica of all that a script says
 abbrev pub replica_of_run : LoggedRun → Replica
@@ -17,6 +22,10 @@ replica_of_run run = replica_of_logs run.logs
 -- the tables of a script, as rows
 abbrev pub replay_of_run : LoggedRun → List ℕ
 replay_of_run run = replay_text (plan run.settings (replica_of_run run))
+
+-- the tables of a script as rows, each with its place
+abbrev pub placed_replay_of_run : LoggedRun → List ℕ
+placed_replay_of_run run = placed_replay_text (plan run.settings (replica_of_run run))
 
 -- the decisions of a script, as rows
 abbrev pub decisions_of_run : LoggedRun → List ℕ
@@ -62,3 +71,21 @@ abbrev pub IsFaultOfReplay : Bool → ProgramFault → Type 0
 IsFaultOfReplay may_give_up GateGaveUp = may_give_up ≡ true
 IsFaultOfReplay may_give_up Astray = Unit {0}
 IsFaultOfReplay may_give_up fault = IsFaultOfRun fault
+
+-- the tables and places of a dispatcher that has planned all slots of a script
+pub record IsWholeRun (run : LoggedRun) (made : Run) : Type 0 where
+  pub far_enough : run.settings.slots ≤ frontier (replica_of_run run)
+  pub tables : IsFullRun run made
+  pub places : IsPlacedRun made
+
+-- A replay that writes such a text of a file's script, by the bytes that the reader has to give before it and after it, and by those that
+-- the writer holds. It ends well where the writer has taken the text, and with a fault of the writer where it has taken a prefix
+-- of it; with any other fault nothing was written, and the fault is one that the file, the reader, the run or memory gives cause for.
+pub record IsReplayOf {T : Type 0} (text : LoggedRun → List ℕ) (may_give_up : Bool) (result : Result T ProgramFault) (given left before after : Option (List ℕ)) : Type 0 where
+  pub ok : OnOk result (IfSome given (λ bytes. IsOutputOf text bytes (Appends before after)))
+  pub refused : IfErr result (λ e. IfSome given (λ bytes. IsRefusalOf bytes e))
+  pub long : IsErrOf result FileTooLong → HasTaken given left (λ n. n ≡ 67108865)
+  pub unread : IsErrOf result ReadFailed → HasTaken given left (λ n. n ≤ 67108864)
+  pub nothing : IfErr result (λ e. e ≢ WriteFailed → Keeps before after)
+  pub cut : IsErrOf result WriteFailed → IfSome given (λ bytes. IsOutputOf text bytes (TakesPrefix before after))
+  pub only : IfErr result (λ e. IsFaultOfReplay may_give_up e ⊎ (e ≡ WriteFailed))

@@ -2,9 +2,11 @@
 #![tactic(auto)]
 
 mod decisions;
+mod dispatchers;
 mod fault;
 mod lags;
 mod replay;
+mod replay_placed;
 #[cfg(test)]
 mod run_tests;
 mod schedule;
@@ -19,6 +21,7 @@ use lags::lags;
 use pfair_board::OpenGate;
 use pfair_words::Asked;
 use replay::replay;
+use replay_placed::replay_placed;
 use schedule::send_text;
 use std::fs::File;
 use std::io;
@@ -41,13 +44,14 @@ fn run<P: Threads + Wait + Sync>(rt: &HostRuntime, threads: &P) -> Result<(), Pr
     let mut out = rt.stdout();
     match read_words(rt.alloc(), words.as_slice())? {
         Asked::Windows { weight, count } => windows(rt.alloc(), weight, count, &mut out),
-        Asked::Replay { file } => replay(
-            threads,
-            rt.alloc(),
-            &mut opened(rt, &file)?,
-            &mut out,
-            &OpenGate,
-        ),
+        Asked::Replay { file, affinity } => {
+            let mut reader = opened(rt, &file)?;
+            if affinity {
+                replay_placed(threads, rt.alloc(), &mut reader, &mut out, &OpenGate)
+            } else {
+                replay(threads, rt.alloc(), &mut reader, &mut out, &OpenGate)
+            }
+        }
         Asked::Decisions { file } => decisions(rt.alloc(), &mut opened(rt, &file)?, &mut out),
         Asked::Lags { file } => lags(rt.alloc(), &mut opened(rt, &file)?, &mut out),
         Asked::Help { text } => send_text(&mut out, text.as_bytes()),

@@ -1,19 +1,17 @@
 //! The command `replay`: the tables of a task file, worked out by a dispatcher for each processor in a thread of its own.
 
-ghost use Rattle.std.specs.Prelude.{◌≡◌, ◌≢◌, ◌≤◌, ◌⊎◌, IfErr, IfOk, IfSome, IsErrOf, OnOk};
+ghost use Rattle.std.specs.Prelude.{◌≡◌, ◌≢◌, ◌≤◌, ◌⊎◌, IfErr, IfSome, IsErrOf, OnOk};
 ghost use Rattle.std.specs.Io.KnownBytes.{Appends, Keeps};
 ghost use Rattle.pfair_text.specs.Input.{HasTaken};
 ghost use Rattle.pfair_text.specs.Output.{TakesPrefix};
-ghost use Rattle.pfair_board.specs.Finish.{IsFinished};
-ghost use Rattle.pfair.specs.Runs.{IsFaultOfReplay, IsOutputOf, IsRefusalOf, IsRunRefusal, replay_of_run};
+ghost use Rattle.pfair.specs.Runs.{IsFaultOfReplay, IsOutputOf, IsRefusalOf, replay_of_run};
 ghost use Rattle.pfair.specs.declared.fault.ProgramFault.TheVariants.{FileTooLong, ReadFailed, WriteFailed};
 
+use crate::dispatchers::first_run;
 use crate::fault::ProgramFault;
-use crate::schedule::{read_script, send_text};
-use pfair_board::{Finished, Gate, RunFault, run_dispatchers};
+use crate::schedule::send_text;
+use pfair_board::Gate;
 use pfair_output::replay_of;
-use pfair_ready::HeapReady;
-use pfair_table::Script;
 use std::alloc::Global;
 use std::io::{Read, Write};
 use std::sync::Wait;
@@ -49,32 +47,7 @@ pub fn replay<P: Threads + Wait + Sync, R: Read, W: Write, G: Gate + Sync>(
     ensures cut { IsErrOf result WriteFailed → IfSome (R.remaining reader.old) (λ bytes. IsOutputOf replay_of_run bytes (TakesPrefix (W.contents writer.old) (W.contents writer.new))) }
     ensures only { IfErr result (λ e. IsFaultOfReplay G.may_give_up e ⊎ (e ≡ WriteFailed)) }
 {
-    let script = read_script(alloc, reader)?;
-    // settings have a processor, so that there is a run
-    let _processors = script.settings().processors();
-    let finished = finish(rt, alloc, &script, gate)?;
-    let Some(run) = finished.runs.first() else {
-        unreachable!()
-    };
+    let run = first_run(rt, alloc, reader, gate)?;
     let text = replay_of(alloc, run.tables.as_slice())?;
     send_text(writer, text.as_slice())
-}
-
-// The runs of a script's dispatchers.
-fn finish<P: Threads + Wait + Sync, G: Gate + Sync>(
-    rt: &P,
-    alloc: Global,
-    script: &Script,
-    gate: &G,
-) -> Result<Finished, ProgramFault>
-    ensures ok { IfOk result (λ f. IsFinished script.now f.board f.desks.items f.runs.items) }
-    ensures fault { IfErr result (IsRunRefusal G.may_give_up script.now) }
-{
-    match run_dispatchers::<P, HeapReady, G>(rt, alloc, script, gate) {
-        Ok(finished) => Ok(finished),
-        Err(RunFault::Memory) => Err(ProgramFault::Memory),
-        Err(RunFault::GateGaveUp) => Err(ProgramFault::GateGaveUp),
-        Err(RunFault::Astray) => Err(ProgramFault::Astray),
-        Err(RunFault::Stalled { slot }) => Err(ProgramFault::Stalled { slot }),
-    }
 }

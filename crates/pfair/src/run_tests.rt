@@ -5,11 +5,14 @@ use crate::decisions::decisions;
 use crate::fault::{ProgramFault, write_fault};
 use crate::lags::lags;
 use crate::replay::replay;
+use crate::replay_placed::replay_placed;
 use pfair_board::{Gate, OpenGate};
+use std::alloc::Global;
 use std::io::{Read, Write};
 use std::sync::Wait;
 use std::sync::atomic::{AtomicU64, Ordering};
 use std::test::Fail;
+use std::thread::Threads;
 use std::{io, thread};
 
 const SAMPLE: &str = "version = 1\nprocessors = 2\nframe = 6\nslots = 6\n
@@ -26,6 +29,20 @@ const SAMPLE: &str = "version = 1\nprocessors = 2\nframe = 6\nslots = 6\n
 
 const TABLES: &str =
     "slot,processor,task,index\n0,0,b,1\n0,1,a,1\n1,0,b,2\n1,1,c,1\n3,0,b,3\n3,1,d,1\n4,0,c,2\n5,0,d,2\n";
+
+const PLACED: &str =
+    "slot,processor,task,index,place\n0,0,b,1,0\n0,1,a,1,1\n1,0,b,2,0\n1,1,c,1,1\n3,0,b,3,0\n3,1,d,1,1\n4,0,c,2,0\n5,0,d,2,0\n";
+
+// Three tasks of two thirds each on two processors.
+const TWO_THIRDS: &str = "version = 1\nprocessors = 2\nframe = 3\nslots = 3\n
+[[entry]]\nprocessor = 0\nfloor = 0\nkind = \"arrive\"\nat = 0\nname = \"a\"\ncost = 2\nperiod = 3\n
+[[entry]]\nprocessor = 0\nfloor = 0\nkind = \"arrive\"\nat = 0\nname = \"b\"\ncost = 2\nperiod = 3\n
+[[entry]]\nprocessor = 0\nfloor = 0\nkind = \"arrive\"\nat = 0\nname = \"c\"\ncost = 2\nperiod = 3\n
+[[entry]]\nprocessor = 0\nfloor = 3\n
+[[entry]]\nprocessor = 1\nfloor = 3\n";
+
+const TWO_THIRDS_PLACED: &str =
+    "slot,processor,task,index,place\n0,0,a,1,0\n0,1,b,1,1\n1,0,c,1,1\n1,1,a,2,0\n2,0,b,2,0\n2,1,c,2,1\n";
 
 const DECISIONS: &str =
     "slot,processor,number,task,outcome,value\n0,0,1,a,admitted,-\n0,0,2,b,admitted,-\n0,1,1,c,admitted,-\n2,0,3,a,departing,3\n3,1,2,d,admitted,-\n4,1,3,b,delayed,-\n";
@@ -54,12 +71,32 @@ impl Read for PieceReader {
     }
 }
 
-// The sample file, given whole.
-fn sample() -> PieceReader {
+// A file, given whole.
+fn whole(file: &'static str) -> PieceReader {
     PieceReader {
-        left: SAMPLE.as_bytes(),
+        left: file.as_bytes(),
         at_once: usize::MAX,
         calls: usize::MAX,
+    }
+}
+
+// The sample file, given whole.
+fn sample() -> PieceReader {
+    whole(SAMPLE)
+}
+
+// The replay of the sample file, with places or without.
+fn replay_sample<P: Threads + Wait + Sync, W: Write, G: Gate + Sync>(
+    rt: &P,
+    alloc: Global,
+    affinity: bool,
+    writer: &mut W,
+    gate: &G,
+) -> Result<(), ProgramFault> {
+    if affinity {
+        replay_placed(rt, alloc, &mut sample(), writer, gate)
+    } else {
+        replay(rt, alloc, &mut sample(), writer, gate)
     }
 }
 
@@ -69,11 +106,35 @@ fn the_sample_file_gives_its_rows(rt: HostRuntime) -> Result<(), Fail> {
     assert!(rt; replay(&rt, rt.alloc(), &mut sample(), &mut text, &OpenGate).is_ok());
     assert_eq!(rt; text.as_slice(), TABLES.as_bytes());
     let mut text = Vec::new(rt.alloc());
+    assert!(rt; replay_placed(&rt, rt.alloc(), &mut sample(), &mut text, &OpenGate).is_ok());
+    assert_eq!(rt; text.as_slice(), PLACED.as_bytes());
+    let mut text = Vec::new(rt.alloc());
     assert!(rt; decisions(rt.alloc(), &mut sample(), &mut text).is_ok());
     assert_eq!(rt; text.as_slice(), DECISIONS.as_bytes());
     let mut text = Vec::new(rt.alloc());
     assert!(rt; lags(rt.alloc(), &mut sample(), &mut text).is_ok());
     assert_eq!(rt; text.as_slice(), LAGS.as_bytes());
+    Ok(())
+}
+
+#[test]
+fn a_task_stays_where_it_ran_in_the_slot_before(rt: HostRuntime) -> Result<(), Fail> {
+    let mut text = Vec::new(rt.alloc());
+    let mut reader = whole(TWO_THIRDS);
+    assert!(rt; replay_placed(&rt, rt.alloc(), &mut reader, &mut text, &OpenGate).is_ok());
+    assert_eq!(rt; text.as_slice(), TWO_THIRDS_PLACED.as_bytes());
+    Ok(())
+}
+
+#[test]
+fn no_task_on_64_processors(rt: HostRuntime) -> Result<(), Fail> {
+    let mut text = Vec::new(rt.alloc());
+    let mut reader = whole("version = 1\nprocessors = 64\nframe = 1\nslots = 2\n");
+    assert!(rt; replay_placed(&rt, rt.alloc(), &mut reader, &mut text, &OpenGate).is_ok());
+    assert_eq!(rt;
+        text.as_slice(),
+        b"slot,processor,task,index,place\n".as_slice()
+    );
     Ok(())
 }
 
@@ -141,24 +202,24 @@ impl Write for PieceWriter {
 
 #[test]
 fn a_writer_that_fails_at_each_call(rt: HostRuntime) -> Result<(), Fail> {
-    let whole = TABLES.as_bytes();
-    let pieces = whole.len().div_ceil(10);
-    for calls in 0..pieces {
-        for fails in [false, true] {
-            let mut writer = PieceWriter {
-                taken: Vec::new(rt.alloc()),
-                at_once: 10,
-                calls,
-                fails,
-            };
-            let fault = replay(&rt, rt.alloc(), &mut sample(), &mut writer, &OpenGate)
-                .err()
-                .expect(&rt, "a fault");
-            let mut line = Vec::new(rt.alloc());
-            assert_eq!(rt; write_fault(&fault, &mut line), 5);
-            assert_eq!(rt; line.as_slice(), b"pfair: 71 writing failed\n".as_slice());
-            assert_eq!(rt; writer.taken.len(), calls * 10);
-            assert!(rt; whole.starts_with(writer.taken.as_slice()));
+    for (affinity, rows) in [(false, TABLES), (true, PLACED)] {
+        for calls in 0..rows.len().div_ceil(10) {
+            for fails in [false, true] {
+                let mut writer = PieceWriter {
+                    taken: Vec::new(rt.alloc()),
+                    at_once: 10,
+                    calls,
+                    fails,
+                };
+                let fault = replay_sample(&rt, rt.alloc(), affinity, &mut writer, &OpenGate)
+                    .err()
+                    .expect(&rt, "a fault");
+                let mut line = Vec::new(rt.alloc());
+                assert_eq!(rt; write_fault(&fault, &mut line), 5);
+                assert_eq!(rt; line.as_slice(), b"pfair: 71 writing failed\n".as_slice());
+                assert_eq!(rt; writer.taken.len(), calls.saturating_mul(10));
+                assert!(rt; rows.as_bytes().starts_with(writer.taken.as_slice()));
+            }
         }
     }
     Ok(())
@@ -231,15 +292,17 @@ impl Gate for Meeting {
 
 #[test]
 fn two_workers_that_wait_for_each_other(rt: HostRuntime) -> Result<(), Fail> {
-    let gate = Meeting {
-        first: AtomicU64::new(0),
-        second: AtomicU64::new(0),
-    };
-    let mut text = Vec::new(rt.alloc());
-    assert!(rt; replay(&rt, rt.alloc(), &mut sample(), &mut text, &gate).is_ok());
-    assert_eq!(rt; text.as_slice(), TABLES.as_bytes());
-    assert_eq!(rt; gate.first.load(Ordering::SeqCst), 6);
-    assert_eq!(rt; gate.second.load(Ordering::SeqCst), 6);
+    for (affinity, rows) in [(false, TABLES), (true, PLACED)] {
+        let gate = Meeting {
+            first: AtomicU64::new(0),
+            second: AtomicU64::new(0),
+        };
+        let mut text = Vec::new(rt.alloc());
+        assert!(rt; replay_sample(&rt, rt.alloc(), affinity, &mut text, &gate).is_ok());
+        assert_eq!(rt; text.as_slice(), rows.as_bytes());
+        assert_eq!(rt; gate.first.load(Ordering::SeqCst), 6);
+        assert_eq!(rt; gate.second.load(Ordering::SeqCst), 6);
+    }
     Ok(())
 }
 
@@ -259,13 +322,15 @@ impl Gate for ShutGate {
 
 #[test]
 fn a_gate_that_gives_up(rt: HostRuntime) -> Result<(), Fail> {
-    let mut text = Vec::new(rt.alloc());
-    let fault = replay(&rt, rt.alloc(), &mut sample(), &mut text, &ShutGate)
-        .err()
-        .expect(&rt, "a fault");
-    let mut line = Vec::new(rt.alloc());
-    assert_eq!(rt; write_fault(&fault, &mut line), 3);
-    assert_eq!(rt; line.as_slice(), b"pfair: 53 gate gave up\n".as_slice());
-    assert!(rt; text.is_empty());
+    for affinity in [false, true] {
+        let mut text = Vec::new(rt.alloc());
+        let fault = replay_sample(&rt, rt.alloc(), affinity, &mut text, &ShutGate)
+            .err()
+            .expect(&rt, "a fault");
+        let mut line = Vec::new(rt.alloc());
+        assert_eq!(rt; write_fault(&fault, &mut line), 3);
+        assert_eq!(rt; line.as_slice(), b"pfair: 53 gate gave up\n".as_slice());
+        assert!(rt; text.is_empty());
+    }
     Ok(())
 }

@@ -70,7 +70,7 @@ fn a_writer_that_fails_after_the_header(rt: HostRuntime) -> Result<(), Fail> {
 
 #[test]
 fn words_that_are_refused(rt: HostRuntime) -> Result<(), Fail> {
-    let rows: [(&[&str], &[u8]); 8] = [
+    let rows: [(&[&str], &[u8]); 11] = [
         (&["windows", "0", "5", "1"], b"pfair: 4 zero cost\n"),
         (&["windows", "5", "3", "1"], b"pfair: 5 cost over period\n"),
         (
@@ -86,6 +86,18 @@ fn words_that_are_refused(rt: HostRuntime) -> Result<(), Fail> {
             b"pfair: 80 command line refused\n",
         ),
         (&["windows", "1", "1"], b"pfair: 80 command line refused\n"),
+        (
+            &["replay", "--affinity"],
+            b"pfair: 80 command line refused\n",
+        ),
+        (
+            &["decisions", "--affinity", "a"],
+            b"pfair: 80 command line refused\n",
+        ),
+        (
+            &["lags", "a", "--affinity"],
+            b"pfair: 80 command line refused\n",
+        ),
         (&["unknown"], b"pfair: 80 command line refused\n"),
         (&[], b"pfair: 80 command line refused\n"),
     ];
@@ -123,5 +135,31 @@ fn words_that_ask(rt: HostRuntime) -> Result<(), Fail> {
         text.as_slice(),
         b"i,r,d,b,D\n1,0,2,1,4\n2,1,3,1,4\n".as_slice()
     );
+    Ok(())
+}
+
+#[test]
+fn words_that_ask_for_places(rt: HostRuntime) -> Result<(), Fail> {
+    let rows: [(&[&str], bool); 3] = [
+        (&["replay", "a.toml"], false),
+        (&["replay", "--affinity", "a.toml"], true),
+        (&["replay", "a.toml", "--affinity"], true),
+    ];
+    for (words, expected) in rows {
+        let mut given = Vec::new(rt.alloc());
+        for word in words {
+            given.push(String::from_str(rt.alloc(), word)?)?;
+        }
+        let asked = read_words(rt.alloc(), given.as_slice())
+            .ok()
+            .expect(&rt, "a command");
+        let is_as_asked = match asked {
+            Asked::Replay { file, affinity } => {
+                affinity == expected && file.as_str() == "a.toml"
+            }
+            _ => false,
+        };
+        assert!(rt; is_as_asked);
+    }
     Ok(())
 }

@@ -1,4 +1,5 @@
 pub mod NameFacts
+pub mod PlacedFacts
 pub mod SignedFacts
 pub mod SlotFacts
 pub mod ToldFacts

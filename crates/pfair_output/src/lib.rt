@@ -9,4 +9,4 @@ mod tests;
 
 pub use decisions::decisions_of;
 pub use lags::lags_of;
-pub use replay::replay_of;
+pub use replay::{placed_replay_of, replay_of};

@@ -1,6 +1,6 @@
 //! The texts of two runs, byte for byte.
 
-use crate::{decisions_of, lags_of, replay_of};
+use crate::{decisions_of, lags_of, placed_replay_of, replay_of};
 use pfair_entry::{Announcement, Entry};
 use pfair_ready::{HeapReady, PlainReady, Ready};
 use pfair_table::{Dispatcher, Pick, Script, ScriptFault, Settings, run_script};
@@ -11,6 +11,9 @@ use std::test::Fail;
 
 const REPLAY: &str =
     "slot,processor,task,index\n0,0,b,1\n0,1,a,1\n1,0,b,2\n1,1,c,1\n3,0,b,3\n3,1,d,1\n4,0,c,2\n5,0,d,2\n";
+
+const PLACED: &str =
+    "slot,processor,task,index,place\n0,0,b,1,0\n0,1,a,1,1\n1,0,b,2,0\n1,1,c,1,1\n3,0,b,3,0\n3,1,d,1,1\n4,0,c,2,0\n5,0,d,2,0\n";
 
 const DECISIONS: &str =
     "slot,processor,number,task,outcome,value\n0,0,1,a,admitted,-\n0,0,2,b,admitted,-\n0,1,1,c,admitted,-\n2,0,3,a,departing,3\n3,1,2,d,admitted,-\n4,1,3,b,delayed,-\n";
@@ -129,7 +132,32 @@ fn copy_tables<R: Ready>(
     Ok(all)
 }
 
-/// Asserts the three texts of the script of two processors. Where memory is refused each is asked for once more.
+/// A copy of the places of all slots of a run. Where memory is refused it tries once more.
+fn places_of<R: Ready>(
+    alloc: Global,
+    dispatcher: &Dispatcher<R>,
+) -> Result<Vec<Vec<u8>>, AllocError> {
+    match copy_places(alloc, dispatcher) {
+        Ok(places) => Ok(places),
+        Err(_) => copy_places(alloc, dispatcher),
+    }
+}
+
+/// A copy of the places of all slots of a run.
+fn copy_places<R: Ready>(
+    alloc: Global,
+    dispatcher: &Dispatcher<R>,
+) -> Result<Vec<Vec<u8>>, AllocError> {
+    let mut all = Vec::new(alloc);
+    for slot in 0..dispatcher.next_slot() {
+        if let Some(places) = dispatcher.places(slot) {
+            all.push(Vec::from_slice(alloc, places)?)?;
+        }
+    }
+    Ok(all)
+}
+
+/// Asserts the four texts of the script of two processors. Where memory is refused each is asked for once more.
 fn assert_texts<R: Ready>(rt: &impl Abort, alloc: Global) -> Result<(), Fail> {
     let script = match two_logs(rt, alloc) {
         Ok(script) => script,
@@ -142,6 +170,12 @@ fn assert_texts<R: Ready>(rt: &impl Abort, alloc: Global) -> Result<(), Fail> {
         Err(_) => replay_of(alloc, tables.as_slice())?,
     };
     assert_eq!(rt; replay.as_slice(), REPLAY.as_bytes());
+    let places = places_of(alloc, &dispatcher)?;
+    let placed = match placed_replay_of(alloc, tables.as_slice(), places.as_slice()) {
+        Ok(text) => text,
+        Err(_) => placed_replay_of(alloc, tables.as_slice(), places.as_slice())?,
+    };
+    assert_eq!(rt; placed.as_slice(), PLACED.as_bytes());
     let decisions = match decisions_of(alloc, &dispatcher) {
         Ok(text) => text,
         Err(_) => decisions_of(alloc, &dispatcher)?,

@@ -1,6 +1,6 @@
 //! The commands that the program has, one level of them, and their help.
 
-use clap::{Arg, Command, value_parser};
+use clap::{Arg, ArgAction, Command, value_parser};
 use std::alloc::{AllocError, Global};
 
 const ABOUT: &str =
@@ -12,13 +12,16 @@ const WINDOWS_ABOUT: &str =
 const REPLAY_ABOUT: &str =
     "Prints the schedule of a task file, one row for each quantum: slot, processor, task, index of the subtask";
 
+const AFFINITY_HELP: &str =
+    "End each row with its place: the processor that runs it, where a task that ran in the slot before stays on its processor and each other row takes the least one left. It doesn't promise that tasks seldom change processors";
+
 const DECISIONS_ABOUT: &str =
     "Prints the admission decisions of a task file, one row for each announcement: slot, processor, number of the entry, task, outcome, value";
 
 const LAGS_ABOUT: &str =
     "Prints the lags of a task file, one row for each time and task: time, task, numerator, period";
 
-const REPLAY_USAGE: &str = "pfair replay <FILE>";
+const REPLAY_USAGE: &str = "pfair replay [--affinity] <FILE>";
 
 const DECISIONS_USAGE: &str = "pfair decisions <FILE>";
 
@@ -42,9 +45,17 @@ pub(crate) fn command<'a>(alloc: Global) -> Result<Command<'a>, AllocError> {
         .subcommand_required(true)
         .disable_help_subcommand(true)
         .subcommand(windows(alloc)?)?
-        .subcommand(over_file(alloc, "replay", REPLAY_ABOUT, REPLAY_USAGE)?)?
+        .subcommand(replay(alloc)?)?
         .subcommand(over_file(alloc, "decisions", DECISIONS_ABOUT, DECISIONS_USAGE)?)?
         .subcommand(over_file(alloc, "lags", LAGS_ABOUT, LAGS_USAGE)?)
+}
+
+fn replay<'a>(alloc: Global) -> Result<Command<'a>, AllocError> {
+    let affinity = Arg::new(alloc, "affinity")
+        .long("affinity")
+        .help(AFFINITY_HELP)
+        .action(ArgAction::SetTrue);
+    over_file(alloc, "replay", REPLAY_ABOUT, REPLAY_USAGE)?.arg(affinity)
 }
 
 // A command over a task file.

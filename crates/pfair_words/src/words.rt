@@ -1,7 +1,8 @@
 //! Reading the words.
 
-ghost use Rattle.std.specs.Prelude.{◌≡◌, IfOk};
-ghost use Rattle.pfair_words.specs.Asked.{HasCount};
+ghost use Rattle.std.specs.Prelude.{◌≡◌, IfOk, codes};
+ghost use Rattle.clap.specs.Matches.{found_of, one_text};
+ghost use Rattle.pfair_words.specs.Asked.{HasCount, IsReplayByFlag};
 ghost use Rattle.pfair_words.specs.declared.words.WordsFault.TheVariants.{Memory};
 
 use crate::command::command;
@@ -15,8 +16,8 @@ use std::alloc::{AllocError, Global};
 pub enum Asked {
     /// The windows of the first `count` subtasks of a weight, at most 1,000,000.
     Windows { weight: Weight, count: u64 },
-    /// The tables of a task file.
-    Replay { file: String },
+    /// The tables of a task file, and with `affinity` the place of each row.
+    Replay { file: String, affinity: bool },
     /// The admission decisions of a task file.
     Decisions { file: String },
     /// The lags of a task file.
@@ -64,9 +65,7 @@ fn read_matches(alloc: Global, matches: &ArgMatches<'_>) -> Result<Asked, WordsF
 {
     match matches.subcommand() {
         Some(("windows", words)) => read_windows(words),
-        Some(("replay", words)) => Ok(Asked::Replay {
-            file: read_file_name(alloc, words)?,
-        }),
+        Some(("replay", words)) => read_replay(alloc, words),
         Some(("decisions", words)) => Ok(Asked::Decisions {
             file: read_file_name(alloc, words)?,
         }),
@@ -92,6 +91,17 @@ fn read_windows(words: &ArgMatches<'_>) -> Result<Asked, WordsFault>
         }
         _ => Err(WordsFault::Refused),
     }
+}
+
+// The task file of a replay, and whether the flag asks for places.
+fn read_replay(alloc: Global, words: &ArgMatches<'_>) -> Result<Asked, WordsFault>
+    ensures count { IfOk result HasCount }
+    ensures flag { IfOk result (IsReplayByFlag (one_text (found_of words.now) (codes "affinity"))) }
+{
+    Ok(Asked::Replay {
+        file: read_file_name(alloc, words)?,
+        affinity: words.get_flag("affinity"),
+    })
 }
 
 // The name of the task file.

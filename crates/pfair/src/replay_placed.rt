@@ -1,0 +1,36 @@
+//! The command `replay` with places: the tables of a task file, and the processor that runs each row.
+
+ghost use Rattle.pfair.specs.Runs.{IsReplayOf, placed_replay_of_run};
+
+use crate::dispatchers::first_run;
+use crate::fault::ProgramFault;
+use crate::schedule::send_text;
+use pfair_board::Gate;
+use pfair_output::placed_replay_of;
+use std::alloc::Global;
+use std::io::{Read, Write};
+use std::sync::Wait;
+use std::thread::Threads;
+
+/// Writes the tables of the script that a reader's bytes hold, with their places: a header, and the rows of
+/// [`replay`](crate::replay::replay), each with its place at its end, the processor that runs it.
+///
+/// A task that is in the tables of two slots running stays on its processor. The other rows of a table, in row order, each
+/// take the least processor that no row keeps and none has taken. All else is as for `replay`: the dispatchers' threads,
+/// the gate, the faults, and what has then been written.
+///
+/// # Errors
+/// Those of [`replay`](crate::replay::replay).
+pub fn replay_placed<P: Threads + Wait + Sync, R: Read, W: Write, G: Gate + Sync>(
+    rt: &P,
+    alloc: Global,
+    reader: &mut R,
+    writer: &mut W,
+    gate: &G,
+) -> Result<(), ProgramFault>
+    ensures { IsReplayOf placed_replay_of_run G.may_give_up result (R.remaining reader.old) (R.remaining reader.new) (W.contents writer.old) (W.contents writer.new) }
+{
+    let run = first_run(rt, alloc, reader, gate)?;
+    let text = placed_replay_of(alloc, run.tables.as_slice(), run.places.as_slice())?;
+    send_text(writer, text.as_slice())
+}

@@ -1,0 +1,23 @@
+-- Texts that grow by one row after another, each with its place.
+use Rattle.std.proofs.Common.{ℕ, suc, ◌+◌, ◌<◌, ◌≡◌, sym, ap, ◌∙◌, arith, List, ◌++◌, Some, length, drop, slice_get, append_assoc}
+use Rattle.std.proofs.lemmas.Option.{same_Some}
+use Rattle.pfair_text.specs.Rows.{line, lines_text}
+use Rattle.pfair_table.specs.declared.pick.Pick.{Pick}
+use Rattle.pfair_table.specs.Table.{Table}
+use Rattle.pfair_output.specs.Replay.{placed_row, placed_rows_from}
+use Rattle.pfair_output.proofs.SlotFacts.{first_left}
+
+-- one row more
+pub row_more : (places : List ℕ) (slot : ℕ) (table : Table) (row : ℕ) (pick : Pick) (before after : List ℕ) → row < length table → slice_get table row ≡ Some pick
+    → after ≡ before ++ line (placed_row slot row pick (slice_get places row))
+    → after ++ lines_text (placed_rows_from places slot (row + 1) (drop (row + 1) table)) ≡ before ++ lines_text (placed_rows_from places slot row (drop row table))
+row_more places slot table row pick before after inside here grown =
+    let t = first_left table row inside in
+    let same : t.0 ≡ pick = same_Some _ _ (sym t.1 ∙ here) in
+    let left : Table = drop (row + 1) table in
+    let next : row + 1 ≡ suc row = omega arith in
+    ap (λ text. text ++ lines_text (placed_rows_from places slot (row + 1) left)) grown
+    ∙ append_assoc before (line (placed_row slot row pick (slice_get places row))) (lines_text (placed_rows_from places slot (row + 1) left))
+    ∙ ap (λ (n : ℕ). before ++ (line (placed_row slot row pick (slice_get places row)) ++ lines_text (placed_rows_from places slot n left))) next
+    ∙ ap (λ (p : Pick). before ++ (line (placed_row slot row p (slice_get places row)) ++ lines_text (placed_rows_from places slot (suc row) left))) (sym same)
+    ∙ ap (λ rows. before ++ lines_text (placed_rows_from places slot row rows)) (sym t.2)
