@@ -15,6 +15,9 @@ pub(crate) const TABLES: [&[(u8, u64)]; 6] = [
     &[(b'd', 2)],
 ];
 
+/// The places of each of the six slots.
+const PLACES: [&[u8]; 6] = [&[0, 1], &[0, 1], &[], &[0, 1], &[0], &[0]];
+
 /// The name of one letter.
 pub(crate) fn name(letter: u8) -> Option<TaskName> {
     TaskName::from_bytes(&[letter]).ok()
@@ -56,7 +59,7 @@ pub(crate) fn ten() -> Option<[(u8, u32, Entry); 10]> {
     ])
 }
 
-/// Whether just the first so many slots are planned, as they should be.
+/// Whether just the first so many slots are planned, as they should be, and each row has its place.
 pub(crate) fn is_planned<R: Ready>(dispatcher: &Dispatcher<R>, slots: u64) -> bool {
     if dispatcher.next_slot() != slots {
         return false;
@@ -65,7 +68,9 @@ pub(crate) fn is_planned<R: Ready>(dispatcher: &Dispatcher<R>, slots: u64) -> bo
         let (Some(table), Some(known)) = (dispatcher.table(slot), TABLES.get(slot as usize)) else {
             return false;
         };
-        if table.len() != known.len() {
+        if table.len() != known.len()
+            || dispatcher.places(slot) != PLACES.get(slot as usize).copied()
+        {
             return false;
         }
         for (pick, (letter, index)) in table.iter().zip(known.iter()) {

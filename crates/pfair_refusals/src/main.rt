@@ -24,7 +24,7 @@ use std::process::ExitCode;
 type Look = Result<bool, AllocError>;
 
 fn main(rt: HostRuntime) -> ExitCode {
-    let looks: [(&str, Look); 43] = [
+    let looks: [(&str, Look); 44] = [
         (
             "join of maps three deep",
             lattice::join_three_deep(rt.alloc()),
@@ -56,6 +56,10 @@ fn main(rt: HostRuntime) -> ExitCode {
         ),
         ("take of a replica", replica::take(rt.alloc())),
         ("merge of two halves", replica::merge(rt.alloc())),
+        (
+            "merge that tears and fills a gap",
+            replica::merge_torn(rt.alloc()),
+        ),
         ("copy of a replica", replica::copy(rt.alloc())),
         ("faults of a replica", replica::faults(rt.alloc())),
         ("what is said at a slot", replica::said(rt.alloc())),

@@ -3,7 +3,7 @@
 use crate::Look;
 use crate::entries::{quiet, ten};
 use pfair_lattice::Flat;
-use pfair_replica::{MergeFault, Replica, TakeFault, Taken};
+use pfair_replica::{EntryKey, MergeFault, Replica, TakeFault, Taken};
 use std::alloc::{AllocError, Global};
 
 /// A replica that holds those of the ten entries whose numbers are odd, or even, or all of them.
@@ -23,6 +23,46 @@ pub(crate) fn are_equal(left: &Replica, right: &Replica) -> bool {
     left.le(right) && right.le(left)
 }
 
+/// Whether the lengths of the sound beginnings, the marks, the frontier and the first torn key are those of a scan.
+pub(crate) fn are_counted(replica: &Replica) -> bool {
+    let mut frontier = u64::MAX;
+    let mut torn = None;
+    for processor in 0..replica.processors() {
+        let (count, mark) = scanned(replica, processor);
+        if replica.sound_count(processor) != count || replica.mark(processor) != mark {
+            return false;
+        }
+        frontier = frontier.min(mark);
+        torn = torn.or(first_torn_in(replica, processor));
+    }
+    replica.frontier() == frontier && replica.first_torn() == torn
+}
+
+// How many entries a processor's sound beginning has, and its last floor.
+fn scanned(replica: &Replica, processor: u8) -> (u32, u64) {
+    let mut so_far = (0, 0);
+    for before in 0..replica.capacity() {
+        match replica.get(processor, before + 1) {
+            Some(Flat::One(entry)) if so_far.1 <= entry.floor() => {
+                so_far = (before + 1, entry.floor());
+            }
+            _ => return so_far,
+        }
+    }
+    so_far
+}
+
+// The first torn key of a processor.
+fn first_torn_in(replica: &Replica, processor: u8) -> Option<EntryKey> {
+    for before in 0..replica.capacity() {
+        let number = before + 1;
+        if let Some(Flat::Torn) = replica.get(processor, number) {
+            return Some(EntryKey { processor, number });
+        }
+    }
+    None
+}
+
 /// An entry that is new. After want of memory it isn't held, and is taken once more.
 pub(crate) fn take(alloc: Global) -> Look {
     let Some(entry) = quiet(3) else {
@@ -31,14 +71,18 @@ pub(crate) fn take(alloc: Global) -> Look {
     let empty = Replica::new(alloc, 2, 5)?;
     let mut replica = Replica::new(alloc, 2, 5)?;
     if replica.take(1, 4, entry) == Err(TakeFault::Memory) {
-        if replica.get(1, 4).is_some() || !are_equal(&replica, &empty) {
+        if replica.get(1, 4).is_some() || !are_equal(&replica, &empty) || !are_counted(&replica) {
             return Ok(false);
         }
         if replica.take(1, 4, entry) != Ok(Taken::New) {
             return Err(AllocError);
         }
     }
-    Ok(replica.get(1, 4) == Some(Flat::One(entry)) && replica.take(1, 4, entry) == Ok(Taken::Known))
+    Ok(
+        replica.get(1, 4) == Some(Flat::One(entry))
+            && replica.take(1, 4, entry) == Ok(Taken::Known)
+            && are_counted(&replica),
+    )
 }
 
 /// The merge of two halves of ten entries. After want of memory what is held lies between, and it is merged once more.
@@ -48,14 +92,46 @@ pub(crate) fn merge(alloc: Global) -> Look {
     let other = holding(alloc, false, true)?;
     let mut now = holding(alloc, true, false)?;
     if now.merge(&other) == Err(MergeFault::Memory) {
-        if !old.le(&now) || !now.le(&whole) {
+        if !old.le(&now) || !now.le(&whole) || !are_counted(&now) {
             return Ok(false);
         }
         if now.merge(&other).is_err() {
             return Err(AllocError);
         }
     }
-    Ok(are_equal(&now, &whole) && now.merge(&other).is_ok())
+    Ok(are_equal(&now, &whole) && now.merge(&other).is_ok() && are_counted(&now))
+}
+
+/// A merge that tears, and one that fills a gap. After want of memory the counters are those of what is held then.
+pub(crate) fn merge_torn(alloc: Global) -> Look {
+    let Some(other_entry) = quiet(6) else {
+        return Ok(false);
+    };
+    let mut other = holding(alloc, false, true)?;
+    for (processor, number) in [(0, 1), (1, 3)] {
+        if other.take(processor, number, other_entry) == Err(TakeFault::Memory) {
+            return Err(AllocError);
+        }
+    }
+    let mut now = holding(alloc, true, false)?;
+    if now.merge(&other) == Err(MergeFault::Memory) {
+        if !are_counted(&now) {
+            return Ok(false);
+        }
+        if now.merge(&other).is_err() {
+            return Err(AllocError);
+        }
+    }
+    let first = EntryKey {
+        processor: 0,
+        number: 1,
+    };
+    Ok(
+        are_counted(&now)
+            && now.first_torn() == Some(first)
+            && now.mark(0) == 0
+            && now.sound_count(1) == 2,
+    )
 }
 
 /// A copy, which is equal to what was copied.
@@ -63,7 +139,7 @@ pub(crate) fn copy(alloc: Global) -> Look {
     let replica = holding(alloc, true, true)?;
     let whole = holding(alloc, true, true)?;
     match replica.copy() {
-        Ok(copy) => Ok(are_equal(&copy, &whole)),
+        Ok(copy) => Ok(are_equal(&copy, &whole) && are_counted(&copy)),
         Err(_) => Ok(are_equal(&replica, &whole)),
     }
 }

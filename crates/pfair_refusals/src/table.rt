@@ -2,7 +2,7 @@
 
 use crate::Look;
 use crate::entries::{TABLES, is_planned, quiet, ten};
-use crate::replica::{are_equal, holding};
+use crate::replica::{are_counted, are_equal, holding};
 use pfair_entry::Entry;
 use pfair_ready::Ready;
 use pfair_replica::{EntryKey, MergeFault, Replica, TakeFault, Taken};
@@ -114,7 +114,10 @@ pub(crate) fn take<R: Ready>(alloc: Global) -> Look {
     for number in 6..=20 {
         let mut taken = dispatcher.take(0, number, entry);
         if taken == Err(TakeFault::Memory) {
-            if !are_equal(dispatcher.replica(), &twin) || !is_planned(&dispatcher, 3) {
+            let stands = are_equal(dispatcher.replica(), &twin)
+                && are_counted(dispatcher.replica())
+                && is_planned(&dispatcher, 3);
+            if !stands {
                 return Ok(false);
             }
             taken = dispatcher.take(0, number, entry);
@@ -138,7 +141,10 @@ pub(crate) fn absorb<R: Ready>(alloc: Global) -> Look {
     let settings = Settings::new(2, 6, 6).ok_or(AllocError)?;
     let mut dispatcher: Dispatcher<R> = Dispatcher::new(alloc, settings, 20)?;
     if dispatcher.absorb(whole.replica()) == Err(MergeFault::Memory) {
-        if !dispatcher.replica().le(whole.replica()) || dispatcher.next_slot() != 0 {
+        let stands = dispatcher.replica().le(whole.replica())
+            && are_counted(dispatcher.replica())
+            && dispatcher.next_slot() == 0;
+        if !stands {
             return Ok(false);
         }
         if dispatcher.absorb(whole.replica()).is_err() {
