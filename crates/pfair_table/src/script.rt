@@ -33,7 +33,7 @@ impl Script {
 
     /// A run of these settings with these logs, that of processor k at place k. The logs come back
     /// exactly where there is not one for each processor, or one has more than
-    /// [`Script::LONGEST_LOG`] entries.
+    /// [`Script::LONGEST_LOG`] entries. It costs the number of logs; no entry is looked at.
     pub fn new(settings: Settings, logs: Vec<Vec<Entry>>) -> Result<Script, Vec<Vec<Entry>>>
         ensures ok { IfOk result (λ script. (script ≡ record { settings = settings; logs = lists_of logs.items }) × IsLoggedRun script) }
         ensures back { IfErr result (λ back. (back ≡ logs) × ¬ (IsLoggedRun record { settings = settings; logs = lists_of logs.items })) }
@@ -63,7 +63,7 @@ impl Script {
         &self.logs[processor as usize]
     }
 
-    /// The numbers that a replica of the logs has room for: the length of the longest, at least 1.
+    /// The numbers that a replica of the logs has room for: the length of the longest, at least 1. It costs the number of logs.
     pub fn capacity(&self) -> u32
         ensures value { result ≡ capacity_of self.now.logs }
         ensures shape { IsShape self.now.settings.processors (capacity_of self.now.logs) }
