@@ -106,30 +106,15 @@ fn faults_have_places(rt: HostRuntime) -> Result<(), Fail> {
     Ok(())
 }
 
-/// The text of a fault. Where memory is refused it tries once more.
-fn text(alloc: Global, fault: PickFault) -> Result<String, Fail> {
-    match format!(in alloc; "{fault}") {
-        Ok(text) => Ok(text),
-        Err(_) => Ok(format!(in alloc; "{fault}")?),
-    }
+/// The text of a fault.
+fn text(alloc: Global, fault: PickFault) -> Result<String, AllocError> {
+    format!(in alloc; "{fault}")
 }
 
-/// Enters a task, and where memory was refused asserts that nothing has changed and tries once more.
-fn enter(
-    rt: &impl Abort,
-    book: &mut LagBook,
-    name: TaskName,
-    weight: Weight,
-) -> Result<bool, AllocError>
+/// Enters a task.
+fn enter(book: &mut LagBook, name: TaskName, weight: Weight) -> Result<bool, AllocError>
     ensures { book.new.time ≡ book.old.time }
 {
-    let (time, lag) = (book.time(), book.lag(&name));
-    let first = book.enter(name, weight);
-    if first.is_ok() {
-        return first;
-    }
-    assert_eq!(rt; book.time(), time);
-    assert_eq!(rt; book.lag(&name), lag);
     book.enter(name, weight)
 }
 
@@ -139,12 +124,12 @@ fn rows_book(rt: &impl Abort, alloc: Global) -> Result<LagBook, Fail>
 {
     let (a, b) = (name(rt, b"a"), name(rt, b"b"));
     let mut book = LagBook::new(alloc);
-    assert!(rt; enter(rt, &mut book, a, weight(rt, 1, 2))?);
+    assert!(rt; enter(&mut book, a, weight(rt, 1, 2))?);
     book.record(&[Pick { name: a, index: 1 }]);
     assert_eq!(rt; book.lag(&a), Some((-1, 2)));
     book.record(&[]);
     assert_eq!(rt; book.lag(&a), Some((0, 2)));
-    assert!(rt; enter(rt, &mut book, b, weight(rt, 1, 3))?);
+    assert!(rt; enter(&mut book, b, weight(rt, 1, 3))?);
     Ok(book)
 }
 
@@ -156,7 +141,7 @@ fn counts_lags(rt: HostRuntime) -> Result<(), Fail> {
     assert_eq!(rt; book.lag(&a), Some((1, 2)));
     assert_eq!(rt; book.lag(&b), Some((1, 3)));
     assert_eq!(rt; book.time(), 3);
-    assert!(rt; !enter(&rt, &mut book, a, weight(&rt, 1, 3))?);
+    assert!(rt; !enter(&mut book, a, weight(&rt, 1, 3))?);
     assert!(rt; book.name_at(0) == Some(&a));
     assert!(rt; book.name_at(1) == Some(&b));
     assert!(rt; book.name_at(2).is_none());
@@ -174,9 +159,35 @@ fn starts_anew(rt: HostRuntime) -> Result<(), Fail> {
     assert!(rt; book.leave(&a));
     assert!(rt; !book.leave(&a));
     assert_eq!(rt; book.lag(&a), None);
-    assert!(rt; enter(&rt, &mut book, a, weight(&rt, 1, 2))?);
+    assert!(rt; enter(&mut book, a, weight(&rt, 1, 2))?);
     assert_eq!(rt; book.lag(&a), Some((0, 2)));
     assert!(rt; book.name_at(0) == Some(&b));
     assert!(rt; book.name_at(1) == Some(&a));
+    Ok(())
+}
+
+/// Asserts which tasks are entered, in their order.
+fn assert_names(rt: &impl Abort, book: &LagBook, names: &[TaskName]) {
+    assert_eq!(rt; book.len(), names.len());
+    for (place, name) in names.iter().enumerate() {
+        assert!(rt; book.name_at(place) == Some(name));
+    }
+    assert!(rt; book.name_at(names.len()).is_none());
+}
+
+#[test]
+fn lists_in_order_of_entering(rt: HostRuntime) -> Result<(), Fail> {
+    let (a, b, half) = (name(&rt, b"a"), name(&rt, b"b"), weight(&rt, 1, 2));
+    let (c, d) = (name(&rt, b"c"), name(&rt, b"d"));
+    let mut book = LagBook::new(rt.alloc());
+    assert!(rt; enter(&mut book, a, half)?);
+    assert!(rt; enter(&mut book, b, half)?);
+    assert!(rt; enter(&mut book, c, half)?);
+    assert_names(&rt, &book, &[a, b, c]);
+    assert!(rt; book.leave(&b));
+    assert_names(&rt, &book, &[a, c]);
+    assert!(rt; enter(&mut book, d, half)?);
+    assert!(rt; enter(&mut book, b, half)?);
+    assert_names(&rt, &book, &[a, c, d, b]);
     Ok(())
 }

@@ -1,4 +1,4 @@
-//! Worked replicas with ample memory, what stays where memory is refused on the way, and the texts of the faults.
+//! Worked replicas with ample memory, and the texts of the faults.
 ghost use Rattle.std.specs.Prelude.{IfOk, ◌≡◌, ◌<◌};
 ghost use Rattle.pfair_replica.specs.HeldRows.{IsShape};
 
@@ -10,59 +10,20 @@ use std::alloc::{AllocError, Global};
 use std::process::Abort;
 use std::test::Fail;
 
-/// An empty replica, tried once more where memory was refused.
-fn empty(alloc: Global, processors: u8, capacity: u32) -> Result<Replica, AllocError>
-    requires { IsShape processors capacity }
-{
-    match Replica::new(alloc, processors, capacity) {
-        Ok(x) => Ok(x),
-        Err(_) => Replica::new(alloc, processors, capacity),
-    }
-}
-
-/// A copy, tried once more where memory was refused.
-fn copied(x: &Replica) -> Result<Replica, AllocError> {
-    match x.copy() {
-        Ok(copy) => Ok(copy),
-        Err(_) => x.copy(),
-    }
-}
-
 fn are_same(x: &Replica, y: &Replica) -> bool {
     x.le(y) && y.le(x)
 }
 
-/// The answer of a take. Where memory was refused on the way, the key was still missing.
-fn taken(
-    rt: &impl Abort,
-    x: &mut Replica,
-    processor: u8,
-    number: u32,
-    entry: Entry,
-) -> Result<Taken, TakeFault> {
-    let first = x.take(processor, number, entry);
-    if first == Err(TakeFault::Memory) {
-        assert!(rt; x.get(processor, number).is_none());
-        return x.take(processor, number, entry);
-    }
-    first
+/// The answer of a take.
+fn take(x: &mut Replica, processor: u8, number: u32, entry: Entry) -> Result<Taken, TakeFault> {
+    x.take(processor, number, entry)
 }
 
-/// Merges. Where memory was refused on the way, what was left lay between the old replica and the merge.
+/// The merge of two replicas.
 fn merged(rt: &impl Abort, x: &Replica, y: &Replica) -> Result<Replica, MergeFault> {
-    let mut full = copied(x)?;
-    if full.merge(y).is_err() {
-        full.merge(y)?;
-    }
-    let mut now = copied(x)?;
-    if now.merge(y).is_err() {
-        assert_scanned(rt, &now);
-        assert!(rt; x.le(&now));
-        assert!(rt; now.le(&full));
-        now.merge(y)?;
-    }
+    let mut now = x.copy()?;
+    now.merge(y)?;
     assert_scanned(rt, &now);
-    assert!(rt; are_same(&now, &full));
     Ok(now)
 }
 
@@ -77,12 +38,12 @@ fn departs(rt: &impl Abort, floor: u64, stamp: u64, name: TaskName) -> Entry {
 
 #[test]
 fn a_gap_holds_the_mark_back(rt: HostRuntime) -> Result<(), Fail> {
-    let mut x = empty(rt.alloc(), 1, 4)?;
-    taken(&rt, &mut x, 0, 1, floor(&rt, 4))?;
-    taken(&rt, &mut x, 0, 3, floor(&rt, 9))?;
+    let mut x = Replica::new(rt.alloc(), 1, 4)?;
+    take(&mut x, 0, 1, floor(&rt, 4))?;
+    take(&mut x, 0, 3, floor(&rt, 9))?;
     assert_eq!(&rt; x.mark(0), 4);
     assert_eq!(&rt; x.missing(0), Some(2));
-    taken(&rt, &mut x, 0, 2, floor(&rt, 6))?;
+    take(&mut x, 0, 2, floor(&rt, 6))?;
     assert_eq!(&rt; x.mark(0), 9);
     assert_eq!(&rt; x.frontier(), 9);
     assert_eq!(&rt; x.missing(0), Some(4));
@@ -91,16 +52,13 @@ fn a_gap_holds_the_mark_back(rt: HostRuntime) -> Result<(), Fail> {
 
 #[test]
 fn a_fallen_floor_ends_the_beginning(rt: HostRuntime) -> Result<(), Fail> {
-    let mut x = empty(rt.alloc(), 2, 2)?;
-    taken(&rt, &mut x, 0, 1, floor(&rt, 5))?;
-    taken(&rt, &mut x, 0, 2, floor(&rt, 4))?;
+    let mut x = Replica::new(rt.alloc(), 2, 2)?;
+    take(&mut x, 0, 1, floor(&rt, 5))?;
+    take(&mut x, 0, 2, floor(&rt, 4))?;
     assert_eq!(&rt; x.mark(0), 5);
     assert_eq!(&rt; x.frontier(), 0);
     assert_eq!(&rt; x.missing(0), None);
-    let faults = match x.faults() {
-        Ok(faults) => faults,
-        Err(_) => x.faults()?,
-    };
+    let faults = x.faults()?;
     assert_eq!(&rt; faults.torn.len(), 0);
     assert_eq!(&rt;
         faults.fallen.as_slice(),
@@ -115,23 +73,20 @@ fn a_fallen_floor_ends_the_beginning(rt: HostRuntime) -> Result<(), Fail> {
 
 #[test]
 fn two_contents_tear_a_key(rt: HostRuntime) -> Result<(), Fail> {
-    let mut x = empty(rt.alloc(), 1, 4)?;
-    assert_eq!(&rt; taken(&rt, &mut x, 0, 1, floor(&rt, 3)), Ok(Taken::New));
-    assert_eq!(&rt; x.take(0, 1, floor(&rt, 3)), Ok(Taken::Known));
+    let mut x = Replica::new(rt.alloc(), 1, 4)?;
+    assert_eq!(&rt; take(&mut x, 0, 1, floor(&rt, 3)), Ok(Taken::New));
+    assert_eq!(&rt; take(&mut x, 0, 1, floor(&rt, 3)), Ok(Taken::Known));
     assert_eq!(&rt; x.first_torn(), None);
-    assert_eq!(&rt; taken(&rt, &mut x, 0, 2, floor(&rt, 5)), Ok(Taken::New));
-    assert_eq!(&rt; x.take(0, 2, floor(&rt, 6)), Ok(Taken::Torn));
-    assert_eq!(&rt; x.take(0, 2, floor(&rt, 5)), Ok(Taken::Torn));
+    assert_eq!(&rt; take(&mut x, 0, 2, floor(&rt, 5)), Ok(Taken::New));
+    assert_eq!(&rt; take(&mut x, 0, 2, floor(&rt, 6)), Ok(Taken::Torn));
+    assert_eq!(&rt; take(&mut x, 0, 2, floor(&rt, 5)), Ok(Taken::Torn));
     assert_eq!(&rt; x.mark(0), 3);
     let torn = EntryKey {
         processor: 0,
         number: 2,
     };
     assert_eq!(&rt; x.first_torn(), Some(torn));
-    let faults = match x.faults() {
-        Ok(faults) => faults,
-        Err(_) => x.faults()?,
-    };
+    let faults = x.faults()?;
     assert_eq!(&rt; faults.torn.as_slice(), [torn].as_slice());
     assert_eq!(&rt; faults.fallen.len(), 0);
     Ok(())
@@ -139,12 +94,12 @@ fn two_contents_tear_a_key(rt: HostRuntime) -> Result<(), Fail> {
 
 #[test]
 fn keys_out_of_range_are_refused(rt: HostRuntime) -> Result<(), Fail> {
-    let mut x = empty(rt.alloc(), 1, 1)?;
+    let mut x = Replica::new(rt.alloc(), 1, 1)?;
     let entry = floor(&rt, 3);
-    assert_eq!(&rt; x.take(1, 1, entry), Err(TakeFault::NoSuchProcessor));
-    assert_eq!(&rt; x.take(1, 2, entry), Err(TakeFault::NoSuchProcessor));
-    assert_eq!(&rt; x.take(0, 0, entry), Err(TakeFault::NumberOutOfRange));
-    assert_eq!(&rt; x.take(0, 2, entry), Err(TakeFault::NumberOutOfRange));
+    assert_eq!(&rt; take(&mut x, 1, 1, entry), Err(TakeFault::NoSuchProcessor));
+    assert_eq!(&rt; take(&mut x, 1, 2, entry), Err(TakeFault::NoSuchProcessor));
+    assert_eq!(&rt; take(&mut x, 0, 0, entry), Err(TakeFault::NumberOutOfRange));
+    assert_eq!(&rt; take(&mut x, 0, 2, entry), Err(TakeFault::NumberOutOfRange));
     assert_eq!(&rt; x.processors(), 1);
     assert_eq!(&rt; x.capacity(), 1);
     Ok(())
@@ -152,9 +107,9 @@ fn keys_out_of_range_are_refused(rt: HostRuntime) -> Result<(), Fail> {
 
 #[test]
 fn another_shape_is_refused(rt: HostRuntime) -> Result<(), Fail> {
-    let mut x = empty(rt.alloc(), 1, 5)?;
-    let mut y = empty(rt.alloc(), 1, 4)?;
-    taken(&rt, &mut y, 0, 1, floor(&rt, 3))?;
+    let mut x = Replica::new(rt.alloc(), 1, 5)?;
+    let mut y = Replica::new(rt.alloc(), 1, 4)?;
+    take(&mut y, 0, 1, floor(&rt, 3))?;
     assert_eq!(&rt; x.merge(&y), Err(MergeFault::OtherShape));
     assert!(&rt; x.get(0, 1).is_none());
     assert!(&rt; x.le(&y));
@@ -164,11 +119,11 @@ fn another_shape_is_refused(rt: HostRuntime) -> Result<(), Fail> {
 
 /// Five entries of each of two processors: those whose number is odd, or the others.
 fn half(rt: &impl Abort, alloc: Global, odd: bool) -> Result<Replica, Fail> {
-    let mut x = empty(alloc, 2, 5)?;
+    let mut x = Replica::new(alloc, 2, 5)?;
     for processor in 0..2u8 {
         for number in 1..6u32 {
             if (number % 2 == 1) == odd {
-                taken(rt, &mut x, processor, number, floor(rt, number as u64))?;
+                take(&mut x, processor, number, floor(rt, number as u64))?;
             }
         }
     }
@@ -195,16 +150,13 @@ fn halves_merge_to_the_whole(rt: HostRuntime) -> Result<(), Fail> {
 fn what_is_said_at_a_slot(rt: HostRuntime) -> Result<(), Fail> {
     let name = TaskName::from_bytes(b"a").expect(&rt, "a name");
     let other = TaskName::from_bytes(b"b").expect(&rt, "a name");
-    let mut x = empty(rt.alloc(), 2, 4)?;
-    taken(&rt, &mut x, 0, 1, departs(&rt, 0, 3, name))?;
-    taken(&rt, &mut x, 0, 2, departs(&rt, 2, 5, name))?;
-    taken(&rt, &mut x, 0, 4, departs(&rt, 3, 3, name))?;
-    taken(&rt, &mut x, 1, 1, departs(&rt, 1, 3, other))?;
-    taken(&rt, &mut x, 1, 2, departs(&rt, 3, 3, name))?;
-    let heard = match x.said(3) {
-        Ok(heard) => heard,
-        Err(_) => x.said(3)?,
-    };
+    let mut x = Replica::new(rt.alloc(), 2, 4)?;
+    take(&mut x, 0, 1, departs(&rt, 0, 3, name))?;
+    take(&mut x, 0, 2, departs(&rt, 2, 5, name))?;
+    take(&mut x, 0, 4, departs(&rt, 3, 3, name))?;
+    take(&mut x, 1, 1, departs(&rt, 1, 3, other))?;
+    take(&mut x, 1, 2, departs(&rt, 3, 3, name))?;
+    let heard = x.said(3)?;
     assert_eq!(&rt;
         heard.as_slice(),
         [said(0, 1, name), said(1, 1, other), said(1, 2, name),].as_slice()
@@ -216,19 +168,16 @@ fn what_is_said_at_a_slot(rt: HostRuntime) -> Result<(), Fail> {
 fn an_agenda_has_what_is_said_by_slot(rt: HostRuntime) -> Result<(), Fail> {
     let name = TaskName::from_bytes(b"a").expect(&rt, "a name");
     let other = TaskName::from_bytes(b"b").expect(&rt, "a name");
-    let mut x = empty(rt.alloc(), 2, 4)?;
-    taken(&rt, &mut x, 0, 1, departs(&rt, 0, 3, name))?;
-    taken(&rt, &mut x, 0, 2, departs(&rt, 2, 5, name))?;
+    let mut x = Replica::new(rt.alloc(), 2, 4)?;
+    take(&mut x, 0, 1, departs(&rt, 0, 3, name))?;
+    take(&mut x, 0, 2, departs(&rt, 2, 5, name))?;
     // its floor fell
-    taken(&rt, &mut x, 0, 3, departs(&rt, 1, 5, other))?;
-    taken(&rt, &mut x, 1, 1, departs(&rt, 1, 3, other))?;
-    taken(&rt, &mut x, 1, 2, departs(&rt, 3, 3, name))?;
+    take(&mut x, 0, 3, departs(&rt, 1, 5, other))?;
+    take(&mut x, 1, 1, departs(&rt, 1, 3, other))?;
+    take(&mut x, 1, 2, departs(&rt, 3, 3, name))?;
     // number 3 is missing
-    taken(&rt, &mut x, 1, 4, departs(&rt, 3, 5, other))?;
-    let agenda = match x.agenda() {
-        Ok(agenda) => agenda,
-        Err(_) => x.agenda()?,
-    };
+    take(&mut x, 1, 4, departs(&rt, 3, 5, other))?;
+    let agenda = x.agenda()?;
     assert_eq!(&rt;
         agenda.at(3),
         [said(0, 1, name), said(1, 1, other), said(1, 2, name)].as_slice()
@@ -247,20 +196,8 @@ fn said(processor: u8, number: u32, name: TaskName) -> Said {
     }
 }
 
-/// Adds a departure to an agenda. Where memory was refused on the way, as much was said at the slot as before.
-fn pushed(
-    rt: &impl Abort,
-    agenda: &mut Agenda,
-    slot: u64,
-    number: u32,
-    name: TaskName,
-) -> Result<(), AllocError> {
-    let before = agenda.at(slot).len();
-    let first = agenda.push(slot, 0, number, Announcement::Depart { name });
-    if first.is_ok() {
-        return first;
-    }
-    assert_eq!(rt; agenda.at(slot).len(), before);
+/// Adds a departure to an agenda.
+fn push(agenda: &mut Agenda, slot: u64, number: u32, name: TaskName) -> Result<(), AllocError> {
     agenda.push(slot, 0, number, Announcement::Depart { name })
 }
 
@@ -270,9 +207,9 @@ fn an_agenda_grows_piece_by_piece(rt: HostRuntime) -> Result<(), Fail> {
     let other = TaskName::from_bytes(b"b").expect(&rt, "a name");
     let mut agenda = Agenda::new(rt.alloc());
     assert!(&rt; agenda.at(3).is_empty());
-    pushed(&rt, &mut agenda, 3, 2, name)?;
-    pushed(&rt, &mut agenda, 5, 1, name)?;
-    pushed(&rt, &mut agenda, 3, 1, other)?;
+    push(&mut agenda, 3, 2, name)?;
+    push(&mut agenda, 5, 1, name)?;
+    push(&mut agenda, 3, 1, other)?;
     assert_eq!(&rt;
         agenda.at(3),
         [said(0, 2, name), said(0, 1, other)].as_slice()
@@ -290,10 +227,7 @@ fn faults_have_their_texts(rt: HostRuntime) -> Result<(), Fail> {
         (TakeFault::Memory, 90, "out of memory"),
     ] {
         assert_eq!(&rt; fault.number(), number);
-        let shown = match format!(in rt.alloc(); "{fault}") {
-            Ok(shown) => shown,
-            Err(_) => format!(in rt.alloc(); "{fault}")?,
-        };
+        let shown = format!(in rt.alloc(); "{fault}")?;
         assert_eq!(&rt; shown.as_str(), text);
     }
     for (fault, number, text) in [
@@ -301,10 +235,7 @@ fn faults_have_their_texts(rt: HostRuntime) -> Result<(), Fail> {
         (MergeFault::Memory, 90, "out of memory"),
     ] {
         assert_eq!(&rt; fault.number(), number);
-        let shown = match format!(in rt.alloc(); "{fault}") {
-            Ok(shown) => shown,
-            Err(_) => format!(in rt.alloc(); "{fault}")?,
-        };
+        let shown = format!(in rt.alloc(); "{fault}")?;
         assert_eq!(&rt; shown.as_str(), text);
     }
     Ok(())
@@ -312,17 +243,14 @@ fn faults_have_their_texts(rt: HostRuntime) -> Result<(), Fail> {
 
 #[test]
 fn a_torn_number_takes_the_mark_back(rt: HostRuntime) -> Result<(), Fail> {
-    let mut x = empty(rt.alloc(), 1, 4)?;
-    taken(&rt, &mut x, 0, 1, floor(&rt, 2))?;
-    taken(&rt, &mut x, 0, 2, floor(&rt, 3))?;
-    taken(&rt, &mut x, 0, 3, floor(&rt, 5))?;
+    let mut x = Replica::new(rt.alloc(), 1, 4)?;
+    take(&mut x, 0, 1, floor(&rt, 2))?;
+    take(&mut x, 0, 2, floor(&rt, 3))?;
+    take(&mut x, 0, 3, floor(&rt, 5))?;
     assert_eq!(&rt; x.mark(0), 5);
-    assert_eq!(&rt; taken(&rt, &mut x, 0, 2, floor(&rt, 4)), Ok(Taken::Torn));
+    assert_eq!(&rt; take(&mut x, 0, 2, floor(&rt, 4)), Ok(Taken::Torn));
     assert_eq!(&rt; x.mark(0), 2);
-    let faults = match x.faults() {
-        Ok(faults) => faults,
-        Err(_) => x.faults()?,
-    };
+    let faults = x.faults()?;
     let torn = EntryKey {
         processor: 0,
         number: 2,
@@ -334,23 +262,89 @@ fn a_torn_number_takes_the_mark_back(rt: HostRuntime) -> Result<(), Fail> {
 
 #[test]
 fn a_filled_gap_carries_the_mark_on(rt: HostRuntime) -> Result<(), Fail> {
-    let mut x = empty(rt.alloc(), 1, 4)?;
-    taken(&rt, &mut x, 0, 1, floor(&rt, 2))?;
-    taken(&rt, &mut x, 0, 3, floor(&rt, 5))?;
-    taken(&rt, &mut x, 0, 4, floor(&rt, 4))?;
+    let mut x = Replica::new(rt.alloc(), 1, 4)?;
+    take(&mut x, 0, 1, floor(&rt, 2))?;
+    take(&mut x, 0, 3, floor(&rt, 5))?;
+    take(&mut x, 0, 4, floor(&rt, 4))?;
     assert_eq!(&rt; x.mark(0), 2);
-    taken(&rt, &mut x, 0, 2, floor(&rt, 3))?;
+    take(&mut x, 0, 2, floor(&rt, 3))?;
     assert_eq!(&rt; x.mark(0), 5);
-    let faults = match x.faults() {
-        Ok(faults) => faults,
-        Err(_) => x.faults()?,
-    };
+    let faults = x.faults()?;
     let fallen = EntryKey {
         processor: 0,
         number: 4,
     };
     assert_eq!(&rt; faults.fallen.as_slice(), [fallen].as_slice());
     assert_eq!(&rt; faults.torn.len(), 0);
+    Ok(())
+}
+
+/// Takes the entries 4096 to 2 of a log, last first, each with its number as floor.
+fn take_last_first(rt: &impl Abort, x: &mut Replica, processor: u8) -> Result<(), TakeFault> {
+    for after in 0..4095u32 {
+        let number = 4096 - after;
+        take(x, processor, number, floor(rt, number as u64))?;
+    }
+    Ok(())
+}
+
+/// Takes entry 1 of each of 64 logs but one.
+fn take_first_of_others(x: &mut Replica, processor: u8, entry: Entry) -> Result<(), TakeFault> {
+    for other in 0..64u8 {
+        if other != processor {
+            take(x, other, 1, entry)?;
+        }
+    }
+    Ok(())
+}
+
+/// Of 64 logs the one of processor 40 holds 4,096 entries, with floors 1 to 4,096, and each other one an entry with floor 5,000.
+fn large(rt: &impl Abort, alloc: Global) -> Result<Replica, Fail> {
+    let mut x = Replica::new(alloc, 64, 4096)?;
+    take_last_first(rt, &mut x, 40)?;
+    take_first_of_others(&mut x, 40, floor(rt, 5000))?;
+    assert_eq!(rt; x.sound_count(40), 0);
+    assert_eq!(rt; x.frontier(), 0);
+    assert_eq!(rt; x.missing(40), Some(1));
+    assert_eq!(rt; take(&mut x, 40, 1, floor(rt, 1)), Ok(Taken::New));
+    Ok(x)
+}
+
+#[test]
+fn a_full_log_comes_last_first(rt: HostRuntime) -> Result<(), Fail> {
+    let x = large(&rt, rt.alloc())?;
+    assert_eq!(&rt; x.sound_count(40), 4096);
+    assert_eq!(&rt; x.mark(40), 4096);
+    assert_eq!(&rt; x.missing(40), None);
+    assert_eq!(&rt; x.mark(63), 5000);
+    assert_eq!(&rt; x.frontier(), 4096);
+    assert_eq!(&rt; x.first_torn(), None);
+    Ok(())
+}
+
+fn key(processor: u8, number: u32) -> EntryKey {
+    EntryKey { processor, number }
+}
+
+#[test]
+fn a_large_replica_has_faults(rt: HostRuntime) -> Result<(), Fail> {
+    let mut x = large(&rt, rt.alloc())?;
+    take(&mut x, 63, 1, floor(&rt, 1))?;
+    take(&mut x, 40, 4096, floor(&rt, 1))?;
+    take(&mut x, 62, 2, floor(&rt, 4999))?;
+    take(&mut x, 0, 2, floor(&rt, 0))?;
+    let faults = x.faults()?;
+    assert_eq!(&rt;
+        faults.torn.as_slice(),
+        [key(40, 4096), key(63, 1)].as_slice()
+    );
+    assert_eq!(&rt;
+        faults.fallen.as_slice(),
+        [key(0, 2), key(62, 2)].as_slice()
+    );
+    assert_eq!(&rt; x.mark(40), 4095);
+    assert_eq!(&rt; x.mark(62), 5000);
+    assert_eq!(&rt; x.frontier(), 0);
     Ok(())
 }
 
@@ -437,7 +431,7 @@ fn step(rt: &impl Abort, walk: &mut Walk, x: &mut Replica) -> Result<(), TakeFau
     let key = walk.key(x);
     let entry = walk.entry(rt, key.number);
     let (before, torn) = (x.sound_count(key.processor), x.first_torn());
-    taken(rt, x, key.processor, key.number, entry)?;
+    take(x, key.processor, key.number, entry)?;
     walk.note_take(before, x.sound_count(key.processor));
     if torn.is_some() && x.first_torn() != torn {
         walk.torn_before = walk.torn_before.saturating_add(1);
@@ -509,8 +503,8 @@ fn walked(
 ) -> Result<(), Fail>
     requires { IsShape processors capacity }
 {
-    let mut x = empty(alloc, processors, capacity)?;
-    let mut y = empty(alloc, processors, capacity)?;
+    let mut x = Replica::new(alloc, processors, capacity)?;
+    let mut y = Replica::new(alloc, processors, capacity)?;
     for turn in 0..20u8 {
         step(rt, walk, &mut x)?;
         step(rt, walk, &mut y)?;

@@ -4,6 +4,8 @@
 #![tactic(auto)]
 
 #[cfg(test)]
+mod meet;
+#[cfg(test)]
 mod notation;
 #[cfg(test)]
 mod placed;
@@ -13,5 +15,7 @@ mod run;
 mod sample;
 #[cfg(test)]
 mod shown;
+#[cfg(test)]
+mod sizes;
 #[cfg(test)]
 mod tests;

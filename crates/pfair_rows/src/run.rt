@@ -68,8 +68,8 @@ pub(crate) fn left_by<R: Ready>(
     run_events(alloc, settings, CAPACITY, events)
 }
 
-// Asserts what a dispatcher has planned and decided.
-fn assert_planned<R: Ready>(
+/// Asserts what a dispatcher has planned and decided.
+pub(crate) fn assert_planned<R: Ready>(
     rt: &impl Abort,
     alloc: Global,
     dispatcher: &Dispatcher<R>,

@@ -48,6 +48,43 @@ fn late_releases(rt: HostRuntime) -> Result<(), AllocError> {
 }
 
 #[test]
+fn delays_out_of_order(rt: HostRuntime) -> Result<(), AllocError> {
+    // subtasks 2, 3 and 4 are released at 2, 4 and 6 without delays, and at 4, 11 and 13 with them
+    assert_run(
+        &rt,
+        rt.alloc(),
+        (1, 2, 14),
+        "0 1 0 0 arrive a 1 2; 0 2 0 0 late a 3 1; 0 3 0 0 late a 2 2; 0 4 1 1 late a 3 4; 0 5 14; plan 15",
+        "new, new, new, new, new, slot 0, slot 1, slot 2, slot 3, slot 4, slot 5, slot 6, slot 7, slot 8, slot 9, slot 10, slot 11, slot 12, slot 13, done",
+        "[a1][][][][a2][][][][][][][a3][][a4]",
+        "[0.1 a admitted, 0.2 a delayed, 0.3 a delayed][0.4 a delayed][][][][][][][][][][][][]",
+    )
+}
+
+#[test]
+fn the_longest_frame(rt: HostRuntime) -> Result<(), AllocError> {
+    assert_run(
+        &rt,
+        rt.alloc(),
+        (1, 1_000_000_000, 3),
+        "0 1 0 0 arrive a 1 1000000000; 0 2 0 0 arrive b 1 1; 0 3 0 0 arrive c 1 999999999; 0 4 3; plan 4",
+        "new, new, new, new, slot 0, slot 1, slot 2, done",
+        "[a1][][]",
+        "[0.1 a admitted, 0.2 b refused 22, 0.3 c refused 21][][]",
+    )?;
+    // the last c fills the second processor: with a it has 1,000,000,000 units
+    assert_run(
+        &rt,
+        rt.alloc(),
+        (2, 1_000_000_000, 3),
+        "0 1 0 0 arrive a 1 1000000000; 0 2 0 0 arrive b 1 1; 0 3 1 1 arrive c 1 1; 0 4 1 1 arrive c 999999999 1000000000; 0 5 3; 1 1 3; plan 4",
+        "new, new, new, new, new, new, slot 0, slot 1, slot 2, done",
+        "[b1 a1][b2 c1][b3 c2]",
+        "[0.1 a admitted, 0.2 b admitted][0.3 c refused 22, 0.4 c admitted][]",
+    )
+}
+
+#[test]
 fn slots_that_are_settled(rt: HostRuntime) -> Result<(), AllocError> {
     assert_run(
         &rt,
