@@ -5,7 +5,7 @@ ghost use Rattle.std.specs.Io.KnownBytes.{Appends, Keeps};
 ghost use Rattle.pfair_text.specs.Input.{HasTaken};
 ghost use Rattle.pfair_text.specs.Output.{TakesPrefix};
 ghost use Rattle.pfair.specs.Runs.{IsFaultOfRun, IsOutputOf, IsRefusalOf, decisions_of_run};
-ghost use Rattle.pfair.specs.declared.fault.ProgramFault.TheVariants.{FileTooLong, ReadFailed, WriteFailed};
+ghost use Rattle.pfair.specs.declared.fault.ProgramFault.TheVariants.{FileTooLong, ReadFailed, WriteFailed, Memory};
 
 use crate::fault::ProgramFault;
 use crate::schedule::{scheduled, send_text};
@@ -17,7 +17,8 @@ use std::io::{Read, Write};
 /// bytes hold: a header, and for each a row of its slot, the processor and the number of its entry, the task, what was
 /// decided, and the freeing slot or the number of the refusal. They stand in the order in which they are decided.
 ///
-/// The whole run is made before the first byte goes out.
+/// The whole run is made before the first byte goes out. No more than 67,108,864 bytes are taken from the reader, but where
+/// the file is too long or memory was wanting: one more may then be.
 ///
 /// # Errors
 /// [`ProgramFault::ReadFailed`] where the reader answers an error, [`ProgramFault::FileTooLong`] where more than
@@ -34,6 +35,9 @@ pub fn decisions<R: Read, W: Write>(
     ensures refused { IfErr result (λ e. IfSome (R.remaining reader.old) (λ bytes. IsRefusalOf bytes e)) }
     ensures long { IsErrOf result FileTooLong → HasTaken (R.remaining reader.old) (R.remaining reader.new) (λ n. n ≡ 67108865) }
     ensures unread { IsErrOf result ReadFailed → HasTaken (R.remaining reader.old) (R.remaining reader.new) (λ n. n ≤ 67108864) }
+    ensures within { OnOk result (HasTaken (R.remaining reader.old) (R.remaining reader.new) (λ n. n ≤ 67108864)) }
+    ensures within_fault { IfErr result (λ e. e ≢ FileTooLong → e ≢ Memory → HasTaken (R.remaining reader.old) (R.remaining reader.new) (λ n. n ≤ 67108864)) }
+    ensures most { HasTaken (R.remaining reader.old) (R.remaining reader.new) (λ n. n ≤ 67108865) }
     ensures nothing { IfErr result (λ e. e ≢ WriteFailed → Keeps (W.contents writer.old) (W.contents writer.new)) }
     ensures cut { IsErrOf result WriteFailed → IfSome (R.remaining reader.old) (λ bytes. IsOutputOf decisions_of_run bytes (TakesPrefix (W.contents writer.old) (W.contents writer.new))) }
     ensures only { IfErr result (λ e. IsFaultOfRun e ⊎ (e ≡ WriteFailed)) }

@@ -90,12 +90,28 @@ impl ProgramFault {
     }
 }
 
+// Room for the line of any fault. The longest is that of a refused entry, with the place of a bad byte of its name: it has
+// 88 bytes where each number in it is the greatest of its type.
+const LINE_ROOM: usize = 128;
+
 /// Writes the line of a fault, `pfair: NUMBER TEXT`, and gives its exit status, also where the
 /// writer fails.
+///
+/// The line goes out in one write, so that the lines of two processes that write to one terminal or file don't mix. It
+/// takes no memory, for want of which may be the fault.
 pub fn write_fault<W: Write>(fault: &ProgramFault, writer: &mut W) -> u8
     ensures { result ≡ status_of fault.now }
 {
     let number = fault.number();
-    let _ = writeln!(writer, "pfair: {number} {fault}");
+    let mut line = [0; LINE_ROOM];
+    let mut room = &mut line[..];
+    let is_whole = writeln!(room, "pfair: {number} {fault}").is_ok();
+    let length = LINE_ROOM.saturating_sub(room.len());
+    let _ = if is_whole {
+        writer.write_all(&line[..length])
+    } else {
+        // a line that had no room would go out in pieces, and not be cut
+        writeln!(writer, "pfair: {number} {fault}")
+    };
     fault.status()
 }

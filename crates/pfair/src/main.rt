@@ -3,7 +3,11 @@
 
 mod decisions;
 mod dispatchers;
+#[cfg(test)]
+mod failure_tests;
 mod fault;
+#[cfg(test)]
+mod fault_tests;
 mod lags;
 mod replay;
 mod replay_placed;

@@ -5,7 +5,7 @@ ghost use Rattle.std.specs.Io.KnownBytes.{Appends, Keeps};
 ghost use Rattle.pfair_text.specs.Input.{HasTaken};
 ghost use Rattle.pfair_text.specs.Output.{TakesPrefix};
 ghost use Rattle.pfair.specs.Runs.{IsFaultOfReplay, IsOutputOf, IsRefusalOf, replay_of_run};
-ghost use Rattle.pfair.specs.declared.fault.ProgramFault.TheVariants.{FileTooLong, ReadFailed, WriteFailed};
+ghost use Rattle.pfair.specs.declared.fault.ProgramFault.TheVariants.{FileTooLong, ReadFailed, WriteFailed, Memory};
 
 use crate::dispatchers::first_run;
 use crate::fault::ProgramFault;
@@ -22,7 +22,8 @@ use std::thread::Threads;
 ///
 /// Each processor's dispatcher runs in a thread of its own and works out every slot by itself, from the entries that
 /// all publish on one board; each comes to the gate before each slot. The tables are the first one's. The whole run is
-/// made before the first byte goes out.
+/// made before the first byte goes out. No more than 67,108,864 bytes are taken from the reader, but where the file is too long
+/// or memory was wanting: one more may then be.
 ///
 /// # Errors
 /// [`ProgramFault::ReadFailed`] where the reader answers an error, [`ProgramFault::FileTooLong`] where more than
@@ -43,6 +44,9 @@ pub fn replay<P: Threads + Wait + Sync, R: Read, W: Write, G: Gate + Sync>(
     ensures refused { IfErr result (λ e. IfSome (R.remaining reader.old) (λ bytes. IsRefusalOf bytes e)) }
     ensures long { IsErrOf result FileTooLong → HasTaken (R.remaining reader.old) (R.remaining reader.new) (λ n. n ≡ 67108865) }
     ensures unread { IsErrOf result ReadFailed → HasTaken (R.remaining reader.old) (R.remaining reader.new) (λ n. n ≤ 67108864) }
+    ensures within { OnOk result (HasTaken (R.remaining reader.old) (R.remaining reader.new) (λ n. n ≤ 67108864)) }
+    ensures within_fault { IfErr result (λ e. e ≢ FileTooLong → e ≢ Memory → HasTaken (R.remaining reader.old) (R.remaining reader.new) (λ n. n ≤ 67108864)) }
+    ensures most { HasTaken (R.remaining reader.old) (R.remaining reader.new) (λ n. n ≤ 67108865) }
     ensures nothing { IfErr result (λ e. e ≢ WriteFailed → Keeps (W.contents writer.old) (W.contents writer.new)) }
     ensures cut { IsErrOf result WriteFailed → IfSome (R.remaining reader.old) (λ bytes. IsOutputOf replay_of_run bytes (TakesPrefix (W.contents writer.old) (W.contents writer.new))) }
     ensures only { IfErr result (λ e. IsFaultOfReplay G.may_give_up e ⊎ (e ≡ WriteFailed)) }

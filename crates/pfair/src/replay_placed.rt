@@ -17,7 +17,7 @@ use std::thread::Threads;
 ///
 /// A task that is in the tables of two slots running stays on its processor. The other rows of a table, in row order, each
 /// take the least processor that no row keeps and none has taken. All else is as for `replay`: the dispatchers' threads,
-/// the gate, the faults, and what has then been written.
+/// the gate, the bytes that are taken, the faults, and what has then been written.
 ///
 /// # Errors
 /// Those of [`replay`](crate::replay::replay).

@@ -15,7 +15,7 @@ use std::test::Fail;
 use std::thread::Threads;
 use std::{io, thread};
 
-const SAMPLE: &str = "version = 1\nprocessors = 2\nframe = 6\nslots = 6\n
+pub(crate) const SAMPLE: &str = "version = 1\nprocessors = 2\nframe = 6\nslots = 6\n
 [[entry]]\nprocessor = 0\nfloor = 0\nkind = \"arrive\"\nat = 0\nname = \"a\"\ncost = 1\nperiod = 2\n
 [[entry]]\nprocessor = 0\nfloor = 0\nkind = \"arrive\"\nat = 0\nname = \"b\"\ncost = 2\nperiod = 3\n
 [[entry]]\nprocessor = 0\nfloor = 2\nkind = \"depart\"\nat = 2\nname = \"a\"\n
@@ -27,10 +27,10 @@ const SAMPLE: &str = "version = 1\nprocessors = 2\nframe = 6\nslots = 6\n
 [[entry]]\nprocessor = 1\nfloor = 5\n
 [[entry]]\nprocessor = 1\nfloor = 6\n";
 
-const TABLES: &str =
+pub(crate) const TABLES: &str =
     "slot,processor,task,index\n0,0,b,1\n0,1,a,1\n1,0,b,2\n1,1,c,1\n3,0,b,3\n3,1,d,1\n4,0,c,2\n5,0,d,2\n";
 
-const PLACED: &str =
+pub(crate) const PLACED: &str =
     "slot,processor,task,index,place\n0,0,b,1,0\n0,1,a,1,1\n1,0,b,2,0\n1,1,c,1,1\n3,0,b,3,0\n3,1,d,1,1\n4,0,c,2,0\n5,0,d,2,0\n";
 
 // Three tasks of two thirds each on two processors.
@@ -44,10 +44,10 @@ const TWO_THIRDS: &str = "version = 1\nprocessors = 2\nframe = 3\nslots = 3\n
 const TWO_THIRDS_PLACED: &str =
     "slot,processor,task,index,place\n0,0,a,1,0\n0,1,b,1,1\n1,0,c,1,1\n1,1,a,2,0\n2,0,b,2,0\n2,1,c,2,1\n";
 
-const DECISIONS: &str =
+pub(crate) const DECISIONS: &str =
     "slot,processor,number,task,outcome,value\n0,0,1,a,admitted,-\n0,0,2,b,admitted,-\n0,1,1,c,admitted,-\n2,0,3,a,departing,3\n3,1,2,d,admitted,-\n4,1,3,b,delayed,-\n";
 
-const LAGS: &str =
+pub(crate) const LAGS: &str =
     "time,task,numerator,period\n1,a,-1,2\n1,b,-1,3\n1,c,1,3\n2,a,0,2\n2,b,-2,3\n2,c,-1,3\n3,b,0,3\n3,c,0,3\n4,b,-1,3\n4,c,1,3\n4,d,-1,2\n5,b,1,3\n5,c,-1,3\n5,d,0,2\n6,b,3,3\n6,c,0,3\n6,d,-1,2\n";
 
 // Gives at most so many bytes a call, and fails once its calls are used up.

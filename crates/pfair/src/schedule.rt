@@ -1,6 +1,6 @@
 //! What every command over a task file does: reading it, running its script, sending the text.
 
-ghost use Rattle.std.specs.Prelude.{◌≡◌, ◌≤◌, Ok, OnOk, OnErr, IfOk, IfErr, IfSome, IsErrOf};
+ghost use Rattle.std.specs.Prelude.{◌≡◌, ◌≤◌, Ok, OnOk, OnErr, IfOk, IfErr, IfSome, IsErrOf, ◌≢◌};
 ghost use Rattle.std.specs.Io.KnownBytes.{Appends};
 ghost use Rattle.pfair_text.specs.Input.{HasTaken};
 ghost use Rattle.pfair_text.specs.Output.{TakesPrefix};
@@ -8,7 +8,7 @@ ghost use Rattle.pfair_table.specs.ScriptRun.{IsRunOf};
 ghost use Rattle.pfair_table.specs.Script.{LoggedRun};
 ghost use Rattle.pfair_file.specs.Documents.{script_of_file};
 ghost use Rattle.pfair.specs.Runs.{IsFaultOfRun, IsRefusalOf};
-ghost use Rattle.pfair.specs.declared.fault.ProgramFault.TheVariants.{FileTooLong, ReadFailed, WriteFailed};
+ghost use Rattle.pfair.specs.declared.fault.ProgramFault.TheVariants.{FileTooLong, ReadFailed, WriteFailed, Memory};
 
 use crate::fault::ProgramFault;
 use pfair_file::{FileFault, read_file};
@@ -27,6 +27,9 @@ pub(crate) fn scheduled<R: Read>(
     ensures refused { IfErr result (λ e. IfSome (R.remaining reader.old) (λ bytes. IsRefusalOf bytes e)) }
     ensures long { IsErrOf result FileTooLong → HasTaken (R.remaining reader.old) (R.remaining reader.new) (λ n. n ≡ 67108865) }
     ensures unread { IsErrOf result ReadFailed → HasTaken (R.remaining reader.old) (R.remaining reader.new) (λ n. n ≤ 67108864) }
+    ensures within { OnOk result (HasTaken (R.remaining reader.old) (R.remaining reader.new) (λ n. n ≤ 67108864)) }
+    ensures within_fault { IfErr result (λ e. e ≢ FileTooLong → e ≢ Memory → HasTaken (R.remaining reader.old) (R.remaining reader.new) (λ n. n ≤ 67108864)) }
+    ensures most { HasTaken (R.remaining reader.old) (R.remaining reader.new) (λ n. n ≤ 67108865) }
     ensures only { IfErr result IsFaultOfRun }
 {
     let script = read_script(alloc, reader)?;
@@ -55,6 +58,9 @@ pub(crate) fn read_script<R: Read>(alloc: Global, reader: &mut R) -> Result<Scri
     ensures refused { IfErr result (λ e. IfSome (R.remaining reader.old) (λ bytes. IsRefusalOf bytes e)) }
     ensures long { IsErrOf result FileTooLong → HasTaken (R.remaining reader.old) (R.remaining reader.new) (λ n. n ≡ 67108865) }
     ensures unread { IsErrOf result ReadFailed → HasTaken (R.remaining reader.old) (R.remaining reader.new) (λ n. n ≤ 67108864) }
+    ensures within { OnOk result (HasTaken (R.remaining reader.old) (R.remaining reader.new) (λ n. n ≤ 67108864)) }
+    ensures within_fault { IfErr result (λ e. e ≢ FileTooLong → e ≢ Memory → HasTaken (R.remaining reader.old) (R.remaining reader.new) (λ n. n ≤ 67108864)) }
+    ensures most { HasTaken (R.remaining reader.old) (R.remaining reader.new) (λ n. n ≤ 67108865) }
     ensures only { IfErr result IsFaultOfRun }
 {
     let bytes = match read_bytes(alloc, reader) {

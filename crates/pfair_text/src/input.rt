@@ -1,6 +1,6 @@
 //! Reading the whole of a reader, up to the longest file that is taken.
 
-ghost use Rattle.std.specs.Prelude.{◌≡◌, ◌≤◌, ◌<◌, ℕ, List, length, IfOk, IsErrOf};
+ghost use Rattle.std.specs.Prelude.{◌≡◌, ◌≤◌, ◌<◌, ℕ, List, length, IfOk, IsErrOf, OnOk};
 ghost use Rattle.std.specs.Io.KnownBytes.{Consumes, IsAtEnd};
 ghost use Rattle.pfair_text.specs.Input.{HasTaken};
 ghost use Rattle.pfair_text.specs.declared.input.ReadFault.TheVariants.{TooLong, ReadFailed};
@@ -27,7 +27,8 @@ pub enum ReadFault {
 
 /// All the bytes of a reader.
 ///
-/// At most one byte more than the longest file has is read, so the call ends whatever the reader gives.
+/// At most one byte more than the longest file has is read, whatever the answer, so the call ends whatever the reader
+/// gives. Takes time and memory in proportion to the bytes that come.
 ///
 /// # Errors
 /// [`ReadFault::TooLong`] only where more than [`LONGEST_FILE`] bytes came, [`ReadFault::ReadFailed`] where the reader
@@ -38,6 +39,8 @@ pub fn read_bytes<R: Read>(alloc: Global, reader: &mut R) -> Result<Vec<u8>, Rea
     ensures end { IfOk result (λ _. IsAtEnd (R.remaining reader.new)) }
     ensures long { IsErrOf result TooLong → HasTaken (R.remaining reader.old) (R.remaining reader.new) (λ n. n ≡ 67108865) }
     ensures failed { IsErrOf result ReadFailed → HasTaken (R.remaining reader.old) (R.remaining reader.new) (λ n. n ≤ 67108864) }
+    ensures within { OnOk result (HasTaken (R.remaining reader.old) (R.remaining reader.new) (λ n. n ≤ 67108864)) }
+    ensures most { HasTaken (R.remaining reader.old) (R.remaining reader.new) (λ n. n ≤ 67108865) }
 {
     let mut bytes = Vec::new(alloc);
     let mut piece = [0u8; PIECE];

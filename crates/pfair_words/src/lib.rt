@@ -2,6 +2,7 @@
 #![tactic(auto)]
 
 mod command;
+mod help;
 mod words;
 
 pub use words::{Asked, WordsFault, read_words};

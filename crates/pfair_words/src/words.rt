@@ -22,7 +22,7 @@ pub enum Asked {
     Decisions { file: String },
     /// The lags of a task file.
     Lags { file: String },
-    /// A text that tells how the program is used.
+    /// A text about the program: how it is used, or its name and version.
     Help { text: String },
 }
 
@@ -112,12 +112,12 @@ fn read_file_name(alloc: Global, words: &ArgMatches<'_>) -> Result<String, Words
     }
 }
 
-// Help, or the fault.
+// Help or the version, or the fault.
 fn refusal(alloc: Global, error: &Error) -> Result<Asked, WordsFault>
     ensures { IfOk result HasCount }
 {
     match error.kind() {
-        ErrorKind::DisplayHelp => Ok(Asked::Help {
+        ErrorKind::DisplayHelp | ErrorKind::DisplayVersion => Ok(Asked::Help {
             text: error.to_string(alloc)?,
         }),
         ErrorKind::OutOfMemory => Err(WordsFault::Memory),

@@ -27,6 +27,9 @@ returns g c =
       refused = no_refusal c.send_text.result (g.R.Read.remaining c.args.reader.now) c.send_text.ensures.only;
       long = search rules;
       unread = search rules;
+      within = search rules;
+      within_fault = search rules;
+      most = search rules;
       nothing = search rules;
       cut = λ failed. on_err c.send_text.result _
           (output_of_whole placed_replay_of_run (g.R.Read.remaining c.args.reader.now) first c.as_slice-3.result.now

@@ -1,4 +1,4 @@
-use Rattle.std.proofs.Common.{◌-◌, ◌+◌, ◌≤◌, vec_len}
+use Rattle.std.proofs.Common.{◌-◌, ◌≤◌, vec_len}
 use Rattle.std.specs.Io.KnownBytes.{Consumes}
 use Rattle.pfair_text.proofs.input.read_bytes.Given as goal
 

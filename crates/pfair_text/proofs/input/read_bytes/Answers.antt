@@ -1,0 +1,18 @@
+use Rattle.std.proofs.Common.{ℕ, List, Option, None, Some, ◌≡◌, ◌≤◌, ◌-◌, ◌++◌, length, take, arith, rules, ◌∙◌, ap, sym}
+use Rattle.std.proofs.lemmas.List.{append_assoc, length-append}
+use Rattle.std.specs.Io.KnownBytes.{Consumes}
+use Rattle.pfair_text.proofs.input.read_bytes.Goals as goal
+
+-- bytes that came, and then more
+consumes-more : (old mid new : Option (List ℕ)) (first more : List ℕ) → Consumes old mid first → Consumes mid new more → Consumes old new (first ++ more)
+consumes-more None mid new first more a b = tt
+consumes-more (Some xs) None new first more a b = absurd a
+consumes-more (Some xs) (Some ys) None first more a b = absurd b
+consumes-more (Some xs) (Some ys) (Some zs) first more a b = a ∙ ap (λ rest. first ++ rest) b ∙ sym (append_assoc first more zs)
+
+pub returns-then-is_err-clause-most : goal.returns-then-is_err-clause-most
+returns-then-is_err-clause-most g c =
+    let taken : length (take c.in-Ok.count c.read.new.buf) ≤ 67108865 - c.len-in-pieces.result = search rules in
+    let held : length c.pieces.bytes.items ≡ c.len-in-pieces.result = search rules in
+    let size = length-append c.pieces.bytes.items (take c.in-Ok.count c.read.new.buf) in
+    (_, consumes-more _ _ _ _ _ c.pieces.invariant.1 c.in-Ok.ensures.bytes.0, omega arith)

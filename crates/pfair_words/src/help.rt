@@ -1,0 +1,130 @@
+//! The texts of help. Each line of them has at most 100 characters.
+
+pub(crate) const ABOUT: &str =
+    "Proportionate-fair (Pfair) scheduling of quanta on several processors, in the PD2 order";
+
+pub(crate) const WINDOWS_ABOUT: &str =
+    "Prints the windows of a weight's subtasks at offset 0, one row each";
+
+pub(crate) const REPLAY_ABOUT: &str =
+    "Prints the schedule of a task file, one row for each quantum";
+
+pub(crate) const AFFINITY_HELP: &str = "End each row with its place, the processor that runs it";
+
+pub(crate) const DECISIONS_ABOUT: &str =
+    "Prints who was admitted or refused and who departs, one row for each announcement";
+
+pub(crate) const LAGS_ABOUT: &str =
+    "Prints how far each task is from its fluid share, one row for each time and task";
+
+pub(crate) const AFTER: &str = "Examples:
+  pfair windows 8 11 8
+  pfair replay examples/two_processors.toml
+  pfair decisions examples/two_processors.toml
+
+Each command has help of its own. `pfair replay --help` shows a task file, and says what the
+columns, the refusals and the faults mean.
+
+A fault is one line on standard error, `pfair: NUMBER TEXT`. Standard output is then empty; only a
+writer that fails (71) may have taken the beginning of the text.
+
+Exit status, by the numbers of the faults:
+  0  done
+  1  refused: a weight (4 to 6) or the command line (80)
+  2  refused: the task file (60 to 66)
+  3  the run stalled (52), its gate gave up (53), or it went astray (54)
+  4  out of memory, or a thread couldn't be started (90)
+  5  a file can't be opened or read (70), or writing failed (71)
+
+Documents of the repository:
+  docs/TUTORIAL.md       from one task to a study, by examples
+  docs/SPECIFICATION.md  the model, the rules, the task file, the outputs, each fault
+  docs/PROOFS.md         what is proved, and what isn't";
+
+pub(crate) const WINDOWS_AFTER: &str = "Columns:
+  i  index of the subtask, from 1
+  r  release: the slot in which its window opens
+  d  deadline: the slot before which its window closes
+  b  b-bit: 1 where the window reaches into that of the next subtask, else 0
+  D  group deadline, and 0 for a weight below a half
+
+Faults: 4 zero cost, 5 cost over period, 6 period too long, 80 command line refused (status 1).
+
+Example: pfair windows 8 11 8";
+
+// The columns of a command over a task file, and then what all of them share.
+macro_rules! with_task_file {
+    ($columns:literal) => {
+        concat!(
+            $columns,
+            "
+
+A task file:
+  version = 1       # 2, where a task has `early = true`
+  processors = 1    # 1 to 64
+  frame = 2         # each period has to divide it
+  slots = 4         # how many slots are planned
+  [[entry]]         # what a processor's log says, entry after entry
+  processor = 0     # whose log it is, from 0
+  floor = 0         # from this entry on, nothing of this log is stamped before this slot
+  kind = \"arrive\"   # \"depart\" has no cost and period; \"late\" has `index` and `by` in their place
+  at = 0            # the stamp: the slot at whose beginning it counts, the floor or later
+  name = \"a\"        # a letter a-z, then letters a-z, digits and _: at most 16
+  cost = 1          # quanta in each period
+  period = 2        # in slots
+An entry without `kind` has a floor alone. Keys that aren't known are ignored: an entry in which
+the key `kind` is misspelt says nothing, and no fault tells.
+
+Refusals, by the number that `decisions` prints:
+  20 name taken            a task of this name is there, or it departs and isn't free yet
+  21 period outside frame  the period doesn't divide the frame
+  22 no room               with it the weights would be more than the processors
+  23 no such task          nobody of this name is there
+  24 already departing     the task departs already
+  25 already released      the stamp is past the subtask's release, or the subtask has run
+A refused task isn't in `replay` or `lags`, and the run goes on: look for it by `decisions`.
+
+Faults of the file: the place at the end, as in `62 floor of wrong kind at 7`, is 0 for the head
+of the file, and n for its n-th [[entry]]. The number in `entry 2 of processor 0 refused` counts
+the entries of that processor alone, from 1.
+
+Stalled: `52 stalled at slot S` says that the logs settle only the slots below S. In some log a
+floor fell: it is below the floor of the entry before, and from there on the log isn't believed.
+Every log's floors have to rise, or stay, until they come to `slots`. The reader adds the last
+entry, with floor `slots`, by itself, so no more is needed than floors that don't fall: put the
+entries of a log in the order of their floors, or ask for at most S slots."
+        )
+    };
+}
+
+pub(crate) const REPLAY_AFTER: &str = with_task_file!(
+    "Columns:
+  slot       the slot, from 0; a slot in which nobody runs has no row
+  processor  the row of the slot's table, from 0, in the PD2 order: not a log, nor where it runs
+  task       the task that has the quantum
+  index      the index of its subtask, from 1
+  place      (--affinity) the processor that runs it. A task that ran in the slot before stays on
+             its processor; each other row, in order, takes the least one left. That a task
+             seldom changes processors isn't promised"
+);
+
+pub(crate) const DECISIONS_AFTER: &str = with_task_file!(
+    "Columns:
+  slot       the slot of the stamp, at whose beginning it is decided
+  processor  the processor whose log says it, as in the file
+  number     the number of the entry in that log, from 1
+  task       the task that it names
+  outcome    `admitted`, `departing`, `delayed`, or `refused`
+  value      departing: the slot from which its weight and its name are free; refused: the number
+             of the refusal; else -"
+);
+
+pub(crate) const LAGS_AFTER: &str = with_task_file!(
+    "Columns:
+  time       the end of a slot: the slot, and 1
+  task       a task that is there and doesn't depart
+  numerator  cost * (time since it joined) - period * (quanta that it had)
+  period     its period: the lag is the numerator over the period, positive where it is behind
+A schedule is Pfair where each lag stays between -1 and 1, and meets deadlines where it stays below
+1. Late releases are left out of account."
+);
