@@ -1,0 +1,55 @@
+-- What the calls of the C library answer.
+use Rattle.std.specs.Prelude.{ℕ, zero, suc, ◌≡◌, ◌≤◌, false, ◌&&◌, nat_eq, nat_lt, nat_le, if◌then◌else◌}
+use Rattle.std.specs.declared.option.Option.TheVariants.{None, Some}
+use Rattle.pfair_weight.specs.Share.{Share}
+use Rattle.pfair_weight.specs.Window.{release_of, deadline_of, b_bit_of, group_deadline_of}
+use Rattle.pfair_table.specs.Refinement.{Dispatch, course_of, IsStepOf, IsPlanFault, after_fault}
+use Rattle.pfair_table.specs.declared.answer.Step.TheVariants.{Planned, Waiting, Done}
+use Rattle.pfair_table.specs.declared.answer.PlanFault.TheVariants.{Torn}
+use Rattle.pfair_table.specs.declared.answer.PlanFault.{PlanFault}
+use Rattle.pfair_table.specs.declared.event.Event.TheVariants.{Plan}
+use Rattle.pfair_table.specs.Table.{Settings}
+use Rattle.pfair_table.specs.Limits.{IsSettings}
+use Rattle.pfair_table.specs.Events.{start, happens}
+use Rattle.pfair_handle.specs.Kept.{Kept}
+use Rattle.pfair_c.specs.declared.window.PfairWindow.{PfairWindow}
+use Rattle.pfair_c.specs.declared.plan.PfairStep.{PfairStep}
+
+-- the answer of `pfair_window`: 4 to 6 where there is no such weight, 100 where the subtask or the offset is out of range
+abbrev pub window_answer : ℕ → ℕ → ℕ → ℕ → ℕ
+window_answer cost period index theta =
+    if nat_eq cost 0 then 4
+    else (if nat_lt period cost then 5
+    else (if nat_lt 1000000000 period then 6
+    else (if nat_le 1 index && nat_le index 1000001 && nat_le theta 1099511627776 then 0 else 100)))
+
+-- the window of a subtask, by the formulas
+abbrev pub window_of : Share → ℕ → ℕ → PfairWindow
+window_of w i theta = record { release = release_of w i theta; deadline = deadline_of w i theta; b_bit = b_bit_of w i; group_deadline = group_deadline_of w i theta }
+
+-- settings and a capacity that a dispatcher can have
+abbrev pub IsOpenable : Settings → ℕ → Type 0
+IsOpenable s capacity = IsSettings s × (1 ≤ capacity) × (capacity ≤ 4096)
+
+-- a new dispatcher
+abbrev pub IsStarted : Settings → ℕ → Kept → Type 0
+IsStarted s capacity None = ⊥
+IsStarted s capacity (Some x) = (course_of x.dispatcher ≡ start s capacity) × (x.dispatcher.spent ≡ false) × (x.dispatcher.settings ≡ s)
+
+-- a step as C has it: by its kind and its slot
+abbrev pub IsStepAs : Dispatch → ℕ → ℕ → Type 0
+IsStepAs d zero slot = IsStepOf d (Planned slot)
+IsStepAs d (suc zero) slot = IsStepOf d (Waiting slot)
+IsStepAs d (suc (suc zero)) slot = IsStepOf d Done
+IsStepAs d (suc (suc (suc n))) slot = ⊥
+
+-- the dispatcher d answered with this step, and is e then
+abbrev pub IsPlannedTo : PfairStep → Dispatch → Dispatch → Type 0
+IsPlannedTo step d e = IsStepAs d step.kind step.slot × (course_of e ≡ happens d.settings (course_of d) Plan)
+
+-- the dispatcher d refused for this cause, and is e then
+abbrev pub IsRefusedTo : PlanFault → Dispatch → Dispatch → Type 0
+IsRefusedTo f d e = IsPlanFault d f × (e ≡ after_fault d f)
+
+abbrev pub torn_at : PfairStep → PlanFault
+torn_at step = Torn (record { processor = step.processor; number = step.number })

@@ -1,0 +1,4 @@
+mod AsBox
+mod Found
+mod Values
+mod Written

@@ -1,0 +1,33 @@
+-- What holds of the dispatchers behind handles.
+use Rattle.std.specs.Prelude.{◌≡◌}
+use Rattle.std.specs.declared.option.Option.TheVariants.{None, Some}
+use Rattle.pfair_replica.specs.HeldRows.{replica_of}
+use Rattle.pfair_replica.specs.Offered.{absorbed}
+use Rattle.pfair_replica.specs.Faults.{IsPartlyMerged}
+use Rattle.pfair_table.specs.Refinement.{Dispatch}
+use Rattle.pfair_handle.specs.Kept.{Kept}
+
+-- a dispatcher is there, and this holds of it
+abbrev pub Of : Kept → (Dispatch → Type 0) → Type 0
+Of (Some x) P = P x.dispatcher
+Of None P = ⊥
+
+-- one dispatcher is there, and another: before and after a call, or behind two handles
+abbrev pub Between : Kept → Kept → (Dispatch → Dispatch → Type 0) → Type 0
+Between (Some x) (Some y) P = P x.dispatcher y.dispatcher
+Between None y P = ⊥
+Between (Some x) None P = ⊥
+
+-- the dispatcher x, behind a handle, takes all that o, behind another, holds, and is y then
+abbrev pub IsAbsorbedTo : Kept → Kept → Kept → Type 0
+IsAbsorbedTo (Some x) (Some o) (Some y) = replica_of y.dispatcher.held ≡ absorbed (replica_of x.dispatcher.held) (replica_of o.dispatcher.held)
+IsAbsorbedTo None o y = ⊥
+IsAbsorbedTo (Some x) None y = ⊥
+IsAbsorbedTo (Some x) (Some o) None = ⊥
+
+-- or it takes a part of that
+abbrev pub IsPartlyAbsorbedTo : Kept → Kept → Kept → Type 0
+IsPartlyAbsorbedTo (Some x) (Some o) (Some y) = IsPartlyMerged (replica_of x.dispatcher.held) (replica_of o.dispatcher.held) (replica_of y.dispatcher.held)
+IsPartlyAbsorbedTo None o y = ⊥
+IsPartlyAbsorbedTo (Some x) None y = ⊥
+IsPartlyAbsorbedTo (Some x) (Some o) None = ⊥

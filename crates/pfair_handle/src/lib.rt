@@ -1,0 +1,117 @@
+//! Handles that C can hold: a pointer to a dispatcher on the heap, with what it owns.
+//!
+//! The proofs by hand stand here alone: a box as its pointer, and the pointer without its type.
+#![tactic(auto)]
+
+ghost use Rattle.std.specs.Prelude.{◌≡◌, true, None, Some, IfOk, IfErr, OnOk, OnErr, Err};
+ghost use Rattle.pfair_replica.specs.HeldRows.{held, replica_of, SameShape};
+ghost use Rattle.pfair_replica.specs.Offered.{taken as offered_to};
+ghost use Rattle.pfair_replica.specs.Faults.{IsKeyOf, IsTakenAs, IsTakeFaultOf, IsMergeFaultOf};
+ghost use Rattle.pfair_handle.specs.Kept.{is_kept};
+ghost use Rattle.pfair_handle.specs.Behind.{Of, Between, IsAbsorbedTo, IsPartlyAbsorbedTo};
+
+mod loose;
+pub mod owner;
+pub mod rows;
+pub mod served;
+
+use loose::Loose;
+use owner::Owner;
+use pfair_entry::Entry;
+use pfair_replica::{MergeFault, TakeFault, Taken};
+use served::Served;
+use std::alloc::Global;
+use std::mem::replace;
+
+/// A dispatcher of C's, or none. C keeps it, and hands its address to each call.
+#[repr(C)]
+pub struct Handle {
+    is_open: bool,
+    /// The dispatcher, where there is one.
+    pub owner: Owner,
+    ghost open: { is_kept owner.kept ≡ is_open },
+}
+
+impl Handle {
+    /// Whether there is a dispatcher.
+    pub fn is_open(&self) -> bool
+        ensures { result ≡ is_kept self.now.owner.kept }
+    {
+        self.is_open
+    }
+
+    /// Takes the dispatcher out.
+    pub fn take(&mut self, alloc: Global) -> Box<Served, Global>
+        requires { is_kept self.old.owner.kept ≡ true }
+        ensures taken { self.old.owner.kept ≡ Some result.value }
+        ensures left { self.new.owner.kept ≡ None }
+    {
+        let none = Handle {
+            is_open: false,
+            owner: Owner::none(alloc),
+        };
+        let Handle { is_open: _, owner } = replace(self, none);
+        owner.into_loose().into_box()
+    }
+
+    /// Puts a dispatcher in.
+    pub fn put(&mut self, served: Box<Served, Global>)
+        requires { self.old.owner.kept ≡ None }
+        ensures { self.new.owner.kept ≡ Some served.value }
+    {
+        let full = Handle {
+            is_open: true,
+            owner: Owner::of(Loose::of(served)),
+        };
+        let Handle { is_open: _, owner } = replace(self, full);
+        owner.close();
+    }
+
+    /// The dispatcher takes the entry, as [`Dispatcher::take`](pfair_table::Dispatcher::take).
+    ///
+    /// # Errors
+    /// Those of that call; the dispatcher is then as before.
+    pub fn offer(
+        &mut self,
+        alloc: Global,
+        processor: u8,
+        number: u32,
+        entry: Entry,
+    ) -> Result<Taken, TakeFault>
+        requires { is_kept self.old.owner.kept ≡ true }
+        ensures answer { IfOk result (λ how. Of self.old.owner.kept (λ d. IsTakenAs (held d.held processor number) entry how)) }
+        ensures key { OnOk result (Of self.old.owner.kept (λ d. IsKeyOf d.held processor number)) }
+        ensures fault { IfErr result (λ fault. Of self.old.owner.kept (λ d. IsTakeFaultOf d.held processor number fault)) }
+        ensures offered { OnOk result (Between self.old.owner.kept self.new.owner.kept (λ d e. replica_of e.held ≡ offered_to (replica_of d.held) processor number entry)) }
+        ensures rest { OnOk result (Between self.old.owner.kept self.new.owner.kept (λ d e. e ≡ record d { held = e.held })) }
+        ensures unchanged { OnErr result (self.new.owner.kept ≡ self.old.owner.kept) }
+    {
+        let mut served = self.take(alloc);
+        let answer = served.dispatcher.take(processor, number, entry);
+        self.put(served);
+        answer
+    }
+
+    /// The dispatcher takes all that the other holds, as [`Dispatcher::absorb`](pfair_table::Dispatcher::absorb).
+    ///
+    /// # Errors
+    /// Those of that call.
+    pub fn absorb(&mut self, alloc: Global, other: &mut Handle) -> Result<(), MergeFault>
+        requires open { is_kept self.old.owner.kept ≡ true }
+        requires other_open { is_kept other.old.owner.kept ≡ true }
+        ensures joined { OnOk result (IsAbsorbedTo self.old.owner.kept other.old.owner.kept self.new.owner.kept) }
+        ensures same_shape { OnOk result (Between self.old.owner.kept other.old.owner.kept (λ d o. SameShape d.held o.held)) }
+        ensures fault { IfErr result (λ fault. Between self.old.owner.kept other.old.owner.kept (λ d o. IsMergeFaultOf d.held o.held fault)) }
+        ensures unchanged { result ≡ Err MergeFault.OtherShape → self.new.owner.kept ≡ self.old.owner.kept }
+        ensures partly { OnErr result (IsPartlyAbsorbedTo self.old.owner.kept other.old.owner.kept self.new.owner.kept) }
+        ensures rest { Between self.old.owner.kept self.new.owner.kept (λ d e. e ≡ record d { held = e.held }) }
+        ensures other { other.new.owner.kept ≡ other.old.owner.kept }
+    {
+        let mut served = self.take(alloc);
+        let from = other.take(alloc);
+        let answer = served.dispatcher.absorb(from.dispatcher.replica());
+        self.put(served);
+        other.put(from);
+        answer
+    }
+}

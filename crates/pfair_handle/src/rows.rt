@@ -1,0 +1,113 @@
+//! Rows, as C has them: names, the quanta of a table, places and decisions.
+ghost use Rattle.std.specs.Prelude.{◌≡◌, ◌≤◌, length, map};
+ghost use Rattle.pfair_handle.specs.Rows.{name_row, pick_row, decided_row, written_over};
+
+use pfair_admission::Decision;
+use pfair_table::{Decided, Pick};
+use pfair_weight::TaskName;
+
+/// A name: its first `length` bytes.
+#[repr(C)]
+#[derive(Clone, Copy)]
+pub struct PfairName {
+    /// The bytes; in a name that is given out, zeros behind the name's own.
+    pub bytes: [u8; 16],
+    /// How many bytes the name has.
+    pub length: u64,
+}
+
+/// A quantum of a slot.
+#[repr(C)]
+#[derive(Clone, Copy)]
+pub struct PfairPick {
+    /// The task.
+    pub name: PfairName,
+    /// Its subtask, counted from 1.
+    pub index: u64,
+}
+
+/// A decision at a slot's boundary.
+#[repr(C)]
+#[derive(Clone, Copy)]
+pub struct PfairDecided {
+    /// The task.
+    pub name: PfairName,
+    /// The processor in whose log the entry stands, counted from 0.
+    pub processor: u64,
+    /// The entry's number there, counted from 1.
+    pub number: u64,
+    /// 0 admitted, 1 departing, 2 delayed, else the number of the refusal, 20 to 25.
+    pub outcome: u64,
+    /// Of a departure the slot from which weight and name are free, else 0.
+    pub freed_at: u64,
+}
+
+/// The name as C has it.
+fn name_row(name: &TaskName) -> PfairName
+    ensures { result ≡ name_row name.now }
+{
+    let mut bytes = [0; 16];
+    let own = name.as_bytes();
+    bytes[..own.len()].copy_from_slice(own);
+    PfairName {
+        bytes,
+        length: own.len() as u64,
+    }
+}
+
+/// The quantum as C has it.
+fn pick_row(pick: &Pick) -> PfairPick
+    ensures { result ≡ pick_row pick.now }
+{
+    PfairPick {
+        name: name_row(&pick.name),
+        index: pick.index,
+    }
+}
+
+/// The decision as C has it.
+fn decided_row(one: &Decided) -> PfairDecided
+    ensures { result ≡ decided_row one.now }
+{
+    let (outcome, freed_at) = match one.decision {
+        Decision::Admitted => (0, 0),
+        Decision::Departing { freed_at } => (1, freed_at),
+        Decision::Delayed => (2, 0),
+        Decision::Refused(refusal) => (refusal.number() as u64, 0),
+    };
+    PfairDecided {
+        name: name_row(&one.announcement.name()),
+        processor: one.processor as u64,
+        number: one.number as u64,
+        outcome,
+        freed_at,
+    }
+}
+
+/// Writes a table over the first rows.
+pub fn write_table(table: &[Pick], rows: &mut [PfairPick])
+    requires { length table.now ≤ length rows.old }
+    ensures { rows.new ≡ written_over (map pick_row table.now) rows.old }
+{
+    for (place, pick) in table.iter().enumerate() {
+        rows[place] = pick_row(pick);
+    }
+}
+
+/// Writes places over the first rows.
+pub fn write_places(places: &[u8], rows: &mut [u8])
+    requires { length places.now ≤ length rows.old }
+    ensures { rows.new ≡ written_over places.now rows.old }
+{
+    rows[..places.len()].copy_from_slice(places);
+}
+
+/// Writes decisions over the first rows.
+pub fn write_decisions(decisions: &[Decided], rows: &mut [PfairDecided])
+    requires { length decisions.now ≤ length rows.old }
+    ensures { rows.new ≡ written_over (map decided_row decisions.now) rows.old }
+{
+    for (place, one) in decisions.iter().enumerate() {
+        rows[place] = decided_row(one);
+    }
+}
