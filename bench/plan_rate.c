@@ -2,7 +2,7 @@
  * How fast a dispatcher plans, through the C library: plan_rate SLOTS
  *
  * 8 processors, 100 tasks at a load of 7.5, each table read as it is planned. Writes the quanta and the sum of their
- * subtasks' indexes. plan_rate.rt does the same in the library's own language.
+ * subtasks' indexes. plan_rate.rt.txt does the same in the library's own language.
  */
 #include "pfair.h"
 #include <inttypes.h>
