@@ -11,10 +11,11 @@ use Rattle.pfair_entry.specs.Entry.{Logged, IsEntry}
 use Rattle.pfair_entry.specs.Same.{entry_eq}
 use Rattle.pfair_entry.specs.Exact.{entry_exact}
 use Rattle.pfair_replica.specs.Replica.{Contents, IsReplica, only, contents_join}
-use Rattle.pfair_table.specs.Laws.{OneTable}
+use Rattle.pfair_table.specs.Laws.{IsOf, OnePlan, OneTable}
+use Rattle.pfair_table.specs.Table.{Settings}
 use Rattle.pfair_board.specs.Boards.{IsKey}
 use Rattle.pfair_board.specs.Steps.{State, Step, IsStep, Set, Get, Meet, empty_board, set_cell, learned, with_desk, looked, happens, run, one_of, EachDeskBelow, desk_replica}
-use Rattle.pfair_board.specs.Laws.{DesksStayBelow, DesksAgree, DesksPlanAlike}
+use Rattle.pfair_board.specs.Laws.{DesksStayBelow, DesksAgree, DesksPlanAlike, DesksShareAPlan}
 
 -- contents that are below the set cells
 abbrev UnderCells : Contents → (ℕ → ℕ → Option Logged) → Type 0
@@ -143,9 +144,21 @@ desk_is_replica processors capacity steps all d =
       stamped = λ k n e h. (let t = cell k n (One e) h in subst IsEntry (let same : t.0 ≡ e = (let back = t.2 in cc) in same) (good k n t.0 t.1).1);
     }
 
+-- what a desk holds after steps of this shape is a replica for these settings
+desk_is_of : (s : Settings) (capacity : ℕ) (steps : List Step) → AllByRecursion (IsStep s.processors capacity) steps → (c : ℕ)
+    → IsOf s (desk_replica s.processors capacity (run steps empty_board) c)
+desk_is_of s capacity steps all c = record { replica = desk_is_replica s.processors capacity steps all c; processors = refl }
+
 pub desks_plan_alike : OneTable → DesksPlanAlike
 desks_plan_alike one_table s capacity steps all c d t h g =
     let b = run steps empty_board in
     (one_table s (desk_replica s.processors capacity b c) (desk_replica s.processors capacity b d)
-    (record { replica = desk_is_replica s.processors capacity steps all c; processors = refl }) (record { replica = desk_is_replica s.processors capacity steps all d; processors = refl })
+    (desk_is_of s capacity steps all c) (desk_is_of s capacity steps all d)
     (desks_agree steps c d s.processors capacity) t h g).0
+
+pub desks_share_a_plan : OnePlan → DesksShareAPlan
+desks_share_a_plan one_plan s capacity steps all c d =
+    let b = run steps empty_board in
+    one_plan s (desk_replica s.processors capacity b c) (desk_replica s.processors capacity b d)
+    (desk_is_of s capacity steps all c) (desk_is_of s capacity steps all d)
+    (desks_agree steps c d s.processors capacity)

@@ -1,5 +1,7 @@
 -- How many keys are newly held.
 use Rattle.std.proofs.Common.{◌≡◌, ℕ, zero, suc, ◌+◌, ◌-◌, ◌<◌, ◌≤◌, Bool, true, false, not, cond, ◌&&◌, is_some, is_none, Some, None, IsSome, length, inl, inr, refl, sym, ap, ◌∙◌, subst, arith}
+use Rattle.std.specs.Prelude.{◌==◌}
+use Rattle.std.proofs.lemmas.Bool.{cases_Bool, eqb-true, eqb-false}
 use Rattle.std.proofs.lemmas.Option.{slice_get_cases}
 use Rattle.pfair_lattice.specs.declared.flat.Flat.{Flat}
 use Rattle.pfair_lattice.specs.declared.flat.Flat.TheVariants.{One}
@@ -60,6 +62,17 @@ grown_same a b same kept = record { proc = same.proc; cells = same.cells; proces
 
 pub no_gap_alike : (x y z : Replica) (k : ℕ) → ((n : ℕ) → y.at k n ≡ z.at k n) → NoGapInRow x y k → NoGapInRow x z k
 no_gap_alike x y z k same gap n j none some a b = subst (λ h. IsSome h) (same j) (gap n j none (subst (λ h. IsSome h) (sym (same n)) some) a b)
+
+pub no_gap_itself : (x : Replica) (k : ℕ) → NoGapInRow x x k
+no_gap_itself x k n j none some a b = absurd (let bad = subst (λ h. IsSome h) none some in cc bad)
+
+-- one row after another
+pub no_gap_on : (old now new : Replica) (row : ℕ) → ((n : ℕ) → now.at row n ≡ old.at row n) → ((k n : ℕ) → (k ≡ row → ⊥) → new.at k n ≡ now.at k n)
+    → ((k : ℕ) → NoGapInRow old now k) → NoGapInRow now new row → (k : ℕ) → NoGapInRow old new k
+no_gap_on old now new row same others before mine k = elim (cases_Bool (k == row)) [
+  | inl here ↦ subst (NoGapInRow old new) (sym (eqb-true k row here)) (λ n j none some a b. mine n j (same n ∙ none) some a b)
+  | inr apart ↦ no_gap_alike old now new k (λ n. sym (others k n (eqb-false k row apart))) (before k)
+]
 
 pub same_learned : (d new : DeskView) (p m : ℕ) (e : Logged) → state_of new ≡ learned (state_of d) p m e → SameDesk d new
 same_learned d new p m e is = record {

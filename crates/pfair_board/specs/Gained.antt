@@ -1,6 +1,8 @@
 -- What a desk gains.
 use Rattle.std.specs.Prelude.{◌≡◌, ℕ, suc, zero, ◌+◌, ◌≤◌, Bool, not, ◌&&◌, cond, is_some, None, IsSome}
+use Rattle.pfair_replica.specs.HeldRows.{HeldRows, held}
 use Rattle.pfair_replica.specs.Replica.{Replica}
+use Rattle.pfair_board.specs.Boards.{IsKey}
 use Rattle.pfair_board.specs.Desks.{DeskView}
 
 -- (k, n) is held in y and was missing in x
@@ -24,6 +26,13 @@ gained x y = gained_in_rows x y y.processors
 -- in the row, no number up to a newly held one is missing
 abbrev pub NoGapInRow : Replica → Replica → ℕ → Type 0
 NoGapInRow x y k = (n j : ℕ) → x.at k n ≡ None → IsSome (y.at k n) → 1 ≤ j → j ≤ n → IsSome (y.at k j)
+
+-- a key of the board that isn't held
+pub record LacksSome (rows : HeldRows) : Type 0 where
+  pub processor : ℕ
+  pub number : ℕ
+  pub key : IsKey rows.processors rows.capacity processor number
+  pub missing : held rows processor number ≡ None
 
 -- the desk as it was but for what it holds
 pub record SameDesk (old now : DeskView) : Type 0 where

@@ -1,8 +1,9 @@
 -- What holds of every board, whatever the desks do.
-use Rattle.std.specs.Prelude.{ℕ, ◌≡◌, ◌<◌, List}
+use Rattle.std.specs.Prelude.{ℕ, ◌≡◌, ◌<◌, ◌⊎◌, List}
 use Rattle.std.specs.List.{AllByRecursion}
 use Rattle.pfair_replica.specs.Replica.{Agree, frontier}
-use Rattle.pfair_table.specs.Table.{Settings, table}
+use Rattle.pfair_table.specs.Laws.{IsPrefixOf}
+use Rattle.pfair_table.specs.Table.{Settings, plan, table}
 use Rattle.pfair_board.specs.Steps.{Step, IsStep, empty_board, run, EachDeskBelow, desk_replica}
 
 -- After any steps of any desks, from empty cells and desks, what each desk holds is below the map of the set cells.
@@ -23,3 +24,12 @@ DesksPlanAlike =
     → let x = desk_replica s.processors capacity (run steps empty_board) c in
     let y = desk_replica s.processors capacity (run steps empty_board) d in
     t < frontier x → t < frontier y → table s x t ≡ table s y t
+
+-- and of the plans of two desks, at equal settings, the shorter begins the longer.
+abbrev pub DesksShareAPlan : Type 0
+DesksShareAPlan =
+    (s : Settings) (capacity : ℕ) (steps : List Step) → AllByRecursion (IsStep s.processors capacity) steps
+    → (c d : ℕ)
+    → let x = desk_replica s.processors capacity (run steps empty_board) c in
+    let y = desk_replica s.processors capacity (run steps empty_board) d in
+    IsPrefixOf (plan s x) (plan s y) ⊎ IsPrefixOf (plan s y) (plan s x)

@@ -8,7 +8,7 @@ ghost use Rattle.pfair_replica.specs.Replica.{Below, Untorn};
 ghost use Rattle.pfair_board.specs.Boards.{BoardFrame, IsKey};
 ghost use Rattle.pfair_board.specs.Desks.{DeskView, state_of, IsDeskOf, OfOneBoard, IsPartlyMet, GrownDesk, Keeps, fresh_desk, learned, numbered, met};
 ghost use Rattle.pfair_board.specs.Faults.{IsLookFaultOf, IsPublishFaultOf};
-ghost use Rattle.pfair_board.specs.Gained.{gained, gained_in_row, NoGapInRow, SameDesk};
+ghost use Rattle.pfair_board.specs.Gained.{LacksSome, gained, gained_in_row, NoGapInRow, SameDesk};
 
 use crate::board::Board;
 use crate::fault::{LookFault, PublishFault};
@@ -190,17 +190,19 @@ impl Desk {
     }
 
     /// Looks at each processor's numbers, from the first that the desk doesn't hold up to the first empty cell, and answers how many keys
-    /// are newly held. In a row that gained some, no number up to the last one gained is missing then.
+    /// are newly held. In a row that gained some, no number up to the last one gained is missing then, also after want of memory.
     ///
     /// It costs, for each processor, a look at each number that is newly held and at one empty cell, and a look-up for each number past its
     /// sound beginning that was held already. What is in a sound beginning isn't gone through again.
     ///
     /// # Errors
-    /// `AllocError` where memory was wanted and refused; what was found until then is held.
+    /// `AllocError` where memory was wanted and refused, which comes only where a key of the board is still not held; what was found until
+    /// then is held.
     pub fn refresh(&mut self, board: &Board) -> Result<u64, AllocError>
         requires own { IsDeskOf self.old board.now }
         ensures count { IfOk result (λ c. c ≡ gained (replica_of self.old.replica) (replica_of self.new.replica)) }
-        ensures no_gap { OnOk result ((k : ℕ) → NoGapInRow (replica_of self.old.replica) (replica_of self.new.replica) k) }
+        ensures no_gap { (k : ℕ) → NoGapInRow (replica_of self.old.replica) (replica_of self.new.replica) k }
+        ensures lacking { OnErr result (LacksSome self.new.replica) }
         ensures next { self.new.next_number ≡ self.old.next_number }
         ensures kept { GrownDesk self.old self.new }
         ensures own { IsDeskOf self.new board.now }
@@ -218,7 +220,8 @@ impl Desk {
         requires row { proc < self.old.replica.processors }
         ensures count { IfOk result (λ c. c ≡ gained_in_row (replica_of self.old.replica) (replica_of self.new.replica) proc self.new.replica.capacity) }
         ensures few { IfOk result (λ c. c ≤ 4096) }
-        ensures no_gap { OnOk result (NoGapInRow (replica_of self.old.replica) (replica_of self.new.replica) proc) }
+        ensures no_gap { NoGapInRow (replica_of self.old.replica) (replica_of self.new.replica) proc }
+        ensures lacking { OnErr result (LacksSome self.new.replica) }
         ensures same { SameDesk self.old self.new }
         ensures kept { Keeps (replica_of self.old.replica) (replica_of self.new.replica) }
         ensures others { (k n : ℕ) → (k ≡ proc → ⊥) → held self.new.replica k n ≡ held self.old.replica k n }

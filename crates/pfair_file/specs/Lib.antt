@@ -3,6 +3,7 @@ pub mod Documents
 pub mod Entries
 pub mod Faults
 pub mod FileOrder
+pub mod FirstFault
 pub mod Fields
 pub mod Headers
 pub mod Keys

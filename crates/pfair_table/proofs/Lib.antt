@@ -19,3 +19,4 @@ pub mod PlacesOn
 pub mod Alike
 pub mod ReadOn
 pub mod Bucketed
+mod Least

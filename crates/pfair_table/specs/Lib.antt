@@ -9,6 +9,7 @@ pub mod Events
 pub mod Script
 pub mod ScriptRun
 pub mod Laws
+pub mod EventLaws
 pub mod Queue
 pub mod PlanFault
 pub mod Planned

@@ -1,5 +1,6 @@
 //! The laws of agreement, over all replicas and all events. Each function does nothing: its contract is the law.
 
+ghost use Rattle.pfair_table.specs.EventLaws.{EventsLeaveTheLeast};
 ghost use Rattle.pfair_table.specs.Laws.{OneTable, PlansGoOn, OnePlan, TablesAreOrdered, OneSchedule, PlanSoFar, RunsAreCounted};
 ghost use Rattle.pfair_table.specs.PlaceLaws.{PlacesAreKept, PlacesFollowTables, OnePlacing};
 
@@ -28,6 +29,12 @@ pub fn tables_are_ordered()
 /// planned has one table and the same decisions.
 pub fn one_schedule()
     ensures { OneSchedule }
+{}
+
+/// What a list of events leaves is above each entry that they take and each replica that they absorb, and below whatever is
+/// above all of them; what is refused for its key or its shape brings nothing.
+pub fn events_leave_the_least()
+    ensures { EventsLeaveTheLeast }
 {}
 
 /// While nothing is torn, the tables so far begin the plan of what is held.

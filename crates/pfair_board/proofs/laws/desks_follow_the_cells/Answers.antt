@@ -9,3 +9,6 @@ returns-clause-agree c = following.desks_agree
 
 pub returns-clause-tables : goal.returns-clause-tables
 returns-clause-tables c = following.desks_plan_alike c.one_table.ensures
+
+pub returns-clause-plans : goal.returns-clause-plans
+returns-clause-plans c = following.desks_share_a_plan c.one_plan.ensures

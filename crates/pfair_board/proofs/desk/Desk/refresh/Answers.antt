@@ -1,9 +1,14 @@
-use Rattle.std.proofs.Common.{◌≡◌, sym, ◌∙◌, arith, ⊎_elim, subst, add-one}
-use Rattle.std.proofs.lemmas.Bool.{cases_lt}
+use Rattle.std.proofs.Common.{◌≡◌, sym, ◌∙◌, arith, add-one}
 use Rattle.pfair_replica.specs.HeldRows.{replica_of}
-use Rattle.pfair_board.specs.Gained.{gained_in_row, gained_in_rows, NoGapInRow}
-use Rattle.pfair_board.proofs.Gains.{row_alike, rows_alike, same_missing, same_trans, no_gap_alike}
+use Rattle.pfair_board.specs.Gained.{gained_in_row, gained_in_rows}
+use Rattle.pfair_board.proofs.Gains.{row_alike, rows_alike, same_missing, same_trans, no_gap_on}
 use Rattle.pfair_board.proofs.desk.Desk.refresh.Goals as goal
+
+-- want of memory in a row
+pub returns-in_err-found-clause-no_gap : goal.returns-in_err-found-clause-no_gap
+returns-in_err-found-clause-no_gap c =
+    no_gap_on (replica_of c.args.self.now.replica) (replica_of c.loop-proc.self.replica) (replica_of c.refresh_row.new.self.replica) c.loop-proc.proc
+    (λ n. c.loop-proc.invariant.later c.loop-proc.proc n (omega arith)) c.in_err-found.ensures.others c.loop-proc.invariant.no_gap c.in_err-found.ensures.no_gap
 
 pub loop-proc-preserved : goal.loop-proc-preserved
 loop-proc-preserved c =
@@ -18,10 +23,6 @@ loop-proc-preserved c =
       kept = λ k n f is. c.in_ok-found.ensures.kept k n f (c.loop-proc.invariant.kept k n f is);
       count = rw add-one (let count = c.loop-proc.invariant.count in let mine = c.in_ok-found.ensures.count in omega arith);
       few = let few = c.loop-proc.invariant.few in let mine = c.in_ok-found.ensures.few in omega arith;
-      no_gap = λ k lt. ⊎_elim
-          (λ before. no_gap_alike old now new k (λ n. sym (c.in_ok-found.ensures.others k n (λ is. absurd (omega arith)))) (c.loop-proc.invariant.no_gap k before))
-          (λ last. let same : proc ≡ k = omega arith in subst (NoGapInRow old new) same
-          (λ n j none some a b. c.in_ok-found.ensures.no_gap n j (c.loop-proc.invariant.later proc n (omega arith) ∙ none) some a b))
-          (cases_lt k proc);
+      no_gap = no_gap_on old now new proc (λ n. c.loop-proc.invariant.later proc n (omega arith)) c.in_ok-found.ensures.others c.loop-proc.invariant.no_gap c.in_ok-found.ensures.no_gap;
       later = λ k n le. c.in_ok-found.ensures.others k n (λ is. absurd (omega arith)) ∙ c.loop-proc.invariant.later k n (omega arith);
     }

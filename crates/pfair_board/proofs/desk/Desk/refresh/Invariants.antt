@@ -10,6 +10,6 @@ invariant-loop-proc l = record {
   kept : Keeps (replica_of l.fn.self.replica) (replica_of l.self.replica);
   count : l.found ≡ gained_in_rows (replica_of l.fn.self.replica) (replica_of l.self.replica) l.proc;
   few : l.found ≤ 4096 * l.proc;
-  no_gap : (k : ℕ) → k < l.proc → NoGapInRow (replica_of l.fn.self.replica) (replica_of l.self.replica) k;
+  no_gap : (k : ℕ) → NoGapInRow (replica_of l.fn.self.replica) (replica_of l.self.replica) k;
   later : (k n : ℕ) → l.proc ≤ k → held l.self.replica k n ≡ held l.fn.self.replica k n;
 }

@@ -1,0 +1,133 @@
+-- What events leave is the least that is above all that they bring.
+use Rattle.std.proofs.Common.{ℕ, ◌≡◌, ◌≤◌, ◌<◌, refl, sym, ◌∙◌, ap, subst, arith, Bool, true, false, cond, List, [], ◌∷◌, length, Some, None}
+use Rattle.std.specs.Prelude.{◌&&◌, ◌==◌, nat_lt, nat_le, if◌then◌else◌}
+use Rattle.std.specs.List.{AllByRecursion}
+use Rattle.std.proofs.lemmas.Bool.{eqb-true, eq-eqb, ltb-true, leb-true, lt-ltb, le-leb, and_from, and_parts}
+use Rattle.pfair_lattice.specs.declared.flat.Flat.TheVariants.{One}
+use Rattle.pfair_lattice.specs.Held.{HeldBelow}
+use Rattle.pfair_lattice.specs.HeldLaws.{join_least, join_second, below_itself, below_trans, none_below}
+use Rattle.pfair_entry.specs.Entry.{Logged}
+use Rattle.pfair_entry.specs.Same.{entry_eq}
+use Rattle.pfair_entry.specs.Exact.{entry_exact}
+use Rattle.pfair_replica.specs.HeldRows.{replica_of}
+use Rattle.pfair_replica.specs.Offered.{has_key, has_shape, taken, absorbed}
+use Rattle.pfair_replica.specs.Replica.{Replica, Below, join, only, with_entry}
+use Rattle.pfair_replica.proofs.OfferedTo.{offered_stays}
+use Rattle.pfair_table.specs.declared.event.Event.{Event}
+use Rattle.pfair_table.specs.declared.event.Event.TheVariants.{Take, Absorb, Plan}
+use Rattle.pfair_table.specs.EventLaws.{IsBroughtBelow, EventsLeaveTheLeast}
+use Rattle.pfair_table.specs.Events.{Course, start, is_plannable, with_next_slot, happens, run}
+use Rattle.pfair_table.specs.Table.{Settings}
+use Rattle.pfair_table.proofs.Runs.{below_all}
+
+-- a replica of these processors and this capacity
+record HasShape (s : Settings) (m : ℕ) (x : Replica) : Type 0 where
+  pub processors : x.processors ≡ s.processors
+  pub capacity : x.capacity ≡ m
+
+planned_holds : (s : Settings) (c : Course) → (happens s c Plan).held ≡ c.held
+planned_holds s c = by (is_plannable s c.held (length c.tables))
+  where
+    by : (b : Bool) → (if b then with_next_slot s c else c).held ≡ c.held
+    by true = refl
+    by false = refl
+
+shape_stays : (s : Settings) (m : ℕ) (c : Course) (e : Event) → HasShape s m c.held → HasShape s m (happens s c e).held
+shape_stays s m c (Take k n e) shape = (let same = offered_stays.taken_shape c.held k n e in record { processors = same.0 ∙ shape.processors; capacity = same.1 ∙ shape.capacity })
+shape_stays s m c (Absorb y) shape = (let same = offered_stays.absorbed_shape c.held (replica_of y) in record { processors = same.0 ∙ shape.processors; capacity = same.1 ∙ shape.capacity })
+shape_stays s m c Plan shape = subst (HasShape s m) (sym (planned_holds s c)) shape
+
+-- what was held stays held
+step_grows : (s : Settings) (c : Course) (e : Event) → Below c.held (happens s c e).held
+step_grows s c (Take k n e) = offered_stays.taken_above c.held k n e
+step_grows s c (Absorb y) = offered_stays.absorbed_above c.held (replica_of y)
+step_grows s c Plan = subst (Below c.held) (sym (planned_holds s c)) (λ k n. below_itself (c.held.at k n))
+
+grows : (s : Settings) (events : List Event) (c : Course) → Below c.held (run s c events).held
+grows s [] c = λ k n. below_itself (c.held.at k n)
+grows s (e ∷ events) c = below_all c.held (happens s c e).held (run s (happens s c e) events).held (step_grows s c e) (grows s events (happens s c e))
+
+-- ---- above all
+
+-- the entry at its own key
+at_own_key : (k n : ℕ) (e : Logged) → only k n e k n ≡ Some (One e)
+at_own_key k n e = rw (eq-eqb k k refl, eq-eqb n n refl) refl
+
+taken_holds : (x : Replica) (k n : ℕ) (e : Logged) → has_key x k n ≡ true → HeldBelow (Some (One e)) ((taken x k n e).at k n)
+taken_holds x k n e inside =
+    rw inside (subst (λ h. HeldBelow h ((with_entry x k n e).at k n)) (at_own_key k n e) (join_second entry_eq entry_exact (x.at k n) (only k n e k n)))
+
+key_of_shape : (s : Settings) (m : ℕ) (x : Replica) (k n : ℕ) → HasShape s m x → k < s.processors → 1 ≤ n → n ≤ m → has_key x k n ≡ true
+key_of_shape s m x k n shape row first last =
+    (let p = shape.processors in let c = shape.capacity in
+    and_from _ _ (lt-ltb k x.processors (omega (arith, p, row))) (and_from _ _ (lt-ltb 0 n (omega (arith, first))) (le-leb n x.capacity (omega (arith, c, last)))))
+
+absorbed_holds : (x y : Replica) → has_shape x y ≡ true → Below y (absorbed x y)
+absorbed_holds x y alike = rw alike (λ k n. join_second entry_eq entry_exact (x.at k n) (y.at k n))
+
+step_brings : (s : Settings) (m : ℕ) (c : Course) (e : Event) → HasShape s m c.held → IsBroughtBelow s m (happens s c e).held e
+step_brings s m c (Take k n e) shape = λ row first last. taken_holds c.held k n e (key_of_shape s m c.held k n shape row first last)
+step_brings s m c (Absorb y) shape = λ p q. absorbed_holds c.held (replica_of y)
+    (and_from _ _ (eq-eqb c.held.processors y.processors (shape.processors ∙ sym p)) (eq-eqb c.held.capacity y.capacity (shape.capacity ∙ sym q)))
+step_brings s m c Plan shape = tt
+
+brought_more : (s : Settings) (m : ℕ) (x y : Replica) (e : Event) → Below x y → IsBroughtBelow s m x e → IsBroughtBelow s m y e
+brought_more s m x y (Take k n e) below brought = λ row first last. below_trans (Some (One e)) (x.at k n) (y.at k n) (brought row first last) (below k n)
+brought_more s m x y (Absorb z) below brought = λ p q. below_all (replica_of z) x y (brought p q) below
+brought_more s m x y Plan below brought = tt
+
+above : (s : Settings) (m : ℕ) (events : List Event) (c : Course) → HasShape s m c.held → AllByRecursion (IsBroughtBelow s m (run s c events).held) events
+above s m [] c shape = tt
+above s m (e ∷ events) c shape =
+    let next = happens s c e in
+    (brought_more s m next.held (run s next events).held e (grows s events next) (step_brings s m c e shape), above s m events next (shape_stays s m c e shape))
+
+-- ---- and below whatever is above all
+
+only_below : (y : Replica) (k n : ℕ) (e : Logged) → HeldBelow (Some (One e)) (y.at k n) → (j m : ℕ) → HeldBelow (only k n e j m) (y.at j m)
+only_below y k n e below j m = by (j == k) (m == n) refl refl
+  where
+    by : (a b : Bool) → (j == k) ≡ a → (m == n) ≡ b → HeldBelow (if a then (if b then Some (One e) else None) else None) (y.at j m)
+    by true true p q = (let row = eqb-true j k p in let number = eqb-true m n q in subst (λ i. HeldBelow (Some (One e)) (y.at i m)) (sym row) (subst (λ i. HeldBelow (Some (One e)) (y.at k i)) (sym number) below))
+    by true false p q = none_below (y.at j m)
+    by false b p q = none_below (y.at j m)
+
+row_of_key : (s : Settings) (m : ℕ) (x : Replica) (k : ℕ) → HasShape s m x → nat_lt k x.processors ≡ true → k < s.processors
+row_of_key s m x k shape is = (let p = shape.processors in let lt = ltb-true k x.processors is in omega (arith, p, lt))
+
+last_of_key : (s : Settings) (m : ℕ) (x : Replica) (n : ℕ) → HasShape s m x → nat_le n x.capacity ≡ true → n ≤ m
+last_of_key s m x n shape is = (let c = shape.capacity in let le = leb-true n x.capacity is in omega (arith, c, le))
+
+taken_least : (s : Settings) (m : ℕ) (x y : Replica) (k n : ℕ) (e : Logged) → HasShape s m x → Below x y → IsBroughtBelow s m y (Take k n e) → Below (taken x k n e) y
+taken_least s m x y k n e shape below brought = by (has_key x k n) refl
+  where
+    by : (b : Bool) → has_key x k n ≡ b → Below (cond b (with_entry x k n e) x) y
+    by true inside =
+        (let p = and_parts (nat_lt k x.processors) (nat_lt 0 n && nat_le n x.capacity) inside in
+        let q = and_parts (nat_lt 0 n) (nat_le n x.capacity) p.1 in
+        let here = only_below y k n e (brought (row_of_key s m x k shape p.0) (ltb-true 0 n q.0) (last_of_key s m x n shape q.1)) in
+        λ i j. join_least entry_eq entry_exact (x.at i j) (only k n e i j) (y.at i j) (below i j) (here i j))
+    by false outside = below
+
+absorbed_least : (s : Settings) (m : ℕ) (x y z : Replica) → Below x y → (has_shape x z ≡ true → Below z y) → Below (absorbed x z) y
+absorbed_least s m x y z below brought = by (has_shape x z) refl
+  where
+    by : (b : Bool) → has_shape x z ≡ b → Below (cond b (join x z) x) y
+    by true alike = (let other = brought alike in λ i j. join_least entry_eq entry_exact (x.at i j) (z.at i j) (y.at i j) (below i j) (other i j))
+    by false apart = below
+
+step_least : (s : Settings) (m : ℕ) (c : Course) (y : Replica) (e : Event) → HasShape s m c.held → Below c.held y → IsBroughtBelow s m y e → Below (happens s c e).held y
+step_least s m c y (Take k n e) shape below brought = taken_least s m c.held y k n e shape below brought
+step_least s m c y (Absorb z) shape below brought = absorbed_least s m c.held y (replica_of z) below (λ alike.
+    (let both = and_parts (c.held.processors == z.processors) (c.held.capacity == z.capacity) alike in
+    brought (sym (eqb-true c.held.processors z.processors both.0) ∙ shape.processors) (sym (eqb-true c.held.capacity z.capacity both.1) ∙ shape.capacity)))
+step_least s m c y Plan shape below brought = subst (λ x. Below x y) (sym (planned_holds s c)) below
+
+least : (s : Settings) (m : ℕ) (y : Replica) (events : List Event) (c : Course) → HasShape s m c.held → Below c.held y → AllByRecursion (IsBroughtBelow s m y) events → Below (run s c events).held y
+least s m y [] c shape below all = below
+least s m y (e ∷ events) c shape below all = least s m y events (happens s c e) (shape_stays s m c e shape) (step_least s m c y e shape below all.0) all.1
+
+pub events_leave_the_least : EventsLeaveTheLeast
+events_leave_the_least s m events =
+    let shape : HasShape s m (start s m).held = record { processors = refl; capacity = refl } in
+    (above s m events (start s m) shape, (λ y all. least s m y events (start s m) shape (λ k n. none_below (y.at k n)) all))

@@ -1,0 +1,5 @@
+use Rattle.pfair_table.proofs.Least.{events_leave_the_least}
+use Rattle.pfair_table.proofs.laws.events_leave_the_least.Goals as goal
+
+pub returns : goal.returns
+returns c = events_leave_the_least
