@@ -14,7 +14,7 @@ use Rattle.pfair_replica.specs.Replica.{Contents, IsReplica, only, contents_join
 use Rattle.pfair_table.specs.Laws.{IsOf, OnePlan, OneTable}
 use Rattle.pfair_table.specs.Table.{Settings}
 use Rattle.pfair_board.specs.Boards.{IsKey}
-use Rattle.pfair_board.specs.Steps.{State, Step, IsStep, Set, Get, Meet, empty_board, set_cell, learned, with_desk, looked, happens, run, one_of, EachDeskBelow, desk_replica}
+use Rattle.pfair_board.specs.Steps.{State, Step, IsStep, Set, Get, Meet, empty_board, set_cell, with_cell, with_desk, after_get, after_step, after_steps, one_of, EachDeskBelow, desk_replica}
 use Rattle.pfair_board.specs.Laws.{DesksStayBelow, DesksAgree, DesksPlanAlike, DesksShareAPlan}
 
 -- contents that are below the set cells
@@ -49,10 +49,10 @@ only_below cells j m e is k n = by (k == j) (n == m) refl refl
     by true false p q = none_below _
     by false c p q = none_below _
 
-learned_below : (cells : ℕ → ℕ → Option Logged) (held : Contents) (j m : ℕ) → UnderCells held cells → UnderCells (learned held j m (cells j m)) cells
-learned_below cells held j m under = by (cells j m) refl
+read_below : (cells : ℕ → ℕ → Option Logged) (held : Contents) (j m : ℕ) → UnderCells held cells → UnderCells (with_cell held j m (cells j m)) cells
+read_below cells held j m under = by (cells j m) refl
   where
-    by : (o : Option Logged) → cells j m ≡ o → UnderCells (learned held j m o) cells
+    by : (o : Option Logged) → cells j m ≡ o → UnderCells (with_cell held j m o) cells
     by None p = under
     by (Some e) p = λ k n. join_least entry_eq entry_exact (held k n) (only j m e k n) (one_of (cells k n)) (under k n) (only_below cells j m e p k n)
 
@@ -63,24 +63,24 @@ with_below cells desks d held each under c = by (c == d)
     by true = under
     by false = each c
 
-looked_below : (b : State) (d k n : ℕ) → EachDeskBelow b → EachDeskBelow (looked b d k n)
-looked_below b d k n each = with_below b.cells b.desks d (learned (b.desks d) k n (b.cells k n)) each (learned_below b.cells (b.desks d) k n (each d))
+got_below : (b : State) (d k n : ℕ) → EachDeskBelow b → EachDeskBelow (after_get b d k n)
+got_below b d k n each = with_below b.cells b.desks d (with_cell (b.desks d) k n (b.cells k n)) each (read_below b.cells (b.desks d) k n (each d))
 
-happens_below : (b : State) (step : Step) → EachDeskBelow b → EachDeskBelow (happens b step)
-happens_below b (Set d k n e) each =
-    looked_below (record b { cells = set_cell b.cells k n e }) d k n
+step_below : (b : State) (step : Step) → EachDeskBelow b → EachDeskBelow (after_step b step)
+step_below b (Set d k n e) each =
+    got_below (record b { cells = set_cell b.cells k n e }) d k n
     (λ c i j. below_trans (b.desks c i j) (one_of (b.cells i j)) (one_of (set_cell b.cells k n e i j)) (each c i j) (set_keeps b.cells k n e i j))
-happens_below b (Get d k n) each = looked_below b d k n each
-happens_below b (Meet d c) each =
+step_below b (Get d k n) each = got_below b d k n each
+step_below b (Meet d c) each =
     with_below b.cells b.desks d (contents_join (b.desks d) (b.desks c)) each
     (λ k n. join_least entry_eq entry_exact (b.desks d k n) (b.desks c k n) (one_of (b.cells k n)) (each d k n) (each c k n))
 
-run_below : (steps : List Step) (b : State) → EachDeskBelow b → EachDeskBelow (run steps b)
-run_below [] b each = each
-run_below (step ∷ steps) b each = run_below steps (happens b step) (happens_below b step each)
+steps_below : (steps : List Step) (b : State) → EachDeskBelow b → EachDeskBelow (after_steps steps b)
+steps_below [] b each = each
+steps_below (step ∷ steps) b each = steps_below steps (after_step b step) (step_below b step each)
 
 pub desks_stay_below : DesksStayBelow
-desks_stay_below steps = run_below steps empty_board (λ d k n. none_below _)
+desks_stay_below steps = steps_below steps empty_board (λ d k n. none_below _)
 
 -- no set cell is torn
 cell_whole : (o : Option Logged) → one_of o ≢ Some Torn
@@ -89,7 +89,7 @@ cell_whole (Some f) e = absurd (cc)
 
 pub desks_agree : DesksAgree
 desks_agree steps c d processors capacity k n torn =
-    let b = run steps empty_board in
+    let b = after_steps steps empty_board in
     let each = desks_stay_below steps in
     elim (join_least entry_eq entry_exact (b.desks c k n) (b.desks d k n) (one_of (b.cells k n)) (each c k n) (each d k n) Torn torn) [
       | inl e ↦ cell_whole (b.cells k n) e
@@ -118,14 +118,14 @@ set_good processors capacity cells j m e new good k n f = by (k == j && n == m) 
         subst (λ (v : ℕ × ℕ). IsKey processors capacity v.0 v.1 × IsEntry f) (λ i. (sym ek i, sym en i)) (on (cells j m) refl h))
     by false p h = good k n f h
 
-happens_good : (processors capacity : ℕ) (b : State) (step : Step) → IsStep processors capacity step → CellsAreGood processors capacity b.cells → CellsAreGood processors capacity (happens b step).cells
-happens_good processors capacity b (Set d k n e) new good = set_good processors capacity b.cells k n e new good
-happens_good processors capacity b (Get d k n) new good = good
-happens_good processors capacity b (Meet d c) new good = good
+step_good : (processors capacity : ℕ) (b : State) (step : Step) → IsStep processors capacity step → CellsAreGood processors capacity b.cells → CellsAreGood processors capacity (after_step b step).cells
+step_good processors capacity b (Set d k n e) new good = set_good processors capacity b.cells k n e new good
+step_good processors capacity b (Get d k n) new good = good
+step_good processors capacity b (Meet d c) new good = good
 
-run_good : (processors capacity : ℕ) (steps : List Step) (b : State) → AllByRecursion (IsStep processors capacity) steps → CellsAreGood processors capacity b.cells → CellsAreGood processors capacity (run steps b).cells
-run_good processors capacity [] b all good = good
-run_good processors capacity (step ∷ steps) b all good = run_good processors capacity steps (happens b step) all.1 (happens_good processors capacity b step all.0 good)
+steps_good : (processors capacity : ℕ) (steps : List Step) (b : State) → AllByRecursion (IsStep processors capacity) steps → CellsAreGood processors capacity b.cells → CellsAreGood processors capacity (after_steps steps b).cells
+steps_good processors capacity [] b all good = good
+steps_good processors capacity (step ∷ steps) b all good = steps_good processors capacity steps (after_step b step) all.1 (step_good processors capacity b step all.0 good)
 
 -- what is held is the entry of the cell
 held_cell : (c : Flat Logged) (o : Option Logged) → (one_of o ≡ Some c) ⊎ (one_of o ≡ Some Torn) → (e : Logged) × (o ≡ Some e) × (c ≡ One e)
@@ -134,10 +134,10 @@ held_cell c None (inr h) = absurd (cc)
 held_cell c (Some e) (inl h) = (e, refl, (let same : c ≡ One e = cc in same))
 held_cell c (Some e) (inr h) = absurd (cc)
 
-desk_is_replica : (processors capacity : ℕ) (steps : List Step) → AllByRecursion (IsStep processors capacity) steps → (d : ℕ) → IsReplica (desk_replica processors capacity (run steps empty_board) d)
+desk_is_replica : (processors capacity : ℕ) (steps : List Step) → AllByRecursion (IsStep processors capacity) steps → (d : ℕ) → IsReplica (desk_replica processors capacity (after_steps steps empty_board) d)
 desk_is_replica processors capacity steps all d =
-    let b = run steps empty_board in
-    let good = run_good processors capacity steps empty_board all (λ k n e h. absurd (cc)) in
+    let b = after_steps steps empty_board in
+    let good = steps_good processors capacity steps empty_board all (λ k n e h. absurd (cc)) in
     let cell = λ (k n : ℕ) (c : Flat Logged) (h : b.desks d k n ≡ Some c). held_cell c (b.cells k n) (desks_stay_below steps d k n c h) in
     record {
       in_range = λ k n c h. (let t = cell k n c h in let key = (good k n t.0 t.1).0 in (key.row, key.first, key.last));
@@ -146,19 +146,19 @@ desk_is_replica processors capacity steps all d =
 
 -- what a desk holds after steps of this shape is a replica for these settings
 desk_is_of : (s : Settings) (capacity : ℕ) (steps : List Step) → AllByRecursion (IsStep s.processors capacity) steps → (c : ℕ)
-    → IsOf s (desk_replica s.processors capacity (run steps empty_board) c)
+    → IsOf s (desk_replica s.processors capacity (after_steps steps empty_board) c)
 desk_is_of s capacity steps all c = record { replica = desk_is_replica s.processors capacity steps all c; processors = refl }
 
 pub desks_plan_alike : OneTable → DesksPlanAlike
 desks_plan_alike one_table s capacity steps all c d t h g =
-    let b = run steps empty_board in
+    let b = after_steps steps empty_board in
     (one_table s (desk_replica s.processors capacity b c) (desk_replica s.processors capacity b d)
     (desk_is_of s capacity steps all c) (desk_is_of s capacity steps all d)
     (desks_agree steps c d s.processors capacity) t h g).0
 
 pub desks_share_a_plan : OnePlan → DesksShareAPlan
 desks_share_a_plan one_plan s capacity steps all c d =
-    let b = run steps empty_board in
+    let b = after_steps steps empty_board in
     one_plan s (desk_replica s.processors capacity b c) (desk_replica s.processors capacity b d)
     (desk_is_of s capacity steps all c) (desk_is_of s capacity steps all d)
     (desks_agree steps c d s.processors capacity)

@@ -30,25 +30,25 @@ abbrev pub set_cell : (ℕ → ℕ → Option Logged) → ℕ → ℕ → Logged
 set_cell cells j m e k n = if k == j && n == m then Some (unwrap_or (cells j m) e) else cells k n
 
 -- what a desk learns from a cell
-abbrev pub learned : Contents → ℕ → ℕ → Option Logged → Contents
-learned held k n None = held
-learned held k n (Some e) = contents_join held (only k n e)
+abbrev pub with_cell : Contents → ℕ → ℕ → Option Logged → Contents
+with_cell held k n None = held
+with_cell held k n (Some e) = contents_join held (only k n e)
 
 -- that desk holds this from now on, and the others what they held
 abbrev pub with_desk : (ℕ → Contents) → ℕ → Contents → ℕ → Contents
 with_desk desks d held c = if c == d then held else desks c
 
-abbrev pub looked : State → ℕ → ℕ → ℕ → State
-looked b d k n = record b { desks = with_desk b.desks d (learned (b.desks d) k n (b.cells k n)) }
+abbrev pub after_get : State → ℕ → ℕ → ℕ → State
+after_get b d k n = record b { desks = with_desk b.desks d (with_cell (b.desks d) k n (b.cells k n)) }
 
-abbrev pub happens : State → Step → State
-happens b (Set d k n e) = looked (record b { cells = set_cell b.cells k n e }) d k n
-happens b (Get d k n) = looked b d k n
-happens b (Meet d c) = record b { desks = with_desk b.desks d (contents_join (b.desks d) (b.desks c)) }
+abbrev pub after_step : State → Step → State
+after_step b (Set d k n e) = after_get (record b { cells = set_cell b.cells k n e }) d k n
+after_step b (Get d k n) = after_get b d k n
+after_step b (Meet d c) = record b { desks = with_desk b.desks d (contents_join (b.desks d) (b.desks c)) }
 
-abbrev pub run : List Step → State → State
-run [] b = b
-run (step ∷ steps) b = run steps (happens b step)
+abbrev pub after_steps : List Step → State → State
+after_steps [] b = b
+after_steps (step ∷ steps) b = after_steps steps (after_step b step)
 
 -- the map of the set cells
 abbrev pub one_of : Option Logged → Held Logged

@@ -36,11 +36,10 @@ impl Hints {
             receivers.push(receiver)?;
         }
         let mut all = Vec::new(alloc);
-        while let Some(receiver) = receivers.pop() {
-            let senders = senders_to_others(alloc, &senders, receivers.len())?;
+        for (worker, receiver) in receivers.into_iter().enumerate() {
+            let senders = senders_to_others(alloc, &senders, worker)?;
             all.push(Hints { receiver, senders })?;
         }
-        all.reverse();
         Ok(all)
     }
 }
