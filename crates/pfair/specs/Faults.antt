@@ -1,7 +1,17 @@
--- The numbers and the exit statuses of the program's faults.
+-- The numbers and the exit statuses of the program's faults, and which of them the faults of the crates below are.
 use Rattle.std.specs.Prelude.{ℕ}
 use Rattle.pfair_weight.specs.WeightFault.{weight_fault_number}
+use Rattle.pfair_board.specs.declared.run.RunFault.{RunFault}
+use Rattle.pfair_board.specs.declared.run.RunFault.TheVariants as run
 use Rattle.pfair_file.specs.Faults.{file_fault_number}
+use Rattle.pfair_file.specs.declared.fault.FileFault.{FileFault}
+use Rattle.pfair_file.specs.declared.fault.FileFault.TheVariants as file
+use Rattle.pfair_table.specs.declared.single.ScriptFault.{ScriptFault}
+use Rattle.pfair_table.specs.declared.single.ScriptFault.TheVariants as script
+use Rattle.pfair_text.specs.declared.input.ReadFault.{ReadFault}
+use Rattle.pfair_text.specs.declared.input.ReadFault.TheVariants as read
+use Rattle.pfair_words.specs.declared.words.WordsFault.{WordsFault}
+use Rattle.pfair_words.specs.declared.words.WordsFault.TheVariants as words
 use Rattle.pfair.specs.declared.fault.ProgramFault.{ProgramFault}
 use Rattle.pfair.specs.declared.fault.ProgramFault.TheVariants.{Weight, Stalled, GateGaveUp, Astray, File, FileTooLong, ReadFailed, WriteFailed, CommandLine, Memory}
 
@@ -29,3 +39,29 @@ status_of Astray = 3
 status_of Memory = 4
 status_of ReadFailed = 5
 status_of WriteFailed = 5
+
+-- ---- the faults of the crates below
+
+abbrev pub of_words : WordsFault → ProgramFault
+of_words (words.Weight fault) = Weight fault
+of_words words.Refused = CommandLine
+of_words words.Memory = Memory
+
+abbrev pub of_read : ReadFault → ProgramFault
+of_read read.TooLong = FileTooLong
+of_read read.ReadFailed = ReadFailed
+of_read read.Memory = Memory
+
+abbrev pub of_file : FileFault → ProgramFault
+of_file file.Memory = Memory
+of_file fault = File fault
+
+abbrev pub of_script : ScriptFault → ProgramFault
+of_script (script.Stalled slot) = Stalled slot
+of_script script.Memory = Memory
+
+abbrev pub of_run : RunFault → ProgramFault
+of_run run.Memory = Memory
+of_run run.GateGaveUp = GateGaveUp
+of_run run.Astray = Astray
+of_run (run.Stalled slot) = Stalled slot

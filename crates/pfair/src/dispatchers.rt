@@ -10,7 +10,7 @@ ghost use Rattle.pfair.specs.declared.fault.ProgramFault.TheVariants.{FileTooLon
 
 use crate::fault::ProgramFault;
 use crate::schedule::read_script;
-use pfair_board::{Finished, Gate, Run, RunFault, run_dispatchers};
+use pfair_board::{Finished, Gate, Run, run_dispatchers};
 use pfair_ready::HeapReady;
 use pfair_table::Script;
 use std::alloc::Global;
@@ -51,11 +51,5 @@ fn finish<P: Threads + Wait + Sync, G: Gate + Sync>(
     ensures ok { IfOk result (λ f. IsFinished script.now f.board f.desks.items f.runs.items) }
     ensures fault { IfErr result (IsRunRefusal G.may_give_up script.now) }
 {
-    match run_dispatchers::<P, HeapReady, G>(rt, alloc, script, gate) {
-        Ok(finished) => Ok(finished),
-        Err(RunFault::Memory) => Err(ProgramFault::Memory),
-        Err(RunFault::GateGaveUp) => Err(ProgramFault::GateGaveUp),
-        Err(RunFault::Astray) => Err(ProgramFault::Astray),
-        Err(RunFault::Stalled { slot }) => Err(ProgramFault::Stalled { slot }),
-    }
+    Ok(run_dispatchers::<P, HeapReady, G>(rt, alloc, script, gate)?)
 }

@@ -1,11 +1,15 @@
 //! The faults of the program: their numbers, texts and exit statuses.
 
 ghost use Rattle.std.specs.Prelude.{◌≡◌};
-ghost use Rattle.pfair.specs.Faults.{number_of, status_of};
+ghost use Rattle.pfair.specs.Faults.{number_of, status_of, of_file, of_read, of_run, of_script, of_words};
 ghost use Rattle.pfair.specs.declared.fault.ProgramFault.TheVariants.{Memory};
 
+use pfair_board::RunFault;
 use pfair_file::FileFault;
+use pfair_table::ScriptFault;
+use pfair_text::ReadFault;
 use pfair_weight::WeightFault;
+use pfair_words::WordsFault;
 use std::alloc::AllocError;
 use std::io::Write;
 use thiserror::Error;
@@ -53,6 +57,65 @@ impl From<AllocError> for ProgramFault {
 
     fn from(_: AllocError) -> ProgramFault {
         ProgramFault::Memory
+    }
+}
+
+impl From<WordsFault> for ProgramFault {
+    ghost from_gives = { λ fault e. e ≡ of_words fault };
+
+    fn from(fault: WordsFault) -> ProgramFault {
+        match fault {
+            WordsFault::Weight(fault) => ProgramFault::Weight(fault),
+            WordsFault::Refused => ProgramFault::CommandLine,
+            WordsFault::Memory => ProgramFault::Memory,
+        }
+    }
+}
+
+impl From<ReadFault> for ProgramFault {
+    ghost from_gives = { λ fault e. e ≡ of_read fault };
+
+    fn from(fault: ReadFault) -> ProgramFault {
+        match fault {
+            ReadFault::TooLong => ProgramFault::FileTooLong,
+            ReadFault::ReadFailed => ProgramFault::ReadFailed,
+            ReadFault::Memory => ProgramFault::Memory,
+        }
+    }
+}
+
+impl From<FileFault> for ProgramFault {
+    ghost from_gives = { λ fault e. e ≡ of_file fault };
+
+    fn from(fault: FileFault) -> ProgramFault {
+        match fault {
+            FileFault::Memory => ProgramFault::Memory,
+            fault => ProgramFault::File(fault),
+        }
+    }
+}
+
+impl From<ScriptFault> for ProgramFault {
+    ghost from_gives = { λ fault e. e ≡ of_script fault };
+
+    fn from(fault: ScriptFault) -> ProgramFault {
+        match fault {
+            ScriptFault::Stalled { slot } => ProgramFault::Stalled { slot },
+            ScriptFault::Memory => ProgramFault::Memory,
+        }
+    }
+}
+
+impl From<RunFault> for ProgramFault {
+    ghost from_gives = { λ fault e. e ≡ of_run fault };
+
+    fn from(fault: RunFault) -> ProgramFault {
+        match fault {
+            RunFault::Memory => ProgramFault::Memory,
+            RunFault::GateGaveUp => ProgramFault::GateGaveUp,
+            RunFault::Astray => ProgramFault::Astray,
+            RunFault::Stalled { slot } => ProgramFault::Stalled { slot },
+        }
     }
 }
 

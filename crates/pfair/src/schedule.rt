@@ -11,10 +11,10 @@ ghost use Rattle.pfair.specs.Runs.{IsFaultOfRun, IsRefusalOf};
 ghost use Rattle.pfair.specs.declared.fault.ProgramFault.TheVariants.{FileTooLong, ReadFailed, WriteFailed, Memory};
 
 use crate::fault::ProgramFault;
-use pfair_file::{FileFault, read_file};
+use pfair_file::read_file;
 use pfair_ready::HeapReady;
-use pfair_table::{Dispatcher, Script, ScriptFault, run_script};
-use pfair_text::{ReadFault, read_bytes, send};
+use pfair_table::{Dispatcher, Script, run_script};
+use pfair_text::{read_bytes, send};
 use std::alloc::Global;
 use std::io::{Read, Write};
 
@@ -33,11 +33,7 @@ pub(crate) fn scheduled<R: Read>(
     ensures only { IfErr result IsFaultOfRun }
 {
     let script = read_script(alloc, reader)?;
-    match run_script(alloc, &script) {
-        Ok(dispatcher) => Ok(dispatcher),
-        Err(ScriptFault::Stalled { slot }) => Err(ProgramFault::Stalled { slot }),
-        Err(ScriptFault::Memory) => Err(ProgramFault::Memory),
-    }
+    Ok(run_script(alloc, &script)?)
 }
 
 /// Sends the whole text, or a prefix of it where the writer fails.
@@ -63,15 +59,6 @@ pub(crate) fn read_script<R: Read>(alloc: Global, reader: &mut R) -> Result<Scri
     ensures most { HasTaken (R.remaining reader.old) (R.remaining reader.new) (λ n. n ≤ 67108865) }
     ensures only { IfErr result IsFaultOfRun }
 {
-    let bytes = match read_bytes(alloc, reader) {
-        Ok(bytes) => bytes,
-        Err(ReadFault::TooLong) => return Err(ProgramFault::FileTooLong),
-        Err(ReadFault::ReadFailed) => return Err(ProgramFault::ReadFailed),
-        Err(ReadFault::Memory) => return Err(ProgramFault::Memory),
-    };
-    match read_file(alloc, bytes.as_slice()) {
-        Ok(script) => Ok(script),
-        Err(FileFault::Memory) => Err(ProgramFault::Memory),
-        Err(fault) => Err(ProgramFault::File(fault)),
-    }
+    let bytes = read_bytes(alloc, reader)?;
+    Ok(read_file(alloc, bytes.as_slice())?)
 }

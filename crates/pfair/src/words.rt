@@ -4,7 +4,7 @@ ghost use Rattle.std.specs.Prelude.{IfOk};
 ghost use Rattle.pfair_words.specs.Asked.{HasCount};
 
 use crate::fault::ProgramFault;
-use pfair_words::{Asked, WordsFault};
+use pfair_words::Asked;
 use std::alloc::Global;
 
 /// Reads the words after the program's name.
@@ -14,10 +14,5 @@ use std::alloc::Global;
 pub fn read_words(alloc: Global, words: &[String]) -> Result<Asked, ProgramFault>
     ensures { IfOk result HasCount }
 {
-    match pfair_words::read_words(alloc, words) {
-        Ok(asked) => Ok(asked),
-        Err(WordsFault::Weight(fault)) => Err(ProgramFault::Weight(fault)),
-        Err(WordsFault::Refused) => Err(ProgramFault::CommandLine),
-        Err(WordsFault::Memory) => Err(ProgramFault::Memory),
-    }
+    Ok(pfair_words::read_words(alloc, words)?)
 }
