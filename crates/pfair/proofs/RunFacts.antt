@@ -1,5 +1,5 @@
 -- What is known of the text of a dispatcher that ran a file's script is known of the output of the file.
-use Rattle.std.proofs.Common.{ℕ, List, Option, None, Some, Result, Ok, Err, OnOk, OnErr, ◌≡◌, refl, sym, ap, ◌∙◌, subst, map}
+use Rattle.std.proofs.Common.{ℕ, List, Option, None, Some, Result, Ok, Err, OnOk, OnErr, ◌≡◌, ◌≤◌, ◌⊎◌, inl, inr, refl, sym, ap, ◌∙◌, subst, map}
 use Rattle.std.specs.Prelude.{IfSome, IfErr, IsErrAnd, min}
 use Rattle.pfair.specs.declared.fault.ProgramFault.{ProgramFault}
 use Rattle.pfair.specs.declared.fault.ProgramFault.TheVariants.{Memory, WriteFailed}
@@ -16,7 +16,8 @@ use Rattle.pfair_output.specs.Replay.{placed_replay_text, placed_text, replay_te
 use Rattle.pfair_output.specs.Decisions.{decisions_text}
 use Rattle.pfair_output.specs.Lags.{lags_text}
 use Rattle.pfair_file.specs.Documents.{script_of_file}
-use Rattle.pfair.specs.Runs.{IsOutputOf, IsRefusalOf, IsWholeRun, replay_of_run, placed_replay_of_run, decisions_of_run, lags_of_run}
+use Rattle.pfair_text.specs.Input.{HasTaken}
+use Rattle.pfair.specs.Runs.{TakesOneFile, IsOutputOf, IsRefusalOf, IsWholeRun, replay_of_run, placed_replay_of_run, decisions_of_run, lags_of_run}
 
 -- the bytes are known to hold a script that the dispatcher has run
 abbrev pub HasRun : Option (List ℕ) → Dispatch → Type 0
@@ -80,3 +81,27 @@ pub memory_refuses_nothing : {T : Type 0} → (r : Result T ProgramFault) → (o
 memory_refuses_nothing (Ok x) o is = tt
 memory_refuses_nothing (Err e) None is = tt
 memory_refuses_nothing (Err e) (Some bytes) is = subst (IsRefusalOf bytes) (sym is) tt
+
+-- no more was taken than a file may have, and then the writer failed or memory was wanting, or nothing did
+pub taken_then : {T : Type 0} → (r : Result T ProgramFault) → (given left : Option (List ℕ)) → HasTaken given left (λ n. n ≤ 67108864) → HasTaken given left (λ n. n ≤ 67108865)
+    → IfErr r (λ e. (e ≡ WriteFailed) ⊎ (e ≡ Memory)) → TakesOneFile r given left
+taken_then (Ok x) given left few most why = record { long = λ is. cc is; unread = λ is. few; within = few; within_fault = tt; most = most }
+taken_then (Err e) given left few most why = record {
+  long = λ is. elim why [ inl failed ↦ cc (is, failed) | inr wanting ↦ cc (is, wanting) ];
+  unread = λ is. few;
+  within = tt;
+  within_fault = λ short known. few;
+  most = most;
+}
+
+-- a failed write, or want of memory
+abbrev pub EndsSo : {T : Type 0} → Result T ProgramFault → Type 0
+EndsSo r = IfErr r (λ e. (e ≡ WriteFailed) ⊎ (e ≡ Memory))
+
+pub ends_by_writing : {T : Type 0} → (r : Result T ProgramFault) → IfErr r (λ e. e ≡ WriteFailed) → EndsSo r
+ends_by_writing (Ok x) is = tt
+ends_by_writing (Err e) is = inl is
+
+pub ends_by_memory : {T : Type 0} → (r : Result T ProgramFault) → IsErrAnd r (λ e. e ≡ Memory) → EndsSo r
+ends_by_memory (Ok x) is = tt
+ends_by_memory (Err e) is = inr is

@@ -1,11 +1,6 @@
 //! The command `lags`: the lags of the tasks of a task file.
 
-ghost use Rattle.std.specs.Prelude.{◌≡◌, ◌≢◌, ◌≤◌, OnOk, IfErr, IfSome, IsErrOf, ◌⊎◌};
-ghost use Rattle.std.specs.Io.KnownBytes.{Appends, Keeps};
-ghost use Rattle.pfair_text.specs.Input.{HasTaken};
-ghost use Rattle.pfair_text.specs.Output.{TakesPrefix};
-ghost use Rattle.pfair.specs.Runs.{IsFaultOfRun, IsOutputOf, IsRefusalOf, lags_of_run};
-ghost use Rattle.pfair.specs.declared.fault.ProgramFault.TheVariants.{FileTooLong, ReadFailed, WriteFailed, Memory};
+ghost use Rattle.pfair.specs.Runs.{IsCommandOf, IsFaultOfRun, lags_of_run};
 
 use crate::fault::ProgramFault;
 use crate::schedule::{scheduled, send_text};
@@ -31,16 +26,7 @@ pub fn lags<R: Read, W: Write>(
     reader: &mut R,
     writer: &mut W,
 ) -> Result<(), ProgramFault>
-    ensures ok { OnOk result (IfSome (R.remaining reader.old) (λ bytes. IsOutputOf lags_of_run bytes (Appends (W.contents writer.old) (W.contents writer.new)))) }
-    ensures refused { IfErr result (λ e. IfSome (R.remaining reader.old) (λ bytes. IsRefusalOf bytes e)) }
-    ensures long { IsErrOf result FileTooLong → HasTaken (R.remaining reader.old) (R.remaining reader.new) (λ n. n ≡ 67108865) }
-    ensures unread { IsErrOf result ReadFailed → HasTaken (R.remaining reader.old) (R.remaining reader.new) (λ n. n ≤ 67108864) }
-    ensures within { OnOk result (HasTaken (R.remaining reader.old) (R.remaining reader.new) (λ n. n ≤ 67108864)) }
-    ensures within_fault { IfErr result (λ e. e ≢ FileTooLong → e ≢ Memory → HasTaken (R.remaining reader.old) (R.remaining reader.new) (λ n. n ≤ 67108864)) }
-    ensures most { HasTaken (R.remaining reader.old) (R.remaining reader.new) (λ n. n ≤ 67108865) }
-    ensures nothing { IfErr result (λ e. e ≢ WriteFailed → Keeps (W.contents writer.old) (W.contents writer.new)) }
-    ensures cut { IsErrOf result WriteFailed → IfSome (R.remaining reader.old) (λ bytes. IsOutputOf lags_of_run bytes (TakesPrefix (W.contents writer.old) (W.contents writer.new))) }
-    ensures only { IfErr result (λ e. IsFaultOfRun e ⊎ (e ≡ WriteFailed)) }
+    ensures { IsCommandOf lags_of_run IsFaultOfRun result (R.remaining reader.old) (R.remaining reader.new) (W.contents writer.old) (W.contents writer.new) }
 {
     let dispatcher = scheduled(alloc, reader)?;
     let text = lags_of(alloc, &dispatcher)?;

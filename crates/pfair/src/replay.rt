@@ -1,11 +1,6 @@
 //! The command `replay`: the tables of a task file, worked out by a dispatcher for each processor in a thread of its own.
 
-ghost use Rattle.std.specs.Prelude.{◌≡◌, ◌≢◌, ◌≤◌, ◌⊎◌, IfErr, IfSome, IsErrOf, OnOk};
-ghost use Rattle.std.specs.Io.KnownBytes.{Appends, Keeps};
-ghost use Rattle.pfair_text.specs.Input.{HasTaken};
-ghost use Rattle.pfair_text.specs.Output.{TakesPrefix};
-ghost use Rattle.pfair.specs.Runs.{IsFaultOfReplay, IsOutputOf, IsRefusalOf, replay_of_run};
-ghost use Rattle.pfair.specs.declared.fault.ProgramFault.TheVariants.{FileTooLong, ReadFailed, WriteFailed, Memory};
+ghost use Rattle.pfair.specs.Runs.{IsCommandOf, IsFaultOfReplay, replay_of_run};
 
 use crate::dispatchers::first_run;
 use crate::fault::ProgramFault;
@@ -40,16 +35,7 @@ pub fn replay<P: Threads + Wait + Sync, R: Read, W: Write, G: Gate + Sync>(
     writer: &mut W,
     gate: &G,
 ) -> Result<(), ProgramFault>
-    ensures ok { OnOk result (IfSome (R.remaining reader.old) (λ bytes. IsOutputOf replay_of_run bytes (Appends (W.contents writer.old) (W.contents writer.new)))) }
-    ensures refused { IfErr result (λ e. IfSome (R.remaining reader.old) (λ bytes. IsRefusalOf bytes e)) }
-    ensures long { IsErrOf result FileTooLong → HasTaken (R.remaining reader.old) (R.remaining reader.new) (λ n. n ≡ 67108865) }
-    ensures unread { IsErrOf result ReadFailed → HasTaken (R.remaining reader.old) (R.remaining reader.new) (λ n. n ≤ 67108864) }
-    ensures within { OnOk result (HasTaken (R.remaining reader.old) (R.remaining reader.new) (λ n. n ≤ 67108864)) }
-    ensures within_fault { IfErr result (λ e. e ≢ FileTooLong → e ≢ Memory → HasTaken (R.remaining reader.old) (R.remaining reader.new) (λ n. n ≤ 67108864)) }
-    ensures most { HasTaken (R.remaining reader.old) (R.remaining reader.new) (λ n. n ≤ 67108865) }
-    ensures nothing { IfErr result (λ e. e ≢ WriteFailed → Keeps (W.contents writer.old) (W.contents writer.new)) }
-    ensures cut { IsErrOf result WriteFailed → IfSome (R.remaining reader.old) (λ bytes. IsOutputOf replay_of_run bytes (TakesPrefix (W.contents writer.old) (W.contents writer.new))) }
-    ensures only { IfErr result (λ e. IsFaultOfReplay G.may_give_up e ⊎ (e ≡ WriteFailed)) }
+    ensures { IsCommandOf replay_of_run (IsFaultOfReplay G.may_give_up) result (R.remaining reader.old) (R.remaining reader.new) (W.contents writer.old) (W.contents writer.new) }
 {
     let run = first_run(rt, alloc, reader, gate)?;
     let text = replay_of(alloc, run.tables.as_slice())?;

@@ -25,11 +25,7 @@ returns g c =
           (Appends (g.W.Write.contents c.args.writer.now) (g.W.Write.contents c.send_text.new.writer)) c.in_ok-run.ensures.ok made)
           c.send_text.ensures.ok;
       refused = no_refusal c.send_text.result (g.R.Read.remaining c.args.reader.now) c.send_text.ensures.only;
-      long = search rules;
-      unread = search rules;
-      within = search rules;
-      within_fault = search rules;
-      most = search rules;
+      taken = search rules;
       nothing = search rules;
       cut = λ failed. on_err c.send_text.result _
           (output_of_whole placed_replay_of_run (g.R.Read.remaining c.args.reader.now) first c.as_slice-3.result.now
