@@ -14,9 +14,9 @@ use Rattle.pfair_entry.specs.declared.entry.EntryFault.TheVariants as entry
 use Rattle.pfair_file.specs.Results.{and_then, map_err}
 use Rattle.pfair_file.specs.declared.fault.EntryCause.{EntryCause}
 use Rattle.pfair_file.specs.declared.fault.EntryCause.TheVariants as because
-use Rattle.pfair_file.specs.declared.keys.Change.{Change}
-use Rattle.pfair_file.specs.declared.keys.Change.TheVariants.{Arrive, Depart, Late}
-use Rattle.pfair_file.specs.declared.keys.Notice.{Notice}
+use Rattle.pfair_file.specs.declared.notice.Change.{Change}
+use Rattle.pfair_file.specs.declared.notice.Change.TheVariants.{Arrive, Depart, Late}
+use Rattle.pfair_file.specs.declared.notice.Notice.{Notice}
 
 -- the first place where an item fails the test of items at places, of items of which the first is at this place
 abbrev pub first_failing : (ℕ → ℕ → Bool) → ℕ → List ℕ → Option ℕ

@@ -9,7 +9,7 @@ use Rattle.pfair_file.specs.declared.field.Field.TheVariants as field
 use Rattle.pfair_file.specs.declared.fault.EntryCause.{EntryCause}
 use Rattle.pfair_file.specs.declared.fault.FileFault.{FileFault}
 use Rattle.pfair_file.specs.declared.fault.FileFault.TheVariants as fault
-use Rattle.pfair_file.specs.declared.entry.Made.{Made}
+use Rattle.pfair_file.specs.declared.made.Made.{Made}
 
 -- the logs, by processor
 abbrev pub Logs : Type 0

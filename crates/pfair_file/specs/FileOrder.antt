@@ -5,7 +5,7 @@ use Rattle.pfair_entry.specs.Entry.{Logged}
 use Rattle.pfair_file.specs.Documents.{empty_logs}
 use Rattle.pfair_file.specs.Entries.{Logs, with_entries}
 use Rattle.pfair_file.specs.Tables.{made_at}
-use Rattle.pfair_file.specs.declared.entry.Made.{Made}
+use Rattle.pfair_file.specs.declared.made.Made.{Made}
 use Rattle.pfair_file.specs.declared.fault.EntryCause.{EntryCause}
 use Rattle.pfair_file.specs.declared.fault.FileFault.{FileFault}
 

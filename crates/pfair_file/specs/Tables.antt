@@ -10,10 +10,10 @@ use Rattle.pfair_file.specs.Results.{and_then}
 use Rattle.pfair_file.specs.declared.field.Field.TheVariants as field
 use Rattle.pfair_file.specs.declared.fault.FileFault.{FileFault}
 use Rattle.pfair_file.specs.declared.fault.FileFault.TheVariants.{Range, WrongKind}
-use Rattle.pfair_file.specs.declared.keys.Change.{Change}
-use Rattle.pfair_file.specs.declared.keys.Change.TheVariants as change
-use Rattle.pfair_file.specs.declared.entry.Made.{Made}
-use Rattle.pfair_file.specs.declared.keys.Notice.{Notice}
+use Rattle.pfair_file.specs.declared.notice.Change.{Change}
+use Rattle.pfair_file.specs.declared.notice.Change.TheVariants as change
+use Rattle.pfair_file.specs.declared.made.Made.{Made}
+use Rattle.pfair_file.specs.declared.notice.Notice.{Notice}
 use Rattle.pfair_file.specs.declared.kind.Kind.{Kind}
 use Rattle.pfair_file.specs.declared.kind.Kind.TheVariants.{Arrive, Depart, Late}
 

@@ -7,11 +7,11 @@ ghost use Rattle.std.specs.List.{list_all};
 ghost use Rattle.pfair_file.specs.Documents.{closed, close_all, document, empty_logs, entries_at, logs_at, script_of_file};
 ghost use Rattle.pfair_file.specs.declared.fault.FileFault.TheVariants.{Memory, NotToml};
 
-use crate::entries::add_entries;
 use crate::fault::FileFault;
 use crate::field::Field;
 use crate::header::{read_settings, read_version};
-use crate::key::find;
+use crate::lookup::find;
+use crate::tables::add_entries;
 use pfair_entry::Entry;
 use pfair_table::{Script, Settings};
 use std::alloc::{AllocError, Global};

@@ -5,7 +5,7 @@ ghost use Rattle.pfair_file.specs.Headers.{settings_of, version_of};
 
 use crate::fault::FileFault;
 use crate::field::Field;
-use crate::key::{integer, number, within};
+use crate::lookup::{integer, number, within};
 use pfair_table::Settings;
 use toml::Table;
 

@@ -5,15 +5,15 @@
 #![tactic(auto)]
 
 pub(crate) mod document;
-pub(crate) mod entries;
-pub(crate) mod entry;
 pub(crate) mod fault;
 pub(crate) mod field;
 pub(crate) mod header;
-pub(crate) mod key;
-pub(crate) mod keys;
 pub(crate) mod kind;
 pub mod laws;
+pub(crate) mod lookup;
+pub(crate) mod made;
+pub(crate) mod notice;
+pub(crate) mod tables;
 
 pub use document::read_file;
 pub use fault::{EntryCause, FileFault};

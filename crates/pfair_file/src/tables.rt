@@ -5,9 +5,9 @@ ghost use Rattle.pfair_table.specs.Script.{lists_of};
 ghost use Rattle.pfair_file.specs.Entries.{tables_of, with_entry, with_items};
 ghost use Rattle.pfair_file.specs.declared.fault.FileFault.TheVariants.{Memory};
 
-use crate::entry::{append, read_entry};
 use crate::fault::FileFault;
 use crate::field::Field;
+use crate::made::{append, read_entry};
 use pfair_entry::Entry;
 use toml::{Table, Value};
 

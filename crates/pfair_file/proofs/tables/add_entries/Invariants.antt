@@ -2,7 +2,7 @@ use Rattle.std.proofs.Common.{◌≡◌, ◌≤◌, vec_len}
 use Rattle.std.specs.Prelude.{All}
 use Rattle.pfair_table.specs.Script.{lists_of}
 use Rattle.pfair_file.proofs.TableFacts.{IsLeft}
-use Rattle.pfair_file.proofs.entries.add_entries.Given as goal
+use Rattle.pfair_file.proofs.tables.add_entries.Given as goal
 
 abbrev pub invariant-loop-i : goal.invariant-loop-i
 invariant-loop-i l =

@@ -6,8 +6,8 @@ ghost use Rattle.pfair_file.specs.Tables.{change_at, early_at, kind_at, name_at,
 
 use crate::fault::FileFault;
 use crate::field::Field;
-use crate::key::{find, natural_number, text};
 use crate::kind::{Kind, find_kind};
+use crate::lookup::{find, natural_number, text};
 use pfair_weight::{NameFault, TaskName};
 use toml::Table;
 
@@ -90,11 +90,11 @@ fn read_name(table: &Table, place: u64) -> Result<Result<TaskName, NameFault>, F
     ensures { result ≡ name_at place (table_view table.now) }
 {
     let name = text(table, place, Field::Name)?;
-    Ok(spell(name.as_bytes()))
+    Ok(checked_name(name.as_bytes()))
 }
 
-/// The name that these bytes spell, or the first of its faults.
-fn spell(bytes: &[u8]) -> Result<TaskName, NameFault>
+/// The name that these bytes checked_name, or the first of its faults.
+fn checked_name(bytes: &[u8]) -> Result<TaskName, NameFault>
     ensures { result ≡ task_name_of bytes.now }
 {
     TaskName::from_bytes(bytes)

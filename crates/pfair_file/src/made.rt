@@ -8,8 +8,8 @@ ghost use Rattle.pfair_file.specs.declared.fault.FileFault.TheVariants.{Memory};
 
 use crate::fault::{EntryCause, FileFault};
 use crate::field::Field;
-use crate::key::{natural_number, number};
-use crate::keys::{Change, Notice, read_notice};
+use crate::lookup::{natural_number, number};
+use crate::notice::{Change, Notice, read_notice};
 use pfair_entry::{Announcement, Entry, EntryFault};
 use pfair_weight::{Weight, WeightFault};
 use toml::Table;
@@ -82,7 +82,7 @@ fn make_entry(floor: u64, notice: Option<Notice>) -> Result<Entry, EntryCause>
     ensures { result ≡ made_entry floor notice }
 {
     let said = read_said(notice)?;
-    match enter(floor, said) {
+    match checked_entry(floor, said) {
         Ok(entry) => Ok(entry),
         Err(fault) => Err(EntryCause::Entry(fault)),
     }
@@ -115,7 +115,7 @@ fn announce(notice: Notice) -> Result<Announcement, EntryCause>
             cost,
             period,
             early,
-        } => match weigh(cost, period) {
+        } => match checked_weight(cost, period) {
             Ok(weight) => Ok(Announcement::Arrive {
                 name,
                 weight,
@@ -129,14 +129,14 @@ fn announce(notice: Notice) -> Result<Announcement, EntryCause>
 }
 
 /// The weight of a cost and a period, or the first of its faults.
-fn weigh(cost: u64, period: u64) -> Result<Weight, WeightFault>
+fn checked_weight(cost: u64, period: u64) -> Result<Weight, WeightFault>
     ensures { result ≡ weight_of cost period }
 {
     Weight::new(cost, period)
 }
 
 /// The entry of a floor and an announcement, or the first of its faults.
-fn enter(floor: u64, said: Option<(u64, Announcement)>) -> Result<Entry, EntryFault>
+fn checked_entry(floor: u64, said: Option<(u64, Announcement)>) -> Result<Entry, EntryFault>
     ensures { result ≡ entry_of (record { floor = floor; said = said }) }
 {
     Entry::new(floor, said)

@@ -6,7 +6,7 @@ use Rattle.pfair_table.specs.Script.{lists_of}
 use Rattle.pfair_file.specs.Entries.{with_entry, with_items}
 use Rattle.pfair_file.specs.declared.fault.FileFault.TheVariants.{Memory}
 use Rattle.pfair_file.proofs.TableFacts.{left-refused}
-use Rattle.pfair_file.proofs.entries.add_entries.Goals as goal
+use Rattle.pfair_file.proofs.tables.add_entries.Goals as goal
 
 pub returns-in_err-add_entry-clause-fault : goal.returns-in_err-add_entry-clause-fault
 returns-in_err-add_entry-clause-fault c =

@@ -8,10 +8,10 @@ use Rattle.pfair_entry.specs.Entry.{Logged}
 use Rattle.pfair_table.specs.Script.{lists_of}
 use Rattle.pfair_file.specs.Entries.{longer_log, with_entry}
 use Rattle.pfair_file.specs.Tables.{made_at}
-use Rattle.pfair_file.specs.declared.entry.Made.{Made}
+use Rattle.pfair_file.specs.declared.made.Made.{Made}
 use Rattle.pfair_file.specs.declared.fault.FileFault.{FileFault}
 use Rattle.pfair_file.specs.declared.fault.FileFault.TheVariants.{Memory}
-use Rattle.pfair_file.proofs.entries.add_entry.Goals as goal
+use Rattle.pfair_file.proofs.tables.add_entry.Goals as goal
 
 -- the log of a processor, in the words of the spec
 log_there : (logs : Vec (Vec Logged Global) Global) (i : ℕ) (log : Vec Logged Global) → i < length logs.items → log ≡ get_or logs.items i log → get_or (lists_of logs.items) i [] ≡ log.items
