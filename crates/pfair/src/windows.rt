@@ -12,7 +12,7 @@ use crate::schedule::send_text;
 use csv::Writer;
 use itoa::Buffer;
 use pfair_text::{add_row, finish, new_text};
-use pfair_weight::{Weight, b_bit, deadline, group_deadline, release};
+use pfair_weight::{Stepper, Weight};
 use std::alloc::{AllocError, Global};
 use std::io::Write;
 
@@ -46,30 +46,29 @@ fn windows_table(alloc: Global, weight: Weight, count: u64) -> Result<Vec<u8>, A
 {
     let mut table = new_text(alloc);
     add_row(&mut table, &[b"i", b"r", b"d", b"b", b"D"])?;
-    for index in 1..count + 1 {
-        add_window(&mut table, weight, index)?;
+    let mut stepper = Stepper::new(weight, 0);
+    for _ in 0..count {
+        add_window(&mut table, &stepper)?;
+        stepper.advance();
     }
     finish(table)
 }
 
-// Adds the row of one subtask.
-fn add_window(table: &mut Writer<Vec<u8>>, weight: Weight, index: u64) -> Result<(), AllocError>
+// Adds the row of the subtask at which the stepper stands.
+fn add_window(table: &mut Writer<Vec<u8>>, stepper: &Stepper) -> Result<(), AllocError>
     requires open { IsOpen table.old }
-    requires first { 1 ≤ index }
-    requires last { index ≤ 1000000 }
+    requires offset { stepper.now.theta ≡ 0 }
     ensures open { OnOk result (IsOpen table.new) }
-    ensures text { OnOk result (text_so_far table.new ≡ text_so_far table.old ++ line (window_row weight index)) }
+    ensures text { OnOk result (text_so_far table.new ≡ text_so_far table.old ++ line (window_row stepper.now.weight stepper.now.index)) }
 {
     add_row(
         table,
         &[
-            Buffer::new().format(index).as_bytes(),
-            Buffer::new().format(release(weight, index, 0)).as_bytes(),
-            Buffer::new().format(deadline(weight, index, 0)).as_bytes(),
-            Buffer::new().format(b_bit(weight, index)).as_bytes(),
-            Buffer::new()
-                .format(group_deadline(weight, index, 0))
-                .as_bytes(),
+            Buffer::new().format(stepper.index()).as_bytes(),
+            Buffer::new().format(stepper.release()).as_bytes(),
+            Buffer::new().format(stepper.deadline()).as_bytes(),
+            Buffer::new().format(stepper.b_bit()).as_bytes(),
+            Buffer::new().format(stepper.group_deadline()).as_bytes(),
         ],
     )
 }

@@ -9,8 +9,9 @@ use Rattle.pfair_entry.specs.Same.{name_eq}
 use Rattle.pfair_entry.specs.declared.announcement.Announcement.TheVariants.{Depart, Late}
 use Rattle.pfair_admission.specs.declared.decision.Decision.{Decision}
 use Rattle.pfair_admission.specs.declared.decision.Decision.TheVariants.{Admitted, Departing, Delayed, Refused}
+use Rattle.pfair_admission.specs.declared.quantum.Quantum.{Quantum}
 use Rattle.pfair_admission.specs.Member.{Member, is_departing}
-use Rattle.pfair_admission.specs.Admission.{change, with_freeing, with_delay, with_quantum, effect, running, ran}
+use Rattle.pfair_admission.specs.Admission.{change, with_freeing, with_delay, with_quantum, effect, running, ran, quantum_of}
 use Rattle.pfair_admission.specs.Change.{after_departure, after_late_release, after_quantum}
 use Rattle.pfair_admission.specs.Registry.{EachUnderItsName}
 use Rattle.pfair_admission.proofs.Registers.{Entries, same_value, written}
@@ -61,12 +62,12 @@ pub late_name : {E : Type 0} (r : Result Decision E) (index by : ℕ) (m n : Mem
 late_name (Ok d) index by m n is same = delayed_name d index by m n is
 late_name (Err e) index by m n is same = ap (λ (l : Member). l.name) same
 
-pub ran_written : (es : Entries) (i : ℕ) (name : List ℕ) (m n : Member) (r : Option ℕ) → EachUnderItsName es → IsDistinct name_eq (keys_of es) → slice_get es i ≡ Some (name, m) → slice_get (values_of es) i ≡ Some m
-    → r ≡ option_map (λ (l : Member). l.next) (running (Some m)) → n ≡ after_quantum m → values_of (set_value_at es i n) ≡ (if is_some r then ran name (values_of es) else values_of es)
+pub ran_written : (es : Entries) (i : ℕ) (name : List ℕ) (m n : Member) (r : Option Quantum) → EachUnderItsName es → IsDistinct name_eq (keys_of es) → slice_get es i ≡ Some (name, m) → slice_get (values_of es) i ≡ Some m
+    → r ≡ option_map quantum_of (running (Some m)) → n ≡ after_quantum m → values_of (set_value_at es i n) ≡ (if is_some r then ran name (values_of es) else values_of es)
 ran_written es i name m n r h unique at here answer is =
-    elim (is_departing m) as (λ b. r ≡ option_map (λ (l : Member). l.next) (if b then None else Some m) → n ≡ (if b then m else with_quantum m) → values_of (set_value_at es i n) ≡ (if is_some r then ran name (values_of es) else values_of es)) [
-      | true ↦ λ none same. stays es i m n here same ∙ ap (λ (o : Option ℕ). if is_some o then ran name (values_of es) else values_of es) (sym none)
-      | false ↦ λ some more. changes es i name m n with_quantum h unique at more ∙ ap (λ (o : Option ℕ). if is_some o then ran name (values_of es) else values_of es) (sym some)
+    elim (is_departing m) as (λ b. r ≡ option_map quantum_of (if b then None else Some m) → n ≡ (if b then m else with_quantum m) → values_of (set_value_at es i n) ≡ (if is_some r then ran name (values_of es) else values_of es)) [
+      | true ↦ λ none same. stays es i m n here same ∙ ap (λ (o : Option Quantum). if is_some o then ran name (values_of es) else values_of es) (sym none)
+      | false ↦ λ some more. changes es i name m n with_quantum h unique at more ∙ ap (λ (o : Option Quantum). if is_some o then ran name (values_of es) else values_of es) (sym some)
     ] answer is
 
 pub ran_name : (m n : Member) → n ≡ after_quantum m → n.name ≡ m.name

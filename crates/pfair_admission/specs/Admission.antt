@@ -8,8 +8,9 @@ use Rattle.pfair_entry.specs.declared.announcement.Announcement.TheVariants.{Arr
 use Rattle.pfair_entry.specs.declared.said.Said.{Said}
 use Rattle.pfair_admission.specs.declared.decision.Decision.{Decision}
 use Rattle.pfair_admission.specs.declared.decision.Decision.TheVariants.{Admitted, Departing, Delayed, Refused}
+use Rattle.pfair_admission.specs.declared.quantum.Quantum.{Quantum}
 use Rattle.pfair_admission.specs.declared.refusal.Refusal.TheVariants.{NameTaken, PeriodOutsideFrame, NoRoom, NoSuchTask, AlreadyDeparting, AlreadyReleased}
-use Rattle.pfair_admission.specs.Member.{Member, theta, is_departing, freeing_slot}
+use Rattle.pfair_admission.specs.Member.{Member, theta, is_departing, freeing_slot, eligible_from, next_key}
 
 -- the processors, and the slots of a frame, that weights are shares of
 pub record Machine : Type 0 where
@@ -117,6 +118,10 @@ running (Some m) = if is_departing m then None else Some m
 
 abbrev pub with_quantum : Member → Member
 with_quantum m = record m { next = m.next + 1 }
+
+-- the quantum of its next subtask, and what comes after it
+abbrev pub quantum_of : Member → Quantum
+quantum_of m = record { index = m.next; next_from = eligible_from m (m.next + 1); next_key = next_key (with_quantum m) }
 
 -- the members after the named one has had a quantum
 abbrev pub ran : List ℕ → List Member → List Member

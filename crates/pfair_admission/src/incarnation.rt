@@ -2,12 +2,13 @@
 ghost use Rattle.std.specs.Prelude.{◌≡◌, ◌≤◌, ◌<◌, ◌+◌, Some, IfOk, OnOk, OnErr, nat_lt};
 ghost use Rattle.pfair_weight.specs.Window.{release_of};
 ghost use Rattle.pfair_admission.specs.Member.{IsMember, last_offset, theta, is_departing, eligible_from, next_key, claim_end, freeing_slot};
-ghost use Rattle.pfair_admission.specs.Admission.{newcomer, with_delay, is_freed, departure, late_release, running};
+ghost use Rattle.pfair_admission.specs.Admission.{newcomer, with_delay, is_freed, departure, late_release, running, quantum_of};
 ghost use Rattle.pfair_admission.specs.Change.{after_departure, after_late_release, after_quantum};
 ghost use Rattle.std.specs.Option.{option_map};
 
 use crate::decision::Decision;
 use crate::delay::{Delay, add_at, delay_up_to, is_delayed_at};
+use crate::quantum::Quantum;
 use crate::refusal::Refusal;
 use pfair_order::Key;
 use pfair_weight::{
@@ -259,6 +260,21 @@ impl Incarnation {
             self.stepper.delay(by);
         }
         Some(index)
+    }
+
+    /// It has one quantum more, unless it is departing, and the answer is that quantum.
+    pub(crate) fn run_on(&mut self) -> Option<Quantum>
+        requires { self.old.next < MAX_INDEX }
+        ensures quantum { result ≡ option_map quantum_of (running (Some self.old)) }
+        ensures member { self.new ≡ after_quantum self.old }
+    {
+        let index = self.run()?;
+        let (next_from, next_key) = self.next_subtask();
+        Some(Quantum {
+            index,
+            next_from,
+            next_key,
+        })
     }
 
     // The slot from which its weight and its name are free if it departs at `slot`.

@@ -5,12 +5,13 @@ ghost use Rattle.pfair_entry.specs.Entry.{IsWithinLimits};
 ghost use Rattle.pfair_entry.specs.declared.announcement.Announcement.TheVariants.{Arrive, Depart, Late};
 ghost use Rattle.std.specs.Prelude.{is_some, if◌then◌else◌};
 ghost use Rattle.std.specs.Option.{ForSome, option_map};
-ghost use Rattle.pfair_admission.specs.Admission.{member_named, arrival, departure, late_release, decision, present, decided, running, ran};
+ghost use Rattle.pfair_admission.specs.Admission.{member_named, arrival, departure, late_release, decision, present, decided, running, ran, quantum_of};
 ghost use Rattle.pfair_admission.specs.Removal.{NoneFreed, EachHasRoom};
 
 use crate::decision::Decision;
 use crate::incarnation::{Incarnation, has_come};
 use crate::members::Members;
+use crate::quantum::Quantum;
 use crate::refusal::Refusal;
 use crate::registry::{Registry, claim_of, earlier};
 use pfair_entry::Announcement;
@@ -74,13 +75,13 @@ impl Ledger {
         }
     }
 
-    /// Gives a member that isn't departing a quantum, and answers the subtask's index.
-    pub(crate) fn run(&mut self, name: &TaskName) -> Option<u64>
+    /// Gives a member that isn't departing a quantum, and answers it.
+    pub(crate) fn run_on(&mut self, name: &TaskName) -> Option<Quantum>
         requires { ForSome (member_named self.old.members name.now) (λ m. m.next < MAX_INDEX) }
-        ensures index { result ≡ option_map (λ m. m.next) (running (member_named self.old.members name.now)) }
+        ensures quantum { result ≡ option_map quantum_of (running (member_named self.old.members name.now)) }
         ensures members { self.new ≡ (if is_some result then record self.old { members = ran name.now self.old.members } else self.old) }
     {
-        self.registry.run(name)
+        self.registry.run_on(name)
     }
 
     /// Decides an announcement at the boundary of `slot`.

@@ -7,6 +7,7 @@ pub mod incarnation;
 pub mod laws;
 pub(crate) mod ledger;
 pub mod members;
+pub mod quantum;
 pub mod refusal;
 pub(crate) mod registry;
 
@@ -14,6 +15,7 @@ pub use decision::Decision;
 pub use delay::Delay;
 pub use incarnation::Incarnation;
 pub use members::Members;
+pub use quantum::Quantum;
 pub use refusal::Refusal;
 
 #[cfg(test)]

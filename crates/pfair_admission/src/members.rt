@@ -3,13 +3,14 @@ ghost use Rattle.std.specs.Prelude.{◌≡◌, ◌↔◌, IsTrue, ◌≤◌, ◌
 ghost use Rattle.std.specs.List.{AllByRecursion};
 ghost use Rattle.std.specs.Option.{ForSome, option_copied, option_map};
 ghost use Rattle.pfair_entry.specs.Entry.{IsWithinLimits};
-ghost use Rattle.pfair_admission.specs.Admission.{member_named, boundary, boundary_decisions, announcements, decision, decided, all_decided, all_decisions, running, ran};
+ghost use Rattle.pfair_admission.specs.Admission.{member_named, boundary, boundary_decisions, announcements, decision, decided, all_decided, all_decisions, running, ran, quantum_of};
 ghost use Rattle.pfair_admission.specs.Removal.{NoneFreed};
 ghost use Rattle.pfair_admission.specs.Roster.{LeavesBeginning};
 
 use crate::decision::Decision;
 use crate::incarnation::Incarnation;
 use crate::ledger::Ledger;
+use crate::quantum::Quantum;
 use pfair_entry::{Announcement, Entry, Said};
 use pfair_weight::TaskName;
 use std::alloc::{AllocError, Global};
@@ -151,7 +152,23 @@ impl Members {
         ensures index { result ≡ option_map (λ m. m.next) (running (member_named self.old.members name.now)) }
         ensures members { self.new ≡ (if is_some result then record self.old { members = ran name.now self.old.members } else self.old) }
     {
-        self.ledger.run(name)
+        let quantum = self.ran_on(name)?;
+        Some(quantum.index)
+    }
+
+    /// Gives the next subtask of the named member a quantum, as [`Members::ran`], and answers its
+    /// index with the slot from which the subtask after it may run and that one's key, as
+    /// [`Incarnation::next_subtask`] then does; `None`, with nothing changed, where no member that
+    /// isn't departing has the name. The member's next index is at most 1,000,000.
+    ///
+    /// It costs one look-up of the name, and a number of steps that grows with the logarithm of the
+    /// number of later subtasks that are put off.
+    pub fn ran_on(&mut self, name: &TaskName) -> Option<Quantum>
+        requires { ForSome (member_named self.old.members name.now) (λ m. m.next ≤ 1000000) }
+        ensures quantum { result ≡ option_map quantum_of (running (member_named self.old.members name.now)) }
+        ensures members { self.new ≡ (if is_some result then record self.old { members = ran name.now self.old.members } else self.old) }
+    {
+        self.ledger.run_on(name)
     }
 
     /// The member of that name, departing or not. It costs one look-up, whatever the members are.

@@ -3,13 +3,14 @@ ghost use Rattle.std.specs.Prelude.{◌≡◌, ◌≤◌, ◌<◌, ◌+◌, ◌+
 ghost use Rattle.std.specs.Option.{ForSome, option_copied, option_map};
 ghost use Rattle.pfair_entry.specs.declared.announcement.Announcement.TheVariants.{Arrive, Depart, Late};
 ghost use Rattle.pfair_admission.specs.Member.{last_offset};
-ghost use Rattle.pfair_admission.specs.Admission.{member_named, departure, late_release, effect, present, claimed, running, ran, is_freed};
+ghost use Rattle.pfair_admission.specs.Admission.{member_named, departure, late_release, effect, present, claimed, running, ran, quantum_of, is_freed};
 ghost use Rattle.pfair_admission.specs.Removal.{without, earlier_of, NoneFreedBefore, SomeFreedAt};
 ghost use Rattle.pfair_weight.specs.Share.{units_of};
 ghost use Rattle.pfair_admission.specs.Roster.{NamesApart};
 
 use crate::decision::Decision;
 use crate::incarnation::{Incarnation, has_come};
+use crate::quantum::Quantum;
 use crate::refusal::Refusal;
 use indexmap::IndexMap;
 use pfair_weight::{MAX_INDEX, MAX_OFFSET, TaskName, Weight};
@@ -108,14 +109,14 @@ impl Registry {
         self.members[place].delay(slot, index, by)
     }
 
-    /// A member that isn't departing has one quantum more, and the answer is the subtask's index.
-    pub(crate) fn run(&mut self, name: &TaskName) -> Option<u64>
+    /// A member that isn't departing has one quantum more, and the answer is that quantum.
+    pub(crate) fn run_on(&mut self, name: &TaskName) -> Option<Quantum>
         requires { ForSome (member_named self.old name.now) (λ m. m.next < MAX_INDEX) }
-        ensures index { result ≡ option_map (λ m. m.next) (running (member_named self.old name.now)) }
+        ensures quantum { result ≡ option_map quantum_of (running (member_named self.old name.now)) }
         ensures members { self.new ≡ (if is_some result then ran name.now self.old else self.old) }
     {
         let place = self.members.get_index_of(name)?;
-        self.members[place].run()
+        self.members[place].run_on()
     }
 
     /// Takes the member of that name out. The others keep their order.

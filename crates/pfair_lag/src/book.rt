@@ -142,6 +142,16 @@ impl LagBook {
         Some(account.lag(self.time))
     }
 
+    /// The name at a place, counted from 0, in order of entering, and that task's lag, as [`LagBook::lag`]. `None` exactly
+    /// where there are no more than `place` tasks. It costs the same whatever is entered: no name is looked up.
+    pub fn row_at(&self, place: usize) -> Option<(&TaskName, (i64, u64))>
+        ensures name { option_map (λ row. row.0.now) result ≡ option_map (λ e. e.0) (slice_get self.now.entered place) }
+        ensures lag { option_map (λ row. row.1) result ≡ option_map (λ e. lag_of e.1) (slice_get self.now.entered place) }
+    {
+        let (name, account) = self.accounts.get_index(place)?;
+        Some((name, account.lag(self.time)))
+    }
+
     /// How many tasks are entered.
     pub fn len(&self) -> usize
         ensures { result ≡ length self.now.entered }

@@ -43,39 +43,15 @@ time-all_told (d ∷ ds) book = time-all_told ds (told d.announcement d.decision
 
 -- ---- the task at a place
 
-apart_at : (k : NameValue) (es : List (NameValue × Tally)) (i : ℕ) (e : NameValue × Tally) → AllByRecursion (λ n. name_eq k n ≡ false) (map (λ (e : NameValue × Tally). e.0) es) → slice_get es i ≡ Some e → name_eq k e.0 ≡ false
-apart_at k [] i e apart at = absurd (none_some e at)
-apart_at k (x ∷ es) zero e apart at = subst (λ (e : NameValue × Tally). name_eq k e.0 ≡ false) (some_inj x e at) apart.0
-apart_at k (x ∷ es) (suc i) e apart at = apart_at k es i e apart.1 at
-
-found_at : (es : List (NameValue × Tally)) (i : ℕ) (e : NameValue × Tally) → IsDistinct name_eq (map (λ (e : NameValue × Tally). e.0) es) → slice_get es i ≡ Some e → lookup (name_eq e.0) es ≡ Some e.1
-unfolding IsDistinct
-found_at [] i e unique at = absurd (none_some e at)
-found_at (x ∷ es) zero e unique at =
-    let is : x ≡ e = some_inj x e at in
-    ap (λ b. cond b (Some x.1) (lookup (name_eq e.0) es)) ((bytes_decides e.0 x.0).1 (ap (λ (e : NameValue × Tally). e.0) (sym is))) ∙ ap (λ (e : NameValue × Tally). Some e.1) is
-found_at (x ∷ es) (suc i) e unique at =
-    ap (λ b. cond b (Some x.1) (lookup (name_eq e.0) es)) (nat_list_eq_equiv.symm e.0 x.0 ∙ apart_at x.0 es i e unique.0 at) ∙ found_at es i e unique.1 at
-
-pub tally_at : (book : Book) (place : ℕ) (e : NameValue × Tally) → IsDistinct name_eq (map (λ e. e.0) book.entered) → slice_get book.entered place ≡ Some e → tally_of e.0 book ≡ Some e.1
-tally_at book place e unique at = found_at book.entered place e unique at
-
 pub named_at : (book : Book) (place : ℕ) (name : NameValue) (e : NameValue × Tally) → Some name ≡ option_map (λ (e : NameValue × Tally). e.0) (slice_get book.entered place) → slice_get book.entered place ≡ Some e → name ≡ e.0
 named_at book place name e named at = some_inj name e.0 (named ∙ ap (option_map (λ (e : NameValue × Tally). e.0)) at)
 
-pub lag_at : (book : Book) (place : ℕ) (name : NameValue) (e : NameValue × Tally) (o : Option (ℤ × ℕ)) → IsDistinct name_eq (map (λ e. e.0) book.entered)
-    → Some name ≡ option_map (λ (e : NameValue × Tally). e.0) (slice_get book.entered place) → slice_get book.entered place ≡ Some e → o ≡ option_map lag_of (tally_of name book) → o ≡ Some (lag_of e.1)
-lag_at book place name e o unique named at is =
-    is ∙ ap (λ (n : NameValue). option_map lag_of (tally_of n book)) (named_at book place name e named at) ∙ ap (option_map lag_of) (tally_at book place e unique at)
+pub lag_at : (book : Book) (place : ℕ) (e : NameValue × Tally) (numerator : ℤ) (period : ℕ) → Some (numerator, period) ≡ option_map (λ (e : NameValue × Tally). lag_of e.1) (slice_get book.entered place) → slice_get book.entered place ≡ Some e → (numerator, period) ≡ lag_of e.1
+lag_at book place e numerator period shown at = some_inj (numerator, period) (lag_of e.1) (shown ∙ ap (option_map (λ (e : NameValue × Tally). lag_of e.1)) at)
 
-pub no_lag : {A : Type 0} (x : A) (o : Option A) → o ≡ Some x → o ≡ None → ⊥
-no_lag x o e f = none_some x (sym f ∙ e)
-
-pub row_is : (time time' : ℕ) (name : NameValue) (e : NameValue × Tally) (numerator : ℤ) (period : ℕ) (o : Option (ℤ × ℕ)) → time' ≡ time → name ≡ e.0 → o ≡ Some (lag_of e.1) → o ≡ Some (numerator, period)
+pub row_is : (time time' : ℕ) (name : NameValue) (e : NameValue × Tally) (numerator : ℤ) (period : ℕ) → time' ≡ time → name ≡ e.0 → (numerator, period) ≡ lag_of e.1
     → (decimal time' ∷ name ∷ signed_decimal numerator ∷ decimal period ∷ []) ≡ tally_row time e
-row_is time time' name e numerator period o t n lag pair =
-    let same : (numerator, period) ≡ lag_of e.1 = some_inj (numerator, period) (lag_of e.1) (sym pair ∙ lag) in
-    λ i. decimal (t i) ∷ n i ∷ signed_decimal (same i).0 ∷ decimal (same i).1 ∷ []
+row_is time time' name e numerator period t n same = λ i. decimal (t i) ∷ n i ∷ signed_decimal (same i).0 ∷ decimal (same i).1 ∷ []
 
 -- ---- rows
 

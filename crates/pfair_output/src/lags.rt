@@ -122,10 +122,7 @@ fn add_task(writer: &mut Writer<Vec<u8>>, book: &LagBook, place: usize) -> Resul
     ensures text { OnOk result ((task : NameValue × Tally) → slice_get book.now.entered place ≡ Some task
         → text_so_far writer.new ≡ text_so_far writer.old ++ line (tally_row book.now.time task)) }
 {
-    let Some(name) = book.name_at(place) else {
-        return Ok(());
-    };
-    let Some((numerator, period)) = book.lag(name) else {
+    let Some((name, (numerator, period))) = book.row_at(place) else {
         return Ok(());
     };
     add_lag(writer, book.time(), name, numerator, period)?;

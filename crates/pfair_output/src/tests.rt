@@ -3,7 +3,7 @@
 use crate::{decisions_of, lags_of, placed_replay_of, replay_of};
 use pfair_entry::{Announcement, Entry};
 use pfair_ready::{HeapReady, PlainReady, Ready};
-use pfair_table::{Dispatcher, Pick, Script, ScriptFault, Settings, run_script};
+use pfair_table::{Dispatcher, Pick, Script, Settings, run_script};
 use pfair_weight::{TaskName, Weight};
 use std::alloc::{AllocError, Global};
 use std::process::Abort;
@@ -99,27 +99,8 @@ fn early_log(rt: &impl Abort, alloc: Global) -> Result<Script, AllocError> {
     Ok(Script::new(settings, logs).ok().expect(rt, "a script"))
 }
 
-/// The run of a script. Where memory is refused it tries once more.
-fn run<R: Ready>(alloc: Global, script: &Script) -> Result<Dispatcher<R>, ScriptFault> {
-    match run_script(alloc, script) {
-        Ok(dispatcher) => Ok(dispatcher),
-        Err(_) => run_script(alloc, script),
-    }
-}
-
-/// A copy of all tables of a run. Where memory is refused it tries once more.
-fn tables_of<R: Ready>(
-    alloc: Global,
-    dispatcher: &Dispatcher<R>,
-) -> Result<Vec<Vec<Pick>>, AllocError> {
-    match copy_tables(alloc, dispatcher) {
-        Ok(tables) => Ok(tables),
-        Err(_) => copy_tables(alloc, dispatcher),
-    }
-}
-
 /// A copy of all tables of a run.
-fn copy_tables<R: Ready>(
+fn tables_of<R: Ready>(
     alloc: Global,
     dispatcher: &Dispatcher<R>,
 ) -> Result<Vec<Vec<Pick>>, AllocError> {
@@ -132,19 +113,8 @@ fn copy_tables<R: Ready>(
     Ok(all)
 }
 
-/// A copy of the places of all slots of a run. Where memory is refused it tries once more.
-fn places_of<R: Ready>(
-    alloc: Global,
-    dispatcher: &Dispatcher<R>,
-) -> Result<Vec<Vec<u8>>, AllocError> {
-    match copy_places(alloc, dispatcher) {
-        Ok(places) => Ok(places),
-        Err(_) => copy_places(alloc, dispatcher),
-    }
-}
-
 /// A copy of the places of all slots of a run.
-fn copy_places<R: Ready>(
+fn places_of<R: Ready>(
     alloc: Global,
     dispatcher: &Dispatcher<R>,
 ) -> Result<Vec<Vec<u8>>, AllocError> {
@@ -157,34 +127,19 @@ fn copy_places<R: Ready>(
     Ok(all)
 }
 
-/// Asserts the four texts of the script of two processors. Where memory is refused each is asked for once more.
+/// Asserts the four texts of the script of two processors.
 fn assert_texts<R: Ready>(rt: &impl Abort, alloc: Global) -> Result<(), Fail> {
-    let script = match two_logs(rt, alloc) {
-        Ok(script) => script,
-        Err(_) => two_logs(rt, alloc)?,
-    };
-    let dispatcher = run::<R>(alloc, &script)?;
+    let script = two_logs(rt, alloc)?;
+    let dispatcher: Dispatcher<R> = run_script(alloc, &script)?;
     let tables = tables_of(alloc, &dispatcher)?;
-    let replay = match replay_of(alloc, tables.as_slice()) {
-        Ok(text) => text,
-        Err(_) => replay_of(alloc, tables.as_slice())?,
-    };
+    let replay = replay_of(alloc, tables.as_slice())?;
     assert_eq!(rt; replay.as_slice(), REPLAY.as_bytes());
     let places = places_of(alloc, &dispatcher)?;
-    let placed = match placed_replay_of(alloc, tables.as_slice(), places.as_slice()) {
-        Ok(text) => text,
-        Err(_) => placed_replay_of(alloc, tables.as_slice(), places.as_slice())?,
-    };
+    let placed = placed_replay_of(alloc, tables.as_slice(), places.as_slice())?;
     assert_eq!(rt; placed.as_slice(), PLACED.as_bytes());
-    let decisions = match decisions_of(alloc, &dispatcher) {
-        Ok(text) => text,
-        Err(_) => decisions_of(alloc, &dispatcher)?,
-    };
+    let decisions = decisions_of(alloc, &dispatcher)?;
     assert_eq!(rt; decisions.as_slice(), DECISIONS.as_bytes());
-    let lags = match lags_of(alloc, &dispatcher) {
-        Ok(text) => text,
-        Err(_) => lags_of(alloc, &dispatcher)?,
-    };
+    let lags = lags_of(alloc, &dispatcher)?;
     assert_eq!(rt; lags.as_slice(), LAGS.as_bytes());
     Ok(())
 }
@@ -201,15 +156,9 @@ fn texts_of_two_logs_by_a_heap(rt: HostRuntime) -> Result<(), Fail> {
 
 #[test]
 fn lags_of_an_early_task(rt: HostRuntime) -> Result<(), Fail> {
-    let script = match early_log(&rt, rt.alloc()) {
-        Ok(script) => script,
-        Err(_) => early_log(&rt, rt.alloc())?,
-    };
-    let dispatcher = run::<HeapReady>(rt.alloc(), &script)?;
-    let lags = match lags_of(rt.alloc(), &dispatcher) {
-        Ok(text) => text,
-        Err(_) => lags_of(rt.alloc(), &dispatcher)?,
-    };
+    let script = early_log(&rt, rt.alloc())?;
+    let dispatcher: Dispatcher<HeapReady> = run_script(rt.alloc(), &script)?;
+    let lags = lags_of(rt.alloc(), &dispatcher)?;
     assert_eq!(rt; lags.as_slice(), EARLY_LAGS.as_bytes());
     Ok(())
 }

@@ -23,6 +23,7 @@ use Rattle.indexmap.specs.IndexMap.{set_value_at}
 use Rattle.pfair_order.specs.declared.Key.{Key}
 use Rattle.pfair_order.proofs.RankLemmas.{place_of, at_place}
 use Rattle.pfair_ready.specs.Names.{NameValue, name_cmp, name_eq}
+use Rattle.pfair_ready.specs.declared.date.Date.{Date}
 use Rattle.pfair_ready.specs.Slots.{SlotList, with_slot, live, entry_of, in_slot, IsPlaced, Keeps, Moves, IsCovered, later_cmp}
 use Rattle.pfair_ready.proofs.Names.{names_total, names_exact, tied_names}
 
@@ -258,10 +259,7 @@ same_keeps es es' e h =
       apart = subst (λ (x : SlotList). IsDistinct name_eq (keys_of x)) (sym e) h;
     }
 
-Dates : Type 0
-Dates = List (Reverse (ℕ × ℕ))
-
-pub covered_kept : (now : ℕ) (es es' : SlotList) (dates : List (Reverse (ℕ × ℕ))) (heap : List (Reverse (Key × ℕ))) → Keeps es es' → IsCovered now es dates heap → IsCovered now es' dates heap
+pub covered_kept : (now : ℕ) (es es' : SlotList) (dates : List (Reverse Date)) (heap : List (Reverse (Key × ℕ))) → Keeps es es' → IsCovered now es dates heap → IsCovered now es' dates heap
 covered_kept now es es' dates heap k c =
     record {
       apart = k.apart;
@@ -272,7 +270,7 @@ covered_kept now es es' dates heap k c =
     }
 
 -- a slot is emptied
-pub covered_emptied : (now place : ℕ) (es es' : SlotList) (dates : List (Reverse (ℕ × ℕ))) (heap : List (Reverse (Key × ℕ))) → es' ≡ set_value_at es place None → IsCovered now es dates heap → IsCovered now es' dates heap
+pub covered_emptied : (now place : ℕ) (es es' : SlotList) (dates : List (Reverse Date)) (heap : List (Reverse (Key × ℕ))) → es' ≡ set_value_at es place None → IsCovered now es dates heap → IsCovered now es' dates heap
 covered_emptied now place es es' dates heap e c =
     subst (λ (x : SlotList). IsCovered now x dates heap) (sym e) (record {
       apart = subst (IsDistinct name_eq) (sym (keys_set es place None)) c.apart;
@@ -283,12 +281,12 @@ covered_emptied now place es es' dates heap e c =
     })
 
 -- a slot is filled, and its date is in the calendar
-pub covered_filled : (now place r : ℕ) (k : Key) (es es' : SlotList) (dates dates' : List (Reverse (ℕ × ℕ))) (heap : List (Reverse (Key × ℕ)))
-    → IsPlaced es place k.name → es' ≡ set_value_at es place (Some (r, k)) → IsPermutation (record { 0 = (r, place) } ∷ dates) dates' → IsHeap later_cmp dates'
+pub covered_filled : (now place r : ℕ) (k : Key) (es es' : SlotList) (dates dates' : List (Reverse Date)) (heap : List (Reverse (Key × ℕ)))
+    → IsPlaced es place k.name → es' ≡ set_value_at es place (Some (r, k)) → IsPermutation (record { 0 = record { release = r; place = place } } ∷ dates) dates' → IsHeap later_cmp dates'
     → IsCovered now es dates heap → IsCovered now es' dates' heap
 covered_filled now place r k es es' dates dates' heap here e perm up c =
-    let more : (x : Reverse (ℕ × ℕ)) → Contains dates x → Contains dates' x = λ x h. Contains-permutation (record { 0 = (r, place) } ∷ dates) dates' x perm (Contains-append_right (record { 0 = (r, place) } ∷ []) dates x h) in
-    let top : Contains dates' (record { 0 = (r, place) }) = Contains-permutation (record { 0 = (r, place) } ∷ dates) dates' (record { 0 = (r, place) }) perm (0, omega arith, refl) in
+    let more : (x : Reverse Date) → Contains dates x → Contains dates' x = λ x h. Contains-permutation (record { 0 = record { release = r; place = place } } ∷ dates) dates' x perm (Contains-append_right (record { 0 = record { release = r; place = place } } ∷ []) dates x h) in
+    let top : Contains dates' (record { 0 = record { release = r; place = place } }) = Contains-permutation (record { 0 = record { release = r; place = place } } ∷ dates) dates' (record { 0 = record { release = r; place = place } }) perm (0, omega arith, refl) in
     subst (λ (x : SlotList). IsCovered now x dates' heap) (sym e) (record {
       apart = subst (IsDistinct name_eq) (sym (keys_set es place (Some (r, k)))) c.apart;
       named = λ p n r' k' at. elim (set_some es place p (r, k) n (r', k') at) [
@@ -298,9 +296,9 @@ covered_filled now place r k es es' dates dates' heap here e perm up c =
       covered = λ p r' k' at.
           let g = entry_in (slice_get (set_value_at es place (Some (r, k))) p) (r', k') at in
           elim (set_some es place p (r, k) g.0 (r', k') g.1) [
-            | inl f ↦ inl (subst (λ (x : ℕ). Contains dates' (record { 0 = (r', x) })) f.place (subst (λ (x : ℕ × Key). Contains dates' (record { 0 = (x.0, place) })) f.is top))
+            | inl f ↦ inl (subst (λ (x : ℕ). Contains dates' (record { 0 = record { release = r'; place = x } })) f.place (subst (λ (x : ℕ × Key). Contains dates' (record { 0 = record { release = x.0; place = place } })) f.is top))
             | inr o ↦ elim (c.covered p r' k' (ap in_slot o)) [
-              | inl d ↦ inl (more (record { 0 = (r', p) }) d)
+              | inl d ↦ inl (more (record { 0 = record { release = r'; place = p } }) d)
               | inr h ↦ inr h
             ]
           ];
@@ -309,7 +307,7 @@ covered_filled now place r k es es' dates dates' heap here e perm up c =
     })
 
 -- nothing has moved
-pub moves_none : (slot : ℕ) (es : SlotList) (dates : List (Reverse (ℕ × ℕ))) (heap : List (Reverse (Key × ℕ))) → Moves slot es dates dates heap heap
+pub moves_none : (slot : ℕ) (es : SlotList) (dates : List (Reverse Date)) (heap : List (Reverse (Key × ℕ))) → Moves slot es dates dates heap heap
 moves_none slot es dates heap = record { kept = λ x h. h; moved = λ p r k at h. inl h }
 
 in_cons : {A : Type 0} (y : A) (xs : List A) (x : A) (i : ℕ) → slice_get (y ∷ xs) i ≡ Some x → (y ≡ x) ⊎ Contains xs x
@@ -323,17 +321,17 @@ top_or_stays top x xs ys p c =
     in_cons top ys x at.0 at.1
 
 -- one date more has gone
-pub moves_more : (slot : ℕ) (es : SlotList) (date : Reverse (ℕ × ℕ)) (dates0 dates dates' : List (Reverse (ℕ × ℕ))) (heap0 heap heap' : List (Reverse (Key × ℕ)))
-    → Moves slot es dates0 dates heap0 heap → date.0.0 ≤ slot → IsPermutation dates (date ∷ dates')
-    → ((x : Reverse (Key × ℕ)) → Contains heap x → Contains heap' x) → ((k : Key) → in_slot (slice_get es date.0.1) ≡ Some (date.0.0, k) → Contains heap' (record { 0 = (k, date.0.1) }))
+pub moves_more : (slot : ℕ) (es : SlotList) (date : Reverse Date) (dates0 dates dates' : List (Reverse Date)) (heap0 heap heap' : List (Reverse (Key × ℕ)))
+    → Moves slot es dates0 dates heap0 heap → date.0.release ≤ slot → IsPermutation dates (date ∷ dates')
+    → ((x : Reverse (Key × ℕ)) → Contains heap x → Contains heap' x) → ((k : Key) → in_slot (slice_get es date.0.place) ≡ Some (date.0.release, k) → Contains heap' (record { 0 = (k, date.0.place) }))
     → Moves slot es dates0 dates' heap0 heap'
 moves_more slot es date dates0 dates dates' heap0 heap heap' m due perm kept there =
     record {
       kept = λ x h. kept x (m.kept x h);
       moved = λ p r k at h. elim (m.moved p r k at h) [
-        | inl stays ↦ elim (top_or_stays date (record { 0 = (r, p) }) dates dates' perm stays) [
+        | inl stays ↦ elim (top_or_stays date (record { 0 = record { release = r; place = p } }) dates dates' perm stays) [
           | inl same ↦
-              let P : Reverse (ℕ × ℕ) → Type 0 = λ x. in_slot (slice_get es x.0.1) ≡ Some (x.0.0, k) → (x.0.0 ≤ slot) × Contains heap' (record { 0 = (k, x.0.1) }) in
+              let P : Reverse Date → Type 0 = λ x. in_slot (slice_get es x.0.place) ≡ Some (x.0.release, k) → (x.0.release ≤ slot) × Contains heap' (record { 0 = (k, x.0.place) }) in
               inr (subst P same (λ a. (due, there k a)) at)
           | inr later ↦ inl later
         ]
@@ -342,19 +340,19 @@ moves_more slot es date dates0 dates dates' heap0 heap heap' m due perm kept the
     }
 
 -- what is not before the first date is later than the slot
-not_less : (slot a b x y : ℕ) → slot < b → is_lt (ordering_then (nat_cmp a b) (nat_cmp x y)) ≡ false → slot < a
-not_less slot a b x y h e =
-    elim (nat_lt a b) as (λ c. nat_lt a b ≡ c → is_lt (ordering_then (cond c Less (cond (a == b) Equal Greater)) (nat_cmp x y)) ≡ false → slot < a) [
+not_less : (slot a b : ℕ) → slot < b → is_lt (nat_cmp a b) ≡ false → slot < a
+not_less slot a b h e =
+    elim (nat_lt a b) as (λ c. nat_lt a b ≡ c → is_lt (cond c Less (cond (a == b) Equal Greater)) ≡ false → slot < a) [
       | true ↦ λ _ g. absurd (true_false g)
       | false ↦ λ t _. grind (arith, nat_tests)
     ] refl e
 
-later_each : (slot : ℕ) (top : Reverse (ℕ × ℕ)) (dates : List (Reverse (ℕ × ℕ))) → slot < top.0.0 → IsUpperBound later_cmp top dates → AllByRecursion (λ e. slot < e.0.0) dates
+later_each : (slot : ℕ) (top : Reverse Date) (dates : List (Reverse Date)) → slot < top.0.release → IsUpperBound later_cmp top dates → AllByRecursion (λ e. slot < e.0.release) dates
 later_each slot top [] h b = tt
-later_each slot top (e ∷ es) h b = (not_less slot e.0.0 top.0.0 e.0.1 top.0.1 h b.0, later_each slot top es h b.1)
+later_each slot top (e ∷ es) h b = (not_less slot e.0.release top.0.release h b.0, later_each slot top es h b.1)
 
-pub all_later : (slot : ℕ) (top : Reverse (ℕ × ℕ)) (dates : List (Reverse (ℕ × ℕ))) → slot < top.0.0 → IsUpperBound later_cmp top dates → All (λ e. slot < e.0.0) dates
-all_later slot top dates h b = All-from_recursion (λ e. slot < e.0.0) dates (later_each slot top dates h b)
+pub all_later : (slot : ℕ) (top : Reverse Date) (dates : List (Reverse Date)) → slot < top.0.release → IsUpperBound later_cmp top dates → All (λ e. slot < e.0.release) dates
+all_later slot top dates h b = All-from_recursion (λ e. slot < e.0.release) dates (later_each slot top dates h b)
 
 pub pushed_more : {A : Type 0} (item x : A) (xs ys : List A) → IsPermutation (item ∷ xs) ys → Contains xs x → Contains ys x
 pushed_more item x xs ys p h = Contains-permutation (item ∷ xs) ys x p (Contains-append_right (item ∷ []) xs x h)
@@ -376,7 +374,7 @@ pub popped : {A : Type 0} (o : Option A) (xs ys : List A) (top : A) (n : ℕ) �
 popped None xs ys top n e some t none at p = absurd (omega arith)
 popped (Some x) xs ys top n e some t none at p = subst (λ z. IsPermutation xs (z ∷ ys)) (same_head xs x top some at t) p
 
-pub popped_order : (o : Option (Reverse (ℕ × ℕ))) (xs ys : List (Reverse (ℕ × ℕ))) (n : ℕ) → n ≡ length xs → 0 < length xs → IfNone o (n ≡ 0) → IfSome o (λ x. PopsGreatest later_cmp xs x ys) → IsHeap later_cmp xs → IsHeap later_cmp ys
+pub popped_order : (o : Option (Reverse Date)) (xs ys : List (Reverse Date)) (n : ℕ) → n ≡ length xs → 0 < length xs → IfNone o (n ≡ 0) → IfSome o (λ x. PopsGreatest later_cmp xs x ys) → IsHeap later_cmp xs → IsHeap later_cmp ys
 popped_order None xs ys n e some none h up = absurd (omega arith)
 popped_order (Some x) xs ys n e some none h up = (h up).0
 

@@ -24,6 +24,7 @@ use Rattle.pfair_order.proofs.ByRank.{by_rank_of_split}
 use Rattle.pfair_ready.specs.Names.{NameValue, name_cmp, name_eq}
 use Rattle.pfair_ready.specs.Waiting.{released, without}
 use Rattle.pfair_ready.specs.Heap.{is_due}
+use Rattle.pfair_ready.specs.declared.date.Date.{Date}
 use Rattle.pfair_ready.specs.Slots.{SlotList, live, entry_of, in_slot, later_cmp, reverse_cmp, Moves, IsCovered}
 use Rattle.std.specs.List.{IsDistinct}
 use Rattle.std.specs.Ordering.{nat_cmp, ordering_then}
@@ -34,13 +35,13 @@ use Rattle.pfair_ready.proofs.Names.{names_total, equal_of}
 use Rattle.pfair_ready.proofs.HeapLemmas.{get_found, one_taken, top_or_stays, live_at, live_set, stands, Stands, entry_in, set_none, keys_set}
 use Rattle.pfair_ready.proofs.Released.{IsReleased, each_released, released_remove, without_none, without_push}
 
-pub record IsTaking (slot m room : ℕ) (start es : SlotList) (dates : List (Reverse (ℕ × ℕ))) (heap : List (Reverse (Key × ℕ))) (first : List Key) : Type 0 where
+pub record IsTaking (slot m room : ℕ) (start es : SlotList) (dates : List (Reverse Date)) (heap : List (Reverse (Key × ℕ))) (first : List Key) : Type 0 where
   -- what is given, and what is released of what is held still
   pub split : IsSplit keys_total (released slot (from_entries {R = name_cmp} (live start))) first (released slot (from_entries {R = name_cmp} (live es)))
   pub left : from_entries {R = name_cmp} (live es) ≡ without first (from_entries {R = name_cmp} (live start))
   pub covered : IsCovered slot es dates heap
   -- the calendar has later dates alone, so what is released is in the heap
-  pub later : All (λ e. slot < e.0.0) dates
+  pub later : All (λ e. slot < e.0.release) dates
   pub few : length first ≤ m
   pub counted : length first + length heap ≤ room
 
@@ -88,7 +89,7 @@ held_due k slot r within =
     let one : nat_le r slot ≡ true = grind (arith, nat_tests) in
     rw one (ap is_eq (tied_itself keys_total k))
 
-pub covered_moved : (now slot : ℕ) (es : SlotList) (dates dates' : List (Reverse (ℕ × ℕ))) (heap heap' : List (Reverse (Key × ℕ)))
+pub covered_moved : (now slot : ℕ) (es : SlotList) (dates dates' : List (Reverse Date)) (heap heap' : List (Reverse (Key × ℕ)))
     → IsCovered now es dates heap → now ≤ slot → Moves slot es dates dates' heap heap' → IsHeap later_cmp dates' → IsHeap reverse_cmp heap' → IsCovered slot es dates' heap'
 covered_moved now slot es dates dates' heap heap' c within m down up =
     record {
@@ -100,8 +101,8 @@ covered_moved now slot es dates dates' heap heap' c within m down up =
     }
 
 -- at the start nothing is given
-pub taking_none : (slot m : ℕ) (start : SlotList) (dates : List (Reverse (ℕ × ℕ))) (heap : List (Reverse (Key × ℕ)))
-    → IsCovered slot start dates heap → All (λ e. slot < e.0.0) dates → IsTaking slot m (length heap) start start dates heap []
+pub taking_none : (slot m : ℕ) (start : SlotList) (dates : List (Reverse Date)) (heap : List (Reverse (Key × ℕ)))
+    → IsCovered slot start dates heap → All (λ e. slot < e.0.release) dates → IsTaking slot m (length heap) start start dates heap []
 taking_none slot m start dates heap c later =
     record {
       split = record {
@@ -121,12 +122,12 @@ first_not_less Less b e = e
 first_not_less Equal b e = refl
 first_not_less Greater b e = refl
 
-module _ (slot m room : ℕ) (start es : SlotList) (dates : List (Reverse (ℕ × ℕ))) (heap : List (Reverse (Key × ℕ))) (first : List Key) (t : IsTaking slot m room start es dates heap first) where
+module _ (slot m room : ℕ) (start es : SlotList) (dates : List (Reverse Date)) (heap : List (Reverse (Key × ℕ))) (first : List Key) (t : IsTaking slot m room start es dates heap first) where
   -- what is held and released is in the heap
   in_heap : (name : NameValue) (r : ℕ) (k : Key) (s : Stands es name (r, k)) → r ≤ slot → Contains heap (record { 0 = (k, s.place) })
   in_heap name r k s due =
       elim (t.covered.covered s.place r k (ap in_slot s.at)) [
-        | inl there ↦ let later : slot < r = All-contains (λ (e : Reverse (ℕ × ℕ)). slot < e.0.0) dates (record { 0 = (r, s.place) }) t.later there in absurd (omega arith)
+        | inl there ↦ let later : slot < r = All-contains (λ (e : Reverse Date). slot < e.0.release) dates (record { 0 = record { release = r; place = s.place } }) t.later there in absurd (omega arith)
         | inr both ↦ both.1
       ]
 

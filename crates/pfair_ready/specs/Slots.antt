@@ -1,5 +1,5 @@
 -- The slots of names, at places, and what is held in them.
-use Rattle.std.specs.Prelude.{◌≡◌, ℕ, ◌≤◌, ◌⊎◌, List, [], ◌∷◌, Option, Some, None, slice_get, slice_index_or, length, ◌<◌, true, Contains}
+use Rattle.std.specs.Prelude.{◌≡◌, ℕ, ◌≤◌, Bool, nat_eq, ◌⊎◌, List, [], ◌∷◌, Option, Some, None, slice_get, slice_index_or, length, ◌<◌, true, Contains}
 use Rattle.std.specs.declared.cmp.Ordering.{Ordering}
 use Rattle.std.specs.declared.cmp.Reverse.{Reverse}
 use Rattle.std.specs.Ordering.{nat_cmp, ordering_then}
@@ -10,6 +10,7 @@ use Rattle.std.specs.BinaryHeap.{IsHeap}
 use Rattle.pfair_order.specs.declared.Key.{Key}
 use Rattle.pfair_order.specs.Order.{pd2_cmp}
 use Rattle.indexmap.specs.IndexMap.{set_value_at}
+use Rattle.pfair_ready.specs.declared.date.Date.{Date}
 use Rattle.pfair_ready.specs.Heap.{is_due}
 use Rattle.pfair_ready.specs.Names.{NameValue, name_cmp, name_eq}
 
@@ -47,11 +48,14 @@ pub record Keeps (es es' : SlotList) : Type 0 where
   pub slots : (p : ℕ) (name : NameValue) (v : ℕ × Key) → slice_get es' p ≡ Some (name, Some v) → slice_get es p ≡ Some (name, Some v)
   pub apart : IsDistinct name_eq (keys_of es')
 
--- a release and a place, the earlier release first
-abbrev pub date_cmp : ℕ × ℕ → ℕ × ℕ → Ordering
-date_cmp a b = ordering_then (nat_cmp a.0 b.0) (nat_cmp a.1 b.1)
+-- dates are told apart, and ordered, by their release alone, the earlier first
+abbrev pub same_date : Date → Date → Bool
+same_date a b = nat_eq a.release b.release
 
-abbrev pub later_cmp : Reverse (ℕ × ℕ) → Reverse (ℕ × ℕ) → Ordering
+abbrev pub date_cmp : Date → Date → Ordering
+date_cmp a b = nat_cmp a.release b.release
+
+abbrev pub later_cmp : Reverse Date → Reverse Date → Ordering
 later_cmp a b = date_cmp b.0 a.0
 
 -- a key and a place, by the PD2 order first
@@ -62,8 +66,8 @@ abbrev pub reverse_cmp : Reverse (Key × ℕ) → Reverse (Key × ℕ) → Order
 reverse_cmp a b = turn_cmp b.0 a.0
 
 -- the date is on top of the calendar, and has come
-pub record IsNextDate (slot : ℕ) (dates : List (Reverse (ℕ × ℕ))) (date : ℕ × ℕ) : Type 0 where
-  pub due : date.0 ≤ slot
+pub record IsNextDate (slot : ℕ) (dates : List (Reverse Date)) (date : Date) : Type 0 where
+  pub due : date.release ≤ slot
   pub some : 0 < length dates
   pub top : record { 0 = date } ≡ slice_index_or dates 0 (record { 0 = date })
 
@@ -74,14 +78,14 @@ pub record IsTurn (slot : ℕ) (es es' : SlotList) (turn : Key × ℕ) (key : Ke
   pub emptied : es' ≡ set_value_at es turn.1 None
 
 -- what moved from a calendar to a heap: the heap loses nothing, and a date of a slot that left the calendar has come, and the slot's key is in the heap
-pub record Moves (slot : ℕ) (es : SlotList) (dates dates' : List (Reverse (ℕ × ℕ))) (heap heap' : List (Reverse (Key × ℕ))) : Type 0 where
+pub record Moves (slot : ℕ) (es : SlotList) (dates dates' : List (Reverse Date)) (heap heap' : List (Reverse (Key × ℕ))) : Type 0 where
   pub kept : (x : Reverse (Key × ℕ)) → Contains heap x → Contains heap' x
-  pub moved : (p : ℕ) (r : ℕ) (k : Key) → in_slot (slice_get es p) ≡ Some (r, k) → Contains dates (record { 0 = (r, p) }) → Contains dates' (record { 0 = (r, p) }) ⊎ ((r ≤ slot) × Contains heap' (record { 0 = (k, p) }))
+  pub moved : (p : ℕ) (r : ℕ) (k : Key) → in_slot (slice_get es p) ≡ Some (r, k) → Contains dates (record { 0 = record { release = r; place = p } }) → Contains dates' (record { 0 = record { release = r; place = p } }) ⊎ ((r ≤ slot) × Contains heap' (record { 0 = (k, p) }))
 
 -- each slot holds a key of its name, which is in the calendar at its release, or released and in the heap; and the orders of both
-pub record IsCovered (now : ℕ) (es : SlotList) (dates : List (Reverse (ℕ × ℕ))) (heap : List (Reverse (Key × ℕ))) : Type 0 where
+pub record IsCovered (now : ℕ) (es : SlotList) (dates : List (Reverse Date)) (heap : List (Reverse (Key × ℕ))) : Type 0 where
   pub apart : IsDistinct name_eq (keys_of es)
   pub named : (p : ℕ) (name : NameValue) (r : ℕ) (k : Key) → slice_get es p ≡ Some (name, Some (r, k)) → k.name ≡ name
-  pub covered : (p : ℕ) (r : ℕ) (k : Key) → in_slot (slice_get es p) ≡ Some (r, k) → Contains dates (record { 0 = (r, p) }) ⊎ ((r ≤ now) × Contains heap (record { 0 = (k, p) }))
+  pub covered : (p : ℕ) (r : ℕ) (k : Key) → in_slot (slice_get es p) ≡ Some (r, k) → Contains dates (record { 0 = record { release = r; place = p } }) ⊎ ((r ≤ now) × Contains heap (record { 0 = (k, p) }))
   pub date_order : IsHeap later_cmp dates
   pub in_order : IsHeap reverse_cmp heap

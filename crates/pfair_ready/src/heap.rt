@@ -11,6 +11,7 @@ ghost use Rattle.pfair_ready.specs.Heap.{is_due};
 ghost use Rattle.pfair_ready.specs.Slots.{in_slot, reverse_cmp, later_cmp, Moves, IsNextDate, IsTurn};
 
 use crate::Ready;
+use crate::date::Date;
 use crate::slots::{Slots, own_place, place_of, put_at, slot_at};
 use indexmap::IndexMap;
 use pfair_order::Key;
@@ -38,7 +39,7 @@ pub struct HeapReady {
     alloc: Global,
     now: u64,
     slots: Slots,
-    calendar: BinaryHeap<Reverse<(u64, usize)>>,
+    calendar: BinaryHeap<Reverse<Date>>,
     released: BinaryHeap<Reverse<(Key, usize)>>,
 }
 
@@ -89,7 +90,7 @@ impl Ready for HeapReady {
         if slot_at(&self.slots, place).is_some() {
             return Ok(false);
         }
-        self.calendar.push(Reverse((release, place)))?;
+        self.calendar.push(Reverse(Date { release, place }))?;
         put_at(&mut self.slots, place, Some((release, key)));
         Ok(true)
     }
@@ -150,7 +151,7 @@ fn is_live(slots: &Slots, slot: u64, key: Key, place: usize) -> bool
 /// Where a growth is refused, some of it has moved, and nothing is lost.
 fn move_released(
     slots: &Slots,
-    calendar: &mut BinaryHeap<Reverse<(u64, usize)>>,
+    calendar: &mut BinaryHeap<Reverse<Date>>,
     released: &mut BinaryHeap<Reverse<(Key, usize)>>,
     slot: u64,
 ) -> Result<(), AllocError>
@@ -160,7 +161,7 @@ fn move_released(
         (heap_items released.old) (heap_items released.new) }
     ensures date_order { IsHeap later_cmp (heap_items calendar.new) }
     ensures in_order { IsHeap reverse_cmp (heap_items released.new) }
-    ensures done { OnOk result (All (λ e. slot < e.0.0) (heap_items calendar.new)) }
+    ensures done { OnOk result (All (λ e. slot < e.0.release) (heap_items calendar.new)) }
 {
     while let Some(date) = next_date(calendar, slot) {
         release_one(slots, released, date)?;
@@ -170,14 +171,14 @@ fn move_released(
 }
 
 /// The first date, where it has come.
-fn next_date(calendar: &BinaryHeap<Reverse<(u64, usize)>>, slot: u64) -> Option<(u64, usize)>
+fn next_date(calendar: &BinaryHeap<Reverse<Date>>, slot: u64) -> Option<Date>
     requires { IsHeap later_cmp (heap_items calendar.now) }
     ensures some { IfSome result (IsNextDate slot (heap_items calendar.now)) }
-    ensures none { IfNone result (All (λ e. slot < e.0.0) (heap_items calendar.now)) }
+    ensures none { IfNone result (All (λ e. slot < e.0.release) (heap_items calendar.now)) }
 {
     let top = calendar.peek()?;
     let date = top.0;
-    if date.0 > slot {
+    if date.release > slot {
         return None;
     }
     Some(date)
@@ -187,17 +188,17 @@ fn next_date(calendar: &BinaryHeap<Reverse<(u64, usize)>>, slot: u64) -> Option<
 fn release_one(
     slots: &Slots,
     released: &mut BinaryHeap<Reverse<(Key, usize)>>,
-    date: (u64, usize),
+    date: Date,
 ) -> Result<(), AllocError>
     requires in_order { IsHeap reverse_cmp (heap_items released.old) }
     ensures kept { (x : Reverse (Key × ℕ)) → Contains (heap_items released.old) x → Contains (heap_items released.new) x }
-    ensures there { OnOk result ((k : Key) → in_slot (slice_get slots.now.entries date.1) ≡ Some (date.0, k)
-        → Contains (heap_items released.new) (record { 0 = (k, date.1) })) }
+    ensures there { OnOk result ((k : Key) → in_slot (slice_get slots.now.entries date.place) ≡ Some (date.release, k)
+        → Contains (heap_items released.new) (record { 0 = (k, date.place) })) }
     ensures in_order { IsHeap reverse_cmp (heap_items released.new) }
 {
-    if let Some((release, key)) = slot_at(slots, date.1) {
-        if release == date.0 {
-            released.push(Reverse((key, date.1)))?;
+    if let Some((release, key)) = slot_at(slots, date.place) {
+        if release == date.release {
+            released.push(Reverse((key, date.place)))?;
         }
     }
     Ok(())

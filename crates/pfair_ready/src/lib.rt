@@ -13,6 +13,7 @@ ghost use Rattle.pfair_order.specs.Order.{pd2_cmp};
 ghost use Rattle.pfair_order.specs.Rank.{first_by_rank};
 ghost use Rattle.pfair_ready.specs.Waiting.{Held, released, without};
 
+mod date;
 mod heap;
 mod plain;
 mod slots;

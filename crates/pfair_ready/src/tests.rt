@@ -1,11 +1,11 @@
-//! Worked rows, for any ready structure, with each refused allocation followed by a second attempt.
+//! Worked rows, for any ready structure.
 
-ghost use Rattle.std.specs.Prelude.{◌≡◌, ◌≤◌, IfOk};
+ghost use Rattle.std.specs.Prelude.{◌≡◌, IfOk};
 
 use crate::{HeapReady, PlainReady, Ready};
 use pfair_order::Key;
 use pfair_weight::TaskName;
-use std::alloc::{AllocError, Global};
+use std::alloc::Global;
 use std::process::Abort;
 use std::test::Fail;
 
@@ -31,57 +31,16 @@ fn contents<R: Ready>(rt: &impl Abort, ready: &R) -> [Option<(u64, Key)>; 3] {
     ]
 }
 
-/// Inserts, and where memory was refused asserts that nothing has changed and tries once more.
-fn insert<R: Ready>(
-    rt: &impl Abort,
-    ready: &mut R,
-    release: u64,
-    key: Key,
-) -> Result<bool, AllocError>
-    ensures { R.now ready.new ≡ R.now ready.old }
-{
-    let (slot, before) = (ready.now(), contents(rt, ready));
-    let once_more = key;
-    let first = ready.insert(release, key);
-    if first.is_ok() {
-        return first;
-    }
-    assert_eq!(rt; ready.now(), slot);
-    assert_eq!(rt; contents(rt, ready), before);
-    ready.insert(release, once_more)
-}
-
-/// Takes the first m, and where memory was refused asserts that `now` alone has changed and tries once more.
-fn take<R: Ready>(
-    rt: &impl Abort,
-    ready: &mut R,
-    slot: u64,
-    m: usize,
-) -> Result<Vec<Key>, AllocError>
-    requires { R.now ready.old ≤ slot }
-    ensures { R.now ready.new ≡ slot }
-{
-    let before = contents(rt, ready);
-    match ready.take_first(slot, m) {
-        Ok(first) => Ok(first),
-        Err(_) => {
-            assert_eq!(rt; ready.now(), slot);
-            assert_eq!(rt; contents(rt, ready), before);
-            ready.take_first(slot, m)
-        }
-    }
-}
-
 fn holds_until_release<R: Ready>(rt: &impl Abort, alloc: Global) -> Result<(), Fail> {
     let (a, b) = (key(rt, 4, 0, b"a"), key(rt, 5, 0, b"b"));
     let mut ready = R::new(alloc);
-    assert!(rt; insert(rt, &mut ready, 3, a)?);
-    assert!(rt; insert(rt, &mut ready, 0, b)?);
-    assert_eq!(rt; take(rt, &mut ready, 2, 4)?.as_slice(), [b].as_slice());
+    assert!(rt; ready.insert(3, a)?);
+    assert!(rt; ready.insert(0, b)?);
+    assert_eq!(rt; ready.take_first(2, 4)?.as_slice(), [b].as_slice());
     assert_eq!(rt; contents(rt, &ready), [Some((3, a)), None, None]);
-    assert!(rt; take(rt, &mut ready, 3, 0)?.is_empty());
+    assert!(rt; ready.take_first(3, 0)?.is_empty());
     assert_eq!(rt; ready.now(), 3);
-    assert!(rt; !insert(rt, &mut ready, 9, key(rt, 1, 1, b"a"))?);
+    assert!(rt; !ready.insert(9, key(rt, 1, 1, b"a"))?);
     assert_eq!(rt; contents(rt, &ready), [Some((3, a)), None, None]);
     assert!(rt; !ready.remove(&b.name));
     Ok(())
@@ -96,12 +55,12 @@ fn gives_by_rank<R: Ready>(rt: &impl Abort, alloc: Global) -> Result<R, Fail>
         key(rt, 3, 1, b"c"),
     );
     let mut ready = R::new(alloc);
-    assert!(rt; insert(rt, &mut ready, 0, a)?);
-    assert!(rt; insert(rt, &mut ready, 0, c)?);
-    assert!(rt; insert(rt, &mut ready, 2, b)?);
-    assert_eq!(rt; take(rt, &mut ready, 0, 1)?.as_slice(), [c].as_slice());
-    assert_eq!(rt; take(rt, &mut ready, 1, 2)?.as_slice(), [a].as_slice());
-    assert_eq!(rt; take(rt, &mut ready, 2, 2)?.as_slice(), [b].as_slice());
+    assert!(rt; ready.insert(0, a)?);
+    assert!(rt; ready.insert(0, c)?);
+    assert!(rt; ready.insert(2, b)?);
+    assert_eq!(rt; ready.take_first(0, 1)?.as_slice(), [c].as_slice());
+    assert_eq!(rt; ready.take_first(1, 2)?.as_slice(), [a].as_slice());
+    assert_eq!(rt; ready.take_first(2, 2)?.as_slice(), [b].as_slice());
     Ok(ready)
 }
 
@@ -109,18 +68,18 @@ fn forgets_removed<R: Ready>(rt: &impl Abort, ready: &mut R) -> Result<(), Fail>
     requires { R.now ready.old ≡ 2 }
 {
     let (early, late) = (key(rt, 9, 0, b"a"), key(rt, 11, 1, b"a"));
-    assert!(rt; insert(rt, ready, 0, early)?);
+    assert!(rt; ready.insert(0, early)?);
     assert!(rt; ready.remove(&early.name));
-    assert!(rt; insert(rt, ready, 0, late)?);
-    assert_eq!(rt; take(rt, ready, 2, 2)?.as_slice(), [late].as_slice());
+    assert!(rt; ready.insert(0, late)?);
+    assert_eq!(rt; ready.take_first(2, 2)?.as_slice(), [late].as_slice());
 
-    assert!(rt; insert(rt, ready, 2, early)?);
-    assert!(rt; take(rt, ready, 2, 0)?.is_empty());
+    assert!(rt; ready.insert(2, early)?);
+    assert!(rt; ready.take_first(2, 0)?.is_empty());
     assert!(rt; ready.remove(&early.name));
-    assert!(rt; insert(rt, ready, 5, early)?);
-    assert!(rt; take(rt, ready, 3, 1)?.is_empty());
-    assert_eq!(rt; take(rt, ready, 5, 2)?.as_slice(), [early].as_slice());
-    assert!(rt; take(rt, ready, 5, 2)?.is_empty());
+    assert!(rt; ready.insert(5, early)?);
+    assert!(rt; ready.take_first(3, 1)?.is_empty());
+    assert_eq!(rt; ready.take_first(5, 2)?.as_slice(), [early].as_slice());
+    assert!(rt; ready.take_first(5, 2)?.is_empty());
     Ok(())
 }
 
@@ -131,13 +90,10 @@ fn gives_all_in_order<R: Ready>(rt: &impl Abort, alloc: Global) -> Result<(), Fa
         key(rt, 3, 0, b"c"),
     );
     let mut ready = R::new(alloc);
-    assert!(rt; insert(rt, &mut ready, 0, a)?);
-    assert!(rt; insert(rt, &mut ready, 0, b)?);
-    assert!(rt; insert(rt, &mut ready, 1, c)?);
-    assert_eq!(rt;
-        take(rt, &mut ready, 1, 3)?.as_slice(),
-        [c, b, a].as_slice()
-    );
+    assert!(rt; ready.insert(0, a)?);
+    assert!(rt; ready.insert(0, b)?);
+    assert!(rt; ready.insert(1, c)?);
+    assert_eq!(rt; ready.take_first(1, 3)?.as_slice(), [c, b, a].as_slice());
     assert_eq!(rt; contents(rt, &ready), [None, None, None]);
     Ok(())
 }

@@ -1,6 +1,6 @@
 -- The loop over the keys that have a quantum.
 use Rattle.std.proofs.Common.{ℕ, zero, suc, ◌+◌, ◌≤◌, ◌<◌, ◌≡◌, refl, sym, ap, ◌∙◌, subst, arith, inl, inr, Bool, true, false, List, [], ◌∷◌, ◌++◌, length, get_or, drop, take, Option, Some, None}
-use Rattle.std.specs.Prelude.{◌≢◌, ◌||◌, map, if◌then◌else◌}
+use Rattle.std.specs.Prelude.{◌≢◌, ◌||◌, not, map, if◌then◌else◌}
 use Rattle.std.specs.Option.{ForSome, option_map}
 use Rattle.std.specs.FinMap as finmap
 use Rattle.std.proofs.lemmas.List.{map-append}
@@ -12,13 +12,14 @@ use Rattle.pfair_entry.specs.Exact.{name_exact, name_itself}
 use Rattle.pfair_table.specs.Lists.{Among, Apart}
 use Rattle.pfair_ready.specs.Waiting.{Held}
 use Rattle.pfair_admission.specs.Member.{Member}
-use Rattle.pfair_admission.specs.Admission.{member_named, ran, with_quantum}
+use Rattle.pfair_admission.specs.Admission.{member_named, ran, with_quantum, quantum_of}
+use Rattle.pfair_admission.specs.declared.quantum.Quantum.{Quantum}
 use Rattle.pfair_admission.specs.Roster.{Roster}
 use Rattle.pfair_admission.specs.Admission.{running}
 use Rattle.pfair_table.specs.declared.pick.Pick.{Pick}
 use Rattle.pfair_table.specs.Table.{Table, names_task, pick, index_of, all_ran}
 use Rattle.pfair_table.specs.Queue.{queued, IsQueueWithout, IsToldOf, MayRun, has_key_of}
-use Rattle.pfair_table.proofs.Queues.{found_other, drop_item}
+use Rattle.pfair_table.proofs.Queues.{found_other, found_changed, absent_removed, told_next, drop_item}
 
 label : Key → Name
 label k = k.name
@@ -105,18 +106,28 @@ module _ (start : Roster) (first : List Key) (apart : Apart (λ (k : Key). k.nam
   pub may_run : (roster : Roster) (table : Table) (waiting : Held) → RunSoFar start first i roster table waiting → MayRun start.members key → ForSome (member_named roster.members key.name) (λ m. m.next ≤ 1000000)
   may_run roster table waiting so may x e = subst (λ (m : Member). m.next ≤ 1000000) (one_some may.0 x (sym (still_found roster table waiting so ∙ may.1) ∙ e)) may.3
 
-  -- and its index is that of its next subtask
-  pub runs_next : (roster : Roster) (table : Table) (waiting : Held) → RunSoFar start first i roster table waiting → (may : MayRun start.members key) → option_map (λ m. m.next) (running (member_named roster.members key.name)) ≡ Some may.0.next
+  -- and its quantum is that of its next subtask
+  pub runs_next : (roster : Roster) (table : Table) (waiting : Held) → RunSoFar start first i roster table waiting → (may : MayRun start.members key) → option_map quantum_of (running (member_named roster.members key.name)) ≡ Some (quantum_of may.0)
   runs_next roster table waiting so may =
-      ap (λ o. option_map (λ m. m.next) (running o)) (still_found roster table waiting so ∙ may.1)
-      ∙ ap (λ b. option_map (λ m. m.next) (if b then None else Some may.0)) may.2
+      ap (λ o. option_map quantum_of (running o)) (still_found roster table waiting so ∙ may.1)
+      ∙ ap (λ b. option_map quantum_of (if b then None else Some may.0)) may.2
 
   -- nothing waits under its name
-  pub not_waiting : (roster : Roster) (table : Table) (waiting : Held) → RunSoFar start first i roster table waiting → finmap.get waiting key.name ≡ None
+  not_waiting : (roster : Roster) (table : Table) (waiting : Held) → RunSoFar start first i roster table waiting → finmap.get waiting key.name ≡ None
   not_waiting roster table waiting so =
       so.queue key.name
       ∙ ap (λ (ks : List Key). if has_key_of key.name ks then None else queued (member_named roster.members key.name)) (drop_item first i key inside item)
       ∙ ap (λ b. if b || has_key_of key.name (drop (i + 1) first) then None else queued (member_named roster.members key.name)) (name_itself key.name)
+
+  -- so what waits under it then is the subtask after that
+  pub told_on : (roster after : Roster) (table : Table) (waiting anew : Held) (quantum : Quantum) (new : Bool) → RunSoFar start first i roster table waiting → (may : MayRun start.members key)
+      → quantum ≡ quantum_of may.0 → after ≡ record roster { members = ran key.name roster.members } → new ≡ not (finmap.contains_key waiting quantum.next_key.name)
+      → anew ≡ (if new then finmap.insert waiting quantum.next_key.name (quantum.next_from, quantum.next_key) else waiting) → IsToldOf key.name after.members waiting anew
+  told_on roster after table waiting anew quantum new so may is after_is fresh in_ =
+      told_next key.name after.members (with_quantum may.0) waiting waiting anew new quantum.next_from quantum.next_key
+      (ap (λ (r : Roster). member_named r.members key.name) after_is ∙ found_changed key.name with_quantum (λ m. refl) roster.members may.0 (still_found roster table waiting so ∙ may.1))
+      may.2 (ap (λ (q : Quantum). q.next_from) is) (ap (λ (q : Quantum). q.next_key) is)
+      (absent_removed waiting key.name (not_waiting roster table waiting so)) fresh in_
 
   -- one turn
   pub run_turn : (roster after : Roster) (table rows : Table) (waiting anew : Held) (index : ℕ) → RunSoFar start first i roster table waiting → (may : MayRun start.members key)

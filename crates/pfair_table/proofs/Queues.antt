@@ -65,6 +65,22 @@ found_other name other f keeps e (m ∷ members) = by (name_eq other m.name) ref
         ∙ sym (ap (λ b. cond b (Some m) (member_named members name)) off))
     by false q more = ap (λ o. cond (name_eq name m.name) (Some m) o) more
 
+-- and its own member is found changed
+pub found_changed : (name : Name) (f : Member → Member) → ((m : Member) → (f m).name ≡ m.name) → (members : List Member) (m : Member) → member_named members name ≡ Some m → member_named (change name f members) name ≡ Some (f m)
+found_changed name f keeps [] m e = absurd (none_some m e)
+  where
+    none_some : (m : Member) → None ≡ Some m → ⊥
+    none_some m e = cc
+found_changed name f keeps (x ∷ members) m e = by (name_eq name x.name) refl e (found_changed name f keeps members m)
+  where
+    one : (x m : Member) → Some x ≡ Some m → x ≡ m
+    one x m e = cc
+
+    by : (b : Bool) → name_eq name x.name ≡ b → cond b (Some x) (member_named members name) ≡ Some m → (member_named members name ≡ Some m → member_named (change name f members) name ≡ Some (f m))
+        → find (is_named name) ((if b then f x else x) ∷ change name f members) ≡ Some (f m)
+    by true q e more = ap (λ b. cond b (Some (f x)) (member_named (change name f members) name)) (ap (name_eq name) (keeps x) ∙ q) ∙ ap (λ (y : Member). Some (f y)) (one x m e)
+    by false q e more = ap (λ b. cond b (Some x) (member_named (change name f members) name)) q ∙ more e
+
 -- ---- a boundary changes nothing in the queue but of those that something was said about
 
 freed_departs : (t : ℕ) (o : Option ℕ) → not (is_freed t o) ≡ false → is_some o ≡ true
@@ -161,21 +177,6 @@ absent_removed held name none =
     at : (q : Name) (b : Bool) → eq_by_cmp name_cmp q name ≡ b → finmap.get held q ≡ cond b None (finmap.get held q)
     at q true e = ap (finmap.get held) (name_exact q name (sym (same_name q name) ∙ e)) ∙ none
     at q false e = refl
-
--- what is told of a task does not depend on what was there
-pub told_over : (told : Name) (members : List Member) (before gone after : Held) → gone ≡ finmap.remove before told → IsToldOf told members gone after → IsToldOf told members before after
-told_over told members before gone after is tells name = tells name ∙ by (name_eq name told) refl
-  where
-    by : (b : Bool) → name_eq name told ≡ b → (if b then queued (member_named members told) else finmap.get gone name) ≡ (if b then queued (member_named members told) else finmap.get before name)
-    by true e = refl
-    by false e =
-        ap (λ (h : Held). finmap.get h name) is ∙ get-remove nat_list_cmp_total before told name
-        ∙ ap (λ b. cond b None (finmap.get before name)) (same_name name told ∙ e)
-
-pub gone_from : (before gone : Held) (told : Name) → gone ≡ finmap.remove before told → finmap.get gone told ≡ None
-gone_from before gone told is =
-    ap (λ (h : Held). finmap.get h told) is ∙ get-remove nat_list_cmp_total before told told
-    ∙ ap (λ b. cond b None (finmap.get before told)) (ap is_eq (tied_itself nat_list_cmp_total told))
 
 -- where there is no such member, or it is departing
 pub told_gone : (told : Name) (members : List Member) (before after : Held) → queued (member_named members told) ≡ None → after ≡ finmap.remove before told → IsToldOf told members before after

@@ -65,7 +65,7 @@ fn fill_places(alloc: Global, kept: &[Option<u8>]) -> Result<Vec<u8>, AllocError
     ensures { IfOk result (λ here. here.items ≡ filled (all_kept kept.now) kept.now) }
 {
     let mut in_use = use_kept(kept);
-    let mut places = Vec::new(alloc);
+    let mut places = Vec::with_capacity(alloc, kept.len())?;
     for kept_place in kept {
         let place = match kept_place {
             Some(place) => *place,

@@ -1,7 +1,6 @@
 //! One slot: the boundary, the ready structure, and the quanta.
 
 ghost use Rattle.std.specs.Prelude.{◌≡◌, ◌≤◌, ◌<◌, ◌+◌, Some, None, IfOk, OnOk, map, length};
-ghost use Rattle.std.specs.FinMap as finmap;
 ghost use Rattle.std.specs.Option.{ForSome};
 ghost use Rattle.std.specs.List.{AllByRecursion};
 ghost use Rattle.pfair_order.specs.declared.Key.{Key};
@@ -64,19 +63,6 @@ pub(crate) fn tell_of<R: Ready>(
     ensures time { R.now ready.new ≡ R.now ready.old }
 {
     ready.remove(name);
-    tell_next(ready, members, name)
-}
-
-/// The ready structure hears of the next subtask of a task that it holds nothing of.
-pub(crate) fn tell_next<R: Ready>(
-    ready: &mut R,
-    members: &Members,
-    name: &TaskName,
-) -> Result<(), AllocError>
-    requires { finmap.get (R.held ready.old) name.now ≡ None }
-    ensures told { OnOk result (IsToldOf name.now members.now.members (R.held ready.old) (R.held ready.new)) }
-    ensures time { R.now ready.new ≡ R.now ready.old }
-{
     let Some(member) = members.get(name) else {
         return Ok(());
     };
@@ -121,14 +107,14 @@ pub(crate) fn run_each<R: Ready>(
 {
     let mut table = Vec::with_capacity(alloc, first.len())?;
     for key in first {
-        let Some(index) = members.ran(&key.name) else {
+        let Some(quantum) = members.ran_on(&key.name) else {
             continue;
         };
         table.push(Pick {
             name: key.name,
-            index,
+            index: quantum.index,
         })?;
-        tell_next(ready, members, &key.name)?;
+        ready.insert(quantum.next_from, quantum.next_key)?;
     }
     Ok(table)
 }

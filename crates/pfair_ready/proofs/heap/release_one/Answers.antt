@@ -6,11 +6,11 @@ use Rattle.pfair_ready.proofs.HeapLemmas.{pushed_more, pushed_top, some_inj}
 use Rattle.pfair_ready.proofs.heap.release_one.Goals as goal
 
 pub returns-in_ok-push-clause-kept : goal.returns-in_ok-push-clause-kept
-returns-in_ok-push-clause-kept c x h = pushed_more (record { 0 = (c.in-Some.key, c.args.date.1) }) x (heap_items c.args.released.now) (heap_items c.push.new.self) c.in_ok-push.ensures.permutation h
+returns-in_ok-push-clause-kept c x h = pushed_more (record { 0 = (c.in-Some.key, c.args.date.place) }) x (heap_items c.args.released.now) (heap_items c.push.new.self) c.in_ok-push.ensures.permutation h
 
 pub returns-in_ok-push-clause-there : goal.returns-in_ok-push-clause-there
 returns-in_ok-push-clause-there c =
-    let top : Contains (heap_items c.push.new.self) (record { 0 = (c.in-Some.key, c.args.date.1) }) = pushed_top (record { 0 = (c.in-Some.key, c.args.date.1) }) (heap_items c.args.released.now) (heap_items c.push.new.self) c.in_ok-push.ensures.permutation in
+    let top : Contains (heap_items c.push.new.self) (record { 0 = (c.in-Some.key, c.args.date.place) }) = pushed_top (record { 0 = (c.in-Some.key, c.args.date.place) }) (heap_items c.args.released.now) (heap_items c.push.new.self) c.in_ok-push.ensures.permutation in
     λ k e.
-    let same : (c.in-Some.release, c.in-Some.key) ≡ (c.args.date.0, k) = some_inj (c.in-Some.release, c.in-Some.key) (c.args.date.0, k) (sym c.in-Some.is ∙ c.slot_at.ensures ∙ e) in
-    subst (λ (x : ℕ × Key). Contains (heap_items c.push.new.self) (record { 0 = (x.1, c.args.date.1) })) same top
+    let same : (c.in-Some.release, c.in-Some.key) ≡ (c.args.date.release, k) = some_inj (c.in-Some.release, c.in-Some.key) (c.args.date.release, k) (sym c.in-Some.is ∙ c.slot_at.ensures ∙ e) in
+    subst (λ (x : ℕ × Key). Contains (heap_items c.push.new.self) (record { 0 = (x.1, c.args.date.place) })) same top

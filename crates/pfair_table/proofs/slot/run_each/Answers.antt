@@ -1,8 +1,9 @@
-use Rattle.std.proofs.Common.{ℕ, ◌≡◌, ◌∙◌, sym, ap, Some, None, Option}
+use Rattle.std.proofs.Common.{◌≡◌, ◌∙◌, sym, ap, Some, None, Option}
 use Rattle.std.specs.Prelude.{is_some, if◌then◌else◌}
-use Rattle.pfair_admission.specs.Admission.{ran}
+use Rattle.pfair_admission.specs.declared.quantum.Quantum.{Quantum}
+use Rattle.pfair_admission.specs.Admission.{ran, quantum_of}
 use Rattle.pfair_table.specs.Queue.{MayRun}
-use Rattle.pfair_table.proofs.Quanta.{key_among, may_run, runs_next, run_turn, not_waiting}
+use Rattle.pfair_table.proofs.Quanta.{key_among, may_run, runs_next, told_on, run_turn}
 use Rattle.pfair_table.proofs.slot.run_each.Goals as goal
 
 some_one : {A : Type 0} (x y : A) → Some x ≡ Some y → x ≡ y
@@ -11,8 +12,8 @@ some_one x y e = cc
 none_some : {A : Type 0} (x : A) → None ≡ Some x → ⊥
 none_some x e = cc
 
-pub ran-requires : goal.ran-requires
-ran-requires g c =
+pub ran_on-requires : goal.ran_on-requires
+ran_on-requires g c =
     may_run c.args.members.now c.args.first.now c.requires.apart c.loop-key.key-index c.key-item.result c.loop-key-test.true c.key-item.is
     c.loop-key.members c.loop-key.table.items (g.R.Ready.held c.loop-key.ready) c.loop-key.invariant.0
     (c.requires.running c.key-item.result (key_among c.args.members.now c.args.first.now c.requires.apart c.loop-key.key-index c.key-item.result c.loop-key-test.true c.key-item.is))
@@ -20,23 +21,21 @@ ran-requires g c =
 pub loop-key-preserved-in_default : goal.loop-key-preserved-in_default
 loop-key-preserved-in_default g c =
     let may : MayRun c.args.members.now.members c.key-item.result = c.requires.running c.key-item.result (key_among c.args.members.now c.args.first.now c.requires.apart c.loop-key.key-index c.key-item.result c.loop-key-test.true c.key-item.is) in
-    absurd (none_some may.0.next (sym c.in_default.is ∙ c.ran.ensures.index ∙ runs_next c.args.members.now c.args.first.now c.requires.apart c.loop-key.key-index c.key-item.result c.loop-key-test.true c.key-item.is
+    absurd (none_some (quantum_of may.0) (sym c.in_default.is ∙ c.ran_on.ensures.quantum ∙ runs_next c.args.members.now c.args.first.now c.requires.apart c.loop-key.key-index c.key-item.result c.loop-key-test.true c.key-item.is
     c.loop-key.members c.loop-key.table.items (g.R.Ready.held c.loop-key.ready) c.loop-key.invariant.0 may))
-
-pub tell_next-requires : goal.tell_next-requires
-tell_next-requires g c =
-    not_waiting c.args.members.now c.args.first.now c.requires.apart c.loop-key.key-index c.key-item.result c.loop-key-test.true c.key-item.is
-    c.loop-key.members c.loop-key.table.items (g.R.Ready.held c.loop-key.ready) c.loop-key.invariant.0
 
 pub loop-key-preserved : goal.loop-key-preserved
 loop-key-preserved g c =
     let may : MayRun c.args.members.now.members c.key-item.result = c.requires.running c.key-item.result (key_among c.args.members.now c.args.first.now c.requires.apart c.loop-key.key-index c.key-item.result c.loop-key-test.true c.key-item.is) in
-    let index_is : c.in-Some.index ≡ may.0.next = some_one c.in-Some.index may.0.next (sym c.in-Some.is ∙ c.ran.ensures.index ∙ runs_next c.args.members.now c.args.first.now c.requires.apart c.loop-key.key-index c.key-item.result c.loop-key-test.true c.key-item.is
+    let quantum_is : c.in-Some.quantum ≡ quantum_of may.0 = some_one c.in-Some.quantum (quantum_of may.0) (sym c.in-Some.is ∙ c.ran_on.ensures.quantum ∙ runs_next c.args.members.now c.args.first.now c.requires.apart c.loop-key.key-index c.key-item.result c.loop-key-test.true c.key-item.is
     c.loop-key.members c.loop-key.table.items (g.R.Ready.held c.loop-key.ready) c.loop-key.invariant.0 may) in
-    let after_is : c.ran.new.self ≡ record c.loop-key.members { members = ran c.key-item.result.name c.loop-key.members.members } =
-    c.ran.ensures.members ∙ ap (λ (o : Option ℕ). if is_some o then record c.loop-key.members { members = ran c.key-item.result.name c.loop-key.members.members } else c.loop-key.members) c.in-Some.is in (
+    let after_is : c.ran_on.new.self ≡ record c.loop-key.members { members = ran c.key-item.result.name c.loop-key.members.members } =
+    c.ran_on.ensures.members ∙ ap (λ (o : Option Quantum). if is_some o then record c.loop-key.members { members = ran c.key-item.result.name c.loop-key.members.members } else c.loop-key.members) c.in-Some.is in (
       run_turn c.args.members.now c.args.first.now c.requires.apart c.loop-key.key-index c.key-item.result c.loop-key-test.true c.key-item.is
-          c.loop-key.members c.ran.new.self c.loop-key.table.items c.push.new.self.items (g.R.Ready.held c.loop-key.ready) (g.R.Ready.held c.tell_next.new.ready) c.in-Some.index
-          c.loop-key.invariant.0 may index_is after_is c.in_ok-push.ensures.items c.in_ok-tell_next.ensures.told,
-      c.in_ok-tell_next.ensures.time ∙ c.loop-key.invariant.1,
+          c.loop-key.members c.ran_on.new.self c.loop-key.table.items c.push.new.self.items (g.R.Ready.held c.loop-key.ready) (g.R.Ready.held c.insert.new.self) c.in-Some.quantum.index
+          c.loop-key.invariant.0 may (ap (λ (q : Quantum). q.index) quantum_is) after_is c.in_ok-push.ensures.items
+          (told_on c.args.members.now c.args.first.now c.requires.apart c.loop-key.key-index c.key-item.result c.loop-key-test.true c.key-item.is
+          c.loop-key.members c.ran_on.new.self c.loop-key.table.items (g.R.Ready.held c.loop-key.ready) (g.R.Ready.held c.insert.new.self) c.in-Some.quantum c.in_ok-insert.field-0
+          c.loop-key.invariant.0 may quantum_is after_is c.in_ok-insert.ensures.answer c.in_ok-insert.ensures.content),
+      c.insert.ensures.time ∙ c.loop-key.invariant.1,
     )

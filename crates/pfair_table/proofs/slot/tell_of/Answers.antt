@@ -1,16 +1,25 @@
-use Rattle.std.specs.Prelude.{Result, Ok, Err, OnOk}
-use Rattle.pfair_table.proofs.Queues.{told_over, gone_from}
+use Rattle.std.proofs.Common.{◌≡◌, sym, ap, ◌∙◌, None}
+use Rattle.std.specs.Option.{option_copied}
+use Rattle.pfair_admission.specs.Admission.{member_named}
+use Rattle.pfair_table.specs.Queue.{queued}
+use Rattle.pfair_table.proofs.Queues.{told_gone, told_next, queued_departing}
 use Rattle.pfair_table.proofs.slot.tell_of.Goals as goal
 
-on_ok : {A E : Type 0} (r : Result A E) (P Q : Type 0) → (P → Q) → OnOk r P → OnOk r Q
-on_ok (Ok x) P Q f h = f h
-on_ok (Err e) P Q f h = h
+pub returns-in_default-clause-told : goal.returns-in_default-clause-told
+returns-in_default-clause-told g c =
+    told_gone c.args.name.now c.args.members.now.members _ _
+    (let e : member_named c.args.members.now.members c.args.name.now ≡ None = sym c.get.ensures ∙ ap option_copied c.in_default.is in ap queued e) c.remove.ensures.content
 
-pub tell_next-requires : goal.tell_next-requires
-tell_next-requires g c = gone_from (g.R.Ready.held c.args.ready.now) (g.R.Ready.held c.remove.new.self) c.args.name.now c.remove.ensures.content
+pub returns-then-is_departing-clause-told : goal.returns-then-is_departing-clause-told
+returns-then-is_departing-clause-told g c =
+    told_gone c.args.name.now c.args.members.now.members _ _
+    (queued_departing _ c.in-Some.member.now (sym c.get.ensures ∙ ap option_copied c.in-Some.is) (sym c.is_departing.ensures ∙ c.if-is_departing.true)) c.remove.ensures.content
 
 pub returns-clause-told : goal.returns-clause-told
 returns-clause-told g c =
-    on_ok c.tell_next.result _ _
-    (told_over c.args.name.now c.args.members.now.members (g.R.Ready.held c.args.ready.now) (g.R.Ready.held c.remove.new.self) (g.R.Ready.held c.tell_next.new.ready) c.remove.ensures.content)
-    c.tell_next.ensures.told
+    told_next c.args.name.now c.args.members.now.members c.in-Some.member.now (g.R.Ready.held c.args.ready.now) (g.R.Ready.held c.remove.new.self) (g.R.Ready.held c.insert.new.self) c.in_ok-insert.field-0 c.next_subtask-begins.result.0 c.next_subtask-begins.result.1
+    (sym c.get.ensures ∙ ap option_copied c.in-Some.is)
+    (sym c.is_departing.ensures ∙ c.if-is_departing.false)
+    (ap (λ p. p.0) c.next_subtask-begins.ensures)
+    (ap (λ p. p.1) c.next_subtask-begins.ensures)
+    c.remove.ensures.content c.in_ok-insert.ensures.answer c.in_ok-insert.ensures.content

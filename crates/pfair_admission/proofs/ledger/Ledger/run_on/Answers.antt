@@ -1,0 +1,14 @@
+use Rattle.std.proofs.Common.{◌∙◌, sym}
+use Rattle.std.specs.Option.{is_some}
+use Rattle.pfair_admission.proofs.Deciding.{claimed_ran, first_ran}
+use Rattle.pfair_admission.proofs.ledger.Ledger.run_on.Goals as goal
+
+pub invariant_of-self : goal.invariant_of-self
+invariant_of-self c =
+    record {
+      few_processors = c.self.invariant.few_processors;
+      short_frame = c.self.invariant.short_frame;
+      room = c.self.invariant.room;
+      total = c.self.invariant.total ∙ sym (claimed_ran c.self.inside.frame c.args.name.now c.self.inside.registry c.run_on.new.self (is_some c.run_on.result) c.run_on.ensures.members);
+      first = first_ran c.self.inside.first_freeing c.args.name.now c.self.inside.registry c.run_on.new.self (is_some c.run_on.result) c.run_on.ensures.members c.self.invariant.first;
+    }
