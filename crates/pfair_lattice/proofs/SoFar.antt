@@ -11,8 +11,8 @@ use Rattle.std.proofs.lemmas.Map.Keys.{sorted_tail, IsDistinct-from_sorted}
 use Rattle.std.proofs.lemmas.Map.Entries.{none_past_head}
 use Rattle.std.proofs.lemmas.Map.Lookups.{CmpEqualImpliesEq}
 use Rattle.pfair_lattice.specs.Order.{IsOrder, IsJoin}
-use Rattle.pfair_lattice.specs.Option.{OptionBelow, OptionJoins, OptionPartly}
-use Rattle.pfair_lattice.specs.Entries.{IsOrdered, get, MapBelow, MapJoins, MapPartly, covers, entries_from_get}
+use Rattle.pfair_lattice.specs.Option.{OptionBelow, OptionJoins, OptionPartly, OptionOutgrows}
+use Rattle.pfair_lattice.specs.Entries.{IsOrdered, get, MapBelow, MapJoins, MapPartly, MapOutgrows, covers, entries_from_get}
 use Rattle.pfair_lattice.proofs.AtKey.{by_key, head_at, tail_at, keeps}
 
 -- at a key: joined, or still to come, and then as it was
@@ -24,10 +24,6 @@ JoinedSoFar joins a b (Some w) c = (b ≡ Some w) × (c ≡ a)
 abbrev pub BelowSoFar : {X : Type 0} → (X → X → Type 0) → Option X → Option X → Option X → Type 0
 BelowSoFar below a None b = OptionBelow below a b
 BelowSoFar below a (Some w) b = a ≡ Some w
-
-below_start : {X : Type 0} (below : X → X → Type 0) (a b : Option X) → BelowSoFar below a a b
-below_start below None b = tt
-below_start below (Some v) b = refl
 
 joined_start : {X : Type 0} (joins : X → X → X → Type 0) (a b : Option X) → JoinedSoFar joins a b b a
 joined_start joins a None = keeps joins a
@@ -57,9 +53,6 @@ module _ {K X : Type 0} {cmp : K → K → Ordering} (o : IsTotalOrder cmp) (x :
   past k w rest s = lookup-none (is_at (cmp k)) rest (none_past_head (eq_by_cmp_equiv o) k (k, w) rest (IsDistinct-from_sorted cmp _ s) (ap is_eq (tied_itself o k)))
 
   module _ {below : X → X → Type 0} where
-    pub covered_start : (es fs : List (K × X)) → IsOrdered cmp es → IsCoveredUpTo cmp below es fs es
-    covered_start es fs p = record { ordered_first = p; ordered_rest = p; each = λ q. below_start below (get cmp es q) (get cmp fs q) }
-
     -- the value of the next entry is the one at its key
     pub covered_next : (es fs rest : List (K × X)) (k : K) (v : X) → IsCoveredUpTo cmp below es fs ((k, v) ∷ rest) → get cmp es k ≡ Some v
     covered_next es fs rest k v h = subst (λ (r : Option X). BelowSoFar below (get cmp es k) r (get cmp fs k)) (head_at o k v rest) (h.each k)
@@ -77,12 +70,6 @@ module _ {K X : Type 0} {cmp : K → K → Ordering} (o : IsTotalOrder cmp) (x :
 
     pub covered_end : (es fs : List (K × X)) → IsOrdered cmp fs → IsCoveredUpTo cmp below es fs [] → MapBelow cmp below es fs
     covered_end es fs p h = inr (record { ordered_first = h.ordered_first; ordered_second = p; each = h.each })
-
-    -- a key that the other map lacks
-    pub uncovered_missing : IsOrder below → (es fs rest : List (K × X)) (k : K) (v : X) → IsCoveredUpTo cmp below es fs ((k, v) ∷ rest) → get cmp fs k ≡ None → MapBelow cmp below es fs → ⊥
-    uncovered_missing l es fs rest k v h lacks m =
-        let e = (covers l es fs h.ordered_first m).each k in
-        subst (λ (b : Option X). OptionBelow below (Some v) b) lacks (subst (λ (a : Option X). OptionBelow below a (get cmp fs k)) (covered_next es fs rest k v h) e)
 
     -- a value that is not below
     pub uncovered_above : IsOrder below → (es fs rest : List (K × X)) (k : K) (v w : X) → IsCoveredUpTo cmp below es fs ((k, v) ∷ rest) → get cmp fs k ≡ Some w → (below v w → ⊥) → MapBelow cmp below es fs → ⊥
@@ -116,9 +103,6 @@ module _ {K X : Type 0} {cmp : K → K → Ordering} (o : IsTotalOrder cmp) (x :
                 (subst (λ (c : Option X). JoinedSoFar joins (get cmp old q) (get cmp other q) (get cmp ((k, w) ∷ rest) q) c) (sym (apart q e)) (h.each q)));
           }
 
-      pub joined_up_to_end : (old other now : List (K × X)) → IsJoinedUpTo cmp joins old other [] now → MapJoins cmp joins old other now
-      joined_up_to_end old other now h = record { ordered_first = h.ordered_first; ordered_second = h.ordered_second; ordered = h.ordered; each = h.each }
-
       -- the loop stops at an entry that is joined in partly
       pub joined_up_to_failed : {partly : X → X → X → Type 0} (old other rest now then : List (K × X)) (k : K) (w : X) → IsJoinedUpTo cmp joins old other ((k, w) ∷ rest) now
           → MapPartly cmp joins partly now ((k, w) ∷ []) then → ((q : K) → eq_by_cmp cmp k q ≡ false → get cmp then q ≡ get cmp now q) → MapPartly cmp joins partly old other then
@@ -142,6 +126,13 @@ module _ {K X : Type 0} {cmp : K → K → Ordering} (o : IsTotalOrder cmp) (x :
           let n = joined_next old other rest now k w h in
           let e = (covers l.order other old h.ordered_second m).each k in
           lacking (subst (λ (c : Option X). OptionBelow below (Some w) c) (sym n.1) (subst (λ (b : Option X). OptionBelow below b (get cmp old k)) n.0 e))
+
+      -- and it has something for which the map had no place
+      pub outgrown_failed : (outgrows : X → X → Type 0) (old other rest now : List (K × X)) (k : K) (w : X) → IsJoinedUpTo cmp joins old other ((k, w) ∷ rest) now
+          → OptionOutgrows outgrows (get cmp now k) (Some w) → MapOutgrows cmp outgrows old other
+      outgrown_failed outgrows old other rest now k w h more =
+          let n = joined_next old other rest now k w h in
+          (k, subst (λ (a : Option X). OptionOutgrows outgrows a (get cmp other k)) n.1 (subst (λ (b : Option X). OptionOutgrows outgrows (get cmp now k) b) (sym n.0) more))
 
       -- the empty map with es joined in is es
       pub copied : (es gs : List (K × X)) → MapJoins cmp joins [] es gs → gs ≡ es

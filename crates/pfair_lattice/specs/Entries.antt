@@ -8,7 +8,7 @@ use Rattle.std.specs.Cmp.{IsTotalOrder}
 use Rattle.std.proofs.Common.{sym, subst, inl, inr, ⊎_elim}
 use Rattle.std.proofs.lemmas.Map.Lookups.{CmpEqualImpliesEq}
 use Rattle.pfair_lattice.specs.Order.{IsOrder, IsLeastUpperBound, IsPartlyJoined, IsJoin}
-use Rattle.pfair_lattice.specs.Option.{OptionBelow, OptionJoins, OptionPartly, option_order, option_join, option_resumes}
+use Rattle.pfair_lattice.specs.Option.{OptionBelow, OptionJoins, OptionPartly, OptionOutgrows, option_order, option_join, option_resumes}
 use Rattle.pfair_lattice.specs.SameEntries.{same_entries}
 
 module _ {K X : Type 0} (cmp : K → K → Ordering) where
@@ -52,6 +52,10 @@ module _ {K X : Type 0} (cmp : K → K → Ordering) where
     pub ordered_second : IsOrdered cmp fs
     pub ordered : IsOrdered cmp gs
     pub each : (k : K) → OptionPartly joins partly (get cmp es k) (get cmp fs k) (get cmp gs k)
+
+  -- at some key fs has something for which es has no place
+  abbrev pub MapOutgrows : (X → X → Type 0) → List (K × X) → List (K × X) → Type 0
+  MapOutgrows outgrows es fs = (k : K) × OptionOutgrows outgrows (get cmp es k) (get cmp fs k)
 
 module _ {K X : Type 0} {cmp : K → K → Ordering} where
   -- entries in order that hold the same are the same

@@ -9,19 +9,11 @@ use Rattle.pfair_lattice.specs.Option.{OptionBelow, OptionJoins}
 use Rattle.pfair_lattice.specs.Order.{IsOrder}
 use Rattle.pfair_lattice.specs.Held.{Held, flat_join, held_join, HeldBelow, IsExact, IsHeldJoin}
 
-abbrev Present : {X : Type 0} → Option X → Type 0
-Present None = ⊥
-Present (Some v) = Unit {0}
+none_not_some : {X : Type 0} (v : X) → None ≡ Some v → ⊥
+none_not_some v e = cc
 
-pub none_not_some : {X : Type 0} (v : X) → None ≡ Some v → ⊥
-none_not_some v e = subst Present (sym e) tt
-
-abbrev OneContent : {T : Type 0} → Flat T → Type 0
-OneContent Torn = ⊥
-OneContent (One x) = Unit {0}
-
-pub one_not_torn : {T : Type 0} (x : T) → One x ≡ Torn → ⊥
-one_not_torn x e = subst OneContent e tt
+one_not_torn : {T : Type 0} (x : T) → One x ≡ Torn → ⊥
+one_not_torn x e = cc
 
 -- the one content, or else d
 abbrev content_or : {T : Type 0} → T → Flat T → T

@@ -14,12 +14,8 @@ use Rattle.std.proofs.lemmas.Map.Keys.{sorted_tail, IsDistinct-from_sorted}
 use Rattle.std.proofs.lemmas.Map.Entries.{lookup_head, lookup_tail, none_past_head, none_below_head}
 use Rattle.std.proofs.lemmas.Map.Lookups.{CmpEqualImpliesEq}
 
-abbrev Present : {X : Type 0} → Option X → Type 0
-Present None = ⊥
-Present (Some v) = Unit {0}
-
 not_None : {X : Type 0} (v : X) → Some v ≢ None
-not_None v e = subst Present e tt
+not_None v e = cc
 
 module _ {K X : Type 0} {R : K → K → Ordering} (o : IsTotalOrder R) where
   abbrev find : List (K × X) → K → Option X

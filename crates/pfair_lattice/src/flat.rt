@@ -30,6 +30,8 @@ impl<T: Exact> Join for Flat<T> {
 
     ghost takes_memory = { ⊥ };
 
+    ghost outgrows = { λ _ _. ⊥ };
+
     ghost order = { flat_order };
 
     ghost least = { flat_least };

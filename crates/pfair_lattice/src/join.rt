@@ -23,15 +23,20 @@ pub trait Join: Drop {
     /// Holds where a join or a copy may want memory.
     ghost takes_memory: { Type 0 };
 
+    /// The second has something for which the first has no place: only then may joining it in want memory.
+    ghost outgrows: { Self → Self → Type 0 };
+
     /// Joins `other` in.
     ///
     /// # Errors
-    /// `AllocError` where memory was wanted and refused, which never comes where `other` is already below. Then a part of `other` is
-    /// joined in: the value is above what it was and below the whole join, and joining `other` again gives the same join.
+    /// `AllocError` where memory was wanted and refused, which never comes where `other` is already below, or has nothing for which there
+    /// is no place. Then a part of `other` is joined in: the value is above what it was and below the whole join, and joining `other`
+    /// again gives the same join.
     fn join(&mut self, other: &Self) -> Result<(), AllocError>
         ensures joined { OnOk result (joins self.old other.now self.new) }
         ensures partly { OnErr result (partly self.old other.now self.new) }
         ensures lacking { OnErr result (¬ (below other.now self.old)) }
+        ensures growth { OnErr result (outgrows self.old other.now) }
         ensures memory { OnErr result takes_memory };
 
     /// Whether this value is below `other`, or is the same.

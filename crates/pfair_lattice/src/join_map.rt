@@ -4,8 +4,8 @@ ghost use Rattle.std.specs.Option.{option_copied, option_copied_mut};
 ghost use Rattle.std.specs.Borrow.{sem};
 ghost use Rattle.pfair_lattice.specs.Lent.{LendsValue};
 ghost use Rattle.std.specs.Ordering.{eq_by_cmp};
-ghost use Rattle.pfair_lattice.specs.Entries.{IsOrdered, get, MapBelow, MapJoins, MapPartly};
-ghost use Rattle.pfair_lattice.specs.Option.{OptionBelow};
+ghost use Rattle.pfair_lattice.specs.Entries.{IsOrdered, get, MapBelow, MapJoins, MapPartly, MapOutgrows};
+ghost use Rattle.pfair_lattice.specs.Option.{OptionBelow, OptionOutgrows};
 ghost use Rattle.pfair_lattice.specs.Laws.{map_order, map_least, map_resumes, exact_cmp};
 
 use crate::exact::Exact;
@@ -74,12 +74,13 @@ impl<K: Exact + Ord, V: Join> JoinMap<K, V> {
     ///
     /// # Errors
     /// `AllocError` where memory was wanted and refused: never where the map has the key and its values take no memory, and never where
-    /// what stands there is above `value` already. Then a missing key is still missing, at a key that is there a part of `value` may be
-    /// joined in, and every other key holds what it held. The same call again gives the same join.
+    /// what stands there is above `value` already, or has a place for all of it. Then a missing key is still missing, at a key that is
+    /// there a part of `value` may be joined in, and every other key holds what it held. The same call again gives the same join.
     pub fn put(&mut self, key: K, value: &V) -> Result<(), AllocError>
         ensures joined { OnOk result (MapJoins K.cmp V.joins self.old ((key, value.now) ∷ []) self.new) }
         ensures partly { OnErr result (MapPartly K.cmp V.joins V.partly self.old ((key, value.now) ∷ []) self.new) }
         ensures lacking { OnErr result (¬ (OptionBelow V.below (Some value.now) (get K.cmp self.old key))) }
+        ensures growth { OnErr result (OptionOutgrows V.outgrows (get K.cmp self.old key) (Some value.now)) }
         ensures memory { OnErr result (IsSome (get K.cmp self.old key) → V.takes_memory) }
         ensures absent { OnErr result (get K.cmp self.old key ≡ None → self.new ≡ self.old) }
         ensures others { (q : K) → eq_by_cmp K.cmp key q ≡ false → get K.cmp self.new q ≡ get K.cmp self.old q }
@@ -104,6 +105,8 @@ impl<K: Exact + Ord, V: Join> Join for JoinMap<K, V> {
     ghost partly = { MapPartly K.cmp V.joins V.partly };
 
     ghost takes_memory = { ⊤ };
+
+    ghost outgrows = { MapOutgrows K.cmp V.outgrows };
 
     ghost order = { map_order K.total (exact_cmp K.eq K.cmp K.exact K.matches_eq) V.order };
 

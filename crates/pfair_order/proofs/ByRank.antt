@@ -9,6 +9,7 @@ use Rattle.std.proofs.lemmas.List.Elements.{Contains-append_cases}
 use Rattle.std.proofs.lemmas.List.Sorted.{sum_by-IsPermutation, Contains-permutation}
 use Rattle.std.proofs.lemmas.List.Sums.{sum_by-append, sum_by-cons, length-filter}
 use Rattle.std.proofs.lemmas.Option.{slice_get_within}
+use Rattle.pfair_weight.specs.Options.{some_inj, none_some}
 use Rattle.pfair_order.specs.Rank.{rank, of_rank, first_by_rank}
 use Rattle.pfair_order.proofs.RankLemmas.{IsSplit, place_of, at_place, none_counted, rank_given, rank_rest, each_place}
 
@@ -40,12 +41,6 @@ take_all [] zero h = refl
 take_all [] (suc m) h = refl
 take_all (x ∷ xs) zero h = absurd (omega arith)
 take_all (x ∷ xs) (suc m) h = ap (λ l. x ∷ l) (take_all xs m (omega arith))
-
-some_inj : {A : Type 0} (x y : A) → Some x ≡ Some y → x ≡ y
-some_inj x y e = cc
-
-none_some : {A : Type 0} (x : A) → None ≡ Some x → ⊥
-none_some x e = cc
 
 one_at_get : {A : Type 0} (xs : List A) (i : ℕ) (x : A) → slice_get xs i ≡ Some x → one_at xs i ≡ x ∷ []
 one_at_get [] i x e = absurd (none_some x e)

@@ -10,6 +10,7 @@ use Rattle.std.specs.List.Sorted.{IsPermutation}
 use Rattle.std.proofs.lemmas.List.{take-append-drop}
 use Rattle.std.proofs.lemmas.List.Elements.{All-contains, All-from_recursion}
 use Rattle.std.proofs.lemmas.List.Sorted.{Contains-permutation, IsPermutation-refl, IsPermutation-sym, IsPermutation-cons, IsPermutation-trans, IsPermutation-middle}
+use Rattle.pfair_weight.specs.Options.{some_inj, none_some}
 use Rattle.pfair_order.specs.Rank.{first_by_rank, AreFirst, EachOnce}
 use Rattle.pfair_order.proofs.RankLemmas.{Rising, IsSplit, place_of, at_place, first_of_split, first_unique, first_of_permutation, less_of, is_less, is_eq_back, itself_not_before, apart_from_head, count_of_tail}
 use Rattle.pfair_order.proofs.ByRank.{by_rank_of_split}
@@ -22,12 +23,6 @@ put_in R x (y ∷ ys) = cond (is_lt (R x y)) (x ∷ y ∷ ys) (y ∷ put_in R x 
 abbrev in_order : {K : Type 0} → (K → K → Ordering) → List K → List K
 in_order R [] = []
 in_order R (x ∷ xs) = put_in R x (in_order R xs)
-
-some_inj : {A : Type 0} (x y : A) → Some x ≡ Some y → x ≡ y
-some_inj x y e = cc
-
-none_some : {A : Type 0} (x : A) → None ≡ Some x → ⊥
-none_some x e = cc
 
 in_empty : {A : Type 0} (x : A) → Contains [] x → ⊥
 in_empty x c = none_some x (place_of [] x c).1

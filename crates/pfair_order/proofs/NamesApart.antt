@@ -8,15 +8,13 @@ use Rattle.std.specs.Ordering.{is_eq}
 use Rattle.std.proofs.lemmas.Bool.{cases_lt}
 use Rattle.std.proofs.lemmas.List.Sums.{sum_by-cons}
 use Rattle.std.proofs.lemmas.Option.{slice_get_within, slice_get-get_or}
+use Rattle.pfair_weight.specs.Options.{some_inj}
 use Rattle.pfair_order.specs.declared.Key.{Key}
 use Rattle.pfair_order.specs.Order.{pd2_cmp}
 use Rattle.pfair_order.specs.Rank.{rank, first_by_rank, AreFirst, EachOnce}
 use Rattle.pfair_order.proofs.KeyLaws.{keys_total, keys_exact}
 use Rattle.pfair_order.proofs.RankLemmas.{each_place, none_counted, place_of}
 use Rattle.pfair_order.proofs.InOrder.{by_rank_first}
-
-some_inj : {A : Type 0} (x y : A) → Some x ≡ Some y → x ≡ y
-some_inj x y e = cc
 
 equal_of : (r : Ordering) → is_eq r ≡ true → r ≡ Equal
 equal_of Less e = cc

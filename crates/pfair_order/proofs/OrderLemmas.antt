@@ -7,6 +7,7 @@ use Rattle.std.specs.declared.cmp.Ordering.{Ordering}
 use Rattle.std.specs.declared.cmp.Ordering.TheVariants.{Less, Equal, Greater}
 use Rattle.std.specs.Ordering.{nat_cmp, ordering_then}
 use Rattle.std.specs.Cmp.Lexicographic.{slice_cmp}
+use Rattle.pfair_weight.specs.NameFacts.{tied_names}
 use Rattle.pfair_order.specs.declared.Key.{Key}
 use Rattle.pfair_order.specs.Order.{pd2_cmp, tie_group_of, GoesBefore, earlier_deadline, greater_b_bit, later_group, smaller_name, smaller_group}
 
@@ -43,17 +44,10 @@ then_equal Equal p h = (refl, h)
 then_equal Greater p h = absurd (cc)
 
 same_bytes : (xs ys : List ℕ) → slice_cmp nat_cmp xs ys ≡ Equal → xs ≡ ys
-same_bytes [] [] h = refl
-same_bytes [] (y ∷ ys) h = absurd (cc)
-same_bytes (x ∷ xs) [] h = absurd (cc)
-same_bytes (x ∷ xs) (y ∷ ys) h =
-    let parts = then_equal (nat_cmp x y) (slice_cmp nat_cmp xs ys) h in
-    let first : x ≡ y = nat_equal x y parts.0 in
-    let rest : xs ≡ ys = same_bytes xs ys parts.1 in
-    cc
+same_bytes xs ys tied = (tied_names xs ys).0 tied
 
 bytes_same : (xs ys : List ℕ) → xs ≡ ys → slice_cmp nat_cmp xs ys ≡ Equal
-bytes_same xs ys e = rw e (tied_itself nat_list_cmp_total ys)
+bytes_same xs ys same = (tied_names xs ys).1 same
 
 tie_one : (k : Key) → k.b ≡ 1 → tie_group_of k ≡ k.group
 tie_one k h = grind (arith, nat_tests)

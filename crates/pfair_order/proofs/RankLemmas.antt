@@ -13,13 +13,8 @@ use Rattle.std.proofs.lemmas.Option.{slice_get_within, slice_get-get_or}
 use Rattle.std.specs.Prelude.{nat_le}
 use Rattle.std.specs.Cmp.{alike_right}
 use Rattle.std.proofs.lemmas.Bool.{leb-true, leb-false}
+use Rattle.pfair_weight.specs.Options.{some_inj, none_some}
 use Rattle.pfair_order.specs.Rank.{rank, AreFirst, EachOnce}
-
-some_inj : {A : Type 0} (x y : A) → Some x ≡ Some y → x ≡ y
-some_inj x y e = cc
-
-none_some : {A : Type 0} (x : A) → None ≡ Some x → ⊥
-none_some x e = cc
 
 -- an element of a list stands at some place, and the other way round
 pub place_of : {A : Type 0} (xs : List A) (x : A) → Contains xs x → (i : ℕ) × (slice_get xs i ≡ Some x)
@@ -323,19 +318,7 @@ module _ {K : Type 0} {R : K → K → Ordering} (o : IsTotalOrder R) where
             absurd (omega arith)
       ] refl
 
-  rises_from : (keys xs : List K) (n : ℕ) → ((i : ℕ) (k : K) → slice_get xs i ≡ Some k → rank R keys k ≡ n + i) → Rising R xs
-  rises_from keys [] n at = tt
-  rises_from keys (x ∷ xs) n at =
-      let here : rank R keys x ≡ n + 0 = at 0 x refl in (
-        each_place (λ y. R x y ≡ Less) xs (λ i k e. let later : rank R keys k ≡ n + suc i = at (suc i) k e in less_by_rank keys x k (omega arith)),
-        rises_from keys xs (suc n) (λ i k e. let later : rank R keys k ≡ n + suc i = at (suc i) k e in omega arith),
-      )
-
-  -- the first m keys rise
-  pub first_rises : (m : ℕ) (keys first : List K) → AreFirst R m keys first → Rising R first
-  first_rises m keys first a = rises_from keys first 0 (λ i k e. let f : rank R keys k ≡ i = (a.at_rank i k e).1 in omega arith)
-
-  -- and are not more than m
+  -- the first m keys are not more than m
   pub first_within : (m : ℕ) (keys first : List K) → AreFirst R m keys first → length first ≤ m
   first_within m keys [] a = omega arith
   first_within m keys (x ∷ xs) a =

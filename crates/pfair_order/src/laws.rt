@@ -6,10 +6,10 @@ ghost use Rattle.pfair_order.specs.declared.Key.{Key};
 ghost use Rattle.pfair_order.specs.Order.{pd2_cmp, GoesBefore};
 ghost use Rattle.pfair_order.specs.Rank.{first_by_rank, AreFirst, EachOnce};
 
-/// What the comparison computes is the order: `Less` for what goes before, `Equal` for equal keys.
+/// What `cmp` computes of two keys is the order: `Less` for what goes before, `Equal` for equal keys.
 pub fn comparison_is_the_order()
-    ensures before { (k l : Key) → (pd2_cmp k l ≡ Less) ↔ GoesBefore k l }
-    ensures equal { (k l : Key) → (pd2_cmp k l ≡ Equal) ↔ (k ≡ l) }
+    ensures before { (k l : Key) → (⟦<crate::Key as Ord>⟧.cmp k l ≡ Less) ↔ GoesBefore k l }
+    ensures equal { (k l : Key) → (⟦<crate::Key as Ord>⟧.cmp k l ≡ Equal) ↔ (k ≡ l) }
 {}
 
 /// What `==` computes of two keys is true exactly where all four fields are equal.

@@ -20,7 +20,7 @@ pub mod laws;
 #[cfg(test)]
 mod tests;
 
-use pfair_weight::{TaskName, Weight, b_bit, deadline, group_deadline};
+use pfair_weight::{MAX_INDEX, MAX_OFFSET, TaskName, Weight, b_bit, deadline, group_deadline};
 use std::cmp::Ordering;
 
 /// What the PD2 order looks at in a subtask. The lesser key goes first.
@@ -46,12 +46,12 @@ pub struct Key {
 impl Key {
     /// The key of subtask `index` of a task with this weight and name, whose windows are shifted by `theta` slots.
     ///
-    /// Subtasks are counted from 1, and `index` is at most 1,000,001; `theta` is at most 2^40. The deadline, the b-bit
-    /// and the group deadline are those of the window formulas.
+    /// Subtasks are counted from 1, and `index` is at most [`MAX_INDEX`]; `theta` is at most [`MAX_OFFSET`]. The
+    /// deadline, the b-bit and the group deadline are those of the window formulas.
     pub fn of(weight: Weight, index: u64, theta: u64, name: TaskName) -> Key
         requires first { 1 ≤ index }
-        requires last { index ≤ 1000001 }
-        requires offset { theta ≤ 1099511627776 }
+        requires last { index ≤ MAX_INDEX }
+        requires offset { theta ≤ MAX_OFFSET }
         ensures key { result ≡ record {
           d = deadline_of weight index theta;
           b = b_bit_of weight index;

@@ -61,4 +61,5 @@ fn keys_of_eight_elevenths(rt: HostRuntime) {
     let name = TaskName::from_bytes(b"a").expect(&rt, "a name");
     assert_eq!(rt; Key::of(weight, 3, 0, name), key(&rt, 5, 1, 8, b"a"));
     assert_eq!(rt; Key::of(weight, 3, 4, name), key(&rt, 9, 1, 12, b"a"));
+    assert_eq!(rt; size_of::<Key>(), 40);
 }

@@ -1,7 +1,6 @@
 -- The laws of windows, of jobs and of names, each over every weight, subtask and offset.
-use Rattle.std.specs.Prelude.{ℕ, ◌≡◌, ◌+◌, ◌-◌, ◌*◌, ◌<◌, ◌≤◌, ◌↔◌, true, List, ◌∷◌, ◌++◌, length, nat_eq}
-use Rattle.std.specs.Cmp.Lexicographic.{pointwise, slice_cmp}
-use Rattle.std.specs.Ordering.{nat_cmp}
+use Rattle.std.specs.Prelude.{ℕ, ◌≡◌, ◌+◌, ◌-◌, ◌*◌, ◌<◌, ◌≤◌, ◌↔◌, Bool, true, List, ◌∷◌, ◌++◌, length}
+use Rattle.std.specs.declared.cmp.Ordering.{Ordering}
 use Rattle.std.specs.declared.cmp.Ordering.TheVariants.{Less, Equal}
 use Rattle.pfair_weight.specs.Share.{Share, IsWeight, IsHeavy}
 use Rattle.pfair_weight.specs.Window.{release_of, deadline_of, b_bit_of, group_deadline_of, starts_job_of}
@@ -52,8 +51,8 @@ pub record JobsFillPeriods : Type 0 where
 
 -- names are equal where their bytes are identical and nowhere else, a proper prefix goes first, and else the first byte that
 -- differs decides
-pub record NamesInByteOrder : Type 0 where
-  pub identical : (a b : List ℕ) → (pointwise nat_eq a b ≡ true) ↔ (a ≡ b)
-  pub tied : (a b : List ℕ) → (slice_cmp nat_cmp a b ≡ Equal) ↔ (a ≡ b)
-  pub prefix_first : (a b : List ℕ) → 0 < length b → slice_cmp nat_cmp a (a ++ b) ≡ Less
-  pub first_difference : (a b c : List ℕ) (x y : ℕ) → x < y → slice_cmp nat_cmp (a ++ (x ∷ b)) (a ++ (y ∷ c)) ≡ Less
+pub record NamesInByteOrder (eq : List ℕ → List ℕ → Bool) (cmp : List ℕ → List ℕ → Ordering) : Type 0 where
+  pub identical : (a b : List ℕ) → (eq a b ≡ true) ↔ (a ≡ b)
+  pub tied : (a b : List ℕ) → (cmp a b ≡ Equal) ↔ (a ≡ b)
+  pub prefix_first : (a b : List ℕ) → 0 < length b → cmp a (a ++ b) ≡ Less
+  pub first_difference : (a b c : List ℕ) (x y : ℕ) → x < y → cmp (a ++ (x ∷ b)) (a ++ (y ∷ c)) ≡ Less

@@ -1,5 +1,14 @@
 -- What a task name may be.
-use Rattle.std.specs.Prelude.{ℕ, ◌≡◌, ◌<◌, ◌≤◌, ◌==◌, Bool, true, false, nat_le, ◌&&◌, ◌||◌, List, length, slice_index}
+use Rattle.std.specs.Prelude.{ℕ, ◌≡◌, ◌<◌, ◌≤◌, ◌==◌, Bool, true, false, nat_le, nat_eq, ◌&&◌, ◌||◌, List, length, slice_index}
+use Rattle.std.specs.Cmp.Lexicographic.{pointwise}
+
+-- a name, as a contract sees it: its bytes
+abbrev pub NameValue : Type 0
+NameValue = List ℕ
+
+-- the same bytes
+abbrev pub name_eq : NameValue → NameValue → Bool
+name_eq = pointwise nat_eq
 
 abbrev pub is_letter : ℕ → Bool
 is_letter byte = nat_le 97 byte && nat_le byte 122

@@ -1,7 +1,20 @@
 //! The laws of windows, of jobs and of names, for every weight, subtask and offset.
 //!
 //! Each function states one law and does nothing.
+ghost use Rattle.std.specs.Prelude.{◌≡◌, ◌^◌};
 ghost use Rattle.pfair_weight.specs.Laws.{NoWindowIsEmpty, WindowsRise, WindowsMeet, WindowsByShare, GroupDeadlines, DelaysShift, JobsFillPeriods, NamesInByteOrder};
+
+use crate::name::TaskName;
+use crate::weight::Weight;
+use crate::window::{MAX_INDEX, MAX_OFFSET};
+
+/// How far windows are counted, how long a period is and how long a name is at most.
+pub fn limits()
+    ensures index { MAX_INDEX ≡ 1000001 }
+    ensures offset { MAX_OFFSET ≡ 2 ^ 40 }
+    ensures period { Weight.MAX_PERIOD ≡ 1000000000 }
+    ensures name { TaskName.MAX_LEN ≡ 16 }
+{}
 
 /// Each window opens before it closes.
 pub fn no_window_is_empty()
@@ -44,8 +57,8 @@ pub fn jobs_fill_periods()
     ensures { JobsFillPeriods }
 {}
 
-/// Names are equal where their bytes are identical and nowhere else. A proper prefix of a name goes
-/// before it, and else the first byte that differs decides.
+/// `==` of names is true where their bytes are identical and nowhere else. By `cmp` a proper prefix of
+/// a name goes before it, and else the first byte that differs decides.
 pub fn names_in_byte_order()
-    ensures { NamesInByteOrder }
+    ensures { NamesInByteOrder ⟦<TaskName as PartialEq>⟧.eq ⟦<TaskName as Ord>⟧.cmp }
 {}

@@ -1,5 +1,5 @@
 //! Task names.
-ghost use Rattle.std.specs.Prelude.{◌≡◌, ◌≤◌, ◌<◌, IfOk, IfErr, length, nat_eq};
+ghost use Rattle.std.specs.Prelude.{◌≡◌, ◌≤◌, ◌<◌, ◌==◌, IfOk, IfErr, length, count_by, not, nat_eq};
 ghost use Rattle.std.proofs.Common.{rules};
 ghost use Rattle.std.specs.Cmp.{partial_order_from_own_ties};
 ghost use Rattle.std.specs.Cmp.Rules.{comparing};
@@ -49,8 +49,8 @@ impl NameFault {
 /// Names are equal exactly where their bytes are, and ordered by bytes, a proper prefix first.
 #[derive(Clone, Copy, Debug)]
 pub struct TaskName {
+    // Zeros after the name, which has none.
     bytes: [u8; 16],
-    len: usize,
 }
 
 impl Model for TaskName {
@@ -58,8 +58,6 @@ impl Model for TaskName {
 
     ghost Value = { List ℕ };
 
-    ghost use Rattle.std.specs.Prelude.{◌≡◌, ◌≤◌, ◌-◌, ◌++◌, length, take, replicate};
-    ghost use Rattle.pfair_weight.specs.Name.{IsTaskName};
     ghost use Rattle.pfair_weight.specs.Padded.{IsPadded, unpadded, padded, padded-unpadded};
 
     ghost view = { unpadded };
@@ -97,10 +95,7 @@ impl TaskName {
         }
         let mut padded = [0; 16];
         padded[..bytes.len()].copy_from_slice(bytes);
-        Ok(TaskName {
-            bytes: padded,
-            len: bytes.len(),
-        })
+        Ok(TaskName { bytes: padded })
     }
 
     /// The bytes that spell the name.
@@ -108,7 +103,7 @@ impl TaskName {
         ensures value { result.now ≡ self.now }
         ensures named { IsTaskName self.now }
     {
-        &self.bytes[..self.len]
+        &self.bytes[..count_some(&self.bytes)]
     }
 }
 
@@ -120,7 +115,7 @@ impl PartialEq for TaskName {
     ghost laws = { Prim.search (comparing, rules) };
 
     fn eq(&self, other: &TaskName) -> bool {
-        self.as_bytes() == other.as_bytes()
+        self.bytes == other.bytes
     }
 }
 
@@ -138,7 +133,7 @@ impl Ord for TaskName {
     ghost matches_eq = { Prim.search (comparing, rules) };
 
     fn cmp(&self, other: &TaskName) -> Ordering {
-        self.as_bytes().cmp(other.as_bytes())
+        self.bytes.cmp(&other.bytes)
     }
 }
 
@@ -153,16 +148,27 @@ impl PartialOrd for TaskName {
 }
 
 impl Hash for TaskName {
-    ghost use Rattle.std.specs.Hash as fed;
-    ghost use Rattle.std.specs.Cmp.Rules.{hashing};
+    ghost use Rattle.std.specs.Prelude.{[], ◌∷◌};
+    ghost use Rattle.std.specs.Hash.{same_Alike};
+    ghost use Rattle.std.specs.Cmp.Lexicographic.{bytes_decides};
+    ghost use Rattle.pfair_weight.specs.Padded.{with_zeros};
 
-    ghost hash_input = { fed.slice fed.u8 };
+    // All sixteen bytes, in one write.
+    ghost hash_input = { λ name. with_zeros name ∷ [] };
 
-    ghost respects_eq = { Prim.search (hashing, rules) };
+    ghost respects_eq = { (same_Alike (λ name. with_zeros name ∷ []) bytes_decides).fed };
 
     fn hash<H: Hasher>(&self, state: &mut H) {
-        self.as_bytes().hash(state);
+        state.write(&self.bytes);
     }
+}
+
+// How many bytes aren't 0.
+fn count_some(bytes: &[u8]) -> usize
+    ensures value { result ≡ count_by (λ byte. not (byte == 0)) bytes.now }
+    ensures within { result ≤ length bytes.now }
+{
+    bytes.iter().filter(|byte| **byte != 0).count()
 }
 
 // Whether a byte may stand at this place of a name.

@@ -115,6 +115,9 @@ fn names(rt: HostRuntime) {
     }
     let longest = TaskName::from_bytes(b"abcdefghijklmnop").expect(&rt, "a name");
     assert!(&rt; longest.as_bytes() == b"abcdefghijklmnop".as_slice());
+    let shortest = TaskName::from_bytes(b"z").expect(&rt, "a name");
+    assert!(&rt; shortest.as_bytes() == b"z".as_slice());
+    assert_eq!(&rt; size_of::<TaskName>(), 16);
 }
 
 #[test]
@@ -124,6 +127,9 @@ fn names_in_order(rt: HostRuntime) {
     let a_line = TaskName::from_bytes(b"a_").expect(&rt, "a name");
     let b = TaskName::from_bytes(b"b").expect(&rt, "a name");
     assert!(&rt; a < a_zero && a_zero < a_line && a_line < b && a != a_zero);
+    let long = TaskName::from_bytes(b"abcdefghijklmno").expect(&rt, "a name");
+    let longest = TaskName::from_bytes(b"abcdefghijklmnoa").expect(&rt, "a name");
+    assert!(&rt; a_line < long && long < longest && longest < b && long != longest);
     let mut met = HashSet::new(rt.alloc());
     for name in [a, a_zero, a, b, a_zero] {
         met.insert(name).expect(&rt, "memory");
