@@ -214,6 +214,11 @@ placed es name i e h =
     let there = key_entry es i name (key_at (keys_of es) name i e) in
     record { at = there.1 ∙ ap (λ (o : Option (ℕ × Key)). Some (name, o)) (sym (live_at es i name there.0 there.1 h)); apart = h }
 
+-- or stands there as it is
+pub guessed : (es : SlotList) (name there : NameValue) (i : ℕ) (u : Option (ℕ × Key)) → slice_get es i ≡ Some (there, u) → name_eq there name ≡ true → IsDistinct name_eq (keys_of es) → IsPlaced es i name
+guessed es name there i u at same h =
+    subst (IsPlaced es i) ((bytes_decides there name).0 same) (record { at = at ∙ ap (λ (o : Option (ℕ × Key)). Some (there, o)) (sym (live_at es i there u at h)); apart = h })
+
 -- nothing is held under a name that has no place
 pub not_placed : (es : SlotList) (q : NameValue) → lookup (name_eq q) es ≡ None → entry_of (live es) q ≡ None
 not_placed [] q h = refl

@@ -12,6 +12,7 @@ ghost use Rattle.pfair_ready.specs.Slots.{in_slot, reverse_cmp, later_cmp, Moves
 
 use crate::Ready;
 use crate::date::Date;
+use crate::guesses::Guesses;
 use crate::slots::{Slots, own_place, place_of, put_at, slot_at};
 use indexmap::IndexMap;
 use pfair_order::Key;
@@ -41,6 +42,7 @@ pub struct HeapReady {
     slots: Slots,
     calendar: BinaryHeap<Reverse<Date>>,
     released: BinaryHeap<Reverse<(Key, usize)>>,
+    guesses: Guesses,
 }
 
 impl Model for HeapReady {
@@ -71,6 +73,7 @@ impl Ready for HeapReady {
             slots: IndexMap::new(alloc),
             calendar: BinaryHeap::new(alloc),
             released: BinaryHeap::new(alloc),
+            guesses: Guesses::new(),
         }
     }
 
@@ -86,7 +89,8 @@ impl Ready for HeapReady {
     }
 
     fn insert(&mut self, release: u64, key: Key) -> Result<bool, AllocError> {
-        let place = own_place(&mut self.slots, key.name)?;
+        let guess = self.guesses.next();
+        let place = own_place(&mut self.slots, guess, key.name)?;
         if slot_at(&self.slots, place).is_some() {
             return Ok(false);
         }
@@ -106,13 +110,16 @@ impl Ready for HeapReady {
 
     fn take_first(&mut self, slot: u64, m: usize) -> Result<Vec<Key>, AllocError> {
         self.now = slot;
+        self.guesses.clear();
         move_released(&self.slots, &mut self.calendar, &mut self.released, slot)?;
         let mut first = Vec::with_capacity(self.alloc, m.min(self.released.len()))?;
         'turns: while first.len() < m {
             let Some(Reverse(turn)) = self.released.pop() else {
                 break;
             };
+            let place = turn.1;
             if let Some(key) = take_turn(&mut self.slots, slot, turn) {
+                self.guesses.note(place);
                 first.push(key)?;
             }
         }

@@ -14,6 +14,7 @@ ghost use Rattle.pfair_order.specs.Rank.{first_by_rank};
 ghost use Rattle.pfair_ready.specs.Waiting.{Held, released, without};
 
 mod date;
+mod guesses;
 mod heap;
 mod plain;
 mod slots;

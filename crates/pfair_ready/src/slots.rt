@@ -1,6 +1,9 @@
 //! A slot for each name that was ever held, at a place that it keeps.
 
-ghost use Rattle.std.specs.Prelude.{◌≡◌, ◌<◌, Some, None, length, slice_get, IfOk, OnErr, IfSome, IfNone};
+ghost use Rattle.std.specs.Prelude.{◌≡◌, ◌<◌, Some, None, length, slice_get, IfOk, OnErr, IfSome, IfNone, IsTrue};
+ghost use Rattle.std.specs.List.{IsDistinct};
+ghost use Rattle.std.specs.Map.{keys_of};
+ghost use Rattle.pfair_ready.specs.Names.{name_eq};
 ghost use Rattle.indexmap.specs.IndexMap.{set_value_at};
 ghost use Rattle.pfair_ready.specs.Slots.{live, in_slot, entry_of, IsPlaced, Keeps};
 
@@ -20,14 +23,33 @@ pub(crate) fn place_of(slots: &Slots, name: &TaskName) -> Option<usize>
     slots.get_index_of(name)
 }
 
-/// The place of a name, which gets an empty slot where it has none.
+/// Whether a place is that of a name.
+fn is_place_of(slots: &Slots, place: usize, name: &TaskName) -> bool
+    requires { IsDistinct name_eq (keys_of slots.now.entries) }
+    ensures { IsTrue result → IsPlaced slots.now.entries place name.now }
+{
+    match slots.get_index(place) {
+        Some((there, _)) => there == name,
+        None => false,
+    }
+}
+
+/// The place of a name, which gets an empty slot where it has none. The name is looked up only where the guess is wrong.
 ///
-/// Where it has one no memory is taken.
-pub(crate) fn own_place(slots: &mut Slots, name: TaskName) -> Result<usize, AllocError>
+/// Where it has a place no memory is taken.
+pub(crate) fn own_place(
+    slots: &mut Slots,
+    guess: usize,
+    name: TaskName,
+) -> Result<usize, AllocError>
+    requires { IsDistinct name_eq (keys_of slots.old.entries) }
     ensures place { IfOk result (λ p. IsPlaced slots.new.entries p name) }
     ensures keeps { Keeps slots.old.entries slots.new.entries }
     ensures err { OnErr result (entry_of (live slots.old.entries) name ≡ None) }
 {
+    if is_place_of(slots, guess, &name) {
+        return Ok(guess);
+    }
     if let Some(place) = slots.get_index_of(&name) {
         return Ok(place);
     }
