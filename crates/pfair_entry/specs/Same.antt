@@ -1,13 +1,9 @@
 -- When two entries say the same.
-use Rattle.std.specs.Prelude.{ℕ, Bool, true, false, ◌==◌, ◌&&◌, nat_eq, List, Option, Some, None}
-use Rattle.std.specs.Cmp.Lexicographic.{pointwise}
+use Rattle.std.specs.Prelude.{ℕ, Bool, true, false, ◌==◌, ◌&&◌, Option, Some, None}
+pub use Rattle.pfair_weight.specs.Name.{name_eq}
 use Rattle.pfair_entry.specs.declared.announcement.Announcement.{Announcement}
 use Rattle.pfair_entry.specs.declared.announcement.Announcement.TheVariants.{Arrive, Depart, Late}
 use Rattle.pfair_entry.specs.Entry.{Logged}
-
--- the same bytes
-abbrev pub name_eq : List ℕ → List ℕ → Bool
-name_eq = pointwise nat_eq
 
 abbrev pub same_bool : Bool → Bool → Bool
 same_bool true b = b

@@ -1,14 +1,29 @@
-//! The laws of names and entries. Each function does nothing: its contract is the law.
-ghost use Rattle.std.specs.Prelude.{ℕ, List, ◌≡◌, ◌↔◌, true};
+//! The laws of names, of entries and of logs. Each function does nothing: its contract is the law.
+ghost use Rattle.std.specs.Prelude.{◌≡◌, ◌^◌};
 ghost use Rattle.pfair_lattice.specs.Held.{IsExact};
-ghost use Rattle.pfair_entry.specs.Same.{name_eq, entry_eq};
+ghost use Rattle.pfair_entry.specs.Writer.{EveryLogRises};
 
-/// The test of sameness of names holds of names with the same bytes, and of no others.
-pub fn names_are_told_apart()
-    ensures { IsExact name_eq }
+use crate::entry::Entry;
+use pfair_weight::TaskName;
+
+/// The last slot and the last subtask that an entry may name, and the longest delay.
+pub fn limits()
+    ensures slot { Entry.LAST_SLOT ≡ 1000000 }
+    ensures index { Entry.LAST_INDEX ≡ 1000000 }
+    ensures delay { Entry.LONGEST_DELAY ≡ 2 ^ 20 }
 {}
 
-/// The test of sameness of entries holds of entries with the same floor, stamp and announcement, and of no others.
+/// `==` of names holds of names with the same bytes, and of no others.
+pub fn names_are_told_apart()
+    ensures { IsExact ⟦<TaskName as PartialEq>⟧.eq }
+{}
+
+/// `==` of entries holds of entries with the same floor, stamp and announcement, and of no others.
 pub fn entries_are_told_apart()
-    ensures { IsExact entry_eq }
+    ensures { IsExact ⟦<Entry as PartialEq>⟧.eq }
+{}
+
+/// The notes that a writer accepts are numbered 1, 2, 3 and so on, as many as there are, and their floors never fall.
+pub fn notes_rise()
+    ensures { EveryLogRises }
 {}

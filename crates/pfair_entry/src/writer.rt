@@ -1,7 +1,7 @@
 //! A processor's writer of its own log.
 ghost use Rattle.std.specs.Prelude.{◌≡◌, ◌+◌, ◌<◌, ◌≤◌, IfOk, IfErr, OnErr};
 ghost use Rattle.pfair_entry.specs.Entry.{IsEntry};
-ghost use Rattle.pfair_entry.specs.Writer.{IsNoteFaultOf, note_fault_number};
+ghost use Rattle.pfair_entry.specs.Writer.{IsNote, IsNoteFaultOf, note_fault_number};
 
 use crate::announcement::Announcement;
 use crate::entry::{Entry, EntryFault};
@@ -80,6 +80,7 @@ impl Writer {
         ensures entry { IfOk result (λ n. (n.1 ≡ record { floor = floor; said = said }) × IsEntry n.1) }
         ensures room { IfOk result (λ _. (self.old.written < self.old.capacity) × (self.old.floor ≤ floor)) }
         ensures after { IfOk result (λ n. self.new ≡ record self.old { written = n.0; floor = floor }) }
+        ensures noted { IfOk result (λ n. IsNote self.old n self.new) }
         ensures err { IfErr result (IsNoteFaultOf self.old (record { floor = floor; said = said })) }
         ensures unchanged { OnErr result (self.new ≡ self.old) }
     {

@@ -172,8 +172,11 @@ pub(crate) fn faults(alloc: Global) -> Look {
 /// What is said at slot 0: three arrivals.
 pub(crate) fn said(alloc: Global) -> Look {
     let replica = holding(alloc, true, true)?;
-    match replica.said(0) {
-        Ok(heard) => Ok(heard.len() == 3 && heard.iter().all(|one| one.number < 3)),
+    match replica.agenda() {
+        Ok(agenda) => {
+            let heard = agenda.at(0);
+            Ok(heard.len() == 3 && heard.iter().all(|one| one.number < 3))
+        }
         Err(_) => Ok(replica.frontier() == 6),
     }
 }

@@ -1,15 +1,15 @@
 -- Rows compared, read cell by cell.
-use Rattle.std.proofs.Common.{◌≡◌, refl, sym, ap, subst, ⊎_elim, inl, inr, ◌∙◌, Bool}
-use Rattle.std.specs.Prelude.{◌↔◌, ℕ, Option, None, Some, List, [], ◌∷◌, length, IsTrue, nat_eq}
+use Rattle.std.proofs.Common.{arith, ◌≡◌, refl, sym, ap, subst, ⊎_elim, inl, inr, ◌∙◌, Bool}
+use Rattle.std.specs.Prelude.{◌↔◌, ◌≢◌, ◌≤◌, ◌<◌, ℕ, Option, None, Some, List, [], ◌∷◌, length, IsTrue, nat_eq}
 use Rattle.std.specs.Option.{option_and_then}
 use Rattle.std.proofs.lemmas.Bool.{eqb-true, eq-eqb}
 use Rattle.std.specs.Ordering.{nat_cmp, is_eq}
 use Rattle.std.specs.BTreeMap.{is_at}
 use Rattle.std.specs.Cmp.{nat_cmp_total, tied_itself}
 use Rattle.std.proofs.lemmas.Map.Entries.{lookup_head}
-use Rattle.pfair_lattice.specs.Entries.{get, IsOrdered, MapBelow}
+use Rattle.pfair_lattice.specs.Entries.{get, IsOrdered, MapBelow, MapOutgrows}
 use Rattle.pfair_lattice.specs.Flat.{FlatBelow}
-use Rattle.pfair_lattice.specs.Option.{OptionBelow}
+use Rattle.pfair_lattice.specs.Option.{OptionOutgrows}
 use Rattle.std.specs.Prelude.{IsSomeAnd}
 use Rattle.std.proofs.Common.{⊎_elim}
 use Rattle.std.proofs.lemmas.Bool.{cases_lt}
@@ -65,23 +65,24 @@ module _ (a b : List (ℕ × Row)) (p : ℕ) (v : Row) (ea : get nat_cmp a p ≡
 
 -- ---- all rows of two replicas of one shape
 
-both_rows : (u v : Option Row) → IsSomeAnd u (IsOrdered nat_cmp) → IsSomeAnd v (IsOrdered nat_cmp)
-    → ((n : ℕ) → HeldBelow (option_and_then (λ (r : Row). get nat_cmp r n) u) (option_and_then (λ (r : Row). get nat_cmp r n) v)) → OptionBelow (MapBelow nat_cmp FlatBelow) u v
-both_rows None v p q h = absurd p
-both_rows (Some u) None p q h = absurd q
-both_rows (Some u) (Some v) p q h = below_row u v p q h
+-- where the second row has something for which the first has no place, it holds a key at which the first holds nothing
+cell_outgrown : (a b : Held Logged) → OptionOutgrows (λ _ _. ⊥) a b → (a ≡ None) × (b ≢ None)
+cell_outgrown None None h = absurd h
+cell_outgrown (Some c) None h = absurd h
+cell_outgrown None (Some d) h = (refl, λ e. cc)
+cell_outgrown (Some c) (Some d) h = absurd h
 
-pub rows_below : (m : ℕ) (a b : List (ℕ × Row)) → IsFull m a → IsFull m b → ((k n : ℕ) → HeldBelow (held_in a k n) (held_in b k n)) → MapBelow nat_cmp (MapBelow nat_cmp FlatBelow) a b
-rows_below m a b f g h = inr (record {
-  ordered_first = f.ordered;
-  ordered_second = g.ordered;
-  each = λ k. ⊎_elim
-      (λ i. both_rows (get nat_cmp a k) (get nat_cmp b k) (f.there k i) (g.there k i) (h k))
-      (λ o. subst (λ (r : Option Row). OptionBelow (MapBelow nat_cmp FlatBelow) r (get nat_cmp b k)) (sym (f.beyond k o)) tt)
-      (cases_lt k m);
-})
-
--- where the rows of the one aren't below those of the other, neither is what it holds
-pub rows_lack : (m m' : ℕ) (a b : List (ℕ × Row)) → m ≡ m' → IsFull m a → IsFull m' b → (MapBelow nat_cmp (MapBelow nat_cmp FlatBelow) b a → ⊥)
-    → ((k n : ℕ) → HeldBelow (held_in b k n) (held_in a k n)) → ⊥
-rows_lack m m' a b e f g lack h = lack (rows_below m' b a g (subst (λ (q : ℕ). IsFull q a) e f) h)
+pub rows_outgrown : (m m' : ℕ) (a b : List (ℕ × Row)) → m ≡ m' → IsFull m a → IsFull m' b → MapOutgrows nat_cmp (MapOutgrows nat_cmp (λ _ _. ⊥)) a b
+    → (k : ℕ) × (n : ℕ) × (held_in a k n ≡ None) × (held_in b k n ≢ None)
+rows_outgrown m m' a b same f g (k, more) = by (get nat_cmp a k) (get nat_cmp b k) refl refl more
+  where
+    by : (u v : Option Row) → get nat_cmp a k ≡ u → get nat_cmp b k ≡ v → OptionOutgrows (MapOutgrows nat_cmp (λ _ _. ⊥)) u v → (k : ℕ) × (n : ℕ) × (held_in a k n ≡ None) × (held_in b k n ≢ None)
+    by None None p q h = absurd h
+    by (Some u) None p q h = absurd h
+    by None (Some v) p q h = absurd (⊎_elim
+        (λ low. subst (λ (r : Option Row). IsSomeAnd r (IsOrdered nat_cmp)) p (f.there k low))
+        (λ high. (let none = g.beyond k (omega (arith, high, same)) in let both : None ≡ Some v = sym none ∙ q in cc))
+        (cases_lt k m))
+    by (Some u) (Some v) p q (n, h) =
+        (let cell = cell_outgrown (get nat_cmp u n) (get nat_cmp v n) h in
+        (k, n, at_row a k (Some u) p n ∙ cell.0, λ none. cell.1 (sym (at_row b k (Some v) q n) ∙ none)))

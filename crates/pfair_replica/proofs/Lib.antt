@@ -1,18 +1,18 @@
 pub mod Marks
-pub mod Runs
-pub mod PutEntry
-pub mod Merging
-pub mod Scanning
-pub mod SameRows
-pub mod EmptyRows
-pub mod Comparing
-pub mod Listing
-pub mod Agreement
+mod Runs
+mod PutEntry
+mod Merging
+mod Scanning
+mod SameRows
+mod EmptyRows
+mod Comparing
+mod Listing
+mod Agreement
 pub mod OfferedTo
 pub mod TornKeys
-pub mod Beginnings
-pub mod FirstTorn
-pub mod Following
+mod Beginnings
+mod FirstTorn
+mod Following
 pub mod SoundEntries
-pub mod LeastMark
-pub mod Listed
+mod LeastMark
+mod Listed

@@ -38,6 +38,23 @@ module _ {A : Type 0} (f : ℕ → List A) where
   pub flat_next : (p : ℕ) → flat_map f (numbers_below (p + 1)) ≡ flat_map f (numbers_below p) ++ f p
   flat_next p = ap (λ n. flat_map f (numbers_below n)) (let next : p + 1 ≡ suc p = omega arith in next) ∙ flat_more p
 
+  some_left : (xs ys : List A) → xs ≢ [] → xs ++ ys ≢ []
+  some_left [] ys some none = some refl
+  some_left (x ∷ xs) ys some none = cc
+
+  some_right : (xs ys : List A) → ys ≢ [] → xs ++ ys ≢ []
+  some_right [] ys some none = some none
+  some_right (x ∷ xs) ys some none = cc
+
+  -- a number that gives something
+  pub flat_some : (m p : ℕ) → p < m → f p ≢ [] → flat_map f (numbers_below m) ≢ []
+  flat_some zero p below some none = absurd (omega arith)
+  flat_some (suc m) p below some none = elim (cases_lt p m) [
+    | inl l ↦ some_left (flat_map f (numbers_below m)) (f m) (flat_some m p l some) (sym (flat_more m) ∙ none)
+    | inr g ↦ (let same : p ≡ m = omega arith in
+        some_right (flat_map f (numbers_below m)) (f m) (subst (λ (q : ℕ). f q ≢ []) same some) (sym (flat_more m) ∙ none))
+  ]
+
   empty : (xs : List A) → slice_get xs 0 ≡ None → xs ≡ []
   empty [] e = refl
   empty (x ∷ xs) e = absurd (cc)
@@ -146,6 +163,14 @@ untorn_by_test x r e k n torn = at n torn (r.in_range k n Torn torn)
         let le = range.2 in
         let here = any_false (λ n. is_torn (x.at k (suc n))) (numbers_below x.capacity) row m (among_numbers x.capacity m (omega (arith, le))) in
         true≢false (sym (ap is_torn torn) ∙ here))
+
+-- a torn key of a processor is listed
+pub torn_listed : (x : Replica) (k b : ℕ) → b < x.capacity → x.at k (b + 1) ≡ Some Torn → torn_in x k ≢ []
+torn_listed x k b low torn none =
+    let test : list_any (λ n. is_torn (x.at k (suc n))) (numbers_below x.capacity) ≡ false = sym (more_filter (entry_key k) (λ n. is_torn (x.at k n)) (numbers_below x.capacity)) ∙ ap is_more none in
+    let here = any_false (λ n. is_torn (x.at k (suc n))) (numbers_below x.capacity) test b (among_numbers x.capacity b low) in
+    let at : x.at k (suc b) ≡ Some Torn = subst (λ (n : ℕ). x.at k n ≡ Some Torn) (let next : b + 1 ≡ suc b = omega arith in next) torn in
+    true≢false (sym (ap is_torn at) ∙ here)
 
 pub test_by_untorn : (x : Replica) → Untorn x → has_torn x ≡ false
 test_by_untorn x untorn =

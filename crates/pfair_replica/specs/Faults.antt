@@ -1,5 +1,6 @@
 -- What a take and a merge answer.
-use Rattle.std.specs.Prelude.{ℕ, ◌≡◌, ◌≢◌, ◌<◌, ◌≤◌, ◌⊎◌, Some, None}
+use Rattle.std.specs.Prelude.{ℕ, ◌≡◌, ◌≢◌, ◌<◌, ◌≤◌, ◌⊎◌, refl, Some, None}
+use Rattle.std.proofs.Common.{inl, inr}
 use Rattle.pfair_lattice.specs.declared.flat.Flat.TheVariants.{One}
 use Rattle.pfair_lattice.specs.Held.{Held}
 use Rattle.pfair_entry.specs.Entry.{Logged}
@@ -28,10 +29,22 @@ IsTakeFaultOf x k n take.NoSuchProcessor = x.processors ≤ k
 IsTakeFaultOf x k n take.NumberOutOfRange = (k < x.processors) × ((n ≡ 0) ⊎ (x.capacity < n))
 IsTakeFaultOf x k n take.Memory = IsKeyOf x k n × (held x k n ≡ None)
 
--- why y isn't merged into x, or not all of it; memory is wanted only where y holds something that x lacks
+-- y holds something at a key at which x holds nothing
+abbrev pub HoldsMore : HeldRows → HeldRows → Type 0
+HoldsMore x y = (k : ℕ) × (n : ℕ) × (held x k n ≡ None) × (held y k n ≢ None)
+
+-- why y isn't merged into x, or not all of it; memory is wanted only for a key at which x holds nothing
 abbrev pub IsMergeFaultOf : HeldRows → HeldRows → MergeFault → Type 0
 IsMergeFaultOf x y merge.OtherShape = SameShape x y → ⊥
-IsMergeFaultOf x y merge.Memory = SameShape x y × (Below (replica_of y) (replica_of x) → ⊥)
+IsMergeFaultOf x y merge.Memory = SameShape x y × HoldsMore x y
+
+-- so y isn't below x
+pub more_is_not_below : (x y : HeldRows) → HoldsMore x y → Below (replica_of y) (replica_of x) → ⊥
+more_is_not_below x y (k, n, none, some) below = some (by (held y k n) refl)
+  where
+    by : (c : Held Logged) → held y k n ≡ c → held y k n ≡ None
+    by None e = e
+    by (Some c) e = elim (below k n c e) [ inl h ↦ absurd (cc) | inr h ↦ absurd (cc) ]
 
 -- now is old with a part of other joined in, and joining other again gives what joining it to old gives
 pub record IsPartlyMerged (old other now : Replica) : Type 0 where

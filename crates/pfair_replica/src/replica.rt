@@ -4,7 +4,7 @@
 //! only grows, and replicas merge by joins, as replicated data types do (Shapiro, Preguiça, Baquero and Zawirski, 2011). How far each
 //! processor has committed itself is read off its sound beginning: the longest run of its entries 1, 2, 3 and so on that is held, none of
 //! them torn, whose floors never fall.
-ghost use Rattle.std.specs.Prelude.{◌≡◌, ◌≤◌, ◌↔◌, ◌++◌, ℕ, length, slice_get, is_some, IsTrue, IfOk, IfErr, OnOk, OnErr, Ok, Err, Some};
+ghost use Rattle.std.specs.Prelude.{◌≡◌, ◌≢◌, ◌≤◌, ◌↔◌, ◌⊎◌, ◌++◌, ℕ, [], length, slice_get, is_some, IsSome, IsTrue, IfOk, IfErr, OnOk, OnErr, Ok, Err, Some};
 ghost use Rattle.pfair_lattice.specs.declared.flat.Flat.TheVariants.{One};
 ghost use Rattle.pfair_entry.specs.Entry.{Logged, IsEntry};
 ghost use Rattle.pfair_replica.specs.Replica.{IsReplica, join, with_entry, empty_replica, Below, goes_on, sound_beginning, mark, frontier, missing, IsLeastMissing, said_by, said_in, said, is_torn, has_torn, torn_in, torn_keys, fallen_in, fallen_keys};
@@ -18,7 +18,7 @@ use crate::answer::{MergeFault, TakeFault, Taken};
 use crate::counters::{Counters, going_on};
 use crate::key::{EntryKey, Faults};
 use crate::rows::{Rows, empty_rows, held_at, put_entry, row_le};
-use pfair_entry::{Entry, Said};
+use pfair_entry::Entry;
 use pfair_lattice::{Flat, Join};
 use std::alloc::{AllocError, Global};
 use std::marker::Model;
@@ -136,8 +136,8 @@ impl Replica {
     ///
     /// # Errors
     /// `OtherShape` where the other has another number of processors or another capacity, and then nothing is changed. `Memory` where
-    /// memory was wanted and refused, which comes only where the other holds something that this replica lacks: then a part of the
-    /// other is merged in, and merging it again gives what one merge would have given.
+    /// memory was wanted and refused, which comes only where the other holds something at a key at which this replica holds nothing: then
+    /// a part of the other is merged in, and merging it again gives what one merge would have given.
     pub fn merge(&mut self, other: &Replica) -> Result<(), MergeFault>
         ensures merged { OnOk result (replica_of self.new ≡ join (replica_of self.old) (replica_of other.now)) }
         ensures same_shape { OnOk result (SameShape self.old other.now) }
@@ -241,29 +241,15 @@ impl Replica {
         self.counters.torn
     }
 
-    /// The announcements stamped with a slot in the sound beginnings, in order of processors, and of numbers for each processor. It costs
-    /// a look-up for each entry of the sound beginnings, and one for each processor.
+    /// The announcements in the sound beginnings by the slots of their stamps, at each slot in order of processors, and of numbers for
+    /// each processor. It takes one pass over the sound beginnings: a look-up for each of their entries, and one for each processor, and
+    /// what [`Agenda::push`] costs for each announcement.
     ///
     /// # Errors
-    /// `AllocError` where memory was wanted and refused.
-    pub fn said(&self, slot: u64) -> Result<Vec<Said>, AllocError>
-        ensures heard { IfOk result (λ heard. heard.items ≡ said (replica_of self.now) slot) }
-        ensures replica { IsReplica (replica_of self.now) }
-    {
-        let mut heard = Vec::new(self.alloc);
-        for processor in 0..self.processors {
-            self.push_said(processor, slot, &mut heard)?;
-        }
-        Ok(heard)
-    }
-
-    /// What [`Replica::said`] says, by slot, in one pass over the sound beginnings: a look-up for each of their entries, and one for each
-    /// processor, and what [`Agenda::push`] costs for each announcement.
-    ///
-    /// # Errors
-    /// `AllocError` where memory was wanted and refused.
+    /// `AllocError` where memory was wanted and refused, which comes only where something is said.
     pub fn agenda(&self) -> Result<Agenda, AllocError>
         ensures heard { IfOk result (λ agenda. (t : ℕ) → said_at agenda t ≡ said (replica_of self.now) t) }
+        ensures wanted { OnErr result ((t : ℕ) × (said (replica_of self.now) t ≢ [])) }
         ensures replica { IsReplica (replica_of self.now) }
     {
         let mut agenda = Agenda::new(self.alloc);
@@ -277,10 +263,11 @@ impl Replica {
     /// for each number of each log, so as many as the processors times the capacity.
     ///
     /// # Errors
-    /// `AllocError` where memory was wanted and refused.
+    /// `AllocError` where memory was wanted and refused, which comes only where something is wrong.
     pub fn faults(&self) -> Result<Faults, AllocError>
         ensures torn { IfOk result (λ faults. faults.torn.items ≡ torn_keys (replica_of self.now)) }
         ensures fallen { IfOk result (λ faults. faults.fallen.items ≡ fallen_keys (replica_of self.now)) }
+        ensures wanted { OnErr result ((torn_keys (replica_of self.now) ≢ []) ⊎ (fallen_keys (replica_of self.now) ≢ [])) }
     {
         let mut torn = Vec::new(self.alloc);
         let mut fallen = Vec::new(self.alloc);
@@ -293,7 +280,8 @@ impl Replica {
 
     /// Adds the torn keys of a processor.
     fn push_torn(&self, processor: u8, torn: &mut Vec<EntryKey>) -> Result<(), AllocError>
-        ensures { OnOk result (torn.new.items ≡ torn.old.items ++ torn_in (replica_of self.now) processor) }
+        ensures torn { OnOk result (torn.new.items ≡ torn.old.items ++ torn_in (replica_of self.now) processor) }
+        ensures wanted { OnErr result (torn_in (replica_of self.now) processor ≢ []) }
     {
         for before in 0..self.capacity {
             let number = before + 1;
@@ -306,7 +294,8 @@ impl Replica {
 
     /// Adds the entry right after the sound beginning of a processor, where it has a lower floor.
     fn push_fallen(&self, processor: u8, fallen: &mut Vec<EntryKey>) -> Result<(), AllocError>
-        ensures { OnOk result (fallen.new.items ≡ fallen.old.items ++ fallen_in (replica_of self.now) processor) }
+        ensures fallen { OnOk result (fallen.new.items ≡ fallen.old.items ++ fallen_in (replica_of self.now) processor) }
+        ensures wanted { OnErr result (fallen_in (replica_of self.now) processor ≢ []) }
     {
         let (count, mark) = self.sound_beginning(processor);
         let number = count + 1;
@@ -342,26 +331,10 @@ impl Replica {
         going_on(&self.rows, processor, number, floor)
     }
 
-    /// Adds what a processor says at a slot in its sound beginning.
-    fn push_said(&self, processor: u8, slot: u64, heard: &mut Vec<Said>) -> Result<(), AllocError>
-        ensures { OnOk result (heard.new.items ≡ heard.old.items ++ said_in slot processor 1 (sound_beginning (replica_of self.now) processor)) }
-    {
-        let mut floor = 0;
-        for before in 0..self.capacity {
-            match self.going_on(processor, before + 1, floor) {
-                Some(entry) => {
-                    floor = entry.floor();
-                    push_said_by(processor, before + 1, entry, slot, heard)?;
-                }
-                None => return Ok(()),
-            }
-        }
-        Ok(())
-    }
-
     /// Notes in an agenda what a processor says in its sound beginning.
     fn note_said(&self, processor: u8, agenda: &mut Agenda) -> Result<(), AllocError>
-        ensures { OnOk result ((t : ℕ) → said_at agenda.new t ≡ said_at agenda.old t ++ said_in t processor 1 (sound_beginning (replica_of self.now) processor)) }
+        ensures heard { OnOk result ((t : ℕ) → said_at agenda.new t ≡ said_at agenda.old t ++ said_in t processor 1 (sound_beginning (replica_of self.now) processor)) }
+        ensures wanted { OnErr result ((t : ℕ) × (said_in t processor 1 (sound_beginning (replica_of self.now) processor) ≢ [])) }
     {
         let mut floor = 0;
         for before in 0..self.capacity {
@@ -377,28 +350,6 @@ impl Replica {
     }
 }
 
-/// Adds what an entry says at a slot.
-fn push_said_by(
-    processor: u8,
-    number: u32,
-    entry: Entry,
-    slot: u64,
-    heard: &mut Vec<Said>,
-) -> Result<(), AllocError>
-    ensures { OnOk result (heard.new.items ≡ heard.old.items ++ said_by slot processor number entry.said) }
-{
-    if let Some((stamp, announcement)) = entry.said() {
-        if stamp == slot {
-            heard.push(Said {
-                processor,
-                number,
-                announcement,
-            })?;
-        }
-    }
-    Ok(())
-}
-
 /// Notes in an agenda what an entry says.
 fn note_said_by(
     processor: u8,
@@ -406,7 +357,8 @@ fn note_said_by(
     entry: Entry,
     agenda: &mut Agenda,
 ) -> Result<(), AllocError>
-    ensures { OnOk result ((t : ℕ) → said_at agenda.new t ≡ said_at agenda.old t ++ said_by t processor number entry.said) }
+    ensures heard { OnOk result ((t : ℕ) → said_at agenda.new t ≡ said_at agenda.old t ++ said_by t processor number entry.said) }
+    ensures wanted { OnErr result (IsSome entry.said) }
 {
     if let Some((stamp, announcement)) = entry.said() {
         agenda.push(stamp, processor, number, announcement)?;

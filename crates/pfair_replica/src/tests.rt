@@ -147,24 +147,6 @@ fn halves_merge_to_the_whole(rt: HostRuntime) -> Result<(), Fail> {
 }
 
 #[test]
-fn what_is_said_at_a_slot(rt: HostRuntime) -> Result<(), Fail> {
-    let name = TaskName::from_bytes(b"a").expect(&rt, "a name");
-    let other = TaskName::from_bytes(b"b").expect(&rt, "a name");
-    let mut x = Replica::new(rt.alloc(), 2, 4)?;
-    take(&mut x, 0, 1, departs(&rt, 0, 3, name))?;
-    take(&mut x, 0, 2, departs(&rt, 2, 5, name))?;
-    take(&mut x, 0, 4, departs(&rt, 3, 3, name))?;
-    take(&mut x, 1, 1, departs(&rt, 1, 3, other))?;
-    take(&mut x, 1, 2, departs(&rt, 3, 3, name))?;
-    let heard = x.said(3)?;
-    assert_eq!(&rt;
-        heard.as_slice(),
-        [said(0, 1, name), said(1, 1, other), said(1, 2, name),].as_slice()
-    );
-    Ok(())
-}
-
-#[test]
 fn an_agenda_has_what_is_said_by_slot(rt: HostRuntime) -> Result<(), Fail> {
     let name = TaskName::from_bytes(b"a").expect(&rt, "a name");
     let other = TaskName::from_bytes(b"b").expect(&rt, "a name");

@@ -1,11 +1,24 @@
-use Rattle.std.proofs.Common.{◌++◌, ap, sym, ◌∙◌}
-use Rattle.pfair_replica.proofs.TornKeys.{flat_next}
+use Rattle.std.proofs.Common.{arith, inl, inr, ◌<◌, ◌++◌, ap, sym, ◌∙◌}
+use Rattle.pfair_replica.proofs.TornKeys.{flat_next, flat_some}
 use Rattle.pfair_replica.specs.HeldRows.{replica_of}
 use Rattle.pfair_replica.specs.Replica.{torn_in, fallen_in}
+use Rattle.pfair_replica.proofs.Merging.{on_err_here}
 use Rattle.pfair_replica.proofs.replica.Replica.faults.Goals as goal
 
 pub loop-processor-preserved : goal.loop-processor-preserved
 loop-processor-preserved c = record {
-  torn = c.in_ok-push_torn.ensures ∙ ap (λ keys. keys ++ torn_in (replica_of c.args.self.now) c.loop-processor.processor) c.loop-processor.invariant.torn ∙ sym (flat_next (torn_in (replica_of c.args.self.now)) c.loop-processor.processor);
-  fallen = c.in_ok-push_fallen.ensures ∙ ap (λ keys. keys ++ fallen_in (replica_of c.args.self.now) c.loop-processor.processor) c.loop-processor.invariant.fallen ∙ sym (flat_next (fallen_in (replica_of c.args.self.now)) c.loop-processor.processor);
+  torn = c.in_ok-push_torn.ensures.torn ∙ ap (λ keys. keys ++ torn_in (replica_of c.args.self.now) c.loop-processor.processor) c.loop-processor.invariant.torn ∙ sym (flat_next (torn_in (replica_of c.args.self.now)) c.loop-processor.processor);
+  fallen = c.in_ok-push_fallen.ensures.fallen ∙ ap (λ keys. keys ++ fallen_in (replica_of c.args.self.now) c.loop-processor.processor) c.loop-processor.invariant.fallen ∙ sym (flat_next (fallen_in (replica_of c.args.self.now)) c.loop-processor.processor);
 }
+
+pub returns-in_err-push_torn-clause-wanted : goal.returns-in_err-push_torn-clause-wanted
+returns-in_err-push_torn-clause-wanted c =
+    let processors = ap (λ x. x.processors) c.self.view_is in
+    let low : c.loop-processor.processor < c.args.self.now.processors = omega arith in
+    on_err_here c.from_residual.result (inl (flat_some (torn_in (replica_of c.args.self.now)) c.args.self.now.processors c.loop-processor.processor low c.in_err-push_torn.ensures.wanted))
+
+pub returns-in_err-push_fallen-clause-wanted : goal.returns-in_err-push_fallen-clause-wanted
+returns-in_err-push_fallen-clause-wanted c =
+    let processors = ap (λ x. x.processors) c.self.view_is in
+    let low : c.loop-processor.processor < c.args.self.now.processors = omega arith in
+    on_err_here c.from_residual-in_err-push_fallen.result (inr (flat_some (fallen_in (replica_of c.args.self.now)) c.args.self.now.processors c.loop-processor.processor low c.in_err-push_fallen.ensures.wanted))

@@ -1,7 +1,7 @@
 use Rattle.std.proofs.Common.{rules, inr, sym, ◌∙◌}
-use Rattle.pfair_replica.specs.Replica.{Below}
+use Rattle.pfair_replica.specs.Faults.{HoldsMore}
 use Rattle.pfair_replica.specs.HeldRows.{held_in, replica_of}
-use Rattle.pfair_replica.proofs.Comparing.{rows_lack}
+use Rattle.pfair_replica.proofs.Comparing.{rows_outgrown}
 use Rattle.pfair_replica.proofs.OfferedTo.{absorbed_alike}
 use Rattle.pfair_replica.proofs.Merging.{joined_held, between_held, between_below, between_within, partly_merged, merged_rows, partly_rows, between_rows, either_held, on_err_here}
 use Rattle.pfair_replica.proofs.Following.{before_join}
@@ -45,8 +45,8 @@ returns-clause-merged c = rw (← c.self.view_is, ← c.other.view_is) (λ i. re
 
 pub returns-in_err-joined-clause-fault : goal.returns-in_err-joined-clause-fault
 returns-in_err-joined-clause-fault c =
-    let lacks : Below (replica_of c.args.other.now) (replica_of c.args.self.now) → ⊥ =
-    rw (← c.self.view_is, ← c.other.view_is) (rows_lack c.self.inside.processors c.other.inside.processors c.self.inside.rows c.other.inside.rows c.if-self-other.false c.self.invariant.rows.full c.other.invariant.rows.full c.in_err-joined.ensures.lacking) in
+    let more : HoldsMore c.args.self.now c.args.other.now =
+    rw (← c.self.view_is, ← c.other.view_is) (rows_outgrown c.self.inside.processors c.other.inside.processors c.self.inside.rows c.other.inside.rows c.if-self-other.false c.self.invariant.rows.full c.other.invariant.rows.full c.in_err-joined.ensures.growth) in
     search rules
 
 pub returns-in_err-joined-clause-grows : goal.returns-in_err-joined-clause-grows
