@@ -11,7 +11,7 @@ use Rattle.pfair_table.specs.Script.{LoggedRun}
 use Rattle.pfair_table.specs.ScriptRun.{IsRunOf}
 use Rattle.pfair_table.specs.Refinement.{Dispatch}
 use Rattle.pfair_board.specs.declared.run.Run.{Run}
-use Rattle.pfair_table.specs.Planned.{place_rows, rows}
+use Rattle.pfair_table.specs.Planned.{as_places, as_tables}
 use Rattle.pfair_output.specs.Replay.{placed_replay_text, placed_text, replay_text}
 use Rattle.pfair_output.specs.Decisions.{decisions_text}
 use Rattle.pfair_output.specs.Lags.{lags_text}
@@ -64,11 +64,11 @@ pub output_of_whole : (text : LoggedRun → List ℕ) (o : Option (List ℕ)) (m
 output_of_whole text None made bytes P has same p = tt
 output_of_whole text (Some given) made bytes P (run, read, is) same p = (run, read, is.far_enough, subst P (same run is) p)
 
-pub tables_made : (made : Run) (run : LoggedRun) → IsWholeRun run made → replay_text (rows made.tables) ≡ replay_of_run run
+pub tables_made : (made : Run) (run : LoggedRun) → IsWholeRun run made → replay_text (as_tables made.tables) ≡ replay_of_run run
 tables_made made run is = ap replay_text is.tables
 
-pub places_made : (made : Run) (run : LoggedRun) → IsWholeRun run made → placed_text (rows made.tables) (place_rows made.places) ≡ placed_replay_of_run run
-places_made made run is = ap (placed_text (rows made.tables)) is.places ∙ ap placed_replay_text is.tables
+pub places_made : (made : Run) (run : LoggedRun) → IsWholeRun run made → placed_text (as_tables made.tables) (as_places made.places) ≡ placed_replay_of_run run
+places_made made run is = ap (placed_text (as_tables made.tables)) is.places ∙ ap placed_replay_text is.tables
 
 -- a failed write refuses nothing
 pub no_refusal : {T : Type 0} → (r : Result T ProgramFault) → (o : Option (List ℕ)) → IfErr r (λ e. e ≡ WriteFailed) → IfErr r (λ e. IfSome o (λ bytes. IsRefusalOf bytes e))

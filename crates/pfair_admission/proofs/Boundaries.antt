@@ -15,8 +15,8 @@ use Rattle.pfair_entry.specs.declared.entry.TheConstants.Entry.{LAST_SLOT, LONGE
 use Rattle.pfair_admission.specs.declared.members.TheConstants.Members.{MAX_HEARD}
 use Rattle.pfair_admission.specs.Member.{Member, last_offset}
 use Rattle.pfair_admission.specs.Admission.{Machine, is_named, change, newcomer, with_freeing, with_delay, with_quantum, effect, is_freed, present, decision, decided, all_decided, all_decisions, announcements, ran}
-use Rattle.pfair_admission.specs.Removal.{NoneFreed, EachHasRoom}
-use Rattle.pfair_admission.specs.Roster.{Roster, EachBounded}
+use Rattle.pfair_admission.specs.Removal.{NoneFreed}
+use Rattle.pfair_admission.specs.Roster.{Roster, EachBounded, EachHasRoom}
 use Rattle.pfair_admission.specs.Standing.{Standing}
 use Rattle.pfair_admission.proofs.MemberLists.{none_freed_present}
 
@@ -80,7 +80,7 @@ has_room n (x ∷ ms) few h = (let o = h.0 in omega arith, has_room n ms few h.1
 -- ---- how far the announcements are decided
 
 -- nobody is freed after an announcement is decided
-none_freed_decided : (machine : Machine) (t : ℕ) (ms : List Member) (heard : List Announcement) → NoneFreed t ms → NoneFreed t (all_decided machine t ms heard)
+none_freed_decided : (machine : Machine) (t : ℕ) (ms : List Member) (announced : List Announcement) → NoneFreed t ms → NoneFreed t (all_decided machine t ms announced)
 none_freed_decided machine t ms [] h = h
 none_freed_decided machine t ms (a ∷ more) h = none_freed_decided machine t (decided machine t ms a) more (none_freed_present t (effect t ms a (decision machine t ms a)))
 
@@ -93,30 +93,30 @@ decisions_push machine t ms [] a = refl
 decisions_push machine t ms (x ∷ xs) a = ap (λ (l : List Decision). decision machine t ms x ∷ l) (decisions_push machine t (decided machine t ms x) xs a)
 
 -- the first n are decided
-pub record SoFar (start : Roster) (t n : ℕ) (heard : List Announcement) (now : Roster) (all : List Decision) : Type 0 where
-  pub left : now ≡ record start { members = all_decided start.machine t start.members (take n heard); heard = start.heard + n }
-  pub told : all ≡ all_decisions start.machine t start.members (take n heard)
+pub record SoFar (start : Roster) (t n : ℕ) (announced : List Announcement) (now : Roster) (all : List Decision) : Type 0 where
+  pub left : now ≡ record start { members = all_decided start.machine t start.members (take n announced); heard = start.heard + n }
+  pub told : all ≡ all_decisions start.machine t start.members (take n announced)
 
 -- nobody is freed so far
-pub none_freed_so_far : (start : Roster) (t n : ℕ) (heard : List Announcement) (now : Roster) (all : List Decision) → SoFar start t n heard now all → NoneFreed t start.members → NoneFreed t now.members
-none_freed_so_far start t n heard now all s h = subst (λ (r : Roster). NoneFreed t r.members) (sym s.left) (none_freed_decided start.machine t start.members (take n heard) h)
+pub none_freed_so_far : (start : Roster) (t n : ℕ) (announced : List Announcement) (now : Roster) (all : List Decision) → SoFar start t n announced now all → NoneFreed t start.members → NoneFreed t now.members
+none_freed_so_far start t n announced now all s h = subst (λ (r : Roster). NoneFreed t r.members) (sym s.left) (none_freed_decided start.machine t start.members (take n announced) h)
 
 -- one announcement more is decided
-pub one_more : (start : Roster) (t n : ℕ) (heard : List Announcement) (now after : Roster) (all : List Decision) (a : Announcement) (d : Decision) → SoFar start t n heard now all → n < length heard → get_or heard n a ≡ a
-    → d ≡ decision now.machine t now.members a → after ≡ record now { members = decided now.machine t now.members a; heard = now.heard + 1 } → SoFar start t (n + 1) heard after (all ++ d ∷ [])
-one_more start t n heard now after all a d s within at is left =
-    let front : take (n + 1) heard ≡ take n heard ++ a ∷ [] = take_more heard n a within ∙ ap (λ (x : Announcement). take n heard ++ x ∷ []) at in
+pub one_more : (start : Roster) (t n : ℕ) (announced : List Announcement) (now after : Roster) (all : List Decision) (a : Announcement) (d : Decision) → SoFar start t n announced now all → n < length announced → get_or announced n a ≡ a
+    → d ≡ decision now.machine t now.members a → after ≡ record now { members = decided now.machine t now.members a; heard = now.heard + 1 } → SoFar start t (n + 1) announced after (all ++ d ∷ [])
+one_more start t n announced now after all a d s within at is left =
+    let front : take (n + 1) announced ≡ take n announced ++ a ∷ [] = take_more announced n a within ∙ ap (λ (x : Announcement). take n announced ++ x ∷ []) at in
     let of : List Member → Roster = λ ms. record start { members = ms; heard = start.heard + (n + 1) } in
     let count : start.heard + n + 1 ≡ start.heard + (n + 1) = omega arith in
-    let with : ℕ → Roster = λ k. record start { members = decided start.machine t (all_decided start.machine t start.members (take n heard)) a; heard = k } in
+    let with : ℕ → Roster = λ k. record start { members = decided start.machine t (all_decided start.machine t start.members (take n announced)) a; heard = k } in
     record {
       left =
           left ∙ ap (λ (r : Roster). record r { members = decided r.machine t r.members a; heard = r.heard + 1 }) s.left
           ∙ ap with count
-          ∙ ap of (sym (decided_push start.machine t start.members (take n heard) a) ∙ ap (all_decided start.machine t start.members) (sym front));
+          ∙ ap of (sym (decided_push start.machine t start.members (take n announced) a) ∙ ap (all_decided start.machine t start.members) (sym front));
       told =
-          ap (λ (l : List Decision). l ++ d ∷ []) s.told ∙ ap (λ (x : Decision). all_decisions start.machine t start.members (take n heard) ++ x ∷ []) (is ∙ ap (λ (r : Roster). decision r.machine t r.members a) s.left)
-          ∙ sym (decisions_push start.machine t start.members (take n heard) a) ∙ ap (all_decisions start.machine t start.members) (sym front);
+          ap (λ (l : List Decision). l ++ d ∷ []) s.told ∙ ap (λ (x : Decision). all_decisions start.machine t start.members (take n announced) ++ x ∷ []) (is ∙ ap (λ (r : Roster). decision r.machine t r.members a) s.left)
+          ∙ sym (decisions_push start.machine t start.members (take n announced) a) ∙ ap (all_decisions start.machine t start.members) (sym front);
     }
 
 -- ---- announcements at their places

@@ -15,8 +15,8 @@ use Rattle.pfair_entry.specs.declared.entry.TheConstants.Entry.{LONGEST_DELAY}
 use Rattle.pfair_admission.specs.declared.members.TheConstants.Members.{MAX_PROCESSORS, MAX_FRAME}
 use Rattle.pfair_admission.specs.Member.{Member, last_offset}
 use Rattle.pfair_admission.specs.Admission.{Machine, is_named, member_named, claimed, arrival, departure, late_release, change, newcomer, with_freeing, with_delay, with_quantum, effect, present, decided, ran}
-use Rattle.pfair_admission.specs.Removal.{without, NoneFreedBefore, NoneFreed, EachHasRoom}
-use Rattle.pfair_admission.specs.Roster.{NamesApart}
+use Rattle.pfair_admission.specs.Removal.{without, NoneFreedBefore, NoneFreed}
+use Rattle.pfair_admission.specs.Roster.{NamesApart, EachHasRoom}
 use Rattle.pfair_admission.specs.Standing.{Standing}
 use Rattle.pfair_admission.proofs.MemberLists.{present_all, none_freed_push, none_freed_change, gone_at_once, first_change, claimed_change, claimed_without, units_named}
 

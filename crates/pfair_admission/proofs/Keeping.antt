@@ -16,7 +16,7 @@ use Rattle.pfair_admission.specs.declared.decision.Decision.{Decision}
 use Rattle.pfair_admission.specs.declared.decision.Decision.TheVariants.{Admitted, Departing, Delayed, Refused}
 use Rattle.pfair_admission.specs.declared.delay.Delay.{Delay}
 use Rattle.pfair_admission.specs.declared.refusal.Refusal.{Refusal}
-use Rattle.pfair_admission.specs.Member.{Member, theta, claim_end, freeing_slot, is_delayed_at, eligible_from}
+use Rattle.pfair_admission.specs.Member.{Member, theta, busy_until, freeing_slot, is_delayed_at, eligible_from}
 use Rattle.pfair_admission.specs.Admission.{Machine, is_named, member_named, arrival, newcomer, change, with_freeing, with_delay, with_quantum, effect, is_freed, present, decision, decided, all_decided, all_decisions, boundary, boundary_decisions, ran}
 use Rattle.pfair_admission.specs.Removal.{NoneFreed}
 use Rattle.pfair_admission.specs.Roster.{NamesApart}
@@ -95,12 +95,12 @@ apart_decided machine t ms (Arrive name w early) h = apart_present t (effect t m
 apart_decided machine t ms (Depart name) h = apart_present t (effect t ms (Depart name) (decision machine t ms (Depart name))) (apart_departs t ms name (decision machine t ms (Depart name)) h)
 apart_decided machine t ms (Late name index by) h = apart_present t (effect t ms (Late name index by) (decision machine t ms (Late name index by))) (apart_late t ms name index by (decision machine t ms (Late name index by)) h)
 
-apart_all : (machine : Machine) (t : ℕ) (ms : List Member) (heard : List Announcement) → NamesApart ms → NamesApart (all_decided machine t ms heard)
+apart_all : (machine : Machine) (t : ℕ) (ms : List Member) (announced : List Announcement) → NamesApart ms → NamesApart (all_decided machine t ms announced)
 apart_all machine t ms [] h = h
 apart_all machine t ms (a ∷ more) h = apart_all machine t (decided machine t ms a) more (apart_decided machine t ms a h)
 
-pub apart_boundary : (machine : Machine) (t : ℕ) (ms : List Member) (heard : List Announcement) → NamesApart ms → NamesApart (boundary machine t ms heard)
-apart_boundary machine t ms heard h = apart_all machine t (present t ms) heard (apart_present t ms h)
+pub apart_boundary : (machine : Machine) (t : ℕ) (ms : List Member) (announced : List Announcement) → NamesApart ms → NamesApart (boundary machine t ms announced)
+apart_boundary machine t ms announced h = apart_all machine t (present t ms) announced (apart_present t ms h)
 
 pub apart_ran : (name : List ℕ) (ms : List Member) → NamesApart ms → NamesApart (ran name ms)
 apart_ran name ms h = apart_change name with_quantum (λ _. refl) ms h
@@ -139,12 +139,12 @@ room_decided machine t ms (Arrive name w early) h = room_present machine t (effe
 room_decided machine t ms (Depart name) h = room_present machine t (effect t ms (Depart name) (decision machine t ms (Depart name))) (room_departs machine t ms name (decision machine t ms (Depart name)) h)
 room_decided machine t ms (Late name index by) h = room_present machine t (effect t ms (Late name index by) (decision machine t ms (Late name index by))) (room_late machine t ms name index by (decision machine t ms (Late name index by)) h)
 
-room_all : (machine : Machine) (t : ℕ) (ms : List Member) (heard : List Announcement) → HaveRoom machine ms → HaveRoom machine (all_decided machine t ms heard)
+room_all : (machine : Machine) (t : ℕ) (ms : List Member) (announced : List Announcement) → HaveRoom machine ms → HaveRoom machine (all_decided machine t ms announced)
 room_all machine t ms [] h = h
 room_all machine t ms (a ∷ more) h = room_all machine t (decided machine t ms a) more (room_decided machine t ms a h)
 
-pub room_boundary : (machine : Machine) (t : ℕ) (ms : List Member) (heard : List Announcement) → HaveRoom machine ms → HaveRoom machine (boundary machine t ms heard)
-room_boundary machine t ms heard h = room_all machine t (present t ms) heard (room_present machine t ms h)
+pub room_boundary : (machine : Machine) (t : ℕ) (ms : List Member) (announced : List Announcement) → HaveRoom machine ms → HaveRoom machine (boundary machine t ms announced)
+room_boundary machine t ms announced h = room_all machine t (present t ms) announced (room_present machine t ms h)
 
 pub room_ran : (machine : Machine) (name : List ℕ) (ms : List Member) → HaveRoom machine ms → HaveRoom machine (ran name ms)
 room_ran machine name ms h = room_change machine name with_quantum (λ _. refl) ms h
@@ -227,23 +227,23 @@ order_effect t ms (Late name index by) Admitted h = h
 order_effect t ms (Late name index by) (Departing slot) h = h
 order_effect t ms (Late name index by) (Refused r) h = h
 
-order_all : (machine : Machine) (t : ℕ) (ms : List Member) (heard : List Announcement) → JoinedInOrder t ms → JoinedInOrder t (all_decided machine t ms heard)
+order_all : (machine : Machine) (t : ℕ) (ms : List Member) (announced : List Announcement) → JoinedInOrder t ms → JoinedInOrder t (all_decided machine t ms announced)
 order_all machine t ms [] h = h
 order_all machine t ms (a ∷ more) h =
     order_all machine t (decided machine t ms a) more
     (order_filter t (λ (m : Member). not (is_freed t m.freed_at)) (effect t ms a (decision machine t ms a)) (order_effect t ms a (decision machine t ms a) h))
 
-pub order_boundary : (machine : Machine) (t : ℕ) (ms : List Member) (heard : List Announcement) → JoinedInOrder t ms → JoinedInOrder t (boundary machine t ms heard)
-order_boundary machine t ms heard h = order_all machine t (present t ms) heard (order_filter t (λ (m : Member). not (is_freed t m.freed_at)) ms h)
+pub order_boundary : (machine : Machine) (t : ℕ) (ms : List Member) (announced : List Announcement) → JoinedInOrder t ms → JoinedInOrder t (boundary machine t ms announced)
+order_boundary machine t ms announced h = order_all machine t (present t ms) announced (order_filter t (λ (m : Member). not (is_freed t m.freed_at)) ms h)
 
 -- ---- decisions
 
-length_decisions : (machine : Machine) (t : ℕ) (ms : List Member) (heard : List Announcement) → length (all_decisions machine t ms heard) ≡ length heard
+length_decisions : (machine : Machine) (t : ℕ) (ms : List Member) (announced : List Announcement) → length (all_decisions machine t ms announced) ≡ length announced
 length_decisions machine t ms [] = refl
 length_decisions machine t ms (a ∷ more) = ap suc (length_decisions machine t (decided machine t ms a) more)
 
-pub one_each : (machine : Machine) (t : ℕ) (ms : List Member) (heard : List Announcement) → length (boundary_decisions machine t ms heard) ≡ length heard
-one_each machine t ms heard = length_decisions machine t (present t ms) heard
+pub one_each : (machine : Machine) (t : ℕ) (ms : List Member) (announced : List Announcement) → length (boundary_decisions machine t ms announced) ≡ length announced
+one_each machine t ms announced = length_decisions machine t (present t ms) announced
 
 -- ---- delays
 
@@ -283,12 +283,12 @@ pub freed_never_ran : (m : Member) (t : ℕ) → m.next ≡ 1 → freeing_slot m
 freed_never_ran m t h = grind (arith, nat_tests)
 
 pub freed_from_stamp : (m : Member) (t : ℕ) → t ≤ freeing_slot m t
-freed_from_stamp m t = elim (m.next == 1) as (λ b. t ≤ (if b then t else max t (claim_end m (m.next - 1)))) [ true ↦ omega arith | false ↦ omega arith ]
+freed_from_stamp m t = elim (m.next == 1) as (λ b. t ≤ (if b then t else max t (busy_until m (m.next - 1)))) [ true ↦ omega arith | false ↦ omega arith ]
 
-pub freed_from_claim : (m : Member) (t : ℕ) → m.next ≢ 1 → claim_end m (m.next - 1) ≤ freeing_slot m t
+pub freed_from_claim : (m : Member) (t : ℕ) → m.next ≢ 1 → busy_until m (m.next - 1) ≤ freeing_slot m t
 freed_from_claim m t ran =
     let test : (m.next == 1) ≡ false = grind (arith, nat_tests) in
-    subst (λ b. claim_end m (m.next - 1) ≤ (if b then t else max t (claim_end m (m.next - 1)))) (sym test) (omega arith)
+    subst (λ b. busy_until m (m.next - 1) ≤ (if b then t else max t (busy_until m (m.next - 1)))) (sym test) (omega arith)
 
 -- ---- early release
 

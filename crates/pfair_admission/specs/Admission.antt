@@ -100,14 +100,14 @@ all_decisions machine t members (a ∷ more) =
 
 -- first those that are freed go, and then the announcements are decided one by one
 abbrev pub boundary : Machine → ℕ → List Member → List Announcement → List Member
-boundary machine t members heard = all_decided machine t (present t members) heard
+boundary machine t members announced = all_decided machine t (present t members) announced
 
 abbrev pub boundary_decisions : Machine → ℕ → List Member → List Announcement → List Decision
-boundary_decisions machine t members heard = all_decisions machine t (present t members) heard
+boundary_decisions machine t members announced = all_decisions machine t (present t members) announced
 
 -- what was announced, in order
 abbrev pub announcements : List Said → List Announcement
-announcements heard = map (λ a. a.announcement) heard
+announcements announced = map (λ a. a.announcement) announced
 
 -- ---- a quantum
 

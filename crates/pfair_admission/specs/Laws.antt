@@ -5,14 +5,14 @@ use Rattle.pfair_weight.specs.Window.{release_of, starts_job_of}
 use Rattle.pfair_entry.specs.declared.announcement.Announcement.{Announcement}
 use Rattle.pfair_admission.specs.declared.decision.Decision.TheVariants.{Refused}
 use Rattle.pfair_admission.specs.declared.refusal.Refusal.{Refusal}
-use Rattle.pfair_admission.specs.Member.{Member, theta, claim_end, freeing_slot, is_delayed_at, eligible_from}
+use Rattle.pfair_admission.specs.Member.{Member, theta, busy_until, freeing_slot, is_delayed_at, eligible_from}
 use Rattle.pfair_admission.specs.Admission.{Machine, claimed, with_delay, decision, decided, boundary, boundary_decisions, ran}
 use Rattle.pfair_admission.specs.Removal.{NoneFreed}
 use Rattle.pfair_admission.specs.Roster.{NamesApart}
 
 -- a name stands once among the members
 pub record NamesStayApart : Type 0 where
-  pub boundaries : (machine : Machine) (t : ℕ) (members : List Member) (heard : List Announcement) → NamesApart members → NamesApart (boundary machine t members heard)
+  pub boundaries : (machine : Machine) (t : ℕ) (members : List Member) (announced : List Announcement) → NamesApart members → NamesApart (boundary machine t members announced)
   pub quanta : (name : List ℕ) (members : List Member) → NamesApart members → NamesApart (ran name members)
 
 -- the members' weights add to no more than the processors
@@ -20,7 +20,7 @@ abbrev pub HaveRoom : Machine → List Member → Type 0
 HaveRoom machine members = claimed machine.frame members ≤ machine.processors * machine.frame
 
 pub record MembersKeepRoom : Type 0 where
-  pub boundaries : (machine : Machine) (t : ℕ) (members : List Member) (heard : List Announcement) → HaveRoom machine members → HaveRoom machine (boundary machine t members heard)
+  pub boundaries : (machine : Machine) (t : ℕ) (members : List Member) (announced : List Announcement) → HaveRoom machine members → HaveRoom machine (boundary machine t members announced)
   pub quanta : (machine : Machine) (name : List ℕ) (members : List Member) → HaveRoom machine members → HaveRoom machine (ran name members)
 
 -- a refused announcement changes nothing
@@ -33,11 +33,11 @@ pub record JoinedInOrder (t : ℕ) (members : List Member) : Type 0 where
   pub by_now : AllByRecursion (λ m. m.joined ≤ t) members
 
 abbrev pub OrderIsKept : Type 0
-OrderIsKept = (machine : Machine) (t : ℕ) (members : List Member) (heard : List Announcement) → JoinedInOrder t members → JoinedInOrder t (boundary machine t members heard)
+OrderIsKept = (machine : Machine) (t : ℕ) (members : List Member) (announced : List Announcement) → JoinedInOrder t members → JoinedInOrder t (boundary machine t members announced)
 
 -- each announcement gets one decision
 abbrev pub OneDecisionEach : Type 0
-OneDecisionEach = (machine : Machine) (t : ℕ) (members : List Member) (heard : List Announcement) → length (boundary_decisions machine t members heard) ≡ length heard
+OneDecisionEach = (machine : Machine) (t : ℕ) (members : List Member) (announced : List Announcement) → length (boundary_decisions machine t members announced) ≡ length announced
 
 -- an accepted delay moves its subtask and all later ones, and none before
 pub record DelaysMoveLaterSubtasks : Type 0 where
@@ -48,7 +48,7 @@ pub record DelaysMoveLaterSubtasks : Type 0 where
 pub record LeaversHoldTheirClaim : Type 0 where
   pub never_ran : (m : Member) (t : ℕ) → m.next ≡ 1 → freeing_slot m t ≡ t
   pub stamp : (m : Member) (t : ℕ) → t ≤ freeing_slot m t
-  pub claim : (m : Member) (t : ℕ) → m.next ≢ 1 → claim_end m (m.next - 1) ≤ freeing_slot m t
+  pub claim : (m : Member) (t : ℕ) → m.next ≢ 1 → busy_until m (m.next - 1) ≤ freeing_slot m t
 
 -- a subtask may run before its release only where the task is early, the subtask doesn't start a job, and no accepted delay has
 -- exactly its index, and never before the task has joined

@@ -37,15 +37,15 @@ is_departing m = is_some m.freed_at
 -- ---- when its weight is free
 
 -- where subtask i was its last: for a heavy weight the slot after the group deadline, for a light one the deadline and the b-bit
-abbrev pub claim_end : Member → ℕ → ℕ
-claim_end m i =
+abbrev pub busy_until : Member → ℕ → ℕ
+busy_until m i =
     if nat_lt (2 * m.weight.cost) m.weight.period
     then deadline_of m.weight i (theta m i) + b_bit_of m.weight i
     else group_deadline_of m.weight i (theta m i) + 1
 
 -- the freeing slot of a member that departs at t: t itself, where it never ran
 abbrev pub freeing_slot : Member → ℕ → ℕ
-freeing_slot m t = if m.next == 1 then t else max t (claim_end m (m.next - 1))
+freeing_slot m t = if m.next == 1 then t else max t (busy_until m (m.next - 1))
 
 -- ---- when a subtask may run
 

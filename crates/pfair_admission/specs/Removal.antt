@@ -1,9 +1,7 @@
 -- Members that go, and when the first of them goes.
-use Rattle.std.specs.Prelude.{ℕ, ◌+◌, min, false, ◌≡◌, ◌≤◌, not, List, filter, Option, Some, None, IfSome, Any, ⊤}
+use Rattle.std.specs.Prelude.{ℕ, min, false, ◌≡◌, ◌≤◌, not, List, filter, Option, Some, None, IfSome, Any, ⊤}
 use Rattle.std.specs.List.{AllByRecursion}
-use Rattle.pfair_admission.specs.Member.{Member, last_offset}
-use Rattle.pfair_weight.specs.declared.window.TheConstants.{MAX_OFFSET}
-use Rattle.pfair_entry.specs.declared.entry.TheConstants.Entry.{LONGEST_DELAY}
+use Rattle.pfair_admission.specs.Member.{Member}
 use Rattle.pfair_admission.specs.Admission.{is_named, is_freed}
 
 -- all members but the named one
@@ -33,7 +31,3 @@ SomeFreedAt slot members = IfSome slot (λ s. Any (λ m. m.freed_at ≡ Some s) 
 -- who is freed at slot t is gone
 abbrev pub NoneFreed : ℕ → List Member → Type 0
 NoneFreed t members = AllByRecursion (λ m. is_freed t m.freed_at ≡ false) members
-
--- each member has room for one delay more
-abbrev pub EachHasRoom : List Member → Type 0
-EachHasRoom members = AllByRecursion (λ m. last_offset m + LONGEST_DELAY ≤ MAX_OFFSET) members

@@ -1,6 +1,7 @@
 -- What a contract sees of the members.
 use Rattle.std.specs.Prelude.{ℕ, ◌≡◌, ◌+◌, ◌*◌, ◌≤◌, List, Option, map, take}
 use Rattle.std.specs.List.{AllByRecursion, IsDistinct}
+use Rattle.pfair_weight.specs.declared.window.TheConstants.{MAX_OFFSET}
 use Rattle.pfair_entry.specs.Same.{name_eq}
 use Rattle.pfair_entry.specs.declared.announcement.Announcement.{Announcement}
 use Rattle.pfair_entry.specs.declared.entry.TheConstants.Entry.{LAST_SLOT, LONGEST_DELAY}
@@ -15,7 +16,7 @@ pub record Roster : Type 0 where
 
 -- what the frees and some beginning of the announcements leave
 abbrev pub LeavesBeginning : Machine → ℕ → List Member → List Announcement → List Member → Type 0
-LeavesBeginning machine t members heard after = (k : ℕ) × (after ≡ all_decided machine t (present t members) (take k heard))
+LeavesBeginning machine t members announced after = (k : ℕ) × (after ≡ all_decided machine t (present t members) (take k announced))
 
 -- no two members have one name
 abbrev pub NamesApart : List Member → Type 0
@@ -24,3 +25,7 @@ NamesApart members = IsDistinct name_eq (map (λ m. m.name) members)
 -- after so many announcements no member's offsets are past what as many of the longest delays make of the last slot
 abbrev pub EachBounded : ℕ → List Member → Type 0
 EachBounded heard members = AllByRecursion (λ m. last_offset m ≤ LAST_SLOT + LONGEST_DELAY * heard) members
+
+-- each member has room for one delay more
+abbrev pub EachHasRoom : List Member → Type 0
+EachHasRoom members = AllByRecursion (λ m. last_offset m + LONGEST_DELAY ≤ MAX_OFFSET) members

@@ -1,7 +1,7 @@
 //! One incarnation of a task: from its joining slot to its freeing slot.
 ghost use Rattle.std.specs.Prelude.{◌≡◌, ◌≤◌, ◌<◌, ◌+◌, Some, IfOk, OnOk, OnErr, nat_lt};
 ghost use Rattle.pfair_weight.specs.Window.{release_of};
-ghost use Rattle.pfair_admission.specs.Member.{IsMember, last_offset, theta, is_departing, eligible_from, next_key, claim_end, freeing_slot};
+ghost use Rattle.pfair_admission.specs.Member.{IsMember, last_offset, theta, is_departing, eligible_from, next_key, busy_until, freeing_slot};
 ghost use Rattle.pfair_admission.specs.Admission.{newcomer, with_delay, is_freed, departure, late_release, running, quantum_of};
 ghost use Rattle.pfair_admission.specs.Change.{after_departure, after_late_release, after_quantum};
 ghost use Rattle.std.specs.Option.{option_map};
@@ -284,15 +284,15 @@ impl Incarnation {
         if self.next() == 1 {
             slot
         } else {
-            slot.max(self.claim_end(self.next() - 1))
+            slot.max(self.busy_until(self.next() - 1))
         }
     }
 
     // Where the claim ends of a member whose last subtask was `index`.
-    fn claim_end(&self, index: u64) -> u64
+    fn busy_until(&self, index: u64) -> u64
         requires first { 1 ≤ index }
         requires last { index ≤ MAX_INDEX }
-        ensures { result ≡ claim_end self.now index }
+        ensures { result ≡ busy_until self.now index }
     {
         let theta = self.theta(index);
         if self.weight.is_heavy() {

@@ -1,7 +1,10 @@
 //! The laws of members, for every machine, slot and list of members.
 //!
 //! Each function states one law and does nothing.
+ghost use Rattle.std.specs.Prelude.{◌≡◌};
 ghost use Rattle.pfair_admission.specs.Laws.{NamesStayApart, MembersKeepRoom, RefusalsChangeNothing, OrderIsKept, OneDecisionEach, DelaysMoveLaterSubtasks, LeaversHoldTheirClaim, EarlyReleaseKeepsBorders};
+
+use crate::members::Members;
 
 /// Where a name stands once among the members, it does so after each boundary and each quantum.
 pub fn names_stay_apart()
@@ -45,4 +48,11 @@ pub fn leavers_hold_their_claim()
 /// job, and no accepted delay has exactly its index. No subtask may run before its task has joined.
 pub fn early_release_keeps_borders()
     ensures { EarlyReleaseKeepsBorders }
+{}
+
+/// The most processors, the longest frame in slots, and the most announcements that members hear.
+pub fn limits()
+    ensures processors { Members.MAX_PROCESSORS ≡ 64 }
+    ensures frame { Members.MAX_FRAME ≡ 1000000000 }
+    ensures heard { Members.MAX_HEARD ≡ 262144 }
 {}

@@ -6,7 +6,8 @@ ghost use Rattle.pfair_entry.specs.declared.announcement.Announcement.TheVariant
 ghost use Rattle.std.specs.Prelude.{is_some, if◌then◌else◌};
 ghost use Rattle.std.specs.Option.{ForSome, option_map};
 ghost use Rattle.pfair_admission.specs.Admission.{member_named, arrival, departure, late_release, decision, present, decided, running, ran, quantum_of};
-ghost use Rattle.pfair_admission.specs.Removal.{NoneFreed, EachHasRoom};
+ghost use Rattle.pfair_admission.specs.Removal.{NoneFreed};
+ghost use Rattle.pfair_admission.specs.Roster.{EachHasRoom};
 
 use crate::decision::Decision;
 use crate::incarnation::{Incarnation, has_come};

@@ -54,7 +54,7 @@ impl Members {
         requires some_processor { 1 ≤ processors }
         requires few_processors { processors ≤ 64 }
         requires some_slot { 1 ≤ frame }
-        requires short_frame { frame ≤ 1000000000 }
+        requires short_frame { frame ≤ Members.MAX_FRAME }
         ensures { result ≡ record { machine = record { processors = processors; frame = frame }; members = []; heard = 0; last_slot = None } }
     {
         Members {
@@ -84,43 +84,43 @@ impl Members {
     /// [`AllocError`] where memory was refused, which is only where something was announced. The
     /// members are then those that the frees and some beginning of the announcements leave, and all
     /// announcements count as heard.
-    pub fn boundary(&mut self, slot: u64, heard: &[Said]) -> Result<Vec<Decision>, AllocError>
-        requires slot { slot ≤ 1000000 }
+    pub fn boundary(&mut self, slot: u64, announced: &[Said]) -> Result<Vec<Decision>, AllocError>
+        requires slot { slot ≤ Entry.LAST_SLOT }
         requires order { ForSome self.old.last_slot (λ last. last ≤ slot) }
-        requires heard { self.old.heard + length heard.now ≤ 262144 }
-        requires limits { AllByRecursion (λ a. IsWithinLimits a.announcement) heard.now }
-        ensures decisions { IfOk result (λ all. all.items ≡ boundary_decisions self.old.machine slot self.old.members (announcements heard.now)) }
-        ensures members { OnOk result (self.new.members ≡ boundary self.old.machine slot self.old.members (announcements heard.now)) }
-        ensures err { OnErr result (LeavesBeginning self.old.machine slot self.old.members (announcements heard.now) self.new.members) }
-        ensures wanted { OnErr result (0 < length heard.now) }
+        requires heard { self.old.heard + length announced.now ≤ Members.MAX_HEARD }
+        requires limits { AllByRecursion (λ a. IsWithinLimits a.announcement) announced.now }
+        ensures decisions { IfOk result (λ all. all.items ≡ boundary_decisions self.old.machine slot self.old.members (announcements announced.now)) }
+        ensures members { OnOk result (self.new.members ≡ boundary self.old.machine slot self.old.members (announcements announced.now)) }
+        ensures err { OnErr result (LeavesBeginning self.old.machine slot self.old.members (announcements announced.now) self.new.members) }
+        ensures wanted { OnErr result (0 < length announced.now) }
         ensures machine { self.new.machine ≡ self.old.machine }
-        ensures heard { self.new.heard ≡ self.old.heard + length heard.now }
+        ensures heard { self.new.heard ≡ self.old.heard + length announced.now }
         ensures last_slot { self.new.last_slot ≡ Some slot }
     {
-        let heard_after = self.heard + heard.len() as u64;
+        let heard_after = self.heard + announced.len() as u64;
         self.ledger.free(slot);
         self.last_slot = Some(slot);
-        let decisions = self.decide_all(slot, heard);
+        let decisions = self.decide_all(slot, announced);
         self.heard = heard_after;
         decisions
     }
 
     // The announcements are decided one by one.
-    fn decide_all(&mut self, slot: u64, heard: &[Said]) -> Result<Vec<Decision>, AllocError>
+    fn decide_all(&mut self, slot: u64, announced: &[Said]) -> Result<Vec<Decision>, AllocError>
         requires slot { slot ≤ Entry.LAST_SLOT }
         requires present { NoneFreed slot self.old.members }
-        requires heard { self.old.heard + length heard.now ≤ Members.MAX_HEARD }
-        requires limits { AllByRecursion (λ a. IsWithinLimits a.announcement) heard.now }
-        ensures decisions { IfOk result (λ all. all.items ≡ all_decisions self.old.machine slot self.old.members (announcements heard.now)) }
-        ensures members { OnOk result (self.new.members ≡ all_decided self.old.machine slot self.old.members (announcements heard.now)) }
-        ensures err { OnErr result ((k : ℕ) × (self.new.members ≡ all_decided self.old.machine slot self.old.members (take k (announcements heard.now)))) }
-        ensures wanted { OnErr result (0 < length heard.now) }
+        requires heard { self.old.heard + length announced.now ≤ Members.MAX_HEARD }
+        requires limits { AllByRecursion (λ a. IsWithinLimits a.announcement) announced.now }
+        ensures decisions { IfOk result (λ all. all.items ≡ all_decisions self.old.machine slot self.old.members (announcements announced.now)) }
+        ensures members { OnOk result (self.new.members ≡ all_decided self.old.machine slot self.old.members (announcements announced.now)) }
+        ensures err { OnErr result ((k : ℕ) × (self.new.members ≡ all_decided self.old.machine slot self.old.members (take k (announcements announced.now)))) }
+        ensures wanted { OnErr result (0 < length announced.now) }
         ensures machine { self.new.machine ≡ self.old.machine }
-        ensures heard { self.new.heard ≤ self.old.heard + length heard.now }
+        ensures heard { self.new.heard ≤ self.old.heard + length announced.now }
         ensures last_slot { self.new.last_slot ≡ self.old.last_slot }
     {
         let mut all = Vec::new(self.alloc);
-        for said in heard {
+        for said in announced {
             all.push(self.decide(slot, said.announcement)?)?;
         }
         Ok(all)
@@ -148,7 +148,7 @@ impl Members {
     /// It costs a look-up of the name, and a number of steps that grows with the logarithm of the
     /// number of later subtasks that are put off.
     pub fn ran(&mut self, name: &TaskName) -> Option<u64>
-        requires { ForSome (member_named self.old.members name.now) (λ m. m.next ≤ 1000000) }
+        requires { ForSome (member_named self.old.members name.now) (λ m. m.next ≤ Entry.LAST_INDEX) }
         ensures index { result ≡ option_map (λ m. m.next) (running (member_named self.old.members name.now)) }
         ensures members { self.new ≡ (if is_some result then record self.old { members = ran name.now self.old.members } else self.old) }
     {
@@ -164,7 +164,7 @@ impl Members {
     /// It costs one look-up of the name, and a number of steps that grows with the logarithm of the
     /// number of later subtasks that are put off.
     pub fn ran_on(&mut self, name: &TaskName) -> Option<Quantum>
-        requires { ForSome (member_named self.old.members name.now) (λ m. m.next ≤ 1000000) }
+        requires { ForSome (member_named self.old.members name.now) (λ m. m.next ≤ Entry.LAST_INDEX) }
         ensures quantum { result ≡ option_map quantum_of (running (member_named self.old.members name.now)) }
         ensures members { self.new ≡ (if is_some result then record self.old { members = ran name.now self.old.members } else self.old) }
     {
@@ -205,7 +205,7 @@ impl Members {
     /// refused memory included.
     pub fn heard(&self) -> u64
         ensures value { result ≡ self.now.heard }
-        ensures within { result ≤ 262144 }
+        ensures within { result ≤ Members.MAX_HEARD }
     {
         self.heard
     }

@@ -65,17 +65,17 @@ fn decides(
     rt: &impl Abort,
     members: &mut Members,
     slot: u64,
-    heard: &[Said],
+    announced: &[Said],
     expected: &[Decision],
 ) -> Result<(), AllocError>
-    requires { AllByRecursion (λ a. IsWithinLimits a.announcement) heard.now }
+    requires { AllByRecursion (λ a. IsWithinLimits a.announcement) announced.now }
 {
     assert!(rt; slot <= 1_000_000);
     if let Some(last) = members.last_slot() {
         assert!(rt; last <= slot);
     }
-    assert!(rt; heard.len() <= 1000 && members.heard() + heard.len() as u64 <= 262_144);
-    let all = members.boundary(slot, heard)?;
+    assert!(rt; announced.len() <= 1000 && members.heard() + announced.len() as u64 <= 262_144);
+    let all = members.boundary(slot, announced)?;
     assert_eq!(rt; all.as_slice(), expected);
     Ok(())
 }
@@ -85,12 +85,12 @@ fn decides_one(
     rt: &impl Abort,
     members: &mut Members,
     slot: u64,
-    heard: Said,
+    announced: Said,
     expected: Decision,
 ) -> Result<(), AllocError>
-    requires { IsWithinLimits heard.announcement }
+    requires { IsWithinLimits announced.announcement }
 {
-    decides(rt, members, slot, [heard].as_slice(), [expected].as_slice())
+    decides(rt, members, slot, [announced].as_slice(), [expected].as_slice())
 }
 
 // Gives the named member a quantum, where it has more subtasks.
@@ -118,7 +118,7 @@ fn refuses_arrivals_in_order(rt: &impl Abort, alloc: Global) -> Result<(), Alloc
         Decision::Refused(Refusal::PeriodOutsideFrame),
         Decision::Refused(Refusal::NoRoom),
     ];
-    decides(rt, &mut members, 0, heard.as_slice(), expected.as_slice())
+    decides(rt, &mut members, 0, announced.as_slice(), expected.as_slice())
 }
 
 fn holds_the_weight_of_a_leaver(rt: &impl Abort, alloc: Global) -> Result<(), AllocError> {
@@ -168,7 +168,7 @@ fn frees_at_the_stamp(rt: &impl Abort, alloc: Global) -> Result<(), AllocError> 
         arrives(rt, "a", 1, 1, false),
     ];
     let expected = [Decision::Admitted, FREED_AT_ONCE, Decision::Admitted];
-    decides(rt, &mut members, 0, heard.as_slice(), expected.as_slice())
+    decides(rt, &mut members, 0, announced.as_slice(), expected.as_slice())
 }
 
 fn refuses_what_departs(rt: &impl Abort, alloc: Global) -> Result<(), AllocError> {
@@ -195,7 +195,7 @@ fn refuses_what_departs(rt: &impl Abort, alloc: Global) -> Result<(), AllocError
         Decision::Refused(Refusal::AlreadyDeparting),
         Decision::Refused(Refusal::NameTaken),
     ];
-    decides(rt, &mut members, 1, heard.as_slice(), expected.as_slice())?;
+    decides(rt, &mut members, 1, announced.as_slice(), expected.as_slice())?;
     decides_one(
         rt,
         &mut members,
@@ -317,7 +317,7 @@ fn adds_up_delays(rt: &impl Abort, alloc: Global) -> Result<(), AllocError> {
         is_late(rt, "a", 2, 2),
     ];
     let expected = [Decision::Admitted, Decision::Delayed, Decision::Delayed];
-    decides(rt, &mut members, 0, heard.as_slice(), expected.as_slice())?;
+    decides(rt, &mut members, 0, announced.as_slice(), expected.as_slice())?;
     is_next(rt, &members, &a, 1, 0, 2);
     assert_eq!(rt; runs(&mut members, &a), Some(1));
     is_next(rt, &members, &a, 2, 4, 6);
@@ -360,7 +360,7 @@ fn weighs_a_late_release_by_its_own_offset(
     let (a, mut members) = (name(rt, "a"), Members::new(alloc, 1, 2));
     let heard = [arrives(rt, "a", 1, 2, false), is_late(rt, "a", 3, 4)];
     let expected = [Decision::Admitted, Decision::Delayed];
-    decides(rt, &mut members, 0, heard.as_slice(), expected.as_slice())?;
+    decides(rt, &mut members, 0, announced.as_slice(), expected.as_slice())?;
     for (slot, expected) in [
         (6, Decision::Delayed),
         (9, Decision::Delayed),
@@ -378,7 +378,7 @@ fn waits_for_its_own_delay_alone(rt: &impl Abort, alloc: Global) -> Result<(), A
     let (a, mut members) = (name(rt, "a"), Members::new(alloc, 1, 4));
     let heard = [arrives(rt, "a", 3, 4, true), is_late(rt, "a", 2, 3)];
     let expected = [Decision::Admitted, Decision::Delayed];
-    decides(rt, &mut members, 0, heard.as_slice(), expected.as_slice())?;
+    decides(rt, &mut members, 0, announced.as_slice(), expected.as_slice())?;
     for (index, begins_at, deadline) in [(1, 0, 2), (2, 4, 6), (3, 0, 7), (4, 7, 9)] {
         is_next(rt, &members, &a, index, begins_at, deadline);
         assert_eq!(rt; runs(&mut members, &a), Some(index));
@@ -399,7 +399,7 @@ fn keeps_the_order_of_admission(rt: &impl Abort, alloc: Global) -> Result<(), Al
         rt,
         &mut members,
         0,
-        heard.as_slice(),
+        announced.as_slice(),
         [
             Decision::Admitted,
             Decision::Admitted,
@@ -448,17 +448,17 @@ fn arrives_light(rt: &impl Abort, place: u8) -> Said
 
 fn admits_as_many_as_fit(rt: &impl Abort, alloc: Global) -> Result<(), AllocError> {
     let mut members = Members::new(alloc, 1, 199);
-    let mut heard = Vec::with_capacity(alloc, 200)?;
+    let mut announced = Vec::with_capacity(alloc, 200)?;
     let mut expected = Vec::with_capacity(alloc, 200)?;
     for place in 0..200_u8 {
-        heard.push(arrives_light(rt, place))?;
+        announced.push(arrives_light(rt, place))?;
         expected.push(if place < 199 {
             Decision::Admitted
         } else {
             Decision::Refused(Refusal::NoRoom)
         })?;
     }
-    decides(rt, &mut members, 0, &heard, &expected)?;
+    decides(rt, &mut members, 0, &announced, &expected)?;
     assert_eq!(rt; (members.len(), members.heard()), (199, 200));
     let (last, _member) = members.at(198).expect(rt, "a member");
     assert!(rt; last.as_bytes() == b"t198".as_slice());
@@ -483,7 +483,7 @@ fn leaves_a_beginning(rt: &impl Abort, alloc: Global) -> Result<(), AllocError> 
         is_late(rt, "b", 2, 5),
         departs(rt, "a"),
     ];
-    let all = members.boundary(7, heard.as_slice());
+    let all = members.boundary(7, announced.as_slice());
     let offset = members.get(&name(rt, "b")).map(|b| b.theta(2));
     assert!(rt; BEGINNINGS.as_slice().contains(&(members.len(), offset)));
     assert_eq!(rt; (members.heard(), members.last_slot()), (4, Some(7)));

@@ -13,7 +13,7 @@ use Rattle.pfair_entry.specs.Same.{entry_eq}
 use Rattle.pfair_entry.specs.Exact.{entry_exact}
 use Rattle.pfair_replica.specs.Replica.{Replica, with_entry, empty_replica, join, Below, Untorn}
 use Rattle.pfair_replica.specs.HeldRows.{HeldRows, replica_of, IsShape, SameShape}
-use Rattle.pfair_replica.specs.Faults.{IsMergeFaultOf, more_is_not_below}
+use Rattle.pfair_replica.specs.Faults.{HoldsMore, IsMergeFaultOf}
 use Rattle.pfair_replica.specs.declared.answer.MergeFault.{MergeFault}
 use Rattle.pfair_replica.specs.declared.answer.MergeFault.TheVariants.{OtherShape, Memory}
 use Rattle.pfair_replica.specs.HeldAfter.{held_after}
@@ -139,10 +139,10 @@ in_order_fresh m c proc x w shape is cells known row = rw is (record {
   noted = λ k n. tt;
 })
 
--- a merge of equal shapes wants memory only for what is lacking
-pub lacks : (x y : HeldRows) (f : MergeFault) → SameShape x y → IsMergeFaultOf x y f → Below (replica_of y) (replica_of x) → ⊥
-lacks x y OtherShape same is = absurd (is same)
-lacks x y Memory same is = more_is_not_below x y is.1
+-- a merge of equal shapes wants memory only for a key at which nothing is held
+pub holds_more : (x y : HeldRows) (f : MergeFault) → SameShape x y → IsMergeFaultOf x y f → HoldsMore x y
+holds_more x y OtherShape same is = absurd (is same)
+holds_more x y Memory same is = is.1
 
 -- a key whose note knows nothing isn't held
 pub unknown_missing : (h : Held Logged) (known : Option Logged) → IsNoted h known → known ≡ None → h ≡ None

@@ -9,7 +9,7 @@ use Rattle.pfair_board.specs.declared.run.Run.{Run}
 use Rattle.pfair_board.specs.declared.worked.Worked.{Worked}
 use Rattle.pfair_board.specs.Boards.{BoardFrame}
 use Rattle.pfair_board.specs.Desks.{DeskView, IsDeskOf}
-use Rattle.pfair_table.specs.Planned.{rows, place_rows}
+use Rattle.pfair_table.specs.Planned.{as_tables, as_places}
 
 -- the desk of row k of this board, which holds the script's replica
 pub record IsFullDesk (r : LoggedRun) (b : BoardFrame) (k : ℕ) (d : DeskView) : Type 0 where
@@ -19,11 +19,11 @@ pub record IsFullDesk (r : LoggedRun) (b : BoardFrame) (k : ℕ) (d : DeskView) 
 
 -- the tables are the plan of the script's replica
 abbrev pub IsFullRun : LoggedRun → Run → Type 0
-IsFullRun r run = rows run.tables ≡ plan r.settings (replica_of_logs r.logs)
+IsFullRun r run = as_tables run.tables ≡ plan r.settings (replica_of_logs r.logs)
 
 -- the places are those of the tables
 abbrev pub IsPlacedRun : Run → Type 0
-IsPlacedRun run = place_rows run.places ≡ places_of (rows run.tables)
+IsPlacedRun run = as_places run.places ≡ places_of (as_tables run.tables)
 
 -- A board as large as the script, with the desk of each of its rows, which holds the script's replica, and a run of each, whose tables
 -- are the plan of it, and whose places are those of the tables; and the script's frontier doesn't stop the plan.

@@ -4,7 +4,8 @@ ghost use Rattle.once_cell.specs.Once.{cell_name};
 ghost use Rattle.pfair_lattice.specs.declared.flat.Flat.TheVariants.{One};
 ghost use Rattle.pfair_entry.specs.Entry.{Logged};
 ghost use Rattle.pfair_replica.specs.HeldRows.{IsShape, IsHeldRows, held, replica_of};
-ghost use Rattle.pfair_replica.specs.Replica.{Below, Untorn};
+ghost use Rattle.pfair_replica.specs.Faults.{HoldsMore};
+ghost use Rattle.pfair_replica.specs.Replica.{Untorn};
 ghost use Rattle.pfair_board.specs.Boards.{BoardFrame, IsKey};
 ghost use Rattle.pfair_board.specs.Desks.{DeskView, state_of, IsDeskOf, OfOneBoard, IsPartlyMet, GrownDesk, Keeps, fresh_desk, learned, numbered, met};
 ghost use Rattle.pfair_board.specs.Faults.{IsLookFaultOf, IsPublishFaultOf};
@@ -171,13 +172,13 @@ impl Desk {
     /// holds one.
     ///
     /// # Errors
-    /// `AllocError` where memory was wanted and refused, which comes only where the other holds something that this desk lacks: then a
-    /// part of that is joined in, and another meet gives what one would have given.
+    /// `AllocError` where memory was wanted and refused, which comes only where the other holds something at a key at which this desk holds
+    /// nothing: then a part of that is joined in, and another meet gives what one would have given.
     pub fn meet(&mut self, other: &Desk) -> Result<(), AllocError>
         requires own { OfOneBoard self.old other.now }
         ensures ok { OnOk result (state_of self.new ≡ met (state_of self.old) (state_of other.now)) }
         ensures partly { OnErr result (IsPartlyMet self.old other.now self.new) }
-        ensures lacking { OnErr result (Below (replica_of other.now.replica) (replica_of self.old.replica) → ⊥) }
+        ensures lacking { OnErr result (HoldsMore self.old.replica other.now.replica) }
         ensures agree { Untorn (met (state_of self.old) (state_of other.now)).replica }
         ensures kept { GrownDesk self.old self.new }
         ensures own { OfOneBoard self.new other.now }

@@ -4,7 +4,7 @@ ghost use Rattle.std.specs.Result.{ForOk};
 ghost use Rattle.pfair_replica.specs.HeldRows.{replica_of};
 ghost use Rattle.pfair_table.specs.Table.{plan};
 ghost use Rattle.pfair_table.specs.Places.{places_of};
-ghost use Rattle.pfair_table.specs.Planned.{rows, place_rows};
+ghost use Rattle.pfair_table.specs.Planned.{as_tables, as_places};
 
 use crate::desk::Desk;
 use crate::run::{Run, RunFault};
@@ -16,6 +16,6 @@ pub(crate) struct Worked {
     pub(crate) settings: Settings,
     pub(crate) desk: Desk,
     pub(crate) run: Result<Run, RunFault>,
-    pub(crate) ghost planned: { ForOk run (λ r. rows r.tables ≡ plan settings (replica_of desk.replica)) },
-    pub(crate) ghost placed: { ForOk run (λ r. place_rows r.places ≡ places_of (rows r.tables)) },
+    pub(crate) ghost planned: { ForOk run (λ r. as_tables r.tables ≡ plan settings (replica_of desk.replica)) },
+    pub(crate) ghost placed: { ForOk run (λ r. as_places r.places ≡ places_of (as_tables r.tables)) },
 }

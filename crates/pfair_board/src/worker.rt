@@ -4,7 +4,7 @@ ghost use Rattle.pfair_replica.specs.HeldRows.{replica_of};
 ghost use Rattle.pfair_replica.specs.Replica.{frontier, has_torn};
 ghost use Rattle.pfair_table.specs.Table.{plan};
 ghost use Rattle.pfair_table.specs.Places.{places_of};
-ghost use Rattle.pfair_table.specs.Planned.{rows, place_rows};
+ghost use Rattle.pfair_table.specs.Planned.{as_tables, as_places};
 ghost use Rattle.pfair_table.specs.Refinement.{IsWholePlan};
 ghost use Rattle.pfair_board.specs.Desks.{IsDeskOf, GrownDesk};
 ghost use Rattle.pfair_board.specs.Logs.{HoldsLog, IsBehind};
@@ -59,8 +59,8 @@ pub fn run_worker<P: Wait, R: Ready, G: Gate>(
     ensures grown { GrownDesk desk.old desk.new }
     ensures log { OnOk result (HoldsLog desk.new desk.old.next_number log.now) }
     ensures next { OnOk result (desk.new.next_number ≡ desk.old.next_number + length log.now) }
-    ensures plan { IfOk result (λ run. rows run.tables ≡ plan settings (replica_of desk.new.replica)) }
-    ensures places { IfOk result (λ run. place_rows run.places ≡ places_of (rows run.tables)) }
+    ensures plan { IfOk result (λ run. as_tables run.tables ≡ plan settings (replica_of desk.new.replica)) }
+    ensures places { IfOk result (λ run. as_places run.places ≡ places_of (as_tables run.tables)) }
     ensures fault { IfErr result (IsWorkerFault G.may_give_up desk.new desk.old.next_number log.now) }
     ensures own { IsDeskOf desk.new board.now }
 {

@@ -2,8 +2,11 @@
 //!
 //! Each function states one law and does nothing.
 
+ghost use Rattle.std.specs.Prelude.{◌≡◌};
 ghost use Rattle.pfair_lag.specs.Laws.{LagsKeepWindows, LagsKeepDeadlines, OneFirstMiss, OneFirstLate, MissesAreOut, LateMissDeadlines};
 ghost use Rattle.pfair_lag.specs.Runs.{CountsSinceEntering};
+
+use crate::MAX_HORIZON;
 
 /// The lag stays strictly between -1 and 1 up to a horizon exactly where each subtask that ran did so in its window, and
 /// each whose deadline is at most the horizon ran (Baruah, Cohen, Plaxton and Varvel 1996).
@@ -33,4 +36,9 @@ pub fn first_late_are_one()
 /// list names it. It goes by no earlier slot, also where the task was there before and left.
 pub fn lags_count_since_entering()
     ensures { CountsSinceEntering }
+{}
+
+/// How far schedules are tested, in slots.
+pub fn limits()
+    ensures { MAX_HORIZON ≡ 1000000 }
 {}

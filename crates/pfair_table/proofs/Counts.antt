@@ -83,15 +83,15 @@ counted_effect t tables e members (Late name index by) Admitted all = all
 counted_effect t tables e members (Late name index by) (Departing slot) all = all
 counted_effect t tables e members (Late name index by) (Refused why) all = all
 
-counted_decided : (mc : Machine) (t : ℕ) (tables : List Table) → length tables ≡ t → (heard : List Announcement) (members : List Member) → AllByRecursion (IsCounted t tables) members → AllByRecursion (IsCounted t tables) (all_decided mc t members heard)
+counted_decided : (mc : Machine) (t : ℕ) (tables : List Table) → length tables ≡ t → (announced : List Announcement) (members : List Member) → AllByRecursion (IsCounted t tables) members → AllByRecursion (IsCounted t tables) (all_decided mc t members announced)
 counted_decided mc t tables e [] members all = all
-counted_decided mc t tables e (a ∷ heard) members all =
-    counted_decided mc t tables e heard (decided mc t members a)
+counted_decided mc t tables e (a ∷ announced) members all =
+    counted_decided mc t tables e announced (decided mc t members a)
     (each_filter (IsCounted t tables) (λ m. not (is_freed t m.freed_at)) (effect t members a (decision mc t members a)) (counted_effect t tables e members a (decision mc t members a) all))
 
-counted_at : (s : Settings) (t : ℕ) (heard : List Said) (h : History) → length h.tables ≡ t → AllByRecursion (λ m. m.joined ≤ t) h.members → AllByRecursion (IsCounted t h.tables) (members_at s t heard h)
-counted_at s t heard h e all =
-    counted_decided (machine s) t h.tables e (announcements heard) (present t (counted h.tables h.members))
+counted_at : (s : Settings) (t : ℕ) (announced : List Said) (h : History) → length h.tables ≡ t → AllByRecursion (λ m. m.joined ≤ t) h.members → AllByRecursion (IsCounted t h.tables) (members_at s t announced h)
+counted_at s t announced h e all =
+    counted_decided (machine s) t h.tables e (announcements announced) (present t (counted h.tables h.members))
     (each_filter (IsCounted t h.tables) (λ m. not (is_freed t m.freed_at)) (counted h.tables h.members)
     (each_map (λ m. m.joined ≤ t) (IsCounted t h.tables) (counted_one h.tables) (λ m l. record { by_now = l; next_is = refl }) h.members all))
 

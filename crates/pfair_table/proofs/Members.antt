@@ -84,15 +84,15 @@ named_effect mc t members (Late name index by) a = named_late t members name ind
 pub named_present : (t : ℕ) (members : List Member) → Named members → Named (present t members)
 named_present t members a = apart_filter label (λ m. not (is_freed t m.freed_at)) members a
 
-pub named_decided : (mc : Machine) (t : ℕ) (heard : List Announcement) (members : List Member) → Named members → Named (all_decided mc t members heard)
+pub named_decided : (mc : Machine) (t : ℕ) (announced : List Announcement) (members : List Member) → Named members → Named (all_decided mc t members announced)
 named_decided mc t [] members a = a
-named_decided mc t (said ∷ heard) members a = named_decided mc t heard (decided mc t members said) (named_present t (effect t members said (decision mc t members said)) (named_effect mc t members said a))
+named_decided mc t (said ∷ announced) members a = named_decided mc t announced (decided mc t members said) (named_present t (effect t members said (decision mc t members said)) (named_effect mc t members said a))
 
-pub named_boundary : (mc : Machine) (t : ℕ) (members : List Member) (heard : List Announcement) → Named members → Named (boundary mc t members heard)
-named_boundary mc t members heard a = named_decided mc t heard (present t members) (named_present t members a)
+pub named_boundary : (mc : Machine) (t : ℕ) (members : List Member) (announced : List Announcement) → Named members → Named (boundary mc t members announced)
+named_boundary mc t members announced a = named_decided mc t announced (present t members) (named_present t members a)
 
-pub named_at : (s : Settings) (t : ℕ) (heard : List Said) (h : History) → Named h.members → Named (members_at s t heard h)
-named_at s t heard h a = named_boundary (machine s) t (counted h.tables h.members) (announcements heard) (apart_map label label (counted_one h.tables) (λ m. refl) h.members a)
+pub named_at : (s : Settings) (t : ℕ) (announced : List Said) (h : History) → Named h.members → Named (members_at s t announced h)
+named_at s t announced h a = named_boundary (machine s) t (counted h.tables h.members) (announcements announced) (apart_map label label (counted_one h.tables) (λ m. refl) h.members a)
 
 pub named_history : (s : Settings) (x : Replica) (t : ℕ) → Named (history s x t).members
 named_history s x zero = tt

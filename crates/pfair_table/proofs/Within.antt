@@ -10,7 +10,7 @@ use Rattle.pfair_entry.specs.Entry.{Logged, IsEntry, IsWithinLimits}
 use Rattle.pfair_replica.specs.Replica.{Replica, IsReplica, run_on, run_from, sound_beginning, numbers_below, said_by, said_in, said}
 
 abbrev pub AreWithinLimits : List Said → Type 0
-AreWithinLimits heard = AllByRecursion (λ a. IsWithinLimits a.announcement) heard
+AreWithinLimits announced = AllByRecursion (λ a. IsWithinLimits a.announcement) announced
 
 both_within : (xs ys : List Said) → AreWithinLimits xs → AreWithinLimits ys → AreWithinLimits (xs ++ ys)
 both_within [] ys a b = b

@@ -11,12 +11,12 @@ pub record PlannedSlots : Type 0 where
   pub decided : List (List Decided)
 
 -- tables, slot by slot
-abbrev pub rows : Vec (Vec Pick Global) Global → List Table
-rows tables = map (λ (t : Vec Pick Global). t.items) tables.items
+abbrev pub as_tables : Vec (Vec Pick Global) Global → List Table
+as_tables tables = map (λ (t : Vec Pick Global). t.items) tables.items
 
 -- places, slot by slot
-abbrev pub place_rows : Vec (Vec ℕ Global) Global → List (List ℕ)
-place_rows places = map (λ (p : Vec ℕ Global). p.items) places.items
+abbrev pub as_places : Vec (Vec ℕ Global) Global → List (List ℕ)
+as_places places = map (λ (p : Vec ℕ Global). p.items) places.items
 
 -- decisions, slot by slot
 abbrev pub decided_rows : Vec (Vec Decided Global) Global → List (List Decided)

@@ -30,7 +30,7 @@ course_of d = record { held = replica_of d.held; tables = d.tables; decided = d.
 -- what a plan answers where nothing is torn or spent
 abbrev pub IsStepOf : Dispatch → Step → Type 0
 IsStepOf d (Planned slot) = (slot ≡ length d.tables) × IsTrue (is_plannable d.settings (replica_of d.held) slot)
-IsStepOf d (Waiting mark) = (length d.tables < d.settings.slots) × (mark ≡ frontier (replica_of d.held)) × (mark ≤ length d.tables)
+IsStepOf d (Waiting from) = (length d.tables < d.settings.slots) × (from ≡ frontier (replica_of d.held)) × (from ≤ length d.tables)
 IsStepOf d Done = d.settings.slots ≤ length d.tables
 
 -- why a plan is refused
@@ -55,7 +55,7 @@ IsReopenFault d Memory = has_torn (replica_of d.held) ≡ false
 -- nothing more can be planned of what is held
 abbrev pub IsLast : Step → Type 0
 IsLast (Planned slot) = ⊥
-IsLast (Waiting mark) = Unit {0}
+IsLast (Waiting from) = Unit {0}
 IsLast Done = Unit {0}
 
 -- the tables are the whole plan of what is held, and the decisions are those of its slots

@@ -11,7 +11,7 @@ ghost use Rattle.pfair_table.specs.Events.{start, happens};
 ghost use Rattle.pfair_table.specs.Laws.{IsOf};
 ghost use Rattle.pfair_table.specs.Table.{table, decisions};
 ghost use Rattle.std.specs.List.{AllByRecursion};
-ghost use Rattle.pfair_table.specs.Planned.{rows, place_rows};
+ghost use Rattle.pfair_table.specs.Planned.{as_tables, as_places};
 ghost use Rattle.pfair_table.specs.Places.{places_of};
 ghost use Rattle.pfair_table.specs.PlaceLaws.{IsFit, HavePlacedAlike};
 ghost use Rattle.pfair_table.specs.Readings.{AreReadingsOf};
@@ -182,8 +182,8 @@ impl<R: Ready> Dispatcher<R> {
 
     /// The tables of all slots that are planned, and their places, with no copy.
     pub fn into_schedule(self) -> Schedule
-        ensures tables { rows result.tables ≡ self.tables }
-        ensures places { place_rows result.places ≡ places_of self.tables }
+        ensures tables { as_tables result.tables ≡ self.tables }
+        ensures places { as_places result.places ≡ places_of self.tables }
     {
         self.planned.into_schedule()
     }
@@ -262,7 +262,7 @@ impl<R: Ready> Dispatcher<R> {
         if let Some(torn) = self.replica.first_torn() {
             return Err(PlanFault::Torn(torn));
         }
-        match replay::<R>(
+        match plan_again::<R>(
             self.alloc,
             self.settings,
             &self.replica,
@@ -308,15 +308,15 @@ fn plan_onto<R: Ready>(
 {
     let slot = planned.len() as u64;
     readings.read_on(replica)?;
-    let heard = readings.said(slot)?;
-    let next = plan_slot(alloc, &heard, members, ready, settings.processors(), slot)?;
+    let announced = readings.said(slot)?;
+    let next = plan_slot(alloc, &announced, members, ready, settings.processors(), slot)?;
     let places = next_places(alloc, planned, &next.table)?;
     planned.push(next.table, places, next.decided)?;
     Ok(())
 }
 
 // The members and the ready structure after so many slots.
-fn replay<R: Ready>(
+fn plan_again<R: Ready>(
     alloc: Global,
     settings: Settings,
     replica: &Replica,

@@ -1,8 +1,12 @@
 //! The laws of agreement, over all replicas and all events. Each function does nothing: its contract is the law.
 
+ghost use Rattle.std.specs.Prelude.{◌≡◌};
 ghost use Rattle.pfair_table.specs.EventLaws.{EventsLeaveTheLeast};
 ghost use Rattle.pfair_table.specs.Laws.{OneTable, PlansGoOn, OnePlan, TablesAreOrdered, OneSchedule, PlanSoFar, RunsAreCounted};
 ghost use Rattle.pfair_table.specs.PlaceLaws.{PlacesAreKept, PlacesFollowTables, OnePlacing};
+
+use crate::script::Script;
+use crate::settings::Settings;
 
 /// Agreement: two replicas no number of which has two contents give every slot below both frontiers one table and the
 /// same decisions.
@@ -62,4 +66,12 @@ pub fn places_follow_tables()
 /// have planned has the same places.
 pub fn one_placing()
     ensures { OnePlacing }
+{}
+
+/// The most processors and slots of a run, its longest frame in slots, and the most entries of a log.
+pub fn limits()
+    ensures processors { Settings.MAX_PROCESSORS ≡ 64 }
+    ensures frame { Settings.MAX_FRAME ≡ 1000000000 }
+    ensures slots { Settings.MAX_SLOTS ≡ 1000000 }
+    ensures log { Script.LONGEST_LOG ≡ 4096 }
 {}

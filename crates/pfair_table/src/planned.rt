@@ -3,7 +3,7 @@
 ghost use Rattle.std.specs.Prelude.{◌≡◌, ◌++◌, ◌∷◌, [], OnOk, OnErr, length, slice_get};
 ghost use Rattle.std.specs.Option.{option_map};
 ghost use Rattle.pfair_table.specs.Places.{places_of};
-ghost use Rattle.pfair_table.specs.Planned.{last_or, rows, place_rows};
+ghost use Rattle.pfair_table.specs.Planned.{last_or, as_tables, as_places};
 
 use crate::pick::{Decided, Pick};
 use std::alloc::{AllocError, Global};
@@ -29,13 +29,13 @@ pub(crate) struct Planned {
 impl Model for Planned {
     ghost use Rattle.std.specs.Prelude.{◌≡◌, length};
     ghost use Rattle.pfair_table.specs.Places.{places_of};
-    ghost use Rattle.pfair_table.specs.Planned.{PlannedSlots, rows, place_rows, decided_rows};
+    ghost use Rattle.pfair_table.specs.Planned.{PlannedSlots, as_tables, as_places, decided_rows};
 
     ghost Value = { PlannedSlots };
 
-    ghost view = { λ p. record { tables = rows p.tables; decided = decided_rows p.decided } };
+    ghost view = { λ p. record { tables = as_tables p.tables; decided = decided_rows p.decided } };
 
-    ghost invariant = { λ p. (length p.tables.items ≡ length p.decided.items) × (place_rows p.places ≡ places_of (rows p.tables)) };
+    ghost invariant = { λ p. (length p.tables.items ≡ length p.decided.items) × (as_places p.places ≡ places_of (as_tables p.tables)) };
 }
 
 impl Planned {
@@ -123,8 +123,8 @@ impl Planned {
 
     /// All tables and their places.
     pub(crate) fn into_schedule(self) -> Schedule
-        ensures tables { rows result.tables ≡ self.tables }
-        ensures places { place_rows result.places ≡ places_of self.tables }
+        ensures tables { as_tables result.tables ≡ self.tables }
+        ensures places { as_places result.places ≡ places_of self.tables }
     {
         Schedule {
             tables: self.tables,

@@ -13,7 +13,7 @@ ghost use Rattle.pfair_table.specs.Queue.{IsQueue, IsQueueBut, IsQueueWithout, I
 
 use crate::pick::{Decided, Pick};
 use pfair_admission::Members;
-use pfair_entry::Said;
+use pfair_entry::{Entry, Said};
 use pfair_order::Key;
 use pfair_ready::Ready;
 use pfair_weight::TaskName;
@@ -31,17 +31,17 @@ pub(crate) fn decide_all(
     alloc: Global,
     members: &mut Members,
     slot: u64,
-    heard: &[Said],
+    announced: &[Said],
 ) -> Result<Vec<Decided>, AllocError>
-    requires slot { slot ≤ 1000000 }
+    requires slot { slot ≤ Entry.LAST_SLOT }
     requires order { ForSome members.old.last_slot (λ last. last ≤ slot) }
-    requires heard { members.old.heard + length heard.now ≤ 262144 }
-    requires limits { AllByRecursion (λ a. IsWithinLimits a.announcement) heard.now }
-    ensures decided { IfOk result (λ all. all.items ≡ with_decisions heard.now (boundary_decisions members.old.machine slot members.old.members (announcements heard.now))) }
-    ensures members { OnOk result (members.new ≡ record members.old { members = boundary members.old.machine slot members.old.members (announcements heard.now); heard = members.old.heard + length heard.now; last_slot = Some slot }) }
+    requires heard { members.old.heard + length announced.now ≤ Members.MAX_HEARD }
+    requires limits { AllByRecursion (λ a. IsWithinLimits a.announcement) announced.now }
+    ensures decided { IfOk result (λ all. all.items ≡ with_decisions announced.now (boundary_decisions members.old.machine slot members.old.members (announcements announced.now))) }
+    ensures members { OnOk result (members.new ≡ record members.old { members = boundary members.old.machine slot members.old.members (announcements announced.now); heard = members.old.heard + length announced.now; last_slot = Some slot }) }
 {
-    let decisions = members.boundary(slot, heard)?;
-    heard
+    let decisions = members.boundary(slot, announced)?;
+    announced
         .iter()
         .zip(decisions.iter())
         .map(|(said, decision)| Decided {
@@ -78,13 +78,13 @@ pub(crate) fn tell_of<R: Ready>(
 pub(crate) fn tell_ready<R: Ready>(
     ready: &mut R,
     members: &Members,
-    heard: &[Said],
+    announced: &[Said],
 ) -> Result<(), AllocError>
-    requires { IsQueueBut heard.now members.now.members (R.held ready.old) }
+    requires { IsQueueBut announced.now members.now.members (R.held ready.old) }
     ensures queue { OnOk result (IsQueue members.now.members (R.held ready.new)) }
     ensures time { R.now ready.new ≡ R.now ready.old }
 {
-    for said in heard {
+    for said in announced {
         tell_of(ready, members, &said.announcement.name())?;
     }
     Ok(())
@@ -130,7 +130,7 @@ pub(crate) fn give_quanta<R: Ready>(
     requires time { R.now ready.old ≤ slot }
     requires named { Named members.old.members }
     requires queue { IsQueue members.old.members (R.held ready.old) }
-    requires few { AllByRecursion (λ m. m.next ≤ 1000000) members.old.members }
+    requires few { AllByRecursion (λ m. m.next ≤ Entry.LAST_INDEX) members.old.members }
     ensures table { IfOk result (λ table. table.items ≡ map (pick members.old.members) (first_by_rank processors (eligible slot members.old.members))) }
     ensures members { IfOk result (λ table. members.new ≡ record members.old { members = all_ran table.items members.old.members }) }
     ensures queue { OnOk result (IsQueue members.new.members (R.held ready.new)) }
@@ -143,25 +143,25 @@ pub(crate) fn give_quanta<R: Ready>(
 /// One slot, by what is said at it.
 pub(crate) fn plan_slot<R: Ready>(
     alloc: Global,
-    heard: &[Said],
+    announced: &[Said],
     members: &mut Members,
     ready: &mut R,
     processors: u8,
     slot: u64,
 ) -> Result<SlotPlan, AllocError>
-    requires slot { slot < 1000000 }
+    requires slot { slot < Entry.LAST_SLOT }
     requires steady { IsSteady slot members.old (R.now ready.old) (R.held ready.old) }
-    requires heard { members.old.heard + length heard.now ≤ 262144 }
-    requires limits { AllByRecursion (λ a. IsWithinLimits a.announcement) heard.now }
-    ensures decided { IfOk result (λ p. p.decided.items ≡ with_decisions heard.now (boundary_decisions members.old.machine slot members.old.members (announcements heard.now))) }
-    ensures table { IfOk result (λ p. let world = boundary members.old.machine slot members.old.members (announcements heard.now) in p.table.items ≡ map (pick world) (first_by_rank processors (eligible slot world))) }
-    ensures members { IfOk result (λ p. members.new.members ≡ all_ran p.table.items (boundary members.old.machine slot members.old.members (announcements heard.now))) }
+    requires heard { members.old.heard + length announced.now ≤ Members.MAX_HEARD }
+    requires limits { AllByRecursion (λ a. IsWithinLimits a.announcement) announced.now }
+    ensures decided { IfOk result (λ p. p.decided.items ≡ with_decisions announced.now (boundary_decisions members.old.machine slot members.old.members (announcements announced.now))) }
+    ensures table { IfOk result (λ p. let world = boundary members.old.machine slot members.old.members (announcements announced.now) in p.table.items ≡ map (pick world) (first_by_rank processors (eligible slot world))) }
+    ensures members { IfOk result (λ p. members.new.members ≡ all_ran p.table.items (boundary members.old.machine slot members.old.members (announcements announced.now))) }
     ensures machine { OnOk result (members.new.machine ≡ members.old.machine) }
-    ensures heard { OnOk result (members.new.heard ≡ members.old.heard + length heard.now) }
+    ensures heard { OnOk result (members.new.heard ≡ members.old.heard + length announced.now) }
     ensures steady { OnOk result (IsSteady (slot + 1) members.new (R.now ready.new) (R.held ready.new)) }
 {
-    let decided = decide_all(alloc, members, slot, heard)?;
-    tell_ready(ready, members, heard)?;
+    let decided = decide_all(alloc, members, slot, announced)?;
+    tell_ready(ready, members, announced)?;
     let table = give_quanta(alloc, ready, members, processors, slot)?;
     Ok(SlotPlan { table, decided })
 }

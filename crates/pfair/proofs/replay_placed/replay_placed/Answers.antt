@@ -5,7 +5,7 @@ use Rattle.std.specs.Io.KnownBytes.{Appends}
 use Rattle.pfair_text.specs.Output.{TakesPrefix}
 use Rattle.pfair_table.specs.declared.pick.Pick.{Pick}
 use Rattle.pfair_table.specs.Script.{LoggedRun}
-use Rattle.pfair_table.specs.Planned.{rows}
+use Rattle.pfair_table.specs.Planned.{as_tables}
 use Rattle.pfair_output.specs.Replay.{placed_text}
 use Rattle.pfair.specs.Runs.{IsWholeRun, placed_replay_of_run}
 use Rattle.pfair.proofs.RunFacts.{no_refusal, on_err, on_ok, output_of_whole, places_made}
@@ -17,7 +17,7 @@ returns g c =
     let made : (run : LoggedRun) → IsWholeRun run first → c.as_slice-3.result.now ≡ placed_replay_of_run run =
     λ run is. c.as_slice-3.ensures.value ∙ c.in_ok-text.ensures
     ∙ ap (λ (ts : List (Vec Pick Global)). placed_text (map (λ t. t.items) ts) (map (λ p. p.items) c.as_slice-2.result.now)) c.as_slice.ensures.value
-    ∙ ap (λ (ps : List (Vec ℕ Global)). placed_text (rows first.tables) (map (λ p. p.items) ps)) c.as_slice-2.ensures.value
+    ∙ ap (λ (ps : List (Vec ℕ Global)). placed_text (as_tables first.tables) (map (λ p. p.items) ps)) c.as_slice-2.ensures.value
     ∙ places_made first run is in
     record {
       ok = on_ok c.send_text.result

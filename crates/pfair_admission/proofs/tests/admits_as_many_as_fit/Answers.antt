@@ -12,4 +12,4 @@ within_push (x ∷ all) said h one = (h.0, within_push all said h.1 one)
 pub loop-place-preserved : goal.loop-place-preserved
 loop-place-preserved g c =
     subst (λ all. AllByRecursion (λ a. IsWithinLimits a.announcement) all) (sym c.in_ok-push.ensures.items)
-    (within_push c.loop-place.heard.items c.arrives_light.result c.loop-place.invariant c.arrives_light.ensures)
+    (within_push c.loop-place.announced.items c.arrives_light.result c.loop-place.invariant c.arrives_light.ensures)

@@ -3,4 +3,4 @@ use Rattle.pfair_entry.specs.Entry.{IsWithinLimits}
 use Rattle.pfair_admission.proofs.tests.admits_as_many_as_fit.Given as goal
 
 abbrev pub invariant-loop-place : goal.invariant-loop-place
-invariant-loop-place g l = AllByRecursion (λ a. IsWithinLimits a.announcement) l.heard.items
+invariant-loop-place g l = AllByRecursion (λ a. IsWithinLimits a.announcement) l.announced.items

@@ -18,7 +18,7 @@ pub plan_slot-requires-clause-heard : goal.plan_slot-requires-clause-heard
 plan_slot-requires-clause-heard g c =
     let heard_is : c.deref.result.now ≡ said (replica_of c.args.replica.now) c.len-slot.result =
     c.deref.ensures.value
-    ∙ c.in_ok-heard.ensures
+    ∙ c.in_ok-announced.ensures
     ∙ whole_said (replica_of c.args.replica.now) c.read_on.new.self.by_processor.items c.in_ok-read_on.ensures.readings c.requires.of.replica c.requires.untorn c.in_ok-read_on.ensures.whole c.len-slot.result in
     let x : Replica = replica_of c.args.replica.now in
     let n : ℕ = length c.args.planned.now.tables in
@@ -34,7 +34,7 @@ pub plan_slot-requires-clause-limits : goal.plan_slot-requires-clause-limits
 plan_slot-requires-clause-limits g c =
     let heard_is : c.deref.result.now ≡ said (replica_of c.args.replica.now) c.len-slot.result =
     c.deref.ensures.value
-    ∙ c.in_ok-heard.ensures
+    ∙ c.in_ok-announced.ensures
     ∙ whole_said (replica_of c.args.replica.now) c.read_on.new.self.by_processor.items c.in_ok-read_on.ensures.readings c.requires.of.replica c.requires.untorn c.in_ok-read_on.ensures.whole c.len-slot.result in
     subst AreWithinLimits (sym heard_is) (said_within (replica_of c.args.replica.now) c.requires.of.replica c.len-slot.result)
 
@@ -42,7 +42,7 @@ pub returns-clause-step : goal.returns-clause-step
 returns-clause-step g c =
     let heard_is : c.deref.result.now ≡ said (replica_of c.args.replica.now) c.len-slot.result =
     c.deref.ensures.value
-    ∙ c.in_ok-heard.ensures
+    ∙ c.in_ok-announced.ensures
     ∙ whole_said (replica_of c.args.replica.now) c.read_on.new.self.by_processor.items c.in_ok-read_on.ensures.readings c.requires.of.replica c.requires.untorn c.in_ok-read_on.ensures.whole c.len-slot.result in
     let x : Replica = replica_of c.args.replica.now in
     let n : ℕ = c.len-slot.result in
@@ -65,7 +65,7 @@ pub next_places-requires-clause-rows : goal.next_places-requires-clause-rows
 next_places-requires-clause-rows g c =
     let heard_is : c.deref.result.now ≡ said (replica_of c.args.replica.now) c.len-slot.result =
     c.deref.ensures.value
-    ∙ c.in_ok-heard.ensures
+    ∙ c.in_ok-announced.ensures
     ∙ whole_said (replica_of c.args.replica.now) c.read_on.new.self.by_processor.items c.in_ok-read_on.ensures.readings c.requires.of.replica c.requires.untorn c.in_ok-read_on.ensures.whole c.len-slot.result in
     let x : Replica = replica_of c.args.replica.now in
     let n : ℕ = c.len-slot.result in
@@ -85,7 +85,7 @@ pub returns-clause-tables : goal.returns-clause-tables
 returns-clause-tables g c =
     let heard_is : c.deref.result.now ≡ said (replica_of c.args.replica.now) c.len-slot.result =
     c.deref.ensures.value
-    ∙ c.in_ok-heard.ensures
+    ∙ c.in_ok-announced.ensures
     ∙ whole_said (replica_of c.args.replica.now) c.read_on.new.self.by_processor.items c.in_ok-read_on.ensures.readings c.requires.of.replica c.requires.untorn c.in_ok-read_on.ensures.whole c.len-slot.result in
     let x : Replica = replica_of c.args.replica.now in
     let n : ℕ = c.len-slot.result in
@@ -102,7 +102,7 @@ pub returns-clause-decided : goal.returns-clause-decided
 returns-clause-decided g c =
     let heard_is : c.deref.result.now ≡ said (replica_of c.args.replica.now) c.len-slot.result =
     c.deref.ensures.value
-    ∙ c.in_ok-heard.ensures
+    ∙ c.in_ok-announced.ensures
     ∙ whole_said (replica_of c.args.replica.now) c.read_on.new.self.by_processor.items c.in_ok-read_on.ensures.readings c.requires.of.replica c.requires.untorn c.in_ok-read_on.ensures.whole c.len-slot.result in
     let x : Replica = replica_of c.args.replica.now in
     let n : ℕ = c.len-slot.result in

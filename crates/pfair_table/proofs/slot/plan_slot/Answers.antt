@@ -14,35 +14,35 @@ use Rattle.pfair_table.proofs.slot.plan_slot.Goals as goal
 
 pub tell_ready-requires : goal.tell_ready-requires
 tell_ready-requires g c = λ name e.
-    (let heard : List Said = c.args.heard.now in
+    (let announced : List Said = c.args.announced.now in
     let old : Roster = c.args.members.now in
-    let members_are : c.decide_all.new.members.members ≡ boundary old.machine c.args.slot old.members (announcements heard) = ap (λ (r : Roster). r.members) c.in_ok-decided.ensures.members in
-    queue_after_boundary old.machine c.args.slot heard old.members (g.R.Ready.held c.args.ready.now) c.requires.steady.named c.requires.steady.queue name e
+    let members_are : c.decide_all.new.members.members ≡ boundary old.machine c.args.slot old.members (announcements announced) = ap (λ (r : Roster). r.members) c.in_ok-decided.ensures.members in
+    queue_after_boundary old.machine c.args.slot announced old.members (g.R.Ready.held c.args.ready.now) c.requires.steady.named c.requires.steady.queue name e
     ∙ ap (λ (ms : List Member). queued (member_named ms name)) (sym members_are))
 
 pub give_quanta-requires-clause-named : goal.give_quanta-requires-clause-named
 give_quanta-requires-clause-named g c =
-    let heard : List Said = c.args.heard.now in
+    let announced : List Said = c.args.announced.now in
     let old : Roster = c.args.members.now in
-    let members_are : c.decide_all.new.members.members ≡ boundary old.machine c.args.slot old.members (announcements heard) = ap (λ (r : Roster). r.members) c.in_ok-decided.ensures.members in
-    subst Named (sym members_are) (named_boundary old.machine c.args.slot old.members (announcements heard) c.requires.steady.named)
+    let members_are : c.decide_all.new.members.members ≡ boundary old.machine c.args.slot old.members (announcements announced) = ap (λ (r : Roster). r.members) c.in_ok-decided.ensures.members in
+    subst Named (sym members_are) (named_boundary old.machine c.args.slot old.members (announcements announced) c.requires.steady.named)
 
 pub give_quanta-requires-clause-few : goal.give_quanta-requires-clause-few
 give_quanta-requires-clause-few g c =
-    let heard : List Said = c.args.heard.now in
+    let announced : List Said = c.args.announced.now in
     let old : Roster = c.args.members.now in
-    let members_are : c.decide_all.new.members.members ≡ boundary old.machine c.args.slot old.members (announcements heard) = ap (λ (r : Roster). r.members) c.in_ok-decided.ensures.members in
+    let members_are : c.decide_all.new.members.members ≡ boundary old.machine c.args.slot old.members (announcements announced) = ap (λ (r : Roster). r.members) c.in_ok-decided.ensures.members in
     let below = c.requires.slot in
     subst (AllByRecursion (λ (m : Member). m.next ≤ 1000000)) (sym members_are)
-    (fewer (c.args.slot + 1) 1000000 (omega (arith, below)) (boundary old.machine c.args.slot old.members (announcements heard)) (few_boundary (c.args.slot + 1) old.machine c.args.slot (omega arith) (announcements heard) old.members c.requires.steady.few))
+    (fewer (c.args.slot + 1) 1000000 (omega (arith, below)) (boundary old.machine c.args.slot old.members (announcements announced)) (few_boundary (c.args.slot + 1) old.machine c.args.slot (omega arith) (announcements announced) old.members c.requires.steady.few))
 
 pub returns-clause-steady : goal.returns-clause-steady
 returns-clause-steady g c =
-    let heard : List Said = c.args.heard.now in
+    let announced : List Said = c.args.announced.now in
     let old : Roster = c.args.members.now in
     let mid : Roster = c.decide_all.new.members in
     let rows : Table = c.in_ok-table.table.items in
-    let members_are : mid.members ≡ boundary old.machine c.args.slot old.members (announcements heard) = ap (λ (r : Roster). r.members) c.in_ok-decided.ensures.members in
+    let members_are : mid.members ≡ boundary old.machine c.args.slot old.members (announcements announced) = ap (λ (r : Roster). r.members) c.in_ok-decided.ensures.members in
     let rows_are : rows ≡ map (pick mid.members) (first_by_rank c.args.processors (eligible c.args.slot mid.members)) = c.in_ok-table.ensures.table in
     let ran_are : c.give_quanta.new.members ≡ record mid { members = all_ran rows mid.members } = c.in_ok-table.ensures.members in
     steady_next c.args.slot (g.R.Ready.now c.args.ready.now) (g.R.Ready.now c.give_quanta.new.ready) old c.give_quanta.new.members (g.R.Ready.held c.args.ready.now) (g.R.Ready.held c.give_quanta.new.ready) heard c.args.processors rows

@@ -1,5 +1,6 @@
 use Rattle.std.proofs.Common.{sym, subst, ◌∙◌, arith}
-use Rattle.pfair_admission.specs.Removal.{NoneFreed, EachHasRoom}
+use Rattle.pfair_admission.specs.Removal.{NoneFreed}
+use Rattle.pfair_admission.specs.Roster.{EachHasRoom}
 use Rattle.pfair_admission.specs.Standing.{Standing}
 use Rattle.pfair_admission.proofs.Deciding.{room_of_named, late_decided, late_claimed, late_first, on_ok_with}
 use Rattle.pfair_admission.proofs.ledger.Ledger.delay.Goals as goal

@@ -15,8 +15,8 @@ pub invariant_of-self-2 : goal.invariant_of-self-2
 invariant_of-self-2 c =
     let before = ap (λ (r : Roster). r.heard) c.self.view_is in
     let after = ap (λ (r : Roster). r.heard) c.self-2.view_is in
-    let up : c.self-2.inside.heard ≤ c.self.inside.heard + length c.args.heard.now = omega (arith, after, c.decide_all-decisions.ensures.heard) in
+    let up : c.self-2.inside.heard ≤ c.self.inside.heard + length c.args.announced.now = omega (arith, after, c.decide_all-decisions.ensures.heard) in
     record {
       few_heard = omega (arith, before, c.requires.heard);
-      bounded = bounded_later c.self-2.inside.heard (c.self.inside.heard + length c.args.heard.now) up c.self-2.inside.ledger.members c.self-2.invariant.bounded;
+      bounded = bounded_later c.self-2.inside.heard (c.self.inside.heard + length c.args.announced.now) up c.self-2.inside.ledger.members c.self-2.invariant.bounded;
     }

@@ -2,7 +2,7 @@ use Rattle.std.proofs.Common.{◌≡◌, ap, sym, refl, ◌∙◌}
 use Rattle.pfair_replica.specs.Replica.{join}
 use Rattle.pfair_replica.specs.HeldRows.{replica_of, SameShape}
 use Rattle.pfair_board.specs.Noted.{AllNoted}
-use Rattle.pfair_board.proofs.NotedLemmas.{all_noted_more, join_noted, below_noted, noted_whole, kept_noted, in_order_met, lacks}
+use Rattle.pfair_board.proofs.NotedLemmas.{all_noted_more, join_noted, below_noted, noted_whole, kept_noted, in_order_met, holds_more}
 use Rattle.pfair_board.proofs.desk.Desk.meet.Goals.{After-merge, in-Ok, in-Err}
 use Rattle.pfair_board.proofs.desk.Desk.meet.Goals as goal
 
@@ -41,5 +41,5 @@ same_shape c = (
 pub returns-clause-lacking : goal.returns-clause-lacking
 returns-clause-lacking c = elim c.match-merge.branch [
   | in-Ok w ↦ rw w.result-is tt
-  | in-Err w ↦ rw (w.result-is, ← c.self.view_is, ← c.other.view_is) (lacks c.self.inside.replica c.other.inside.replica w.in-Err.field-0 (same_shape c) w.in-Err.ensures.fault)
+  | in-Err w ↦ rw (w.result-is, ← c.self.view_is, ← c.other.view_is) (holds_more c.self.inside.replica c.other.inside.replica w.in-Err.field-0 (same_shape c) w.in-Err.ensures.fault)
 ]

@@ -6,14 +6,14 @@ use Rattle.pfair_table.specs.Refinement.{IsInStep}
 use Rattle.pfair_table.proofs.Keeping.{is_of_held, whole_held, kept_anew}
 use Rattle.pfair_table.proofs.dispatcher.Dispatcher.reopen.Goals as goal
 
-pub replay-requires-clause-of : goal.replay-requires-clause-of
-replay-requires-clause-of g c =
+pub plan_again-requires-clause-of : goal.plan_again-requires-clause-of
+plan_again-requires-clause-of g c =
     let test : has_torn (replica_of c.self.inside.replica) ≡ false = sym c.first_torn.ensures.some ∙ ap is_some c.in_default.is in
     is_of_held c.self.inside.settings (replica_of c.self.inside.replica) c.self.inside.planned.tables c.self.inside.planned.decided c.self.inside.spent c.self.inside.members (g.R.Ready.now c.self.inside.ready) (g.R.Ready.held c.self.inside.ready)
     c.self.invariant.0 c.first_torn.ensures.replica test
 
-pub replay-requires-clause-untorn : goal.replay-requires-clause-untorn
-replay-requires-clause-untorn g c =
+pub plan_again-requires-clause-untorn : goal.plan_again-requires-clause-untorn
+plan_again-requires-clause-untorn g c =
     let test : has_torn (replica_of c.self.inside.replica) ≡ false = sym c.first_torn.ensures.some ∙ ap is_some c.in_default.is in
     whole_held c.self.inside.settings (replica_of c.self.inside.replica) c.self.inside.planned.tables c.self.inside.planned.decided c.self.inside.spent c.self.inside.members (g.R.Ready.now c.self.inside.ready) (g.R.Ready.held c.self.inside.ready)
     c.self.invariant.0 c.first_torn.ensures.replica test
@@ -25,5 +25,5 @@ invariant_of-self g c =
       kept_anew c.self.inside.settings (replica_of c.self.inside.replica) c.self.inside.planned.tables c.self.inside.planned.decided c.self.inside.spent c.self.inside.members (g.R.Ready.now c.self.inside.ready) (g.R.Ready.held c.self.inside.ready)
           c.self.invariant.0 c.first_torn.ensures.replica test false c.in-Ok.members (g.R.Ready.now c.in-Ok.ready) (g.R.Ready.held c.in-Ok.ready)
           (subst (λ n. IsInStep c.self.inside.settings (replica_of c.self.inside.replica) n c.in-Ok.members (g.R.Ready.now c.in-Ok.ready) (g.R.Ready.held c.in-Ok.ready)) long c.in-Ok.ensures.step),
-      c.replay.ensures.readings,
+      c.plan_again.ensures.readings,
     )

@@ -7,7 +7,7 @@ use Rattle.pfair_table.proofs.Within.{AreWithinLimits, said_within}
 use Rattle.pfair_table.proofs.Steps.{step_next, rows_are, heard_fits}
 use Rattle.pfair_table.proofs.Keeping.{start_step}
 use Rattle.pfair_table.proofs.ReadOn.{whole_said}
-use Rattle.pfair_table.proofs.dispatcher.replay.Goals as goal
+use Rattle.pfair_table.proofs.dispatcher.plan_again.Goals as goal
 
 pub loop-slot-init : goal.loop-slot-init
 loop-slot-init g c =
