@@ -1,7 +1,7 @@
 //! A ready structure that keeps released keys in a heap, and the dates of the others in a calendar.
 //!
 //! Nothing in it looks through all that is held: what waits for a later release costs a selection nothing. A name is
-//! looked for once for each key that is inserted; from then on the key goes by the place of its name.
+//! looked for at most once for each key that is inserted; from then on the key goes by the place of its name.
 
 ghost use Rattle.std.specs.Prelude.{◌≡◌, ◌<◌, ◌≤◌, ℕ, OnOk, IfSome, IfNone, All, Contains, Some, false, slice_get};
 ghost use Rattle.std.specs.declared.cmp.Reverse.{Reverse};
@@ -28,8 +28,10 @@ use std::marker::Model;
 /// come or whose copy has not come to the top of the heap:
 ///
 /// - `new` and `now`: the same always. `held` and `remove`: one look-up of the name, whatever is held.
-/// - `insert`: one look-up of the name, and a second one where the name is new; then a number of steps that grows with
-///   the logarithm of n. Now and then what is held is moved to where it has room.
+/// - `insert`: a comparison of two names where the key is of the task that is looked for next, which it mostly is where
+///   the tasks that were given a quantum wait again in that order; else one look-up of the name, and a second one where
+///   the name is new; then a number of steps that grows with the logarithm of n. Now and then what is held is moved to
+///   where it has room.
 /// - `take_first`: a number of steps that grows with the logarithm of n for each key that it gives, for each whose date
 ///   has come since the last selection, and twice at most for each that was removed. So a slot costs no more for
 ///   tasks whose next subtask is not released.
