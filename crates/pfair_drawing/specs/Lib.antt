@@ -1,0 +1,11 @@
+pub mod Colours
+pub mod Frame
+pub mod History
+pub mod Inside
+pub mod Laws
+pub mod Names
+pub mod Notes
+pub mod Quanta
+pub mod Schedule
+pub mod Svg
+pub mod Windows

@@ -1,0 +1,175 @@
+-- The text of a picture in SVG: a head, and one element for each shape.
+use Rattle.std.specs.Prelude.{ℕ, Bool, if◌then◌else◌, List, [], ◌++◌, codes, slice_get, unwrap_or}
+use Rattle.std.specs.List.{flat_map, range_with_len}
+use Rattle.std.specs.Fmt.{decimal}
+use Rattle.pfair_drawing.specs.declared.colour.Colour.{Colour}
+use Rattle.pfair_drawing.specs.declared.shape.Area.{Area}
+use Rattle.pfair_drawing.specs.declared.shape.Point.{Point}
+use Rattle.pfair_drawing.specs.declared.shape.Fill.{Fill}
+use Rattle.pfair_drawing.specs.declared.shape.Fill.TheVariants.{Band, Window, Held, Key, Within}
+use Rattle.pfair_drawing.specs.declared.shape.Stroke.{Stroke}
+use Rattle.pfair_drawing.specs.declared.shape.Stroke.TheVariants.{Grid, Tick, Edge, Shaft, Late, Zero, Bound, Lag, Outside}
+use Rattle.pfair_drawing.specs.declared.shape.Mark.{Mark}
+use Rattle.pfair_drawing.specs.declared.shape.Mark.TheVariants.{Join, Departure, Stamp, Later, Refusal, Inside, Outside as OutsideMark}
+use Rattle.pfair_drawing.specs.declared.shape.Style.{Style}
+use Rattle.pfair_drawing.specs.declared.shape.Style.TheVariants.{Title, Name, Absent, Side, Scale, On, Late as LateStyle, Refusal as RefusalStyle, Key as KeyStyle}
+use Rattle.pfair_drawing.specs.declared.shape.Label.{Label}
+use Rattle.pfair_drawing.specs.declared.shape.Quantum.{Quantum}
+use Rattle.pfair_drawing.specs.declared.shape.Shape.{Shape}
+use Rattle.pfair_drawing.specs.declared.shape.Shape.TheVariants.{Bar, Line, Mark as MarkShape, Label as LabelShape}
+use Rattle.pfair_drawing.specs.declared.shape.Drawing.{Drawing}
+use Rattle.pfair_drawing.specs.declared.words.Words.{Words}
+use Rattle.pfair_drawing.specs.declared.words.Words.TheVariants.{Name as NameWords, Share, Number, More, Processor, Figures as FiguresWords, Note as NoteWords}
+use Rattle.pfair_drawing.specs.declared.words.Figures.{Figures}
+use Rattle.pfair_drawing.specs.declared.style.TheConstants.{OPENING, STYLES, MARKS}
+use Rattle.pfair_drawing.specs.declared.svg.TheConstants.{PROCESSORS, WINDOWS, QUANTA, CELLS, END}
+use Rattle.pfair_drawing.specs.Notes.{note_text}
+use Rattle.pfair_drawing.specs.Colours.{colour_of, is_light}
+use Rattle.pfair_drawing.specs.Names.{NameValue}
+
+-- ---- parts of elements
+
+abbrev pub attribute : List ℕ → ℕ → List ℕ
+attribute name value = codes " " ++ name ++ codes "=\"" ++ decimal value ++ codes "\""
+
+abbrev pub class_text : List ℕ → List ℕ
+class_text class = codes " class=\"" ++ class ++ codes "\""
+
+abbrev pub processor_class : ℕ → List ℕ
+processor_class processor = codes " class=\"p" ++ decimal processor ++ codes "\""
+
+abbrev pub area_text : Area → List ℕ
+area_text a = codes "<rect" ++ attribute (codes "x") a.x ++ attribute (codes "y") a.y ++ attribute (codes "width") a.width ++ attribute (codes "height") a.height
+
+abbrev pub point_text : Point → List ℕ
+point_text p = attribute (codes "x") p.x ++ attribute (codes "y") p.y
+
+-- ---- bars
+
+abbrev pub fill_text : Fill → List ℕ
+fill_text Band = class_text (codes "band")
+fill_text Window = codes " rx=\"2\" class=\"window\""
+fill_text Held = class_text (codes "held")
+fill_text (Key processor) = processor_class processor
+fill_text Within = class_text (codes "within")
+
+abbrev pub window_text : Bool → Area → List ℕ
+window_text has_outlines a = area_text a ++ (if has_outlines then codes " rx=\"2\" class=\"window\"/>\n" else codes " class=\"dense\"/>\n")
+
+abbrev pub quantum_text : Quantum → List ℕ
+quantum_text q = area_text q.area ++ processor_class q.processor ++ codes "/>\n"
+
+-- ---- lines and marks
+
+abbrev pub stroke_class : Stroke → List ℕ
+stroke_class Grid = codes "grid"
+stroke_class Tick = codes "tick"
+stroke_class Edge = codes "edge"
+stroke_class Shaft = codes "shaft"
+stroke_class Late = codes "late"
+stroke_class Zero = codes "zero"
+stroke_class Bound = codes "bound"
+stroke_class Lag = codes "lag"
+stroke_class Outside = codes "past"
+
+abbrev pub line_text : Point → Point → Stroke → List ℕ
+line_text from to stroke =
+    codes "<line" ++ attribute (codes "x1") from.x ++ attribute (codes "y1") from.y ++ attribute (codes "x2") to.x ++ attribute (codes "y2") to.y ++ class_text (stroke_class stroke) ++ codes "/>\n"
+
+abbrev pub mark_name : Mark → List ℕ
+mark_name Join = codes "join"
+mark_name Departure = codes "departure"
+mark_name Stamp = codes "stamp"
+mark_name Later = codes "later"
+mark_name Refusal = codes "refusal"
+mark_name Inside = codes "inside"
+mark_name OutsideMark = codes "outside"
+
+abbrev pub mark_text : Point → Mark → List ℕ
+mark_text at mark = codes "<use href=\"#" ++ mark_name mark ++ codes "\"" ++ point_text at ++ codes "/>\n"
+
+-- ---- labels
+
+abbrev pub label_class : ℕ → List ℕ
+label_class processor = if is_light processor then codes "on dark" else codes "on"
+
+abbrev pub style_class : Style → List ℕ
+style_class Title = codes "title"
+style_class Name = codes "name"
+style_class Absent = codes "absent"
+style_class Side = codes "side"
+style_class Scale = codes "scale"
+style_class (On processor) = label_class processor
+style_class LateStyle = codes "more"
+style_class RefusalStyle = codes "number"
+style_class KeyStyle = codes "entry"
+
+-- the name of a row
+abbrev pub name_text : List NameValue → ℕ → List ℕ
+name_text names row = unwrap_or (slice_get names row) []
+
+abbrev pub run_text : Figures → List ℕ
+run_text f = PROCESSORS.now ++ decimal f.processors ++ codes ", frame: " ++ decimal f.frame
+
+abbrev pub shown_text : Figures → List ℕ
+shown_text f = codes ", slots: " ++ decimal f.first ++ codes " to " ++ decimal f.last ++ codes " of " ++ decimal f.slots
+
+abbrev pub figures_text : Figures → List ℕ
+figures_text f = run_text f ++ shown_text f
+
+abbrev pub words_text : List NameValue → Words → List ℕ
+words_text names (NameWords row) = name_text names row
+words_text names (Share cost period) = decimal cost ++ codes "/" ++ decimal period
+words_text names (Number number) = decimal number
+words_text names (More by) = codes "+" ++ decimal by
+words_text names (Processor processor) = codes "processor " ++ decimal processor
+words_text names (FiguresWords figures) = figures_text figures
+words_text names (NoteWords note) = note_text note
+
+abbrev pub label_text : List NameValue → Label → List ℕ
+label_text names l = codes "<text" ++ point_text l.at ++ class_text (style_class l.style) ++ codes ">" ++ words_text names l.words ++ codes "</text>\n"
+
+abbrev pub shape_text : List NameValue → Shape → List ℕ
+shape_text names (Bar area fill) = area_text area ++ fill_text fill ++ codes "/>\n"
+shape_text names (Line from to stroke) = line_text from to stroke
+shape_text names (MarkShape at mark) = mark_text at mark
+shape_text names (LabelShape label) = label_text names label
+
+-- ---- the head
+
+abbrev pub shades_text : Colour → List ℕ
+shades_text c = decimal c.red ++ codes "," ++ decimal c.green ++ codes "," ++ decimal c.blue
+
+-- the style of a processor's bars
+abbrev pub colour_text : ℕ → Colour → List ℕ
+colour_text processor c = codes ".p" ++ decimal processor ++ codes "{fill:rgb(" ++ shades_text c ++ codes ")}\n"
+
+abbrev pub colours_text : ℕ → List ℕ
+colours_text processors = flat_map (λ k. colour_text k (colour_of k)) (range_with_len 0 processors)
+
+unfoldable pub opening_text : (width height : ℕ) → List ℕ
+opening_text width height = OPENING.now ++ decimal width ++ codes "\" height=\"" ++ decimal height ++ codes "\">\n<style>"
+
+unfoldable pub head_text : (width height processors : ℕ) → List ℕ
+head_text width height processors = opening_text width height ++ STYLES.now ++ colours_text processors ++ MARKS.now
+
+-- ---- the layers
+
+abbrev pub shapes_text : List NameValue → List Shape → List ℕ
+shapes_text names shapes = flat_map (shape_text names) shapes
+
+-- windows, quanta and the quanta of processors each as a group
+unfoldable pub windows_text : Bool → List Area → List ℕ
+windows_text has_outlines windows = WINDOWS.now ++ flat_map (window_text has_outlines) windows ++ END.now
+
+unfoldable pub quanta_text : List Quantum → List ℕ
+quanta_text quanta = QUANTA.now ++ flat_map quantum_text quanta ++ END.now
+
+unfoldable pub cells_text : List Quantum → List ℕ
+cells_text cells = CELLS.now ++ flat_map quantum_text cells ++ END.now
+
+-- a head, and the layers one over another
+abbrev pub svg_text : Drawing → List ℕ
+svg_text d =
+    head_text d.width d.height d.processors ++ shapes_text d.names.items d.ground.items ++ windows_text d.has_outlines d.windows.items
+    ++ quanta_text d.quanta.items ++ cells_text d.cells.items ++ shapes_text d.names.items d.marks.items ++ codes "</svg>\n"

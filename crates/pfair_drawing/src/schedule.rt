@@ -1,0 +1,286 @@
+//! The picture of a schedule.
+
+ghost use Rattle.std.specs.Prelude.{◌≡◌, ◌≤◌, ◌<◌, ◌↔◌, length, All, Err, IfOk, IsTrue, map};
+ghost use Rattle.pfair_drawing.specs.Frame.{IsFrame, height_of, width_of};
+ghost use Rattle.pfair_drawing.specs.Inside.{LiesIn};
+ghost use Rattle.pfair_drawing.specs.Names.{names_before};
+ghost use Rattle.pfair_drawing.specs.Quanta.{cell_bar, quantum_bar};
+ghost use Rattle.pfair_drawing.specs.Windows.{windows};
+ghost use Rattle.pfair_drawing.specs.Schedule.{AreRefused, IsSchedule};
+
+use crate::canvas::shown;
+use crate::frame::Frame;
+use crate::ground::{add_grid, add_processors, add_rows, add_title};
+use crate::history::{History, history_of};
+use crate::key::add_schedule_key;
+use crate::marks::{add_arrows, add_labels, add_late_releases, add_refusals};
+use crate::names::names_of;
+use crate::quanta::{cells_of, quanta_of};
+use crate::runs::{Ran, runs_of};
+use crate::shape::{Area, Drawing, Quantum, Shape};
+use crate::sizes::{BESIDE, LETTER, NARROWEST_LEFT, Sizes};
+use crate::ties::{add_held, add_ties};
+use crate::windows::windows_of;
+use crate::words::{Figures, Note};
+use pfair_ready::Ready;
+use pfair_table::Dispatcher;
+use pfair_weight::TaskName;
+use std::alloc::{AllocError, Global};
+
+/// The most slots of one picture.
+pub const MAX_SLOTS: u64 = 4096;
+
+// The most rows of tasks of one picture.
+pub(crate) const MAX_ROWS: usize = 1_000_000;
+
+/// Why a picture isn't drawn.
+#[derive(Clone, Copy, Debug, PartialEq, Eq)]
+pub enum DrawFault {
+    /// The slots are none, or aren't all planned, or are more than [`MAX_SLOTS`].
+    Slots,
+    /// Want of memory.
+    Memory,
+}
+
+impl From<AllocError> for DrawFault {
+    ghost use Rattle.pfair_drawing.specs.declared.schedule.DrawFault.TheVariants.{Memory};
+
+    ghost from_gives = { λ _ e. e ≡ Memory };
+
+    fn from(_: AllocError) -> DrawFault {
+        DrawFault::Memory
+    }
+}
+
+/// The picture of the slots `from` to `to - 1` of what a dispatcher has planned: a row for each task with the windows and
+/// the quanta of its subtasks, the decisions of these slots as marks, and a row for each processor.
+///
+/// Windows are those that the decisions tell: of each incarnation, at its joining slot, put off by the late releases
+/// that were accepted; and the window of a subtask that hasn't run ends where its task departs.
+/// It costs all slots before `to`, each with as many looks at names as there are tasks.
+///
+/// # Errors
+/// [`DrawFault::Slots`] exactly where `from` isn't below `to`, `to` is past the slots that are planned, or they are more
+/// than [`MAX_SLOTS`], and [`DrawFault::Memory`] where memory was wanted and refused, or there are more than 1,000,000
+/// names.
+pub fn schedule_drawing<R: Ready>(
+    alloc: Global,
+    dispatcher: &Dispatcher<R>,
+    from: u64,
+    to: u64,
+) -> Result<Drawing, DrawFault>
+    ensures picture { IfOk result (IsSchedule dispatcher.now.decided dispatcher.now.tables dispatcher.now.settings.processors from to) }
+    ensures slots { (result ≡ Err DrawFault.Slots) ↔ AreRefused from to (length dispatcher.now.tables) }
+{
+    if are_refused(dispatcher, from, to) {
+        return Err(DrawFault::Slots);
+    }
+    match draw(alloc, dispatcher, from, to) {
+        Ok(drawing) => Ok(drawing),
+        Err(_) => Err(DrawFault::Memory),
+    }
+}
+
+// Draws slots that aren't refused.
+fn draw<R: Ready>(
+    alloc: Global,
+    dispatcher: &Dispatcher<R>,
+    from: u64,
+    to: u64,
+) -> Result<Drawing, AllocError>
+    requires order { from < to }
+    requires slots { to ≤ 1000000 }
+    ensures { IfOk result (IsSchedule dispatcher.now.decided dispatcher.now.tables dispatcher.now.settings.processors from to) }
+{
+    let names = names_of(alloc, dispatcher, to)?;
+    if names.len() > MAX_ROWS {
+        return Err(AllocError);
+    }
+    let processors = dispatcher.settings().processors() as u64;
+    let frame = frame_of(names.as_slice(), processors, from, to);
+    draw_in(alloc, dispatcher, &frame, names)
+}
+
+// Draws the slots of a figure that has a row for each name.
+fn draw_in<R: Ready>(
+    alloc: Global,
+    dispatcher: &Dispatcher<R>,
+    frame: &Frame,
+    names: Vec<TaskName>,
+) -> Result<Drawing, AllocError>
+    requires frame { IsFrame frame.now }
+    requires rows { frame.now.rows ≡ length names.items }
+    requires names { names.items ≡ names_before dispatcher.now.decided dispatcher.now.tables frame.now.to }
+    requires processors { frame.now.processors ≡ dispatcher.now.settings.processors }
+    ensures { IfOk result (IsSchedule dispatcher.now.decided dispatcher.now.tables dispatcher.now.settings.processors frame.now.from frame.now.to) }
+{
+    let (width, height) = (frame.width(), frame.height());
+    let rows = names.as_slice();
+    let history = history_of(alloc, dispatcher, frame.to)?;
+    let runs = runs_of(alloc, dispatcher, rows, frame.from, frame.to)?;
+    let bars = bars_of(alloc, frame, rows, &history, &runs)?;
+    let (ground, marks) = surroundings_of(alloc, dispatcher, frame, rows, &history, &runs)?;
+    let Bars {
+        windows,
+        quanta,
+        cells,
+    } = bars;
+    Ok(Drawing {
+        width,
+        height,
+        processors: frame.processors,
+        has_outlines: frame.sizes.slot >= 8,
+        names,
+        ground,
+        windows,
+        quanta,
+        cells,
+        marks,
+    })
+}
+
+// The bars of windows and of quanta.
+#[derive(Drop)]
+struct Bars {
+    windows: Vec<Area>,
+    quanta: Vec<Quantum>,
+    cells: Vec<Quantum>,
+}
+
+fn bars_of(
+    alloc: Global,
+    frame: &Frame,
+    names: &[TaskName],
+    history: &History,
+    runs: &[Ran],
+) -> Result<Bars, AllocError>
+    requires { IsFrame frame.now }
+    ensures windows { IfOk result (λ b. b.windows.items ≡ windows frame.now names.now history.now) }
+    ensures quanta { IfOk result (λ b. b.quanta.items ≡ map (quantum_bar frame.now) runs.now) }
+    ensures cells { IfOk result (λ b. b.cells.items ≡ map (cell_bar frame.now) runs.now) }
+{
+    let windows = windows_of(alloc, frame, names, history)?;
+    let quanta = quanta_of(alloc, frame, runs)?;
+    let cells = cells_of(alloc, frame, runs)?;
+    Ok(Bars {
+        windows,
+        quanta,
+        cells,
+    })
+}
+
+// What lies below the windows, and what over the quanta.
+fn surroundings_of<R: Ready>(
+    alloc: Global,
+    dispatcher: &Dispatcher<R>,
+    frame: &Frame,
+    names: &[TaskName],
+    history: &History,
+    runs: &[Ran],
+) -> Result<(Vec<Shape>, Vec<Shape>), AllocError>
+    requires { IsFrame frame.now }
+    ensures ground { IfOk result (λ s. All (LiesIn (width_of frame.now) (height_of frame.now)) s.0.items) }
+    ensures marks { IfOk result (λ s. All (LiesIn (width_of frame.now) (height_of frame.now)) s.1.items) }
+{
+    let figures = figures_of(dispatcher, frame.from, frame.to);
+    let ground = ground_of(alloc, frame, names, history, runs, figures)?;
+    let marks = marks_of(alloc, frame, names, history, runs, dispatcher)?;
+    Ok((ground, marks))
+}
+
+// What lies below the windows.
+fn ground_of(
+    alloc: Global,
+    frame: &Frame,
+    names: &[TaskName],
+    history: &History,
+    runs: &[Ran],
+    figures: Figures,
+) -> Result<Vec<Shape>, AllocError>
+    requires { IsFrame frame.now }
+    ensures { IfOk result (λ ground. All (LiesIn (width_of frame.now) (height_of frame.now)) ground.items) }
+{
+    let mut ground = Vec::new(alloc);
+    add_title(&mut ground, Note::Schedule, figures)?;
+    add_rows(&mut ground, frame, names, history.lives())?;
+    add_grid(&mut ground, frame, frame.bottom(), true)?;
+    add_held(&mut ground, frame, names, history.lives())?;
+    add_ties(&mut ground, frame, names, history, runs)?;
+    shown(alloc, ground.as_slice(), frame.width(), frame.height())
+}
+
+// What lies over the quanta: numbers and names, the marks of decisions, and the key.
+fn marks_of<R: Ready>(
+    alloc: Global,
+    frame: &Frame,
+    names: &[TaskName],
+    history: &History,
+    runs: &[Ran],
+    dispatcher: &Dispatcher<R>,
+) -> Result<Vec<Shape>, AllocError>
+    requires { IsFrame frame.now }
+    ensures { IfOk result (λ marks. All (LiesIn (width_of frame.now) (height_of frame.now)) marks.items) }
+{
+    let mut marks = Vec::new(alloc);
+    add_processors(&mut marks, frame)?;
+    add_labels(&mut marks, frame, names, runs)?;
+    add_arrows(&mut marks, frame, names, history.lives())?;
+    add_late_releases(&mut marks, frame, names, history)?;
+    add_refusals(&mut marks, frame, names, dispatcher)?;
+    add_schedule_key(&mut marks, frame.processors, frame.bottom() + 36)?;
+    shown(alloc, marks.as_slice(), frame.width(), frame.height())
+}
+
+/// Whether no picture shows these slots: they are none, aren't all planned, or are more than [`MAX_SLOTS`].
+pub(crate) fn are_refused<R: Ready>(dispatcher: &Dispatcher<R>, from: u64, to: u64) -> bool
+    ensures refused { IsTrue result ↔ AreRefused from to (length dispatcher.now.tables) }
+    ensures few { length dispatcher.now.tables ≤ 1000000 }
+{
+    let planned = dispatcher.next_slot();
+    from >= to || to > planned || to - from > MAX_SLOTS
+}
+
+/// The figures of a run, and of the slots that are shown of it.
+pub(crate) fn figures_of<R: Ready>(dispatcher: &Dispatcher<R>, from: u64, to: u64) -> Figures {
+    let settings = dispatcher.settings();
+    Figures {
+        processors: settings.processors() as u64,
+        frame: settings.frame(),
+        first: from,
+        last: to.saturating_sub(1),
+        slots: settings.slots(),
+    }
+}
+
+/// What a figure has room for.
+pub(crate) fn frame_of(names: &[TaskName], processors: u64, from: u64, to: u64) -> Frame
+    requires order { from ≤ to }
+    requires slots { to ≤ 1000000 }
+    requires rows { length names.now ≤ 1000000 }
+    requires processors { processors ≤ 64 }
+    ensures frame { IsFrame result }
+    ensures slots { (result.from ≡ from) × (result.to ≡ to) }
+    ensures rows { result.rows ≡ length names.now }
+    ensures processors { result.processors ≡ processors }
+{
+    Frame {
+        from,
+        to,
+        rows: names.len() as u64,
+        processors,
+        left: left_margin(names),
+        sizes: Sizes::of_slots(to - from, to),
+    }
+}
+
+// The width of the left margin, in which the longest name has room.
+fn left_margin(names: &[TaskName]) -> u64
+    ensures low { 118 ≤ result }
+    ensures high { result ≤ 176 }
+{
+    let mut margin = NARROWEST_LEFT;
+    for name in names {
+        margin = margin.max(BESIDE + LETTER * (name.as_bytes().len() as u64).min(16));
+    }
+    margin
+}

@@ -1,0 +1,102 @@
+//! What labels say.
+
+ghost use Rattle.std.specs.Prelude.{◌≡◌};
+ghost use Rattle.pfair_drawing.specs.Notes.{note_text};
+
+/// The notes of a figure.
+#[derive(Clone, Copy, Debug, PartialEq, Eq)]
+pub enum Note {
+    /// The title of a schedule.
+    Schedule,
+    /// The title of lags.
+    Lags,
+    /// Beside the scale of slots.
+    Slot,
+    /// Beside the scale of times.
+    Time,
+    /// In the key.
+    Processor,
+    /// In the key.
+    Window,
+    /// In the key.
+    Joins,
+    /// In the key.
+    Departs,
+    /// In the key.
+    Held,
+    /// In the key.
+    Late,
+    /// In the key.
+    Refused,
+    /// In the key of lags.
+    Lag,
+    /// In the key of lags.
+    Bounds,
+    /// In the key of lags.
+    Outside,
+}
+
+impl Note {
+    /// The note's words.
+    pub fn text(self) -> &'static str
+        ensures { result.now ≡ note_text self }
+    {
+        match self {
+            Note::Schedule => "Schedule",
+            Note::Lags => "Lags",
+            Note::Slot => "slot",
+            Note::Time => "time",
+            Note::Processor => "processor",
+            Note::Window => "window",
+            Note::Joins => "joins",
+            Note::Departs => "departs,",
+            Note::Held => "weight held until freed",
+            Note::Late => "late release, from its stamp",
+            Note::Refused => {
+                "refused, by its number; the number in a quantum is that of its subtask"
+            }
+            Note::Lag => "lag, from each time to the next",
+            Note::Bounds => "the bounds of 1 on both sides",
+            Note::Outside => "at or past a bound (late releases are not taken into account)",
+        }
+    }
+}
+
+/// The figures of a run, and the slots that a picture shows of it.
+#[derive(Clone, Copy, Debug, PartialEq, Eq)]
+pub struct Figures {
+    /// The processors.
+    pub processors: u64,
+    /// The frame, in slots.
+    pub frame: u64,
+    /// The first slot that is shown.
+    pub first: u64,
+    /// The last one.
+    pub last: u64,
+    /// The slots of the run.
+    pub slots: u64,
+}
+
+/// What a label says. No text comes from outside but the names of rows, which have letters, digits and underscores alone.
+#[derive(Clone, Copy, Debug, PartialEq, Eq)]
+pub enum Words {
+    /// The name of a row.
+    Name(u64),
+    /// A task's weight.
+    Share {
+        /// Its cost.
+        cost: u64,
+        /// Its period.
+        period: u64,
+    },
+    /// A number.
+    Number(u64),
+    /// By how many slots a release is later.
+    More(u64),
+    /// A processor.
+    Processor(u64),
+    /// The figures of a run.
+    Figures(Figures),
+    /// A note.
+    Note(Note),
+}

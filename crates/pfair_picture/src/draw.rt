@@ -1,0 +1,179 @@
+//! Drawing the run of a task file.
+
+ghost use Rattle.std.specs.Prelude.{◌≡◌, ◌≢◌, ◌≤◌, length, Ok, OnOk, OnErr, IfOk, IfErr, IfSome, IsErrOf, ◌⊎◌};
+ghost use Rattle.std.specs.Io.KnownBytes.{Appends, Keeps};
+ghost use Rattle.pfair_text.specs.Input.{HasTaken};
+ghost use Rattle.pfair_text.specs.Output.{TakesPrefix};
+ghost use Rattle.pfair_table.specs.ScriptRun.{IsRunOf};
+ghost use Rattle.pfair_table.specs.Script.{LoggedRun};
+ghost use Rattle.pfair_file.specs.Documents.{script_of_file};
+ghost use Rattle.pfair_drawing.specs.declared.shape.Drawing.{Drawing};
+ghost use Rattle.pfair_drawing.specs.Schedule.{AreRefused};
+ghost use Rattle.pfair_drawing.specs.Svg.{svg_text};
+ghost use Rattle.pfair_picture.specs.Pictures.{AreSlotsRefused, IsDrawnBetween, IsDrawnOf, IsFaultOfRun, IsOutputOf, IsRefusalOf, Shows, end_of, first_of};
+ghost use Rattle.pfair_picture.specs.declared.fault.ProgramFault.TheVariants.{FileTooLong, ReadFailed, WriteFailed, Slots, Memory};
+
+use crate::fault::ProgramFault;
+use crate::words::Picture;
+use pfair_drawing::{DrawFault, Drawing, lags_drawing, schedule_drawing, svg_of};
+use pfair_file::{FileFault, read_file};
+use pfair_ready::HeapReady;
+use pfair_table::{Dispatcher, Script, ScriptFault, run_script};
+use pfair_text::{ReadFault, read_bytes, send};
+use std::alloc::Global;
+use std::io::{Read, Write};
+
+/// Writes a picture of the script that a reader's bytes hold: of the given slots, from the first to the one before the
+/// second, or of all.
+///
+/// The whole picture is made before the first byte goes out. No more than 67,108,864 bytes are taken from the reader, but
+/// where the file is too long or memory was wanting: one more may then be.
+///
+/// # Errors
+/// [`ProgramFault::ReadFailed`] where the reader answers an error, [`ProgramFault::FileTooLong`] where more than
+/// 67,108,864 bytes come, [`ProgramFault::File`] with the first fault of the file, [`ProgramFault::Stalled`] with the
+/// frontier of the logs where it is below the number of slots, [`ProgramFault::Slots`] where the slots are none, or some
+/// aren't the script's, or they are more than 4,096, and [`ProgramFault::Memory`] where memory was wanted and refused:
+/// nothing has then been written. [`ProgramFault::WriteFailed`] where the writer answered an error, or took nothing; a
+/// prefix of the text has then gone out.
+pub fn draw<R: Read, W: Write>(
+    alloc: Global,
+    reader: &mut R,
+    picture: Picture,
+    slots: Option<(u64, u64)>,
+    writer: &mut W,
+) -> Result<(), ProgramFault>
+    ensures ok { OnOk result (IfSome (R.remaining reader.old) (λ bytes. IsOutputOf picture slots bytes (Appends (W.contents writer.old) (W.contents writer.new)))) }
+    ensures refused { IfErr result (λ e. IfSome (R.remaining reader.old) (λ bytes. IsRefusalOf bytes e)) }
+    ensures slots { IsErrOf result Slots → IfSome (R.remaining reader.old) (AreSlotsRefused slots) }
+    ensures long { IsErrOf result FileTooLong → HasTaken (R.remaining reader.old) (R.remaining reader.new) (λ n. n ≡ 67108865) }
+    ensures unread { IsErrOf result ReadFailed → HasTaken (R.remaining reader.old) (R.remaining reader.new) (λ n. n ≤ 67108864) }
+    ensures within { OnOk result (HasTaken (R.remaining reader.old) (R.remaining reader.new) (λ n. n ≤ 67108864)) }
+    ensures within_fault { IfErr result (λ e. e ≢ FileTooLong → e ≢ Memory → HasTaken (R.remaining reader.old) (R.remaining reader.new) (λ n. n ≤ 67108864)) }
+    ensures most { HasTaken (R.remaining reader.old) (R.remaining reader.new) (λ n. n ≤ 67108865) }
+    ensures nothing { IfErr result (λ e. e ≢ WriteFailed → Keeps (W.contents writer.old) (W.contents writer.new)) }
+    ensures cut { IsErrOf result WriteFailed → IfSome (R.remaining reader.old) (λ bytes. IsOutputOf picture slots bytes (TakesPrefix (W.contents writer.old) (W.contents writer.new))) }
+    ensures only { IfErr result (λ e. IsFaultOfRun e ⊎ ((e ≡ Slots) ⊎ (e ≡ WriteFailed))) }
+{
+    let dispatcher = scheduled(alloc, reader)?;
+    match text_of(alloc, &dispatcher, picture, slots) {
+        Ok(text) => send_text(writer, text.as_slice()),
+        Err(fault) => Err(fault),
+    }
+}
+
+/// Sends the whole text, or a prefix of it where the writer fails.
+pub(crate) fn send_text<W: Write>(writer: &mut W, text: &[u8]) -> Result<(), ProgramFault>
+    ensures ok { OnOk result (Appends (W.contents writer.old) (W.contents writer.new) text.now) }
+    ensures cut { OnErr result (TakesPrefix (W.contents writer.old) (W.contents writer.new) text.now) }
+    ensures only { IfErr result (λ e. e ≡ WriteFailed) }
+{
+    match send(writer, text) {
+        Ok(()) => Ok(()),
+        Err(_) => Err(ProgramFault::WriteFailed),
+    }
+}
+
+// The text of the picture that is asked for.
+fn text_of(
+    alloc: Global,
+    dispatcher: &Dispatcher<HeapReady>,
+    picture: Picture,
+    slots: Option<(u64, u64)>,
+) -> Result<Vec<u8>, ProgramFault>
+    ensures ok { IfOk result (λ text. (drawn : Drawing) × IsDrawnOf picture slots dispatcher.now drawn × (text.items ≡ svg_text drawn)) }
+    ensures refused { IsErrOf result Slots → AreRefused (first_of slots) (end_of slots (length dispatcher.now.tables)) (length dispatcher.now.tables) }
+    ensures only { IfErr result (λ e. (e ≡ Memory) ⊎ (e ≡ Slots)) }
+{
+    match slots {
+        None => text_between(alloc, dispatcher, picture, 0, dispatcher.next_slot()),
+        Some((from, to)) => text_between(alloc, dispatcher, picture, from, to),
+    }
+}
+
+// The text of the picture of these slots.
+fn text_between(
+    alloc: Global,
+    dispatcher: &Dispatcher<HeapReady>,
+    picture: Picture,
+    from: u64,
+    to: u64,
+) -> Result<Vec<u8>, ProgramFault>
+    ensures ok { IfOk result (λ text. (drawn : Drawing) × IsDrawnBetween picture dispatcher.now from to drawn × (text.items ≡ svg_text drawn)) }
+    ensures refused { IsErrOf result Slots → AreRefused from to (length dispatcher.now.tables) }
+    ensures only { IfErr result (λ e. (e ≡ Memory) ⊎ (e ≡ Slots)) }
+{
+    let drawing = drawing_of(alloc, dispatcher, picture, from, to)?;
+    let text = svg_of(alloc, &drawing)?;
+    Ok(text)
+}
+
+// The picture of these slots.
+fn drawing_of(
+    alloc: Global,
+    dispatcher: &Dispatcher<HeapReady>,
+    picture: Picture,
+    from: u64,
+    to: u64,
+) -> Result<Drawing, ProgramFault>
+    ensures shows { IfOk result (Shows picture dispatcher.now.decided dispatcher.now.tables dispatcher.now.settings.processors from to) }
+    ensures taken { OnOk result (¬ (AreRefused from to (length dispatcher.now.tables))) }
+    ensures refused { IsErrOf result Slots → AreRefused from to (length dispatcher.now.tables) }
+    ensures only { IfErr result (λ e. (e ≡ Memory) ⊎ (e ≡ Slots)) }
+{
+    let made = match picture {
+        Picture::Schedule => schedule_drawing(alloc, dispatcher, from, to),
+        Picture::Lags => lags_drawing(alloc, dispatcher, from, to),
+    };
+    match made {
+        Ok(drawing) => Ok(drawing),
+        Err(DrawFault::Slots) => Err(ProgramFault::Slots),
+        Err(DrawFault::Memory) => Err(ProgramFault::Memory),
+    }
+}
+
+// The dispatcher that has planned all slots of the script that a reader's bytes hold.
+fn scheduled<R: Read>(
+    alloc: Global,
+    reader: &mut R,
+) -> Result<Dispatcher<HeapReady>, ProgramFault>
+    ensures ok { IfOk result (λ d. IfSome (R.remaining reader.old) (λ bytes. (run : LoggedRun) × (script_of_file bytes ≡ Ok run) × IsRunOf run d)) }
+    ensures refused { IfErr result (λ e. IfSome (R.remaining reader.old) (λ bytes. IsRefusalOf bytes e)) }
+    ensures long { IsErrOf result FileTooLong → HasTaken (R.remaining reader.old) (R.remaining reader.new) (λ n. n ≡ 67108865) }
+    ensures unread { IsErrOf result ReadFailed → HasTaken (R.remaining reader.old) (R.remaining reader.new) (λ n. n ≤ 67108864) }
+    ensures within { OnOk result (HasTaken (R.remaining reader.old) (R.remaining reader.new) (λ n. n ≤ 67108864)) }
+    ensures within_fault { IfErr result (λ e. e ≢ FileTooLong → e ≢ Memory → HasTaken (R.remaining reader.old) (R.remaining reader.new) (λ n. n ≤ 67108864)) }
+    ensures most { HasTaken (R.remaining reader.old) (R.remaining reader.new) (λ n. n ≤ 67108865) }
+    ensures only { IfErr result IsFaultOfRun }
+{
+    let script = read_script(alloc, reader)?;
+    match run_script(alloc, &script) {
+        Ok(dispatcher) => Ok(dispatcher),
+        Err(ScriptFault::Stalled { slot }) => Err(ProgramFault::Stalled { slot }),
+        Err(ScriptFault::Memory) => Err(ProgramFault::Memory),
+    }
+}
+
+// The script that a reader's bytes hold.
+fn read_script<R: Read>(alloc: Global, reader: &mut R) -> Result<Script, ProgramFault>
+    ensures ok { IfOk result (λ s. IfSome (R.remaining reader.old) (λ bytes. script_of_file bytes ≡ Ok s)) }
+    ensures refused { IfErr result (λ e. IfSome (R.remaining reader.old) (λ bytes. IsRefusalOf bytes e)) }
+    ensures long { IsErrOf result FileTooLong → HasTaken (R.remaining reader.old) (R.remaining reader.new) (λ n. n ≡ 67108865) }
+    ensures unread { IsErrOf result ReadFailed → HasTaken (R.remaining reader.old) (R.remaining reader.new) (λ n. n ≤ 67108864) }
+    ensures within { OnOk result (HasTaken (R.remaining reader.old) (R.remaining reader.new) (λ n. n ≤ 67108864)) }
+    ensures within_fault { IfErr result (λ e. e ≢ FileTooLong → e ≢ Memory → HasTaken (R.remaining reader.old) (R.remaining reader.new) (λ n. n ≤ 67108864)) }
+    ensures most { HasTaken (R.remaining reader.old) (R.remaining reader.new) (λ n. n ≤ 67108865) }
+    ensures only { IfErr result IsFaultOfRun }
+{
+    let bytes = match read_bytes(alloc, reader) {
+        Ok(bytes) => bytes,
+        Err(ReadFault::TooLong) => return Err(ProgramFault::FileTooLong),
+        Err(ReadFault::ReadFailed) => return Err(ProgramFault::ReadFailed),
+        Err(ReadFault::Memory) => return Err(ProgramFault::Memory),
+    };
+    match read_file(alloc, bytes.as_slice()) {
+        Ok(script) => Ok(script),
+        Err(FileFault::Memory) => Err(ProgramFault::Memory),
+        Err(fault) => Err(ProgramFault::File(fault)),
+    }
+}

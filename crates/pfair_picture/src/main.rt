@@ -1,0 +1,58 @@
+//! `pfair_picture`: pictures of the schedules and of the lags of task files, in SVG.
+#![tactic(auto)]
+
+mod draw;
+mod fault;
+mod help;
+#[cfg(test)]
+mod tests;
+mod words;
+
+use draw::{draw, send_text};
+use fault::{ProgramFault, write_fault};
+use std::fs::File;
+use std::io;
+use std::process::ExitCode;
+use words::{Asked, read_words};
+
+fn main(rt: HostRuntime) -> ExitCode {
+    match run(&rt) {
+        Ok(()) => ExitCode::SUCCESS,
+        Err(fault) => ExitCode::from(write_fault(&fault, &mut rt.stderr())),
+    }
+}
+
+// Does what the command line asks for.
+fn run(rt: &HostRuntime) -> Result<(), ProgramFault> {
+    let words = given_words(rt)?;
+    let mut out = rt.stdout();
+    match read_words(rt.alloc(), words.as_slice())? {
+        Asked::Draw {
+            picture,
+            file,
+            slots,
+        } => {
+            let mut reader = opened(rt, &file)?;
+            draw(rt.alloc(), &mut reader, picture, slots, &mut out)
+        }
+        Asked::Text(text) => send_text(&mut out, text.as_bytes()),
+    }
+}
+
+// A task file, opened for reading.
+fn opened(rt: &HostRuntime, file: &str) -> Result<File, ProgramFault> {
+    match File::open(rt, file) {
+        Ok(reader) => Ok(reader),
+        Err(error) if error.kind() == io::ErrorKind::OutOfMemory => Err(ProgramFault::Memory),
+        Err(_) => Err(ProgramFault::ReadFailed),
+    }
+}
+
+// The words after the program's name. Those that are no text are refused.
+fn given_words(rt: &HostRuntime) -> Result<Vec<String>, ProgramFault> {
+    match std::env::args(rt) {
+        Ok(args) => Ok(args.skip(1).collect(rt.alloc())?),
+        Err(error) if error.kind() == io::ErrorKind::OutOfMemory => Err(ProgramFault::Memory),
+        Err(_) => Err(ProgramFault::CommandLine),
+    }
+}
