@@ -45,7 +45,7 @@ returns-clause-steady g c =
     let members_are : mid.members ≡ boundary old.machine c.args.slot old.members (announcements announced) = ap (λ (r : Roster). r.members) c.in_ok-decided.ensures.members in
     let rows_are : rows ≡ map (pick mid.members) (first_by_rank c.args.processors (eligible c.args.slot mid.members)) = c.in_ok-table.ensures.table in
     let ran_are : c.give_quanta.new.members ≡ record mid { members = all_ran rows mid.members } = c.in_ok-table.ensures.members in
-    steady_next c.args.slot (g.R.Ready.now c.args.ready.now) (g.R.Ready.now c.give_quanta.new.ready) old c.give_quanta.new.members (g.R.Ready.held c.args.ready.now) (g.R.Ready.held c.give_quanta.new.ready) heard c.args.processors rows
+    steady_next c.args.slot (g.R.Ready.now c.args.ready.now) (g.R.Ready.now c.give_quanta.new.ready) old c.give_quanta.new.members (g.R.Ready.held c.args.ready.now) (g.R.Ready.held c.give_quanta.new.ready) announced c.args.processors rows
     c.requires.steady
     (rows_are ∙ ap (λ (ms : List Member). map (pick ms) (first_by_rank c.args.processors (eligible c.args.slot ms))) members_are)
     (ap (λ (r : Roster). r.members) ran_are ∙ ap (all_ran rows) members_are)
