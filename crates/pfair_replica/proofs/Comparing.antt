@@ -1,6 +1,6 @@
 -- Rows compared, read cell by cell.
 use Rattle.std.proofs.Common.{arith, ◌≡◌, refl, sym, ap, subst, ⊎_elim, inl, inr, ◌∙◌, Bool}
-use Rattle.std.specs.Prelude.{◌↔◌, ◌≢◌, ◌≤◌, ◌<◌, ℕ, Option, None, Some, List, [], ◌∷◌, length, IsTrue, nat_eq}
+use Rattle.std.specs.Prelude.{◌↔◌, ◌≢◌, ℕ, Option, None, Some, List, [], ◌∷◌, length, IsTrue, nat_eq}
 use Rattle.std.specs.Option.{option_and_then}
 use Rattle.std.proofs.lemmas.Bool.{eqb-true, eq-eqb}
 use Rattle.std.specs.Ordering.{nat_cmp, is_eq}

@@ -16,3 +16,4 @@ mod Following
 pub mod SoundEntries
 mod LeastMark
 mod Listed
+mod SaidListed

@@ -14,42 +14,42 @@ use Rattle.pfair_replica.proofs.Marks.{Among}
 -- ---- lists
 
 module _ {A : Type 0} where
-  among_contained : (xs : List A) (x : A) → Contains xs x → Among xs x
+  pub among_contained : (xs : List A) (x : A) → Contains xs x → Among xs x
   among_contained [] x (k, h, e) = absurd (omega (arith, h))
   among_contained (y ∷ ys) x (zero, h, e) = inl (sym e)
   among_contained (y ∷ ys) x (suc k, h, e) = inr (among_contained ys x (k, omega (arith, h), e))
 
-  contained_among : (xs : List A) (x : A) → Among xs x → Contains xs x
+  pub contained_among : (xs : List A) (x : A) → Among xs x → Contains xs x
   contained_among [] x h = absurd h
   contained_among (y ∷ ys) x (inl e) = (0, omega arith, sym e)
   contained_among (y ∷ ys) x (inr h) = (let more = contained_among ys x h in let low = more.1 in (suc more.0, omega (arith, low), more.2))
 
-  among_left : (xs ys : List A) (x : A) → Among xs x → Among (xs ++ ys) x
+  pub among_left : (xs ys : List A) (x : A) → Among xs x → Among (xs ++ ys) x
   among_left [] ys x h = absurd h
   among_left (y ∷ xs) ys x (inl e) = inl e
   among_left (y ∷ xs) ys x (inr h) = inr (among_left xs ys x h)
 
-  among_right : (xs ys : List A) (x : A) → Among ys x → Among (xs ++ ys) x
+  pub among_right : (xs ys : List A) (x : A) → Among ys x → Among (xs ++ ys) x
   among_right [] ys x h = h
   among_right (y ∷ xs) ys x h = inr (among_right xs ys x h)
 
-  among_either : (xs ys : List A) (x : A) → Among (xs ++ ys) x → Among xs x ⊎ Among ys x
+  pub among_either : (xs ys : List A) (x : A) → Among (xs ++ ys) x → Among xs x ⊎ Among ys x
   among_either [] ys x h = inr h
   among_either (y ∷ xs) ys x (inl e) = inl (inl e)
   among_either (y ∷ xs) ys x (inr h) = ⊎_elim (λ l. inl (inr l)) (λ r. inr r) (among_either xs ys x h)
 
 module _ {A : Type 0} (f : ℕ → List A) where
-  flat_from : (xs : List ℕ) (v : A) → Among (flat_map f xs) v → (j : ℕ) × Among xs j × Among (f j) v
+  pub flat_from : (xs : List ℕ) (v : A) → Among (flat_map f xs) v → (j : ℕ) × Among xs j × Among (f j) v
   flat_from [] v h = absurd h
   flat_from (x ∷ xs) v h = ⊎_elim (λ l. (x, inl refl, l)) (λ r. (let more = flat_from xs v r in (more.0, inr more.1, more.2))) (among_either (f x) (flat_map f xs) v h)
 
-  flat_to : (xs : List ℕ) (v : A) (j : ℕ) → Among xs j → Among (f j) v → Among (flat_map f xs) v
+  pub flat_to : (xs : List ℕ) (v : A) (j : ℕ) → Among xs j → Among (f j) v → Among (flat_map f xs) v
   flat_to [] v j h i = absurd h
   flat_to (x ∷ xs) v j (inl e) i = among_left (f x) (flat_map f xs) v (subst (λ (q : ℕ). Among (f q) v) e i)
   flat_to (x ∷ xs) v j (inr h) i = among_right (f x) (flat_map f xs) v (flat_to xs v j h i)
 
 module _ {A : Type 0} (g : ℕ → A) where
-  map_from : (xs : List ℕ) (v : A) → Among (map g xs) v → (n : ℕ) × Among xs n × (v ≡ g n)
+  pub map_from : (xs : List ℕ) (v : A) → Among (map g xs) v → (n : ℕ) × Among xs n × (v ≡ g n)
   map_from [] v h = absurd h
   map_from (x ∷ xs) v (inl e) = (x, inl refl, e)
   map_from (x ∷ xs) v (inr h) = (let more = map_from xs v h in (more.0, inr more.1, more.2))
@@ -78,14 +78,14 @@ module _ (p : ℕ → Bool) where
       by true h = inr h
       by false h = h
 
-below_to : (m k : ℕ) → k < m → Among (numbers_below m) k
+pub below_to : (m k : ℕ) → k < m → Among (numbers_below m) k
 below_to zero k h = absurd (omega (arith, h))
 below_to (suc m) k h = ⊎_elim
     (λ same. among_right (numbers_below m) (m ∷ []) k (inl same))
     (λ ne. among_left (numbers_below m) (m ∷ []) k (below_to m k (omega (arith, h, ne))))
     (cases_eq k m)
 
-below_from : (m k : ℕ) → Among (numbers_below m) k → k < m
+pub below_from : (m k : ℕ) → Among (numbers_below m) k → k < m
 below_from zero k h = absurd h
 below_from (suc m) k h = ⊎_elim
     (λ l. (let low = below_from m k l in omega (arith, low)))
@@ -122,7 +122,7 @@ module _ (x : Replica) where
 
 -- ---- fallen keys
 
-fallen_one : (j i mark : ℕ) (c : Held Logged) (v : EntryKey) → Among (fallen_at j i mark c) v → (v ≡ entry_key j i) × ((e : Logged) × (c ≡ Some (One e)) × (e.floor < mark))
+pub fallen_one : (j i mark : ℕ) (c : Held Logged) (v : EntryKey) → Among (fallen_at j i mark c) v → (v ≡ entry_key j i) × ((e : Logged) × (c ≡ Some (One e)) × (e.floor < mark))
 fallen_one j i mark None v h = absurd h
 fallen_one j i mark (Some Torn) v h = absurd h
 fallen_one j i mark (Some (One e)) v h = by (nat_lt e.floor mark) refl h

@@ -31,7 +31,7 @@ torn_first x k =
     first_map (entry_key k) (filter (λ n. is_torn (x.at k n)) (numbers_to x.capacity)) ∙ ap (option_map (entry_key k)) (first_filter (λ n. is_torn (x.at k n)) (numbers_to x.capacity))
 
 module _ {A : Type 0} (f : ℕ → List A) where
-  flat_more : (p : ℕ) → flat_map f (numbers_below (suc p)) ≡ flat_map f (numbers_below p) ++ f p
+  pub flat_more : (p : ℕ) → flat_map f (numbers_below (suc p)) ≡ flat_map f (numbers_below p) ++ f p
   flat_more p = flat_map-append f (numbers_below p) (p ∷ []) ∙ ap (λ xs. flat_map f (numbers_below p) ++ xs) (append-nil (f p))
 
   -- one more number

@@ -6,3 +6,4 @@ pub mod HeldRows
 pub mod Laws
 pub mod Offered
 pub mod Replica
+pub mod SaidAt

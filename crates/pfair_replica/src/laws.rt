@@ -3,6 +3,7 @@
 //! Each function does nothing: its contract is the law, over every replica that there can be.
 ghost use Rattle.pfair_replica.specs.Laws.{IsLeastJoin, IsLongestRun, IsHeldAfter, IsAgreement, BelowAgrees, SayTheSame, MarksNeverFall, IsReadByNumber, BeginningsGrow, IsLeastMark, IsTornTest, IsListed, OfferedStays};
 ghost use Rattle.pfair_replica.specs.HeldRows.{IsKnownByHeld};
+ghost use Rattle.pfair_replica.specs.SaidAt.{IsSaid};
 
 /// The order of replicas is an order, and a merge is the least that holds both; so it is commutative, associative and idempotent.
 pub fn least_join()
@@ -73,4 +74,10 @@ pub fn torn_test()
 /// The torn keys are those of which the content is torn, and the fallen ones those of an entry right after a sound beginning with a floor below the mark.
 pub fn listed()
     ensures { IsListed }
+{}
+
+/// What is said at a slot is what the entries of sound beginnings announce with that stamp. It stands in order of
+/// processors, and of numbers for each processor, and so do torn and fallen keys.
+pub fn said_in_order()
+    ensures { IsSaid }
 {}

@@ -1,0 +1,193 @@
+-- What the lists of what is said contain, and in which order the lists stand.
+use Rattle.std.proofs.Common.{ℕ, zero, suc, ◌+◌, ◌<◌, ◌≡◌, refl, sym, ap, ◌∙◌, subst, arith, inl, inr, ⊎_elim, Bool, true, false, cond, List, [], ◌∷◌, ◌++◌, length, get_or, Some, None}
+use Rattle.std.specs.Prelude.{◌==◌, map, filter, flat_map, slice_get, Option, AllPairs, nat_lt}
+use Rattle.std.specs.List.{Contains}
+use Rattle.std.proofs.lemmas.Bool.{eqb-true, eq-eqb}
+use Rattle.std.proofs.lemmas.List.{map-append}
+use Rattle.pfair_lattice.specs.declared.flat.Flat.TheVariants.{One, Torn}
+use Rattle.pfair_lattice.specs.Held.{Held}
+use Rattle.pfair_entry.specs.declared.announcement.Announcement.{Announcement}
+use Rattle.pfair_entry.specs.declared.said.Said.{Said}
+use Rattle.pfair_entry.specs.Entry.{Logged}
+use Rattle.pfair_replica.specs.declared.key.EntryKey.{EntryKey}
+use Rattle.pfair_replica.specs.Replica.{Replica, sound_beginning, numbers_below, numbers_to, said_by, said_in, said, is_torn, entry_key, torn_in, torn_keys, fallen_at, fallen_in, fallen_keys, mark}
+use Rattle.pfair_replica.specs.SaidAt.{IsSaidAt, ComesBefore, key_of, IsSaid}
+use Rattle.pfair_replica.proofs.Marks.{Among}
+use Rattle.pfair_replica.proofs.TornKeys.{flat_more}
+use Rattle.pfair_replica.proofs.Listed.{among_contained, contained_among, among_left, among_right, among_either, flat_from, flat_to, map_from, below_to, below_from, fallen_one}
+
+-- ---- what one processor says
+
+said_one : (t k n : ℕ) (o : Option (ℕ × Announcement)) (s : Said) → Among (said_by t k n o) s → (s ≡ record { processor = k; number = n; announcement = s.announcement }) × (o ≡ Some (t, s.announcement))
+said_one t k n None s h = absurd h
+said_one t k n (Some p) s h = by (p.0 == t) refl h
+  where
+    by : (b : Bool) → (p.0 == t) ≡ b → Among (cond b (record { processor = k; number = n; announcement = p.1 } ∷ []) []) s
+        → (s ≡ record { processor = k; number = n; announcement = s.announcement }) × (Some p ≡ Some (t, s.announcement))
+    by true e (inl is) =
+        (let stamp : p.0 ≡ t = eqb-true p.0 t e in
+        let same : p.1 ≡ s.announcement = sym (ap (λ (a : Said). a.announcement) is) in
+        (is ∙ (λ i. record { processor = k; number = n; announcement = same i }), λ i. Some (stamp i, same i)))
+    by true e (inr none) = absurd none
+    by false e none = absurd none
+
+said_here : (t k n : ℕ) (o : Option (ℕ × Announcement)) (a : Announcement) → o ≡ Some (t, a) → Among (said_by t k n o) (record { processor = k; number = n; announcement = a })
+said_here t k n o a e = subst (λ (o : Option (ℕ × Announcement)). Among (said_by t k n o) (record { processor = k; number = n; announcement = a })) (sym e)
+    (subst (λ b. Among {A = Said} (cond b (record { processor = k; number = n; announcement = a } ∷ []) []) (record { processor = k; number = n; announcement = a })) (sym (eq-eqb t t refl)) (inl refl))
+
+said_from : (t k n : ℕ) (es : List Logged) (s : Said) → Among (said_in t k n es) s → (s.processor ≡ k) × ((i : ℕ) × (e : Logged) × (s.number ≡ n + i) × (slice_get es i ≡ Some e) × (e.said ≡ Some (t, s.announcement)))
+said_from t k n [] s h = absurd h
+said_from t k n (e ∷ es) s h = ⊎_elim
+    (λ l. (let one = said_one t k n e.said s l in
+    (ap (λ (a : Said). a.processor) one.0, (0, e, ap (λ (a : Said). a.number) one.0 ∙ (let same : n ≡ n + 0 = omega arith in same), refl, one.1))))
+    (λ r. (let more = said_from t k (suc n) es s r in let at = more.1 in
+    (more.0, (suc at.0, at.1, (let number = at.2 in omega (arith, number)), at.3, at.4))))
+    (among_either (said_by t k n e.said) (said_in t k (suc n) es) s h)
+
+said_to : (t k n : ℕ) (es : List Logged) (i : ℕ) (e : Logged) (a : Announcement) → slice_get es i ≡ Some e → e.said ≡ Some (t, a) → Among (said_in t k n es) (record { processor = k; number = n + i; announcement = a })
+said_to t k n [] i e a at says = absurd (cc)
+said_to t k n (d ∷ es) zero e a at says =
+    (let same : d ≡ e = cc in
+    among_left (said_by t k n d.said) (said_in t k (suc n) es) _
+    (subst (λ (m : ℕ). Among (said_by t k n d.said) (record { processor = k; number = m; announcement = a })) (let here : n ≡ n + 0 = omega arith in here)
+    (said_here t k n d.said a (ap (λ (l : Logged). l.said) same ∙ says))))
+said_to t k n (d ∷ es) (suc i) e a at says =
+    among_right (said_by t k n d.said) (said_in t k (suc n) es) _
+    (subst (λ (m : ℕ). Among (said_in t k (suc n) es) (record { processor = k; number = m; announcement = a })) (let next : suc n + i ≡ n + suc i = omega arith in next)
+    (said_to t k (suc n) es i e a at says))
+
+module _ (x : Replica) (t : ℕ) where
+  members_from : (s : Said) → Contains (said x t) s → IsSaidAt x t s
+  members_from s h =
+      let row = flat_from (λ k. said_in t k 1 (sound_beginning x k)) (numbers_below x.processors) s (among_contained (said x t) s h) in
+      let from = said_from t row.0 1 (sound_beginning x row.0) s row.2 in
+      let at = from.1 in
+      let low = below_from x.processors row.0 row.1 in
+      let processor = from.0 in
+      let number = at.2 in
+      (omega (arith, low, processor), (at.0, at.1, omega (arith, number), ap (λ k. slice_get (sound_beginning x k) at.0) processor ∙ at.3, at.4))
+
+  members_to : (s : Said) → IsSaidAt x t s → Contains (said x t) s
+  members_to s (low, (i, e, number, at, says)) =
+      contained_among (said x t) s (flat_to (λ k. said_in t k 1 (sound_beginning x k)) (numbers_below x.processors) s s.processor (below_to x.processors s.processor low)
+      (subst (λ (m : ℕ). Among (said_in t s.processor 1 (sound_beginning x s.processor)) (record { processor = s.processor; number = m; announcement = s.announcement }))
+      (let same : 1 + i ≡ s.number = omega (arith, number) in same)
+      (said_to t s.processor 1 (sound_beginning x s.processor) i e s.announcement at says)))
+
+-- ---- the order
+
+module _ {A : Type 0} (key : A → EntryKey) where
+  abbrev AllAfter : A → List A → Type 0
+  AllAfter a xs = (b : A) → Among xs b → ComesBefore (key a) (key b)
+
+  abbrev InOrder : List A → Type 0
+  InOrder [] = Unit {0}
+  InOrder (x ∷ xs) = AllAfter x xs × InOrder xs
+
+  joined : (xs ys : List A) → InOrder xs → InOrder ys → ((a b : A) → Among xs a → Among ys b → ComesBefore (key a) (key b)) → InOrder (xs ++ ys)
+  joined [] ys p q h = q
+  joined (x ∷ xs) ys p q h = (
+    λ b m. ⊎_elim (λ l. p.0 b l) (λ r. h x b (inl refl) r) (among_either xs ys b m),
+    joined xs ys p.1 q (λ a b m n. h a b (inr m) n),
+  )
+
+  at_place : (xs : List A) (i : ℕ) (d : A) → i < length xs → Among xs (get_or xs i d)
+  at_place [] i d within = absurd (omega arith)
+  at_place (x ∷ xs) zero d within = inl refl
+  at_place (x ∷ xs) (suc i) d within = inr (at_place xs i d (omega (arith, within)))
+
+  pairs : (xs : List A) → InOrder xs → AllPairs (λ a b. ComesBefore (key a) (key b)) xs
+  pairs [] p i j d earlier within = absurd (omega arith)
+  pairs (x ∷ xs) p zero zero d earlier within = absurd (omega arith)
+  pairs (x ∷ xs) p zero (suc j) d earlier within = p.0 (get_or xs j d) (at_place xs j d (omega (arith, within)))
+  pairs (x ∷ xs) p (suc i) zero d earlier within = absurd (omega arith)
+  pairs (x ∷ xs) p (suc i) (suc j) d earlier within = pairs xs p.1 i j d (omega (arith, earlier)) (omega (arith, within))
+
+  module _ (f : ℕ → List A) (own : (k : ℕ) (a : A) → Among (f k) a → (key a).processor ≡ k) (each : (k : ℕ) → InOrder (f k)) where
+    of_each : (m : ℕ) → InOrder (flat_map f (numbers_below m))
+    of_each zero = tt
+    of_each (suc m) = subst InOrder (sym (flat_more f m)) (joined (flat_map f (numbers_below m)) (f m) (of_each m) (each m)
+        (λ a b p q. (let from = flat_from f (numbers_below m) a p in
+        let low = below_from m from.0 from.1 in
+        let first = own from.0 a from.2 in
+        let second = own m b q in
+        inl (omega (arith, low, first, second)))))
+
+said_order : (t k n : ℕ) (es : List Logged) → InOrder key_of (said_in t k n es)
+said_order t k n [] = tt
+said_order t k n (e ∷ es) = joined key_of (said_by t k n e.said) (said_in t k (suc n) es) (one e.said) (said_order t k (suc n) es)
+    (λ a b p q. (let first = said_one t k n e.said a p in
+    let second = said_from t k (suc n) es b q in
+    let at = second.1 in
+    let number = at.2 in
+    let here : a.number ≡ n = ap (λ (s : Said). s.number) first.0 in
+    let row : a.processor ≡ k = ap (λ (s : Said). s.processor) first.0 in
+    inr (row ∙ sym second.0, omega (arith, number, here))))
+  where
+    none_after : (s : Said) → AllAfter key_of s []
+    none_after s b h = absurd h
+
+    one : (o : Option (ℕ × Announcement)) → InOrder key_of (said_by t k n o)
+    one None = tt
+    one (Some p) = by (p.0 == t)
+      where
+        by : (b : Bool) → InOrder key_of (cond b (record { processor = k; number = n; announcement = p.1 } ∷ []) [])
+        by true = (none_after (record { processor = k; number = n; announcement = p.1 }), tt)
+        by false = tt
+
+-- ---- the order of keys
+
+numbers_rise : (k m : ℕ) → InOrder (entry_key k) (numbers_to m)
+numbers_rise k zero = tt
+numbers_rise k (suc m) = subst (InOrder (entry_key k)) (sym (map-append suc (numbers_below m) (m ∷ [])))
+    (joined (entry_key k) (numbers_to m) (suc m ∷ []) (numbers_rise k m) ((λ b h. absurd h), tt) (λ a b p q.
+    (let from = map_from suc (numbers_below m) a p in
+    let low = below_from m from.0 from.1 in
+    let here = from.2 in
+    let last : b ≡ suc m = ⊎_elim (λ e. e) (λ none. absurd none) q in
+    inr (refl, omega (arith, low, here, last)))))
+
+in_filtered : (p : ℕ → Bool) (xs : List ℕ) (n : ℕ) → Among (filter p xs) n → Among xs n
+in_filtered p [] n h = absurd h
+in_filtered p (x ∷ xs) n h = by (p x) (in_filtered p xs n) h
+  where
+    by : (b : Bool) → (Among (filter p xs) n → Among xs n) → Among (cond b (x ∷ filter p xs) (filter p xs)) n → Among (x ∷ xs) n
+    by true more (inl e) = inl e
+    by true more (inr h) = inr (more h)
+    by false more h = inr (more h)
+
+kept_order : (k : ℕ) (p : ℕ → Bool) (xs : List ℕ) → InOrder (entry_key k) xs → InOrder (λ e. e) (map (entry_key k) (filter p xs))
+kept_order k p [] h = tt
+kept_order k p (x ∷ xs) h = by (p x) (kept_order k p xs h.1)
+  where
+    by : (b : Bool) → InOrder (λ e. e) (map (entry_key k) (filter p xs)) → InOrder (λ e. e) (map (entry_key k) (cond b (x ∷ filter p xs) (filter p xs)))
+    by true rest = (
+      λ b among. (let from = map_from (entry_key k) (filter p xs) b among in
+          subst (λ (e : EntryKey). ComesBefore (entry_key k x) e) (sym from.2) (h.0 from.0 (in_filtered p xs from.0 from.1))),
+      rest,
+    )
+    by false rest = rest
+
+torn_own : (x : Replica) (k : ℕ) (e : EntryKey) → Among (torn_in x k) e → e.processor ≡ k
+torn_own x k e h = ap (λ (e : EntryKey). e.processor) (map_from (entry_key k) (filter (λ n. is_torn (x.at k n)) (numbers_to x.capacity)) e h).2
+
+fallen_own : (x : Replica) (k : ℕ) (e : EntryKey) → Among (fallen_in x k) e → e.processor ≡ k
+fallen_own x k e h = ap (λ (e : EntryKey). e.processor) (fallen_one k (length (sound_beginning x k) + 1) (mark x k) (x.at k (length (sound_beginning x k) + 1)) e h).0
+
+fallen_alone : (k n mark : ℕ) (c : Held Logged) → InOrder (λ e. e) (fallen_at k n mark c)
+fallen_alone k n mark None = tt
+fallen_alone k n mark (Some Torn) = tt
+fallen_alone k n mark (Some (One e)) = by (nat_lt e.floor mark)
+  where
+    by : (b : Bool) → InOrder (λ e. e) (cond b (entry_key k n ∷ []) [])
+    by true = ((λ b h. absurd h), tt)
+    by false = tt
+
+pub is_said : IsSaid
+is_said = record {
+  members = λ x t s. (members_from x t s, members_to x t s);
+  order = λ x t. pairs key_of (said x t) (of_each key_of (λ k. said_in t k 1 (sound_beginning x k)) (λ k a h. (said_from t k 1 (sound_beginning x k) a h).0) (λ k. said_order t k 1 (sound_beginning x k)) x.processors);
+  torn_order = λ x. pairs (λ e. e) (torn_keys x) (of_each (λ e. e) (torn_in x) (torn_own x) (λ k. kept_order k (λ n. is_torn (x.at k n)) (numbers_to x.capacity) (numbers_rise k x.capacity)) x.processors);
+  fallen_order = λ x. pairs (λ e. e) (fallen_keys x) (of_each (λ e. e) (fallen_in x) (fallen_own x)
+      (λ k. fallen_alone k (length (sound_beginning x k) + 1) (mark x k) (x.at k (length (sound_beginning x k) + 1))) x.processors);
+}

@@ -1,0 +1,25 @@
+-- What is said at a slot, and in which order the lists of a replica stand.
+use Rattle.std.specs.Prelude.{ℕ, ◌≡◌, ◌<◌, ◌+◌, ◌⊎◌, ◌↔◌, slice_get, Some, AllPairs}
+use Rattle.std.specs.List.{Contains}
+use Rattle.pfair_entry.specs.declared.said.Said.{Said}
+use Rattle.pfair_entry.specs.Entry.{Logged}
+use Rattle.pfair_replica.specs.declared.key.EntryKey.{EntryKey}
+use Rattle.pfair_replica.specs.Replica.{Replica, sound_beginning, said, torn_keys, fallen_keys}
+
+-- an entry of a sound beginning, at the place of that number, announces it with stamp t
+abbrev pub IsSaidAt : Replica → ℕ → Said → Type 0
+IsSaidAt x t s = (s.processor < x.processors) × ((i : ℕ) × (e : Logged) × (s.number ≡ i + 1) × (slice_get (sound_beginning x s.processor) i ≡ Some e) × (e.said ≡ Some (t, s.announcement)))
+
+-- the first key comes before the second: by processors, and then by numbers
+abbrev pub ComesBefore : EntryKey → EntryKey → Type 0
+ComesBefore a b = (a.processor < b.processor) ⊎ ((a.processor ≡ b.processor) × (a.number < b.number))
+
+abbrev pub key_of : Said → EntryKey
+key_of s = record { processor = s.processor; number = s.number }
+
+-- what is said at a slot is what the sound beginnings announce with that stamp, and it stands by processors and numbers, as torn and fallen keys do
+pub record IsSaid : Type 0 where
+  pub members : (x : Replica) (t : ℕ) (s : Said) → Contains (said x t) s ↔ IsSaidAt x t s
+  pub order : (x : Replica) (t : ℕ) → AllPairs (λ a b. ComesBefore (key_of a) (key_of b)) (said x t)
+  pub torn_order : (x : Replica) → AllPairs ComesBefore (torn_keys x)
+  pub fallen_order : (x : Replica) → AllPairs ComesBefore (fallen_keys x)
