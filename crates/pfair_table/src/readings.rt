@@ -100,12 +100,12 @@ impl Readings {
 
     /// What was read for a slot, in order of processors, and of numbers for each processor.
     pub(crate) fn said(&self, slot: u64) -> Result<Vec<Said>, AllocError>
-        ensures { IfOk result (λ heard. heard.items ≡ said_by_all self.now.by_processor.items slot) }
+        ensures { IfOk result (λ announced. announced.items ≡ said_by_all self.now.by_processor.items slot) }
     {
-        let mut heard = Vec::new(self.alloc);
+        let mut announced = Vec::new(self.alloc);
         for reading in &self.by_processor {
-            heard.extend_from_slice(reading.agenda.at(slot))?;
+            announced.extend_from_slice(reading.agenda.at(slot))?;
         }
-        Ok(heard)
+        Ok(announced)
     }
 }

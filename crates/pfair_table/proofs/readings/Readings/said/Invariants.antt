@@ -3,4 +3,4 @@ use Rattle.pfair_table.specs.Readings.{said_by_all}
 use Rattle.pfair_table.proofs.readings.Readings.said.Given as goal
 
 abbrev pub invariant-loop-reading : goal.invariant-loop-reading
-invariant-loop-reading l = l.heard.items ≡ said_by_all (take l.reading-index l.self.by_processor.items) l.slot
+invariant-loop-reading l = l.announced.items ≡ said_by_all (take l.reading-index l.self.by_processor.items) l.slot
