@@ -1,10 +1,7 @@
 -- The rows of a book that is told one slot after another.
-use Rattle.std.proofs.Common.{ℕ, zero, suc, ◌+◌, ◌<◌, ◌≤◌, ◌≡◌, refl, sym, ap, subst, ◌∙◌, true, false, cond, List, [], ◌∷◌, ◌++◌, Option, Some, None, map, length, drop, append_assoc}
+use Rattle.std.proofs.Common.{ℕ, ◌+◌, ◌<◌, ◌≤◌, ◌≡◌, refl, sym, ap, ◌∙◌, true, false, cond, List, [], ◌∷◌, ◌++◌, Some, map, length, drop, append_assoc}
 use Rattle.std.specs.Prelude.{slice_get, is_some, ℤ}
 use Rattle.std.specs.Option.{option_map}
-use Rattle.std.specs.List.{AllByRecursion, IsDistinct}
-use Rattle.std.specs.Map.{lookup}
-use Rattle.std.specs.Cmp.Lexicographic.{bytes_decides, nat_list_eq_equiv}
 use Rattle.std.proofs.lemmas.List.{append-nil, drop_all}
 use Rattle.std.specs.Fmt.{decimal, signed_decimal}
 use Rattle.pfair_text.specs.Rows.{line, lines_text}
@@ -15,15 +12,12 @@ use Rattle.pfair_entry.specs.declared.announcement.Announcement.TheVariants.{Arr
 use Rattle.pfair_admission.specs.declared.decision.Decision.{Decision}
 use Rattle.pfair_table.specs.declared.pick.Decided.{Decided}
 use Rattle.pfair_table.specs.Table.{Table}
-use Rattle.pfair_lag.specs.Book.{NameValue, name_eq, Tally, Book, tally_of, lag_of, entered_with, left}
+use Rattle.pfair_lag.specs.Book.{NameValue, Tally, Book, tally_of, lag_of, entered_with, left}
 use Rattle.pfair_output.specs.Told.{is_admitted, is_leave, told, all_told, slot_told, tally_row, book_rows, rows_told}
 use Rattle.pfair_output.proofs.SlotFacts.{first_left}
 
 some_inj : {A : Type 0} (x y : A) → Some x ≡ Some y → x ≡ y
 some_inj x y e = cc
-
-none_some : {A : Type 0} (x : A) → None ≡ Some x → ⊥
-none_some x e = cc
 
 -- ---- time
 
