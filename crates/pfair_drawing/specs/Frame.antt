@@ -26,7 +26,7 @@ pub record IsFrame (f : Frame) : Type 0 where
   pub rows : f.rows ≤ 1000000
   pub processors : f.processors ≤ 64
   pub left_low : 118 ≤ f.left
-  pub left_high : f.left ≤ 176
+  pub left_high : f.left ≤ 192
   pub sizes : IsSizes f.sizes
 
 -- where a slot begins; a slot before the first or after the last counts as that one

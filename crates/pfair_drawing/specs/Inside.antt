@@ -3,7 +3,7 @@ use Rattle.std.specs.Prelude.{ℕ, ◌+◌, ◌≤◌, All}
 use Rattle.pfair_drawing.specs.declared.shape.Area.{Area}
 use Rattle.pfair_drawing.specs.declared.shape.Point.{Point}
 use Rattle.pfair_drawing.specs.declared.shape.Shape.{Shape}
-use Rattle.pfair_drawing.specs.declared.shape.Shape.TheVariants.{Bar, Line, Mark, Label as LabelShape}
+use Rattle.pfair_drawing.specs.declared.shape.Shape.TheVariants.{Bar, Line, Step, Mark, Label as LabelShape}
 use Rattle.pfair_drawing.specs.declared.shape.Drawing.{Drawing}
 
 abbrev pub AreaLiesIn : (width height : ℕ) → Area → Type 0
@@ -12,10 +12,11 @@ AreaLiesIn width height a = (a.x + a.width ≤ width) × (a.y + a.height ≤ hei
 abbrev pub PointLiesIn : (width height : ℕ) → Point → Type 0
 PointLiesIn width height p = (p.x ≤ width) × (p.y ≤ height)
 
--- a bar with its whole area, a line with both ends, a mark and a label with their place
+-- a bar with its whole area, a line and a step with both ends, a mark and a label with their place
 abbrev pub LiesIn : (width height : ℕ) → Shape → Type 0
 LiesIn width height (Bar area fill) = AreaLiesIn width height area
 LiesIn width height (Line from to stroke) = PointLiesIn width height from × PointLiesIn width height to
+LiesIn width height (Step from to stroke) = PointLiesIn width height from × PointLiesIn width height to
 LiesIn width height (Mark at mark) = PointLiesIn width height at
 LiesIn width height (LabelShape label) = PointLiesIn width height label.at
 

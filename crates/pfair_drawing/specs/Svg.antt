@@ -16,7 +16,7 @@ use Rattle.pfair_drawing.specs.declared.shape.Style.TheVariants.{Title, Name, Ab
 use Rattle.pfair_drawing.specs.declared.shape.Label.{Label}
 use Rattle.pfair_drawing.specs.declared.shape.Quantum.{Quantum}
 use Rattle.pfair_drawing.specs.declared.shape.Shape.{Shape}
-use Rattle.pfair_drawing.specs.declared.shape.Shape.TheVariants.{Bar, Line, Mark as MarkShape, Label as LabelShape}
+use Rattle.pfair_drawing.specs.declared.shape.Shape.TheVariants.{Bar, Line, Step, Mark as MarkShape, Label as LabelShape}
 use Rattle.pfair_drawing.specs.declared.shape.Drawing.{Drawing}
 use Rattle.pfair_drawing.specs.declared.words.Words.{Words}
 use Rattle.pfair_drawing.specs.declared.words.Words.TheVariants.{Name as NameWords, Share, Number, More, Processor, Figures as FiguresWords, Note as NoteWords}
@@ -76,6 +76,15 @@ abbrev pub line_text : Point → Point → Stroke → List ℕ
 line_text from to stroke =
     codes "<line" ++ attribute (codes "x1") from.x ++ attribute (codes "y1") from.y ++ attribute (codes "x2") to.x ++ attribute (codes "y2") to.y ++ class_text (stroke_class stroke) ++ codes "/>\n"
 
+abbrev pub start_text : Point → List ℕ
+start_text p = codes "<path d=\"M" ++ decimal p.x ++ codes " " ++ decimal p.y
+
+abbrev pub way_text : Point → List ℕ
+way_text p = codes "H" ++ decimal p.x ++ codes "V" ++ decimal p.y ++ codes "\""
+
+abbrev pub step_text : Point → Point → Stroke → List ℕ
+step_text from to stroke = start_text from ++ way_text to ++ class_text (stroke_class stroke) ++ codes "/>\n"
+
 abbrev pub mark_name : Mark → List ℕ
 mark_name Join = codes "join"
 mark_name Departure = codes "departure"
@@ -132,6 +141,7 @@ label_text names l = codes "<text" ++ point_text l.at ++ class_text (style_class
 abbrev pub shape_text : List NameValue → Shape → List ℕ
 shape_text names (Bar area fill) = area_text area ++ fill_text fill ++ codes "/>\n"
 shape_text names (Line from to stroke) = line_text from to stroke
+shape_text names (Step from to stroke) = step_text from to stroke
 shape_text names (MarkShape at mark) = mark_text at mark
 shape_text names (LabelShape label) = label_text names label
 

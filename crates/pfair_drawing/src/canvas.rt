@@ -54,6 +54,11 @@ fn shown_shape(shape: Shape, width: u64, height: u64) -> Shape
             to: shown_point(to, width, height),
             stroke,
         },
+        Shape::Step { from, to, stroke } => Shape::Step {
+            from: shown_point(from, width, height),
+            to: shown_point(to, width, height),
+            stroke,
+        },
         Shape::Mark { at, mark } => Shape::Mark {
             at: shown_point(at, width, height),
             mark,

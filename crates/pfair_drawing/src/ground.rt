@@ -74,6 +74,13 @@ fn add_side(shapes: &mut Vec<Shape>, frame: &Frame, y: u64, words: Words) -> Res
     add_label(shapes, frame.left - 8, y, words, Style::Side)
 }
 
+// Adds what a scale says, left of its first number.
+fn add_axis(shapes: &mut Vec<Shape>, frame: &Frame, y: u64, note: Note) -> Result<(), AllocError>
+    requires { IsFrame frame.now }
+{
+    add_label(shapes, frame.left - 22, y, Words::Note(note), Style::Side)
+}
+
 /// Adds the lines between slots, the times below them, and in a schedule the numbers of slots above; where slots are
 /// narrow, one for each step.
 pub(crate) fn add_grid(
@@ -100,9 +107,9 @@ pub(crate) fn add_grid(
         }
     }
     if has_slots {
-        add_side(shapes, frame, TOP - 5, Words::Note(Note::Slot))?;
+        add_axis(shapes, frame, TOP - 5, Note::Slot)?;
     }
-    add_side(shapes, frame, bottom + 15, Words::Note(Note::Time))?;
+    add_axis(shapes, frame, bottom + 15, Note::Time)?;
     add_level(shapes, frame, bottom, Stroke::Edge)
 }
 

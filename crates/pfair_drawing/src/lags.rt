@@ -241,24 +241,24 @@ fn add_slot(
     let after = levels_of(alloc, frame, names, book)?;
     let (x, to) = (frame.slot_x(slot), frame.slot_x(slot + 1));
     for (old, new) in before.iter().zip(after.iter()) {
-        let level = old.stroke();
-        add_line(
-            shapes,
-            Point { x, y: old.y },
-            Point { x: to, y: old.y },
-            level,
-        )?;
-        let rise = if old.is_outside { new.stroke() } else { level };
-        add_line(
-            shapes,
-            Point { x: to, y: old.y },
-            Point { x: to, y: new.y },
-            rise,
-        )?;
+        let corner = Point { x: to, y: old.y };
+        let end = Point { x: to, y: new.y };
+        let start = Point { x, y: old.y };
+        if old.is_outside && !new.is_outside {
+            add_line(shapes, start, corner, Stroke::Outside)?;
+            add_line(shapes, corner, end, Stroke::Lag)?;
+        } else {
+            let stroke = old.stroke();
+            let step = Shape::Step {
+                from: start,
+                to: end,
+                stroke,
+            };
+            add(shapes, step)?;
+        }
         if frame.sizes.slot >= 12 {
-            let at = Point { x: to, y: new.y };
             let mark = new.mark();
-            add(shapes, Shape::Mark { at, mark })?;
+            add(shapes, Shape::Mark { at: end, mark })?;
         }
     }
     Ok(())

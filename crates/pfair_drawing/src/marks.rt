@@ -34,7 +34,7 @@ pub(crate) fn add_labels(
             add_label(shapes, middle, y, Words::Number(ran.index), style)?;
         }
         if let Some(name) = names.get(ran.row as usize)
-            && name.as_bytes().len() as u64 * 6 <= frame.sizes.slot
+            && name.as_bytes().len() as u64 * 6 + 2 <= frame.sizes.slot
         {
             let y = frame.cell_y(ran.processor) + frame.sizes.cell - 4;
             add_label(shapes, middle, y, Words::Name(ran.row), style)?;

@@ -276,7 +276,7 @@ pub(crate) fn frame_of(names: &[TaskName], processors: u64, from: u64, to: u64) 
 // The width of the left margin, in which the longest name has room.
 fn left_margin(names: &[TaskName]) -> u64
     ensures low { 118 ≤ result }
-    ensures high { result ≤ 176 }
+    ensures high { result ≤ 192 }
 {
     let mut margin = NARROWEST_LEFT;
     for name in names {

@@ -144,6 +144,15 @@ pub enum Shape {
         /// What it stands for.
         stroke: Stroke,
     },
+    /// A line across, and then up or down.
+    Step {
+        /// Where it begins.
+        from: Point,
+        /// Where it ends.
+        to: Point,
+        /// What it stands for.
+        stroke: Stroke,
+    },
     /// A mark.
     Mark {
         /// Where.

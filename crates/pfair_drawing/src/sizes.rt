@@ -37,7 +37,7 @@ pub const NARROWEST: u64 = 640;
 /// Left of the slots, beside the name: the weight and the spaces.
 pub const BESIDE: u64 = 64;
 /// The width of a letter of a name.
-pub const LETTER: u64 = 7;
+pub const LETTER: u64 = 8;
 /// The narrowest left margin.
 pub const NARROWEST_LEFT: u64 = 118;
 

@@ -21,7 +21,7 @@ pub(crate) const STYLES: &[u8] =
 .late{stroke:#882255;stroke-width:1.5;stroke-dasharray:3 2}.more{fill:#882255;font-size:9px;font-weight:bold;text-anchor:middle}
 .number{fill:#c1121f;font-size:9px;font-weight:bold}
 .within{fill:#f1f6fa}.zero{stroke:#8a94a1;stroke-width:.75}.bound{stroke:#c1121f;stroke-width:.75;stroke-dasharray:4 3}
-.lag{stroke:#0072b2;stroke-width:1.5;stroke-linecap:square}.past{stroke:#c1121f;stroke-width:1.5;stroke-linecap:square}
+.lag{fill:none;stroke:#0072b2;stroke-width:1.5;stroke-linecap:square}.past{fill:none;stroke:#c1121f;stroke-width:1.5;stroke-linecap:square}
 ";
 
 /// What marks and the hatched ground look like, and the ground of all.

@@ -5,7 +5,7 @@
 
 ghost use Rattle.std.specs.Prelude.{◌≡◌, ◌++◌, IfOk, OnOk, codes};
 ghost use Rattle.std.specs.List.{flat_map};
-ghost use Rattle.pfair_drawing.specs.Svg.{area_text, cells_text, figures_text, fill_text, label_text, line_text, mark_name, mark_text, name_text, point_text, processor_class, quanta_text, quantum_text, run_text, shape_text, shown_text, stroke_class, style_class, svg_text, window_text, windows_text, words_text};
+ghost use Rattle.pfair_drawing.specs.Svg.{area_text, cells_text, figures_text, fill_text, label_text, line_text, mark_name, mark_text, name_text, point_text, processor_class, quanta_text, quantum_text, run_text, shape_text, shown_text, start_text, step_text, stroke_class, style_class, svg_text, way_text, window_text, windows_text, words_text};
 
 use crate::shape::{Area, Drawing, Fill, Label, Mark, Point, Quantum, Shape, Stroke, Style};
 use crate::style::{add_head, label_class};
@@ -154,6 +154,7 @@ fn add_shape(text: &mut Vec<u8>, names: &[TaskName], shape: &Shape) -> Result<()
     match *shape {
         Shape::Bar { area, fill } => add_bar(text, area, fill),
         Shape::Line { from, to, stroke } => add_line(text, from, to, stroke),
+        Shape::Step { from, to, stroke } => add_step(text, from, to, stroke),
         Shape::Mark { at, mark } => add_mark(text, at, mark),
         Shape::Label(label) => add_label(text, names, label),
     }
@@ -192,6 +193,37 @@ fn add_line(text: &mut Vec<u8>, from: Point, to: Point, stroke: Stroke) -> Resul
     add_attribute(text, b"y2", to.y)?;
     add_class(text, stroke_class(stroke))?;
     add_text(text, b"/>\n")
+}
+
+// Adds a step.
+fn add_step(text: &mut Vec<u8>, from: Point, to: Point, stroke: Stroke) -> Result<(), AllocError>
+    ensures { OnOk result (text.new.items ≡ text.old.items ++ step_text from to stroke) }
+{
+    add_start(text, from)?;
+    add_way(text, to)?;
+    add_class(text, stroke_class(stroke))?;
+    add_text(text, b"/>\n")
+}
+
+// Adds the beginning of a step.
+fn add_start(text: &mut Vec<u8>, from: Point) -> Result<(), AllocError>
+    ensures { OnOk result (text.new.items ≡ text.old.items ++ start_text from) }
+{
+    add_text(text, b"<path d=\"M")?;
+    add_number(text, from.x)?;
+    add_text(text, b" ")?;
+    add_number(text, from.y)
+}
+
+// Adds the way of a step: across, and then up or down.
+fn add_way(text: &mut Vec<u8>, to: Point) -> Result<(), AllocError>
+    ensures { OnOk result (text.new.items ≡ text.old.items ++ way_text to) }
+{
+    add_text(text, b"H")?;
+    add_number(text, to.x)?;
+    add_text(text, b"V")?;
+    add_number(text, to.y)?;
+    add_text(text, b"\"")
 }
 
 // Adds a mark.
