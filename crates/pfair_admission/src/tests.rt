@@ -104,7 +104,7 @@ fn runs(members: &mut Members, name: &TaskName) -> Option<u64> {
 
 fn refuses_arrivals_in_order(rt: &impl Abort, alloc: Global) -> Result<(), AllocError> {
     let mut members = Members::new(alloc, 1, 12);
-    let heard = [
+    let announced = [
         arrives(rt, "a", 1, 5, false),
         arrives(rt, "a", 12, 12, false),
         arrives(rt, "a", 1, 5, false),
@@ -162,7 +162,7 @@ fn holds_the_weight_of_a_leaver(rt: &impl Abort, alloc: Global) -> Result<(), Al
 
 fn frees_at_the_stamp(rt: &impl Abort, alloc: Global) -> Result<(), AllocError> {
     let mut members = Members::new(alloc, 1, 1);
-    let heard = [
+    let announced = [
         arrives(rt, "a", 1, 1, false),
         departs(rt, "a"),
         arrives(rt, "a", 1, 1, false),
@@ -181,7 +181,7 @@ fn refuses_what_departs(rt: &impl Abort, alloc: Global) -> Result<(), AllocError
         Decision::Admitted,
     )?;
     assert_eq!(rt; runs(&mut members, &a), Some(1));
-    let heard = [
+    let announced = [
         departs(rt, "a"),
         departs(rt, "a"),
         departs(rt, "x"),
@@ -311,7 +311,7 @@ fn is_next(
 
 fn adds_up_delays(rt: &impl Abort, alloc: Global) -> Result<(), AllocError> {
     let (a, mut members) = (name(rt, "a"), Members::new(alloc, 1, 2));
-    let heard = [
+    let announced = [
         arrives(rt, "a", 1, 2, false),
         is_late(rt, "a", 3, 1),
         is_late(rt, "a", 2, 2),
@@ -358,7 +358,7 @@ fn weighs_a_late_release_by_its_own_offset(
     alloc: Global,
 ) -> Result<(), AllocError> {
     let (a, mut members) = (name(rt, "a"), Members::new(alloc, 1, 2));
-    let heard = [arrives(rt, "a", 1, 2, false), is_late(rt, "a", 3, 4)];
+    let announced = [arrives(rt, "a", 1, 2, false), is_late(rt, "a", 3, 4)];
     let expected = [Decision::Admitted, Decision::Delayed];
     decides(rt, &mut members, 0, announced.as_slice(), expected.as_slice())?;
     for (slot, expected) in [
@@ -376,7 +376,7 @@ fn weighs_a_late_release_by_its_own_offset(
 
 fn waits_for_its_own_delay_alone(rt: &impl Abort, alloc: Global) -> Result<(), AllocError> {
     let (a, mut members) = (name(rt, "a"), Members::new(alloc, 1, 4));
-    let heard = [arrives(rt, "a", 3, 4, true), is_late(rt, "a", 2, 3)];
+    let announced = [arrives(rt, "a", 3, 4, true), is_late(rt, "a", 2, 3)];
     let expected = [Decision::Admitted, Decision::Delayed];
     decides(rt, &mut members, 0, announced.as_slice(), expected.as_slice())?;
     for (index, begins_at, deadline) in [(1, 0, 2), (2, 4, 6), (3, 0, 7), (4, 7, 9)] {
@@ -389,7 +389,7 @@ fn waits_for_its_own_delay_alone(rt: &impl Abort, alloc: Global) -> Result<(), A
 fn keeps_the_order_of_admission(rt: &impl Abort, alloc: Global) -> Result<(), AllocError> {
     let mut members = Members::new(alloc, 1, 4);
     assert!(rt; members.is_empty());
-    let heard = [
+    let announced = [
         arrives(rt, "a", 1, 4, false),
         arrives(rt, "c", 1, 4, false),
         arrives(rt, "b", 1, 4, false),
@@ -465,29 +465,18 @@ fn admits_as_many_as_fit(rt: &impl Abort, alloc: Global) -> Result<(), AllocErro
     Ok(())
 }
 
-// How many members there are, and the offset of b's subtask 2, after some beginning of what
-// `leaves_a_beginning` announces.
-const BEGINNINGS: [(usize, Option<u64>); 5] = [
-    (0, None),
-    (1, None),
-    (2, Some(7)),
-    (2, Some(12)),
-    (1, Some(12)),
-];
-
-fn leaves_a_beginning(rt: &impl Abort, alloc: Global) -> Result<(), AllocError> {
+fn decides_four_at_once(rt: &impl Abort, alloc: Global) -> Result<(), AllocError> {
     let mut members = Members::new(alloc, 1, 3);
-    let heard = [
+    let announced = [
         arrives(rt, "a", 1, 3, false),
         arrives(rt, "b", 1, 3, false),
         is_late(rt, "b", 2, 5),
         departs(rt, "a"),
     ];
-    let all = members.boundary(7, announced.as_slice());
+    let all = members.boundary(7, announced.as_slice())?;
     let offset = members.get(&name(rt, "b")).map(|b| b.theta(2));
-    assert!(rt; BEGINNINGS.as_slice().contains(&(members.len(), offset)));
+    assert_eq!(rt; (members.len(), offset), (1, Some(12)));
     assert_eq!(rt; (members.heard(), members.last_slot()), (4, Some(7)));
-    let all = all?;
     let expected = [
         Decision::Admitted,
         Decision::Admitted,
@@ -498,61 +487,40 @@ fn leaves_a_beginning(rt: &impl Abort, alloc: Global) -> Result<(), AllocError> 
     Ok(())
 }
 
-// Each row is played once more where memory was refused.
 #[test]
-fn decides_the_rows(rt: HostRuntime) {
-    if refuses_arrivals_in_order(&rt, rt.alloc()).is_err() {
-        refuses_arrivals_in_order(&rt, rt.alloc()).expect(&rt, "memory");
-    }
-    if admits_as_many_as_fit(&rt, rt.alloc()).is_err() {
-        admits_as_many_as_fit(&rt, rt.alloc()).expect(&rt, "memory");
-    }
-    if holds_the_weight_of_a_leaver(&rt, rt.alloc()).is_err() {
-        holds_the_weight_of_a_leaver(&rt, rt.alloc()).expect(&rt, "memory");
-    }
-    if frees_at_the_stamp(&rt, rt.alloc()).is_err() {
-        frees_at_the_stamp(&rt, rt.alloc()).expect(&rt, "memory");
-    }
-    if refuses_what_departs(&rt, rt.alloc()).is_err() {
-        refuses_what_departs(&rt, rt.alloc()).expect(&rt, "memory");
-    }
+fn decides_the_rows(rt: HostRuntime) -> Result<(), AllocError> {
+    refuses_arrivals_in_order(&rt, rt.alloc())?;
+    admits_as_many_as_fit(&rt, rt.alloc())?;
+    holds_the_weight_of_a_leaver(&rt, rt.alloc())?;
+    frees_at_the_stamp(&rt, rt.alloc())?;
+    refuses_what_departs(&rt, rt.alloc())?;
+    Ok(())
 }
 
 #[test]
-fn delays_and_releases_early(rt: HostRuntime) {
-    if delays_what_is_not_released(&rt, rt.alloc()).is_err() {
-        delays_what_is_not_released(&rt, rt.alloc()).expect(&rt, "memory");
-    }
-    if releases_early_within_a_job(&rt, rt.alloc()).is_err() {
-        releases_early_within_a_job(&rt, rt.alloc()).expect(&rt, "memory");
-    }
-    if adds_up_delays(&rt, rt.alloc()).is_err() {
-        adds_up_delays(&rt, rt.alloc()).expect(&rt, "memory");
-    }
-    if weighs_a_late_release_by_its_own_offset(&rt, rt.alloc()).is_err() {
-        weighs_a_late_release_by_its_own_offset(&rt, rt.alloc()).expect(&rt, "memory");
-    }
-    if waits_for_its_own_delay_alone(&rt, rt.alloc()).is_err() {
-        waits_for_its_own_delay_alone(&rt, rt.alloc()).expect(&rt, "memory");
-    }
+fn delays_and_releases_early(rt: HostRuntime) -> Result<(), AllocError> {
+    delays_what_is_not_released(&rt, rt.alloc())?;
+    releases_early_within_a_job(&rt, rt.alloc())?;
+    adds_up_delays(&rt, rt.alloc())?;
+    weighs_a_late_release_by_its_own_offset(&rt, rt.alloc())?;
+    waits_for_its_own_delay_alone(&rt, rt.alloc())?;
+    Ok(())
 }
 
 #[test]
-fn keeps_order(rt: HostRuntime) {
-    if keeps_the_order_of_admission(&rt, rt.alloc()).is_err() {
-        keeps_the_order_of_admission(&rt, rt.alloc()).expect(&rt, "memory");
-    }
+fn keeps_order(rt: HostRuntime) -> Result<(), AllocError> {
+    keeps_the_order_of_admission(&rt, rt.alloc())?;
+    Ok(())
 }
 
 #[test]
-fn stands_refused_memory(rt: HostRuntime) {
-    if leaves_a_beginning(&rt, rt.alloc()).is_err() {
-        leaves_a_beginning(&rt, rt.alloc()).expect(&rt, "memory");
-    }
+fn joins_delays_and_departs_at_one_boundary(rt: HostRuntime) -> Result<(), AllocError> {
+    decides_four_at_once(&rt, rt.alloc())?;
+    Ok(())
 }
 
 #[test]
-fn reports_refusals(rt: HostRuntime) {
+fn reports_refusals(rt: HostRuntime) -> Result<(), AllocError> {
     let refusals = [
         (Refusal::NameTaken, 20, "name taken"),
         (Refusal::PeriodOutsideFrame, 21, "period outside frame"),
@@ -563,10 +531,7 @@ fn reports_refusals(rt: HostRuntime) {
     ];
     for (refusal, number, text) in refusals {
         assert_eq!(&rt; refusal.number(), number);
-        let mut shown = format!(in rt.alloc(); "{refusal}");
-        if shown.is_err() {
-            shown = format!(in rt.alloc(); "{refusal}");
-        }
-        assert!(&rt; shown.expect(&rt, "memory").as_str() == text);
+        assert!(&rt; format!(in rt.alloc(); "{refusal}")?.as_str() == text);
     }
+    Ok(())
 }
