@@ -98,6 +98,38 @@ fn gives_all_in_order<R: Ready>(rt: &impl Abort, alloc: Global) -> Result<(), Fa
     Ok(())
 }
 
+fn waits_again_in_another_order<R: Ready>(rt: &impl Abort, alloc: Global) -> Result<(), Fail> {
+    let (a, b, c) = (
+        key(rt, 3, 0, b"a"),
+        key(rt, 4, 0, b"b"),
+        key(rt, 5, 0, b"c"),
+    );
+    let mut ready = R::new(alloc);
+    assert!(rt; ready.insert(0, c)?);
+    assert!(rt; ready.insert(0, a)?);
+    assert_eq!(rt; ready.take_first(0, 2)?.as_slice(), [a, c].as_slice());
+    assert!(rt; ready.insert(1, b)?);
+    assert!(rt; ready.insert(1, c)?);
+    assert!(rt; ready.insert(1, a)?);
+    assert!(rt; !ready.insert(2, c)?);
+    assert_eq!(rt;
+        contents(rt, &ready),
+        [Some((1, a)), Some((1, b)), Some((1, c))]
+    );
+    assert_eq!(rt; ready.take_first(1, 3)?.as_slice(), [a, b, c].as_slice());
+    Ok(())
+}
+
+#[test]
+fn plain_waits_again_in_another_order(rt: HostRuntime) -> Result<(), Fail> {
+    waits_again_in_another_order::<PlainReady>(&rt, rt.alloc())
+}
+
+#[test]
+fn heap_waits_again_in_another_order(rt: HostRuntime) -> Result<(), Fail> {
+    waits_again_in_another_order::<HeapReady>(&rt, rt.alloc())
+}
+
 #[test]
 fn plain_holds_until_release(rt: HostRuntime) -> Result<(), Fail> {
     holds_until_release::<PlainReady>(&rt, rt.alloc())
