@@ -1,8 +1,8 @@
 -- The notes of a log, one after the other.
-use Rattle.std.proofs.Common.{ℕ, zero, suc, ◌≡◌, ◌+◌, ◌<◌, ◌≤◌, List, [], ◌∷◌, length, get_or, Some, sym, ap, subst, ◌∙◌, arith}
+use Rattle.std.proofs.Common.{ℕ, zero, suc, ◌≡◌, ◌+◌, ◌<◌, ◌≤◌, List, [], ◌∷◌, length, get_or, Some, sym, ap, ◌∙◌, arith}
 use Rattle.std.specs.Prelude.{slice_get, AllPairs}
 use Rattle.pfair_entry.specs.Entry.{Logged}
-use Rattle.pfair_entry.specs.Writer.{Written, IsNote, AreNotes, EveryLogRises}
+use Rattle.pfair_entry.specs.Writer.{Written, AreNotes, EveryLogRises}
 
 -- a note is numbered by its place
 numbered_from : (before after : Written) (notes : List (ℕ × Logged)) → AreNotes before notes after → (i : ℕ) (n : ℕ × Logged) → slice_get notes i ≡ Some n → n.0 ≡ before.written + (i + 1)

@@ -1,5 +1,5 @@
 -- The join at one key is the least that is above both sides, and so commutative, associative and idempotent; and it is the join that maps make.
-use Rattle.std.proofs.Common.{◌≡◌, refl, sym, ap, ◌∙◌, Bool, true, false, Option, Some, None, inl, inr, cond, subst}
+use Rattle.std.proofs.Common.{◌≡◌, refl, sym, ap, ◌∙◌, Bool, true, false, Some, None, inl, inr, cond, subst}
 use Rattle.std.specs.Prelude.{◌⊎◌}
 use Rattle.std.proofs.lemmas.Bool.{true≢false}
 use Rattle.pfair_lattice.specs.declared.flat.Flat.{Flat}

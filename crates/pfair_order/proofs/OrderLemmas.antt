@@ -1,8 +1,7 @@
 -- The composed order of keys is the order by what differs first.
-use Rattle.std.proofs.Common.{◌≡◌, ◌≢◌, ℕ, ◌<◌, List, [], ◌∷◌, arith, refl, sym, ap, ◌∙◌, inl, inr, ◌⊎◌}
+use Rattle.std.proofs.Common.{◌≡◌, ◌≢◌, ℕ, ◌<◌, List, arith, refl, sym, ap, ◌∙◌, inl, inr, ◌⊎◌}
 use Rattle.std.proofs.lemmas.Bool.{cases_eq}
 use Rattle.std.proofs.lemmas.Bool.Decides.{nat_tests}
-use Rattle.std.proofs.lemmas.Cmp.{nat_list_cmp_total, tied_itself}
 use Rattle.std.specs.declared.cmp.Ordering.{Ordering}
 use Rattle.std.specs.declared.cmp.Ordering.TheVariants.{Less, Equal, Greater}
 use Rattle.std.specs.Ordering.{nat_cmp, ordering_then}
@@ -133,12 +132,3 @@ pub compares_equal : (k l : Key) → k ≡ l → pd2_cmp k l ≡ Equal
 compares_equal k l e =
     past_d k l (ap (λ (x : Key). x.d) e) _ ∙ past_b k l (ap (λ (x : Key). x.b) e) _ ∙ past_tie k l (ap tie_group_of e) _
     ∙ past_name k l (ap (λ (x : Key). x.name) e) _ ∙ equal_nat k.group l.group (ap (λ (x : Key). x.group) e)
-
-then_assoc : (a b c : Ordering) → ordering_then (ordering_then a b) c ≡ ordering_then a (ordering_then b c)
-then_assoc Less b c = refl
-then_assoc Equal b c = refl
-then_assoc Greater b c = refl
-
--- a chain of `then` compares field by field
-pub chained : (a b c d e : Ordering) → ordering_then (ordering_then (ordering_then (ordering_then a b) c) d) e ≡ ordering_then a (ordering_then b (ordering_then c (ordering_then d e)))
-chained a b c d e = simp then_assoc
