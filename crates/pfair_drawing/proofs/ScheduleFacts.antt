@@ -1,6 +1,6 @@
 -- A picture whose layers are those of its figure is that of a schedule.
 use Rattle.std.proofs.Common.{ℕ, ◌≡◌, List, length}
-use Rattle.std.specs.Prelude.{All}
+use Rattle.std.specs.Prelude.{All, min}
 use Rattle.pfair_table.specs.declared.pick.Decided.{Decided}
 use Rattle.pfair_table.specs.Table.{Table}
 use Rattle.pfair_drawing.specs.declared.frame.Frame.{Frame}
@@ -15,7 +15,7 @@ use Rattle.pfair_drawing.specs.Schedule.{IsSchedule}
 use Rattle.pfair_drawing.proofs.InsideFacts.{windows_inside, quanta_inside, cells_inside}
 
 module _ (decided : List (List Decided)) (tables : List Table) (processors from to : ℕ) (f : Frame) (d : Drawing) where
-  pub schedule_is : IsFrame f → f.from ≡ from → f.to ≡ to → f.processors ≡ processors → d.names.items ≡ names_before decided tables to → f.rows ≡ length d.names.items
+  pub schedule_is : IsFrame f → f.from ≡ from → f.to ≡ to → f.processors ≡ processors → d.names.items ≡ names_before decided tables to → f.rows ≡ min (length d.names.items) 1000000
       → d.width ≡ width_of f → d.height ≡ height_of f
       → d.windows.items ≡ windows f d.names.items (told_before decided tables to)
       → d.quanta.items ≡ quanta f d.names.items tables → d.cells.items ≡ cells f d.names.items tables

@@ -1,5 +1,5 @@
 -- What the picture of a schedule shows.
-use Rattle.std.specs.Prelude.{ℕ, ◌≡◌, ◌≤◌, ◌<◌, ◌+◌, ◌⊎◌, List, length}
+use Rattle.std.specs.Prelude.{ℕ, ◌≡◌, ◌≤◌, ◌<◌, ◌+◌, ◌⊎◌, List, length, min}
 use Rattle.pfair_table.specs.declared.pick.Decided.{Decided}
 use Rattle.pfair_table.specs.Table.{Table}
 use Rattle.pfair_drawing.specs.declared.frame.Frame.{Frame}
@@ -17,14 +17,14 @@ AreRefused from to planned = (to ≤ from) ⊎ ((planned < to) ⊎ (from + 4096 
 
 -- A picture of the slots `from` to `to - 1` of some tables and the decisions before them, on so many processors.
 pub record IsSchedule (decided : List (List Decided)) (tables : List Table) (processors from to : ℕ) (d : Drawing) : Type 0 where
-  -- a figure of these slots with a row for each name and each processor
+  -- a figure of these slots with a row for each name, of which a run has fewer than 1,000,000, and for each processor
   pub frame : Frame
   pub is_frame : IsFrame frame
   pub first : frame.from ≡ from
   pub end : frame.to ≡ to
   pub processors_are : frame.processors ≡ processors
   pub names : d.names.items ≡ names_before decided tables to
-  pub rows : frame.rows ≡ length d.names.items
+  pub rows : frame.rows ≡ min (length d.names.items) 1000000
   pub width : d.width ≡ width_of frame
   pub height : d.height ≡ height_of frame
   -- one bar for each window that meets the slots, and for each quantum one in its task's row and one in its processor's

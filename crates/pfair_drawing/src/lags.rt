@@ -11,7 +11,7 @@ use crate::ground::{add_grid, add_level, add_rows, add_title};
 use crate::history::{History, history_of};
 use crate::key::add_lag_key;
 use crate::names::row_of;
-use crate::schedule::{DrawFault, MAX_ROWS, are_refused, figures_of, frame_of};
+use crate::schedule::{DrawFault, are_refused, figures_of, frame_of};
 use crate::shape::{Area, Drawing, Fill, Mark, Point, Shape, Stroke};
 use crate::words::{Figures, Note};
 use pfair_admission::Decision;
@@ -59,9 +59,6 @@ fn draw<R: Ready>(
 {
     let history = history_of(alloc, dispatcher, to)?;
     let names = admitted_of(alloc, &history)?;
-    if names.len() > MAX_ROWS {
-        return Err(AllocError);
-    }
     let frame = lag_frame(names.as_slice(), from, to);
     let (width, height) = (frame.width(), frame.height());
     let figures = figures_of(dispatcher, from, to);
@@ -96,7 +93,6 @@ fn admitted_of(alloc: Global, history: &History) -> Result<Vec<TaskName>, AllocE
 fn lag_frame(names: &[TaskName], from: u64, to: u64) -> Frame
     requires order { from ≤ to }
     requires slots { to ≤ 1000000 }
-    requires rows { length names.now ≤ 1000000 }
     ensures { IsFrame result }
 {
     let mut frame = frame_of(names, 0, from, to);

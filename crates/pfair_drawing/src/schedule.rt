@@ -1,6 +1,6 @@
 //! The picture of a schedule.
 
-ghost use Rattle.std.specs.Prelude.{◌≡◌, ◌≤◌, ◌<◌, ◌↔◌, length, All, Err, IfOk, IsTrue, map};
+ghost use Rattle.std.specs.Prelude.{◌≡◌, ◌≤◌, ◌<◌, ◌↔◌, length, All, Err, IfOk, IsTrue, map, min};
 ghost use Rattle.pfair_drawing.specs.Frame.{IsFrame, height_of, width_of};
 ghost use Rattle.pfair_drawing.specs.Inside.{LiesIn};
 ghost use Rattle.pfair_drawing.specs.Names.{names_before};
@@ -30,8 +30,8 @@ use std::alloc::{AllocError, Global};
 /// The most slots of one picture.
 pub const MAX_SLOTS: u64 = 4096;
 
-// The most rows of tasks of one picture.
-pub(crate) const MAX_ROWS: usize = 1_000_000;
+// The most rows of tasks of one picture, more than a run can have.
+const MAX_ROWS: u64 = 1_000_000;
 
 /// Why a picture isn't drawn.
 #[derive(Clone, Copy, Debug, PartialEq, Eq)]
@@ -61,8 +61,7 @@ impl From<AllocError> for DrawFault {
 ///
 /// # Errors
 /// [`DrawFault::Slots`] exactly where `from` isn't below `to`, `to` is past the slots that are planned, or they are more
-/// than [`MAX_SLOTS`], and [`DrawFault::Memory`] where memory was wanted and refused, or there are more than 1,000,000
-/// names.
+/// than [`MAX_SLOTS`], and [`DrawFault::Memory`] where memory was wanted and refused.
 pub fn schedule_drawing<R: Ready>(
     alloc: Global,
     dispatcher: &Dispatcher<R>,
@@ -93,9 +92,6 @@ fn draw<R: Ready>(
     ensures { IfOk result (IsSchedule dispatcher.now.decided dispatcher.now.tables dispatcher.now.settings.processors from to) }
 {
     let names = names_of(alloc, dispatcher, to)?;
-    if names.len() > MAX_ROWS {
-        return Err(AllocError);
-    }
     let processors = dispatcher.settings().processors() as u64;
     let frame = frame_of(names.as_slice(), processors, from, to);
     draw_in(alloc, dispatcher, &frame, names)
@@ -109,7 +105,7 @@ fn draw_in<R: Ready>(
     names: Vec<TaskName>,
 ) -> Result<Drawing, AllocError>
     requires frame { IsFrame frame.now }
-    requires rows { frame.now.rows ≡ length names.items }
+    requires rows { frame.now.rows ≡ min (length names.items) 1000000 }
     requires names { names.items ≡ names_before dispatcher.now.decided dispatcher.now.tables frame.now.to }
     requires processors { frame.now.processors ≡ dispatcher.now.settings.processors }
     ensures { IfOk result (IsSchedule dispatcher.now.decided dispatcher.now.tables dispatcher.now.settings.processors frame.now.from frame.now.to) }
@@ -256,17 +252,16 @@ pub(crate) fn figures_of<R: Ready>(dispatcher: &Dispatcher<R>, from: u64, to: u6
 pub(crate) fn frame_of(names: &[TaskName], processors: u64, from: u64, to: u64) -> Frame
     requires order { from ≤ to }
     requires slots { to ≤ 1000000 }
-    requires rows { length names.now ≤ 1000000 }
     requires processors { processors ≤ 64 }
     ensures frame { IsFrame result }
     ensures slots { (result.from ≡ from) × (result.to ≡ to) }
-    ensures rows { result.rows ≡ length names.now }
+    ensures rows { result.rows ≡ min (length names.now) 1000000 }
     ensures processors { result.processors ≡ processors }
 {
     Frame {
         from,
         to,
-        rows: names.len() as u64,
+        rows: (names.len() as u64).min(MAX_ROWS),
         processors,
         left: left_margin(names),
         sizes: Sizes::of_slots(to - from, to),

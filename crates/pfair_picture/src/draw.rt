@@ -133,10 +133,7 @@ fn drawing_of(
 }
 
 // The dispatcher that has planned all slots of the script that a reader's bytes hold.
-fn scheduled<R: Read>(
-    alloc: Global,
-    reader: &mut R,
-) -> Result<Dispatcher<HeapReady>, ProgramFault>
+fn scheduled<R: Read>(alloc: Global, reader: &mut R) -> Result<Dispatcher<HeapReady>, ProgramFault>
     ensures ok { IfOk result (λ d. IfSome (R.remaining reader.old) (λ bytes. (run : LoggedRun) × (script_of_file bytes ≡ Ok run) × IsRunOf run d)) }
     ensures refused { IfErr result (λ e. IfSome (R.remaining reader.old) (λ bytes. IsRefusalOf bytes e)) }
     ensures long { IsErrOf result FileTooLong → HasTaken (R.remaining reader.old) (R.remaining reader.new) (λ n. n ≡ 67108865) }

@@ -25,4 +25,3 @@ returns-in-Ok-clause-nothing g c = nothing_of (Keeps (g.W.Write.contents c.args.
 
 pub returns-in-Ok-clause-only : goal.returns-in-Ok-clause-only
 returns-in-Ok-clause-only g c = only_of c.send_text.result c.send_text.ensures.only
-
