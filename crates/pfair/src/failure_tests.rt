@@ -1,5 +1,5 @@
-//! What no contract says of commands over a task file that can't be finished: a reader or a writer that fails once and
-//! would then go on, and a gate that gives up at any of its calls.
+//! What no contract says of commands over a task file that can't be finished: a reader or a writer
+//! that fails once and would then go on, and a gate that gives up at any of its calls.
 
 use crate::decisions::decisions;
 use crate::fault::{ProgramFault, write_fault};

@@ -20,7 +20,8 @@ pub enum ProgramFault {
     /// Numbers 4 to 6: a cost and a period make no weight.
     #[error("{0}")]
     Weight(WeightFault),
-    /// Number 52: the logs of a task file settle only the slots below this one, which is one of its slots.
+    /// Number 52: the logs of a task file settle only the slots below this one, which is one of its
+    /// slots.
     #[error("stalled at slot {slot}")]
     Stalled {
         /// The frontier of the logs.
@@ -138,8 +139,9 @@ impl ProgramFault {
         }
     }
 
-    /// The exit status that goes with the fault: 1 for a command line or a weight, 2 for a task file, 3 for a run that
-    /// is stalled, went astray or whose gate gave up, 4 for want of memory, 5 for reading or writing.
+    /// The exit status that goes with the fault: 1 for a command line or a weight, 2 for a task
+    /// file, 3 for a run that is stalled, went astray or whose gate gave up, 4 for want of memory,
+    /// 5 for reading or writing.
     pub fn status(&self) -> u8
         ensures { result ≡ status_of self.now }
     {
@@ -153,15 +155,15 @@ impl ProgramFault {
     }
 }
 
-// Room for the line of any fault. The longest is that of a refused entry, with the place of a bad byte of its name: it has
-// 88 bytes where each number in it is the greatest of its type.
+// Room for the line of any fault. The longest is that of a refused entry, with the place of a bad
+// byte of its name: it has 88 bytes where each number in it is the greatest of its type.
 const LINE_ROOM: usize = 128;
 
 /// Writes the line of a fault, `pfair: NUMBER TEXT`, and gives its exit status, also where the
 /// writer fails.
 ///
-/// The line goes out in one write, so that the lines of two processes that write to one terminal or file don't mix. It
-/// takes no memory, for want of which may be the fault.
+/// The line goes out in one write, so that the lines of two processes that write to one terminal or
+/// file don't mix. It takes no memory, for want of which may be the fault.
 pub fn write_fault<W: Write>(fault: &ProgramFault, writer: &mut W) -> u8
     ensures { result ≡ status_of fault.now }
 {

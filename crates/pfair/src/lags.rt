@@ -8,19 +8,21 @@ use pfair_output::lags_of;
 use std::alloc::Global;
 use std::io::{Read, Write};
 
-/// Writes the lags of the script that a reader's bytes hold: a header, and for each slot t, slots in order, a row for each
-/// member that isn't departing after the boundary of t, in the order of admission: the time t + 1, the task, and its lag
-/// at that time as a numerator over its period, counted from its joining slot.
+/// Writes the lags of the script that a reader's bytes hold: a header, and for each slot t, slots
+/// in order, a row for each member that isn't departing after the boundary of t, in the order of
+/// admission: the time t + 1, the task, and its lag at that time as a numerator over its period,
+/// counted from its joining slot.
 ///
-/// The whole run is made before the first byte goes out. No more than 67,108,864 bytes are taken from the reader, but where
-/// the file is too long or memory was wanting: one more may then be.
+/// The whole run is made before the first byte goes out. No more than 67,108,864 bytes are taken
+/// from the reader, but where the file is too long or memory was wanting: one more may then be.
 ///
 /// # Errors
-/// [`ProgramFault::ReadFailed`] where the reader answers an error, [`ProgramFault::FileTooLong`] where more than
-/// 67,108,864 bytes come, [`ProgramFault::File`] with the first fault of the file, [`ProgramFault::Stalled`] with the
-/// frontier of the logs where it is below the number of slots, and [`ProgramFault::Memory`] where memory was wanted and
-/// refused: nothing has then been written. [`ProgramFault::WriteFailed`] where the writer answered an error, or took
-/// nothing; a prefix of the text has then gone out.
+/// [`ProgramFault::ReadFailed`] where the reader answers an error, [`ProgramFault::FileTooLong`]
+/// where more than 67,108,864 bytes come, [`ProgramFault::File`] with the first fault of the file,
+/// [`ProgramFault::Stalled`] with the frontier of the logs where it is below the number of slots,
+/// and [`ProgramFault::Memory`] where memory was wanted and refused: nothing has then been written.
+/// [`ProgramFault::WriteFailed`] where the writer answered an error, or took nothing; a prefix of
+/// the text has then gone out.
 pub fn lags<R: Read, W: Write>(
     alloc: Global,
     reader: &mut R,

@@ -1,4 +1,5 @@
-//! The command `replay`: the tables of a task file, worked out by a dispatcher for each processor in a thread of its own.
+//! The command `replay`: the tables of a task file, worked out by a dispatcher for each processor
+//! in a thread of its own.
 
 ghost use Rattle.pfair.specs.Runs.{IsCommandOf, IsFaultOfReplay, replay_of_run};
 
@@ -12,22 +13,25 @@ use std::io::{Read, Write};
 use std::sync::Wait;
 use std::thread::Threads;
 
-/// Writes the tables of the script that a reader's bytes hold: a header, and for each quantum a row of its slot, the row
-/// of the slot's table, the task and the index of the subtask. Slots stand in order, and an empty table has no row.
+/// Writes the tables of the script that a reader's bytes hold: a header, and for each quantum a row
+/// of its slot, the row of the slot's table, the task and the index of the subtask. Slots stand in
+/// order, and an empty table has no row.
 ///
-/// Each processor's dispatcher runs in a thread of its own and works out every slot by itself, from the entries that
-/// all publish on one board; each comes to the gate before each slot. The tables are the first one's. The whole run is
-/// made before the first byte goes out. No more than 67,108,864 bytes are taken from the reader, but where the file is too long
-/// or memory was wanting: one more may then be.
+/// Each processor's dispatcher runs in a thread of its own and works out every slot by itself, from
+/// the entries that all publish on one board; each comes to the gate before each slot. The tables
+/// are the first one's. The whole run is made before the first byte goes out. No more than
+/// 67,108,864 bytes are taken from the reader, but where the file is too long or memory was
+/// wanting: one more may then be.
 ///
 /// # Errors
-/// [`ProgramFault::ReadFailed`] where the reader answers an error, [`ProgramFault::FileTooLong`] where more than
-/// 67,108,864 bytes come, [`ProgramFault::File`] with the first fault of the file, [`ProgramFault::Memory`] where memory
-/// was wanted and refused or a thread couldn't be started, [`ProgramFault::GateGaveUp`] only where the gate's type may
-/// give up, [`ProgramFault::Astray`] where a worker learned something else than the logs say, and
-/// [`ProgramFault::Stalled`] with the frontier of the logs where it is below the number of slots: nothing has then been
-/// written. [`ProgramFault::WriteFailed`] where the writer answered an error, or took nothing; a prefix of the text has
-/// then gone out.
+/// [`ProgramFault::ReadFailed`] where the reader answers an error, [`ProgramFault::FileTooLong`]
+/// where more than 67,108,864 bytes come, [`ProgramFault::File`] with the first fault of the file,
+/// [`ProgramFault::Memory`] where memory was wanted and refused or a thread couldn't be started,
+/// [`ProgramFault::GateGaveUp`] only where the gate's type may give up, [`ProgramFault::Astray`]
+/// where a worker learned something else than the logs say, and [`ProgramFault::Stalled`] with the
+/// frontier of the logs where it is below the number of slots: nothing has then been written.
+/// [`ProgramFault::WriteFailed`] where the writer answered an error, or took nothing; a prefix of
+/// the text has then gone out.
 pub fn replay<P: Threads + Wait + Sync, R: Read, W: Write, G: Gate + Sync>(
     rt: &P,
     alloc: Global,

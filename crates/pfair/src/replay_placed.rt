@@ -1,4 +1,5 @@
-//! The command `replay` with places: the tables of a task file, and the processor that runs each row.
+//! The command `replay` with places: the tables of a task file, and the processor that runs each
+//! row.
 
 ghost use Rattle.pfair.specs.Runs.{IsCommandOf, IsFaultOfReplay, placed_replay_of_run};
 
@@ -12,12 +13,14 @@ use std::io::{Read, Write};
 use std::sync::Wait;
 use std::thread::Threads;
 
-/// Writes the tables of the script that a reader's bytes hold, with their places: a header, and the rows of
-/// [`replay`](crate::replay::replay), each with its place at its end, the processor that runs it.
+/// Writes the tables of the script that a reader's bytes hold, with their places: a header, and the
+/// rows of [`replay`](crate::replay::replay), each with its place at its end, the processor that
+/// runs it.
 ///
-/// A task that is in the tables of two slots running stays on its processor. The other rows of a table, in row order, each
-/// take the least processor that no row keeps and none has taken. All else is as for `replay`: the dispatchers' threads,
-/// the gate, the bytes that are taken, the faults, and what has then been written.
+/// A task that is in the tables of two slots running stays on its processor. The other rows of a
+/// table, in row order, each take the least processor that no row keeps and none has taken. All
+/// else is as for `replay`: the dispatchers' threads, the gate, the bytes that are taken, the
+/// faults, and what has then been written.
 ///
 /// # Errors
 /// Those of [`replay`](crate::replay::replay).

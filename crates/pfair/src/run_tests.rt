@@ -1,5 +1,5 @@
-//! What no contract says of the commands over a task file: the rows of worked examples, readers and writers that are slow
-//! or fail.
+//! What no contract says of the commands over a task file: the rows of worked examples, readers and
+//! writers that are slow or fail.
 
 use crate::decisions::decisions;
 use crate::fault::{ProgramFault, write_fault};
@@ -259,7 +259,8 @@ fn a_file_that_is_too_long_by_a_byte(rt: HostRuntime) -> Result<(), Fail> {
     Ok(())
 }
 
-// Each of two workers' first come ends only after the other's first has begun. It counts the calls of each.
+// Each of two workers' first come ends only after the other's first has begun. It counts the calls
+// of each.
 #[derive(Drop)]
 struct Meeting {
     first: AtomicU64,

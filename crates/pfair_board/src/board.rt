@@ -11,8 +11,8 @@ use pfair_entry::Entry;
 use std::alloc::{AllocError, Global};
 use std::marker::Model;
 
-/// One row of cells for each processor, and in each row a cell for each number from 1 to the capacity. A cell is empty until a desk sets
-/// it, and then keeps its entry for good.
+/// One row of cells for each processor, and in each row a cell for each number from 1 to the
+/// capacity. A cell is empty until a desk sets it, and then keeps its entry for good.
 #[derive(Drop)]
 pub struct Board {
     processors: u8,
@@ -35,9 +35,11 @@ impl Model for Board {
 }
 
 impl Board {
-    /// A board of empty cells, for 1 to 64 processors, counted from 0, and logs of 1 to 4,096 entries, counted from 1.
+    /// A board of empty cells, for 1 to 64 processors, counted from 0, and logs of 1 to 4,096
+    /// entries, counted from 1.
     ///
-    /// It costs a step and the room of a pointer for each cell, of which there are `processors` times `capacity`.
+    /// It costs a step and the room of a pointer for each cell, of which there are `processors`
+    /// times `capacity`.
     ///
     /// # Errors
     /// `AllocError` where memory was wanted and refused.
@@ -73,11 +75,11 @@ impl Board {
         self.capacity
     }
 
-    /// One desk for each row, that of processor k at place k, each with an empty replica. A second call gives desks of their own, so that
-    /// a row can have two pens.
+    /// One desk for each row, that of processor k at place k, each with an empty replica. A second
+    /// call gives desks of their own, so that a row can have two pens.
     ///
-    /// It costs a step for each cell and each desk: processors times processors times capacity. The room grows with the number of desks
-    /// alone, as notes of cells take none.
+    /// It costs a step for each cell and each desk: processors times processors times capacity. The
+    /// room grows with the number of desks alone, as notes of cells take none.
     ///
     /// # Errors
     /// `AllocError` where memory was wanted and refused.
@@ -101,7 +103,7 @@ impl Board {
         &self.cells[place]
     }
 
-    /// The desk of one row.
+    // The desk of one row.
     fn desk(&self, proc: u8) -> Result<Desk, AllocError>
         requires { proc < self.now.processors }
         ensures { IfOk result (λ desk. state_of desk ≡ fresh_desk self.now proc) }

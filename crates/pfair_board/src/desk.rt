@@ -23,7 +23,8 @@ use std::marker::Model;
 
 /// The pen of one row of a board, a note for each of its cells, and what was learned of them.
 ///
-/// A desk is used with the board that made it. What it holds it keeps, unchanged, and nothing that it holds is torn.
+/// A desk is used with the board that made it. What it holds it keeps, unchanged, and nothing that
+/// it holds is torn.
 #[derive(Drop)]
 pub struct Desk {
     proc: u8,
@@ -77,7 +78,8 @@ impl Desk {
         self.proc
     }
 
-    /// The number at which the desk publishes next, counted from 1; past the capacity where its row is full.
+    /// The number at which the desk publishes next, counted from 1; past the capacity where its row
+    /// is full.
     pub fn next_number(&self) -> u32
         ensures value { result ≡ self.now.next_number }
         ensures numbered { (1 ≤ self.now.next_number) × (self.now.next_number ≤ self.now.replica.capacity + 1) }
@@ -96,15 +98,16 @@ impl Desk {
         &self.replica
     }
 
-    /// Looks at one cell, and answers its entry, which the desk holds from then on, or `None` where it is empty: then the desk holds
-    /// nothing of that key, and is unchanged.
+    /// Looks at one cell, and answers its entry, which the desk holds from then on, or `None` where
+    /// it is empty: then the desk holds nothing of that key, and is unchanged.
     ///
-    /// It costs a number of steps that grows with the logarithm of the entries held in the row; and where the entry fills the first gap of
-    /// its row, the same for each entry that is held right behind the gap, which happens once to each entry.
+    /// It costs a number of steps that grows with the logarithm of the entries held in the row; and
+    /// where the entry fills the first gap of its row, the same for each entry that is held right
+    /// behind the gap, which happens once to each entry.
     ///
     /// # Errors
-    /// The first of these that applies, and then the desk is unchanged: `NoSuchProcessor`, `NumberOutOfRange`, and `Memory`, which comes
-    /// only where the desk held nothing of that key.
+    /// The first of these that applies, and then the desk is unchanged: `NoSuchProcessor`,
+    /// `NumberOutOfRange`, and `Memory`, which comes only where the desk held nothing of that key.
     pub fn look(&mut self, board: &Board, proc: u8, number: u32) -> Result<Option<Entry>, LookFault>
         requires own { IsDeskOf self.old board.now }
         ensures some { (e : Logged) → result ≡ Ok (Some e) → state_of self.new ≡ learned (state_of self.old) proc number e }
@@ -132,13 +135,16 @@ impl Desk {
         }
     }
 
-    /// Puts an entry at the desk's next number, and answers that number. The desk holds the entry from then on. It costs what a look costs.
+    /// Puts an entry at the desk's next number, and answers that number. The desk holds the entry
+    /// from then on. It costs what a look costs.
     ///
     /// # Errors
-    /// The first of these that applies. `RowFull` exactly where the next number is past the capacity; nothing has then changed. `Taken`
-    /// where another entry stands there: the desk then holds that one, and its next number is one further. `Memory`, which comes only
-    /// where the desk held nothing at that number; it is then as before. The cell may be set by then: publishing the same entry once more
-    /// answers its number, and another one meets the first as `Taken`.
+    /// The first of these that applies. `RowFull` exactly where the next number is past the
+    /// capacity; nothing has then changed. `Taken` where another entry stands there: the desk then
+    /// holds that one, and its next number is one further. `Memory`, which comes only where the
+    /// desk held nothing at that number; it is then as before. The cell may be set by then:
+    /// publishing the same entry once more answers its number, and another one meets the first as
+    /// `Taken`.
     pub fn publish(&mut self, board: &Board, entry: Entry) -> Result<u32, PublishFault>
         requires own { IsDeskOf self.old board.now }
         ensures ok { IfOk result (λ n. (n ≡ self.old.next_number) × (state_of self.new ≡ numbered (state_of self.old) entry)) }
@@ -166,14 +172,16 @@ impl Desk {
         Err(PublishFault::Taken { standing })
     }
 
-    /// Joins in what another desk of the same board holds. Afterwards the desk holds what either held, and nothing torn.
+    /// Joins in what another desk of the same board holds. Afterwards the desk holds what either
+    /// held, and nothing torn.
     ///
-    /// It costs a step for each cell of the board, and a look-up for each entry that the other holds and for each number of a row in which it
-    /// holds one.
+    /// It costs a step for each cell of the board, and a look-up for each entry that the other
+    /// holds and for each number of a row in which it holds one.
     ///
     /// # Errors
-    /// `AllocError` where memory was wanted and refused, which comes only where the other holds something at a key at which this desk holds
-    /// nothing: then a part of that is joined in, and another meet gives what one would have given.
+    /// `AllocError` where memory was wanted and refused, which comes only where the other holds
+    /// something at a key at which this desk holds nothing: then a part of that is joined in, and
+    /// another meet gives what one would have given.
     pub fn meet(&mut self, other: &Desk) -> Result<(), AllocError>
         requires own { OfOneBoard self.old other.now }
         ensures ok { OnOk result (state_of self.new ≡ met (state_of self.old) (state_of other.now)) }
@@ -190,15 +198,17 @@ impl Desk {
         }
     }
 
-    /// Looks at each processor's numbers, from the first that the desk doesn't hold up to the first empty cell, and answers how many keys
-    /// are newly held. In a row that gained some, no number up to the last one gained is missing then, also after want of memory.
+    /// Looks at each processor's numbers, from the first that the desk doesn't hold up to the first
+    /// empty cell, and answers how many keys are newly held. In a row that gained some, no number
+    /// up to the last one gained is missing then, also after want of memory.
     ///
-    /// It costs, for each processor, a look at each number that is newly held and at one empty cell, and a look-up for each number past its
-    /// sound beginning that was held already. What is in a sound beginning isn't gone through again.
+    /// It costs, for each processor, a look at each number that is newly held and at one empty
+    /// cell, and a look-up for each number past its sound beginning that was held already. What is
+    /// in a sound beginning isn't gone through again.
     ///
     /// # Errors
-    /// `AllocError` where memory was wanted and refused, which comes only where a key of the board is still not held; what was found until
-    /// then is held.
+    /// `AllocError` where memory was wanted and refused, which comes only where a key of the board
+    /// is still not held; what was found until then is held.
     pub fn refresh(&mut self, board: &Board) -> Result<u64, AllocError>
         requires own { IsDeskOf self.old board.now }
         ensures count { IfOk result (λ c. c ≡ gained (replica_of self.old.replica) (replica_of self.new.replica)) }
@@ -215,7 +225,7 @@ impl Desk {
         Ok(found)
     }
 
-    /// The same for one row.
+    // The same for one row.
     fn refresh_row(&mut self, board: &Board, proc: u8) -> Result<u64, AllocError>
         requires own { IsDeskOf self.old board.now }
         requires row { proc < self.old.replica.processors }

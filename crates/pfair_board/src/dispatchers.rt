@@ -40,19 +40,22 @@ pub struct Finished {
     pub runs: Vec<Run>,
 }
 
-/// Runs a dispatcher for each processor of a script, in M threads of their own on one board, each with its own desk, log and dispatcher.
-/// No master decides: each works out every slot itself.
+/// Runs a dispatcher for each processor of a script, in M threads of their own on one board, each
+/// with its own desk, log and dispatcher. No master decides: each works out every slot itself.
 ///
-/// The board has the capacity of the script's longest log, at least 1. At Ok each desk holds the script's replica, every entry of its logs
-/// and nothing else, the tables of each run are the plan of it, and its places are those of the tables. Nothing rests on hints.
+/// The board has the capacity of the script's longest log, at least 1. At Ok each desk holds the
+/// script's replica, every entry of its logs and nothing else, the tables of each run are the plan
+/// of it, and its places are those of the tables. Nothing rests on hints.
 ///
-/// Each thread costs what [`run_worker`] costs. Beside that the entries of all logs are gone through once to take the script, and once for
-/// each thread, to compare what it holds. While it plans, a thread holds all entries twice, in its desk and in its dispatcher.
+/// Each thread costs what [`run_worker`] costs. Beside that the entries of all logs are gone
+/// through once to take the script, and once for each thread, to compare what it holds. While it
+/// plans, a thread holds all entries twice, in its desk and in its dispatcher.
 ///
 /// # Errors
-/// The first of these that applies: `Memory` where memory was wanted and refused, or a thread couldn't be started. `GateGaveUp`, only
-/// where the gate's type may give up. `Astray`, of a worker, or where a worker's replica isn't the script's. `Stalled` only where the
-/// script's frontier, which is that slot, is below the number of slots.
+/// The first of these that applies: `Memory` where memory was wanted and refused, or a thread
+/// couldn't be started. `GateGaveUp`, only where the gate's type may give up. `Astray`, of a
+/// worker, or where a worker's replica isn't the script's. `Stalled` only where the script's
+/// frontier, which is that slot, is below the number of slots.
 pub fn run_dispatchers<P: Threads + Wait + Sync, R: Ready + Send, G: Gate + Sync>(
     rt: &P,
     alloc: Global,

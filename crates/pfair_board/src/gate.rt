@@ -3,13 +3,15 @@ ghost use Rattle.std.specs.Prelude.{◌≡◌, Bool, true, false};
 
 use std::sync::Wait;
 
-/// Where the workers of a run come before each slot: a gate may hold a worker back until others have come, and may give up.
+/// Where the workers of a run come before each slot: a gate may hold a worker back until others
+/// have come, and may give up.
 pub trait Gate {
     /// Whether a gate of this type may give up.
     ghost may_give_up: { Bool };
 
-    /// A worker comes, from its own thread, once for each slot, just before it plans that slot. The worker is the processor whose log it
-    /// has, counted from 0. False: the gate gave up, and the worker's run ends.
+    /// A worker comes, from its own thread, once for each slot, just before it plans that slot. The
+    /// worker is the processor whose log it has, counted from 0. False: the gate gave up, and the
+    /// worker's run ends.
     fn come<P: Wait>(&self, rt: &P, worker: u8, slot: u64) -> bool
         ensures { result ≡ false → may_give_up ≡ true };
 }

@@ -13,7 +13,8 @@ pub struct Hint {
     pub number: u32,
 }
 
-/// A worker's end of the hints: a receiver, and a sender to each other worker. Nothing that a run promises rests on hints.
+/// A worker's end of the hints: a receiver, and a sender to each other worker. Nothing that a run
+/// promises rests on hints.
 #[derive(Drop)]
 pub struct Hints {
     pub(crate) receiver: Receiver<Hint, Global>,
@@ -21,7 +22,8 @@ pub struct Hints {
 }
 
 impl Hints {
-    /// The ends of all workers of so many processors, that of processor k at place k. It costs a sender for each two workers.
+    /// The ends of all workers of so many processors, that of processor k at place k. It costs a
+    /// sender for each two workers.
     ///
     /// # Errors
     /// `AllocError` where memory was wanted and refused.
@@ -44,7 +46,7 @@ impl Hints {
     }
 }
 
-/// A sender to each worker but one.
+// A sender to each worker but one.
 fn senders_to_others(
     alloc: Global,
     senders: &Vec<Sender<Hint, Global>>,

@@ -3,8 +3,9 @@ ghost use Rattle.pfair_board.specs.Laws.{DesksStayBelow, DesksAgree, DesksPlanAl
 
 use pfair_table::laws::{one_plan, one_table};
 
-/// After any sets, gets and meets by any desks, from empty cells and desks, what each desk holds is below the map of the set cells. So
-/// no two desks disagree, no slot gets two different tables, and of the plans of two desks the shorter begins the longer.
+/// After any sets, gets and meets by any desks, from empty cells and desks, what each desk holds is
+/// below the map of the set cells. So no two desks disagree, no slot gets two different tables, and
+/// of the plans of two desks the shorter begins the longer.
 pub fn desks_follow_the_cells()
     ensures below { DesksStayBelow }
     ensures agree { DesksAgree }

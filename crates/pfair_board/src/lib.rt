@@ -1,9 +1,10 @@
-//! The board that the dispatchers' threads share: set-once cells, one for each entry of each log, the desks that set and read them, and
-//! the threads.
+//! The board that the dispatchers' threads share: set-once cells, one for each entry of each log,
+//! the desks that set and read them, and the threads.
 //!
-//! No lock stands round the board. A [`Desk`] learns what stands in a cell and keeps it for good, and two desks that meet hold the
-//! exact join of both. The module [`laws`] says that, whatever desks do, none holds anything but entries of set cells. In
-//! [`run_dispatchers`] each processor of a script has a thread with a desk, a log and a dispatcher of its own, which works out every slot
+//! No lock stands round the board. A [`Desk`] learns what stands in a cell and keeps it for good,
+//! and two desks that meet hold the exact join of both. The module [`laws`] says that, whatever
+//! desks do, none holds anything but entries of set cells. In [`run_dispatchers`] each processor of
+//! a script has a thread with a desk, a log and a dispatcher of its own, which works out every slot
 //! by itself.
 #![tactic(auto)]
 

@@ -72,7 +72,8 @@ impl Notes {
         Ok(*standing)
     }
 
-    /// Takes over all that the other list knows. What both know of a cell is the same entry. As notes take no bytes, neither does this.
+    /// Takes over all that the other list knows. What both know of a cell is the same entry. As
+    /// notes take no bytes, neither does this.
     pub(crate) fn share(&mut self, other: &Notes)
         requires { self.old.cells ≡ other.now.cells }
         ensures mine { KnowMore self.old self.new }
@@ -83,7 +84,7 @@ impl Notes {
         }
     }
 
-    /// The same for one cell.
+    // The same for one cell.
     fn share_one(&mut self, other: &Notes, place: usize)
         requires here { place < length self.old.cells }
         requires cells { self.old.cells ≡ other.now.cells }

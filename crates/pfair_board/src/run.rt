@@ -36,7 +36,8 @@ pub enum RunFault {
 }
 
 impl RunFault {
-    /// The number under which the fault is reported: 90, 53, 54 and 52, in the order of the variants.
+    /// The number under which the fault is reported: 90, 53, 54 and 52, in the order of the
+    /// variants.
     pub fn number(&self) -> u8
         ensures { result ≡ run_fault_number self.now }
     {

@@ -59,7 +59,8 @@ fn two_pens_of_one_row(rt: HostRuntime) -> Result<(), Fail> {
     Ok(())
 }
 
-/// After a publish that was refused memory another entry takes its number, or meets it as taken where the cell was set by then.
+// After a publish that was refused memory another entry takes its number, or meets it as taken
+// where the cell was set by then.
 #[test]
 fn a_publish_after_want_of_memory(rt: HostRuntime) -> Result<(), Fail> {
     let board = Board::new(rt.alloc(), 1, 2)?;
@@ -93,7 +94,7 @@ fn a_refresh_fills_the_gap(rt: HostRuntime) -> Result<(), Fail> {
     Ok(())
 }
 
-/// Publishes a hundred entries, and refreshes after each. Answers whether all went well.
+// Publishes a hundred entries, and refreshes after each. Answers whether all went well.
 fn fill(board: &Board, desk: &mut Desk) -> bool
     requires { IsDeskOf desk.old board.now }
     ensures { IsDeskOf desk.new board.now }

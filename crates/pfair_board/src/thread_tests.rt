@@ -20,7 +20,8 @@ use std::test::Fail;
 use std::thread;
 use std::thread::Threads;
 
-/// Each of two workers' first come ends only after the other's first has begun. It counts the calls of each.
+// Each of two workers' first come ends only after the other's first has begun. It counts the calls
+// of each.
 #[derive(Drop)]
 struct Meeting {
     first: AtomicU64,
@@ -51,7 +52,7 @@ impl Gate for Meeting {
     }
 }
 
-/// Gives up at once.
+// Gives up at once.
 #[derive(Drop)]
 struct ShutGate;
 
@@ -65,7 +66,7 @@ impl Gate for ShutGate {
     }
 }
 
-/// Gives up from the call after so many good ones.
+// Gives up from the call after so many good ones.
 #[derive(Drop)]
 struct Tiring {
     calls: AtomicU64,
@@ -82,7 +83,7 @@ impl Gate for Tiring {
     }
 }
 
-/// Gives up for one worker alone.
+// Gives up for one worker alone.
 #[derive(Drop)]
 struct ShutTo {
     worker: u8,
@@ -98,7 +99,7 @@ impl Gate for ShutTo {
     }
 }
 
-/// Opens to each of two workers at slots 0, 1, 2 and so on, once for each.
+// Opens to each of two workers at slots 0, 1, 2 and so on, once for each.
 #[derive(Drop)]
 struct InTurn {
     first: AtomicU64,
@@ -120,7 +121,7 @@ impl Gate for InTurn {
     }
 }
 
-/// Counts the calls.
+// Counts the calls.
 #[derive(Drop)]
 struct Counting {
     calls: AtomicU64,
@@ -136,7 +137,8 @@ impl Gate for Counting {
     }
 }
 
-/// The picks of each of the sample's six slots: the letter of the task, and the index of its subtask.
+// The picks of each of the sample's six slots: the letter of the task, and the index of its
+// subtask.
 const TABLES: [&[(u8, u64)]; 6] = [
     &[(b'b', 1), (b'a', 1)],
     &[(b'b', 2), (b'c', 1)],
@@ -146,10 +148,10 @@ const TABLES: [&[(u8, u64)]; 6] = [
     &[(b'd', 2)],
 ];
 
-/// The places of these picks.
+// The places of these picks.
 const PLACES: [&[u8]; 6] = [&[0, 1], &[0, 1], &[], &[0, 1], &[0], &[0]];
 
-/// Whether the places are the sample's.
+// Whether the places are the sample's.
 fn has_places(run: &Run) -> bool {
     run.places.len() == 6
         && run
@@ -159,7 +161,7 @@ fn has_places(run: &Run) -> bool {
             .all(|(places, known)| places.as_slice() == *known)
 }
 
-/// Whether the tables are the sample's, and the places.
+// Whether the tables are the sample's, and the places.
 fn is_sample(run: &Run) -> bool {
     if run.tables.len() != 6 || !has_places(run) {
         return false;
@@ -185,7 +187,7 @@ fn entry(rt: &impl Abort, floor: u64, said: Option<(u64, Announcement)>) -> Entr
     Entry::new(floor, said).expect(rt, "an entry")
 }
 
-/// An entry by which a task arrives.
+// An entry by which a task arrives.
 fn arrival(rt: &impl Abort, floor: u64, at: u64, letter: u8, cost: u64, period: u64) -> Entry {
     let weight = Weight::new(cost, period).expect(rt, "a weight");
     let name = name(rt, letter);
@@ -204,7 +206,7 @@ fn arrival(rt: &impl Abort, floor: u64, at: u64, letter: u8, cost: u64, period: 
     )
 }
 
-/// The log of the sample's first processor.
+// The log of the sample's first processor.
 fn first_log(rt: &impl Abort) -> [Entry; 5] {
     let depart = Announcement::Depart {
         name: name(rt, b'a'),
@@ -218,7 +220,7 @@ fn first_log(rt: &impl Abort) -> [Entry; 5] {
     ]
 }
 
-/// The log of the sample's second processor.
+// The log of the sample's second processor.
 fn second_log(rt: &impl Abort) -> [Entry; 5] {
     let late = Announcement::Late {
         name: name(rt, b'b'),
@@ -234,7 +236,7 @@ fn second_log(rt: &impl Abort) -> [Entry; 5] {
     ]
 }
 
-/// The sample's script.
+// The sample's script.
 fn sample(rt: &impl Abort, alloc: Global) -> Result<Script, AllocError> {
     let first = Vec::from_array(alloc, first_log(rt))?;
     let second = Vec::from_array(alloc, second_log(rt))?;
@@ -243,7 +245,7 @@ fn sample(rt: &impl Abort, alloc: Global) -> Result<Script, AllocError> {
     Ok(Script::new(settings, logs).ok().expect(rt, "a script"))
 }
 
-/// A script of one log.
+// A script of one log.
 fn of_one_log(
     rt: &impl Abort,
     alloc: Global,
@@ -340,7 +342,7 @@ fn workers_come_to_each_slot_in_turn(rt: HostRuntime) -> Result<(), Fail> {
     Ok(())
 }
 
-/// Publishes a log. Answers whether all went well.
+// Publishes a log. Answers whether all went well.
 fn publish_all(board: &Board, desk: &mut Desk, log: &[Entry]) -> bool
     requires { IsDeskOf desk.old board.now }
     ensures { IsDeskOf desk.new board.now }
@@ -400,8 +402,8 @@ fn a_worker_tells_the_others_of_its_log(rt: HostRuntime) -> Result<(), Fail> {
     Ok(())
 }
 
-/// Publishes the log of the sample's second processor, sends a hint of each entry, and waits until some worker has come to the gate. Answers
-/// whether one came.
+// Publishes the log of the sample's second processor, sends a hint of each entry, and waits until
+// some worker has come to the gate. Answers whether one came.
 fn tells_and_waits<P: Wait>(
     rt: &P,
     board: &Board,
@@ -433,7 +435,7 @@ fn tells_and_waits<P: Wait>(
     false
 }
 
-/// Whether a worker of the sample works out its tables on a board.
+// Whether a worker of the sample works out its tables on a board.
 fn works_with_hints<P: Wait>(
     rt: &P,
     alloc: Global,
@@ -512,7 +514,8 @@ fn sixty_four_workers(rt: HostRuntime) -> Result<(), Fail> {
     Ok(())
 }
 
-/// Whether a worker of the sample works out its tables on a board, and its desk then holds all ten entries.
+// Whether a worker of the sample works out its tables on a board, and its desk then holds all ten
+// entries.
 fn works_alone<P: Wait>(
     rt: &P,
     alloc: Global,
@@ -591,7 +594,7 @@ fn another_pen_leads_astray(rt: HostRuntime) -> Result<(), Fail> {
     Ok(())
 }
 
-/// A script of 8 processors, 60 tasks and 200 slots.
+// A script of 8 processors, 60 tasks and 200 slots.
 fn busy(rt: &impl Abort, alloc: Global) -> Result<Script, AllocError> {
     let mut logs = Vec::new(alloc);
     for proc in 0..8u8 {
@@ -614,7 +617,7 @@ fn busy(rt: &impl Abort, alloc: Global) -> Result<Script, AllocError> {
     Ok(Script::new(settings, logs).ok().expect(rt, "a script"))
 }
 
-/// Whether the tables and the places are those of this dispatcher.
+// Whether the tables and the places are those of this dispatcher.
 fn are_those_of(run: &Run, dispatcher: &Dispatcher<PlainReady>) -> bool {
     let slots = dispatcher.next_slot();
     if run.tables.len() as u64 != slots || run.places.len() as u64 != slots {
@@ -635,7 +638,7 @@ fn are_those_of(run: &Run, dispatcher: &Dispatcher<PlainReady>) -> bool {
     true
 }
 
-/// Asserts that ten runs of the busy script, in threads, plan what one dispatcher plans.
+// Asserts that ten runs of the busy script, in threads, plan what one dispatcher plans.
 fn ten_runs<P: Threads + Wait + Abort + Sync>(rt: &P, alloc: Global) -> Result<(), Fail> {
     let script = busy(rt, alloc)?;
     let known = run_script::<PlainReady>(alloc, &script)?;

@@ -10,7 +10,8 @@ use crate::desk::Desk;
 use crate::run::{Run, RunFault};
 use pfair_table::Settings;
 
-/// A desk, and a fault or the tables, which by this type are the plan of what the desk holds, with their places.
+/// A desk, and a fault or the tables, which by this type are the plan of what the desk holds, with
+/// their places.
 #[derive(Drop)]
 pub(crate) struct Worked {
     pub(crate) settings: Settings,

@@ -28,21 +28,24 @@ use std::sync::Wait;
 
 /// Works out every slot of one processor's run, given its own log alone.
 ///
-/// Publishes the log from the desk's next number on, sends a hint of each entry to the other workers and drops its senders, looks where a
-/// hint points, plans what it can on a dispatcher of its own, and refreshes and plans the rest once no hint can come any more. What it
-/// answers doesn't rest on hints: at Ok the tables are the plan of what the desk then holds, the places are those of the tables, and the
-/// desk's next number is as many further as the log has entries. So of the answers of two desks of one board, under equal settings, the
-/// shorter begins the longer.
+/// Publishes the log from the desk's next number on, sends a hint of each entry to the other
+/// workers and drops its senders, looks where a hint points, plans what it can on a dispatcher of
+/// its own, and refreshes and plans the rest once no hint can come any more. What it answers
+/// doesn't rest on hints: at Ok the tables are the plan of what the desk then holds, the places are
+/// those of the tables, and the desk's next number is as many further as the log has entries. So of
+/// the answers of two desks of one board, under equal settings, the shorter begins the longer.
 ///
-/// It costs, beside what [`Dispatcher::plan_next`] costs for each slot: a publish of each entry of the log, and a hint of it to each other
-/// worker; for each hint that comes a look, and as much again to take over the entry; a look-up for each processor where no further hint
-/// waits; and a refresh at the end. Before the first hint and after the refresh the dispatcher takes over all that the desk holds, at a
-/// look-up for each number of each row. So what is done for a hint grows with the entries held no more than a look does. The tables and
-/// the places aren't copied.
+/// It costs, beside what [`Dispatcher::plan_next`] costs for each slot: a publish of each entry of
+/// the log, and a hint of it to each other worker; for each hint that comes a look, and as much
+/// again to take over the entry; a look-up for each processor where no further hint waits; and a
+/// refresh at the end. Before the first hint and after the refresh the dispatcher takes over all
+/// that the desk holds, at a look-up for each number of each row. So what is done for a hint grows
+/// with the entries held no more than a look does. The tables and the places aren't copied.
 ///
 /// # Errors
-/// `Memory` where memory was wanted and refused. `GateGaveUp` only where the gate's type may give up. `Astray` only where the desk's row
-/// has another entry at a number of the log. After each the desk holds all that it held, and what it learned.
+/// `Memory` where memory was wanted and refused. `GateGaveUp` only where the gate's type may give
+/// up. `Astray` only where the desk's row has another entry at a number of the log. After each the
+/// desk holds all that it held, and what it learned.
 pub fn run_worker<P: Wait, R: Ready, G: Gate>(
     rt: &P,
     alloc: Global,
@@ -126,7 +129,8 @@ fn send_hint<P: Wait>(
     Ok(())
 }
 
-// Takes the entry that each hint points to, and plans what is settled where no further hint waits, until no hint can come any more.
+// Takes the entry that each hint points to, and plans what is settled where no further hint waits,
+// until no hint can come any more.
 fn heed_all<P: Wait, R: Ready, G: Gate>(
     rt: &P,
     dispatcher: &mut Dispatcher<R>,
@@ -269,7 +273,8 @@ fn plan_slot<R: Ready>(dispatcher: &mut Dispatcher<R>) -> Result<(), AllocError>
     }
 }
 
-// Asks for the step after the last slot that what is held settles, which is no plan: so the tables are the whole plan.
+// Asks for the step after the last slot that what is held settles, which is no plan: so the tables
+// are the whole plan.
 fn see_whole<R: Ready>(dispatcher: &mut Dispatcher<R>)
     requires whole { has_torn (replica_of dispatcher.old.held) ≡ false }
     requires able { dispatcher.old.spent ≡ false }

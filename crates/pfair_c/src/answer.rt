@@ -1,4 +1,5 @@
-//! What the calls answer: 0, the number of the fault that applies, or one of the numbers here, which begin at 100.
+//! What the calls answer: 0, the number of the fault that applies, or one of the numbers here,
+//! which begin at 100.
 
 /// The call did what it says.
 pub(crate) const DONE: u32 = 0;

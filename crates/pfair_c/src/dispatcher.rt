@@ -18,10 +18,12 @@ use pfair_replica::{MergeFault, Taken};
 use pfair_table::{Dispatcher, Settings};
 use std::alloc::Global;
 
-/// Makes a dispatcher behind a handle that has none: with 1 to 64 processors, a frame of 1 to 1,000,000,000 slots, 1 to 1,000,000
-/// slots to plan, and logs of 1 to 4,096 entries. It costs the number of processors.
+/// Makes a dispatcher behind a handle that has none: with 1 to 64 processors, a frame of 1 to
+/// 1,000,000,000 slots, 1 to 1,000,000 slots to plan, and logs of 1 to 4,096 entries. It costs the
+/// number of processors.
 ///
-/// It answers 0, 101 where the handle has one, 100 where a number is out of its range, or 90; the handle is as before but after 0.
+/// It answers 0, 101 where the handle has one, 100 where a number is out of its range, or 90; the
+/// handle is as before but after 0.
 #[unsafe(no_mangle)]
 pub extern "C" fn pfair_open(
     alloc: Global,
@@ -61,8 +63,8 @@ pub extern "C" fn pfair_open(
     }
 }
 
-/// Frees the dispatcher, and leaves the handle with none. It costs the entries held, the tasks, and the quanta and decisions of the
-/// planned slots.
+/// Frees the dispatcher, and leaves the handle with none. It costs the entries held, the tasks, and
+/// the quanta and decisions of the planned slots.
 ///
 /// It answers 0, or 102 where the handle has none.
 #[unsafe(no_mangle)]
@@ -78,11 +80,13 @@ pub extern "C" fn pfair_close(alloc: Global, handle: &mut Handle) -> u32
     DONE
 }
 
-/// Takes entry `number` (from 1) of the log of `processor` (from 0). After 0 `taken` is 0 where nothing was held there, 1 where an equal
-/// entry was, and 2 where anything else was: then that number is torn. It costs what [`Dispatcher::take`] costs.
+/// Takes entry `number` (from 1) of the log of `processor` (from 0). After 0 `taken` is 0 where
+/// nothing was held there, 1 where an equal entry was, and 2 where anything else was: then that
+/// number is torn. It costs what [`Dispatcher::take`] costs.
 ///
-/// It answers 0; 102 where the handle has no dispatcher; 100 where a number is out of its range, 1 to 10 for what is wrong with the
-/// entry; 13 or 14 where there is no such processor or number; 90. Nothing changes but after 0.
+/// It answers 0; 102 where the handle has no dispatcher; 100 where a number is out of its range, 1
+/// to 10 for what is wrong with the entry; 13 or 14 where there is no such processor or number; 90.
+/// Nothing changes but after 0.
 #[unsafe(no_mangle)]
 pub extern "C" fn pfair_take(
     alloc: Global,
@@ -129,10 +133,12 @@ pub extern "C" fn pfair_take(
     }
 }
 
-/// Takes all that another dispatcher holds, which stays as it is. It costs what [`Dispatcher::absorb`] costs.
+/// Takes all that another dispatcher holds, which stays as it is. It costs what
+/// [`Dispatcher::absorb`] costs.
 ///
-/// It answers 0; 102 where a handle has no dispatcher; 15 where the other has another number of processors or another capacity, and
-/// then nothing changes; or 90: then a part of the other is taken, and to absorb it again gives what one call would have given.
+/// It answers 0; 102 where a handle has no dispatcher; 15 where the other has another number of
+/// processors or another capacity, and then nothing changes; or 90: then a part of the other is
+/// taken, and to absorb it again gives what one call would have given.
 #[unsafe(no_mangle)]
 pub extern "C" fn pfair_absorb(alloc: Global, handle: &mut Handle, other: &mut Handle) -> u32
     ensures closed { handle.old.owner.kept ≡ None → (result ≡ 102) × (handle.new.owner.kept ≡ None) }

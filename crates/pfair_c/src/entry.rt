@@ -34,7 +34,8 @@ pub struct PfairEntry {
     pub by: u64,
 }
 
-/// The entry, or the number of what is wrong with it: a number out of its range, then the name's fault, the weight's, the entry's.
+/// The entry, or the number of what is wrong with it: a number out of its range, then the name's
+/// fault, the weight's, the entry's.
 pub(crate) fn read_entry(entry: &PfairEntry) -> Result<Entry, u32>
     ensures ok { IfOk result (λ read. read ≡ logged_of entry.now) }
     ensures meant { OnOk result (IsMeant entry.now) }
@@ -58,7 +59,7 @@ pub(crate) fn read_entry(entry: &PfairEntry) -> Result<Entry, u32>
     make_entry(entry.floor, said)
 }
 
-/// The arrival, or the number of what is wrong with it.
+// The arrival, or the number of what is wrong with it.
 fn read_arrival(entry: &PfairEntry) -> Result<Announcement, u32>
     ensures ok { IfOk result (λ read. read ≡ Arrival (spelled entry.now.name) (record { cost = entry.now.cost; period = entry.now.period }) (nat_eq entry.now.early 1)) }
     ensures meant { OnOk result ((entry.now.early ≤ 1) × IsNamed entry.now.name × IsWeight entry.now.cost entry.now.period) }
@@ -79,7 +80,7 @@ fn read_arrival(entry: &PfairEntry) -> Result<Announcement, u32>
     })
 }
 
-/// The name that these bytes spell, or the number of the fault.
+// The name that these bytes spell, or the number of the fault.
 fn read_name(name: &PfairName) -> Result<TaskName, u32>
     ensures ok { IfOk result (λ read. read ≡ spelled name.now) }
     ensures named { OnOk result (IsNamed name.now) }
@@ -93,7 +94,7 @@ fn read_name(name: &PfairName) -> Result<TaskName, u32>
     TaskName::from_bytes(&name.bytes[..length as usize]).map_err(|fault| fault.number() as u32)
 }
 
-/// The weight, or the number of the fault.
+// The weight, or the number of the fault.
 fn read_weight(cost: u64, period: u64) -> Result<Weight, u32>
     ensures ok { IfOk result (λ read. read ≡ record { cost = cost; period = period }) }
     ensures weight { OnOk result (IsWeight cost period) }
@@ -103,7 +104,7 @@ fn read_weight(cost: u64, period: u64) -> Result<Weight, u32>
     Weight::new(cost, period).map_err(|fault| fault.number() as u32)
 }
 
-/// The entry, or the number of the fault.
+// The entry, or the number of the fault.
 fn make_entry(floor: u64, said: Option<(u64, Announcement)>) -> Result<Entry, u32>
     ensures ok { IfOk result (λ made. made ≡ record { floor = floor; said = said }) }
     ensures entry { OnOk result (IsEntry record { floor = floor; said = said }) }

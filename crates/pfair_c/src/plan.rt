@@ -25,11 +25,12 @@ pub struct PfairStep {
     pub number: u64,
 }
 
-/// Plans the next slot where what is held settles it. It costs what [`Dispatcher::plan_next`](pfair_table::Dispatcher::plan_next)
-/// costs.
+/// Plans the next slot where what is held settles it. It costs what
+/// [`Dispatcher::plan_next`](pfair_table::Dispatcher::plan_next) costs.
 ///
-/// It answers 0 with the step; 102 where the handle has no dispatcher; 30 with the least torn entry, 31 where the dispatcher is spent:
-/// then nothing changes; or 90: then the slot isn't planned, and the dispatcher is spent.
+/// It answers 0 with the step; 102 where the handle has no dispatcher; 30 with the least torn
+/// entry, 31 where the dispatcher is spent: then nothing changes; or 90: then the slot isn't
+/// planned, and the dispatcher is spent.
 #[unsafe(no_mangle)]
 pub extern "C" fn pfair_plan_next(alloc: Global, handle: &mut Handle, step: &mut PfairStep) -> u32
     ensures closed { handle.old.owner.kept ≡ None → (result ≡ 102) × (handle.new.owner.kept ≡ None) }
@@ -86,10 +87,11 @@ pub extern "C" fn pfair_plan_next(alloc: Global, handle: &mut Handle, step: &mut
     }
 }
 
-/// Makes all but what is held and what was planned anew, after which plans go on. It costs what the plans of all slots so far cost.
+/// Makes all but what is held and what was planned anew, after which plans go on. It costs what the
+/// plans of all slots so far cost.
 ///
-/// It answers 0; 102 where the handle has no dispatcher; 30 where something held is torn, and then nothing changes; or 90: then the
-/// dispatcher is spent, and else as before.
+/// It answers 0; 102 where the handle has no dispatcher; 30 where something held is torn, and then
+/// nothing changes; or 90: then the dispatcher is spent, and else as before.
 #[unsafe(no_mangle)]
 pub extern "C" fn pfair_reopen(alloc: Global, handle: &mut Handle) -> u32
     ensures closed { handle.old.owner.kept ≡ None → (result ≡ 102) × (handle.new.owner.kept ≡ None) }

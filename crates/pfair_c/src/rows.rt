@@ -1,7 +1,8 @@
 //! What was planned, in rows.
 //!
-//! Each call answers 0 with the number of rows and the rows; 102 where the handle has no dispatcher; 104 where the slot isn't planned;
-//! or 103 with the number of rows that are wanted, where there are fewer. Nothing else is written.
+//! Each call answers 0 with the number of rows and the rows; 102 where the handle has no
+//! dispatcher; 104 where the slot isn't planned; or 103 with the number of rows that are wanted,
+//! where there are fewer. Nothing else is written.
 ghost use Rattle.std.specs.Prelude.{◌≡◌, None, true, length, slice_get};
 ghost use Rattle.std.specs.Option.{option_map};
 ghost use Rattle.pfair_table.specs.Places.{places_of};
@@ -16,7 +17,8 @@ use pfair_handle::rows::{PfairDecided, PfairPick, write_decisions, write_places,
 use pfair_table::{Decided, Pick};
 use std::alloc::Global;
 
-/// Writes the table of a planned slot, row by row in the PD2 order, and the number of rows. It costs that number.
+/// Writes the table of a planned slot, row by row in the PD2 order, and the number of rows. It
+/// costs that number.
 #[unsafe(no_mangle)]
 pub extern "C" fn pfair_table(
     alloc: Global,
@@ -40,7 +42,8 @@ pub extern "C" fn pfair_table(
     answer
 }
 
-/// Writes the places of a planned slot: for each row of its table the processor that runs it. It costs the number of rows.
+/// Writes the places of a planned slot: for each row of its table the processor that runs it. It
+/// costs the number of rows.
 #[unsafe(no_mangle)]
 pub extern "C" fn pfair_places(
     alloc: Global,
@@ -64,7 +67,8 @@ pub extern "C" fn pfair_places(
     answer
 }
 
-/// Writes the decisions at the boundary of a planned slot, in the order of processor and number. It costs their number.
+/// Writes the decisions at the boundary of a planned slot, in the order of processor and number. It
+/// costs their number.
 #[unsafe(no_mangle)]
 pub extern "C" fn pfair_decisions(
     alloc: Global,

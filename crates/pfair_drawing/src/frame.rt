@@ -72,7 +72,8 @@ impl Frame {
         self.row_y(row) + self.sizes.pad + (1 - index % 2) * (self.sizes.lane + 1)
     }
 
-    /// Where a processor's row begins. Processors past the last count as the one after it, where the rows end.
+    /// Where a processor's row begins. Processors past the last count as the one after it, where
+    /// the rows end.
     pub fn cell_y(&self, processor: u64) -> u64
         requires frame { IsFrame self.now }
         ensures value { result ≡ cell_y self.now processor }

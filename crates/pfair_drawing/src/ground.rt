@@ -1,4 +1,5 @@
-//! What lies below and beside the bars: the title, bands, names and weights, the grid and its scales.
+//! What lies below and beside the bars: the title, bands, names and weights, the grid and its
+//! scales.
 
 ghost use Rattle.std.specs.Prelude.{◌<◌, ◌^◌};
 ghost use Rattle.pfair_drawing.specs.Frame.{IsFrame};
@@ -81,8 +82,8 @@ fn add_axis(shapes: &mut Vec<Shape>, frame: &Frame, y: u64, note: Note) -> Resul
     add_label(shapes, frame.left - 22, y, Words::Note(note), Style::Side)
 }
 
-/// Adds the lines between slots, the times below them, and in a schedule the numbers of slots above; where slots are
-/// narrow, one for each step.
+/// Adds the lines between slots, the times below them, and in a schedule the numbers of slots
+/// above; where slots are narrow, one for each step.
 pub(crate) fn add_grid(
     shapes: &mut Vec<Shape>,
     frame: &Frame,

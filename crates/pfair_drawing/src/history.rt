@@ -1,4 +1,5 @@
-//! What became of each task: when it joined, when its releases were put off, how far it ran, and when it left.
+//! What became of each task: when it joined, when its releases were put off, how far it ran, and
+//! when it left.
 
 ghost use Rattle.std.specs.Prelude.{◌≡◌, ◌≤◌, IfOk, OnOk, length};
 ghost use Rattle.pfair_drawing.specs.Names.{NameValue};
@@ -49,7 +50,8 @@ pub struct Life {
     pub leave: Option<Leave>,
 }
 
-/// The incarnations of all tasks, in the order in which they joined, and the late releases that were accepted, in order.
+/// The incarnations of all tasks, in the order in which they joined, and the late releases that
+/// were accepted, in order.
 #[derive(Debug, Drop)]
 pub(crate) struct History {
     lives: Vec<Life>,

@@ -22,9 +22,10 @@ use pfair_table::{Decided, Dispatcher, Pick};
 use pfair_weight::TaskName;
 use std::alloc::{AllocError, Global};
 
-/// The picture of the lags in the slots `from` to `to - 1` of what a dispatcher has planned: a row for each task that was
-/// admitted before `to`, with its lag as a line from each time to the next, counted from its joining slot, between dashed
-/// bounds of 1. What is at or past a bound is in another colour, and a lag further than a quarter past it is drawn there.
+/// The picture of the lags in the slots `from` to `to - 1` of what a dispatcher has planned: a row
+/// for each task that was admitted before `to`, with its lag as a line from each time to the next,
+/// counted from its joining slot, between dashed bounds of 1. What is at or past a bound is in
+/// another colour, and a lag further than a quarter past it is drawn there.
 ///
 /// # Errors
 /// As [`crate::schedule_drawing`].

@@ -3,17 +3,20 @@
 //! Each function states one law and does nothing.
 ghost use Rattle.pfair_drawing.specs.Laws.{NamesArePlain, RunsHaveRows, TwoLanesAreEnough};
 
-/// Each task that runs in a slot before a picture's end has its row among those of the names: none is drawn elsewhere.
+/// Each task that runs in a slot before a picture's end has its row among those of the names: none
+/// is drawn elsewhere.
 pub fn runs_have_rows()
     ensures { RunsHaveRows }
 {}
 
-/// A row needs two lanes and no more: odd subtasks in one and even ones in the other, no two windows of a lane overlap.
+/// A row needs two lanes and no more: odd subtasks in one and even ones in the other, no two
+/// windows of a lane overlap.
 pub fn two_lanes_are_enough()
     ensures { TwoLanesAreEnough }
 {}
 
-/// A task's name stands in the text of an element as it is: it has none of the characters that are to be escaped.
+/// A task's name stands in the text of an element as it is: it has none of the characters that are
+/// to be escaped.
 pub fn names_are_plain()
     ensures { NamesArePlain }
 {}

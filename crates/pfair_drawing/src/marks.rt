@@ -17,7 +17,8 @@ use pfair_table::{Decided, Dispatcher};
 use pfair_weight::{MAX_INDEX, TaskName};
 use std::alloc::AllocError;
 
-/// Adds the numbers of subtasks on quanta, and the names of tasks on the cells of processors, where there is room.
+/// Adds the numbers of subtasks on quanta, and the names of tasks on the cells of processors, where
+/// there is room.
 pub(crate) fn add_labels(
     shapes: &mut Vec<Shape>,
     frame: &Frame,
@@ -121,7 +122,8 @@ pub(crate) fn add_late_releases(
     Ok(())
 }
 
-// Adds a late release: its stamp, and an arrow from the old release to the new one where the figure has the old one.
+// Adds a late release: its stamp, and an arrow from the old release to the new one where the figure
+// has the old one.
 fn add_late(
     shapes: &mut Vec<Shape>,
     frame: &Frame,
@@ -153,7 +155,8 @@ fn add_late(
     Ok(())
 }
 
-/// Adds the refusals at the boundaries of the figure's slots, each a mark and its number in the strip of its row.
+/// Adds the refusals at the boundaries of the figure's slots, each a mark and its number in the
+/// strip of its row.
 pub(crate) fn add_refusals<R: Ready>(
     shapes: &mut Vec<Shape>,
     frame: &Frame,

@@ -9,7 +9,8 @@ use pfair_table::{Decided, Dispatcher, Pick};
 use pfair_weight::TaskName;
 use std::alloc::{AllocError, Global};
 
-/// The names that are announced or run in the slots before `to`, each once, in the order in which they come first.
+/// The names that are announced or run in the slots before `to`, each once, in the order in which
+/// they come first.
 pub(crate) fn names_of<R: Ready>(
     alloc: Global,
     dispatcher: &Dispatcher<R>,

@@ -22,8 +22,8 @@ pub struct Ran {
     pub index: u64,
 }
 
-/// The quanta in the slots `from` to `to - 1` of what a dispatcher has planned, slots in order and in each as its table
-/// has them. The processor of each is its place.
+/// The quanta in the slots `from` to `to - 1` of what a dispatcher has planned, slots in order and
+/// in each as its table has them. The processor of each is its place.
 pub(crate) fn runs_of<R: Ready>(
     alloc: Global,
     dispatcher: &Dispatcher<R>,

@@ -52,16 +52,19 @@ impl From<AllocError> for DrawFault {
     }
 }
 
-/// The picture of the slots `from` to `to - 1` of what a dispatcher has planned: a row for each task with the windows and
-/// the quanta of its subtasks, the decisions of these slots as marks, and a row for each processor.
+/// The picture of the slots `from` to `to - 1` of what a dispatcher has planned: a row for each
+/// task with the windows and the quanta of its subtasks, the decisions of these slots as marks, and
+/// a row for each processor.
 ///
-/// Windows are those that the decisions tell: of each incarnation, at its joining slot, put off by the late releases
-/// that were accepted; and the window of a subtask that hasn't run ends where its task departs.
-/// It costs all slots before `to`, each with as many looks at names as there are tasks.
+/// Windows are those that the decisions tell: of each incarnation, at its joining slot, put off by
+/// the late releases that were accepted; and the window of a subtask that hasn't run ends where its
+/// task departs. It costs all slots before `to`, each with as many looks at names as there are
+/// tasks.
 ///
 /// # Errors
-/// [`DrawFault::Slots`] exactly where `from` isn't below `to`, `to` is past the slots that are planned, or they are more
-/// than [`MAX_SLOTS`], and [`DrawFault::Memory`] where memory was wanted and refused.
+/// [`DrawFault::Slots`] exactly where `from` isn't below `to`, `to` is past the slots that are
+/// planned, or they are more than [`MAX_SLOTS`], and [`DrawFault::Memory`] where memory was wanted
+/// and refused.
 pub fn schedule_drawing<R: Ready>(
     alloc: Global,
     dispatcher: &Dispatcher<R>,
@@ -227,7 +230,8 @@ fn marks_of<R: Ready>(
     shown(alloc, marks.as_slice(), frame.width(), frame.height())
 }
 
-/// Whether no picture shows these slots: they are none, aren't all planned, or are more than [`MAX_SLOTS`].
+/// Whether no picture shows these slots: they are none, aren't all planned, or are more than
+/// [`MAX_SLOTS`].
 pub(crate) fn are_refused<R: Ready>(dispatcher: &Dispatcher<R>, from: u64, to: u64) -> bool
     ensures refused { IsTrue result ↔ AreRefused from to (length dispatcher.now.tables) }
     ensures few { length dispatcher.now.tables ≤ 1000000 }

@@ -164,8 +164,9 @@ pub enum Shape {
     Label(Label),
 }
 
-/// A picture: its size in pixels, the processors whose colours it uses, the names of its rows, and its shapes in layers,
-/// each shape over those before it. Windows, quanta and the quanta of processors are layers of their own, and in no other.
+/// A picture: its size in pixels, the processors whose colours it uses, the names of its rows, and
+/// its shapes in layers, each shape over those before it. Windows, quanta and the quanta of
+/// processors are layers of their own, and in no other.
 #[derive(Debug, Drop)]
 pub struct Drawing {
     /// The width.

@@ -1,7 +1,7 @@
 //! Pictures as text, in SVG: one element for each shape.
 //!
-//! Nothing has to be escaped: a text holds numbers, fixed words, and names of tasks, which by their type are made of letters,
-//! digits and underscores.
+//! Nothing has to be escaped: a text holds numbers, fixed words, and names of tasks, which by their
+//! type are made of letters, digits and underscores.
 
 ghost use Rattle.std.specs.Prelude.{◌≡◌, ◌++◌, IfOk, OnOk, codes};
 ghost use Rattle.std.specs.List.{flat_map};

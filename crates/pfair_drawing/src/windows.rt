@@ -96,7 +96,8 @@ pub(crate) fn closes(late: &[Late], place: u64, life: &Life, index: u64) -> u64
     ends(life, index, deadline)
 }
 
-// Where a subtask's time ends, if it ends before `slot`: for one that hasn't run, where its task departs.
+// Where a subtask's time ends, if it ends before `slot`: for one that hasn't run, where its task
+// departs.
 fn ends(life: &Life, index: u64, slot: u64) -> u64
     ensures value { result ≡ ends life.now index slot }
     ensures within { result ≤ slot }
@@ -118,8 +119,9 @@ fn cut(leave: Option<Leave>, slot: u64) -> u64
     }
 }
 
-/// The offset of a subtask of the incarnation at a place: the joining slot, and the late releases whose index is at most
-/// its own. An offset past the last one that windows have counts as that one.
+/// The offset of a subtask of the incarnation at a place: the joining slot, and the late releases
+/// whose index is at most its own. An offset past the last one that windows have counts as that
+/// one.
 pub(crate) fn offset_of(late: &[Late], place: u64, life: &Life, index: u64) -> u64
     ensures value { result ≡ offset_of late.now place life.now index }
     ensures within { result ≤ MAX_OFFSET }

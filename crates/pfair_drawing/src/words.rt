@@ -77,7 +77,8 @@ pub struct Figures {
     pub slots: u64,
 }
 
-/// What a label says. No text comes from outside but the names of rows, which have letters, digits and underscores alone.
+/// What a label says. No text comes from outside but the names of rows, which have letters, digits
+/// and underscores alone.
 #[derive(Clone, Copy, Debug, PartialEq, Eq)]
 pub enum Words {
     /// The name of a row.

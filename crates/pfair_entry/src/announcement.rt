@@ -5,9 +5,11 @@ ghost use Rattle.pfair_entry.specs.Names.{name_of};
 use pfair_lattice::Exact;
 use pfair_weight::{TaskName, Weight};
 
-/// What a processor announces of a task: that it arrives, that it departs, or that its subtasks come late.
+/// What a processor announces of a task: that it arrives, that it departs, or that its subtasks
+/// come late.
 ///
-/// Late subtasks are those of an intra-sporadic task, early ones those of a task with early release (Anderson and Srinivasan, 2000).
+/// Late subtasks are those of an intra-sporadic task, early ones those of a task with early release
+/// (Anderson and Srinivasan, 2000).
 #[derive(Clone, Copy, Debug, PartialEq, Eq)]
 pub enum Announcement {
     /// A task arrives, and its windows count from the slot of the announcement.
@@ -16,10 +18,12 @@ pub enum Announcement {
         name: TaskName,
         /// Its share of a processor.
         weight: Weight,
-        /// Whether a subtask may run before its release, as soon as the subtask before it in the same job has run.
+        /// Whether a subtask may run before its release, as soon as the subtask before it in the
+        /// same job has run.
         early: bool,
     },
-    /// A task departs: it is given no more quanta, and gives its share back when its last window and group deadline allow it.
+    /// A task departs: it is given no more quanta, and gives its share back when its last window
+    /// and group deadline allow it.
     Depart {
         /// The task's name.
         name: TaskName,
@@ -28,9 +32,11 @@ pub enum Announcement {
     Late {
         /// The task's name.
         name: TaskName,
-        /// The first subtask that is late, counted from 1; at most [`Entry::LAST_INDEX`](crate::entry::Entry::LAST_INDEX).
+        /// The first subtask that is late, counted from 1; at most
+        /// [`Entry::LAST_INDEX`](crate::entry::Entry::LAST_INDEX).
         index: u64,
-        /// By how many slots; at least 1, at most [`Entry::LONGEST_DELAY`](crate::entry::Entry::LONGEST_DELAY).
+        /// By how many slots; at least 1, at most
+        /// [`Entry::LONGEST_DELAY`](crate::entry::Entry::LONGEST_DELAY).
         by: u64,
     },
 }

@@ -39,10 +39,11 @@ impl EntryFault {
     }
 }
 
-/// One entry of a processor's log: a floor, and perhaps an announcement with its stamp. Floor and stamp are slots.
+/// One entry of a processor's log: a floor, and perhaps an announcement with its stamp. Floor and
+/// stamp are slots.
 ///
-/// By the floor the processor commits itself: from this entry on nothing in its log is stamped before it. The stamp is the slot at
-/// whose boundary the announcement is decided.
+/// By the floor the processor commits itself: from this entry on nothing in its log is stamped
+/// before it. The stamp is the slot at whose boundary the announcement is decided.
 #[derive(Clone, Copy, Debug, PartialEq, Eq)]
 pub struct Entry {
     floor: u64,
@@ -109,7 +110,8 @@ impl Entry {
         self.floor
     }
 
-    /// The announcement, with the slot of its stamp, which is at or after the floor and at most [`Entry::LAST_SLOT`].
+    /// The announcement, with the slot of its stamp, which is at or after the floor and at most
+    /// [`Entry::LAST_SLOT`].
     pub fn said(&self) -> Option<(u64, Announcement)>
         ensures value { result ≡ self.now.said }
         ensures entry { IsEntry self.now }
@@ -118,7 +120,7 @@ impl Entry {
     }
 }
 
-/// Whether what is delayed is a subtask of the run, and not by too much.
+// Whether what is delayed is a subtask of the run, and not by too much.
 fn within_limits(announcement: Announcement) -> Result<(), EntryFault>
     ensures ok { OnOk result (IsWithinLimits announcement) }
     ensures err { IfErr result (IsLimitFaultOf announcement) }

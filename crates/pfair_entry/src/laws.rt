@@ -23,7 +23,8 @@ pub fn entries_are_told_apart()
     ensures { IsExact ⟦<Entry as PartialEq>⟧.eq }
 {}
 
-/// The notes that a writer accepts are numbered 1, 2, 3 and so on, as many as there are, and their floors never fall.
+/// The notes that a writer accepts are numbered 1, 2, 3 and so on, as many as there are, and their
+/// floors never fall.
 pub fn notes_rise()
     ensures { EveryLogRises }
 {}

@@ -1,4 +1,5 @@
-//! What processors tell each other: announcements of tasks, the entries of a log that make them, and the writer of a log.
+//! What processors tell each other: announcements of tasks, the entries of a log that make them,
+//! and the writer of a log.
 #![tactic(auto)]
 
 pub mod announcement;

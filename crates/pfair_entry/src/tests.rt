@@ -1,4 +1,5 @@
-//! Worked entries and logs, the texts of the faults, and that announcements differ where a part of them does.
+//! Worked entries and logs, the texts of the faults, and that announcements differ where a part of
+//! them does.
 use crate::{Announcement, Entry, EntryFault, NoteFault, Writer};
 use pfair_lattice::{Exact, Flat, Join};
 use pfair_weight::{TaskName, Weight};
@@ -63,7 +64,7 @@ fn arrives(rt: &impl Abort, name: TaskName, weight: Weight, early: bool) -> Entr
     Entry::new(3, Some((4, announcement))).expect(rt, "an entry")
 }
 
-/// Whether two contents are joined to one: through the bound, so that any exact content is.
+// Whether two contents are joined to one: through the bound, so that any exact content is.
 fn stays_one<T: Exact>(first: T, second: T) -> bool {
     let joined = Flat::One(first);
     joined.le(&Flat::One(second))

@@ -35,7 +35,8 @@ impl NoteFault {
     }
 }
 
-/// Writes one processor's log: numbers its entries 1, 2, 3 and so on, and keeps their floors from falling.
+/// Writes one processor's log: numbers its entries 1, 2, 3 and so on, and keeps their floors from
+/// falling.
 #[derive(Debug, Drop)]
 pub struct Writer {
     capacity: u32,
@@ -69,8 +70,8 @@ impl Writer {
     /// The next entry of the log, after its number, which is counted from 1.
     ///
     /// # Errors
-    /// The first of these that applies, and then the writer is unchanged: `LogFull`, `FloorFell`, and `Refused` as
-    /// [`Entry::new`] refuses.
+    /// The first of these that applies, and then the writer is unchanged: `LogFull`, `FloorFell`,
+    /// and `Refused` as [`Entry::new`] refuses.
     pub fn note(
         &mut self,
         floor: u64,

@@ -17,13 +17,14 @@ use pfair_table::{Script, Settings};
 use std::alloc::{AllocError, Global};
 use toml::Table;
 
-/// Reads a task file: the settings and the logs of a run, each log closed by an entry whose floor is the number of
-/// slots, where its last floor is below that.
+/// Reads a task file: the settings and the logs of a run, each log closed by an entry whose floor
+/// is the number of slots, where its last floor is below that.
 ///
 /// # Errors
-/// The file's first fault: [`FileFault::NotToml`]; then, key by key in the order of [`Field`], `Missing`, `WrongKind`
-/// and `Range`, or `Version` for a version that is none of 1 and 2; the entries table by table, and for each table
-/// after its keys `Entry`. [`FileFault::Memory`] only for want of memory.
+/// The file's first fault: [`FileFault::NotToml`]; then, key by key in the order of [`Field`],
+/// `Missing`, `WrongKind` and `Range`, or `Version` for a version that is none of 1 and 2; the
+/// entries table by table, and for each table after its keys `Entry`. [`FileFault::Memory`] only
+/// for want of memory.
 pub fn read_file(alloc: Global, bytes: &[u8]) -> Result<Script, FileFault>
     ensures ok { IfOk result (λ script. script_of_file bytes.now ≡ Ok script) }
     ensures fault { IfErr result (λ f. f ≢ Memory → script_of_file bytes.now ≡ Err f) }
@@ -38,7 +39,7 @@ pub fn read_file(alloc: Global, bytes: &[u8]) -> Result<Script, FileFault>
     }
 }
 
-/// The table that the bytes are the text of.
+// The table that the bytes are the text of.
 fn parse(alloc: Global, bytes: &[u8]) -> Result<Table, FileFault>
     ensures ok { IfOk result (λ t. document bytes.now ≡ Some (table_view t)) }
     ensures fault { IfErr result (λ f. f ≢ Memory → (f ≡ NotToml) × (document bytes.now ≡ None)) }
@@ -53,7 +54,7 @@ fn parse(alloc: Global, bytes: &[u8]) -> Result<Table, FileFault>
     }
 }
 
-/// The logs of a file's entries, each closed.
+// The logs of a file's entries, each closed.
 fn read_logs(
     alloc: Global,
     table: &Table,
@@ -71,7 +72,7 @@ fn read_logs(
     Ok(logs)
 }
 
-/// An empty log for each processor.
+// An empty log for each processor.
 fn make_logs(alloc: Global, processors: u8) -> Result<Vec<Vec<Entry>>, AllocError>
     ensures ok { IfOk result (λ logs. lists_of logs.items ≡ empty_logs processors) }
     ensures count { IfOk result (λ logs. vec_len logs ≡ processors) }
@@ -84,7 +85,7 @@ fn make_logs(alloc: Global, processors: u8) -> Result<Vec<Vec<Entry>>, AllocErro
     Ok(logs)
 }
 
-/// Adds the entries of a file.
+// Adds the entries of a file.
 fn add_tables(logs: &mut Vec<Vec<Entry>>, version: u64, table: &Table) -> Result<(), FileFault>
     requires some { 1 ≤ vec_len logs.old }
     requires few { vec_len logs.old ≤ 64 }
@@ -106,7 +107,7 @@ fn add_tables(logs: &mut Vec<Vec<Entry>>, version: u64, table: &Table) -> Result
     }
 }
 
-/// Closes each log.
+// Closes each log.
 fn close_logs(logs: &mut Vec<Vec<Entry>>, slots: u64) -> Result<(), AllocError>
     requires { slots ≤ 1000000 }
     ensures closed { OnOk result (lists_of logs.new.items ≡ close_all slots (lists_of logs.old.items)) }
@@ -118,7 +119,7 @@ fn close_logs(logs: &mut Vec<Vec<Entry>>, slots: u64) -> Result<(), AllocError>
     Ok(())
 }
 
-/// Adds the entry that closes a log, where its last floor is below the number of slots.
+// Adds the entry that closes a log, where its last floor is below the number of slots.
 fn close_log(log: &mut Vec<Entry>, slots: u64) -> Result<(), AllocError>
     requires { slots ≤ 1000000 }
     ensures { OnOk result (log.new.items ≡ closed slots log.old.items) }
@@ -133,7 +134,7 @@ fn close_log(log: &mut Vec<Entry>, slots: u64) -> Result<(), AllocError>
     Ok(())
 }
 
-/// The entry that closes a log of a run of so many slots.
+// The entry that closes a log of a run of so many slots.
 fn closing_entry(slots: u64) -> Entry
     requires { slots ≤ 1000000 }
     ensures { result ≡ record { floor = slots; said = None } }

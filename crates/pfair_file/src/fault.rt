@@ -40,8 +40,8 @@ impl EntryCause {
     }
 }
 
-/// The first fault of a task file, or want of memory. A place is the number of the entry's table in the file, counted
-/// from 1, and 0 for the file's own keys.
+/// The first fault of a task file, or want of memory. A place is the number of the entry's table in
+/// the file, counted from 1, and 0 for the file's own keys.
 #[derive(Clone, Copy, Debug, PartialEq, Eq, Error)]
 pub enum FileFault {
     /// Number 60: the bytes are no TOML document.
@@ -90,7 +90,8 @@ pub enum FileFault {
 }
 
 impl FileFault {
-    /// The number under which the fault is reported: 60 to 65 in the order of the variants, and 90 for want of memory.
+    /// The number under which the fault is reported: 60 to 65 in the order of the variants, and 90
+    /// for want of memory.
     pub fn number(&self) -> u8
         ensures { result ≡ file_fault_number self.now }
     {

@@ -1,7 +1,8 @@
 //! Reading task files: the script of a run, or the first fault of the file.
 //!
-//! A task file is a TOML document. Its header says how many processors, which frame and how many slots a run has;
-//! each table of `entry` is the next entry of one processor's log. The modules go from single keys to whole files.
+//! A task file is a TOML document. Its header says how many processors, which frame and how many
+//! slots a run has; each table of `entry` is the next entry of one processor's log. The modules go
+//! from single keys to whole files.
 #![tactic(auto)]
 
 pub(crate) mod document;

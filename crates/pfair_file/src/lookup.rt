@@ -17,7 +17,7 @@ pub fn find(table: &Table, field: Field) -> Option<&Value>
     table.get(field.key())
 }
 
-/// The value at a key that has to be there.
+// The value at a key that has to be there.
 fn value(table: &Table, place: u64, field: Field) -> Result<&Value, FileFault>
     ensures { result_map_both (λ v. view v.now) (λ e. e) result ≡ value_at (table_view table.now) place field }
 {

@@ -50,7 +50,7 @@ pub fn append(
     }
 }
 
-/// The next entry of a log, for which a table makes this entry or none.
+// The next entry of a log, for which a table makes this entry or none.
 fn next_entry(log: &[Entry], made: Result<Entry, EntryCause>) -> Result<Entry, EntryCause>
     ensures { result ≡ next_entry_of log.now made }
 {
@@ -77,7 +77,7 @@ pub fn read_entry(
     Ok(Made { processor, entry })
 }
 
-/// The entry of a floor and of what is announced, or the first cause for which there is none.
+// The entry of a floor and of what is announced, or the first cause for which there is none.
 fn make_entry(floor: u64, notice: Option<Notice>) -> Result<Entry, EntryCause>
     ensures { result ≡ made_entry floor notice }
 {
@@ -88,7 +88,7 @@ fn make_entry(floor: u64, notice: Option<Notice>) -> Result<Entry, EntryCause>
     }
 }
 
-/// What is announced, with its stamp, where there is a notice.
+// What is announced, with its stamp, where there is a notice.
 fn read_said(notice: Option<Notice>) -> Result<Option<(u64, Announcement)>, EntryCause>
     ensures { result ≡ said_of notice }
 {
@@ -102,7 +102,7 @@ fn read_said(notice: Option<Notice>) -> Result<Option<(u64, Announcement)>, Entr
     }
 }
 
-/// The announcement of a notice, or what is wrong with its name or its weight.
+// The announcement of a notice, or what is wrong with its name or its weight.
 fn announce(notice: Notice) -> Result<Announcement, EntryCause>
     ensures { result ≡ announced notice }
 {
@@ -128,14 +128,14 @@ fn announce(notice: Notice) -> Result<Announcement, EntryCause>
     }
 }
 
-/// The weight of a cost and a period, or the first of its faults.
+// The weight of a cost and a period, or the first of its faults.
 fn checked_weight(cost: u64, period: u64) -> Result<Weight, WeightFault>
     ensures { result ≡ weight_of cost period }
 {
     Weight::new(cost, period)
 }
 
-/// The entry of a floor and an announcement, or the first of its faults.
+// The entry of a floor and an announcement, or the first of its faults.
 fn checked_entry(floor: u64, said: Option<(u64, Announcement)>) -> Result<Entry, EntryFault>
     ensures { result ≡ entry_of (record { floor = floor; said = said }) }
 {

@@ -58,7 +58,7 @@ pub fn read_notice(table: &Table, place: u64, version: u64) -> Result<Option<Not
     }
 }
 
-/// The kind of a table, if it has one.
+// The kind of a table, if it has one.
 fn read_kind(table: &Table, place: u64) -> Result<Option<Kind>, FileFault>
     ensures { result ≡ kind_at place (table_view table.now) }
 {
@@ -75,7 +75,7 @@ fn read_kind(table: &Table, place: u64) -> Result<Option<Kind>, FileFault>
     }
 }
 
-/// The keys of an announcement of this kind.
+// The keys of an announcement of this kind.
 fn read_notice_of(table: &Table, place: u64, version: u64, kind: Kind) -> Result<Notice, FileFault>
     ensures { result ≡ notice_of version place kind (table_view table.now) }
 {
@@ -85,7 +85,7 @@ fn read_notice_of(table: &Table, place: u64, version: u64, kind: Kind) -> Result
     Ok(Notice { at, name, change })
 }
 
-/// The name of a table, or what is wrong with it.
+// The name of a table, or what is wrong with it.
 fn read_name(table: &Table, place: u64) -> Result<Result<TaskName, NameFault>, FileFault>
     ensures { result ≡ name_at place (table_view table.now) }
 {
@@ -93,14 +93,14 @@ fn read_name(table: &Table, place: u64) -> Result<Result<TaskName, NameFault>, F
     Ok(checked_name(name.as_bytes()))
 }
 
-/// The name that these bytes checked_name, or the first of its faults.
+// The name that these bytes checked_name, or the first of its faults.
 fn checked_name(bytes: &[u8]) -> Result<TaskName, NameFault>
     ensures { result ≡ task_name_of bytes.now }
 {
     TaskName::from_bytes(bytes)
 }
 
-/// The keys that a kind of announcement asks for beside those of all.
+// The keys that a kind of announcement asks for beside those of all.
 fn read_change(table: &Table, place: u64, version: u64, kind: Kind) -> Result<Change, FileFault>
     ensures { result ≡ change_at version place kind (table_view table.now) }
 {
@@ -124,7 +124,7 @@ fn read_change(table: &Table, place: u64, version: u64, kind: Kind) -> Result<Ch
     }
 }
 
-/// Whether a task that arrives may run early: never in version 1.
+// Whether a task that arrives may run early: never in version 1.
 fn read_early(table: &Table, place: u64, version: u64) -> Result<bool, FileFault>
     ensures { result ≡ early_at version place (table_view table.now) }
 {

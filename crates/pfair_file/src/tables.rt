@@ -11,7 +11,7 @@ use crate::made::{append, read_entry};
 use pfair_entry::Entry;
 use toml::{Table, Value};
 
-/// Adds the entry of one table to the log of its processor.
+// Adds the entry of one table to the log of its processor.
 fn add_entry(
     logs: &mut Vec<Vec<Entry>>,
     place: u64,
@@ -31,7 +31,7 @@ fn add_entry(
     append(&mut logs[processor as usize], processor as u8, made.entry)
 }
 
-/// Whether each value is a table.
+// Whether each value is a table.
 fn are_tables(items: &[Value]) -> bool
     ensures { result ≡ is_some (tables_of (items_view items.now)) }
 {

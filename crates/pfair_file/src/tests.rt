@@ -1,4 +1,5 @@
-//! What no clause says: that memory suffices, and the texts of the faults. The sample file has each kind of entry.
+//! What no clause says: that memory suffices, and the texts of the faults. The sample file has each
+//! kind of entry.
 use crate::{EntryCause, Field, FileFault, read_file};
 use pfair_entry::{Announcement, Entry};
 use pfair_table::Script;

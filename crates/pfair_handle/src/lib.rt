@@ -92,7 +92,8 @@ impl Handle {
         answer
     }
 
-    /// The dispatcher takes all that the other holds, as [`Dispatcher::absorb`](pfair_table::Dispatcher::absorb).
+    /// The dispatcher takes all that the other holds, as
+    /// [`Dispatcher::absorb`](pfair_table::Dispatcher::absorb).
     ///
     /// # Errors
     /// Those of that call.

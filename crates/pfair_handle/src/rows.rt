@@ -42,7 +42,7 @@ pub struct PfairDecided {
     pub freed_at: u64,
 }
 
-/// The name as C has it.
+// The name as C has it.
 fn name_row(name: &TaskName) -> PfairName
     ensures { result ≡ name_row name.now }
 {
@@ -55,7 +55,7 @@ fn name_row(name: &TaskName) -> PfairName
     }
 }
 
-/// The quantum as C has it.
+// The quantum as C has it.
 fn pick_row(pick: &Pick) -> PfairPick
     ensures { result ≡ pick_row pick.now }
 {
@@ -65,7 +65,7 @@ fn pick_row(pick: &Pick) -> PfairPick
     }
 }
 
-/// The decision as C has it.
+// The decision as C has it.
 fn decided_row(one: &Decided) -> PfairDecided
     ensures { result ≡ decided_row one.now }
 {

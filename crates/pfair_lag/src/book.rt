@@ -15,8 +15,8 @@ use pfair_weight::{TaskName, Weight};
 use std::alloc::{AllocError, Global};
 use std::marker::Model;
 
-/// What is kept of a task: its weight, the time at which it was entered, and how many quanta it had since, the last of
-/// them in the slot that ended at the time `last`.
+// What is kept of a task: its weight, the time at which it was entered, and how many quanta it had
+// since, the last of them in the slot that ended at the time `last`.
 #[derive(Clone, Copy, Debug)]
 struct Account {
     weight: Weight,
@@ -26,7 +26,7 @@ struct Account {
 }
 
 impl Account {
-    /// Counts a quantum of the slot that ends at this time, unless it is counted.
+    // Counts a quantum of the slot that ends at this time, unless it is counted.
     fn count(&mut self, time: u64)
         requires { self.old.ran ≤ self.old.last }
         ensures { self.new ≡ counted_at time self.old }
@@ -37,7 +37,7 @@ impl Account {
         }
     }
 
-    /// The lag at this time, as a numerator over the period.
+    // The lag at this time, as a numerator over the period.
     fn lag(&self, time: u64) -> (i64, u64)
         requires sound { IsSound time self.now }
         requires short { time ≤ MAX_HORIZON }
@@ -51,7 +51,8 @@ impl Account {
 
 /// The lags of some tasks, each counted from when the task was entered.
 ///
-/// A book is told each slot that passes, with the quanta of that slot. Up to [`MAX_HORIZON`] slots can be recorded.
+/// A book is told each slot that passes, with the quanta of that slot. Up to [`MAX_HORIZON`] slots
+/// can be recorded.
 #[derive(Drop)]
 pub struct LagBook {
     time: u64,
@@ -70,8 +71,8 @@ impl Model for LagBook {
 }
 
 impl LagBook {
-    /// A book in which no task is entered and no slot recorded. It takes no memory; what is entered later comes from
-    /// `alloc`.
+    /// A book in which no task is entered and no slot recorded. It takes no memory; what is entered
+    /// later comes from `alloc`.
     pub fn new(alloc: Global) -> Self
         ensures { result ≡ empty_book }
     {
@@ -81,8 +82,9 @@ impl LagBook {
         }
     }
 
-    /// Enters a task, after all others, and answers true. Its lag is counted from the slots that are recorded from now
-    /// on. Where a task of that name is there, the answer is false, nothing changes and no memory is taken.
+    /// Enters a task, after all others, and answers true. Its lag is counted from the slots that
+    /// are recorded from now on. Where a task of that name is there, the answer is false, nothing
+    /// changes and no memory is taken.
     ///
     /// # Errors
     /// `AllocError` where a growth was refused. Nothing has changed then.
@@ -105,7 +107,8 @@ impl LagBook {
         Ok(true)
     }
 
-    /// Takes a task out, and answers whether it was there. The others keep their order and their lags.
+    /// Takes a task out, and answers whether it was there. The others keep their order and their
+    /// lags.
     pub fn leave(&mut self, name: &TaskName) -> bool
         ensures answer { result ≡ is_some (tally_of name.now self.old) }
         ensures book { self.new ≡ left name.now self.old }
@@ -113,8 +116,8 @@ impl LagBook {
         self.accounts.shift_remove(name).is_some()
     }
 
-    /// Records that one slot has passed, in which the tasks of these picks ran. A task that is named twice had one
-    /// quantum, and one that isn't entered counts for nobody.
+    /// Records that one slot has passed, in which the tasks of these picks ran. A task that is
+    /// named twice had one quantum, and one that isn't entered counts for nobody.
     ///
     /// Fewer than [`MAX_HORIZON`] slots have been recorded. It takes no memory.
     pub fn record(&mut self, picks: &[Pick])
@@ -133,8 +136,9 @@ impl LagBook {
         self.time
     }
 
-    /// The lag of a task, as a numerator over its period p: `e * t - p * A`, where e is its cost, t the number of slots
-    /// recorded since it was entered, and A the number of those of them in which it ran. `None` where it isn't there.
+    /// The lag of a task, as a numerator over its period p: `e * t - p * A`, where e is its cost, t
+    /// the number of slots recorded since it was entered, and A the number of those of them in
+    /// which it ran. `None` where it isn't there.
     pub fn lag(&self, name: &TaskName) -> Option<(i64, u64)>
         ensures { result ≡ option_map lag_of (tally_of name.now self.now) }
     {
@@ -142,8 +146,9 @@ impl LagBook {
         Some(account.lag(self.time))
     }
 
-    /// The name at a place, counted from 0, in order of entering, and that task's lag, as [`LagBook::lag`]. `None` exactly
-    /// where there are no more than `place` tasks. It costs the same whatever is entered: no name is looked up.
+    /// The name at a place, counted from 0, in order of entering, and that task's lag, as
+    /// [`LagBook::lag`]. `None` exactly where there are no more than `place` tasks. It costs the
+    /// same whatever is entered: no name is looked up.
     pub fn row_at(&self, place: usize) -> Option<(&TaskName, (i64, u64))>
         ensures name { option_map (λ row. row.0.now) result ≡ option_map (λ e. e.0) (slice_get self.now.entered place) }
         ensures lag { option_map (λ row. row.1) result ≡ option_map (λ e. lag_of e.1) (slice_get self.now.entered place) }
@@ -176,7 +181,7 @@ impl LagBook {
     }
 }
 
-/// Counts a quantum of the slot that ends at this time for the task of that name, if it is there.
+// Counts a quantum of the slot that ends at this time for the task of that name, if it is there.
 fn count_quantum(accounts: &mut IndexMap<TaskName, Account>, name: &TaskName, time: u64)
     requires { EachFits accounts.old.entries }
     ensures { accounts.new.entries ≡ with_quantum time name.now accounts.old.entries }
@@ -186,7 +191,7 @@ fn count_quantum(accounts: &mut IndexMap<TaskName, Account>, name: &TaskName, ti
     }
 }
 
-/// Counts the quanta of the slot that ends at this time.
+// Counts the quanta of the slot that ends at this time.
 fn count_quanta(accounts: &mut IndexMap<TaskName, Account>, picks: &[Pick], time: u64)
     requires { EachFits accounts.old.entries }
     ensures { accounts.new.entries ≡ with_quanta time (map (λ p. p.name) picks.now) accounts.old.entries }

@@ -1,4 +1,5 @@
-//! Tests of a schedule by the deadlines of subtasks alone, for tasks that may run ahead of their windows.
+//! Tests of a schedule by the deadlines of subtasks alone, for tasks that may run ahead of their
+//! windows.
 
 ghost use Rattle.std.specs.Prelude.{◌≡◌, ◌≤◌, ◌↔◌, IsTrue, IfOk, IfErr, OnOk, MatchOption};
 ghost use Rattle.pfair_weight.specs.Share.{IsWeight};
@@ -12,11 +13,11 @@ use crate::fault::{PickFault, check_picks};
 use crate::windows::Miss;
 use pfair_weight::{Weight, deadline};
 
-/// The first subtask that is late: ran at its deadline or later, or did not run though its deadline is at most the
-/// horizon. `None` exactly where none is late. It is never [`Miss::Early`].
+/// The first subtask that is late: ran at its deadline or later, or did not run though its deadline
+/// is at most the horizon. `None` exactly where none is late. It is never [`Miss::Early`].
 ///
-/// `picks` are the slots in which the task ran, the i-th of them that of subtask i. The horizon is at most
-/// [`MAX_HORIZON`]. It takes no memory.
+/// `picks` are the slots in which the task ran, the i-th of them that of subtask i. The horizon is
+/// at most [`MAX_HORIZON`]. It takes no memory.
 ///
 /// # Errors
 /// [`PickFault`], at the first place at fault.
@@ -42,11 +43,12 @@ pub fn first_late(weight: Weight, picks: &[u64], horizon: u64) -> Result<Option<
     Ok(None)
 }
 
-/// Whether each subtask that ran did so before its deadline, and each whose deadline is at most the horizon ran. This is
-/// so exactly where the lag stays below 1 up to the horizon (ERfair, Anderson and Srinivasan).
+/// Whether each subtask that ran did so before its deadline, and each whose deadline is at most the
+/// horizon ran. This is so exactly where the lag stays below 1 up to the horizon (ERfair, Anderson
+/// and Srinivasan).
 ///
-/// `picks` are the slots in which the task ran, the i-th of them that of subtask i. The horizon is at most
-/// [`MAX_HORIZON`]. It goes through the deadlines, and takes no memory.
+/// `picks` are the slots in which the task ran, the i-th of them that of subtask i. The horizon is
+/// at most [`MAX_HORIZON`]. It goes through the deadlines, and takes no memory.
 ///
 /// # Errors
 /// [`PickFault`], at the first place at fault.

@@ -6,7 +6,8 @@ ghost use Rattle.pfair_lag.specs.PickFault.{IsFaultOf, pick_fault_number};
 
 use thiserror::Error;
 
-/// Why slots are not those in which a task ran up to a horizon: the first place, counted from 0, that is at fault.
+/// Why slots are not those in which a task ran up to a horizon: the first place, counted from 0,
+/// that is at fault.
 #[derive(Clone, Copy, PartialEq, Eq, Debug, Error)]
 pub enum PickFault {
     /// A slot is not after the one before it.

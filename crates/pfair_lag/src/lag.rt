@@ -9,11 +9,11 @@ use crate::MAX_HORIZON;
 use crate::fault::{PickFault, check_picks};
 use pfair_weight::Weight;
 
-/// Whether the lag stays strictly between -1 and 1 at each time from 0 to the horizon. This is so exactly where each
-/// subtask runs in its window (Baruah, Cohen, Plaxton and Varvel 1996).
+/// Whether the lag stays strictly between -1 and 1 at each time from 0 to the horizon. This is so
+/// exactly where each subtask runs in its window (Baruah, Cohen, Plaxton and Varvel 1996).
 ///
-/// `picks` are the slots in which the task ran, the i-th of them that of subtask i. The horizon is at most
-/// [`MAX_HORIZON`]. It goes through the times and asks for no window, and takes no memory.
+/// `picks` are the slots in which the task ran, the i-th of them that of subtask i. The horizon is
+/// at most [`MAX_HORIZON`]. It goes through the times and asks for no window, and takes no memory.
 ///
 /// # Errors
 /// [`PickFault`], at the first place at fault.
@@ -38,11 +38,11 @@ pub fn lag_within(weight: Weight, picks: &[u64], horizon: u64) -> Result<bool, P
     Ok(true)
 }
 
-/// Whether the lag stays below 1 at each time from 0 to the horizon. This is so exactly where each subtask runs before
-/// its deadline (ERfair, Anderson and Srinivasan).
+/// Whether the lag stays below 1 at each time from 0 to the horizon. This is so exactly where each
+/// subtask runs before its deadline (ERfair, Anderson and Srinivasan).
 ///
-/// `picks` are the slots in which the task ran, the i-th of them that of subtask i. The horizon is at most
-/// [`MAX_HORIZON`]. It goes through the times and asks for no window, and takes no memory.
+/// `picks` are the slots in which the task ran, the i-th of them that of subtask i. The horizon is
+/// at most [`MAX_HORIZON`]. It goes through the times and asks for no window, and takes no memory.
 ///
 /// # Errors
 /// [`PickFault`], at the first place at fault.
@@ -65,7 +65,7 @@ pub fn lag_below(weight: Weight, picks: &[u64], horizon: u64) -> Result<bool, Pi
     Ok(true)
 }
 
-/// How many picks lie before the next time, from how many lie before this one.
+// How many picks lie before the next time, from how many lie before this one.
 fn given_after(picks: &[u64], given: usize, time: u64) -> usize
     requires rising { Rises picks.now }
     requires counted { given ≡ quanta_before picks.now time }

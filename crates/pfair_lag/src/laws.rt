@@ -8,32 +8,36 @@ ghost use Rattle.pfair_lag.specs.Runs.{CountsSinceEntering};
 
 use crate::MAX_HORIZON;
 
-/// The lag stays strictly between -1 and 1 up to a horizon exactly where each subtask that ran did so in its window, and
-/// each whose deadline is at most the horizon ran (Baruah, Cohen, Plaxton and Varvel 1996).
+/// The lag stays strictly between -1 and 1 up to a horizon exactly where each subtask that ran did
+/// so in its window, and each whose deadline is at most the horizon ran (Baruah, Cohen, Plaxton and
+/// Varvel 1996).
 pub fn lags_keep_windows()
     ensures { LagsKeepWindows }
 {}
 
-/// The lag stays below 1 up to a horizon exactly where each subtask that ran did so before its deadline, and each whose
-/// deadline is at most the horizon ran (ERfair, Anderson and Srinivasan).
+/// The lag stays below 1 up to a horizon exactly where each subtask that ran did so before its
+/// deadline, and each whose deadline is at most the horizon ran (ERfair, Anderson and Srinivasan).
 pub fn lags_keep_deadlines()
     ensures { LagsKeepDeadlines }
 {}
 
-/// At most one subtask, and one cause, is the first that is out of its window, and then not all are in their windows.
+/// At most one subtask, and one cause, is the first that is out of its window, and then not all are
+/// in their windows.
 pub fn first_misses_are_one()
     ensures one { OneFirstMiss }
     ensures out { MissesAreOut }
 {}
 
-/// At most one subtask, and one cause, is the first that is late, and then not all meet their deadlines.
+/// At most one subtask, and one cause, is the first that is late, and then not all meet their
+/// deadlines.
 pub fn first_late_are_one()
     ensures one { OneFirstLate }
     ensures late { LateMissDeadlines }
 {}
 
-/// After any calls the lag of a task goes by the slots recorded since it was last entered, and by those of them whose
-/// list names it. It goes by no earlier slot, also where the task was there before and left.
+/// After any calls the lag of a task goes by the slots recorded since it was last entered, and by
+/// those of them whose list names it. It goes by no earlier slot, also where the task was there
+/// before and left.
 pub fn lags_count_since_entering()
     ensures { CountsSinceEntering }
 {}

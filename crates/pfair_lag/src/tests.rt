@@ -20,7 +20,7 @@ fn name(rt: &impl Abort, bytes: &[u8]) -> TaskName {
     TaskName::from_bytes(bytes).expect(rt, "a name")
 }
 
-/// Asserts what both tests say of a schedule, and which subtask is the first out of its window.
+// Asserts what both tests say of a schedule, and which subtask is the first out of its window.
 fn assert_windows(rt: &impl Abort, weight: Weight, picks: &[u64], horizon: u64, miss: Option<Miss>)
     requires { horizon ≤ 1000000 }
 {
@@ -39,7 +39,7 @@ fn assert_windows(rt: &impl Abort, weight: Weight, picks: &[u64], horizon: u64, 
     );
 }
 
-/// Asserts what both one-sided tests say of a schedule, and which subtask is the first that is late.
+// Asserts what both one-sided tests say of a schedule, and which subtask is the first that is late.
 fn assert_deadlines(
     rt: &impl Abort,
     weight: Weight,
@@ -106,19 +106,19 @@ fn faults_have_places(rt: HostRuntime) -> Result<(), Fail> {
     Ok(())
 }
 
-/// The text of a fault.
+// The text of a fault.
 fn text(alloc: Global, fault: PickFault) -> Result<String, AllocError> {
     format!(in alloc; "{fault}")
 }
 
-/// Enters a task.
+// Enters a task.
 fn enter(book: &mut LagBook, name: TaskName, weight: Weight) -> Result<bool, AllocError>
     ensures { book.new.time ≡ book.old.time }
 {
     book.enter(name, weight)
 }
 
-/// Enters a of weight 1/2, and b of weight 1/3 two slots later. In the first slot a runs.
+// Enters a of weight 1/2, and b of weight 1/3 two slots later. In the first slot a runs.
 fn rows_book(rt: &impl Abort, alloc: Global) -> Result<LagBook, Fail>
     ensures { IfOk result (λ book. book.time ≡ 2) }
 {
@@ -148,7 +148,7 @@ fn counts_lags(rt: HostRuntime) -> Result<(), Fail> {
     Ok(())
 }
 
-/// A task that is named twice had one quantum, and one that leaves and comes again starts anew.
+// A task that is named twice had one quantum, and one that leaves and comes again starts anew.
 #[test]
 fn starts_anew(rt: HostRuntime) -> Result<(), Fail> {
     let (a, b) = (name(&rt, b"a"), name(&rt, b"b"));
@@ -166,7 +166,7 @@ fn starts_anew(rt: HostRuntime) -> Result<(), Fail> {
     Ok(())
 }
 
-/// Asserts which tasks are entered, in their order.
+// Asserts which tasks are entered, in their order.
 fn assert_names(rt: &impl Abort, book: &LagBook, names: &[TaskName]) {
     assert_eq!(rt; book.len(), names.len());
     for (place, name) in names.iter().enumerate() {

@@ -11,7 +11,8 @@ use crate::MAX_HORIZON;
 use crate::fault::{PickFault, check_picks};
 use pfair_weight::{Weight, deadline, release};
 
-/// A subtask that is out of its window. Subtasks are counted from 1, and their windows have offset 0.
+/// A subtask that is out of its window. Subtasks are counted from 1, and their windows have offset
+/// 0.
 #[derive(Clone, Copy, PartialEq, Eq, Debug)]
 pub enum Miss {
     /// It ran before its release.
@@ -35,11 +36,11 @@ pub enum Miss {
     },
 }
 
-/// The first subtask that is out of its window: ran early or late, or did not run though its deadline is at most the
-/// horizon. `None` exactly where all are in their windows.
+/// The first subtask that is out of its window: ran early or late, or did not run though its
+/// deadline is at most the horizon. `None` exactly where all are in their windows.
 ///
-/// `picks` are the slots in which the task ran, the i-th of them that of subtask i. The horizon is at most
-/// [`MAX_HORIZON`]. It takes no memory.
+/// `picks` are the slots in which the task ran, the i-th of them that of subtask i. The horizon is
+/// at most [`MAX_HORIZON`]. It takes no memory.
 ///
 /// # Errors
 /// [`PickFault`], at the first place at fault.
@@ -68,11 +69,12 @@ pub fn first_miss(weight: Weight, picks: &[u64], horizon: u64) -> Result<Option<
     Ok(None)
 }
 
-/// Whether each subtask that ran did so in its window, and each whose deadline is at most the horizon ran. This is so
-/// exactly where the lag stays strictly between -1 and 1 up to the horizon (Baruah, Cohen, Plaxton and Varvel 1996).
+/// Whether each subtask that ran did so in its window, and each whose deadline is at most the
+/// horizon ran. This is so exactly where the lag stays strictly between -1 and 1 up to the horizon
+/// (Baruah, Cohen, Plaxton and Varvel 1996).
 ///
-/// `picks` are the slots in which the task ran, the i-th of them that of subtask i. The horizon is at most
-/// [`MAX_HORIZON`]. It goes through the windows, and takes no memory.
+/// `picks` are the slots in which the task ran, the i-th of them that of subtask i. The horizon is
+/// at most [`MAX_HORIZON`]. It goes through the windows, and takes no memory.
 ///
 /// # Errors
 /// [`PickFault`], at the first place at fault.

@@ -1,9 +1,11 @@
 //! Types whose equality is identity.
 ghost use Rattle.std.specs.Prelude.{◌≡◌, true};
 
-/// A type whose `==` holds of identical values alone, so that what compares equal can stand for one another.
+/// A type whose `==` holds of identical values alone, so that what compares equal can stand for one
+/// another.
 ///
-/// Keys of a [`JoinMap`](crate::join_map::JoinMap) and contents of a [`Flat`](crate::flat::Flat) have to be of such a type.
+/// Keys of a [`JoinMap`](crate::join_map::JoinMap) and contents of a [`Flat`](crate::flat::Flat)
+/// have to be of such a type.
 pub trait Exact: Copy + Eq {
     /// Values that are equal are the same.
     ghost exact: { (x y : Self) → Self.eq x y ≡ true → x ≡ y };

@@ -9,8 +9,8 @@ use std::alloc::AllocError;
 
 /// A content, or `Torn` where two different contents met.
 ///
-/// Contents that are equal join to themselves, contents that differ to `Torn`, and whatever joins with `Torn` is `Torn`. Neither a join
-/// nor a copy takes memory.
+/// Contents that are equal join to themselves, contents that differ to `Torn`, and whatever joins
+/// with `Torn` is `Torn`. Neither a join nor a copy takes memory.
 #[derive(Clone, Copy, Debug, PartialEq, Eq)]
 pub enum Flat<T: Exact> {
     /// One content.

@@ -1,7 +1,8 @@
 //! Values that can be joined: what two holders of parts of the same knowledge have together.
 //!
-//! A type that joins is a join semilattice, as the states of replicated data types are that merge by joins (Shapiro, Preguiça, Baquero
-//! and Zawirski 2011). So values can be merged in any order, in any grouping and as often as one likes, with the same outcome.
+//! A type that joins is a join semilattice, as the states of replicated data types are that merge
+//! by joins (Shapiro, Preguiça, Baquero and Zawirski 2011). So values can be merged in any order,
+//! in any grouping and as often as one likes, with the same outcome.
 ghost use Rattle.std.specs.Prelude.{◌≡◌, ◌↔◌, IsTrue, IfOk, OnOk, OnErr};
 ghost use Rattle.pfair_lattice.specs.Order.{IsOrder, IsLeastUpperBound, IsPartlyJoined, IsJoin, IsCommutative, IsAssociative, IsIdempotent, commutes, associates, idempotent};
 
@@ -9,7 +10,8 @@ use std::alloc::AllocError;
 
 /// A type with an order in which a join is the least value above both of its sides.
 ///
-/// An implementation proves the laws `order`, `least` and `resumes`; that joins are commutative, associative and idempotent follows.
+/// An implementation proves the laws `order`, `least` and `resumes`; that joins are commutative,
+/// associative and idempotent follows.
 pub trait Join: Drop {
     /// The order: the first is below the second, or they are the same.
     ghost below: { Self → Self → Type 0 };
@@ -23,15 +25,17 @@ pub trait Join: Drop {
     /// Holds where a join or a copy may want memory.
     ghost takes_memory: { Type 0 };
 
-    /// The second has something for which the first has no place: only then may joining it in want memory.
+    /// The second has something for which the first has no place: only then may joining it in want
+    /// memory.
     ghost outgrows: { Self → Self → Type 0 };
 
     /// Joins `other` in.
     ///
     /// # Errors
-    /// `AllocError` where memory was wanted and refused, which never comes where `other` is already below, or has nothing for which there
-    /// is no place. Then a part of `other` is joined in: the value is above what it was and below the whole join, and joining `other`
-    /// again gives the same join.
+    /// `AllocError` where memory was wanted and refused, which never comes where `other` is already
+    /// below, or has nothing for which there is no place. Then a part of `other` is joined in: the
+    /// value is above what it was and below the whole join, and joining `other` again gives the
+    /// same join.
     fn join(&mut self, other: &Self) -> Result<(), AllocError>
         ensures joined { OnOk result (joins self.old other.now self.new) }
         ensures partly { OnErr result (partly self.old other.now self.new) }
@@ -57,7 +61,8 @@ pub trait Join: Drop {
     /// A join is above both sides, and below whatever else is.
     ghost least: { (x y z : Self) → joins x y z → IsLeastUpperBound below x y z };
 
-    /// What want of memory leaves is between the old value and the join, and joining again gives the same join.
+    /// What want of memory leaves is between the old value and the join, and joining again gives
+    /// the same join.
     ghost resumes: { (x y z : Self) → partly x y z → IsPartlyJoined below joins x y z };
 
     /// Either side may come first.

@@ -14,11 +14,13 @@ use std::alloc::{AllocError, Global};
 use std::collections::BTreeMap;
 use std::marker::Model;
 
-/// A map from keys to values that can be joined, and so a value that can be joined: it nests to any depth.
+/// A map from keys to values that can be joined, and so a value that can be joined: it nests to any
+/// depth.
 ///
-/// A key is in the map or isn't, whatever its value: a key with an empty inner map is a key. One map is below another where each of its
-/// keys is a key of the other, with a value below the one there. A join has the keys of both sides: where one side has the key, its
-/// value, and where both have it, the join of their values.
+/// A key is in the map or isn't, whatever its value: a key with an empty inner map is a key. One
+/// map is below another where each of its keys is a key of the other, with a value below the one
+/// there. A join has the keys of both sides: where one side has the key, its value, and where both
+/// have it, the join of their values.
 #[derive(Drop)]
 pub struct JoinMap<K: Exact + Ord, V: Join> {
     map: BTreeMap<K, V>,
@@ -61,7 +63,8 @@ impl<K: Exact + Ord, V: Join> JoinMap<K, V> {
 
     /// The value at `key`, to be changed in place, or `None` where the map lacks the key.
     ///
-    /// When the borrow ends the map holds at `key` what was left there last, and all else as before.
+    /// When the borrow ends the map holds at `key` what was left there last, and all else as
+    /// before.
     pub fn get_mut(&mut self, key: &K) -> Option<&mut V>
         ensures* writes_back { sem 𝓛 (LendsValue K.row V.row K.Ord V.Join self.entry key.now result) }
         ensures value { option_copied_mut result ≡ get K.cmp self.old key.now }
@@ -70,12 +73,15 @@ impl<K: Exact + Ord, V: Join> JoinMap<K, V> {
         self.map.get_mut(key)
     }
 
-    /// Joins `value` in at `key`: a copy of it where the map lacks the key, else the join of what stands there with it.
+    /// Joins `value` in at `key`: a copy of it where the map lacks the key, else the join of what
+    /// stands there with it.
     ///
     /// # Errors
-    /// `AllocError` where memory was wanted and refused: never where the map has the key and its values take no memory, and never where
-    /// what stands there is above `value` already, or has a place for all of it. Then a missing key is still missing, at a key that is
-    /// there a part of `value` may be joined in, and every other key holds what it held. The same call again gives the same join.
+    /// `AllocError` where memory was wanted and refused: never where the map has the key and its
+    /// values take no memory, and never where what stands there is above `value` already, or has a
+    /// place for all of it. Then a missing key is still missing, at a key that is there a part of
+    /// `value` may be joined in, and every other key holds what it held. The same call again gives
+    /// the same join.
     pub fn put(&mut self, key: K, value: &V) -> Result<(), AllocError>
         ensures joined { OnOk result (MapJoins K.cmp V.joins self.old ((key, value.now) ∷ []) self.new) }
         ensures partly { OnErr result (MapPartly K.cmp V.joins V.partly self.old ((key, value.now) ∷ []) self.new) }

@@ -1,4 +1,5 @@
-//! The laws that hold of every type that joins, and of maps of them at any depth. Each function does nothing: its contract is the law.
+//! The laws that hold of every type that joins, and of maps of them at any depth. Each function
+//! does nothing: its contract is the law.
 ghost use Rattle.std.specs.Prelude.{◌≡◌, ◌↔◌};
 ghost use Rattle.pfair_lattice.specs.Order.{IsOrder, IsLeastUpperBound, IsPartlyJoined, IsSingle, IsCommutative, IsAssociative, IsIdempotent, IsAbsorbing, IsOrderOfJoin};
 ghost use Rattle.pfair_lattice.specs.Entries.{IsOrdered, get, IsKnownByKeys, IsComparedByKeys};
@@ -47,7 +48,8 @@ pub fn le_is_the_order_of_join<J: Join>()
     ensures { IsOrderOfJoin J.below J.joins }
 {}
 
-/// What is left after want of memory lies between the old value and the join, and joining again gives the same join.
+/// What is left after want of memory lies between the old value and the join, and joining again
+/// gives the same join.
 pub fn want_of_memory_resumes<J: Join>()
     ensures { (old other now : J) → J.partly old other now → IsPartlyJoined J.below J.joins old other now }
 {}
@@ -57,12 +59,14 @@ pub fn map_is_known_by_its_keys<K: Exact + Ord, V: Join>()
     ensures { IsKnownByKeys K.cmp V }
 {}
 
-/// One map is below another exactly where at every key what it holds is below what the other holds there.
+/// One map is below another exactly where at every key what it holds is below what the other holds
+/// there.
 pub fn maps_compare_key_by_key<K: Exact + Ord, V: Join>()
     ensures { IsComparedByKeys K.cmp V.below }
 {}
 
-/// At one key of a map of contents the join is that of either side's contents: the one that is there, the common one, or torn.
+/// At one key of a map of contents the join is that of either side's contents: the one that is
+/// there, the common one, or torn.
 pub fn contents_join_at_a_key<T: Exact>()
     ensures { IsHeldJoin T.eq }
 {}

@@ -16,12 +16,12 @@ const B: u8 = 11;
 
 const C: u8 = 12;
 
-/// Whether each is below the other.
+// Whether each is below the other.
 fn are_same<J: Join>(x: &J, y: &J) -> bool {
     x.le(y) && y.le(x)
 }
 
-/// The join of two values.
+// The join of two values.
 fn joined<J: Join>(x: &J, y: &J) -> Result<J, AllocError> {
     let mut now = x.copy()?;
     now.join(y)?;
@@ -40,14 +40,14 @@ fn cell(rows: &Rows, processor: u8, number: u32) -> Option<Flat<u8>> {
     rows.get(&processor)?.get(&number).copied()
 }
 
-/// `{(0,1): A, (0,2): B}`
+// `{(0,1): A, (0,2): B}`
 fn first_rows(alloc: Global) -> Result<Rows, AllocError> {
     let mut rows = Rows::new(alloc);
     rows.put(0, &row(alloc, &[(1, A), (2, B)])?)?;
     Ok(rows)
 }
 
-/// `{(0,2): C, (1,1): A}`
+// `{(0,2): C, (1,1): A}`
 fn second_rows(alloc: Global) -> Result<Rows, AllocError> {
     let mut rows = Rows::new(alloc);
     rows.put(0, &row(alloc, &[(2, C)])?)?;
@@ -92,7 +92,7 @@ fn compares_and_repeats(rt: HostRuntime) -> Result<(), Fail> {
     Ok(())
 }
 
-/// `{1: {1: {number: One(content)}}}`
+// `{1: {1: {number: One(content)}}}`
 fn deep(alloc: Global, number: u32, content: u8) -> Result<Deep, AllocError> {
     let mut rows = Rows::new(alloc);
     rows.put(1, &row(alloc, &[(number, content)])?)?;
@@ -115,7 +115,8 @@ fn nests_three_deep(rt: HostRuntime) -> Result<(), Fail> {
     Ok(())
 }
 
-/// `{1: {1: {1: One(5)}, 2: {3: One(7)}}, 2: {1: {2: One(6)}}}`, in which a smaller map lacks something at each depth
+// `{1: {1: {1: One(5)}, 2: {3: One(7)}}, 2: {1: {2: One(6)}}}`, in which a smaller map lacks
+// something at each depth
 fn wide(alloc: Global) -> Result<Deep, AllocError> {
     let mut rows = Rows::new(alloc);
     rows.put(2, &row(alloc, &[(3, 7)])?)?;

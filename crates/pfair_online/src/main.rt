@@ -1,9 +1,10 @@
-//! `pfair_online`: a dispatcher of 64 processors that is told one entry at a time, in a shuffled order, and plans whatever is
-//! settled after each.
+//! `pfair_online`: a dispatcher of 64 processors that is told one entry at a time, in a shuffled
+//! order, and plans whatever is settled after each.
 //!
-//! `pfair_online EACH` tells it EACH entries of each processor, 8 to 4,096, a multiple of 8, and says how many entries were
-//! taken, how many slots were planned, and how many quanta they have. With no word it is 8. The status is 0 where all was
-//! planned, 1 where the word was refused or something was not as it should be, and 4 where memory was wanted.
+//! `pfair_online EACH` tells it EACH entries of each processor, 8 to 4,096, a multiple of 8, and
+//! says how many entries were taken, how many slots were planned, and how many quanta they have.
+//! With no word it is 8. The status is 0 where all was planned, 1 where the word was refused or
+//! something was not as it should be, and 4 where memory was wanted.
 #![tactic(auto)]
 
 ghost use Rattle.std.specs.Prelude.{◌≤◌, IfSome};
@@ -16,7 +17,7 @@ use std::alloc::{AllocError, Global};
 use std::process::ExitCode;
 use story::{PROCESSORS, Telling};
 
-/// What came of it.
+// What came of it.
 #[derive(Clone, Copy, Debug, PartialEq, Eq)]
 struct Counts {
     entries: u64,

@@ -9,10 +9,11 @@ use std::alloc::{AllocError, Global};
 /// The processors.
 pub(crate) const PROCESSORS: u8 = 64;
 
-/// How many numbers of each processor come shuffled together: the frontier moves on after each such block.
+// How many numbers of each processor come shuffled together: the frontier moves on after each such
+// block.
 const BLOCK: u64 = 8;
 
-/// The keys of a block.
+// The keys of a block.
 const BLOCK_KEYS: u64 = PROCESSORS as u64 * BLOCK;
 
 /// One entry, and where it stands.
@@ -36,8 +37,8 @@ pub(crate) fn tellings(alloc: Global, each: u64) -> Result<Vec<Telling>, AllocEr
     Ok(all)
 }
 
-// What is told at a turn. 181 has no divisor in common with the number of keys of a block, so that each key of a
-// block comes once.
+// What is told at a turn. 181 has no divisor in common with the number of keys of a block, so that
+// each key of a block comes once.
 fn told_at(each: u64, turn: u64) -> Option<Telling>
     requires few { each ≤ 4096 }
     requires turn { turn < 262144 }
@@ -52,8 +53,9 @@ fn told_at(each: u64, turn: u64) -> Option<Telling>
     })
 }
 
-// The entry at a place of a log, from 0. The first one says that the processor's task of weight 1/4 arrives, every second one
-// after it that the task arrives again, which is refused; the last one settles all slots.
+// The entry at a place of a log, from 0. The first one says that the processor's task of weight 1/4
+// arrives, every second one after it that the task arrives again, which is refused; the last one
+// settles all slots.
 fn entry_at(each: u64, processor: u8, place: u64) -> Option<Entry>
     requires processor { processor < 64 }
     requires place { place < 4096 }

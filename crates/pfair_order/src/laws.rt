@@ -1,4 +1,5 @@
-//! Laws of the PD2 order, and of the first keys among some keys. Each function does nothing: its contract is the law.
+//! Laws of the PD2 order, and of the first keys among some keys. Each function does nothing: its
+//! contract is the law.
 
 ghost use Rattle.std.specs.Prelude.{◌≡◌, ◌≢◌, ◌≤◌, ◌⊎◌, ◌↔◌, ℕ, List, length, true, AllPairs, Contains, IsPermutation};
 ghost use Rattle.std.specs.declared.cmp.Ordering.TheVariants.{Less, Equal};
@@ -6,7 +7,8 @@ ghost use Rattle.pfair_order.specs.declared.Key.{Key};
 ghost use Rattle.pfair_order.specs.Order.{pd2_cmp, GoesBefore};
 ghost use Rattle.pfair_order.specs.Rank.{first_by_rank, AreFirst, EachOnce};
 
-/// What `cmp` computes of two keys is the order: `Less` for what goes before, `Equal` for equal keys.
+/// What `cmp` computes of two keys is the order: `Less` for what goes before, `Equal` for equal
+/// keys.
 pub fn comparison_is_the_order()
     ensures before { (k l : Key) → (⟦<crate::Key as Ord>⟧.cmp k l ≡ Less) ↔ GoesBefore k l }
     ensures equal { (k l : Key) → (⟦<crate::Key as Ord>⟧.cmp k l ≡ Equal) ↔ (k ≡ l) }
@@ -38,7 +40,8 @@ pub fn first_keys_are_unique()
         AreFirst pd2_cmp m keys xs → AreFirst pd2_cmp m keys ys → xs ≡ ys }
 {}
 
-/// Of keys that stand once each, the list that has the first m is that of the ranks below m, rank by rank.
+/// Of keys that stand once each, the list that has the first m is that of the ranks below m, rank
+/// by rank.
 pub fn first_keys_are_by_rank()
     ensures { (m : ℕ) (keys first : List Key) → EachOnce pd2_cmp keys →
         (AreFirst pd2_cmp m keys first ↔ (first ≡ first_by_rank pd2_cmp m keys)) }

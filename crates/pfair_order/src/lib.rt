@@ -1,9 +1,10 @@
 //! The PD2 order of subtasks, and the keys that it compares.
 //!
-//! PD2 is the priority order of proportionate-fair (Pfair) scheduling on several processors (Anderson and Srinivasan, after
-//! Baruah, Cohen, Plaxton and Varvel 1996): the earlier deadline goes first, at equal deadlines the subtask whose
-//! window overlaps that of its successor (b-bit 1), and of two such the one whose group deadline is later.
-//! Under PD2 the remaining ties may be broken at will. Here the task names break them, so that the order is total.
+//! PD2 is the priority order of proportionate-fair (Pfair) scheduling on several processors
+//! (Anderson and Srinivasan, after Baruah, Cohen, Plaxton and Varvel 1996): the earlier deadline
+//! goes first, at equal deadlines the subtask whose window overlaps that of its successor (b-bit
+//! 1), and of two such the one whose group deadline is later. Under PD2 the remaining ties may be
+//! broken at will. Here the task names break them, so that the order is total.
 #![tactic(auto)]
 
 ghost use Rattle.std.specs.Prelude.{◌≡◌, ◌≤◌, ◌↔◌};
@@ -25,29 +26,33 @@ use std::cmp::Ordering;
 
 /// What the PD2 order looks at in a subtask. The lesser key goes first.
 ///
-/// Two keys are equal where all four fields are. The comparison is a strict total order on all values of the fields,
-/// also on those that no subtask has.
+/// Two keys are equal where all four fields are. The comparison is a strict total order on all
+/// values of the fields, also on those that no subtask has.
 #[derive(Clone, Copy, PartialEq, Eq, Debug)]
 pub struct Key {
-    /// The deadline: the slot before which the window of the subtask closes. The smaller one goes first.
+    /// The deadline: the slot before which the window of the subtask closes. The smaller one goes
+    /// first.
     pub d: u64,
-    /// The b-bit: 1 where the window reaches into that of the next subtask, else 0. At equal deadlines the greater one
-    /// goes first.
+    /// The b-bit: 1 where the window reaches into that of the next subtask, else 0. At equal
+    /// deadlines the greater one goes first.
     pub b: u64,
-    /// The group deadline: the slot at which a cascade ends, a run of windows in which a quantum in the last slot of
-    /// one forces that of the next into its last slot too. It is 0 for a weight below 1/2, and the deadline for a
-    /// weight of 1. At equal deadlines and b-bits of 1 the greater one goes first.
+    /// The group deadline: the slot at which a cascade ends, a run of windows in which a quantum in
+    /// the last slot of one forces that of the next into its last slot too. It is 0 for a weight
+    /// below 1/2, and the deadline for a weight of 1. At equal deadlines and b-bits of 1 the
+    /// greater one goes first.
     pub group: u64,
-    /// The task's name. At what ties otherwise the smaller one in bytes goes first, a proper prefix before what it
-    /// begins.
+    /// The task's name. At what ties otherwise the smaller one in bytes goes first, a proper prefix
+    /// before what it begins.
     pub name: TaskName,
 }
 
 impl Key {
-    /// The key of subtask `index` of a task with this weight and name, whose windows are shifted by `theta` slots.
+    /// The key of subtask `index` of a task with this weight and name, whose windows are shifted by
+    /// `theta` slots.
     ///
-    /// Subtasks are counted from 1, and `index` is at most [`MAX_INDEX`]; `theta` is at most [`MAX_OFFSET`]. The
-    /// deadline, the b-bit and the group deadline are those of the window formulas.
+    /// Subtasks are counted from 1, and `index` is at most [`MAX_INDEX`]; `theta` is at most
+    /// [`MAX_OFFSET`]. The deadline, the b-bit and the group deadline are those of the window
+    /// formulas.
     pub fn of(weight: Weight, index: u64, theta: u64, name: TaskName) -> Key
         requires first { 1 ≤ index }
         requires last { index ≤ MAX_INDEX }
@@ -68,7 +73,7 @@ impl Key {
         }
     }
 
-    /// The group deadline where the order looks at it, and 0 elsewhere.
+    // The group deadline where the order looks at it, and 0 elsewhere.
     fn tie_group(&self) -> u64
         ensures { result ≡ tie_group_of self.now }
     {
@@ -85,7 +90,8 @@ impl Ord for Key {
 
     ghost matches_eq = { Prim.search (comparing, rules) depth 9 };
 
-    /// `Less` exactly where this key goes before the other in the PD2 order, and `Equal` exactly for equal keys.
+    /// `Less` exactly where this key goes before the other in the PD2 order, and `Equal` exactly
+    /// for equal keys.
     fn cmp(&self, other: &Key) -> Ordering
         ensures value { result ≡ pd2_cmp self.now other.now }
         ensures before { (result ≡ Less) ↔ GoesBefore self.now other.now }

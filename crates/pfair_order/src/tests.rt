@@ -11,7 +11,7 @@ fn key(rt: &impl Abort, d: u64, b: u64, group: u64, name: &[u8]) -> Key {
     Key { d, b, group, name }
 }
 
-/// Asserts that the left one goes before the right one, by what a lawful order has.
+// Asserts that the left one goes before the right one, by what a lawful order has.
 fn goes_before<K: Ord>(rt: &impl Abort, left: &K, right: &K) {
     assert!(rt; left < right);
     assert!(rt; right > left);

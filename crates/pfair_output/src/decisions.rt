@@ -13,8 +13,8 @@ use pfair_table::{Decided, Dispatcher};
 use pfair_text::{add_row, finish, new_text};
 use std::alloc::{AllocError, Global};
 
-/// The decisions at the boundaries of all slots that a dispatcher has planned: a header, and a row for each announcement,
-/// slots in order, and in each as they were decided.
+/// The decisions at the boundaries of all slots that a dispatcher has planned: a header, and a row
+/// for each announcement, slots in order, and in each as they were decided.
 ///
 /// # Errors
 /// `AllocError` where memory was wanted and refused.
@@ -58,8 +58,8 @@ fn add_slot<R: Ready>(
     }
 }
 
-// Adds a row for each announcement that was decided at the boundary of a slot: the slot, the processor and the number
-// of its entry, the task, and what was decided.
+// Adds a row for each announcement that was decided at the boundary of a slot: the slot, the
+// processor and the number of its entry, the task, and what was decided.
 fn add_decisions(
     writer: &mut Writer<Vec<u8>>,
     slot: u64,

@@ -22,11 +22,13 @@ use pfair_text::{add_row, finish, new_text};
 use pfair_weight::TaskName;
 use std::alloc::{AllocError, Global};
 
-/// The lags in all slots that a dispatcher has planned: a header, and for each slot t, slots in order, a row for each
-/// member that isn't departing after the boundary of t, in the order of admission: the time t + 1, the task, and its lag
-/// at that time as a numerator over its period, counted from its joining slot.
+/// The lags in all slots that a dispatcher has planned: a header, and for each slot t, slots in
+/// order, a row for each member that isn't departing after the boundary of t, in the order of
+/// admission: the time t + 1, the task, and its lag at that time as a numerator over its period,
+/// counted from its joining slot.
 ///
-/// Of a dispatcher that has planned all that its logs settle, the text is a function of what it holds alone.
+/// Of a dispatcher that has planned all that its logs settle, the text is a function of what it
+/// holds alone.
 ///
 /// # Errors
 /// `AllocError` where memory was wanted and refused.

@@ -12,7 +12,8 @@ use pfair_table::Pick;
 use pfair_text::{add_row, finish, new_text};
 use std::alloc::{AllocError, Global};
 
-/// The tables of a run as rows: a header, and a row for each quantum of the tables, that of slot k at place k.
+/// The tables of a run as rows: a header, and a row for each quantum of the tables, that of slot k
+/// at place k.
 ///
 /// # Errors
 /// `AllocError` where memory was wanted and refused.
@@ -27,9 +28,11 @@ pub fn replay_of(alloc: Global, tables: &[Vec<Pick>]) -> Result<Vec<u8>, AllocEr
     )
 }
 
-/// The tables of a run as rows that end with their places: row k of a slot's table with the k-th of the slot's places.
+/// The tables of a run as rows that end with their places: row k of a slot's table with the k-th of
+/// the slot's places.
 ///
-/// A row that has no place, where fewer are given, ends with its index. Time and memory are linear in the rows.
+/// A row that has no place, where fewer are given, ends with its index. Time and memory are linear
+/// in the rows.
 ///
 /// # Errors
 /// `AllocError` where memory was wanted and refused.
@@ -78,8 +81,8 @@ fn slot_places(places: &[Vec<u8>], slot: usize) -> &[u8]
     }
 }
 
-// Adds a row for each quantum of a slot's table: the slot, the number of the table's row, the task and the index, and
-// the row's place where it has one.
+// Adds a row for each quantum of a slot's table: the slot, the number of the table's row, the task
+// and the index, and the row's place where it has one.
 fn add_table(
     writer: &mut Writer<Vec<u8>>,
     slot: u64,

@@ -31,7 +31,7 @@ fn entry(rt: &impl Abort, floor: u64, said: Option<(u64, Announcement)>) -> Entr
     Entry::new(floor, said).expect(rt, "an entry")
 }
 
-/// An entry by which a task arrives.
+// An entry by which a task arrives.
 fn arrival(
     rt: &impl Abort,
     floor: u64,
@@ -56,7 +56,7 @@ fn arrival(
     )
 }
 
-/// The script of two processors: a leaves, b is late once, and d comes in the middle.
+// The script of two processors: a leaves, b is late once, and d comes in the middle.
 fn two_logs(rt: &impl Abort, alloc: Global) -> Result<Script, AllocError> {
     let first = vec![in alloc;
         arrival(rt, 0, 0, b"a", (1, 2), false),
@@ -91,7 +91,7 @@ fn two_logs(rt: &impl Abort, alloc: Global) -> Result<Script, AllocError> {
     Ok(Script::new(settings, logs).ok().expect(rt, "a script"))
 }
 
-/// The script of one processor, with one task that may run ahead of its windows.
+// The script of one processor, with one task that may run ahead of its windows.
 fn early_log(rt: &impl Abort, alloc: Global) -> Result<Script, AllocError> {
     let log = vec![in alloc; arrival(rt, 0, 0, b"a", (2, 4), true), entry(rt, 4, None)]?;
     let logs = vec![in alloc; log]?;
@@ -99,7 +99,7 @@ fn early_log(rt: &impl Abort, alloc: Global) -> Result<Script, AllocError> {
     Ok(Script::new(settings, logs).ok().expect(rt, "a script"))
 }
 
-/// A copy of all tables of a run.
+// A copy of all tables of a run.
 fn tables_of<R: Ready>(
     alloc: Global,
     dispatcher: &Dispatcher<R>,
@@ -113,7 +113,7 @@ fn tables_of<R: Ready>(
     Ok(all)
 }
 
-/// A copy of the places of all slots of a run.
+// A copy of the places of all slots of a run.
 fn places_of<R: Ready>(
     alloc: Global,
     dispatcher: &Dispatcher<R>,
@@ -127,7 +127,7 @@ fn places_of<R: Ready>(
     Ok(all)
 }
 
-/// Asserts the four texts of the script of two processors.
+// Asserts the four texts of the script of two processors.
 fn assert_texts<R: Ready>(rt: &impl Abort, alloc: Global) -> Result<(), Fail> {
     let script = two_logs(rt, alloc)?;
     let dispatcher: Dispatcher<R> = run_script(alloc, &script)?;

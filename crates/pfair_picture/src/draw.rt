@@ -23,19 +23,21 @@ use pfair_text::{ReadFault, read_bytes, send};
 use std::alloc::Global;
 use std::io::{Read, Write};
 
-/// Writes a picture of the script that a reader's bytes hold: of the given slots, from the first to the one before the
-/// second, or of all.
+/// Writes a picture of the script that a reader's bytes hold: of the given slots, from the first to
+/// the one before the second, or of all.
 ///
-/// The whole picture is made before the first byte goes out. No more than 67,108,864 bytes are taken from the reader, but
-/// where the file is too long or memory was wanting: one more may then be.
+/// The whole picture is made before the first byte goes out. No more than 67,108,864 bytes are
+/// taken from the reader, but where the file is too long or memory was wanting: one more may then
+/// be.
 ///
 /// # Errors
-/// [`ProgramFault::ReadFailed`] where the reader answers an error, [`ProgramFault::FileTooLong`] where more than
-/// 67,108,864 bytes come, [`ProgramFault::File`] with the first fault of the file, [`ProgramFault::Stalled`] with the
-/// frontier of the logs where it is below the number of slots, [`ProgramFault::Slots`] where the slots are none, or some
-/// aren't the script's, or they are more than 4,096, and [`ProgramFault::Memory`] where memory was wanted and refused:
-/// nothing has then been written. [`ProgramFault::WriteFailed`] where the writer answered an error, or took nothing; a
-/// prefix of the text has then gone out.
+/// [`ProgramFault::ReadFailed`] where the reader answers an error, [`ProgramFault::FileTooLong`]
+/// where more than 67,108,864 bytes come, [`ProgramFault::File`] with the first fault of the file,
+/// [`ProgramFault::Stalled`] with the frontier of the logs where it is below the number of slots,
+/// [`ProgramFault::Slots`] where the slots are none, or some aren't the script's, or they are more
+/// than 4,096, and [`ProgramFault::Memory`] where memory was wanted and refused: nothing has then
+/// been written. [`ProgramFault::WriteFailed`] where the writer answered an error, or took nothing;
+/// a prefix of the text has then gone out.
 pub fn draw<R: Read, W: Write>(
     alloc: Global,
     reader: &mut R,

@@ -12,7 +12,8 @@ use thiserror::Error;
 /// Why a picture was not written.
 #[derive(Debug, Drop, Error)]
 pub enum ProgramFault {
-    /// Number 52: the logs of a task file settle only the slots below this one, which is one of its slots.
+    /// Number 52: the logs of a task file settle only the slots below this one, which is one of its
+    /// slots.
     #[error("stalled at slot {slot}")]
     Stalled {
         /// The frontier of the logs.
@@ -33,7 +34,8 @@ pub enum ProgramFault {
     /// Number 80: the words ask for nothing.
     #[error("command line refused")]
     CommandLine,
-    /// Number 81: the slots are none, or some aren't the file's, or they are more than a picture can have.
+    /// Number 81: the slots are none, or some aren't the file's, or they are more than a picture
+    /// can have.
     #[error("slots refused")]
     Slots,
     /// Number 90: want of memory.
@@ -66,8 +68,8 @@ impl ProgramFault {
         }
     }
 
-    /// The exit status that goes with the fault: 1 for a command line or refused slots, 2 for a task file, 3 for a run that
-    /// is stalled, 4 for want of memory, 5 for reading or writing.
+    /// The exit status that goes with the fault: 1 for a command line or refused slots, 2 for a
+    /// task file, 3 for a run that is stalled, 4 for want of memory, 5 for reading or writing.
     pub fn status(&self) -> u8
         ensures { result ≡ status_of self.now }
     {
@@ -81,14 +83,15 @@ impl ProgramFault {
     }
 }
 
-// Room for the line of any fault. The longest is that of a refused entry, with the place of a bad byte of its name: it has
-// 96 bytes where each number in it is the greatest of its type.
+// Room for the line of any fault. The longest is that of a refused entry, with the place of a bad
+// byte of its name: it has 96 bytes where each number in it is the greatest of its type.
 const LINE_ROOM: usize = 128;
 
-/// Writes the line of a fault, `pfair_picture: NUMBER TEXT`, and gives its exit status, also where the writer fails.
+/// Writes the line of a fault, `pfair_picture: NUMBER TEXT`, and gives its exit status, also where
+/// the writer fails.
 ///
-/// The line goes out in one write, so that the lines of two processes that write to one terminal or file don't mix. It
-/// takes no memory, for want of which may be the fault.
+/// The line goes out in one write, so that the lines of two processes that write to one terminal or
+/// file don't mix. It takes no memory, for want of which may be the fault.
 pub fn write_fault<W: Write>(fault: &ProgramFault, writer: &mut W) -> u8
     ensures { result ≡ status_of fault.now }
 {

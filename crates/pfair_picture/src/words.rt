@@ -29,12 +29,12 @@ pub enum Asked {
     Text(&'static str),
 }
 
-/// Reads the words after the program's name: `schedule FILE [FROM TO]`, `lags FILE [FROM TO]`, `--help`, also behind the
-/// name of a picture, or `--version`.
+/// Reads the words after the program's name: `schedule FILE [FROM TO]`, `lags FILE [FROM TO]`,
+/// `--help`, also behind the name of a picture, or `--version`.
 ///
 /// # Errors
-/// [`ProgramFault::CommandLine`] where no command has this form, and [`ProgramFault::Memory`] where memory was wanted and
-/// refused.
+/// [`ProgramFault::CommandLine`] where no command has this form, and [`ProgramFault::Memory`] where
+/// memory was wanted and refused.
 pub fn read_words(alloc: Global, words: &[String]) -> Result<Asked, ProgramFault> {
     let (first, second) = (word(words, 0), word(words, 1));
     match (first, second, words.len()) {

@@ -3,8 +3,9 @@
 // How many places are kept in mind.
 const KEPT: usize = 64;
 
-/// The places of the first keys that a selection gave, in order. Each task that had a quantum waits again, mostly in that
-/// order, so that the next of these is mostly the place of its name. A wrong guess costs a comparison of two names.
+/// The places of the first keys that a selection gave, in order. Each task that had a quantum waits
+/// again, mostly in that order, so that the next of these is mostly the place of its name. A wrong
+/// guess costs a comparison of two names.
 #[derive(Drop)]
 pub(crate) struct Guesses {
     places: [usize; KEPT],

@@ -1,7 +1,8 @@
 //! A ready structure that keeps released keys in a heap, and the dates of the others in a calendar.
 //!
-//! Nothing in it looks through all that is held: what waits for a later release costs a selection nothing. A name is
-//! looked for at most once for each key that is inserted; from then on the key goes by the place of its name.
+//! Nothing in it looks through all that is held: what waits for a later release costs a selection
+//! nothing. A name is looked for at most once for each key that is inserted; from then on the key
+//! goes by the place of its name.
 
 ghost use Rattle.std.specs.Prelude.{◌≡◌, ◌<◌, ◌≤◌, ℕ, OnOk, IfSome, IfNone, All, Contains, Some, false, slice_get};
 ghost use Rattle.std.specs.declared.cmp.Reverse.{Reverse};
@@ -22,21 +23,24 @@ use std::cmp::Reverse;
 use std::collections::BinaryHeap;
 use std::marker::Model;
 
-/// A ready structure that keeps released keys in a heap, the least on top, and the dates of the others in a calendar.
+/// A ready structure that keeps released keys in a heap, the least on top, and the dates of the
+/// others in a calendar.
 ///
-/// What the calls cost, where n is the number of keys that are held and of those that were removed and whose date has not
-/// come or whose copy has not come to the top of the heap:
+/// What the calls cost, where n is the number of keys that are held and of those that were removed
+/// and whose date has not come or whose copy has not come to the top of the heap:
 ///
-/// - `new` and `now`: the same always. `held` and `remove`: one look-up of the name, whatever is held.
-/// - `insert`: a comparison of two names where the key is of the task that is looked for next, which it mostly is where
-///   the tasks that were given a quantum wait again in that order; else one look-up of the name, and a second one where
-///   the name is new; then a number of steps that grows with the logarithm of n. Now and then what is held is moved to
-///   where it has room.
-/// - `take_first`: a number of steps that grows with the logarithm of n for each key that it gives, for each whose date
-///   has come since the last selection, and twice at most for each that was removed. So a slot costs no more for
-///   tasks whose next subtask is not released.
+/// - `new` and `now`: the same always. `held` and `remove`: one look-up of the name, whatever is
+///   held.
+/// - `insert`: a comparison of two names where the key is of the task that is looked for next,
+///   which it mostly is where the tasks that were given a quantum wait again in that order; else
+///   one look-up of the name, and a second one where the name is new; then a number of steps that
+///   grows with the logarithm of n. Now and then what is held is moved to where it has room.
+/// - `take_first`: a number of steps that grows with the logarithm of n for each key that it gives,
+///   for each whose date has come since the last selection, and twice at most for each that was
+///   removed. So a slot costs no more for tasks whose next subtask is not released.
 ///
-/// A name that was once inserted keeps its place, so the memory grows with the number of different names.
+/// A name that was once inserted keeps its place, so the memory grows with the number of different
+/// names.
 #[derive(Drop)]
 pub struct HeapReady {
     alloc: Global,
@@ -129,7 +133,7 @@ impl Ready for HeapReady {
     }
 }
 
-/// The key of a turn, which its slot holds no more, where it is due.
+// The key of a turn, which its slot holds no more, where it is due.
 fn take_turn(slots: &mut Slots, slot: u64, turn: (Key, usize)) -> Option<Key>
     ensures some { IfSome result (IsTurn slot slots.old.entries slots.new.entries turn) }
     ensures none { IfNone result (is_due turn.0 slot (in_slot (slice_get slots.old.entries turn.1)) ≡ false) }
@@ -145,7 +149,7 @@ fn take_turn(slots: &mut Slots, slot: u64, turn: (Key, usize)) -> Option<Key>
     Some(given)
 }
 
-/// Whether a key of the heap is the one that its slot holds, and released by the slot of time.
+// Whether a key of the heap is the one that its slot holds, and released by the slot of time.
 fn is_live(slots: &Slots, slot: u64, key: Key, place: usize) -> bool
     ensures { result ≡ is_due key slot (in_slot (slice_get slots.now.entries place)) }
 {
@@ -155,9 +159,9 @@ fn is_live(slots: &Slots, slot: u64, key: Key, place: usize) -> bool
     }
 }
 
-/// Moves what is released by the slot from the calendar to the heap.
-///
-/// Where a growth is refused, some of it has moved, and nothing is lost.
+// Moves what is released by the slot from the calendar to the heap.
+//
+// Where a growth is refused, some of it has moved, and nothing is lost.
 fn move_released(
     slots: &Slots,
     calendar: &mut BinaryHeap<Reverse<Date>>,
@@ -179,7 +183,7 @@ fn move_released(
     Ok(())
 }
 
-/// The first date, where it has come.
+// The first date, where it has come.
 fn next_date(calendar: &BinaryHeap<Reverse<Date>>, slot: u64) -> Option<Date>
     requires { IsHeap later_cmp (heap_items calendar.now) }
     ensures some { IfSome result (IsNextDate slot (heap_items calendar.now)) }
@@ -193,7 +197,7 @@ fn next_date(calendar: &BinaryHeap<Reverse<Date>>, slot: u64) -> Option<Date>
     Some(date)
 }
 
-/// Puts the key of a slot whose date has come into the heap.
+// Puts the key of a slot whose date has come into the heap.
 fn release_one(
     slots: &Slots,
     released: &mut BinaryHeap<Reverse<(Key, usize)>>,

@@ -1,10 +1,12 @@
-//! Ready structures: they hold the next subtask of each task from its release on, until it is chosen to run.
+//! Ready structures: they hold the next subtask of each task from its release on, until it is
+//! chosen to run.
 //!
-//! In each slot a Pfair scheduler runs the first M of the subtasks that are released and have not run yet, M being the
-//! number of processors, by the PD2 order (Anderson and Srinivasan). A ready structure holds at most one subtask of a
-//! task, under the task's name: its key in that order, and the slot from which it may run. That slot is mostly the
-//! release of its window (Baruah, Cohen, Plaxton and Varvel 1996), and lies earlier where the task may run ahead of its
-//! window (early release, Anderson and Srinivasan).
+//! In each slot a Pfair scheduler runs the first M of the subtasks that are released and have not
+//! run yet, M being the number of processors, by the PD2 order (Anderson and Srinivasan). A ready
+//! structure holds at most one subtask of a task, under the task's name: its key in that order, and
+//! the slot from which it may run. That slot is mostly the release of its window (Baruah, Cohen,
+//! Plaxton and Varvel 1996), and lies earlier where the task may run ahead of its window (early
+//! release, Anderson and Srinivasan).
 #![tactic(auto)]
 
 ghost use Rattle.std.specs.Prelude.{◌≡◌, ◌≤◌, ℕ, IsTrue, IfOk, OnErr, false, not, if◌then◌else◌};
@@ -29,8 +31,8 @@ use std::alloc::{AllocError, Global};
 
 /// A ready structure: a slot, and for each of some names a release and a key.
 ///
-/// The slot never falls. It is that of the last selection, whether or not there was memory for it. What a call costs is
-/// said at each structure: [`HeapReady`] and [`PlainReady`].
+/// The slot never falls. It is that of the last selection, whether or not there was memory for it.
+/// What a call costs is said at each structure: [`HeapReady`] and [`PlainReady`].
 pub trait Ready: Drop {
     /// The slot of the last selection, and 0 before the first.
     ghost now: { Self → ℕ };
@@ -51,8 +53,8 @@ pub trait Ready: Drop {
     fn held(&self, name: &TaskName) -> Option<(u64, Key)>
         ensures { result ≡ finmap.get (held self.now) name.now };
 
-    /// Holds the key, from the slot `release` on, under its name, and answers true. Where something is held under that
-    /// name, the answer is false, nothing changes and no memory is taken.
+    /// Holds the key, from the slot `release` on, under its name, and answers true. Where something
+    /// is held under that name, the answer is false, nothing changes and no memory is taken.
     ///
     /// The release may lie before or after the slot of the last selection.
     ///
@@ -74,14 +76,17 @@ pub trait Ready: Drop {
         ensures answer { result ≡ finmap.contains_key (held self.old) name.now }
         ensures content { held self.new ≡ finmap.remove (held self.old) name.now };
 
-    /// Takes out the first m keys, in the PD2 order, of those that are held from `slot` or an earlier slot on.
+    /// Takes out the first m keys, in the PD2 order, of those that are held from `slot` or an
+    /// earlier slot on.
     ///
-    /// These are the released keys of rank below m, where a key's rank is the number of released keys that go before
-    /// it. So all released keys come where they are at most m. `slot` is not below `now`, and becomes it.
+    /// These are the released keys of rank below m, where a key's rank is the number of released
+    /// keys that go before it. So all released keys come where they are at most m. `slot` is not
+    /// below `now`, and becomes it.
     ///
     /// # Errors
     ///
-    /// `AllocError` where a growth was refused. All that was held is held then, and `now` is `slot` all the same.
+    /// `AllocError` where a growth was refused. All that was held is held then, and `now` is `slot`
+    /// all the same.
     fn take_first(&mut self, slot: u64, m: usize) -> Result<Vec<Key>, AllocError>
         requires { now self.old ≤ slot }
         ensures time { now self.new ≡ slot }

@@ -1,4 +1,5 @@
-//! A ready structure that is one list, searched as a whole. It is the plain one, to compare faster ones with.
+//! A ready structure that is one list, searched as a whole. It is the plain one, to compare faster
+//! ones with.
 
 ghost use Rattle.std.specs.Prelude.{◌≡◌, ◌≤◌, IfOk, List, map, filter, nat_le, not};
 ghost use Rattle.std.specs.List.{list_any};
@@ -16,7 +17,7 @@ use std::alloc::{AllocError, Global};
 use std::marker::Model;
 use std::vec::IntoIter;
 
-/// A key that waits for its release or its turn.
+// A key that waits for its release or its turn.
 #[derive(Clone, Copy, Debug)]
 struct Waiting {
     release: u64,
@@ -25,8 +26,9 @@ struct Waiting {
 
 /// A ready structure that is one list.
 ///
-/// `new` and `now` cost the same always. `held`, `insert` and `remove` look through all that is held, and so many steps
-/// they take. `take_first` looks through it as well, and takes up to m steps for each key that is held.
+/// `new` and `now` cost the same always. `held`, `insert` and `remove` look through all that is
+/// held, and so many steps they take. `take_first` looks through it as well, and takes up to m
+/// steps for each key that is held.
 #[derive(Drop)]
 pub struct PlainReady {
     alloc: Global,
@@ -92,7 +94,7 @@ impl Ready for PlainReady {
     }
 }
 
-/// The release and the key that wait under this name.
+// The release and the key that wait under this name.
 fn find_name(waiting: &[Waiting], name: TaskName) -> Option<(u64, Key)>
     ensures { result ≡ first_named name waiting.now }
 {
@@ -102,14 +104,14 @@ fn find_name(waiting: &[Waiting], name: TaskName) -> Option<(u64, Key)>
         .map(|w| (w.release, w.key))
 }
 
-/// Lets go what waits under this name.
+// Lets go what waits under this name.
 fn drop_name(waiting: &mut Vec<Waiting>, name: TaskName)
     ensures { waiting.new.items ≡ filter (λ w. not (name_eq w.key.name name)) waiting.old.items }
 {
     waiting.retain(|w| w.key.name != name);
 }
 
-/// The keys that are released by the slot, in the order of the list.
+// The keys that are released by the slot, in the order of the list.
 fn released_keys(alloc: Global, waiting: &[Waiting], slot: u64) -> Result<Vec<Key>, AllocError>
     ensures { IfOk result (λ keys. keys.items ≡
         map (λ w. w.key) (filter (λ w. nat_le w.release slot) waiting.now)) }
@@ -121,7 +123,7 @@ fn released_keys(alloc: Global, waiting: &[Waiting], slot: u64) -> Result<Vec<Ke
         .collect(alloc)
 }
 
-/// The m least keys, in order.
+// The m least keys, in order.
 fn least_keys(alloc: Global, keys: &[Key], m: usize) -> Result<IntoIter<Key>, AllocError>
     ensures { IfOk result (λ least.
         IsKLeast (by_cmp pd2_cmp) m keys.now (into_iter_items least)) }
@@ -129,14 +131,14 @@ fn least_keys(alloc: Global, keys: &[Key], m: usize) -> Result<IntoIter<Key>, Al
     keys.iter().copied().k_smallest(alloc, m)
 }
 
-/// The keys that are left, as a list.
+// The keys that are left, as a list.
 fn listed(alloc: Global, keys: IntoIter<Key>) -> Result<Vec<Key>, AllocError>
     ensures { IfOk result (λ list. list.items ≡ into_iter_items keys) }
 {
     keys.collect(alloc)
 }
 
-/// Lets go what waits under the names of these keys.
+// Lets go what waits under the names of these keys.
 fn keep_others(waiting: &mut Vec<Waiting>, keys: &[Key])
     ensures { waiting.new.items ≡
         filter (λ w. not (list_any (λ k. name_eq w.key.name k.name) keys.now)) waiting.old.items }
@@ -144,7 +146,7 @@ fn keep_others(waiting: &mut Vec<Waiting>, keys: &[Key])
     waiting.retain(|w| !has_name(keys, w.key.name));
 }
 
-/// Whether a key has this name.
+// Whether a key has this name.
 fn has_name(keys: &[Key], name: TaskName) -> bool
     ensures { result ≡ list_any (λ k. name_eq name k.name) keys.now }
 {

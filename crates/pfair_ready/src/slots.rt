@@ -23,7 +23,7 @@ pub(crate) fn place_of(slots: &Slots, name: &TaskName) -> Option<usize>
     slots.get_index_of(name)
 }
 
-/// Whether a place is that of a name.
+// Whether a place is that of a name.
 fn is_place_of(slots: &Slots, place: usize, name: &TaskName) -> bool
     requires { IsDistinct name_eq (keys_of slots.now.entries) }
     ensures { IsTrue result → IsPlaced slots.now.entries place name.now }
@@ -34,7 +34,8 @@ fn is_place_of(slots: &Slots, place: usize, name: &TaskName) -> bool
     }
 }
 
-/// The place of a name, which gets an empty slot where it has none. The name is looked up only where the guess is wrong.
+/// The place of a name, which gets an empty slot where it has none. The name is looked up only
+/// where the guess is wrong.
 ///
 /// Where it has a place no memory is taken.
 pub(crate) fn own_place(

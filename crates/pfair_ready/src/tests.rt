@@ -22,7 +22,7 @@ fn key(rt: &impl Abort, d: u64, b: u64, bytes: &[u8]) -> Key {
     }
 }
 
-/// What is held under the names of the rows.
+// What is held under the names of the rows.
 fn contents<R: Ready>(rt: &impl Abort, ready: &R) -> [Option<(u64, Key)>; 3] {
     [
         ready.held(&name(rt, b"a")),

@@ -188,7 +188,8 @@ pub(crate) fn refused_arrivals(alloc: Global) -> Look {
     Ok(twins.hear(0, heard.as_slice(), decisions.as_slice())? && twins.are(b"a"))
 }
 
-/// A task with early release is late only in what has not run, and begins its next job no earlier than its release.
+/// A task with early release is late only in what has not run, and begins its next job no earlier
+/// than its release.
 pub(crate) fn early_release(alloc: Global) -> Look {
     let (Some(task), Some(a), Some(late)) = (name(b'a'), arrival(b'a', 2, 4, true), delay(b'a', 3))
     else {

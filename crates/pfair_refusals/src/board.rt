@@ -8,7 +8,7 @@ use pfair_board::{Board, Desk, LookFault, PublishFault};
 use pfair_lattice::Flat;
 use std::alloc::{AllocError, Global};
 
-/// A board of two rows with room for two entries each.
+// A board of two rows with room for two entries each.
 fn two_rows(alloc: Global) -> Result<Board, AllocError>
     ensures { IfOk result (λ board. board.processors ≡ 2) }
 {
@@ -18,7 +18,7 @@ fn two_rows(alloc: Global) -> Result<Board, AllocError>
     }
 }
 
-/// The desk of a row, one of a new set.
+// The desk of a row, one of a new set.
 fn row(board: &Board, processor: u8) -> Result<Desk, AllocError>
     requires { processor < board.now.processors }
     ensures { IfOk result (λ desk. IsDeskOf desk board.now) }
@@ -27,7 +27,7 @@ fn row(board: &Board, processor: u8) -> Result<Desk, AllocError>
     Ok(desks.swap_remove(processor as usize))
 }
 
-/// Publishes an entry of this floor, and says whether there is such an entry.
+// Publishes an entry of this floor, and says whether there is such an entry.
 fn publish_one(board: &Board, desk: &mut Desk, floor: u64) -> Look
     requires { IsDeskOf desk.old board.now }
     ensures { IsDeskOf desk.new board.now }
@@ -41,7 +41,7 @@ fn publish_one(board: &Board, desk: &mut Desk, floor: u64) -> Look
     Ok(true)
 }
 
-/// Publishes two entries of these floors, and says whether there are such entries.
+// Publishes two entries of these floors, and says whether there are such entries.
 fn publish_two(board: &Board, desk: &mut Desk, first: u64, second: u64) -> Look
     requires { IsDeskOf desk.old board.now }
     ensures { IsDeskOf desk.new board.now }
@@ -74,7 +74,8 @@ pub(crate) fn desks(alloc: Global) -> Look {
     Ok(true)
 }
 
-/// An entry that is published. After want of memory the desk is as before, and publishes it once more.
+/// An entry that is published. After want of memory the desk is as before, and publishes it once
+/// more.
 pub(crate) fn publish(alloc: Global) -> Look {
     let Some(entry) = quiet(3) else {
         return Ok(false);
@@ -96,7 +97,8 @@ pub(crate) fn publish(alloc: Global) -> Look {
     }
 }
 
-/// A look at what another desk published. After want of memory the desk is as before, and looks once more.
+/// A look at what another desk published. After want of memory the desk is as before, and looks
+/// once more.
 pub(crate) fn look(alloc: Global) -> Look {
     let Some(entry) = quiet(3) else {
         return Ok(false);
@@ -121,7 +123,8 @@ pub(crate) fn look(alloc: Global) -> Look {
     )
 }
 
-/// A refresh that finds two entries. After want of memory what was found is held, and another refresh finds the rest.
+/// A refresh that finds two entries. After want of memory what was found is held, and another
+/// refresh finds the rest.
 pub(crate) fn refresh(alloc: Global) -> Look {
     let board = two_rows(alloc)?;
     let mut writer = row(&board, 0)?;
@@ -141,7 +144,8 @@ pub(crate) fn refresh(alloc: Global) -> Look {
     Ok(reader.replica().missing(0).is_none() && reader.replica().le(writer.replica()))
 }
 
-/// A meet of two desks that published. After want of memory the first holds a part of the second, and meets it again.
+/// A meet of two desks that published. After want of memory the first holds a part of the second,
+/// and meets it again.
 pub(crate) fn meet(alloc: Global) -> Look {
     let board = two_rows(alloc)?;
     let mut first = row(&board, 0)?;

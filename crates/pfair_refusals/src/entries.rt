@@ -15,7 +15,7 @@ pub(crate) const TABLES: [&[(u8, u64)]; 6] = [
     &[(b'd', 2)],
 ];
 
-/// The places of each of the six slots.
+// The places of each of the six slots.
 const PLACES: [&[u8]; 6] = [&[0, 1], &[0, 1], &[], &[0, 1], &[0], &[0]];
 
 /// The name of one letter.

@@ -65,7 +65,8 @@ pub(crate) fn join_three_deep(alloc: Global) -> Look {
     Ok(is_whole(&now) && is_between(&whole, &now, &whole))
 }
 
-/// A pair that a map lacks. After want of memory the key is missing still, and the other key is as it was.
+/// A pair that a map lacks. After want of memory the key is missing still, and the other key is as
+/// it was.
 pub(crate) fn put_missing_key(alloc: Global) -> Look {
     let other = grown(alloc)?;
     let Some(value) = other.get(&2) else {

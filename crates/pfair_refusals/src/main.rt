@@ -1,9 +1,11 @@
-//! `pfair_refusals`: makes the public calls that take memory, one after another, and looks at what each leaves.
+//! `pfair_refusals`: makes the public calls that take memory, one after another, and looks at what
+//! each leaves.
 //!
-//! It is run with one allocation after another refused, by a library that is loaded before it. After each call it looks,
-//! by calls that take no memory, whether the answer is the ample one, or want of memory with the state that the call
-//! promises then. It says in a line what it looked at, and ends with status 0 where all was as promised, with 1 at the
-//! first call where it was not, and with 4 where it wanted memory for its own looking.
+//! It is run with one allocation after another refused, by a library that is loaded before it.
+//! After each call it looks, by calls that take no memory, whether the answer is the ample one, or
+//! want of memory with the state that the call promises then. It says in a line what it looked at,
+//! and ends with status 0 where all was as promised, with 1 at the first call where it was not, and
+//! with 4 where it wanted memory for its own looking.
 #![tactic(auto)]
 
 mod admission;
@@ -20,7 +22,7 @@ use pfair_ready::{HeapReady, PlainReady};
 use std::alloc::AllocError;
 use std::process::ExitCode;
 
-/// What a look answers: whether all was as promised, or want of memory for the looking.
+// What a look answers: whether all was as promised, or want of memory for the looking.
 type Look = Result<bool, AllocError>;
 
 fn main(rt: HostRuntime) -> ExitCode {

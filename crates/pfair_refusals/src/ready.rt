@@ -36,8 +36,8 @@ pub(crate) fn insert<R: Ready>(alloc: Global) -> Look {
     Ok(ready.held(&b.name) == Some((0, b)) && ready.held(&a.name) == Some((3, a)))
 }
 
-/// A selection of one key of two that are released. After want of memory all is held still and the slot has moved; then
-/// it is made once more.
+/// A selection of one key of two that are released. After want of memory all is held still and the
+/// slot has moved; then it is made once more.
 pub(crate) fn take_first<R: Ready>(alloc: Global) -> Look {
     let (Some(a), Some(b), Some(c)) = (key(4, b'a'), key(3, b'b'), key(5, b'c')) else {
         return Ok(false);

@@ -23,7 +23,8 @@ pub(crate) fn are_equal(left: &Replica, right: &Replica) -> bool {
     left.le(right) && right.le(left)
 }
 
-/// Whether the lengths of the sound beginnings, the marks, the frontier and the first torn key are those of a scan.
+/// Whether the lengths of the sound beginnings, the marks, the frontier and the first torn key are
+/// those of a scan.
 pub(crate) fn are_counted(replica: &Replica) -> bool {
     let mut frontier = u64::MAX;
     let mut torn = None;
@@ -85,7 +86,8 @@ pub(crate) fn take(alloc: Global) -> Look {
     )
 }
 
-/// The merge of two halves of ten entries. After want of memory what is held lies between, and it is merged once more.
+/// The merge of two halves of ten entries. After want of memory what is held lies between, and it
+/// is merged once more.
 pub(crate) fn merge(alloc: Global) -> Look {
     let whole = holding(alloc, true, true)?;
     let old = holding(alloc, true, false)?;
@@ -102,7 +104,8 @@ pub(crate) fn merge(alloc: Global) -> Look {
     Ok(are_equal(&now, &whole) && now.merge(&other).is_ok() && are_counted(&now))
 }
 
-/// A merge that tears, and one that fills a gap. After want of memory the counters are those of what is held then.
+/// A merge that tears, and one that fills a gap. After want of memory the counters are those of
+/// what is held then.
 pub(crate) fn merge_torn(alloc: Global) -> Look {
     let Some(other_entry) = quiet(6) else {
         return Ok(false);

@@ -23,8 +23,8 @@ fn told<R: Ready>(alloc: Global) -> Result<Dispatcher<R>, AllocError> {
     Ok(dispatcher)
 }
 
-// Reopens, once more where memory is wanted: plans are then spent still, and what was planned stands. `None` where memory
-// is wanting again.
+// Reopens, once more where memory is wanted: plans are then spent still, and what was planned
+// stands. `None` where memory is wanting again.
 fn reopens<R: Ready>(dispatcher: &mut Dispatcher<R>, slots: u64) -> Option<bool> {
     match dispatcher.reopen() {
         Ok(()) => return Some(is_planned(dispatcher, slots)),
@@ -41,8 +41,8 @@ fn reopens<R: Ready>(dispatcher: &mut Dispatcher<R>, slots: u64) -> Option<bool>
     }
 }
 
-// After a plan that wanted memory: the slot isn't planned, plans are refused until all is made anew, and entries are
-// taken all the same. `None` where memory is wanting again.
+// After a plan that wanted memory: the slot isn't planned, plans are refused until all is made
+// anew, and entries are taken all the same. `None` where memory is wanting again.
 fn recovers<R: Ready>(dispatcher: &mut Dispatcher<R>, slot: u64) -> Option<bool> {
     let (_, _, first) = ten()?.first().copied()?;
     let stands = is_planned(dispatcher, slot)
@@ -103,8 +103,8 @@ pub(crate) fn reopen<R: Ready>(alloc: Global) -> Look {
     plans_rest(&mut dispatcher)
 }
 
-/// Entries that come after three slots are planned. After want of memory nothing has changed, and the entry is taken once
-/// more.
+/// Entries that come after three slots are planned. After want of memory nothing has changed, and
+/// the entry is taken once more.
 pub(crate) fn take<R: Ready>(alloc: Global) -> Look {
     let Some(entry) = quiet(6) else {
         return Ok(false);
@@ -134,8 +134,8 @@ pub(crate) fn take<R: Ready>(alloc: Global) -> Look {
     plans_rest(&mut dispatcher)
 }
 
-/// A dispatcher that takes in what another holds. After want of memory it holds a part of it, and takes it in once more;
-/// then it plans all.
+/// A dispatcher that takes in what another holds. After want of memory it holds a part of it, and
+/// takes it in once more; then it plans all.
 pub(crate) fn absorb<R: Ready>(alloc: Global) -> Look {
     let whole: Dispatcher<R> = told(alloc)?;
     let settings = Settings::new(2, 6, 6).ok_or(AllocError)?;
@@ -157,8 +157,8 @@ pub(crate) fn absorb<R: Ready>(alloc: Global) -> Look {
     plans_rest(&mut dispatcher)
 }
 
-/// A second content of an entry stops plans and reopening, also those of a dispatcher that is spent; what was planned
-/// stands.
+/// A second content of an entry stops plans and reopening, also those of a dispatcher that is
+/// spent; what was planned stands.
 pub(crate) fn tear<R: Ready>(alloc: Global) -> Look {
     let Some(other) = quiet(6) else {
         return Ok(false);
@@ -199,7 +199,8 @@ pub(crate) fn events<R: Ready>(alloc: Global) -> Look {
     Ok(is_planned(&dispatcher, 6))
 }
 
-/// The run in which two halves of the ten entries come one after the other, among events that are refused.
+/// The run in which two halves of the ten entries come one after the other, among events that are
+/// refused.
 pub(crate) fn halves<R: Ready>(alloc: Global) -> Look {
     let settings = Settings::new(2, 6, 6).ok_or(AllocError)?;
     let entry = quiet(0).ok_or(AllocError)?;

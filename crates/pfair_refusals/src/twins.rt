@@ -10,10 +10,11 @@ use pfair_entry::{Announcement, Entry, Said};
 use pfair_weight::TaskName;
 use std::alloc::{AllocError, Global};
 
-/// What a boundary answers, and whether it counts all that it heard, also after want of memory.
+// What a boundary answers, and whether it counts all that it heard, also after want of memory.
 type Boundary = (bool, Result<Vec<Decision>, AllocError>);
 
-/// The members of a machine, and their twins: those of another machine like it, which hear each announcement by itself.
+/// The members of a machine, and their twins: those of another machine like it, which hear each
+/// announcement by itself.
 #[derive(Drop)]
 pub(crate) struct Twins {
     members: Members,
@@ -34,8 +35,9 @@ impl Twins {
         }
     }
 
-    /// Whether the boundary of a slot gives these decisions, at once and one by one. After want of memory the members
-    /// have to be those of a beginning, as their twins were on their way, and then hear the rest.
+    /// Whether the boundary of a slot gives these decisions, at once and one by one. After want of
+    /// memory the members have to be those of a beginning, as their twins were on their way, and
+    /// then hear the rest.
     pub(crate) fn hear(&mut self, slot: u64, heard: &[Said], expected: &[Decision]) -> Look
         requires { AllByRecursion (λ a. IsWithinLimits a.announcement) heard.now }
     {
@@ -52,8 +54,8 @@ impl Twins {
         }
     }
 
-    // The twins hear the announcements one by one. How many they had heard when they were last like the members; `None`
-    // where they never were, or where a decision is another one.
+    // The twins hear the announcements one by one. How many they had heard when they were last like
+    // the members; `None` where they never were, or where a decision is another one.
     fn follow(
         &mut self,
         slot: u64,
@@ -92,7 +94,8 @@ impl Twins {
         Ok(are_same(&self.members, &self.twins))
     }
 
-    /// Whether the named task, given a quantum, runs the subtask of this index; `None` where it may have none.
+    /// Whether the named task, given a quantum, runs the subtask of this index; `None` where it may
+    /// have none.
     pub(crate) fn run(&mut self, name: &TaskName, index: Option<u64>) -> bool {
         run(&mut self.members, name) == index && run(&mut self.twins, name) == index
     }
@@ -178,7 +181,8 @@ fn are_same(members: &Members, twins: &Members) -> bool {
     members.len() == twins.len()
 }
 
-// Whether the two have the same name, share and state, and the same offsets and first slots for their first subtasks.
+// Whether the two have the same name, share and state, and the same offsets and first slots for
+// their first subtasks.
 fn is_same(member: &Incarnation, twin: &Incarnation) -> bool {
     for index in 1..=8 {
         if member.theta(index) != twin.theta(index)

@@ -6,8 +6,9 @@ use pfair_entry::{Announcement, Said};
 use std::alloc::{AllocError, Global};
 use std::collections::BTreeMap;
 
-/// What is said at each slot, as [`crate::Replica::agenda`] has it, or as it is added piece by piece: a slot is looked up in a number of
-/// steps that grows with the logarithm of the number of slots at which something is said.
+/// What is said at each slot, as [`crate::Replica::agenda`] has it, or as it is added piece by
+/// piece: a slot is looked up in a number of steps that grows with the logarithm of the number of
+/// slots at which something is said.
 ///
 /// It stays what it was when the replica takes in more.
 #[derive(Drop)]
@@ -27,8 +28,8 @@ impl Agenda {
         }
     }
 
-    /// What is said at a slot, in the order in which it was added: by processors, and by numbers for each processor, where the agenda is
-    /// that of a replica. It costs one look-up of the slot.
+    /// What is said at a slot, in the order in which it was added: by processors, and by numbers
+    /// for each processor, where the agenda is that of a replica. It costs one look-up of the slot.
     pub fn at(&self, slot: u64) -> &[Said]
         ensures { result.now ≡ said_at self.now slot }
     {
@@ -38,11 +39,13 @@ impl Agenda {
         }
     }
 
-    /// Adds what is said at a slot behind what was said at it before. It costs one look-up of the slot, and a second one where nothing was
-    /// said at it; now and then what is said at the slot is moved to where it has room.
+    /// Adds what is said at a slot behind what was said at it before. It costs one look-up of the
+    /// slot, and a second one where nothing was said at it; now and then what is said at the slot
+    /// is moved to where it has room.
     ///
     /// # Errors
-    /// `AllocError` where memory was wanted and refused, and then the agenda says what it said before.
+    /// `AllocError` where memory was wanted and refused, and then the agenda says what it said
+    /// before.
     pub fn push(
         &mut self,
         slot: u64,
@@ -66,7 +69,7 @@ impl Agenda {
     }
 }
 
-/// Adds a value behind those that are listed under a key.
+// Adds a value behind those that are listed under a key.
 fn push_at<T: Drop>(
     alloc: Global,
     lists: &mut BTreeMap<u64, Vec<T>>,

@@ -1,4 +1,5 @@
-//! What a replica keeps beside its rows, so that it is looked up: how far each sound beginning goes, and the first torn key.
+//! What a replica keeps beside its rows, so that it is looked up: how far each sound beginning
+//! goes, and the first torn key.
 ghost use Rattle.std.specs.Prelude.{◌≡◌, ◌≤◌, ◌<◌, ◌↔◌, ◌+◌, ℕ, length, IsTrue, IfOk, Some, None, replicate};
 ghost use Rattle.pfair_replica.specs.Replica.{goes_on};
 ghost use Rattle.pfair_replica.specs.HeldRows.{held_in};
@@ -56,8 +57,8 @@ impl Counters {
         })
     }
 
-    /// Follows the rows after something came at one key: carries the sound beginning on over all that is held behind it, or takes it
-    /// back to before the key where that is torn in it.
+    /// Follows the rows after something came at one key: carries the sound beginning on over all
+    /// that is held behind it, or takes it back to before the key where that is torn in it.
     pub fn follow_entry(&mut self, rows: &Rows, capacity: u32, key: EntryKey)
         requires row { key.processor < length self.old.beginnings.items }
         requires before { WereBefore capacity key.processor key.number (held_in rows.now) self.old.beginnings.items self.old.torn }
@@ -105,7 +106,7 @@ pub(crate) fn going_on(rows: &Rows, processor: u8, number: u32, floor: u64) -> O
     }
 }
 
-/// The whole sound beginning of a row, from a part of it on.
+// The whole sound beginning of a row, from a part of it on.
 fn carried_on(rows: &Rows, capacity: u32, processor: u8, part: Beginning) -> Beginning
     requires part { IsPart (held_in rows.now processor) part }
     requires room { part.count ≤ capacity }
@@ -124,7 +125,7 @@ fn carried_on(rows: &Rows, capacity: u32, processor: u8, part: Beginning) -> Beg
     }
 }
 
-/// The part of a sound beginning that is left after something came at one key.
+// The part of a sound beginning that is left after something came at one key.
 fn part_left(rows: &Rows, key: EntryKey, before: Beginning) -> Beginning
     requires { IsLeftAt (held_in rows.now key.processor) key.number before }
     ensures part { IsPart (held_in rows.now key.processor) result }
@@ -137,7 +138,7 @@ fn part_left(rows: &Rows, key: EntryKey, before: Beginning) -> Beginning
     }
 }
 
-/// The part of a sound beginning before an entry in it.
+// The part of a sound beginning before an entry in it.
 fn part_before(rows: &Rows, key: EntryKey) -> Beginning
     requires { IsRunBefore (held_in rows.now key.processor) key.number }
     ensures part { IsPart (held_in rows.now key.processor) result }
@@ -151,14 +152,14 @@ fn part_before(rows: &Rows, key: EntryKey) -> Beginning
     Beginning { count, mark }
 }
 
-/// Whether a key is torn.
+// Whether a key is torn.
 fn is_torn(rows: &Rows, processor: u8, number: u32) -> bool
     ensures { IsTrue result ↔ IsTornAt (held_in rows.now) processor number }
 {
     matches!(held_at(rows, processor, number), Some(Flat::Torn))
 }
 
-/// The first torn key of a processor.
+// The first torn key of a processor.
 fn first_torn_in(rows: &Rows, capacity: u32, processor: u8) -> Option<EntryKey>
     requires { (n : ℕ) → IsTornAt (held_in rows.now) processor n → (1 ≤ n) × (n ≤ capacity) }
     ensures { IsFirstTornIn (held_in rows.now) processor result }
@@ -174,7 +175,7 @@ fn first_torn_in(rows: &Rows, capacity: u32, processor: u8) -> Option<EntryKey>
     None
 }
 
-/// The one of two keys that comes first: by processors, and then by numbers.
+// The one of two keys that comes first: by processors, and then by numbers.
 fn earlier(first: Option<EntryKey>, other: Option<EntryKey>) -> Option<EntryKey>
     ensures { IsEarlier first other result }
 {
@@ -187,7 +188,7 @@ fn earlier(first: Option<EntryKey>, other: Option<EntryKey>) -> Option<EntryKey>
     }
 }
 
-/// Whether a key is the other or comes before it.
+// Whether a key is the other or comes before it.
 fn comes_first(first: EntryKey, key: EntryKey) -> bool
     ensures { IsTrue result ↔ ComesFirst first key.processor key.number }
 {

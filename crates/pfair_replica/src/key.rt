@@ -9,11 +9,13 @@ pub struct EntryKey {
     pub number: u32,
 }
 
-/// What is wrong with the logs that a replica holds. Both lists are in order of processors, and of numbers for each processor.
+/// What is wrong with the logs that a replica holds. Both lists are in order of processors, and of
+/// numbers for each processor.
 #[derive(Debug, Drop)]
 pub struct Faults {
     /// The keys at which two contents met.
     pub torn: Vec<EntryKey>,
-    /// For each processor the entry right after its sound beginning, where that is one entry with a lower floor.
+    /// For each processor the entry right after its sound beginning, where that is one entry with a
+    /// lower floor.
     pub fallen: Vec<EntryKey>,
 }

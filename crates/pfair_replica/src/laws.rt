@@ -1,11 +1,13 @@
-//! The laws of replicas: of their order and their join, of sound beginnings, marks and the frontier, and of what is torn.
+//! The laws of replicas: of their order and their join, of sound beginnings, marks and the
+//! frontier, and of what is torn.
 //!
 //! Each function does nothing: its contract is the law, over every replica that there can be.
 ghost use Rattle.pfair_replica.specs.Laws.{IsLeastJoin, IsLongestRun, IsHeldAfter, IsAgreement, BelowAgrees, SayTheSame, MarksNeverFall, IsReadByNumber, BeginningsGrow, IsLeastMark, IsTornTest, IsListed, OfferedStays};
 ghost use Rattle.pfair_replica.specs.HeldRows.{IsKnownByHeld};
 ghost use Rattle.pfair_replica.specs.SaidAt.{IsSaid};
 
-/// The order of replicas is an order, and a merge is the least that holds both; so it is commutative, associative and idempotent.
+/// The order of replicas is an order, and a merge is the least that holds both; so it is
+/// commutative, associative and idempotent.
 pub fn least_join()
     ensures { IsLeastJoin }
 {}
@@ -15,13 +17,14 @@ pub fn known_by_held()
     ensures { IsKnownByHeld }
 {}
 
-/// What is held at each key after an entry was joined in, which changes nothing where the entry was held already, and
-/// after a merge.
+/// What is held at each key after an entry was joined in, which changes nothing where the entry was
+/// held already, and after a merge.
 pub fn held_after()
     ensures { IsHeldAfter }
 {}
 
-/// What is offered, refused or not, takes nothing away, changes no shape and leaves a replica a replica.
+/// What is offered, refused or not, takes nothing away, changes no shape and leaves a replica a
+/// replica.
 pub fn offered_stays()
     ensures { OfferedStays }
 {}
@@ -46,7 +49,8 @@ pub fn read_by_number()
     ensures { IsReadByNumber }
 {}
 
-/// A replica that holds more, with nothing torn, has sound beginnings that go on those of the other.
+/// A replica that holds more, with nothing torn, has sound beginnings that go on those of the
+/// other.
 pub fn beginnings_grow()
     ensures { BeginningsGrow }
 {}
@@ -71,13 +75,15 @@ pub fn torn_test()
     ensures { IsTornTest }
 {}
 
-/// The torn keys are those of which the content is torn, and the fallen ones those of an entry right after a sound beginning with a floor below the mark.
+/// The torn keys are those of which the content is torn, and the fallen ones those of an entry
+/// right after a sound beginning with a floor below the mark.
 pub fn listed()
     ensures { IsListed }
 {}
 
-/// What is said at a slot is what the entries of sound beginnings announce with that stamp. It stands in order of
-/// processors, and of numbers for each processor, and so do torn and fallen keys.
+/// What is said at a slot is what the entries of sound beginnings announce with that stamp. It
+/// stands in order of processors, and of numbers for each processor, and so do torn and fallen
+/// keys.
 pub fn said_in_order()
     ensures { IsSaid }
 {}

@@ -1,9 +1,10 @@
 //! What one dispatcher holds of the logs of all processors.
 //!
-//! A replica is a finite map from keys, a processor and a number, to one entry or the mark that two different ones met there (torn). It
-//! only grows, and replicas merge by joins, as replicated data types do (Shapiro, Preguiça, Baquero and Zawirski, 2011). How far each
-//! processor has committed itself is read off its sound beginning: the longest run of its entries 1, 2, 3 and so on that is held, none of
-//! them torn, whose floors never fall.
+//! A replica is a finite map from keys, a processor and a number, to one entry or the mark that two
+//! different ones met there (torn). It only grows, and replicas merge by joins, as replicated data
+//! types do (Shapiro, Preguiça, Baquero and Zawirski, 2011). How far each processor has committed
+//! itself is read off its sound beginning: the longest run of its entries 1, 2, 3 and so on that is
+//! held, none of them torn, whose floors never fall.
 ghost use Rattle.std.specs.Prelude.{◌≡◌, ◌≢◌, ◌≤◌, ◌↔◌, ◌⊎◌, ◌++◌, ℕ, [], length, slice_get, is_some, IsSome, IsTrue, IfOk, IfErr, OnOk, OnErr, Ok, Err, Some};
 ghost use Rattle.pfair_lattice.specs.declared.flat.Flat.TheVariants.{One};
 ghost use Rattle.pfair_entry.specs.Entry.{Logged, IsEntry};
@@ -23,11 +24,11 @@ use pfair_lattice::{Flat, Join};
 use std::alloc::{AllocError, Global};
 use std::marker::Model;
 
-/// What one dispatcher holds of the logs of all processors: 1 to 64 processors, counted from 0, and 1 to 4,096 entries in each log,
-/// counted from 1.
+/// What one dispatcher holds of the logs of all processors: 1 to 64 processors, counted from 0, and
+/// 1 to 4,096 entries in each log, counted from 1.
 ///
-/// A look-up of a key, of which the calls speak, takes a number of steps that grows with the logarithm of the number of processors, and of
-/// the number of entries that are held in the log.
+/// A look-up of a key, of which the calls speak, takes a number of steps that grows with the
+/// logarithm of the number of processors, and of the number of entries that are held in the log.
 #[derive(Drop)]
 pub struct Replica {
     processors: u8,
@@ -50,8 +51,8 @@ impl Model for Replica {
 }
 
 impl Replica {
-    /// The replica of so many processors, with room for so many entries in each log, that holds nothing. It costs a step for each
-    /// processor, whatever the capacity.
+    /// The replica of so many processors, with room for so many entries in each log, that holds
+    /// nothing. It costs a step for each processor, whatever the capacity.
     ///
     /// # Errors
     /// `AllocError` where memory was wanted and refused.
@@ -85,7 +86,8 @@ impl Replica {
         self.capacity
     }
 
-    /// What is held at a key: one entry, `Torn`, or `None`. A key that the replica hasn't room for holds nothing. It costs one look-up.
+    /// What is held at a key: one entry, `Torn`, or `None`. A key that the replica hasn't room for
+    /// holds nothing. It costs one look-up.
     pub fn get(&self, processor: u8, number: u32) -> Option<Flat<Entry>>
         ensures value { result ≡ held self.now processor number }
         ensures entry { (e : Logged) → result ≡ Some (One e) → IsEntry e }
@@ -93,13 +95,15 @@ impl Replica {
         held_at(&self.rows, processor, number)
     }
 
-    /// Takes one entry in, and answers what it met there. What is held afterwards is the join with it.
+    /// Takes one entry in, and answers what it met there. What is held afterwards is the join with
+    /// it.
     ///
-    /// It costs a few look-ups, and one more for each entry by which the sound beginning of the processor grows.
+    /// It costs a few look-ups, and one more for each entry by which the sound beginning of the
+    /// processor grows.
     ///
     /// # Errors
-    /// The first of these that applies, and then nothing is changed: `NoSuchProcessor`, `NumberOutOfRange`, and `Memory`, which comes only
-    /// where nothing was held at the key.
+    /// The first of these that applies, and then nothing is changed: `NoSuchProcessor`,
+    /// `NumberOutOfRange`, and `Memory`, which comes only where nothing was held at the key.
     pub fn take(&mut self, processor: u8, number: u32, entry: Entry) -> Result<Taken, TakeFault>
         ensures taken { OnOk result (replica_of self.new ≡ with_entry (replica_of self.old) processor number entry) }
         ensures answer { IfOk result (IsTakenAs (held self.old processor number) entry) }
@@ -129,15 +133,18 @@ impl Replica {
         Ok(taken)
     }
 
-    /// Merges the other in: afterwards each key holds what either held, the common entry, or `Torn`.
+    /// Merges the other in: afterwards each key holds what either held, the common entry, or
+    /// `Torn`.
     ///
-    /// It costs two look-ups for each entry that the other holds, and in each row where it holds something, be it known here already, a
-    /// look-up for each entry of the sound beginning, and for each number up to the first torn one, or up to the capacity where none is.
+    /// It costs two look-ups for each entry that the other holds, and in each row where it holds
+    /// something, be it known here already, a look-up for each entry of the sound beginning, and
+    /// for each number up to the first torn one, or up to the capacity where none is.
     ///
     /// # Errors
-    /// `OtherShape` where the other has another number of processors or another capacity, and then nothing is changed. `Memory` where
-    /// memory was wanted and refused, which comes only where the other holds something at a key at which this replica holds nothing: then
-    /// a part of the other is merged in, and merging it again gives what one merge would have given.
+    /// `OtherShape` where the other has another number of processors or another capacity, and then
+    /// nothing is changed. `Memory` where memory was wanted and refused, which comes only where the
+    /// other holds something at a key at which this replica holds nothing: then a part of the other
+    /// is merged in, and merging it again gives what one merge would have given.
     pub fn merge(&mut self, other: &Replica) -> Result<(), MergeFault>
         ensures merged { OnOk result (replica_of self.new ≡ join (replica_of self.old) (replica_of other.now)) }
         ensures same_shape { OnOk result (SameShape self.old other.now) }
@@ -160,7 +167,8 @@ impl Replica {
         Ok(())
     }
 
-    /// A second replica that is equal to this one. It costs two look-ups for each entry that is held.
+    /// A second replica that is equal to this one. It costs two look-ups for each entry that is
+    /// held.
     ///
     /// # Errors
     /// `AllocError` where memory was wanted and refused.
@@ -176,16 +184,16 @@ impl Replica {
         })
     }
 
-    /// The slot up to which a processor has committed itself: the last floor of its sound beginning, or 0 where that is empty. It is kept,
-    /// not looked for.
+    /// The slot up to which a processor has committed itself: the last floor of its sound
+    /// beginning, or 0 where that is empty. It is kept, not looked for.
     pub fn mark(&self, processor: u8) -> u64
         ensures { result ≡ mark (replica_of self.now) processor }
     {
         self.sound_beginning(processor).1
     }
 
-    /// How many entries the sound beginning of a processor has: these are its entries 1, 2, 3 and so on, which `get` gives. It is kept,
-    /// not counted.
+    /// How many entries the sound beginning of a processor has: these are its entries 1, 2, 3 and
+    /// so on, which `get` gives. It is kept, not counted.
     pub fn sound_count(&self, processor: u8) -> u32
         ensures value { result ≡ length (sound_beginning (replica_of self.now) processor) }
         ensures within { result ≤ self.now.capacity }
@@ -193,7 +201,8 @@ impl Replica {
         self.sound_beginning(processor).0
     }
 
-    /// The least mark of all processors: below this slot every announcement is known. It costs a step for each processor.
+    /// The least mark of all processors: below this slot every announcement is known. It costs a
+    /// step for each processor.
     pub fn frontier(&self) -> u64
         ensures value { result ≡ frontier (replica_of self.now) }
         ensures replica { IsReplica (replica_of self.now) }
@@ -205,8 +214,8 @@ impl Replica {
         least
     }
 
-    /// Whether each key that is held here is held there, with the same content or torn. It costs a look-up there for each entry that is
-    /// held here, up to the first that isn't held there.
+    /// Whether each key that is held here is held there, with the same content or torn. It costs a
+    /// look-up there for each entry that is held here, up to the first that isn't held there.
     pub fn le(&self, other: &Replica) -> bool
         ensures { IsTrue result ↔ Below (replica_of self.now) (replica_of other.now) }
     {
@@ -218,8 +227,8 @@ impl Replica {
         true
     }
 
-    /// The least number of a processor's log that isn't held, or `None` where all are. What is torn is held. It costs a look-up for each
-    /// number up to that one.
+    /// The least number of a processor's log that isn't held, or `None` where all are. What is torn
+    /// is held. It costs a look-up for each number up to that one.
     pub fn missing(&self, processor: u8) -> Option<u32>
         ensures value { result ≡ missing (replica_of self.now) processor }
         ensures least { IsLeastMissing (replica_of self.now) processor result }
@@ -232,7 +241,8 @@ impl Replica {
         None
     }
 
-    /// The least torn key, by processors and then by numbers, or `None` where nothing is torn. It is kept, not looked for.
+    /// The least torn key, by processors and then by numbers, or `None` where nothing is torn. It
+    /// is kept, not looked for.
     pub fn first_torn(&self) -> Option<EntryKey>
         ensures key { result ≡ slice_get (torn_keys (replica_of self.now)) 0 }
         ensures some { is_some result ≡ has_torn (replica_of self.now) }
@@ -241,9 +251,10 @@ impl Replica {
         self.counters.torn
     }
 
-    /// The announcements in the sound beginnings by the slots of their stamps, at each slot in order of processors, and of numbers for
-    /// each processor. It takes one pass over the sound beginnings: a look-up for each of their entries, and one for each processor, and
-    /// what [`Agenda::push`] costs for each announcement.
+    /// The announcements in the sound beginnings by the slots of their stamps, at each slot in
+    /// order of processors, and of numbers for each processor. It takes one pass over the sound
+    /// beginnings: a look-up for each of their entries, and one for each processor, and what
+    /// [`Agenda::push`] costs for each announcement.
     ///
     /// # Errors
     /// `AllocError` where memory was wanted and refused, which comes only where something is said.
@@ -259,8 +270,9 @@ impl Replica {
         Ok(agenda)
     }
 
-    /// What is wrong with the logs: every torn key, and every entry that ends a sound beginning by a floor that fell. It costs a look-up
-    /// for each number of each log, so as many as the processors times the capacity.
+    /// What is wrong with the logs: every torn key, and every entry that ends a sound beginning by
+    /// a floor that fell. It costs a look-up for each number of each log, so as many as the
+    /// processors times the capacity.
     ///
     /// # Errors
     /// `AllocError` where memory was wanted and refused, which comes only where something is wrong.
@@ -278,7 +290,7 @@ impl Replica {
         Ok(Faults { torn, fallen })
     }
 
-    /// Adds the torn keys of a processor.
+    // Adds the torn keys of a processor.
     fn push_torn(&self, processor: u8, torn: &mut Vec<EntryKey>) -> Result<(), AllocError>
         ensures torn { OnOk result (torn.new.items ≡ torn.old.items ++ torn_in (replica_of self.now) processor) }
         ensures wanted { OnErr result (torn_in (replica_of self.now) processor ≢ []) }
@@ -292,7 +304,7 @@ impl Replica {
         Ok(())
     }
 
-    /// Adds the entry right after the sound beginning of a processor, where it has a lower floor.
+    // Adds the entry right after the sound beginning of a processor, where it has a lower floor.
     fn push_fallen(&self, processor: u8, fallen: &mut Vec<EntryKey>) -> Result<(), AllocError>
         ensures fallen { OnOk result (fallen.new.items ≡ fallen.old.items ++ fallen_in (replica_of self.now) processor) }
         ensures wanted { OnErr result (fallen_in (replica_of self.now) processor ≢ []) }
@@ -311,7 +323,7 @@ impl Replica {
         Ok(())
     }
 
-    /// How many entries the sound beginning of a processor has, and its last floor.
+    // How many entries the sound beginning of a processor has, and its last floor.
     fn sound_beginning(&self, processor: u8) -> (u32, u64)
         ensures count { result.0 ≡ length (sound_beginning (replica_of self.now) processor) }
         ensures within { result.0 ≤ self.now.capacity }
@@ -324,14 +336,14 @@ impl Replica {
         }
     }
 
-    /// The entry that goes on a run with this last floor.
+    // The entry that goes on a run with this last floor.
     fn going_on(&self, processor: u8, number: u32, floor: u64) -> Option<Entry>
         ensures { result ≡ goes_on (held self.now processor number) floor }
     {
         going_on(&self.rows, processor, number, floor)
     }
 
-    /// Notes in an agenda what a processor says in its sound beginning.
+    // Notes in an agenda what a processor says in its sound beginning.
     fn note_said(&self, processor: u8, agenda: &mut Agenda) -> Result<(), AllocError>
         ensures heard { OnOk result ((t : ℕ) → said_at agenda.new t ≡ said_at agenda.old t ++ said_in t processor 1 (sound_beginning (replica_of self.now) processor)) }
         ensures wanted { OnErr result ((t : ℕ) × (said_in t processor 1 (sound_beginning (replica_of self.now) processor) ≢ [])) }
@@ -350,7 +362,7 @@ impl Replica {
     }
 }
 
-/// Notes in an agenda what an entry says.
+// Notes in an agenda what an entry says.
 fn note_said_by(
     processor: u8,
     number: u32,

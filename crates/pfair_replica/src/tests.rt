@@ -14,12 +14,12 @@ fn are_same(x: &Replica, y: &Replica) -> bool {
     x.le(y) && y.le(x)
 }
 
-/// The answer of a take.
+// The answer of a take.
 fn take(x: &mut Replica, processor: u8, number: u32, entry: Entry) -> Result<Taken, TakeFault> {
     x.take(processor, number, entry)
 }
 
-/// The merge of two replicas.
+// The merge of two replicas.
 fn merged(rt: &impl Abort, x: &Replica, y: &Replica) -> Result<Replica, MergeFault> {
     let mut now = x.copy()?;
     now.merge(y)?;
@@ -31,7 +31,7 @@ fn floor(rt: &impl Abort, floor: u64) -> Entry {
     Entry::new(floor, None).expect(rt, "an entry")
 }
 
-/// An entry by which a task departs.
+// An entry by which a task departs.
 fn departs(rt: &impl Abort, floor: u64, stamp: u64, name: TaskName) -> Entry {
     Entry::new(floor, Some((stamp, Announcement::Depart { name }))).expect(rt, "an entry")
 }
@@ -117,7 +117,7 @@ fn another_shape_is_refused(rt: HostRuntime) -> Result<(), Fail> {
     Ok(())
 }
 
-/// Five entries of each of two processors: those whose number is odd, or the others.
+// Five entries of each of two processors: those whose number is odd, or the others.
 fn half(rt: &impl Abort, alloc: Global, odd: bool) -> Result<Replica, Fail> {
     let mut x = Replica::new(alloc, 2, 5)?;
     for processor in 0..2u8 {
@@ -178,7 +178,7 @@ fn said(processor: u8, number: u32, name: TaskName) -> Said {
     }
 }
 
-/// Adds a departure to an agenda.
+// Adds a departure to an agenda.
 fn push(agenda: &mut Agenda, slot: u64, number: u32, name: TaskName) -> Result<(), AllocError> {
     agenda.push(slot, 0, number, Announcement::Depart { name })
 }
@@ -261,7 +261,7 @@ fn a_filled_gap_carries_the_mark_on(rt: HostRuntime) -> Result<(), Fail> {
     Ok(())
 }
 
-/// Takes the entries 4096 to 2 of a log, last first, each with its number as floor.
+// Takes the entries 4096 to 2 of a log, last first, each with its number as floor.
 fn take_last_first(rt: &impl Abort, x: &mut Replica, processor: u8) -> Result<(), TakeFault> {
     for after in 0..4095u32 {
         let number = 4096 - after;
@@ -270,7 +270,7 @@ fn take_last_first(rt: &impl Abort, x: &mut Replica, processor: u8) -> Result<()
     Ok(())
 }
 
-/// Takes entry 1 of each of 64 logs but one.
+// Takes entry 1 of each of 64 logs but one.
 fn take_first_of_others(x: &mut Replica, processor: u8, entry: Entry) -> Result<(), TakeFault> {
     for other in 0..64u8 {
         if other != processor {
@@ -280,7 +280,8 @@ fn take_first_of_others(x: &mut Replica, processor: u8, entry: Entry) -> Result<
     Ok(())
 }
 
-/// Of 64 logs the one of processor 40 holds 4,096 entries, with floors 1 to 4,096, and each other one an entry with floor 5,000.
+// Of 64 logs the one of processor 40 holds 4,096 entries, with floors 1 to 4,096, and each other
+// one an entry with floor 5,000.
 fn large(rt: &impl Abort, alloc: Global) -> Result<Replica, Fail> {
     let mut x = Replica::new(alloc, 64, 4096)?;
     take_last_first(rt, &mut x, 40)?;
@@ -330,7 +331,7 @@ fn a_large_replica_has_faults(rt: HostRuntime) -> Result<(), Fail> {
     Ok(())
 }
 
-/// A walk by a linear rule, and what it came through.
+// A walk by a linear rule, and what it came through.
 #[derive(Drop)]
 struct Walk {
     state: u64,
@@ -358,7 +359,7 @@ impl Walk {
         }
     }
 
-    /// A number below this one, which isn't 0.
+    // A number below this one, which isn't 0.
     fn below(&mut self, end: u64) -> u64
         requires { 0 < end }
         ensures { result < end }
@@ -370,7 +371,7 @@ impl Walk {
         (self.state >> 33) % end
     }
 
-    /// Any key of a replica.
+    // Any key of a replica.
     fn key(&mut self, x: &Replica) -> EntryKey {
         let processor = self.below(x.processors() as u64) as u8;
         let before = self.below(x.capacity() as u64) as u32;
@@ -380,7 +381,8 @@ impl Walk {
         }
     }
 
-    /// Any entry for a number: one of five has a floor that falls, or tears where another one is held.
+    // Any entry for a number: one of five has a floor that falls, or tears where another one is
+    // held.
     fn entry(&mut self, rt: &impl Abort, number: u32) -> Entry {
         if self.below(5) == 0 {
             floor(rt, self.below(7))
@@ -389,7 +391,7 @@ impl Walk {
         }
     }
 
-    /// Notes from where to where a take brought a sound beginning.
+    // Notes from where to where a take brought a sound beginning.
     fn note_take(&mut self, before: u32, count: u32) {
         if count < before {
             self.taken_back = self.taken_back.saturating_add(1);
@@ -398,7 +400,7 @@ impl Walk {
         }
     }
 
-    /// Notes from where to where a merge brought a sound beginning.
+    // Notes from where to where a merge brought a sound beginning.
     fn note_merge(&mut self, before: u32, count: u32) {
         if count < before {
             self.merged_back = self.merged_back.saturating_add(1);
@@ -408,7 +410,7 @@ impl Walk {
     }
 }
 
-/// A step of a walk: a take at any key.
+// A step of a walk: a take at any key.
 fn step(rt: &impl Abort, walk: &mut Walk, x: &mut Replica) -> Result<(), TakeFault> {
     let key = walk.key(x);
     let entry = walk.entry(rt, key.number);
@@ -422,7 +424,7 @@ fn step(rt: &impl Abort, walk: &mut Walk, x: &mut Replica) -> Result<(), TakeFau
     Ok(())
 }
 
-/// A merge of a walk.
+// A merge of a walk.
 fn step_merged(
     rt: &impl Abort,
     walk: &mut Walk,
@@ -436,7 +438,7 @@ fn step_merged(
     Ok(now)
 }
 
-/// How many entries the sound beginning of a processor has, and its mark, by going through the row.
+// How many entries the sound beginning of a processor has, and its mark, by going through the row.
 fn scanned(x: &Replica, processor: u8) -> (u32, u64) {
     let mut mark = 0;
     for before in 0..x.capacity() {
@@ -448,7 +450,7 @@ fn scanned(x: &Replica, processor: u8) -> (u32, u64) {
     (x.capacity(), mark)
 }
 
-/// The first torn key of a processor, by going through the row.
+// The first torn key of a processor, by going through the row.
 fn first_scanned(x: &Replica, processor: u8) -> Option<EntryKey> {
     for before in 0..x.capacity() {
         if x.get(processor, before + 1) == Some(Flat::Torn) {
@@ -461,7 +463,7 @@ fn first_scanned(x: &Replica, processor: u8) -> Option<EntryKey> {
     None
 }
 
-/// What a replica has looked up is what going through its rows finds.
+// What a replica has looked up is what going through its rows finds.
 fn assert_scanned(rt: &impl Abort, x: &Replica) {
     let (mut least, mut torn) = (u64::MAX, None);
     for processor in 0..x.processors() {
@@ -475,7 +477,7 @@ fn assert_scanned(rt: &impl Abort, x: &Replica) {
     assert_eq!(rt; x.first_torn(), torn);
 }
 
-/// Forty steps of two replicas in turn, now and then merged.
+// Forty steps of two replicas in turn, now and then merged.
 fn walked(
     rt: &impl Abort,
     alloc: Global,

@@ -1,6 +1,7 @@
 //! Worked runs, from what is said to the tables: tests of the crates below by short texts.
 //!
-//! Each run is written as the events that come to a dispatcher, and what it has to answer, to plan and to decide.
+//! Each run is written as the events that come to a dispatcher, and what it has to answer, to plan
+//! and to decide.
 #![tactic(auto)]
 
 #[cfg(test)]

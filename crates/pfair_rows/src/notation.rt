@@ -1,8 +1,9 @@
 //! Events as texts, one after another with a `;` between them.
 //!
-//! `0 3 2 2 depart a` is the entry of processor 0 with number 3 and floor 2, in which the departure of a is stamped 2. The
-//! others are `0 1 0 0 arrive a 1 2`, a weight of 1/2, `0 1 0 0 early a 1 2`, where it may run ahead of its windows, and
-//! `1 3 3 4 late b 4 2`, subtask 4 by 2 slots; `1 4 5` says nothing. `plan 3` asks for three slots.
+//! `0 3 2 2 depart a` is the entry of processor 0 with number 3 and floor 2, in which the departure
+//! of a is stamped 2. The others are `0 1 0 0 arrive a 1 2`, a weight of 1/2, `0 1 0 0 early a 1
+//! 2`, where it may run ahead of its windows, and `1 3 3 4 late b 4 2`, subtask 4 by 2 slots; `1 4
+//! 5` says nothing. `plan 3` asks for three slots.
 
 use pfair_entry::{Announcement, Entry};
 use pfair_table::Event;

@@ -7,7 +7,7 @@ use pfair_table::{Dispatcher, Event, Settings, run_events};
 use std::alloc::{AllocError, Global};
 use std::process::Abort;
 
-/// The room that each dispatcher has for entries of one log.
+// The room that each dispatcher has for entries of one log.
 const CAPACITY: u32 = 16;
 
 // One event comes to a dispatcher, and its answer goes behind the text.
@@ -110,7 +110,8 @@ fn assert_left<R: Ready>(
     assert_planned(rt, alloc, &left, tables, decisions)
 }
 
-/// Asserts what the events leave, taken one by one and by `run_events`, over plain lists and over heaps.
+/// Asserts what the events leave, taken one by one and by `run_events`, over plain lists and over
+/// heaps.
 pub(crate) fn assert_events(
     rt: &impl Abort,
     alloc: Global,
@@ -126,8 +127,8 @@ pub(crate) fn assert_events(
     assert_left::<HeapReady>(rt, alloc, settings, events, tables, decisions)
 }
 
-/// Asserts a run on a machine of so many processors, with such a frame and so many slots: the answers to the events, and
-/// the tables and decisions that they leave.
+/// Asserts a run on a machine of so many processors, with such a frame and so many slots: the
+/// answers to the events, and the tables and decisions that they leave.
 pub(crate) fn assert_run(
     rt: &impl Abort,
     alloc: Global,

@@ -61,7 +61,8 @@ fn absorb(
     Ok(())
 }
 
-// The coming of one half, of a replica with other room, which is refused, and of the other half, and plans of all slots.
+// The coming of one half, of a replica with other room, which is refused, and of the other half,
+// and plans of all slots.
 fn two_halves(
     rt: &impl Abort,
     alloc: Global,

@@ -65,8 +65,8 @@ fn push_decision(text: &mut String, decision: Decision) -> Result<(), AllocError
     Ok(())
 }
 
-/// The decisions at each slot that is planned, in brackets, each with processor, number and name, as
-/// `[0.1 a admitted, 1.1 b refused 22][]`.
+/// The decisions at each slot that is planned, in brackets, each with processor, number and name,
+/// as `[0.1 a admitted, 1.1 b refused 22][]`.
 pub(crate) fn decisions<R: Ready>(
     alloc: Global,
     dispatcher: &Dispatcher<R>,

@@ -8,7 +8,7 @@ use pfair_table::{Dispatcher, Event, Pick, Settings, run_events};
 use std::alloc::{AllocError, Global};
 use std::process::Abort;
 
-/// The room that each dispatcher has for entries of one log.
+// The room that each dispatcher has for entries of one log.
 const CAPACITY: u32 = 256;
 
 // The dispatcher that the events leave.
@@ -22,7 +22,8 @@ fn left_by<R: Ready>(
     run_events(alloc, settings, CAPACITY, events)
 }
 
-// Puts the coming of entries 200 to 1 of processor 0 behind the events, last first. They say nothing, and their floors are 0.
+// Puts the coming of entries 200 to 1 of processor 0 behind the events, last first. They say
+// nothing, and their floors are 0.
 fn push_silent(rt: &impl Abort, events: &mut Vec<Event>) -> Result<(), AllocError> {
     let entry = Entry::new(0, None).expect(rt, "an entry");
     for after in 0..200u32 {
@@ -128,7 +129,8 @@ fn full_machine(rt: &impl Abort, alloc: Global, processors: u8) -> Result<Vec<Ev
     Ok(all)
 }
 
-// Asserts that a table has a row for each of these names of a letter, in their order, with this subtask.
+// Asserts that a table has a row for each of these names of a letter, in their order, with this
+// subtask.
 fn assert_rows(rt: &impl Abort, table: &[Pick], names: &[u8], index: u64) {
     assert_eq!(rt; table.len(), names.len());
     for (pick, name) in table.iter().zip(names.iter()) {

@@ -235,7 +235,8 @@ fn early_releases(rt: HostRuntime) -> Result<(), AllocError> {
 
 #[test]
 fn announcements_stand_by_processor_and_number(rt: HostRuntime) -> Result<(), AllocError> {
-    // what processor 1 says of slot 1 is known when slot 0 is planned, and what processor 0 says of it comes later
+    // what processor 1 says of slot 1 is known when slot 0 is planned, and what processor 0 says of
+    // it comes later
     assert_run(
         &rt,
         rt.alloc(),

@@ -14,7 +14,8 @@ pub enum Step {
         /// The slot.
         slot: u64,
     },
-    /// Nothing: the next slot is at or past the frontier, up to which the logs that are held are settled.
+    /// Nothing: the next slot is at or past the frontier, up to which the logs that are held are
+    /// settled.
     Waiting {
         /// The frontier.
         frontier: u64,
@@ -26,7 +27,8 @@ pub enum Step {
 /// Why a slot was not planned, or nothing reopened.
 #[derive(Clone, Copy, Debug, PartialEq, Eq, Error)]
 pub enum PlanFault {
-    /// Two contents of one entry met; this is the least such key. What was planned stands, and no more is planned.
+    /// Two contents of one entry met; this is the least such key. What was planned stands, and no
+    /// more is planned.
     #[error("entry {number} of processor {processor} torn", number = .0.number, processor = .0.processor)]
     Torn(EntryKey),
     /// A plan has wanted memory: the dispatcher has to be reopened.

@@ -8,7 +8,8 @@ ghost use Rattle.pfair_table.specs.Places.{place_of};
 use crate::pick::Pick;
 use pfair_weight::TaskName;
 
-/// The rows of a table by buckets: for each of 256 buckets, into which names fall, one more than the last of its rows, or 0.
+/// The rows of a table by buckets: for each of 256 buckets, into which names fall, one more than
+/// the last of its rows, or 0.
 #[derive(Drop)]
 pub(crate) struct Buckets {
     pub ends: [u8; 256],
@@ -27,8 +28,8 @@ impl Buckets {
         Buckets { ends }
     }
 
-    /// The place of a task in the table, whose rows have these places. It costs the rows only where two tasks of the table
-    /// fall into its bucket.
+    /// The place of a task in the table, whose rows have these places. It costs the rows only where
+    /// two tasks of the table fall into its bucket.
     pub(crate) fn place(&self, table: &[Pick], places: &[u8], name: &TaskName) -> Option<u8>
         requires of { AreBucketsOf table.now self.now.ends }
         requires once { EachNameOnce table.now }

@@ -33,8 +33,8 @@ use std::marker::Model;
 
 /// Holds what one processor has heard of all logs, and plans slot after slot what that settles.
 ///
-/// A slot that is planned stays as it is, whatever comes later. The same entries give the same tables, in whatever
-/// order, with whatever losses and repeats they come.
+/// A slot that is planned stays as it is, whatever comes later. The same entries give the same
+/// tables, in whatever order, with whatever losses and repeats they come.
 #[derive(Drop)]
 pub struct Dispatcher<R: Ready> {
     alloc: Global,
@@ -60,8 +60,8 @@ impl<R: Ready> Model for Dispatcher<R> {
 }
 
 impl<R: Ready> Dispatcher<R> {
-    /// A dispatcher that holds nothing and has planned nothing, with room for logs of `capacity` entries, 1 to 4,096. It
-    /// costs the number of processors.
+    /// A dispatcher that holds nothing and has planned nothing, with room for logs of `capacity`
+    /// entries, 1 to 4,096. It costs the number of processors.
     ///
     /// # Errors
     /// `AllocError` where memory was wanted and refused.
@@ -86,8 +86,8 @@ impl<R: Ready> Dispatcher<R> {
         })
     }
 
-    /// Takes entry `number` (from 1) of the log of `processor` (from 0), as [`Replica::take`], and costs what that costs:
-    /// nothing is planned or read for it.
+    /// Takes entry `number` (from 1) of the log of `processor` (from 0), as [`Replica::take`], and
+    /// costs what that costs: nothing is planned or read for it.
     ///
     /// # Errors
     /// Those of [`Replica::take`]; the dispatcher is then as before.
@@ -105,8 +105,8 @@ impl<R: Ready> Dispatcher<R> {
     /// Takes all that another replica holds, as [`Replica::merge`], and costs what that costs.
     ///
     /// # Errors
-    /// Those of [`Replica::merge`]: after `OtherShape` the dispatcher is as before, and after `Memory` it holds a part
-    /// of what the other holds beside what it held.
+    /// Those of [`Replica::merge`]: after `OtherShape` the dispatcher is as before, and after
+    /// `Memory` it holds a part of what the other holds beside what it held.
     pub fn absorb(&mut self, other: &Replica) -> Result<(), MergeFault>
         ensures same_shape { OnOk result (SameShape self.old.held other.now) }
         ensures fault { IfErr result (IsMergeFaultOf self.old.held other.now) }
@@ -132,9 +132,9 @@ impl<R: Ready> Dispatcher<R> {
         &self.replica
     }
 
-    /// The headline at two dispatchers, whatever was called on either: where their settings are equal and what they hold
-    /// agrees, each slot that both have planned has one table, that of what either holds, the same decisions and the same
-    /// places. It does nothing.
+    /// The headline at two dispatchers, whatever was called on either: where their settings are
+    /// equal and what they hold agrees, each slot that both have planned has one table, that of
+    /// what either holds, the same decisions and the same places. It does nothing.
     pub fn plans_alike<Q: Ready>(&self, other: &Dispatcher<Q>)
         ensures planned { HavePlannedAlike self.now other.now }
         ensures placed { HavePlacedAlike self.now other.now }
@@ -147,24 +147,26 @@ impl<R: Ready> Dispatcher<R> {
     pub fn next_slot(&self) -> u64
         ensures value { result ≡ length self.now.tables }
         ensures decided { result ≡ length self.now.decided }
-        ensures few { result ≤ 1000000 }
+        ensures few { result ≤ Settings.MAX_SLOTS }
     {
         // a run has at most 1,000,000 slots
         let _slots = self.settings.slots();
         self.planned.len() as u64
     }
 
-    /// The table of a slot: its quanta in the PD2 order. `None` exactly where the slot isn't planned.
+    /// The table of a slot: its quanta in the PD2 order. `None` exactly where the slot isn't
+    /// planned.
     pub fn table(&self, slot: u64) -> Option<&[Pick]>
         ensures { option_map (λ rows. rows.now) result ≡ slice_get self.now.tables slot }
     {
         self.planned.table(slot as usize)
     }
 
-    /// The places of a slot: for each row of its table the processor that runs it. A task that is in the table before stays
-    /// where it was, and the others, in row order, each take the least processor that no row keeps and none has taken.
-    /// `None` exactly where the slot isn't planned. The law [`places_are_kept`](crate::laws::places_are_kept) holds of
-    /// them, since no table has more rows than there are processors, or a task twice.
+    /// The places of a slot: for each row of its table the processor that runs it. A task that is
+    /// in the table before stays where it was, and the others, in row order, each take the least
+    /// processor that no row keeps and none has taken. `None` exactly where the slot isn't planned.
+    /// The law [`places_are_kept`](crate::laws::places_are_kept) holds of them, since no table has
+    /// more rows than there are processors, or a task twice.
     pub fn places(&self, slot: u64) -> Option<&[u8]>
         ensures value { option_map (λ places. places.now) result ≡ slice_get (places_of self.now.tables) slot }
         ensures fit { AllByRecursion (IsFit self.now.settings.processors) self.now.tables }
@@ -172,8 +174,8 @@ impl<R: Ready> Dispatcher<R> {
         self.planned.places(slot as usize)
     }
 
-    /// The decisions at the boundary of a slot, in the order of processor and number. `None` exactly where the slot
-    /// isn't planned.
+    /// The decisions at the boundary of a slot, in the order of processor and number. `None`
+    /// exactly where the slot isn't planned.
     pub fn decisions(&self, slot: u64) -> Option<&[Decided]>
         ensures { option_map (λ rows. rows.now) result ≡ slice_get self.now.decided slot }
     {
@@ -197,17 +199,20 @@ impl<R: Ready> Dispatcher<R> {
 
     /// Plans the next slot where what is held settles it.
     ///
-    /// [`Step::Done`] exactly where all slots of the run are planned, else [`Step::Waiting`] exactly where the next
-    /// slot is not below the frontier. After either the tables are the whole plan of what is held.
+    /// [`Step::Done`] exactly where all slots of the run are planned, else [`Step::Waiting`]
+    /// exactly where the next slot is not below the frontier. After either the tables are the whole
+    /// plan of what is held.
     ///
-    /// It costs a look-up for each processor; what is said at the slot, and for each of its quanta a number of steps that
-    /// grows with the logarithm of the number of tasks; and the entries that have come into sound beginnings since the last
-    /// slot was planned, each of which is looked at once over all plans. It doesn't grow with the entries held.
+    /// It costs a look-up for each processor; what is said at the slot, and for each of its quanta
+    /// a number of steps that grows with the logarithm of the number of tasks; and the entries that
+    /// have come into sound beginnings since the last slot was planned, each of which is looked at
+    /// once over all plans. It doesn't grow with the entries held.
     ///
     /// # Errors
-    /// Looked at first, in this order: [`PlanFault::Torn`] exactly where something held is torn, [`PlanFault::Spent`]
-    /// exactly where the dispatcher is spent; nothing has then changed. [`PlanFault::Memory`] where memory was wanted
-    /// and refused: what is held and what was planned stand, the slot isn't planned, and the dispatcher is spent.
+    /// Looked at first, in this order: [`PlanFault::Torn`] exactly where something held is torn,
+    /// [`PlanFault::Spent`] exactly where the dispatcher is spent; nothing has then changed.
+    /// [`PlanFault::Memory`] where memory was wanted and refused: what is held and what was planned
+    /// stand, the slot isn't planned, and the dispatcher is spent.
     pub fn plan_next(&mut self) -> Result<Step, PlanFault>
         ensures course { OnOk result (course_of self.new ≡ happens self.old.settings (course_of self.old) PlanEvent) }
         ensures rest { OnOk result (self.new ≡ record self.old { tables = self.new.tables; decided = self.new.decided }) }
@@ -248,12 +253,13 @@ impl<R: Ready> Dispatcher<R> {
         }
     }
 
-    /// Makes all but the replica and what was planned anew from these two, after which plans go on as if no memory had
-    /// been wanted. It costs what the plans of all slots so far cost.
+    /// Makes all but the replica and what was planned anew from these two, after which plans go on
+    /// as if no memory had been wanted. It costs what the plans of all slots so far cost.
     ///
     /// # Errors
-    /// [`PlanFault::Torn`] exactly where something held is torn; nothing has then changed. [`PlanFault::Memory`] where
-    /// memory was wanted and refused; the dispatcher is then spent, and else as before.
+    /// [`PlanFault::Torn`] exactly where something held is torn; nothing has then changed.
+    /// [`PlanFault::Memory`] where memory was wanted and refused; the dispatcher is then spent, and
+    /// else as before.
     pub fn reopen(&mut self) -> Result<(), PlanFault>
         ensures ok { OnOk result ((self.new ≡ record self.old { spent = false }) × (has_torn (replica_of self.old.held) ≡ false)) }
         ensures fault { IfErr result (IsReopenFault self.old) }

@@ -1,9 +1,10 @@
-//! Tables: which subtasks run in each slot, as far as the log entries that a dispatcher holds settle it.
+//! Tables: which subtasks run in each slot, as far as the log entries that a dispatcher holds
+//! settle it.
 //!
-//! No master decides. A [`Dispatcher`] keeps a replica of the logs of all processors, and plans slot after slot by the
-//! PD2 order of Anderson and Srinivasan over the Pfair model of Baruah, Cohen, Plaxton and Varvel. The module [`laws`]
-//! says that any two dispatchers that took entries of the same logs give every slot that both have planned the same
-//! table.
+//! No master decides. A [`Dispatcher`] keeps a replica of the logs of all processors, and plans
+//! slot after slot by the PD2 order of Anderson and Srinivasan over the Pfair model of Baruah,
+//! Cohen, Plaxton and Varvel. The module [`laws`] says that any two dispatchers that took entries
+//! of the same logs give every slot that both have planned the same table.
 #![tactic(auto)]
 
 pub mod answer;

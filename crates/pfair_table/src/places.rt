@@ -1,4 +1,5 @@
-//! Places: which processor runs each row of a table, where a task that goes on running stays where it is.
+//! Places: which processor runs each row of a table, where a task that goes on running stays where
+//! it is.
 
 ghost use Rattle.std.specs.Prelude.{ℕ, ◌≡◌, ◌≤◌, ◌<◌, ◌+◌, ◌^◌, ◌++◌, ◌∷◌, [], List, IfOk, length};
 ghost use Rattle.std.specs.List.{AllByRecursion};
@@ -24,7 +25,7 @@ pub(crate) fn next_places(
     places_beside(alloc, planned.last_table(), planned.last_places(), table)
 }
 
-/// The places of a table, where the one before it has those places.
+// The places of a table, where the one before it has those places.
 fn places_beside(
     alloc: Global,
     before: &[Pick],
@@ -40,7 +41,7 @@ fn places_beside(
     fill_places(alloc, &kept)
 }
 
-/// Where each row stays: the place that its task had before.
+// Where each row stays: the place that its task had before.
 fn keep_places(
     alloc: Global,
     before: &[Pick],
@@ -58,7 +59,7 @@ fn keep_places(
     Ok(kept)
 }
 
-/// The kept places, and for each other row the least processor that is not in use.
+// The kept places, and for each other row the least processor that is not in use.
 fn fill_places(alloc: Global, kept: &[Option<u8>]) -> Result<Vec<u8>, AllocError>
     requires below { AllByRecursion (λ k. k < 64) (all_kept kept.now) }
     requires rows { length kept.now ≤ 64 }
@@ -76,7 +77,7 @@ fn fill_places(alloc: Global, kept: &[Option<u8>]) -> Result<Vec<u8>, AllocError
     Ok(places)
 }
 
-/// The processors that some rows keep, each as a bit.
+// The processors that some rows keep, each as a bit.
 fn use_kept(kept: &[Option<u8>]) -> u64
     requires { AllByRecursion (λ k. k < 64) (all_kept kept.now) }
     ensures { AreInUse result (all_kept kept.now) }
@@ -90,7 +91,7 @@ fn use_kept(kept: &[Option<u8>]) -> u64
     in_use
 }
 
-/// The least processor that is not in use, which from now on is.
+// The least processor that is not in use, which from now on is.
 fn use_least(in_use: &mut u64) -> u8
     requires { in_use.old + 1 < 2 ^ 64 }
     ensures fits { in_use.new < 2 ^ 64 }

@@ -18,7 +18,8 @@ pub struct Schedule {
     pub places: Vec<Vec<u8>>,
 }
 
-/// The table of each slot that is planned, from slot 0 on, with its places, and the decisions at its boundary.
+/// The table of each slot that is planned, from slot 0 on, with its places, and the decisions at
+/// its boundary.
 #[derive(Drop)]
 pub(crate) struct Planned {
     tables: Vec<Vec<Pick>>,

@@ -21,7 +21,7 @@ pub(crate) struct Reading {
 }
 
 impl Reading {
-    /// Nothing was read.
+    // Nothing was read.
     fn new(alloc: Global) -> Reading
         ensures count { result.count ≡ 0 }
         ensures nothing { (t : ℕ) → said_at result.agenda t ≡ [] }
@@ -32,7 +32,7 @@ impl Reading {
         }
     }
 
-    /// Reads on in the sound beginning of a processor, from where it stood.
+    // Reads on in the sound beginning of a processor, from where it stood.
     fn read_on(&mut self, replica: &Replica, processor: u8) -> Result<(), AllocError>
         requires { IsReadingOf processor (sound_beginning (replica_of replica.now) processor) self.old }
         ensures reading { IsReadingOf processor (sound_beginning (replica_of replica.now) processor) self.new }
@@ -47,7 +47,7 @@ impl Reading {
         Ok(())
     }
 
-    /// Reads the next entry, which has that number.
+    // Reads the next entry, which has that number.
     fn note(&mut self, processor: u8, number: u32, entry: Entry) -> Result<(), AllocError>
         ensures count { OnOk result (self.new.count ≡ number) }
         ensures says { OnOk result ((t : ℕ) → said_at self.new.agenda t ≡ said_at self.old.agenda t ++ said_by t processor number entry.said) }

@@ -63,7 +63,8 @@ impl Script {
         &self.logs[processor as usize]
     }
 
-    /// The numbers that a replica of the logs has room for: the length of the longest, at least 1. It costs the number of logs.
+    /// The numbers that a replica of the logs has room for: the length of the longest, at least 1.
+    /// It costs the number of logs.
     pub fn capacity(&self) -> u32
         ensures value { result ≡ capacity_of self.now.logs }
         ensures shape { IsShape self.now.settings.processors (capacity_of self.now.logs) }

@@ -52,12 +52,12 @@ impl From<AllocError> for ScriptFault {
     }
 }
 
-/// The dispatcher that has taken every entry of a script's logs, and planned all slots of the run. It costs the entries,
-/// and the quanta of all slots.
+/// The dispatcher that has taken every entry of a script's logs, and planned all slots of the run.
+/// It costs the entries, and the quanta of all slots.
 ///
 /// # Errors
-/// [`ScriptFault::Stalled`] only where the frontier of the logs, which is that slot, is below the number of slots.
-/// [`ScriptFault::Memory`] where memory was wanted and refused.
+/// [`ScriptFault::Stalled`] only where the frontier of the logs, which is that slot, is below the
+/// number of slots. [`ScriptFault::Memory`] where memory was wanted and refused.
 pub fn run_script<R: Ready>(alloc: Global, script: &Script) -> Result<Dispatcher<R>, ScriptFault>
     ensures ok { IfOk result (IsRunOf script.now) }
     ensures fault { IfErr result (IsScriptFaultOf script.now) }
@@ -73,8 +73,8 @@ pub fn run_script<R: Ready>(alloc: Global, script: &Script) -> Result<Dispatcher
     }
 }
 
-/// The dispatcher that has taken every entry of a script's logs, and planned nothing. It costs the entries, each a number of
-/// steps that grows with the logarithm of the length of its log.
+/// The dispatcher that has taken every entry of a script's logs, and planned nothing. It costs the
+/// entries, each a number of steps that grows with the logarithm of the length of its log.
 ///
 /// # Errors
 /// `AllocError` where memory was wanted and refused.

@@ -27,12 +27,13 @@ pub enum ReadFault {
 
 /// All the bytes of a reader.
 ///
-/// At most one byte more than the longest file has is read, whatever the answer, so the call ends whatever the reader
-/// gives. Takes time and memory in proportion to the bytes that come.
+/// At most one byte more than the longest file has is read, whatever the answer, so the call ends
+/// whatever the reader gives. Takes time and memory in proportion to the bytes that come.
 ///
 /// # Errors
-/// [`ReadFault::TooLong`] only where more than [`LONGEST_FILE`] bytes came, [`ReadFault::ReadFailed`] where the reader
-/// answered an error, at once and whatever its kind, and [`ReadFault::Memory`] where memory was wanted and refused.
+/// [`ReadFault::TooLong`] only where more than [`LONGEST_FILE`] bytes came,
+/// [`ReadFault::ReadFailed`] where the reader answered an error, at once and whatever its kind, and
+/// [`ReadFault::Memory`] where memory was wanted and refused.
 pub fn read_bytes<R: Read>(alloc: Global, reader: &mut R) -> Result<Vec<u8>, ReadFault>
     ensures short { IfOk result (λ bytes. length bytes.items ≤ 67108864) }
     ensures whole { IfOk result (λ bytes. Consumes (R.remaining reader.old) (R.remaining reader.new) bytes.items) }

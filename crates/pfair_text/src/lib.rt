@@ -1,4 +1,5 @@
-//! Texts of comma-separated rows: made whole in memory, then sent to a writer. And the bytes of a reader, read whole.
+//! Texts of comma-separated rows: made whole in memory, then sent to a writer. And the bytes of a
+//! reader, read whole.
 #![tactic(auto)]
 
 mod input;

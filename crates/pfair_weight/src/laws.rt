@@ -57,8 +57,8 @@ pub fn jobs_fill_periods()
     ensures { JobsFillPeriods }
 {}
 
-/// `==` of names is true where their bytes are identical and nowhere else. By `cmp` a proper prefix of
-/// a name goes before it, and else the first byte that differs decides.
+/// `==` of names is true where their bytes are identical and nowhere else. By `cmp` a proper prefix
+/// of a name goes before it, and else the first byte that differs decides.
 pub fn names_in_byte_order()
     ensures { NamesInByteOrder ⟦<TaskName as PartialEq>⟧.eq ⟦<TaskName as Ord>⟧.cmp }
 {}

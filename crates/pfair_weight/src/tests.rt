@@ -7,7 +7,7 @@ use crate::{
 };
 use std::collections::HashSet;
 
-/// Release, deadline, b-bit and group deadline.
+// Release, deadline, b-bit and group deadline.
 type Window = (u64, u64, u64, u64);
 
 const EIGHT_ELEVENTHS: [Window; 8] = [
@@ -182,8 +182,8 @@ fn stepper_is_the_formulas(rt: HostRuntime) {
     }
 }
 
-/// Whether a run of overlapping windows ends at slot `t` with one of the first `subtasks`: at the
-/// deadline of one with b-bit 0, or one slot before the deadline of one with three slots.
+// Whether a run of overlapping windows ends at slot `t` with one of the first `subtasks`: at the
+// deadline of one with b-bit 0, or one slot before the deadline of one with three slots.
 fn run_ends_at(weight: Weight, t: u64, subtasks: u64) -> bool
     requires few { subtasks ≤ 100 }
     requires early { t ≤ 100 }
@@ -200,7 +200,7 @@ fn run_ends_at(weight: Weight, t: u64, subtasks: u64) -> bool
     false
 }
 
-/// The first slot from the deadline of subtask `index` on at which a run of windows ends, or 100.
+// The first slot from the deadline of subtask `index` on at which a run of windows ends, or 100.
 fn end_of_run(weight: Weight, index: u64, subtasks: u64) -> u64
     requires few { subtasks ≤ 100 }
     requires first { 1 ≤ index }

@@ -7,7 +7,7 @@ use crate::help::{
 use clap::{Arg, ArgAction, Command, value_parser};
 use std::alloc::{AllocError, Global};
 
-/// The program's version, which `--version` prints after its name.
+// The program's version, which `--version` prints after its name.
 const VERSION: &str = "0.2.0";
 
 const REPLAY_USAGE: &str = "pfair replay [--affinity] <FILE>";
