@@ -90,7 +90,13 @@ fn decides_one(
 ) -> Result<(), AllocError>
     requires { IsWithinLimits announced.announcement }
 {
-    decides(rt, members, slot, [announced].as_slice(), [expected].as_slice())
+    decides(
+        rt,
+        members,
+        slot,
+        [announced].as_slice(),
+        [expected].as_slice(),
+    )
 }
 
 // Gives the named member a quantum, where it has more subtasks.
@@ -118,7 +124,13 @@ fn refuses_arrivals_in_order(rt: &impl Abort, alloc: Global) -> Result<(), Alloc
         Decision::Refused(Refusal::PeriodOutsideFrame),
         Decision::Refused(Refusal::NoRoom),
     ];
-    decides(rt, &mut members, 0, announced.as_slice(), expected.as_slice())
+    decides(
+        rt,
+        &mut members,
+        0,
+        announced.as_slice(),
+        expected.as_slice(),
+    )
 }
 
 fn holds_the_weight_of_a_leaver(rt: &impl Abort, alloc: Global) -> Result<(), AllocError> {
@@ -168,7 +180,13 @@ fn frees_at_the_stamp(rt: &impl Abort, alloc: Global) -> Result<(), AllocError> 
         arrives(rt, "a", 1, 1, false),
     ];
     let expected = [Decision::Admitted, FREED_AT_ONCE, Decision::Admitted];
-    decides(rt, &mut members, 0, announced.as_slice(), expected.as_slice())
+    decides(
+        rt,
+        &mut members,
+        0,
+        announced.as_slice(),
+        expected.as_slice(),
+    )
 }
 
 fn refuses_what_departs(rt: &impl Abort, alloc: Global) -> Result<(), AllocError> {
@@ -195,7 +213,13 @@ fn refuses_what_departs(rt: &impl Abort, alloc: Global) -> Result<(), AllocError
         Decision::Refused(Refusal::AlreadyDeparting),
         Decision::Refused(Refusal::NameTaken),
     ];
-    decides(rt, &mut members, 1, announced.as_slice(), expected.as_slice())?;
+    decides(
+        rt,
+        &mut members,
+        1,
+        announced.as_slice(),
+        expected.as_slice(),
+    )?;
     decides_one(
         rt,
         &mut members,
@@ -317,7 +341,13 @@ fn adds_up_delays(rt: &impl Abort, alloc: Global) -> Result<(), AllocError> {
         is_late(rt, "a", 2, 2),
     ];
     let expected = [Decision::Admitted, Decision::Delayed, Decision::Delayed];
-    decides(rt, &mut members, 0, announced.as_slice(), expected.as_slice())?;
+    decides(
+        rt,
+        &mut members,
+        0,
+        announced.as_slice(),
+        expected.as_slice(),
+    )?;
     is_next(rt, &members, &a, 1, 0, 2);
     assert_eq!(rt; runs(&mut members, &a), Some(1));
     is_next(rt, &members, &a, 2, 4, 6);
@@ -360,7 +390,13 @@ fn weighs_a_late_release_by_its_own_offset(
     let (a, mut members) = (name(rt, "a"), Members::new(alloc, 1, 2));
     let announced = [arrives(rt, "a", 1, 2, false), is_late(rt, "a", 3, 4)];
     let expected = [Decision::Admitted, Decision::Delayed];
-    decides(rt, &mut members, 0, announced.as_slice(), expected.as_slice())?;
+    decides(
+        rt,
+        &mut members,
+        0,
+        announced.as_slice(),
+        expected.as_slice(),
+    )?;
     for (slot, expected) in [
         (6, Decision::Delayed),
         (9, Decision::Delayed),
@@ -378,7 +414,13 @@ fn waits_for_its_own_delay_alone(rt: &impl Abort, alloc: Global) -> Result<(), A
     let (a, mut members) = (name(rt, "a"), Members::new(alloc, 1, 4));
     let announced = [arrives(rt, "a", 3, 4, true), is_late(rt, "a", 2, 3)];
     let expected = [Decision::Admitted, Decision::Delayed];
-    decides(rt, &mut members, 0, announced.as_slice(), expected.as_slice())?;
+    decides(
+        rt,
+        &mut members,
+        0,
+        announced.as_slice(),
+        expected.as_slice(),
+    )?;
     for (index, begins_at, deadline) in [(1, 0, 2), (2, 4, 6), (3, 0, 7), (4, 7, 9)] {
         is_next(rt, &members, &a, index, begins_at, deadline);
         assert_eq!(rt; runs(&mut members, &a), Some(index));

@@ -315,7 +315,14 @@ fn plan_onto<R: Ready>(
     let slot = planned.len() as u64;
     readings.read_on(replica)?;
     let announced = readings.said(slot)?;
-    let next = plan_slot(alloc, &announced, members, ready, settings.processors(), slot)?;
+    let next = plan_slot(
+        alloc,
+        &announced,
+        members,
+        ready,
+        settings.processors(),
+        slot,
+    )?;
     let places = next_places(alloc, planned, &next.table)?;
     planned.push(next.table, places, next.decided)?;
     Ok(())
