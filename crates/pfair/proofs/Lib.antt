@@ -1,1 +1,1 @@
-pub mod RunFacts
+mod RunFacts

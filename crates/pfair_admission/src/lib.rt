@@ -1,14 +1,14 @@
 //! Members of a schedule, and the decisions at the boundary of a slot.
 #![tactic(auto)]
 
-pub mod decision;
-pub mod delay;
-pub mod incarnation;
+mod decision;
+mod delay;
+mod incarnation;
 pub mod laws;
 pub(crate) mod ledger;
-pub mod members;
-pub mod quantum;
-pub mod refusal;
+mod members;
+mod quantum;
+mod refusal;
 pub(crate) mod registry;
 
 pub use decision::Decision;

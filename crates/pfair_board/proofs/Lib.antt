@@ -1,8 +1,8 @@
-pub mod FirstFaults
-pub mod Following
-pub mod Gains
-pub mod NoteLists
-pub mod NotedLemmas
-pub mod Planning
-pub mod Rows
-pub mod Working
+mod FirstFaults
+mod Following
+mod Gains
+mod NoteLists
+mod NotedLemmas
+mod Planning
+mod Rows
+mod Working

@@ -8,17 +8,17 @@
 //! by itself.
 #![tactic(auto)]
 
-pub mod board;
-pub mod desk;
-pub mod dispatchers;
-pub mod fault;
-pub mod gate;
-pub mod hints;
+mod board;
+mod desk;
+mod dispatchers;
+mod fault;
+mod gate;
+mod hints;
 pub mod laws;
 mod notes;
-pub mod run;
+mod run;
 mod worked;
-pub mod worker;
+mod worker;
 
 pub use board::Board;
 pub use desk::Desk;

@@ -12,8 +12,7 @@ ghost use Rattle.pfair_c.specs.Answers.{IsOpenable, IsStarted};
 
 use crate::answer::{DONE, MEMORY, NOT_OPEN, OPEN_ALREADY, OUT_OF_RANGE};
 use crate::entry::{PfairEntry, read_entry};
-use pfair_handle::Handle;
-use pfair_handle::served::Served;
+use pfair_handle::{Handle, Served};
 use pfair_replica::{MergeFault, Taken};
 use pfair_table::{Dispatcher, Settings};
 use std::alloc::Global;

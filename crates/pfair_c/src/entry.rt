@@ -7,7 +7,7 @@ ghost use Rattle.pfair_c.specs.Entries.{spelled, logged_of, IsInRange, IsMeant, 
 
 use crate::answer::OUT_OF_RANGE;
 use pfair_entry::{Announcement, Entry};
-use pfair_handle::rows::PfairName;
+use pfair_handle::PfairName;
 use pfair_weight::{TaskName, Weight};
 
 /// An entry of a log.

@@ -5,9 +5,15 @@
 //! open, and answers by a number.
 #![tactic(auto)]
 
-pub mod answer;
-pub mod dispatcher;
-pub mod entry;
-pub mod plan;
-pub mod rows;
-pub mod window;
+mod answer;
+mod dispatcher;
+mod entry;
+mod plan;
+mod rows;
+mod window;
+
+pub use dispatcher::{pfair_absorb, pfair_close, pfair_open, pfair_take};
+pub use entry::PfairEntry;
+pub use plan::{PfairStep, pfair_frontier, pfair_next_slot, pfair_plan_next, pfair_reopen};
+pub use rows::{pfair_decisions, pfair_places, pfair_table};
+pub use window::{PfairWindow, pfair_window};

@@ -1,7 +1,7 @@
-pub mod HistoryFacts
-pub mod InsideFacts
-pub mod RowFacts
-pub mod ScheduleFacts
-pub mod SlotFacts
-pub mod TextFacts
-pub mod WindowFacts
+mod HistoryFacts
+mod InsideFacts
+mod RowFacts
+mod ScheduleFacts
+mod SlotFacts
+mod TextFacts
+mod WindowFacts

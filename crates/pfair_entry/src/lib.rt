@@ -2,11 +2,11 @@
 //! and the writer of a log.
 #![tactic(auto)]
 
-pub mod announcement;
-pub mod entry;
+mod announcement;
+mod entry;
 pub mod laws;
-pub mod said;
-pub mod writer;
+mod said;
+mod writer;
 
 pub use announcement::Announcement;
 pub use entry::{Entry, EntryFault};

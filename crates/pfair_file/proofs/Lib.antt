@@ -1,5 +1,5 @@
-pub mod TableFacts
-pub mod NameFacts
-pub mod LogFacts
-pub mod OrderFacts
+mod TableFacts
+mod NameFacts
+mod LogFacts
+mod OrderFacts
 mod FirstFaults

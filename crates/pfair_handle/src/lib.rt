@@ -11,15 +11,16 @@ ghost use Rattle.pfair_handle.specs.Kept.{is_kept};
 ghost use Rattle.pfair_handle.specs.Behind.{Of, Between, IsAbsorbedTo, IsPartlyAbsorbedTo};
 
 mod loose;
-pub mod owner;
-pub mod rows;
-pub mod served;
+mod owner;
+mod rows;
+mod served;
 
 use loose::Loose;
-use owner::Owner;
+pub use owner::Owner;
 use pfair_entry::Entry;
 use pfair_replica::{MergeFault, TakeFault, Taken};
-use served::Served;
+pub use rows::{PfairDecided, PfairName, PfairPick, write_decisions, write_places, write_table};
+pub use served::Served;
 use std::alloc::Global;
 use std::mem::replace;
 

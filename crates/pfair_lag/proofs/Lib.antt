@@ -1,5 +1,5 @@
-pub mod Agree
-pub mod BookLemmas
-pub mod Counts
-pub mod MissLemmas
-pub mod RunLemmas
+mod Agree
+mod BookLemmas
+mod Counts
+mod MissLemmas
+mod RunLemmas

@@ -6,10 +6,10 @@
 //! [`laws`] states what holds of them all.
 #![tactic(auto)]
 
-pub mod exact;
-pub mod flat;
-pub mod join;
-pub mod join_map;
+mod exact;
+mod flat;
+mod join;
+mod join_map;
 pub mod laws;
 
 pub use exact::Exact;

@@ -1,6 +1,6 @@
-pub mod NameFacts
-pub mod PlacedFacts
-pub mod SignedFacts
-pub mod SlotFacts
-pub mod ToldFacts
-pub mod WorldFacts
+mod NameFacts
+mod PlacedFacts
+mod SignedFacts
+mod SlotFacts
+mod ToldFacts
+mod WorldFacts

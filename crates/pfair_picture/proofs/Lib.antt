@@ -1,1 +1,1 @@
-pub mod PictureFacts
+mod PictureFacts

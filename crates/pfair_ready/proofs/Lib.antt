@@ -1,5 +1,5 @@
-pub mod HeapLemmas
+mod HeapLemmas
 pub mod Names
-pub mod PlainListLemmas
-pub mod Released
-pub mod Taking
+mod PlainListLemmas
+mod Released
+mod Taking

@@ -1,22 +1,22 @@
-pub mod Apart
-pub mod Firsts
-pub mod Members
-pub mod TableLaws
-pub mod Runs
-pub mod Counts
-pub mod Queues
-pub mod Quanta
-pub mod First
-pub mod Slots
-pub mod Steps
-pub mod Keeping
-pub mod Scripts
-pub mod Within
-pub mod FreePlaces
-pub mod PlacesKept
-pub mod Filling
-pub mod PlacesOn
-pub mod Alike
-pub mod ReadOn
-pub mod Bucketed
+mod Apart
+mod Firsts
+mod Members
+mod TableLaws
+mod Runs
+mod Counts
+mod Queues
+mod Quanta
+mod First
+mod Slots
+mod Steps
+mod Keeping
+mod Scripts
+mod Within
+mod FreePlaces
+mod PlacesKept
+mod Filling
+mod PlacesOn
+mod Alike
+mod ReadOn
+mod Bucketed
 mod Least

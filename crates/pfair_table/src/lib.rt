@@ -7,20 +7,20 @@
 //! of the same logs give every slot that both have planned the same table.
 #![tactic(auto)]
 
-pub mod answer;
+mod answer;
 mod buckets;
-pub mod dispatcher;
-pub mod event;
+mod dispatcher;
+mod event;
 pub mod laws;
-pub mod pick;
+mod pick;
 mod places;
-pub mod planned;
+mod planned;
 mod readings;
-pub mod run;
-pub mod script;
-pub mod settings;
-pub mod single;
-pub mod slot;
+mod run;
+mod script;
+mod settings;
+mod single;
+mod slot;
 
 pub use answer::{PlanFault, Step};
 pub use dispatcher::Dispatcher;

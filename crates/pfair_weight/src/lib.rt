@@ -11,10 +11,10 @@
 pub(crate) mod cascade;
 pub(crate) mod fraction;
 pub mod laws;
-pub mod name;
-pub mod stepper;
-pub mod weight;
-pub mod window;
+mod name;
+mod stepper;
+mod weight;
+mod window;
 
 pub use name::{NameFault, TaskName};
 pub use stepper::Stepper;
