@@ -13,6 +13,7 @@ use csv::Writer;
 use itoa::Buffer;
 use pfair_text::{add_row, finish, new_text};
 use pfair_weight::{Stepper, Weight};
+use pfair_words::MAX_COUNT;
 use std::alloc::{AllocError, Global};
 use std::io::Write;
 
@@ -20,7 +21,7 @@ use std::io::Write;
 /// subtask a row of its index, release, deadline, b-bit and group deadline, as Baruah, Cohen,
 /// Plaxton and Varvel and, for the last two, Anderson and Srinivasan define them.
 ///
-/// `count` is at most 1,000,000. The whole text is made before the first write. `WriteFailed`
+/// `count` is at most [`MAX_COUNT`](pfair_words::MAX_COUNT). The whole text is made before the first write. `WriteFailed`
 /// where the writer answered an error or took nothing; a prefix of the text has then gone out.
 /// `Memory` where memory was wanting; nothing has then gone out.
 pub fn windows<W: Write>(
@@ -29,7 +30,7 @@ pub fn windows<W: Write>(
     count: u64,
     writer: &mut W,
 ) -> Result<(), ProgramFault>
-    requires { count ≤ 1000000 }
+    requires { count ≤ MAX_COUNT }
     ensures ok { OnOk result (Appends (W.contents writer.old) (W.contents writer.new) (windows_text weight count)) }
     ensures failed { IsErrOf result WriteFailed → TakesPrefix (W.contents writer.old) (W.contents writer.new) (windows_text weight count) }
     ensures memory { IsErrOf result Memory → Keeps (W.contents writer.old) (W.contents writer.new) }
@@ -41,7 +42,7 @@ pub fn windows<W: Write>(
 
 // The text of the table.
 fn windows_table(alloc: Global, weight: Weight, count: u64) -> Result<Vec<u8>, AllocError>
-    requires { count ≤ 1000000 }
+    requires { count ≤ MAX_COUNT }
     ensures { IfOk result (λ text. text.items ≡ windows_text weight count) }
 {
     let mut table = new_text(alloc);

@@ -4,6 +4,7 @@ use crate::help::{
     ABOUT, AFFINITY_HELP, AFTER, DECISIONS_ABOUT, DECISIONS_AFTER, LAGS_ABOUT, LAGS_AFTER,
     REPLAY_ABOUT, REPLAY_AFTER, WINDOWS_ABOUT, WINDOWS_AFTER,
 };
+use crate::words::MAX_COUNT;
 use clap::{Arg, ArgAction, Command, value_parser};
 use std::alloc::{AllocError, Global};
 
@@ -89,7 +90,7 @@ fn windows<'a>(alloc: Global) -> Result<Command<'a>, AllocError> {
         .value_name("COUNT")
         .help("How many subtasks, 0 to 1000000")
         .required(true)
-        .value_parser(value_parser!(u64).range(0..=1_000_000));
+        .value_parser(value_parser!(u64).range(0..=MAX_COUNT as i64));
     Command::new(alloc, "windows")
         .about(WINDOWS_ABOUT)
         .override_usage("pfair windows <E> <P> <COUNT>")

@@ -3,6 +3,7 @@
 
 mod command;
 mod help;
+pub mod laws;
 mod words;
 
-pub use words::{Asked, WordsFault, read_words};
+pub use words::{Asked, MAX_COUNT, WordsFault, read_words};

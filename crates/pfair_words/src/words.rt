@@ -11,10 +11,13 @@ use clap::{ArgMatches, Error};
 use pfair_weight::{Weight, WeightFault};
 use std::alloc::{AllocError, Global};
 
+/// The most windows that a command line can ask for.
+pub const MAX_COUNT: u64 = 1_000_000;
+
 /// What a command line asks for.
 #[derive(Drop)]
 pub enum Asked {
-    /// The windows of the first `count` subtasks of a weight, at most 1,000,000.
+    /// The windows of the first `count` subtasks of a weight, at most [`MAX_COUNT`].
     Windows { weight: Weight, count: u64 },
     /// The tables of a task file, and with `affinity` the place of each row.
     Replay { file: String, affinity: bool },
@@ -47,7 +50,7 @@ impl From<AllocError> for WordsFault {
 
 /// Reads the words after the program's name.
 ///
-/// A word that doesn't read as the number it should be, a count past 1,000,000, a missing or
+/// A word that doesn't read as the number it should be, a count past [`MAX_COUNT`], a missing or
 /// surplus word, an unknown command and no words at all are `Refused`, before a weight is looked
 /// at. Takes memory.
 pub fn read_words(alloc: Global, words: &[String]) -> Result<Asked, WordsFault>
@@ -85,7 +88,7 @@ fn read_windows(words: &ArgMatches<'_>) -> Result<Asked, WordsFault>
         words.get_one::<u64>("count"),
     );
     match numbers {
-        (Some(cost), Some(period), Some(count)) if count <= 1_000_000 => {
+        (Some(cost), Some(period), Some(count)) if count <= MAX_COUNT => {
             let weight = Weight::new(cost, period).map_err(WordsFault::Weight)?;
             Ok(Asked::Windows { weight, count })
         }
