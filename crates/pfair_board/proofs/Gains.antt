@@ -11,7 +11,7 @@ use Rattle.pfair_replica.specs.Replica.{Replica, sound_beginning}
 use Rattle.pfair_replica.specs.Laws.{IsReadByNumber}
 use Rattle.pfair_replica.specs.HeldRows.{held, replica_of}
 use Rattle.pfair_replica.specs.HeldAfter.{held_after}
-use Rattle.pfair_board.specs.Desks.{DeskView, DeskState, GrownDesk, Keeps, state_of, learned}
+use Rattle.pfair_board.specs.Desks.{DeskView, DeskState, state_of, learned}
 use Rattle.pfair_board.specs.Gained.{is_gained, gained_in_row, gained_in_rows, SameDesk, NoGapInRow}
 
 pub same_gained : (x y z : Replica) (k n : ℕ) → y.at k n ≡ z.at k n → is_gained x y k n ≡ is_gained x z k n
@@ -57,14 +57,8 @@ row_next x y k (suc n) le = let same : n ≡ suc n - 1 = omega arith in ap (λ m
 pub same_trans : (a b c : DeskView) → SameDesk a b → SameDesk b c → SameDesk a c
 same_trans a b c p q = record { proc = q.proc ∙ p.proc; next_number = q.next_number ∙ p.next_number; cells = q.cells ∙ p.cells; processors = q.processors ∙ p.processors; capacity = q.capacity ∙ p.capacity }
 
-pub grown_same : (a b : DeskView) → SameDesk a b → Keeps (replica_of a.replica) (replica_of b.replica) → GrownDesk a b
-grown_same a b same kept = record { proc = same.proc; cells = same.cells; processors = same.processors; capacity = same.capacity; kept = kept }
-
 pub no_gap_alike : (x y z : Replica) (k : ℕ) → ((n : ℕ) → y.at k n ≡ z.at k n) → NoGapInRow x y k → NoGapInRow x z k
 no_gap_alike x y z k same gap n j none some a b = subst (λ h. IsSome h) (same j) (gap n j none (subst (λ h. IsSome h) (sym (same n)) some) a b)
-
-pub no_gap_itself : (x : Replica) (k : ℕ) → NoGapInRow x x k
-no_gap_itself x k n j none some a b = absurd (let bad = subst (λ h. IsSome h) none some in cc bad)
 
 -- one row after another
 pub no_gap_on : (old now new : Replica) (row : ℕ) → ((n : ℕ) → now.at row n ≡ old.at row n) → ((k n : ℕ) → (k ≡ row → ⊥) → new.at k n ≡ now.at k n)

@@ -12,7 +12,7 @@ use Rattle.pfair_entry.specs.Entry.{Logged}
 use Rattle.pfair_entry.specs.Same.{entry_eq}
 use Rattle.pfair_entry.specs.Exact.{entry_exact}
 use Rattle.pfair_replica.specs.Replica.{Replica, with_entry, empty_replica, join, Below, Untorn}
-use Rattle.pfair_replica.specs.HeldRows.{HeldRows, replica_of, IsShape, SameShape}
+use Rattle.pfair_replica.specs.HeldRows.{HeldRows, IsShape, SameShape}
 use Rattle.pfair_replica.specs.Faults.{HoldsMore, IsMergeFaultOf}
 use Rattle.pfair_replica.specs.declared.answer.MergeFault.{MergeFault}
 use Rattle.pfair_replica.specs.declared.answer.MergeFault.TheVariants.{OtherShape, Memory}
@@ -143,12 +143,6 @@ in_order_fresh m c proc x w shape is cells known row = rw is (record {
 pub holds_more : (x y : HeldRows) (f : MergeFault) → SameShape x y → IsMergeFaultOf x y f → HoldsMore x y
 holds_more x y OtherShape same is = absurd (is same)
 holds_more x y Memory same is = is.1
-
--- a key whose note knows nothing isn't held
-pub unknown_missing : (h : Held Logged) (known : Option Logged) → IsNoted h known → known ≡ None → h ≡ None
-unknown_missing None known is none = refl
-unknown_missing (Some (One e)) known is none = let both : Some e ≡ None = sym is ∙ none in absurd (cc both)
-unknown_missing (Some Torn) known is none = absurd is
 
 pub in_order_next : (proc next : ℕ) (x : Replica) (w : Knowledge) → IsInOrder proc next x w → next ≤ x.capacity → IsInOrder proc (next + 1) x w
 in_order_next proc next x w is room =

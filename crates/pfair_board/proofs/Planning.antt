@@ -1,7 +1,7 @@
 -- What a dispatcher plans of what it has absorbed.
-use Rattle.std.proofs.Common.{◌≡◌, ◌∙◌, sym, ap, refl, ℕ, ◌+◌, ◌<◌, true, false, not, cond, length}
+use Rattle.std.proofs.Common.{◌≡◌, ◌∙◌, ap, ℕ, ◌+◌, ◌<◌, true, false, not, cond, length}
 use Rattle.std.specs.Prelude.{◌==◌, ◌&&◌, nat_lt}
-use Rattle.std.proofs.lemmas.Bool.{eq-eqb, lt-ltb, ltb-true, and_from, and_parts, true≢false}
+use Rattle.std.proofs.lemmas.Bool.{eq-eqb, lt-ltb, and_from}
 use Rattle.std.proofs.lemmas.List.{length-append}
 use Rattle.pfair_replica.specs.HeldRows.{HeldRows, replica_of, SameShape}
 use Rattle.pfair_replica.specs.Replica.{Replica, join, Below, frontier, has_torn}
@@ -9,10 +9,6 @@ use Rattle.pfair_replica.specs.Offered.{absorbed}
 use Rattle.pfair_replica.specs.Laws.{IsLeastJoin}
 use Rattle.pfair_table.specs.Table.{Settings}
 use Rattle.pfair_table.specs.Events.{Course, is_plannable, with_next_slot, happens}
-use Rattle.pfair_table.specs.Refinement.{Dispatch, IsStepOf, IsPlanFault}
-use Rattle.pfair_table.specs.declared.answer.Step.TheVariants.{Planned}
-use Rattle.pfair_table.specs.declared.answer.PlanFault.{PlanFault}
-use Rattle.pfair_table.specs.declared.answer.PlanFault.TheVariants.{Torn, Spent, Memory}
 use Rattle.pfair_table.specs.declared.event.Event.TheVariants.{Plan}
 
 -- what is absorbed by one that holds less is all that it holds then
@@ -33,29 +29,6 @@ pub one_table_more : (s : Settings) (c : Course) → has_torn c.held ≡ false �
 one_table_more s c whole settled wanted =
     ap (λ b. length (cond b (with_next_slot s c) c).tables) (plannable s c.held (length c.tables) whole settled wanted)
     ∙ length-append c.tables _
-
--- a slot that can be planned is settled, and wanted
-pub is_settled : (s : Settings) (x : Replica) (n : ℕ) → is_plannable s x n ≡ true → (n < frontier x) × (n < s.slots)
-is_settled s x n h =
-    let parts = and_parts (not (has_torn x)) (nat_lt n (frontier x) && nat_lt n s.slots) h in
-    let both = and_parts (nat_lt n (frontier x)) (nat_lt n s.slots) parts.1 in
-    (ltb-true n (frontier x) both.0, ltb-true n s.slots both.1)
-
--- where no slot is left to be planned, none is planned
-pub none_planned : (d : Dispatch) (slot : ℕ) → ((length d.tables < frontier (replica_of d.held)) × (length d.tables < d.settings.slots) → ⊥) → IsStepOf d (Planned slot) → ⊥
-none_planned d slot done is = done (is_settled d.settings (replica_of d.held) (length d.tables) (ap (is_plannable d.settings (replica_of d.held)) (sym is.0) ∙ is.1))
-
--- and nothing is refused
-pub none_refused : (d : Dispatch) (f : PlanFault) → has_torn (replica_of d.held) ≡ false → d.spent ≡ false → ((length d.tables < frontier (replica_of d.held)) × (length d.tables < d.settings.slots) → ⊥) → IsPlanFault d f → ⊥
-none_refused d (Torn key) whole able done is = true≢false (sym is.0 ∙ whole)
-none_refused d Spent whole able done is = true≢false (sym is.1 ∙ able)
-none_refused d Memory whole able done is = done (is_settled d.settings (replica_of d.held) (length d.tables) is.1)
-
--- of a whole dispatcher that can plan
-pub not_torn : (d : Dispatch) (f : PlanFault) → has_torn (replica_of d.held) ≡ false → d.spent ≡ false → IsPlanFault d f → f ≡ Memory
-not_torn d (Torn key) whole able is = absurd (true≢false (sym is.0 ∙ whole))
-not_torn d Spent whole able is = absurd (true≢false (sym is.1 ∙ able))
-not_torn d Memory whole able is = refl
 
 -- replicas of one shape that hold the same are one
 pub same_replica : (laws : IsLeastJoin) (x y : Replica) → x.processors ≡ y.processors → x.capacity ≡ y.capacity → Below x y → Below y x → x ≡ y

@@ -15,9 +15,6 @@ use Rattle.pfair_table.specs.Refinement.{Dispatch}
 use Rattle.pfair_board.specs.Desks.{DeskView, GrownDesk}
 use Rattle.pfair_board.specs.Logs.{HoldsLog, IsBehind}
 
-pub grown_itself : (d : DeskView) → GrownDesk d d
-grown_itself d = record { proc = refl; cells = refl; processors = refl; capacity = refl; kept = λ k n f is. is }
-
 pub grown_trans : (a b c : DeskView) → GrownDesk a b → GrownDesk b c → GrownDesk a c
 grown_trans a b c p q = record {
   proc = q.proc ∙ p.proc;

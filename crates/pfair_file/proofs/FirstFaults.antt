@@ -1,5 +1,5 @@
 -- The first table that has a fault.
-use Rattle.std.proofs.Common.{ℕ, List, [], ◌∷◌, ◌++◌, Result, Ok, Err, ◌≡◌, ◌+◌, length, refl, sym, ap, subst, arith, ◌∙◌}
+use Rattle.std.proofs.Common.{ℕ, List, [], ◌∷◌, ◌++◌, Result, Ok, Err, ◌≡◌, ◌+◌, length, refl, ap, arith, ◌∙◌}
 use Rattle.toml.specs.Data.{Members}
 use Rattle.pfair_file.specs.Entries.{Logs, with_entries, with_entry}
 use Rattle.pfair_file.specs.FirstFault.{IsOfFirstTable, FirstTableIsAtFault}

@@ -6,14 +6,15 @@ use Rattle.std.specs.Option.{option_map}
 use Rattle.std.specs.Map.{keys_of, values_of, lookup, remove_entry}
 use Rattle.std.specs.Cmp.Lexicographic.{bytes_decides, nat_list_eq_equiv}
 use Rattle.std.proofs.lemmas.Bool.Decides.{nat_tests}
-use Rattle.std.proofs.lemmas.List.{take_more}
+use Rattle.std.proofs.lemmas.List.{take_more, map_push}
 use Rattle.std.proofs.lemmas.List.Folds.{list_any-append}
-use Rattle.std.proofs.lemmas.Option.{slice_get-get_or}
+use Rattle.std.proofs.lemmas.Option.{none-some, same_Some, slice_get-get_or}
 use Rattle.std.proofs.lemmas.List.Quantifiers.{position-Some}
 use Rattle.indexmap.specs.IndexMap.{set_value_at}
 use Rattle.pfair_weight.specs.Share.{Share}
 use Rattle.pfair_lag.specs.declared.book.Account.{Account}
-use Rattle.pfair_lag.specs.Book.{NameValue, name_eq, Tally, Book, tally_of, has_run, entered_with, left, slot_more, recorded}
+use Rattle.pfair_weight.specs.Name.{NameValue, name_eq}
+use Rattle.pfair_lag.specs.Book.{Tally, Book, tally_of, has_run, entered_with, left, slot_more, recorded}
 use Rattle.pfair_lag.specs.Accounts.{tally_shown, entered_shown, IsSound, IsKept, EachFits, counted_at, with_quantum, with_quanta}
 
 abbrev pub Accounts : Type 0
@@ -22,12 +23,6 @@ Accounts = List (NameValue × Account)
 -- the book that accounts show at a time
 abbrev pub book_shown : ℕ → Accounts → Book
 book_shown time es = record { time = time; entered = entered_shown time es }
-
-some_inj : {A : Type 0} (x y : A) → Some x ≡ Some y → x ≡ y
-some_inj x y e = cc
-
-none_some : {A : Type 0} (x : A) → None ≡ Some x → ⊥
-none_some x e = cc
 
 pub true_not_false : (b : Bool) → IsTrue b → b ≡ false → ⊥
 true_not_false b t e = cc
@@ -58,10 +53,10 @@ pub contained : (time : ℕ) (es : Accounts) (name : NameValue) (book : Book) (b
 contained time es name book b is found = ap is_some (tally_kept time es name book is) ∙ is_some-map (tally_shown time) (lookup (name_eq name) es) ∙ sym found
 
 sound_at : (time : ℕ) (name : NameValue) (es : Accounts) (a : Account) → AllByRecursion (λ e. IsSound time e.1) es → lookup (name_eq name) es ≡ Some a → IsSound time a
-sound_at time name [] a h e = absurd (none_some a e)
+sound_at time name [] a h e = absurd (none-some a e)
 sound_at time name (x ∷ es) a h e =
     elim (name_eq name x.0) as (λ b. cond b (Some x.1) (lookup (name_eq name) es) ≡ Some a → IsSound time a) [
-      | true ↦ λ f. subst (IsSound time) (some_inj x.1 a f) h.0
+      | true ↦ λ f. subst (IsSound time) (same_Some x.1 a f) h.0
       | false ↦ λ f. sound_at time name es a h.1 f
     ] e
 
@@ -74,10 +69,6 @@ pub entered_there : (name : NameValue) (weight : Share) (book : Book) → is_som
 entered_there name weight book e =
     sym (ap (λ b. cond b book (record book { entered = book.entered ++ (name, record { weight = weight; slots = 0; ran = 0 }) ∷ [] })) e)
 
-map_append : {A B : Type 0} (f : A → B) (xs : List A) (x : A) → map f (xs ++ x ∷ []) ≡ map f xs ++ f x ∷ []
-map_append f [] x = refl
-map_append f (y ∷ ys) x = ap (λ l. f y ∷ l) (map_append f ys x)
-
 abbrev pub account_new : ℕ → Share → Account
 account_new time weight = record { weight = weight; since = time; last = time; ran = 0 }
 
@@ -88,7 +79,7 @@ entered_new time es es' name weight book is none added =
     let fresh : time - time ≡ 0 = omega arith in
     let tally : tally_shown time (account_new time weight) ≡ record { weight = weight; slots = 0; ran = 0 } = λ i. record { weight = weight; slots = fresh i; ran = 0 } in
     let shown : entered_shown time es' ≡ entered_shown time es ++ (name, record { weight = weight; slots = 0; ran = 0 }) ∷ [] =
-    ap (entered_shown time) added ∙ map_append (λ (e : NameValue × Account). (e.0, tally_shown time e.1)) es (name, account_new time weight)
+    ap (entered_shown time) added ∙ map_push (λ (e : NameValue × Account). (e.0, tally_shown time e.1)) es (name, account_new time weight)
     ∙ ap (λ (t : Tally). entered_shown time es ++ (name, t) ∷ []) tally in
     let more : book_shown time es' ≡ record (book_shown time es) { entered = entered_shown time es ++ (name, record { weight = weight; slots = 0; ran = 0 }) ∷ [] } =
     λ i. record { time = time; entered = shown i } in
@@ -159,8 +150,8 @@ kept_left time es es' name kept unique gone = record {
 -- ---- a quantum
 
 pub fits_at : (es : Accounts) (i : ℕ) (a : Account) → EachFits es → slice_get (values_of es) i ≡ Some a → a.ran ≤ a.last
-fits_at [] i a h e = absurd (none_some a e)
-fits_at (x ∷ es) zero a h e = subst (λ (a : Account). a.ran ≤ a.last) (some_inj x.1 a e) h.0
+fits_at [] i a h e = absurd (none-some a e)
+fits_at (x ∷ es) zero a h e = subst (λ (a : Account). a.ran ≤ a.last) (same_Some x.1 a e) h.0
 fits_at (x ∷ es) (suc i) a h e = fits_at es i a h.1 e
 
 key_at : (ks : List NameValue) (name : NameValue) (i : ℕ) → position (name_eq name) ks ≡ Some i → slice_get ks i ≡ Some name
@@ -169,8 +160,8 @@ key_at ks name i e =
     slice_get-get_or ks i name f.0 ∙ ap Some (sym ((bytes_decides name (get_or ks i name)).0 f.1))
 
 entry_at : {K V : Type 0} (es : List (K × V)) (i : ℕ) (k : K) (v : V) → slice_get (keys_of es) i ≡ Some k → slice_get (values_of es) i ≡ Some v → slice_get es i ≡ Some (k, v)
-entry_at [] i k v e f = absurd (none_some k e)
-entry_at (e' ∷ es) zero k v e f = λ j. Some (some_inj e'.0 k e j, some_inj e'.1 v f j)
+entry_at [] i k v e f = absurd (none-some k e)
+entry_at (e' ∷ es) zero k v e f = λ j. Some (same_Some e'.0 k e j, same_Some e'.1 v f j)
 entry_at (e' ∷ es) (suc i) k v e f = entry_at es i k v e f
 
 abbrev changed : NameValue → (Account → Account) → Accounts → Accounts
@@ -181,16 +172,16 @@ others_stay name f [] apart = refl
 others_stay name f (e ∷ es) apart = ap (λ b. (e.0, cond b (f e.1) e.1) ∷ changed name f es) apart.0 ∙ ap (λ (l : Accounts). e ∷ l) (others_stay name f es apart.1)
 
 apart_at : (k : NameValue) (es : Accounts) (i : ℕ) (name : NameValue) (a : Account) → AllByRecursion (λ n. name_eq k n ≡ false) (keys_of es) → slice_get es i ≡ Some (name, a) → name_eq k name ≡ false
-apart_at k [] i name a apart e = absurd (none_some (name, a) e)
-apart_at k (x ∷ es) zero name a apart e = subst (λ n. name_eq k n ≡ false) (ap (λ (p : NameValue × Account). p.0) (some_inj x (name, a) e)) apart.0
+apart_at k [] i name a apart e = absurd (none-some (name, a) e)
+apart_at k (x ∷ es) zero name a apart e = subst (λ n. name_eq k n ≡ false) (ap (λ (p : NameValue × Account). p.0) (same_Some x (name, a) e)) apart.0
 apart_at k (x ∷ es) (suc i) name a apart e = apart_at k es i name a apart.1 e
 
 -- to write an account at its place is to change the account of its name
 written : (es : Accounts) (i : ℕ) (name : NameValue) (a : Account) (f : Account → Account) → IsDistinct name_eq (keys_of es) → slice_get es i ≡ Some (name, a) → set_value_at es i (f a) ≡ changed name f es
 unfolding IsDistinct
-written [] i name a f unique e = absurd (none_some (name, a) e)
+written [] i name a f unique e = absurd (none-some (name, a) e)
 written (x ∷ es) zero name a f unique e =
-    let is : x ≡ (name, a) = some_inj x (name, a) e in
+    let is : x ≡ (name, a) = same_Some x (name, a) e in
     let key : x.0 ≡ name = ap (λ (p : NameValue × Account). p.0) is in
     let apart : AllByRecursion (λ n. name_eq name n ≡ false) (keys_of es) = subst (λ (k : NameValue). AllByRecursion (λ n. name_eq k n ≡ false) (keys_of es)) key unique.0 in
     ap (λ (b : Account). (x.0, f b) ∷ es) (sym (ap (λ (p : NameValue × Account). p.1) is))
@@ -210,7 +201,7 @@ stranger : (name : NameValue) (f : Account → Account) (es : Accounts) → look
 stranger name f [] none = refl
 stranger name f (e ∷ es) none =
     elim (name_eq name e.0) as (λ b. cond b (Some e.1) (lookup (name_eq name) es) ≡ None → ((e.0, cond b (f e.1) e.1) ∷ changed name f es) ≡ e ∷ es) [
-      | true ↦ λ n. absurd (none_some e.1 (sym n))
+      | true ↦ λ n. absurd (none-some e.1 (sym n))
       | false ↦ λ n. ap (λ (l : Accounts). e ∷ l) (stranger name f es n)
     ] none
 
@@ -271,7 +262,7 @@ each_fits time (e ∷ es) h = (let s = h.0.counted in omega (arith, s), each_fit
 
 -- the names of one pick more
 pub names_more : {P : Type 0} (f : P → NameValue) (ps : List P) (i : ℕ) (p : P) → i < length ps → get_or ps i p ≡ p → map f (take (i + 1) ps) ≡ map f (take i ps) ++ f p ∷ []
-names_more f ps i p within is = ap (map f) (take_more ps i p within) ∙ map_append f (take i ps) (get_or ps i p) ∙ ap (λ x. map f (take i ps) ++ f x ∷ []) is
+names_more f ps i p within is = ap (map f) (take_more ps i p within) ∙ map_push f (take i ps) (get_or ps i p) ∙ ap (λ x. map f (take i ps) ++ f x ∷ []) is
 
 counted_new : (time : ℕ) (a : Account) → IsSound time a → counted_at (time + 1) a ≡ record a { last = time + 1; ran = a.ran + 1 }
 counted_new time a s =

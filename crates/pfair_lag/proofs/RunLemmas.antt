@@ -6,7 +6,8 @@ use Rattle.std.specs.Map.{lookup}
 use Rattle.std.specs.Cmp.Lexicographic.{bytes_decides}
 use Rattle.std.proofs.lemmas.List.Sums.{sum_by-cons}
 use Rattle.pfair_weight.specs.Share.{Share}
-use Rattle.pfair_lag.specs.Book.{NameValue, name_eq, Tally, Book, tally_of, has_run, entered_with, slot_more}
+use Rattle.pfair_weight.specs.Name.{NameValue, name_eq}
+use Rattle.pfair_lag.specs.Book.{Tally, Book, tally_of, has_run, entered_with, slot_more}
 use Rattle.pfair_lag.specs.Runs.{Enter, Leave, Record, book_after, Stay, slot_passed, stay_after, tally_in, CountsSinceEntering}
 use Rattle.pfair_lag.proofs.BookLemmas.{is_some-map}
 
@@ -15,9 +16,6 @@ Entries = List (NameValue × Tally)
 
 same_name : (a b : NameValue) → name_eq a b ≡ true → a ≡ b
 same_name a b e = (bytes_decides a b).0 e
-
-some_none : {A : Type 0} (x : A) → Some x ≡ None → ⊥
-some_none x e = cc
 
 -- ---- entering
 

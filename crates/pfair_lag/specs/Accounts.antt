@@ -3,7 +3,8 @@ use Rattle.std.specs.Prelude.{ℕ, ◌+◌, ◌-◌, ◌≤◌, nat_lt, if◌the
 use Rattle.std.specs.List.{AllByRecursion, IsDistinct}
 use Rattle.std.specs.Map.{keys_of}
 use Rattle.pfair_lag.specs.declared.book.Account.{Account}
-use Rattle.pfair_lag.specs.Book.{NameValue, name_eq, Tally, has_run}
+use Rattle.pfair_weight.specs.Name.{NameValue, name_eq}
+use Rattle.pfair_lag.specs.Book.{Tally, has_run}
 
 abbrev pub tally_shown : ℕ → Account → Tally
 tally_shown time a = record { weight = a.weight; slots = time - a.since; ran = a.ran }

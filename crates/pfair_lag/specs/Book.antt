@@ -1,16 +1,9 @@
 -- A book of lags: for each task that is entered, the slots that have passed since, and those of them in which it ran.
-use Rattle.std.specs.Prelude.{ℕ, ℤ, pos, ◌+◌, ◌*◌, ◌-ℤ◌, ◌++◌, Bool, not, nat_eq, if◌then◌else◌, List, [], ◌∷◌, map, filter, Option, is_some}
+use Rattle.std.specs.Prelude.{ℕ, ℤ, pos, ◌+◌, ◌*◌, ◌-ℤ◌, ◌++◌, Bool, not, if◌then◌else◌, List, [], ◌∷◌, map, filter, Option, is_some}
 use Rattle.std.specs.List.{list_any}
 use Rattle.std.specs.Map.{lookup}
-use Rattle.std.specs.Cmp.Lexicographic.{pointwise}
+use Rattle.pfair_weight.specs.Name.{NameValue, name_eq}
 use Rattle.pfair_weight.specs.Share.{Share}
-
--- a task's name, by its bytes
-abbrev pub NameValue : Type 0
-NameValue = List ℕ
-
-abbrev pub name_eq : NameValue → NameValue → Bool
-name_eq = pointwise nat_eq
 
 -- a task's weight, how many slots were recorded since it was entered, and in how many of them it ran
 pub record Tally : Type 0 where

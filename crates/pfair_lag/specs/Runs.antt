@@ -2,7 +2,8 @@
 use Rattle.std.specs.Prelude.{◌≡◌, ◌&&◌, not, if◌then◌else◌, List, [], ◌∷◌, length, count_by, Option, Some, None, is_some}
 use Rattle.std.specs.Option.{option_map}
 use Rattle.pfair_weight.specs.Share.{Share}
-use Rattle.pfair_lag.specs.Book.{NameValue, name_eq, Tally, Book, empty_book, tally_of, has_run, entered_with, left, recorded}
+use Rattle.pfair_weight.specs.Name.{NameValue, name_eq}
+use Rattle.pfair_lag.specs.Book.{Tally, Book, empty_book, tally_of, has_run, entered_with, left, recorded}
 
 -- what is told to a book: that a task enters or leaves, or that a slot has passed in which these tasks ran
 pub data Call : Type 0 where

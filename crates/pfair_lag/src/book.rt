@@ -5,7 +5,8 @@ ghost use Rattle.std.specs.List.{IsDistinct};
 ghost use Rattle.std.specs.Option.{option_map};
 ghost use Rattle.indexmap.specs.IndexMap.{IsUnique};
 ghost use Rattle.pfair_weight.specs.Share.{IsWeight};
-ghost use Rattle.pfair_lag.specs.Book.{empty_book, name_eq, tally_of, lag_of, entered_with, left, recorded};
+ghost use Rattle.pfair_weight.specs.Name.{name_eq};
+ghost use Rattle.pfair_lag.specs.Book.{empty_book, tally_of, lag_of, entered_with, left, recorded};
 ghost use Rattle.pfair_lag.specs.Accounts.{tally_shown, IsSound, EachFits, counted_at, with_quantum, with_quanta};
 
 use crate::MAX_HORIZON;

@@ -69,9 +69,6 @@ module _ {K X : Type 0} {cmp : K → K → Ordering} where
         (λ c. c)
         h
 
-    pub compared_by_keys : IsOrder below → IsComparedByKeys cmp below
-    compared_by_keys l es fs p q = (λ h. (covers l es fs p h).each, λ each. inr (record { ordered_first = p; ordered_second = q; each = each }))
-
     map_trans : IsOrder below → (es fs gs : List (K × X)) → MapBelow cmp below es fs → MapBelow cmp below fs gs → MapBelow cmp below es gs
     map_trans l es fs gs p q = ⊎_elim
         (λ e. subst (λ (hs : List (K × X)). MapBelow cmp below hs gs) (sym e) q)

@@ -2,15 +2,12 @@
 use Rattle.std.proofs.Common.{◌≡◌, refl, sym, ap, ◌∙◌, Bool, true, false, Some, None, inl, inr, cond, subst}
 use Rattle.std.specs.Prelude.{◌⊎◌}
 use Rattle.std.proofs.lemmas.Bool.{true≢false}
+use Rattle.std.proofs.lemmas.Option.{none-some}
 use Rattle.pfair_lattice.specs.declared.flat.Flat.{Flat}
 use Rattle.pfair_lattice.specs.declared.flat.Flat.TheVariants.{One, Torn}
 use Rattle.pfair_lattice.specs.Flat.{FlatBelow, FlatJoins}
 use Rattle.pfair_lattice.specs.Option.{OptionBelow, OptionJoins}
-use Rattle.pfair_lattice.specs.Order.{IsOrder}
-use Rattle.pfair_lattice.specs.Held.{Held, flat_join, held_join, HeldBelow, IsExact, IsHeldJoin}
-
-none_not_some : {X : Type 0} (v : X) → None ≡ Some v → ⊥
-none_not_some v e = cc
+use Rattle.pfair_lattice.specs.Held.{Held, flat_join, held_join, HeldBelow, IsExact}
 
 one_not_torn : {T : Type 0} (x : T) → One x ≡ Torn → ⊥
 one_not_torn x e = cc
@@ -34,7 +31,7 @@ below_trans x y z f g c e = elim (f c e) [
 ]
 
 pub none_below : {T : Type 0} (z : Held T) → HeldBelow None z
-none_below z c e = absurd (none_not_some c e)
+none_below z c e = absurd (none-some c e)
 
 module _ {T : Type 0} (same : T → T → Bool) (exact : IsExact same) where
   -- what is above both is above the join
@@ -81,8 +78,8 @@ module _ {T : Type 0} (same : T → T → Bool) (exact : IsExact same) where
   -- two that are below each other are one
   pub below_antisym : (x y : Held T) → HeldBelow x y → HeldBelow y x → x ≡ y
   below_antisym None None f g = refl
-  below_antisym None (Some y) f g = elim (g y refl) [ inl h ↦ h | inr h ↦ absurd (none_not_some Torn h) ]
-  below_antisym (Some x) None f g = elim (f x refl) [ inl h ↦ sym h | inr h ↦ absurd (none_not_some Torn h) ]
+  below_antisym None (Some y) f g = elim (g y refl) [ inl h ↦ h | inr h ↦ absurd (none-some Torn h) ]
+  below_antisym (Some x) None f g = elim (f x refl) [ inl h ↦ sym h | inr h ↦ absurd (none-some Torn h) ]
   below_antisym (Some x) (Some y) f g = elim (f x refl) [
     | inl h ↦ sym h
     | inr h ↦ elim (g y refl) [ inl k ↦ k | inr k ↦ k ∙ sym h ]
@@ -147,17 +144,3 @@ module _ {T : Type 0} where
     | inl e ↦ subst (λ (c : Held T). OptionBelow FlatBelow (Some v) c) (sym e) (same_below v)
     | inr e ↦ subst (λ (c : Held T). OptionBelow FlatBelow (Some v) c) (sym e) tt
   ]
-
-  pub held_order : (same : T → T → Bool) → IsExact same → IsOrder (HeldBelow {T = T})
-  held_order same exact = record { reflexive = below_itself; transitive = below_trans; antisymmetric = below_antisym same exact }
-
-  pub is_held_join : (same : T → T → Bool) → IsExact same → IsHeldJoin same
-  is_held_join same exact = record {
-    joins = joins_held same exact;
-    below = λ a b. (below_held a b, held_below a b);
-    order = held_order same exact;
-    least = λ a b. record { above_first = join_first same exact a b; above_second = join_second same exact a b; least = λ w p q. join_least same exact a b w p q };
-    commutative = join_comm same exact;
-    associative = join_assoc same exact;
-    idempotent = join_idem same exact;
-  }

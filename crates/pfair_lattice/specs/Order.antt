@@ -81,20 +81,6 @@ module _ {X : Type 0} {below : X → X → Type 0} where
         let p' = l.least x x z p in
         l.order.antisymmetric z x (p'.least x (l.order.reflexive x) (l.order.reflexive x)) p'.above_first
 
-    pub single : IsJoin below joins → IsSingle joins
-    single l x y a b p q = least_unique l.order x y a b (l.least x y a p) (l.least x y b q)
-
-    pub absorbs : IsJoin below joins → IsAbsorbing joins
-    absorbs l x y z w p q =
-        let p' = l.least x y z p in
-        let q' = l.least z y w q in
-        l.order.antisymmetric w z (q'.least z (l.order.reflexive z) p'.above_second) q'.above_first
-
-    pub order_of_join : IsJoin below joins → IsOrderOfJoin below joins
-    order_of_join l x y z p =
-        let p' = l.least x y z p in
-        (λ h. l.order.antisymmetric z y (p'.least y h (l.order.reflexive y)) p'.above_second, λ e. subst (λ (v : X). below x v) e p'.above_first)
-
     -- nothing joined in yet
     pub partly_none : IsJoin below joins → (x y : X) → IsPartlyJoined below joins x y x
     partly_none l x y = record { kept = l.order.reflexive x; within = λ w h k. h; again = λ z h. h }

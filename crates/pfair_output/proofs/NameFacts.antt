@@ -1,14 +1,10 @@
 -- A task's name stands in a line as it is.
-use Rattle.std.proofs.Common.{ℕ, ◌≡◌, ◌⊎◌, inl, inr, refl, Bool, true, false, List, arith, slice_index}
+use Rattle.std.proofs.Common.{ℕ, ◌≡◌, inl, inr, refl, true, false, List, arith, slice_index}
 use Rattle.std.specs.Prelude.{◌||◌, ◌&&◌, ◌==◌, nat_le}
-use Rattle.std.proofs.lemmas.Bool.{and_parts, ne_eqb, leb-true, eqb-true}
+use Rattle.std.proofs.lemmas.Bool.{and_parts, or_cases, ne_eqb, leb-true, eqb-true}
 use Rattle.pfair_weight.specs.Name.{is_letter, is_digit, may_stand, IsTaskName}
 use Rattle.pfair_text.specs.Rows.{is_mark, is_plain}
 use Rattle.pfair_text.proofs.RowFacts.{is_plain-by_bytes}
-
-either : (p q : Bool) → (p || q) ≡ true → (p ≡ true) ⊎ (q ≡ true)
-either true q h = inl refl
-either false q h = inr h
 
 -- no mark is a letter, a digit or an underscore
 letter : (b : ℕ) → is_letter b ≡ true → is_mark b ≡ false
@@ -30,9 +26,9 @@ underscore b h =
 
 unmarked : (place b : ℕ) → may_stand place b ≡ true → is_mark b ≡ false
 unmarked place b h =
-    elim (either (is_letter b) (nat_le 1 place && (is_digit b || b == 95)) h) [
+    elim (or_cases (is_letter b) (nat_le 1 place && (is_digit b || b == 95)) h) [
       | inl l ↦ letter b l
-      | inr later ↦ elim (either (is_digit b) (b == 95) (and_parts (nat_le 1 place) (is_digit b || b == 95) later).1) [ inl d ↦ digit b d | inr u ↦ underscore b u ]
+      | inr later ↦ elim (or_cases (is_digit b) (b == 95) (and_parts (nat_le 1 place) (is_digit b || b == 95) later).1) [ inl d ↦ digit b d | inr u ↦ underscore b u ]
     ]
 
 -- a task's name is plain

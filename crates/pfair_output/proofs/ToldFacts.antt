@@ -3,6 +3,7 @@ use Rattle.std.proofs.Common.{ℕ, ◌+◌, ◌<◌, ◌≤◌, ◌≡◌, refl,
 use Rattle.std.specs.Prelude.{slice_get, is_some, ℤ}
 use Rattle.std.specs.Option.{option_map}
 use Rattle.std.proofs.lemmas.List.{append-nil, drop_all}
+use Rattle.std.proofs.lemmas.Option.{same_Some}
 use Rattle.std.specs.Fmt.{decimal, signed_decimal}
 use Rattle.pfair_text.specs.Rows.{line, lines_text}
 use Rattle.pfair_text.proofs.RowFacts.{lines_text-append}
@@ -12,12 +13,10 @@ use Rattle.pfair_entry.specs.declared.announcement.Announcement.TheVariants.{Arr
 use Rattle.pfair_admission.specs.declared.decision.Decision.{Decision}
 use Rattle.pfair_table.specs.declared.pick.Decided.{Decided}
 use Rattle.pfair_table.specs.Table.{Table}
-use Rattle.pfair_lag.specs.Book.{NameValue, Tally, Book, tally_of, lag_of, entered_with, left}
+use Rattle.pfair_weight.specs.Name.{NameValue}
+use Rattle.pfair_lag.specs.Book.{Tally, Book, tally_of, lag_of, entered_with, left}
 use Rattle.pfair_output.specs.Told.{is_admitted, is_leave, told, all_told, slot_told, tally_row, book_rows, rows_told}
 use Rattle.pfair_output.proofs.SlotFacts.{first_left}
-
-some_inj : {A : Type 0} (x y : A) → Some x ≡ Some y → x ≡ y
-some_inj x y e = cc
 
 -- ---- time
 
@@ -38,10 +37,10 @@ time-all_told (d ∷ ds) book = time-all_told ds (told d.announcement d.decision
 -- ---- the task at a place
 
 pub named_at : (book : Book) (place : ℕ) (name : NameValue) (e : NameValue × Tally) → Some name ≡ option_map (λ (e : NameValue × Tally). e.0) (slice_get book.entered place) → slice_get book.entered place ≡ Some e → name ≡ e.0
-named_at book place name e named at = some_inj name e.0 (named ∙ ap (option_map (λ (e : NameValue × Tally). e.0)) at)
+named_at book place name e named at = same_Some name e.0 (named ∙ ap (option_map (λ (e : NameValue × Tally). e.0)) at)
 
 pub lag_at : (book : Book) (place : ℕ) (e : NameValue × Tally) (numerator : ℤ) (period : ℕ) → Some (numerator, period) ≡ option_map (λ (e : NameValue × Tally). lag_of e.1) (slice_get book.entered place) → slice_get book.entered place ≡ Some e → (numerator, period) ≡ lag_of e.1
-lag_at book place e numerator period shown at = some_inj (numerator, period) (lag_of e.1) (shown ∙ ap (option_map (λ (e : NameValue × Tally). lag_of e.1)) at)
+lag_at book place e numerator period shown at = same_Some (numerator, period) (lag_of e.1) (shown ∙ ap (option_map (λ (e : NameValue × Tally). lag_of e.1)) at)
 
 pub row_is : (time time' : ℕ) (name : NameValue) (e : NameValue × Tally) (numerator : ℤ) (period : ℕ) → time' ≡ time → name ≡ e.0 → (numerator, period) ≡ lag_of e.1
     → (decimal time' ∷ name ∷ signed_decimal numerator ∷ decimal period ∷ []) ≡ tally_row time e

@@ -20,7 +20,8 @@ use Rattle.pfair_admission.specs.Admission.{Machine, member_named, claimed, arri
 use Rattle.pfair_table.specs.declared.pick.Pick.{Pick}
 use Rattle.pfair_table.specs.declared.pick.Decided.{Decided}
 use Rattle.pfair_table.specs.Table.{Settings, Table, machine, names_task, quanta, counted, history, world, table, with_decisions, decisions}
-use Rattle.pfair_lag.specs.Book.{NameValue, name_eq, Tally, Book, empty_book, tally_of, has_run, entered_with, slot_more}
+use Rattle.pfair_weight.specs.Name.{NameValue, name_eq}
+use Rattle.pfair_lag.specs.Book.{Tally, Book, empty_book, tally_of, has_run, entered_with, slot_more}
 use Rattle.pfair_output.specs.Lags.{is_staying, lag_row, lag_rows}
 use Rattle.pfair_output.specs.Told.{told, all_told, slot_told, tally_row, book_rows, rows_told}
 use Rattle.pfair_output.proofs.ToldFacts.{time-all_told}

@@ -7,7 +7,8 @@ use Rattle.pfair_admission.specs.declared.decision.Decision.{Decision}
 use Rattle.pfair_admission.specs.declared.decision.Decision.TheVariants.{Admitted, Departing, Delayed, Refused}
 use Rattle.pfair_table.specs.declared.pick.Decided.{Decided}
 use Rattle.pfair_table.specs.Table.{Table}
-use Rattle.pfair_lag.specs.Book.{NameValue, Tally, Book, lag_of, entered_with, left, recorded}
+use Rattle.pfair_weight.specs.Name.{NameValue}
+use Rattle.pfair_lag.specs.Book.{Tally, Book, lag_of, entered_with, left, recorded}
 
 abbrev pub is_admitted : Decision → Bool
 is_admitted Admitted = true

@@ -3,7 +3,8 @@
 ghost use Rattle.std.specs.Prelude.{◌≡◌, ◌<◌, ◌++◌, ◌∷◌, [], OnOk, IfOk, List, Some, slice_get};
 ghost use Rattle.pfair_text.specs.Rows.{IsOpen, line, lines_text, text_so_far};
 ghost use Rattle.pfair_replica.specs.HeldRows.{replica_of};
-ghost use Rattle.pfair_lag.specs.Book.{NameValue, Tally, empty_book};
+ghost use Rattle.pfair_weight.specs.Name.{NameValue};
+ghost use Rattle.pfair_lag.specs.Book.{Tally, empty_book};
 ghost use Rattle.pfair_table.specs.declared.pick.Decided.{Decided};
 ghost use Rattle.pfair_table.specs.Table.{Table};
 ghost use Rattle.pfair_table.specs.Refinement.{IsWholePlan};

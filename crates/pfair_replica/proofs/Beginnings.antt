@@ -1,17 +1,17 @@
 -- Parts of sound beginnings, and what stays of one when something comes into its row.
-use Rattle.std.proofs.Common.{ℕ, zero, suc, ◌+◌, ◌-◌, ◌<◌, ◌≤◌, ◌≡◌, refl, sym, ap, ◌∙◌, subst, arith, inl, inr, ⊎_elim, cond, List, [], ◌∷◌, length, Some, None}
+use Rattle.std.proofs.Common.{ℕ, zero, suc, ◌+◌, ◌-◌, ◌<◌, ◌≤◌, ◌≡◌, refl, sym, ap, ◌∙◌, subst, arith, inl, inr, ⊎_elim, List, [], ◌∷◌, ◌++◌, length, Some, None}
 use Rattle.std.specs.Prelude.{◌⊎◌, ◌≢◌}
-use Rattle.std.proofs.lemmas.Bool.{le-leb, cases_eq}
+use Rattle.std.proofs.lemmas.Bool.{cases_eq}
+use Rattle.std.proofs.lemmas.List.{append-nil, length_push}
 use Rattle.pfair_lattice.specs.declared.flat.Flat.{Flat}
 use Rattle.pfair_lattice.specs.declared.flat.Flat.TheVariants.{One, Torn}
 use Rattle.pfair_lattice.specs.Held.{Held, HeldBelow}
 use Rattle.pfair_entry.specs.Entry.{Logged}
 use Rattle.pfair_replica.specs.declared.counters.Beginning.{Beginning}
-use Rattle.pfair_replica.specs.Replica.{run_on, run_from, last_floor}
+use Rattle.pfair_replica.specs.Replica.{goes_on, run_from, last_floor}
 use Rattle.pfair_replica.specs.Laws.{IsRun}
 use Rattle.pfair_replica.specs.Counters.{beginning_in, IsPart, IsRunBefore, IsLeftAt}
-use Rattle.pfair_replica.proofs.Runs.{run_is_run}
-use Rattle.pfair_replica.proofs.Scanning.{RunsOn}
+use Rattle.pfair_replica.proofs.Runs.{run_is_run, run_ends, run_more, run_begins, last_more}
 
 -- ---- runs
 
@@ -27,36 +27,29 @@ module _ (row : ℕ → Held Logged) where
   shorter_run (e ∷ es) (suc j) n floor short run =
       let more = shorter_run es j (suc n) e.floor (omega arith) run.2 in (e ∷ more.0, (run.0, run.1, more.1), ap suc more.2)
 
-  -- a run goes on as the longest one
-  pub goes_on_as : (es : List Logged) (n floor left total m : ℕ) → IsRun row n floor es → total ≡ length es + left → m ≡ n + length es
-      → (last_floor (last_floor floor es) (run_from row left m (last_floor floor es)) ≡ last_floor floor (run_from row total n floor))
-      × (length es + length (run_from row left m (last_floor floor es)) ≡ length (run_from row total n floor))
-  goes_on_as [] n floor left total m run sum at =
-      let same : left ≡ total = omega arith in
-      let here : m ≡ n = omega arith in
-      let runs : run_from row left m floor ≡ run_from row total n floor = λ i. run_from row (same i) (here i) floor in
-      let counts = ap length runs in
-      (ap (last_floor floor) runs, omega (arith, counts))
-  goes_on_as (e ∷ es) n floor left zero m run sum at = absurd (omega arith)
-  goes_on_as (e ∷ es) n floor left (suc total) m run sum at =
-      let more = goes_on_as es (suc n) e.floor left total m run.2 (omega arith) (omega arith) in
-      let first : run_from row (suc total) n floor ≡ e ∷ run_from row total (suc n) e.floor =
-      ap (λ c. run_on c floor (run_from row total (suc n))) run.0 ∙ ap (λ b. cond b (e ∷ run_from row total (suc n) e.floor) []) (le-leb floor e.floor run.1) in
-      let counts = more.1 in
-      let longer = ap length first in
-      (more.0 ∙ sym (ap (last_floor floor) first), omega (arith, counts, longer))
-
-  pub part_runs_on : (capacity : ℕ) (part : Beginning) → IsPart row part → part.count ≤ capacity → RunsOn row capacity part.count part.mark
-  part_runs_on capacity part p room =
+  -- a part with the entry that goes on it
+  pub part_more : (part : Beginning) (e : Logged) → IsPart row part → goes_on (row (part.count + 1)) part.mark ≡ Some e → IsPart row (record { count = part.count + 1; mark = e.floor })
+  part_more part e p on =
       let count = p.count in
-      let on = goes_on_as p.entries 1 0 (capacity - part.count) capacity (suc part.count) p.run (omega (arith, count, room)) (omega (arith, count)) in
       record {
-        left = capacity - part.count;
-        room = omega (arith, room);
-        mark = subst (λ f. last_floor f (run_from row (capacity - part.count) (suc part.count) f) ≡ last_floor 0 (run_from row capacity 1 0)) p.mark on.0;
-        count = subst (λ f. part.count + length (run_from row (capacity - part.count) (suc part.count) f) ≡ length (run_from row capacity 1 0)) p.mark
-            (subst (λ c. c + length (run_from row (capacity - part.count) (suc part.count) (last_floor 0 p.entries)) ≡ length (run_from row capacity 1 0)) count on.1);
+        entries = p.entries ++ e ∷ [];
+        run = run_more row p.entries 1 0 (part.count + 1) e p.run (omega (arith, count)) (ap (goes_on (row (part.count + 1))) p.mark ∙ on);
+        count = length_push p.entries e ∙ ap (λ n. n + 1) count;
+        mark = last_more p.entries 0 e;
       }
+
+  -- a part that fills the row, or on which no entry goes, is the whole
+  pub part_whole : (capacity : ℕ) (part : Beginning) → IsPart row part → part.count ≤ capacity → (capacity ≤ part.count) ⊎ (goes_on (row (part.count + 1)) part.mark ≡ None) → part ≡ beginning_in capacity row
+  part_whole capacity part p room ends =
+      let count = p.count in
+      let left = capacity - part.count in
+      let rest : run_from row left (part.count + 1) (last_floor 0 p.entries) ≡ [] = ⊎_elim
+      (λ full. ap (λ n. run_from row n (part.count + 1) (last_floor 0 p.entries)) (let none : left ≡ 0 = omega (arith, full) in none))
+      (λ none. run_ends row left (part.count + 1) (last_floor 0 p.entries) (ap (goes_on (row (part.count + 1))) p.mark ∙ none))
+      ends in
+      let whole : p.entries ≡ run_from row capacity 1 0 =
+      sym (append-nil p.entries) ∙ ap (λ es. p.entries ++ es) (sym rest) ∙ run_begins row p.entries 1 0 left capacity (part.count + 1) p.run (omega (arith, count, room)) (omega (arith, count)) in
+      λ i. record { count = (sym p.count ∙ ap length whole) i; mark = (sym p.mark ∙ ap (last_floor 0) whole) i }
 
   -- a run's entries are held
   pub run_entry : (es : List Logged) (n floor m : ℕ) → IsRun row n floor es → n ≤ m → m < n + length es → (e : Logged) × (row m ≡ Some (One e))

@@ -1,21 +1,22 @@
 -- Counters that follow what comes into the rows.
-use Rattle.std.proofs.Common.{ℕ, zero, suc, ◌+◌, ◌<◌, ◌≤◌, ◌≡◌, refl, sym, ap, ◌∙◌, subst, arith, inl, inr, ⊎_elim, Bool, true, false, cond, List, [], ◌∷◌, length, Option, Some, None}
-use Rattle.std.specs.Prelude.{◌⊎◌, ◌≢◌, ◌==◌, nat_le, slice_get, set, replicate}
+use Rattle.std.proofs.Common.{ℕ, zero, suc, ◌+◌, ◌<◌, ◌≤◌, ◌≡◌, refl, sym, ap, ◌∙◌, subst, arith, inl, inr, ⊎_elim, cond, List, length, Option, Some, None}
+use Rattle.std.specs.Prelude.{◌⊎◌, ◌≢◌, ◌==◌, slice_get, set, replicate}
 use Rattle.std.proofs.lemmas.Bool.{cases_eq, eq-eqb, ne_eqb}
 use Rattle.std.proofs.lemmas.List.{length-set, get_or-set_other, length-replicate, get_or-replicate}
 use Rattle.std.proofs.lemmas.Grind.{get_or-set_at}
 use Rattle.std.proofs.lemmas.Option.{slice_get_within, slice_get-get_or, get_or_from_slice_get}
 use Rattle.pfair_lattice.specs.declared.flat.Flat.{Flat}
-use Rattle.pfair_lattice.specs.declared.flat.Flat.TheVariants.{One, Torn}
+use Rattle.pfair_lattice.specs.declared.flat.Flat.TheVariants.{Torn}
 use Rattle.pfair_lattice.specs.Held.{Held, HeldBelow, held_join}
 use Rattle.pfair_lattice.specs.HeldLaws.{below_itself}
 use Rattle.pfair_entry.specs.Entry.{Logged}
 use Rattle.pfair_entry.specs.Same.{entry_eq}
 use Rattle.pfair_replica.specs.declared.counters.Beginning.{Beginning}
 use Rattle.pfair_replica.specs.declared.key.EntryKey.{EntryKey}
-use Rattle.pfair_replica.specs.Replica.{Contents, Replica, IsReplica, run_on, run_from, last_floor, sound_beginning, mark, entry_key, only}
+use Rattle.pfair_replica.specs.Replica.{Contents, Replica, IsReplica, goes_on, run_on, run_from, last_floor, sound_beginning, mark, entry_key, only}
 use Rattle.pfair_replica.specs.HeldAfter.{held_after, join_none}
 use Rattle.pfair_replica.specs.Counters.{beginning_in, IsLeftAt, IsTornAt, IsFirstTornIn, IsEarlier, AreCounters, WereBefore, WereApart}
+use Rattle.pfair_replica.proofs.Runs.{run_room}
 use Rattle.pfair_replica.proofs.Beginnings.{left_at}
 use Rattle.pfair_replica.proofs.Merging.{Between, between_below}
 use Rattle.pfair_replica.proofs.FirstTorn.{first_alike, earlier_first}
@@ -46,20 +47,6 @@ still_torn : (a b : Held Logged) → HeldBelow a b → a ≡ Some Torn → b ≡
 still_torn a b below torn = ⊎_elim (λ h. h) (λ h. h) (below Torn torn)
 
 -- ---- after something came at one key
-
--- a run has no more entries than are left
-pub run_room : (row : ℕ → Held Logged) (left n floor : ℕ) → length (run_from row left n floor) ≤ left
-run_room row zero n floor = omega arith
-run_room row (suc left) n floor = by (row n) (run_room row left (suc n))
-  where
-    on : (e : Logged) (b : Bool) → length (run_from row left (suc n) e.floor) ≤ left → length (cond b (e ∷ run_from row left (suc n) e.floor) []) ≤ suc left
-    on e true more = omega (arith, more)
-    on e false more = omega arith
-
-    by : (c : Held Logged) → ((f : ℕ) → length (run_from row left (suc n) f) ≤ left) → length (run_on c floor (run_from row left (suc n))) ≤ suc left
-    by None more = omega arith
-    by (Some Torn) more = omega arith
-    by (Some (One e)) more = on e (nat_le floor e.floor) (more e.floor)
 
 module _ (capacity p i : ℕ) (now : Contents) (xs : List Beginning) (first : Option EntryKey) (w : WereBefore capacity p i now xs first) where
   pub left_by_entry : (b : Beginning) → slice_get xs p ≡ Some b → IsLeftAt (now p) i b
@@ -217,7 +204,7 @@ module _ (x : Replica) (xs : List Beginning) (first : Option EntryKey) (counters
 -- where nothing is held
 begins_empty : (row : ℕ → Held Logged) → ((n : ℕ) → row n ≡ None) → (capacity : ℕ) → beginning_in capacity row ≡ record { count = 0; mark = 0 }
 begins_empty row nothing zero = refl
-begins_empty row nothing (suc left) = ap (λ c. record { count = length (run_on c 0 (run_from row left 2)); mark = last_floor 0 (run_on c 0 (run_from row left 2)) }) (nothing 1)
+begins_empty row nothing (suc left) = ap (λ c. record { count = length (run_on (goes_on c 0) (run_from row left 2)); mark = last_floor 0 (run_on (goes_on c 0) (run_from row left 2)) }) (nothing 1)
 
 pub counters_of_nothing : (m capacity : ℕ) (at : Contents) → ((k n : ℕ) → at k n ≡ None) → AreCounters capacity at (replicate m (record { count = 0; mark = 0 })) None
 counters_of_nothing m capacity at nothing = record {

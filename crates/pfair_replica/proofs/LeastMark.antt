@@ -1,14 +1,23 @@
 -- The frontier is the least of the marks.
-use Rattle.std.proofs.Common.{ℕ, zero, suc, ◌+◌, ◌<◌, ◌≤◌, ◌≡◌, refl, sym, ◌∙◌, subst, arith, inl, inr, ⊎_elim, min}
+use Rattle.std.proofs.Common.{ℕ, zero, suc, ◌+◌, ◌<◌, ◌≤◌, ◌≡◌, refl, sym, ◌∙◌, subst, arith, inl, inr, ⊎_elim, ap, [], ◌∷◌, min}
 use Rattle.std.specs.Prelude.{◌⊎◌, map, fold}
+use Rattle.std.proofs.Math.Numerals.{add-one}
 use Rattle.std.proofs.lemmas.Bool.{cases_eq, cases_lt}
+use Rattle.std.proofs.lemmas.List.{map-append}
+use Rattle.std.proofs.lemmas.List.Sums.{fold-append}
 use Rattle.pfair_replica.specs.Replica.{mark, numbers_below}
 use Rattle.pfair_replica.specs.Laws.{IsLeastMark}
-use Rattle.pfair_replica.proofs.Scanning.{least_more}
+
+-- one more of the numbers of which the least is sought
+pub least_more : (f : ℕ → ℕ) (a k : ℕ) → fold min a (map f (numbers_below (k + 1))) ≡ min (fold min a (map f (numbers_below k))) (f k)
+least_more f a k =
+    ap (λ q. fold min a (map f (numbers_below q))) (add-one k)
+    ∙ ap (fold min a) (map-append f (numbers_below k) (k ∷ []))
+    ∙ fold-append min a (map f (numbers_below k)) (f k ∷ [])
 
 module _ (f : ℕ → ℕ) (a : ℕ) where
   least_next : (m : ℕ) → fold min a (map f (numbers_below (suc m))) ≡ min (fold min a (map f (numbers_below m))) (f m)
-  least_next m = subst (λ (q : ℕ). fold min a (map f (numbers_below q)) ≡ min (fold min a (map f (numbers_below m))) (f m)) (let next : m + 1 ≡ suc m = omega arith in next) (least_more f a m)
+  least_next m = subst (λ (q : ℕ). fold min a (map f (numbers_below q)) ≡ min (fold min a (map f (numbers_below m))) (f m)) (add-one m) (least_more f a m)
 
   at_most_each : (m k : ℕ) → k < m → fold min a (map f (numbers_below m)) ≤ f k
   at_most_each zero k h = absurd (omega (arith, h))

@@ -2,7 +2,6 @@ pub mod Marks
 mod Runs
 mod PutEntry
 mod Merging
-mod Scanning
 mod SameRows
 mod EmptyRows
 mod Comparing
@@ -16,4 +15,5 @@ mod Following
 pub mod SoundEntries
 mod LeastMark
 mod Listed
-mod SaidListed
+pub mod SaidListed
+mod SaidBehind

@@ -1,17 +1,15 @@
 -- Numbers gone through one after another.
 use Rattle.std.proofs.Common.{ℕ, zero, suc, ◌+◌, ◌-◌, ◌<◌, ◌≤◌, ◌≡◌, refl, sym, ap, ◌∙◌, subst, arith, ⊎_elim, Bool, true, false, cond, [], ◌∷◌, ◌++◌, Option, Some, None, IsSome}
 use Rattle.std.specs.Prelude.{find, is_none}
+use Rattle.std.proofs.Math.Numerals.{add-one}
 use Rattle.std.proofs.lemmas.Bool.{true≢false, cases_eq}
 use Rattle.std.proofs.lemmas.List.{map-append}
 use Rattle.std.proofs.lemmas.List.Folds.{find-append}
 use Rattle.std.specs.Option.{option_or}
 use Rattle.pfair_replica.specs.Replica.{Replica, IsLeastMissing, missing, numbers_below, numbers_to}
 
-next : (b : ℕ) → b + 1 ≡ suc b
-next b = omega arith
-
 pub numbers_more : (b : ℕ) → numbers_to (b + 1) ≡ numbers_to b ++ (b + 1) ∷ []
-numbers_more b = ap numbers_to (next b) ∙ map-append suc (numbers_below b) (b ∷ []) ∙ ap (λ n. numbers_to b ++ n ∷ []) (sym (next b))
+numbers_more b = ap numbers_to (add-one b) ∙ map-append suc (numbers_below b) (b ∷ []) ∙ ap (λ n. numbers_to b ++ n ∷ []) (sym (add-one b))
 
 -- ---- the first number that meets a test
 

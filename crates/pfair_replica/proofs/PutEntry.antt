@@ -1,18 +1,17 @@
 -- Rows of entries, one of them changed.
 use Rattle.std.proofs.Common.{◌≡◌, refl, sym, ◌∙◌, ap, subst, ⊎_elim, Bool, true, false, cond}
 use Rattle.std.specs.Prelude.{◌≢◌, ◌==◌, ℕ, Option, None, Some, List, [], ◌∷◌, IsSome, IsSomeAnd, Result, Ok, Err, OnErr, if◌then◌else◌}
-use Rattle.std.specs.declared.cmp.Ordering.{Ordering}
-use Rattle.std.specs.declared.cmp.Ordering.TheVariants.{Less, Equal, Greater}
 use Rattle.std.specs.List.Sorted.{IsStrictlySortedBy}
 use Rattle.std.specs.Ordering.{nat_cmp, eq_by_cmp, is_eq}
 use Rattle.std.specs.Option.{option_and_then}
 use Rattle.std.specs.Map.{set_value}
 use Rattle.std.specs.BTreeMap.{is_at}
-use Rattle.std.specs.Cmp.{nat_cmp_total, eq_by_cmp_equiv, tied_itself}
+use Rattle.std.specs.Cmp.{nat_cmp_total, Equal-is, eq_by_cmp_equiv, tied_itself}
 use Rattle.std.proofs.lemmas.Bool.{cases_Bool, cases_eq, eq-eqb, ne_eqb}
 use Rattle.std.proofs.lemmas.Map.{lookup-set_value, keys-set_value}
 use Rattle.std.proofs.lemmas.Map.Steps.{set_value_same}
 use Rattle.std.proofs.lemmas.Map.Lookups.{exact_unsigned}
+use Rattle.std.proofs.lemmas.Option.{none-some}
 use Rattle.pfair_lattice.specs.Entries.{get, IsOrdered, MapJoins}
 use Rattle.pfair_lattice.specs.Flat.{FlatJoins}
 use Rattle.pfair_lattice.specs.Held.{held_join}
@@ -25,20 +24,12 @@ use Rattle.pfair_replica.specs.HeldAfter.{join_none}
 use Rattle.pfair_replica.specs.Replica.{only}
 use Rattle.pfair_replica.specs.HeldRows.{Row, held_in, IsFull}
 
-from_is_eq : (r : Ordering) → is_eq r ≡ true → r ≡ Equal
-from_is_eq Less e = cc
-from_is_eq Equal e = refl
-from_is_eq Greater e = cc
-
-not_there : {X : Type 0} (v : X) → Some v ≡ None → ⊥
-not_there v e = cc
-
 either_there : {X : Type 0} (b : Bool) (o : Option (List (ℕ × X))) (after : List (ℕ × X)) → IsOrdered nat_cmp after → IsSomeAnd o (IsOrdered nat_cmp) → IsSomeAnd (cond b (Some after) o) (IsOrdered nat_cmp)
 either_there true o after s p = s
 either_there false o after s p = p
 
 pub apart : (p q : ℕ) → q ≢ p → eq_by_cmp nat_cmp p q ≡ false
-apart p q ne = ⊎_elim (λ e. absurd (ne (sym (exact_unsigned p q (from_is_eq (nat_cmp p q) e))))) (λ f. f) (cases_Bool (eq_by_cmp nat_cmp p q))
+apart p q ne = ⊎_elim (λ e. absurd (ne (sym (exact_unsigned p q ((Equal-is (nat_cmp p q)).0 e))))) (λ f. f) (cases_Bool (eq_by_cmp nat_cmp p q))
 
 pub same_test : (n m : ℕ) → eq_by_cmp nat_cmp n m ≡ (n == m)
 same_test n m = ⊎_elim
@@ -108,7 +99,7 @@ full_set m p rows row after was s f =
       ordered = subst (IsStrictlySortedBy nat_cmp) (sym (keys-set_value (is_at (nat_cmp p)) rows after)) f.ordered;
       there = λ q h. subst (λ (r : Option Row). IsSomeAnd r (IsOrdered nat_cmp)) (sym (at q)) (either_there (eq_by_cmp nat_cmp p q) (get nat_cmp rows q) after s (f.there q h));
       beyond = λ q h. ⊎_elim
-          (λ e. absurd (not_there row (sym was ∙ ap (get nat_cmp rows) (exact_unsigned p q (from_is_eq (nat_cmp p q) e)) ∙ f.beyond q h)))
+          (λ e. absurd (none-some row (sym (f.beyond q h) ∙ sym (ap (get nat_cmp rows) (exact_unsigned p q ((Equal-is (nat_cmp p q)).0 e))) ∙ was)))
           (λ e. at q ∙ ap (λ b. cond b (Some after) (get nat_cmp rows q)) e ∙ f.beyond q h)
           (cases_Bool (eq_by_cmp nat_cmp p q));
     }

@@ -1,14 +1,15 @@
--- The laws of the join, and that a sound beginning is the longest run.
-use Rattle.std.proofs.Common.{ℕ, zero, suc, ◌+◌, ◌<◌, ◌≤◌, ◌≡◌, refl, sym, ap, ◌∙◌, arith, Bool, true, false, cond, List, [], ◌∷◌, ◌++◌, Some, None}
+-- The laws of the join; and runs: that a sound beginning is the longest one, and how runs go on.
+use Rattle.std.proofs.Common.{ℕ, zero, suc, ◌+◌, ◌-◌, ◌≤◌, ◌≡◌, refl, sym, ap, ◌∙◌, subst, arith, cond, List, [], ◌∷◌, ◌++◌, length, Option, Some, None}
 use Rattle.std.specs.Prelude.{nat_le}
 use Rattle.std.proofs.lemmas.Bool.{leb-true, le-leb}
+use Rattle.std.proofs.lemmas.Option.{none-some, cond_some}
 use Rattle.pfair_lattice.specs.declared.flat.Flat.TheVariants.{One, Torn}
 use Rattle.pfair_lattice.specs.Held.{Held}
 use Rattle.pfair_lattice.specs.HeldLaws.{below_itself, below_trans, below_antisym, join_first, join_second, join_least, join_comm, join_assoc, join_idem}
 use Rattle.pfair_entry.specs.Entry.{Logged}
 use Rattle.pfair_entry.specs.Same.{entry_eq}
 use Rattle.pfair_entry.specs.Exact.{entry_exact}
-use Rattle.pfair_replica.specs.Replica.{run_on, run_from}
+use Rattle.pfair_replica.specs.Replica.{goes_on, run_on, run_from, last_floor}
 use Rattle.pfair_replica.specs.Laws.{IsLeastJoin, IsRun, IsLongestRun}
 
 pub least_join : IsLeastJoin
@@ -24,30 +25,79 @@ least_join = record {
   idem = λ x i. record { processors = x.processors; capacity = x.capacity; at = λ k n. join_idem entry_eq entry_exact (x.at k n) i };
 }
 
-pub run_is_run : (row : ℕ → Held Logged) (left n floor : ℕ) → IsRun row n floor (run_from row left n floor)
-run_is_run row zero n floor = tt
-run_is_run row (suc left) n floor = by (row n) refl (λ f. run_is_run row left (suc n) f)
-  where
-    on : (e : Logged) → row n ≡ Some (One e) → IsRun row (suc n) e.floor (run_from row left (suc n) e.floor) → (b : Bool) → nat_le floor e.floor ≡ b → IsRun row n floor (cond b (e ∷ run_from row left (suc n) e.floor) [])
-    on e p more true q = (p, leb-true floor e.floor q, more)
-    on e p more false q = tt
+-- the entry that goes on a run is held, and its floor isn't lower
+going : (c : Held Logged) (floor : ℕ) (e : Logged) → goes_on c floor ≡ Some e → (c ≡ Some (One e)) × (floor ≤ e.floor)
+going None floor e on = absurd (none-some e on)
+going (Some Torn) floor e on = absurd (none-some e on)
+going (Some (One d)) floor e on =
+    let is = cond_some (nat_le floor d.floor) d e on in
+    (ap (λ (v : Logged). Some (One v)) is.1, subst (λ (v : Logged). floor ≤ v.floor) is.1 (leb-true floor d.floor is.0))
 
-    by : (c : Held Logged) → row n ≡ c → ((f : ℕ) → IsRun row (suc n) f (run_from row left (suc n) f)) → IsRun row n floor (run_on c floor (run_from row left (suc n)))
-    by None p more = tt
-    by (Some Torn) p more = tt
-    by (Some (One e)) p more = on e p (more e.floor) (nat_le floor e.floor) refl
+module _ (row : ℕ → Held Logged) where
+  pub run_is_run : (left n floor : ℕ) → IsRun row n floor (run_from row left n floor)
+  run_is_run zero n floor = tt
+  run_is_run (suc left) n floor = by (goes_on (row n) floor) refl (run_is_run left (suc n))
+    where
+      by : (o : Option Logged) → goes_on (row n) floor ≡ o → ((f : ℕ) → IsRun row (suc n) f (run_from row left (suc n) f)) → IsRun row n floor (run_on o (run_from row left (suc n)))
+      by None on more = tt
+      by (Some e) on more = let is = going (row n) floor e on in (is.0, is.1, more e.floor)
 
--- with room for the whole row, each run begins the longest one
-begins_run : (row : ℕ → Held Logged) (last : ℕ) → ((n : ℕ) (e : Logged) → row n ≡ Some (One e) → n ≤ last) → (es : List Logged) (left n floor : ℕ) → last < n + left → IsRun row n floor es → (rest : List Logged) × (es ++ rest ≡ run_from row left n floor)
-begins_run row last within [] left n floor room run = (run_from row left n floor, refl)
-begins_run row last within (e ∷ es) zero n floor room run = (let le = within n e run.0 in absurd (omega (arith, room, le)))
-begins_run row last within (e ∷ es) (suc left) n floor room run =
-    let more = begins_run row last within es left (suc n) e.floor (omega (arith, room)) run.2 in (
-      more.0,
-      ap (λ xs. e ∷ xs) more.1
-          ∙ sym (ap (λ c. run_on c floor (run_from row left (suc n))) run.0 ∙ ap (λ b. cond b (e ∷ run_from row left (suc n) e.floor) []) (le-leb floor e.floor run.1)),
-    )
+  -- a run has no more entries than are left
+  pub run_room : (left n floor : ℕ) → length (run_from row left n floor) ≤ left
+  run_room zero n floor = omega arith
+  run_room (suc left) n floor = by (goes_on (row n) floor) (run_room left (suc n))
+    where
+      by : (o : Option Logged) → ((f : ℕ) → length (run_from row left (suc n) f) ≤ left) → length (run_on o (run_from row left (suc n))) ≤ suc left
+      by None more = omega arith
+      by (Some e) more = let le = more e.floor in omega (arith, le)
+
+  -- where no entry goes on, the run ends
+  pub run_ends : (left n floor : ℕ) → goes_on (row n) floor ≡ None → run_from row left n floor ≡ []
+  run_ends zero n floor none = refl
+  run_ends (suc left) n floor none = ap (λ o. run_on o (run_from row left (suc n))) none
+
+  -- one entry more
+  pub run_more : (es : List Logged) (n floor m : ℕ) (e : Logged) → IsRun row n floor es → m ≡ n + length es → goes_on (row m) (last_floor floor es) ≡ Some e → IsRun row n floor (es ++ e ∷ [])
+  run_more [] n floor m e run at on = let is = going (row m) floor e on in (ap row (let here : n ≡ m = omega arith in here) ∙ is.0, is.1, tt)
+  run_more (d ∷ es) n floor m e run at on = (run.0, run.1, run_more es (suc n) d.floor m e run.2 (omega (arith, at)) on)
+
+  -- a run that has room begins the longest one, which goes on from where it ends
+  pub run_begins : (es : List Logged) (n floor left total m : ℕ) → IsRun row n floor es → total ≡ length es + left → m ≡ n + length es → es ++ run_from row left m (last_floor floor es) ≡ run_from row total n floor
+  run_begins [] n floor left total m run sum at =
+      let same : left ≡ total = omega arith in
+      let here : m ≡ n = omega arith in
+      λ i. run_from row (same i) (here i) floor
+  run_begins (e ∷ es) n floor left zero m run sum at = absurd (omega arith)
+  run_begins (e ∷ es) n floor left (suc total) m run sum at =
+      ap (λ xs. e ∷ xs) (run_begins es (suc n) e.floor left total m run.2 (omega arith) (omega arith))
+      ∙ sym (ap (λ c. run_on (goes_on c floor) (run_from row total (suc n))) run.0 ∙ ap (λ b. run_on (cond b (Some e) None) (run_from row total (suc n))) (le-leb floor e.floor run.1))
+
+  -- it has room where the row holds no later number
+  run_short : (last : ℕ) → ((n : ℕ) (e : Logged) → row n ≡ Some (One e) → n ≤ last) → (es : List Logged) (n floor : ℕ) → n ≤ suc last → IsRun row n floor es → n + length es ≤ suc last
+  run_short last within [] n floor room run = omega arith
+  run_short last within (e ∷ es) n floor room run =
+      let le = within n e run.0 in
+      let more = run_short last within es (suc n) e.floor (omega (arith, le)) run.2 in
+      omega (arith, more)
+
+  -- a run's floors never fall
+  run_rises : (es : List Logged) (n floor : ℕ) → IsRun row n floor es → floor ≤ last_floor floor es
+  run_rises [] n floor run = omega arith
+  run_rises (e ∷ es) n floor run = let low = run.1 in let more = run_rises es (suc n) e.floor run.2 in omega (arith, low, more)
+
+  pub longer_rises : (es rest : List Logged) (n floor : ℕ) → IsRun row n floor (es ++ rest) → last_floor floor es ≤ last_floor floor (es ++ rest)
+  longer_rises [] rest n floor run = run_rises rest n floor run
+  longer_rises (e ∷ es) rest n floor run = longer_rises es rest (suc n) e.floor run.2
+
+pub last_more : (es : List Logged) (floor : ℕ) (e : Logged) → last_floor floor (es ++ e ∷ []) ≡ e.floor
+last_more [] floor e = refl
+last_more (d ∷ es) floor e = last_more es d.floor e
 
 pub longest_run : IsLongestRun
-longest_run x r k =
-    (run_is_run (x.at k) x.capacity 1 0, λ es run. begins_run (x.at k) x.capacity (λ n e p. (r.in_range k n (One e) p).2) es x.capacity 1 0 (omega arith) run)
+longest_run x r k = (
+  run_is_run (x.at k) x.capacity 1 0,
+  λ es run.
+      (let short = run_short (x.at k) x.capacity (λ n e p. (r.in_range k n (One e) p).2) es 1 0 (omega arith) run in
+      let left = x.capacity - length es in
+      (run_from (x.at k) left (1 + length es) (last_floor 0 es), run_begins (x.at k) es 1 0 left x.capacity (1 + length es) run (omega (arith, short)) refl)),
+)

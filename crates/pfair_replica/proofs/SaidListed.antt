@@ -1,5 +1,5 @@
 -- What the lists of what is said contain, and in which order the lists stand.
-use Rattle.std.proofs.Common.{ℕ, zero, suc, ◌+◌, ◌<◌, ◌≡◌, refl, sym, ap, ◌∙◌, subst, arith, inl, inr, ⊎_elim, Bool, true, false, cond, List, [], ◌∷◌, ◌++◌, length, get_or, Some, None}
+use Rattle.std.proofs.Common.{ℕ, zero, suc, ◌+◌, ◌≡◌, refl, sym, ap, ◌∙◌, subst, arith, inl, inr, ⊎_elim, Bool, true, false, cond, List, [], ◌∷◌, ◌++◌, length, get_or, Some, None}
 use Rattle.std.specs.Prelude.{◌==◌, map, filter, flat_map, slice_get, Option, AllPairs, nat_lt}
 use Rattle.std.specs.List.{Contains}
 use Rattle.std.proofs.lemmas.Bool.{eqb-true, eq-eqb}
@@ -12,9 +12,9 @@ use Rattle.pfair_entry.specs.Entry.{Logged}
 use Rattle.pfair_replica.specs.declared.key.EntryKey.{EntryKey}
 use Rattle.pfair_replica.specs.Replica.{Replica, sound_beginning, numbers_below, numbers_to, said_by, said_in, said, is_torn, entry_key, torn_in, torn_keys, fallen_at, fallen_in, fallen_keys, mark}
 use Rattle.pfair_replica.specs.SaidAt.{IsSaidAt, ComesBefore, key_of, IsSaid}
-use Rattle.pfair_replica.proofs.Marks.{Among}
+use Rattle.pfair_replica.specs.Among.{Among, among_left, among_right, among_append, among_at, among_contains, contains_among, among_filter, among_map, among_flat, flat_among, below_among, among_below}
 use Rattle.pfair_replica.proofs.TornKeys.{flat_more}
-use Rattle.pfair_replica.proofs.Listed.{among_contained, contained_among, among_left, among_right, among_either, flat_from, flat_to, map_from, below_to, below_from, fallen_one}
+use Rattle.pfair_replica.proofs.Listed.{fallen_one}
 
 -- ---- what one processor says
 
@@ -42,9 +42,9 @@ said_from t k n (e ∷ es) s h = ⊎_elim
     (ap (λ (a : Said). a.processor) one.0, (0, e, ap (λ (a : Said). a.number) one.0 ∙ (let same : n ≡ n + 0 = omega arith in same), refl, one.1))))
     (λ r. (let more = said_from t k (suc n) es s r in let at = more.1 in
     (more.0, (suc at.0, at.1, (let number = at.2 in omega (arith, number)), at.3, at.4))))
-    (among_either (said_by t k n e.said) (said_in t k (suc n) es) s h)
+    (among_append (said_by t k n e.said) (said_in t k (suc n) es) s h)
 
-said_to : (t k n : ℕ) (es : List Logged) (i : ℕ) (e : Logged) (a : Announcement) → slice_get es i ≡ Some e → e.said ≡ Some (t, a) → Among (said_in t k n es) (record { processor = k; number = n + i; announcement = a })
+pub said_to : (t k n : ℕ) (es : List Logged) (i : ℕ) (e : Logged) (a : Announcement) → slice_get es i ≡ Some e → e.said ≡ Some (t, a) → Among (said_in t k n es) (record { processor = k; number = n + i; announcement = a })
 said_to t k n [] i e a at says = absurd (cc)
 said_to t k n (d ∷ es) zero e a at says =
     (let same : d ≡ e = cc in
@@ -59,17 +59,17 @@ said_to t k n (d ∷ es) (suc i) e a at says =
 module _ (x : Replica) (t : ℕ) where
   members_from : (s : Said) → Contains (said x t) s → IsSaidAt x t s
   members_from s h =
-      let row = flat_from (λ k. said_in t k 1 (sound_beginning x k)) (numbers_below x.processors) s (among_contained (said x t) s h) in
+      let row = among_flat (λ k. said_in t k 1 (sound_beginning x k)) (numbers_below x.processors) s (contains_among (said x t) s h) in
       let from = said_from t row.0 1 (sound_beginning x row.0) s row.2 in
       let at = from.1 in
-      let low = below_from x.processors row.0 row.1 in
+      let low = among_below x.processors row.0 row.1 in
       let processor = from.0 in
       let number = at.2 in
       (omega (arith, low, processor), (at.0, at.1, omega (arith, number), ap (λ k. slice_get (sound_beginning x k) at.0) processor ∙ at.3, at.4))
 
   members_to : (s : Said) → IsSaidAt x t s → Contains (said x t) s
   members_to s (low, (i, e, number, at, says)) =
-      contained_among (said x t) s (flat_to (λ k. said_in t k 1 (sound_beginning x k)) (numbers_below x.processors) s s.processor (below_to x.processors s.processor low)
+      among_contains (said x t) s (flat_among (λ k. said_in t k 1 (sound_beginning x k)) (numbers_below x.processors) s s.processor (below_among x.processors s.processor low)
       (subst (λ (m : ℕ). Among (said_in t s.processor 1 (sound_beginning x s.processor)) (record { processor = s.processor; number = m; announcement = s.announcement }))
       (let same : 1 + i ≡ s.number = omega (arith, number) in same)
       (said_to t s.processor 1 (sound_beginning x s.processor) i e s.announcement at says)))
@@ -87,19 +87,14 @@ module _ {A : Type 0} (key : A → EntryKey) where
   joined : (xs ys : List A) → InOrder xs → InOrder ys → ((a b : A) → Among xs a → Among ys b → ComesBefore (key a) (key b)) → InOrder (xs ++ ys)
   joined [] ys p q h = q
   joined (x ∷ xs) ys p q h = (
-    λ b m. ⊎_elim (λ l. p.0 b l) (λ r. h x b (inl refl) r) (among_either xs ys b m),
+    λ b m. ⊎_elim (λ l. p.0 b l) (λ r. h x b (inl refl) r) (among_append xs ys b m),
     joined xs ys p.1 q (λ a b m n. h a b (inr m) n),
   )
-
-  at_place : (xs : List A) (i : ℕ) (d : A) → i < length xs → Among xs (get_or xs i d)
-  at_place [] i d within = absurd (omega arith)
-  at_place (x ∷ xs) zero d within = inl refl
-  at_place (x ∷ xs) (suc i) d within = inr (at_place xs i d (omega (arith, within)))
 
   pairs : (xs : List A) → InOrder xs → AllPairs (λ a b. ComesBefore (key a) (key b)) xs
   pairs [] p i j d earlier within = absurd (omega arith)
   pairs (x ∷ xs) p zero zero d earlier within = absurd (omega arith)
-  pairs (x ∷ xs) p zero (suc j) d earlier within = p.0 (get_or xs j d) (at_place xs j d (omega (arith, within)))
+  pairs (x ∷ xs) p zero (suc j) d earlier within = p.0 (get_or xs j d) (among_at xs j d (omega (arith, within)))
   pairs (x ∷ xs) p (suc i) zero d earlier within = absurd (omega arith)
   pairs (x ∷ xs) p (suc i) (suc j) d earlier within = pairs xs p.1 i j d (omega (arith, earlier)) (omega (arith, within))
 
@@ -107,8 +102,8 @@ module _ {A : Type 0} (key : A → EntryKey) where
     of_each : (m : ℕ) → InOrder (flat_map f (numbers_below m))
     of_each zero = tt
     of_each (suc m) = subst InOrder (sym (flat_more f m)) (joined (flat_map f (numbers_below m)) (f m) (of_each m) (each m)
-        (λ a b p q. (let from = flat_from f (numbers_below m) a p in
-        let low = below_from m from.0 from.1 in
+        (λ a b p q. (let from = among_flat f (numbers_below m) a p in
+        let low = among_below m from.0 from.1 in
         let first = own from.0 a from.2 in
         let second = own m b q in
         inl (omega (arith, low, first, second)))))
@@ -141,20 +136,11 @@ numbers_rise : (k m : ℕ) → InOrder (entry_key k) (numbers_to m)
 numbers_rise k zero = tt
 numbers_rise k (suc m) = subst (InOrder (entry_key k)) (sym (map-append suc (numbers_below m) (m ∷ [])))
     (joined (entry_key k) (numbers_to m) (suc m ∷ []) (numbers_rise k m) ((λ b h. absurd h), tt) (λ a b p q.
-    (let from = map_from suc (numbers_below m) a p in
-    let low = below_from m from.0 from.1 in
+    (let from = among_map suc (numbers_below m) a p in
+    let low = among_below m from.0 from.1 in
     let here = from.2 in
     let last : b ≡ suc m = ⊎_elim (λ e. e) (λ none. absurd none) q in
     inr (refl, omega (arith, low, here, last)))))
-
-in_filtered : (p : ℕ → Bool) (xs : List ℕ) (n : ℕ) → Among (filter p xs) n → Among xs n
-in_filtered p [] n h = absurd h
-in_filtered p (x ∷ xs) n h = by (p x) (in_filtered p xs n) h
-  where
-    by : (b : Bool) → (Among (filter p xs) n → Among xs n) → Among (cond b (x ∷ filter p xs) (filter p xs)) n → Among (x ∷ xs) n
-    by true more (inl e) = inl e
-    by true more (inr h) = inr (more h)
-    by false more h = inr (more h)
 
 kept_order : (k : ℕ) (p : ℕ → Bool) (xs : List ℕ) → InOrder (entry_key k) xs → InOrder (λ e. e) (map (entry_key k) (filter p xs))
 kept_order k p [] h = tt
@@ -162,14 +148,14 @@ kept_order k p (x ∷ xs) h = by (p x) (kept_order k p xs h.1)
   where
     by : (b : Bool) → InOrder (λ e. e) (map (entry_key k) (filter p xs)) → InOrder (λ e. e) (map (entry_key k) (cond b (x ∷ filter p xs) (filter p xs)))
     by true rest = (
-      λ b among. (let from = map_from (entry_key k) (filter p xs) b among in
-          subst (λ (e : EntryKey). ComesBefore (entry_key k x) e) (sym from.2) (h.0 from.0 (in_filtered p xs from.0 from.1))),
+      λ b among. (let from = among_map (entry_key k) (filter p xs) b among in
+          subst (λ (e : EntryKey). ComesBefore (entry_key k x) e) (sym from.2) (h.0 from.0 (among_filter p xs from.0 from.1).0)),
       rest,
     )
     by false rest = rest
 
 torn_own : (x : Replica) (k : ℕ) (e : EntryKey) → Among (torn_in x k) e → e.processor ≡ k
-torn_own x k e h = ap (λ (e : EntryKey). e.processor) (map_from (entry_key k) (filter (λ n. is_torn (x.at k n)) (numbers_to x.capacity)) e h).2
+torn_own x k e h = ap (λ (e : EntryKey). e.processor) (among_map (entry_key k) (filter (λ n. is_torn (x.at k n)) (numbers_to x.capacity)) e h).2
 
 fallen_own : (x : Replica) (k : ℕ) (e : EntryKey) → Among (fallen_in x k) e → e.processor ≡ k
 fallen_own x k e h = ap (λ (e : EntryKey). e.processor) (fallen_one k (length (sound_beginning x k) + 1) (mark x k) (x.at k (length (sound_beginning x k) + 1)) e h).0

@@ -1,14 +1,13 @@
 -- The entries of sound beginnings, read by their numbers, and kept by a replica that holds more.
-use Rattle.std.proofs.Common.{ℕ, zero, suc, ◌+◌, ◌≡◌, ap, ◌∙◌, arith, List, [], ◌∷◌, Some}
+use Rattle.std.proofs.Common.{ℕ, zero, suc, ◌+◌, ◌<◌, ◌≡◌, refl, ap, ◌∙◌, arith, inl, inr, List, [], ◌∷◌, length, Some}
 use Rattle.std.specs.Prelude.{slice_get}
+use Rattle.pfair_lattice.specs.declared.flat.Flat.{Flat}
 use Rattle.pfair_lattice.specs.declared.flat.Flat.TheVariants.{One}
 use Rattle.pfair_lattice.specs.Held.{Held}
 use Rattle.pfair_entry.specs.Entry.{Logged}
-use Rattle.pfair_replica.specs.Replica.{sound_beginning}
+use Rattle.pfair_replica.specs.Replica.{Replica, Below, Untorn, sound_beginning}
 use Rattle.pfair_replica.specs.Laws.{IsRun, IsReadByNumber, BeginningsGrow}
-use Rattle.pfair_replica.proofs.Runs.{run_is_run, longest_run}
-use Rattle.pfair_replica.proofs.Marks.{held_within}
-use Rattle.pfair_replica.proofs.Following.{run_room}
+use Rattle.pfair_replica.proofs.Runs.{run_is_run, run_room, longest_run}
 
 entry_in : (row : ℕ → Held Logged) (es : List Logged) (n floor i m : ℕ) (e : Logged) → m ≡ n + i → IsRun row n floor es → slice_get es i ≡ Some e → row m ≡ Some (One e)
 entry_in row [] n floor i m e at run is = absurd (cc)
@@ -20,6 +19,26 @@ read_by_number = record {
   entry = λ x k i e is. entry_in (x.at k) (sound_beginning x k) 1 0 i (i + 1) e (omega arith) (run_is_run (x.at k) x.capacity 1 0) is;
   within = λ x k. run_room (x.at k) x.capacity 1 0;
 }
+
+pub some_at : {A : Type 0} (xs : List A) (i : ℕ) → i < length xs → (x : A) × (slice_get xs i ≡ Some x)
+some_at [] i h = absurd (omega (arith, h))
+some_at (x ∷ xs) zero h = (x, refl)
+some_at (x ∷ xs) (suc i) h = some_at xs i (omega (arith, h))
+
+-- the entry at a place of a sound beginning is held
+pub entry_there : (x : Replica) (k i : ℕ) → i < length (sound_beginning x k) → (e : Logged) × (slice_get (sound_beginning x k) i ≡ Some e) × (x.at k (i + 1) ≡ Some (One e))
+entry_there x k i h = (let e = some_at (sound_beginning x k) i h in (e.0, e.1, read_by_number.entry x k i e.0 e.1))
+
+pub entry_is : (x : Replica) (k i : ℕ) (e : Logged) → i < length (sound_beginning x k) → x.at k (i + 1) ≡ Some (One e) → slice_get (sound_beginning x k) i ≡ Some e
+entry_is x k i e h held =
+    let there = entry_there x k i h in
+    let here = there.2 in
+    let same : there.0 ≡ e = cc in
+    there.1 ∙ ap Some same
+
+-- what is below something that has nothing torn is there too, unchanged
+pub held_within : (x y : Replica) → Below x y → Untorn y → (k n : ℕ) (c : Flat Logged) → x.at k n ≡ Some c → y.at k n ≡ Some c
+held_within x y below untorn k n c e = elim (below k n c e) [ inl h ↦ h | inr h ↦ absurd (untorn k n h) ]
 
 kept_run : (row now : ℕ → Held Logged) → ((m : ℕ) (e : Logged) → row m ≡ Some (One e) → now m ≡ Some (One e)) → (es : List Logged) (n floor : ℕ) → IsRun row n floor es → IsRun now n floor es
 kept_run row now kept [] n floor run = tt

@@ -1,6 +1,6 @@
 -- The torn keys, the first of them, and the test that there is one.
 use Rattle.std.proofs.Common.{ℕ, zero, suc, ◌+◌, ◌<◌, ◌≤◌, ◌≡◌, refl, sym, ap, ◌∙◌, subst, arith, inl, inr, Bool, true, false, cond, List, [], ◌∷◌, ◌++◌, Some, None}
-use Rattle.std.specs.Prelude.{◌⊎◌, ◌≢◌, ◌||◌, ◌↔◌, map, filter, find, flat_map, slice_get, is_some}
+use Rattle.std.specs.Prelude.{◌≢◌, ◌||◌, ◌↔◌, map, filter, find, flat_map, slice_get, is_some}
 use Rattle.std.specs.List.{list_any}
 use Rattle.std.specs.Option.{option_map}
 use Rattle.std.proofs.lemmas.Bool.{true≢false, or_parts, cases_lt}
@@ -9,6 +9,7 @@ use Rattle.std.proofs.lemmas.Grind.{flat_map-append}
 use Rattle.pfair_lattice.specs.Held.{Held}
 use Rattle.pfair_lattice.specs.declared.flat.Flat.TheVariants.{One, Torn}
 use Rattle.pfair_entry.specs.Entry.{Logged}
+use Rattle.pfair_replica.specs.Among.{Among, below_among}
 use Rattle.pfair_replica.specs.Replica.{Replica, IsReplica, Untorn, is_torn, has_torn, entry_key, numbers_below, numbers_to, torn_in, torn_keys}
 
 -- ---- the first torn key
@@ -119,27 +120,7 @@ no_key_no_torn x = (λ e. sym (torn_more x) ∙ ap is_more e, λ e. none (torn_k
 
 -- ---- the test, and what is held
 
-abbrev Among : ℕ → List ℕ → Type 0
-Among x [] = ⊥
-Among x (y ∷ ys) = (x ≡ y) ⊎ Among x ys
-
-among_left : (xs ys : List ℕ) (x : ℕ) → Among x xs → Among x (xs ++ ys)
-among_left [] ys x h = absurd h
-among_left (y ∷ xs) ys x (inl e) = inl e
-among_left (y ∷ xs) ys x (inr h) = inr (among_left xs ys x h)
-
-among_last : (xs : List ℕ) (y : ℕ) → Among y (xs ++ y ∷ [])
-among_last [] y = inl refl
-among_last (x ∷ xs) y = inr (among_last xs y)
-
-among_numbers : (n k : ℕ) → k < n → Among k (numbers_below n)
-among_numbers zero k h = absurd (omega arith)
-among_numbers (suc n) k h = elim (cases_lt k n) [
-  | inl l ↦ among_left (numbers_below n) (n ∷ []) k (among_numbers n k l)
-  | inr g ↦ (let e : n ≡ k = omega arith in subst (λ q. Among q (numbers_below n ++ n ∷ [])) e (among_last (numbers_below n) n))
-]
-
-any_false : (p : ℕ → Bool) (xs : List ℕ) → list_any p xs ≡ false → (x : ℕ) → Among x xs → p x ≡ false
+any_false : (p : ℕ → Bool) (xs : List ℕ) → list_any p xs ≡ false → (x : ℕ) → Among xs x → p x ≡ false
 any_false p [] e x h = absurd h
 any_false p (y ∷ ys) e x (inl i) = ap p i ∙ (or_parts (p y) (list_any p ys) e).0
 any_false p (y ∷ ys) e x (inr h) = any_false p ys (or_parts (p y) (list_any p ys) e).1 x h
@@ -159,16 +140,16 @@ untorn_by_test x r e k n torn = at n torn (r.in_range k n Torn torn)
     at : (n : ℕ) → x.at k n ≡ Some Torn → (k < x.processors) × (0 < n) × (n ≤ x.capacity) → ⊥
     at zero torn range = (let pos = range.1 in absurd (omega (arith, pos)))
     at (suc m) torn range =
-        (let row = any_false (λ k. list_any (λ n. is_torn (x.at k (suc n))) (numbers_below x.capacity)) (numbers_below x.processors) e k (among_numbers x.processors k range.0) in
+        (let row = any_false (λ k. list_any (λ n. is_torn (x.at k (suc n))) (numbers_below x.capacity)) (numbers_below x.processors) e k (below_among x.processors k range.0) in
         let le = range.2 in
-        let here = any_false (λ n. is_torn (x.at k (suc n))) (numbers_below x.capacity) row m (among_numbers x.capacity m (omega (arith, le))) in
+        let here = any_false (λ n. is_torn (x.at k (suc n))) (numbers_below x.capacity) row m (below_among x.capacity m (omega (arith, le))) in
         true≢false (sym (ap is_torn torn) ∙ here))
 
 -- a torn key of a processor is listed
 pub torn_listed : (x : Replica) (k b : ℕ) → b < x.capacity → x.at k (b + 1) ≡ Some Torn → torn_in x k ≢ []
 torn_listed x k b low torn none =
     let test : list_any (λ n. is_torn (x.at k (suc n))) (numbers_below x.capacity) ≡ false = sym (more_filter (entry_key k) (λ n. is_torn (x.at k n)) (numbers_below x.capacity)) ∙ ap is_more none in
-    let here = any_false (λ n. is_torn (x.at k (suc n))) (numbers_below x.capacity) test b (among_numbers x.capacity b low) in
+    let here = any_false (λ n. is_torn (x.at k (suc n))) (numbers_below x.capacity) test b (below_among x.capacity b low) in
     let at : x.at k (suc b) ≡ Some Torn = subst (λ (n : ℕ). x.at k n ≡ Some Torn) (let next : b + 1 ≡ suc b = omega arith in next) torn in
     true≢false (sym (ap is_torn at) ∙ here)
 

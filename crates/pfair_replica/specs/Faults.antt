@@ -1,11 +1,10 @@
 -- What a take and a merge answer.
-use Rattle.std.specs.Prelude.{ℕ, ◌≡◌, ◌≢◌, ◌<◌, ◌≤◌, ◌⊎◌, refl, Some, None}
-use Rattle.std.proofs.Common.{inl, inr}
+use Rattle.std.specs.Prelude.{ℕ, ◌≡◌, ◌≢◌, ◌<◌, ◌≤◌, ◌⊎◌, Some, None}
 use Rattle.pfair_lattice.specs.declared.flat.Flat.TheVariants.{One}
 use Rattle.pfair_lattice.specs.Held.{Held}
 use Rattle.pfair_entry.specs.Entry.{Logged}
 use Rattle.pfair_replica.specs.Replica.{Replica, join, Below}
-use Rattle.pfair_replica.specs.HeldRows.{HeldRows, held, replica_of, SameShape}
+use Rattle.pfair_replica.specs.HeldRows.{HeldRows, held, SameShape}
 use Rattle.pfair_replica.specs.declared.answer.Taken.{Taken}
 use Rattle.pfair_replica.specs.declared.answer.Taken.TheVariants as taken
 use Rattle.pfair_replica.specs.declared.answer.TakeFault.{TakeFault}
@@ -37,14 +36,6 @@ HoldsMore x y = (k : ℕ) × (n : ℕ) × (held x k n ≡ None) × (held y k n �
 abbrev pub IsMergeFaultOf : HeldRows → HeldRows → MergeFault → Type 0
 IsMergeFaultOf x y merge.OtherShape = SameShape x y → ⊥
 IsMergeFaultOf x y merge.Memory = SameShape x y × HoldsMore x y
-
--- so y isn't below x
-pub more_is_not_below : (x y : HeldRows) → HoldsMore x y → Below (replica_of y) (replica_of x) → ⊥
-more_is_not_below x y (k, n, none, some) below = some (by (held y k n) refl)
-  where
-    by : (c : Held Logged) → held y k n ≡ c → held y k n ≡ None
-    by None e = e
-    by (Some c) e = elim (below k n c e) [ inl h ↦ absurd (cc) | inr h ↦ absurd (cc) ]
 
 -- now is old with a part of other joined in, and joining other again gives what joining it to old gives
 pub record IsPartlyMerged (old other now : Replica) : Type 0 where

@@ -1,4 +1,5 @@
 pub mod Agenda
+pub mod Among
 pub mod Counters
 pub mod Faults
 pub mod HeldAfter

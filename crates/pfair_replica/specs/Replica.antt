@@ -1,5 +1,5 @@
 -- Replicas, and how far each processor has committed itself.
-use Rattle.std.specs.Prelude.{ℕ, zero, suc, ◌≡◌, ◌≢◌, ◌+◌, ◌≤◌, ◌<◌, min, Bool, true, false, nat_lt, nat_le, ◌==◌, List, [], ◌∷◌, ◌++◌, map, filter, find, length, flat_map, fold, is_none, IsSome, Option, Some, None, if◌then◌else◌}
+use Rattle.std.specs.Prelude.{ℕ, zero, suc, ◌≡◌, ◌≢◌, ◌+◌, ◌≤◌, ◌<◌, min, Bool, true, false, nat_lt, nat_le, ◌==◌, List, [], ◌∷◌, ◌++◌, map, filter, find, length, drop, flat_map, fold, is_none, IsSome, Option, Some, None, if◌then◌else◌}
 use Rattle.std.specs.List.{list_any}
 use Rattle.pfair_lattice.specs.declared.flat.Flat.{Flat}
 use Rattle.pfair_lattice.specs.declared.flat.Flat.TheVariants.{One, Torn}
@@ -67,15 +67,14 @@ goes_on (Some Torn) floor = None
 goes_on None floor = None
 
 -- such an entry and what follows it, or nothing
-abbrev pub run_on : Held Logged → ℕ → (ℕ → List Logged) → List Logged
-run_on (Some (One e)) floor rest = if nat_le floor e.floor then e ∷ rest e.floor else []
-run_on (Some Torn) floor rest = []
-run_on None floor rest = []
+abbrev pub run_on : Option Logged → (ℕ → List Logged) → List Logged
+run_on None rest = []
+run_on (Some e) rest = e ∷ rest e.floor
 
 -- the longest run of a row's entries from number n on, at most `left` of them, none torn, whose floors never fall
 abbrev pub run_from : (ℕ → Held Logged) → (left n floor : ℕ) → List Logged
 run_from row zero n floor = []
-run_from row (suc left) n floor = run_on (row n) floor (run_from row left (suc n))
+run_from row (suc left) n floor = run_on (goes_on (row n) floor) (run_from row left (suc n))
 
 -- the longest run of entries 1..n of a processor, none torn, whose floors never fall
 abbrev pub sound_beginning : Replica → ℕ → List Logged
@@ -109,6 +108,10 @@ said_by t k n (Some s) = if s.0 == t then record { processor = k; number = n; an
 abbrev pub said_in : (t k n : ℕ) → List Logged → List Said
 said_in t k n [] = []
 said_in t k n (e ∷ es) = said_by t k n e.said ++ said_in t k (suc n) es
+
+-- in the sound beginning of processor k behind the first `from` entries
+abbrev pub said_behind : Replica → (t k from : ℕ) → List Said
+said_behind x t k from = said_in t k (from + 1) (drop from (sound_beginning x k))
 
 -- the announcements stamped t in the sound beginnings, by processor and number
 abbrev pub said : Replica → ℕ → List Said

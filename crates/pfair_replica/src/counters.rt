@@ -96,8 +96,8 @@ impl Counters {
     }
 }
 
-/// The entry that goes on a run with this last floor.
-pub(crate) fn going_on(rows: &Rows, processor: u8, number: u32, floor: u64) -> Option<Entry>
+// The entry that goes on a run with this last floor.
+fn going_on(rows: &Rows, processor: u8, number: u32, floor: u64) -> Option<Entry>
     ensures { result ≡ goes_on (held_in rows.now processor number) floor }
 {
     match held_at(rows, processor, number) {

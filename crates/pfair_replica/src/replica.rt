@@ -8,7 +8,7 @@
 ghost use Rattle.std.specs.Prelude.{◌≡◌, ◌≢◌, ◌≤◌, ◌↔◌, ◌⊎◌, ◌++◌, ℕ, [], length, slice_get, is_some, IsSome, IsTrue, IfOk, IfErr, OnOk, OnErr, Ok, Err, Some};
 ghost use Rattle.pfair_lattice.specs.declared.flat.Flat.TheVariants.{One};
 ghost use Rattle.pfair_entry.specs.Entry.{Logged, IsEntry};
-ghost use Rattle.pfair_replica.specs.Replica.{IsReplica, join, with_entry, empty_replica, Below, goes_on, sound_beginning, mark, frontier, missing, IsLeastMissing, said_by, said_in, said, is_torn, has_torn, torn_in, torn_keys, fallen_in, fallen_keys};
+ghost use Rattle.pfair_replica.specs.Replica.{IsReplica, join, with_entry, empty_replica, Below, sound_beginning, mark, frontier, missing, IsLeastMissing, said_by, said_behind, said, is_torn, has_torn, torn_in, torn_keys, fallen_in, fallen_keys};
 ghost use Rattle.pfair_replica.specs.Agenda.{said_at};
 ghost use Rattle.pfair_replica.specs.Offered.{taken, absorbed};
 ghost use Rattle.pfair_replica.specs.HeldRows.{held, replica_of, IsHeldRows, IsShape, SameShape};
@@ -16,7 +16,7 @@ ghost use Rattle.pfair_replica.specs.Faults.{IsKeyOf, IsTakenAs, IsTakeFaultOf, 
 
 use crate::agenda::Agenda;
 use crate::answer::{MergeFault, TakeFault, Taken};
-use crate::counters::{Counters, going_on};
+use crate::counters::Counters;
 use crate::key::{EntryKey, Faults};
 use crate::rows::{Rows, empty_rows, held_at, put_entry, row_le};
 use pfair_entry::Entry;
@@ -265,9 +265,29 @@ impl Replica {
     {
         let mut agenda = Agenda::new(self.alloc);
         for processor in 0..self.processors {
-            self.note_said(processor, &mut agenda)?;
+            self.note_said(processor, 0, &mut agenda)?;
         }
         Ok(agenda)
+    }
+
+    /// Notes in an agenda what a processor announces in its sound beginning behind the first
+    /// `from` entries of that, in order of numbers. It costs a look-up for each of the entries
+    /// behind these, and what [`Agenda::push`] costs for each announcement.
+    ///
+    /// # Errors
+    /// `AllocError` where memory was wanted and refused, which comes only where something is
+    /// announced there; a part of it may then be noted.
+    pub fn note_said(&self, processor: u8, from: u32, agenda: &mut Agenda) -> Result<(), AllocError>
+        ensures heard { OnOk result ((t : ℕ) → said_at agenda.new t ≡ said_at agenda.old t ++ said_behind (replica_of self.now) t processor from) }
+        ensures wanted { OnErr result ((t : ℕ) × (said_behind (replica_of self.now) t processor from ≢ [])) }
+    {
+        for place in from..self.sound_count(processor) {
+            match self.get(processor, place + 1) {
+                Some(Flat::One(entry)) => note_said_by(processor, place + 1, entry, agenda)?,
+                _ => unreachable!(),
+            }
+        }
+        Ok(())
     }
 
     /// What is wrong with the logs: every torn key, and every entry that ends a sound beginning by
@@ -334,31 +354,6 @@ impl Replica {
             Some(beginning) => (beginning.count, beginning.mark),
             None => (0, 0),
         }
-    }
-
-    // The entry that goes on a run with this last floor.
-    fn going_on(&self, processor: u8, number: u32, floor: u64) -> Option<Entry>
-        ensures { result ≡ goes_on (held self.now processor number) floor }
-    {
-        going_on(&self.rows, processor, number, floor)
-    }
-
-    // Notes in an agenda what a processor says in its sound beginning.
-    fn note_said(&self, processor: u8, agenda: &mut Agenda) -> Result<(), AllocError>
-        ensures heard { OnOk result ((t : ℕ) → said_at agenda.new t ≡ said_at agenda.old t ++ said_in t processor 1 (sound_beginning (replica_of self.now) processor)) }
-        ensures wanted { OnErr result ((t : ℕ) × (said_in t processor 1 (sound_beginning (replica_of self.now) processor) ≢ [])) }
-    {
-        let mut floor = 0;
-        for before in 0..self.capacity {
-            match self.going_on(processor, before + 1, floor) {
-                Some(entry) => {
-                    floor = entry.floor();
-                    note_said_by(processor, before + 1, entry, agenda)?;
-                }
-                None => return Ok(()),
-            }
-        }
-        Ok(())
     }
 }
 

@@ -167,6 +167,9 @@ fn an_agenda_has_what_is_said_by_slot(rt: HostRuntime) -> Result<(), Fail> {
     assert_eq!(&rt; agenda.at(5), [said(0, 2, name)].as_slice());
     assert!(&rt; agenda.at(4).is_empty());
     assert!(&rt; agenda.at(0).is_empty());
+    let mut behind = Agenda::new(rt.alloc());
+    x.note_said(1, 1, &mut behind)?;
+    assert_eq!(&rt; behind.at(3), [said(1, 2, name)].as_slice());
     Ok(())
 }
 

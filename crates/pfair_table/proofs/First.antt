@@ -1,6 +1,6 @@
 -- The first keys of the ready structure are the first eligible subtasks of the members.
 use Rattle.std.proofs.Common.{ℕ, ◌≤◌, ◌≡◌, refl, sym, ap, ◌∙◌, subst, inl, inr, Bool, true, false, cond, List, [], ◌∷◌, Option, Some, None}
-use Rattle.std.specs.Prelude.{T, ◌&&◌, IsTrue, map, filter, not, nat_le, if◌then◌else◌}
+use Rattle.std.specs.Prelude.{T, IsTrue, map, filter, not, nat_le, if◌then◌else◌}
 use Rattle.std.specs.List.{AllByRecursion}
 use Rattle.std.specs.declared.cmp.Ordering.{Ordering}
 use Rattle.std.specs.declared.cmp.Ordering.TheVariants.{Less, Equal, Greater}
@@ -17,10 +17,12 @@ use Rattle.pfair_order.specs.declared.Key.{Key}
 use Rattle.pfair_ready.specs.Names.{name_cmp}
 use Rattle.pfair_entry.specs.Same.{name_eq}
 use Rattle.pfair_entry.specs.Exact.{name_exact, name_itself}
-use Rattle.pfair_table.specs.Lists.{Among, Apart}
+use Rattle.pfair_replica.specs.Among.{Among, among_filter, filter_among, among_map, map_among, among_all}
+use Rattle.std.proofs.lemmas.Option.{none-some, same_Some}
+use Rattle.pfair_table.specs.Lists.{Apart}
 use Rattle.pfair_table.specs.Ranks.{first_by_rank}
 use Rattle.pfair_ready.specs.Waiting.{Held, released, without}
-use Rattle.pfair_table.proofs.Apart.{among_filter, filter_among, among_map, among_mapped, among_all, apart_filter, apart_map}
+use Rattle.pfair_table.proofs.Apart.{apart_filter, apart_map}
 use Rattle.pfair_table.proofs.Firsts.{among_first, apart_first, first_same}
 use Rattle.pfair_admission.specs.Member.{Member, is_departing, eligible_from, next_key}
 use Rattle.pfair_admission.specs.Admission.{member_named}
@@ -31,17 +33,11 @@ use Rattle.pfair_table.proofs.Queues.{found_named}
 -- ---- members by name
 
 found_among : (members : List Member) (name : Name) (m : Member) → member_named members name ≡ Some m → Among members m
-found_among [] name m e = absurd (none_some m e)
-  where
-    none_some : (m : Member) → None ≡ Some m → ⊥
-    none_some m e = cc
+found_among [] name m e = absurd (none-some m e)
 found_among (x ∷ members) name m e = by (name_eq name x.name) e (found_among members name m)
   where
-    one : (x m : Member) → Some x ≡ Some m → m ≡ x
-    one x m e = cc
-
     by : (b : Bool) → cond b (Some x) (member_named members name) ≡ Some m → (member_named members name ≡ Some m → Among members m) → Among (x ∷ members) m
-    by true e more = inl (one x m e)
+    by true e more = inl (sym (same_Some x m e))
     by false e more = inr (more e)
 
 found_own : (members : List Member) → Named members → (m : Member) → Among members m → member_named members m.name ≡ Some m
@@ -64,21 +60,12 @@ abbrev next_of : Member → ℕ × Key
 next_of m = (eligible_from m m.next, next_key m)
 
 queued_is : (o : Option Member) (from : ℕ) (key : Key) → queued o ≡ Some (from, key) → IsQueued o from key
-queued_is None from key e = absurd (none_some (from, key) e)
-  where
-    none_some : (e : ℕ × Key) → None ≡ Some e → ⊥
-    none_some e h = cc
+queued_is None from key e = absurd (none-some (from, key) e)
 queued_is (Some m) from key e = by (is_departing m) refl e
   where
-    none_some : (e : ℕ × Key) → None ≡ Some e → ⊥
-    none_some e h = cc
-
-    one : (d e : ℕ × Key) → Some d ≡ Some e → e ≡ d
-    one d e h = cc
-
     by : (b : Bool) → is_departing m ≡ b → cond b None (Some (next_of m)) ≡ Some (from, key) → IsQueued (Some m) from key
-    by true p h = absurd (none_some (from, key) h)
-    by false p h = (let s = one (eligible_from m m.next, next_key m) (from, key) h in record { m = m; found = refl; stays = p; from_is = ap (λ (d : ℕ × Key). d.0) s; key_is = ap (λ (d : ℕ × Key). d.1) s })
+    by true p h = absurd (none-some (from, key) h)
+    by false p h = (let s = sym (same_Some (next_of m) (from, key) h) in record { m = m; found = refl; stays = p; from_is = ap (λ (d : ℕ × Key). d.0) s; key_is = ap (λ (d : ℕ × Key). d.1) s })
 
 -- ---- the entries of a finite map
 
@@ -88,9 +75,6 @@ is_true false h = absurd h
 
 abbrev Named_entry : Type 0
 Named_entry = Name × (ℕ × Key)
-
-lt_parts : (a b : Bool) → IsTrue (a && b) → IsTrue a × IsTrue b
-lt_parts a b h = and_parts a b h
 
 below_each : (name : Name) (es : List Named_entry) → IsTrue (listed.below_all name_cmp name es) → (e : Named_entry) → Among es e → is_lt (name_cmp name e.0) ≡ true
 below_each name [] h e i = absurd i
@@ -113,17 +97,11 @@ entry_found (d ∷ es) s e (inr h) =
     ap (λ b. cond b (Some d.1) (listed.find name_cmp e.0 es)) (not_tied d.0 e.0 (below_each d.0 es (and_parts _ _ s).0 e h)) ∙ entry_found es (and_parts _ _ s).1 e h
 
 entry_among : (es : List Named_entry) (name : Name) (v : ℕ × Key) → listed.find name_cmp name es ≡ Some v → Among (map (λ (e : Named_entry). e.1) es) v
-entry_among [] name v e = absurd (none_some v e)
-  where
-    none_some : (e : ℕ × Key) → None ≡ Some e → ⊥
-    none_some e h = cc
+entry_among [] name v e = absurd (none-some v e)
 entry_among (d ∷ es) name v e = by (eq_by_cmp name_cmp name d.0) e (entry_among es name v)
   where
-    one : (d e : ℕ × Key) → Some d ≡ Some e → e ≡ d
-    one d e h = cc
-
     by : (b : Bool) → cond b (Some d.1) (listed.find name_cmp name es) ≡ Some v → (listed.find name_cmp name es ≡ Some v → Among (map (λ (e : Named_entry). e.1) es) v) → Among (d.1 ∷ map (λ (e : Named_entry). e.1) es) v
-    by true e more = inl (one d.1 v e)
+    by true e more = inl (sym (same_Some d.1 v e))
     by false e more = inr (more e)
 
 -- where each entry's key has the entry's name, no two keys have one name
@@ -160,7 +138,7 @@ module _ (n : ℕ) (members : List Member) (waiting : Held) (named : Named membe
       let q = held_is v.0 v.1 in
       let soon : nat_le (eligible_from q.m q.m.next) n ≡ true = ap (λ r. nat_le r n) (sym (ap (λ (e : ℕ × Key). e.0) v.2 ∙ q.from_is)) ∙ u.1 in
       subst (Among (eligible n members)) (sym (t.2 ∙ ap (λ (e : ℕ × Key). e.1) v.2 ∙ q.key_is))
-      (among_mapped next_key (filter (is_eligible n) members) q.m
+      (map_among next_key (filter (is_eligible n) members) q.m
       (filter_among (is_eligible n) members q.m (found_among members v.0.0 q.m q.found) (and_from (not (is_departing q.m)) (nat_le (eligible_from q.m q.m.next) n) (ap not q.stays) soon)))
 
   pub eligible_member : (k : Key) → Among (eligible n members) k → (m : Member) × Among members m × (k ≡ next_key m) × (is_departing m ≡ false) × (nat_le (eligible_from m m.next) n ≡ true)
@@ -177,7 +155,7 @@ module _ (n : ℕ) (members : List Member) (waiting : Held) (named : Named membe
       let got : finmap.get waiting t.0.name ≡ Some e = queue t.0.name ∙ ap queued (found_own members named t.0 t.1) ∙ ap (λ d. if d then None else Some e) t.3 in
       let held = entry_among (entries waiting) t.0.name e (sym (get-entries waiting t.0.name) ∙ got) in
       subst (Among (released n waiting)) (sym t.2)
-      (among_mapped (λ (e : ℕ × Key). e.1) (filter (λ (e : ℕ × Key). nat_le e.0 n) (finmap.values waiting)) e
+      (map_among (λ (e : ℕ × Key). e.1) (filter (λ (e : ℕ × Key). nat_le e.0 n) (finmap.values waiting)) e
       (filter_among (λ (e : ℕ × Key). nat_le e.0 n) (finmap.values waiting) e held t.4))
 
   -- So what the ready structure gives first are the first eligible subtasks.

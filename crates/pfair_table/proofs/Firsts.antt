@@ -10,7 +10,9 @@ use Rattle.pfair_order.proofs.RankLemmas.{place_of, first_pairs, first_within}
 use Rattle.pfair_order.proofs.InOrder.{by_rank_first, by_rank_of_same}
 use Rattle.pfair_order.proofs.NamesApart.{once_from_names, first_names}
 use Rattle.pfair_table.specs.Ranks.{first_by_rank}
-use Rattle.pfair_table.proofs.Apart.{Among, Apart, among_contains, apart_from_pairs, contains_among, pairs_from_apart}
+use Rattle.pfair_replica.specs.Among.{Among, among_contains, contains_among}
+use Rattle.pfair_table.specs.Lists.{Apart}
+use Rattle.pfair_table.proofs.Apart.{apart_from_pairs, pairs_from_apart}
 
 -- no two keys have one name
 abbrev pub NamesApart : List Key → Type 0

@@ -5,8 +5,7 @@ use Rattle.std.proofs.lemmas.List.Sums.{length-filter}
 use Rattle.std.proofs.lemmas.List.Sums.{count_by-le-length}
 use Rattle.std.proofs.lemmas.Bool.{true≢false, eqb-true, eq-eqb, ne_eqb, or_cases, or_left, or_right, cases_lt}
 use Rattle.pfair_replica.specs.Replica.{numbers_below}
-use Rattle.pfair_table.proofs.Apart.{Among, filter_among}
-use Rattle.pfair_table.proofs.TableLaws.{among_below}
+use Rattle.pfair_replica.specs.Among.{Among, filter_among, among_below}
 use Rattle.pfair_table.specs.Places.{is_used, free_place}
 
 -- ---- the first that passes

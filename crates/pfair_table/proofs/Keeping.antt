@@ -1,14 +1,13 @@
 -- The dispatcher's invariant through plans.
-use Rattle.std.proofs.Common.{ℕ, zero, suc, min, ◌+◌, ◌≤◌, ◌<◌, ◌≡◌, refl, sym, ap, ◌∙◌, subst, arith, Bool, false, List, [], ◌∷◌, ◌++◌, length, map, inl, Option, Some, None}
+use Rattle.std.proofs.Common.{ℕ, zero, suc, min, ◌+◌, ◌≤◌, ◌<◌, ◌≡◌, refl, sym, ap, ◌∙◌, subst, arith, Bool, false, List, [], ◌∷◌, ◌++◌, length, map, inl, Option, None}
 use Rattle.std.proofs.lemmas.List.{map-append}
+use Rattle.std.proofs.lemmas.Option.{none-some}
 use Rattle.pfair_replica.specs.Replica.{Replica, IsReplica, Untorn, has_torn, frontier, empty_replica, numbers_below}
 use Rattle.std.specs.Option.{ForSome}
 use Rattle.std.specs.List.{AllByRecursion}
 use Rattle.std.specs.FinMap as finmap
 use Rattle.std.specs.FinMap.{get-empty}
-use Rattle.pfair_lattice.specs.declared.flat.Flat.{Flat}
 use Rattle.pfair_lattice.specs.declared.flat.Flat.TheVariants.{One, Torn}
-use Rattle.pfair_entry.specs.Entry.{Logged}
 use Rattle.pfair_ready.specs.Names.{name_cmp}
 use Rattle.pfair_admission.specs.Member.{Member}
 use Rattle.pfair_admission.specs.Admission.{member_named}
@@ -91,13 +90,10 @@ start_step s x roster now waiting e now_is waiting_is =
         named = subst Named (sym ms) tt;
         queue = λ name. ap (λ (h : Held). finmap.get h name) waiting_is ∙ get-empty name_cmp name ∙ sym (ap (λ (l : List Member). queued (member_named l name)) ms);
         by_now = omega (arith, now_is);
-        order = subst (λ (o : Option ℕ). ForSome o (λ last. last ≤ 0)) (sym (ap (λ (r : Roster). r.last_slot) e)) (λ y h. absurd (none_some y h));
+        order = subst (λ (o : Option ℕ). ForSome o (λ last. last ≤ 0)) (sym (ap (λ (r : Roster). r.last_slot) e)) (λ y h. absurd (none-some y h));
         few = subst (AllByRecursion (λ m. m.next ≤ 0 + 1)) (sym ms) tt;
       };
     }
-  where
-    none_some : (y : ℕ) → None ≡ Some y → ⊥
-    none_some y h = cc
 
 -- nothing planned of a replica that holds nothing
 pub start_kept : (s : Settings) (x : Replica) (roster : Roster) (now : ℕ) (waiting : Held) → x ≡ empty_replica s.processors x.capacity → x.capacity ≤ 4096 → IsInStep s x 0 roster now waiting → IsKept s x [] [] false roster now waiting
@@ -110,9 +106,9 @@ start_kept s x roster now waiting e few step =
       of = x;
       room = few;
       plan = record {
-        is_of = record { replica = record { in_range = λ k n c h. absurd (none_held c (sym (none k n) ∙ h)); stamped = λ k n c h. absurd (none_held (One c) (sym (none k n) ∙ h)) }; processors = many };
+        is_of = record { replica = record { in_range = λ k n c h. absurd (none-some c (sym (none k n) ∙ h)); stamped = λ k n c h. absurd (none-some (One c) (sym (none k n) ∙ h)) }; processors = many };
         kept = λ k n c h. inl h;
-        whole = λ k n h. none_held Torn (sym (none k n) ∙ h);
+        whole = λ k n h. none-some Torn (sym (none k n) ∙ h);
         early = omega arith;
         wanted = omega arith;
         tables_are = refl;
@@ -120,6 +116,3 @@ start_kept s x roster now waiting e few step =
       };
       step = λ _. step;
     }
-  where
-    none_held : (c : Flat Logged) → None ≡ Some c → ⊥
-    none_held c h = cc

@@ -8,7 +8,9 @@ use Rattle.pfair_entry.specs.Same.{name_eq}
 use Rattle.pfair_entry.specs.declared.announcement.Announcement.{Announcement}
 use Rattle.pfair_entry.specs.declared.announcement.Announcement.TheVariants.{Arrive, Depart, Late}
 use Rattle.pfair_entry.specs.Exact.{name_itself}
-use Rattle.pfair_table.proofs.Apart.{Among, Apart, apart_append, apart_filter, apart_map}
+use Rattle.pfair_replica.specs.Among.{Among}
+use Rattle.pfair_table.specs.Lists.{Apart}
+use Rattle.pfair_table.proofs.Apart.{apart_append, apart_filter, apart_map}
 use Rattle.pfair_admission.specs.Admission.{Machine, is_named, member_named, arrival, decision, newcomer, change, effect, present, is_freed, decided, all_decided, boundary}
 use Rattle.pfair_admission.specs.Member.{Member}
 use Rattle.pfair_admission.specs.declared.decision.Decision.{Decision}

@@ -12,7 +12,8 @@ use Rattle.pfair_table.specs.declared.pick.Pick.{Pick}
 use Rattle.pfair_table.specs.Laws.{EachNameOnce}
 use Rattle.pfair_table.specs.Places.{place_of, kept_places, all_kept, free_place, filled, places_after, places_from}
 use Rattle.pfair_table.specs.PlaceLaws.{IsFit, AllDiffer, ArePlacesOf, PlacesAreKept, PlacesFollowTables}
-use Rattle.pfair_table.proofs.Apart.{Among, all_among, among_all}
+use Rattle.pfair_replica.specs.Among.{Among, all_among, among_all}
+use Rattle.std.proofs.lemmas.Option.{none-some, same_Some}
 use Rattle.pfair_table.proofs.FreePlaces.{among_used, free_place_is_free}
 
 -- ---- a task that goes on running
@@ -177,9 +178,6 @@ differ_after m before old now below differ fit =
     let kept = kept_places before old now in
     filled_differ m (all_kept kept) kept (λ j i. below j (kept_among before old now j i)) (room_after m before old now fit.0) (kept_differ before old differ now fit.1) (λ k h. h)
 
-some_same : {A : Type 0} (x y : A) → Some x ≡ Some y → x ≡ y
-some_same x y h = cc
-
 all_differ : (places : List ℕ) → Differ places → AllDiffer places
 all_differ [] d = tt
 all_differ (k ∷ places) d = (all_among (λ j. k ≢ j) places d.0, all_differ places d.1)
@@ -202,8 +200,8 @@ kept_on : (m : ℕ) (before : Table) (old : List ℕ) → ((k : ℕ) → Among o
 kept_on m before old below differ [] fit t rows places e f = absurd (cc)
 kept_on m before old below differ (now ∷ tables) fit zero rows places e f =
     let here = places_after before old now in
-    let same : now ≡ rows = some_same now rows e in
-    let alike : here ≡ places = some_same here places f in
+    let same : now ≡ rows = same_Some now rows e in
+    let alike : here ≡ places = same_Some here places f in
     let are : ArePlacesOf m now here = are_places m before old now below differ fit.0 in (
       subst (λ (r : Table). ArePlacesOf m r places) same (subst (ArePlacesOf m now) alike are),
       subst (λ (r : Table). (next : Table) (there : List ℕ) → slice_get tables zero ≡ Some next → slice_get (places_from now here tables) zero ≡ Some there
@@ -217,8 +215,8 @@ kept_on m before old below differ (now ∷ tables) fit zero rows places e f =
         → (name : Name) → names_task name now ≡ true → names_task name next ≡ true → place_of now here name ≡ place_of next there name
     stays_first now here long [] next there e f name h g = absurd (cc)
     stays_first now here long (x ∷ tables) next there e f name h g =
-        let same : x ≡ next = some_same x next e in
-        let alike : places_after now here x ≡ there = some_same (places_after now here x) there f in
+        let same : x ≡ next = same_Some x next e in
+        let alike : places_after now here x ≡ there = same_Some (places_after now here x) there f in
         let t = has_place now here long name h in
         let kept = kept_places now here x in
         t.1 ∙ sym (kept_place (all_kept kept) now here x name t.0 t.1 (ap (names_task name) same ∙ g)) ∙ (λ i. place_of (same i) (alike i) name)
@@ -232,17 +230,14 @@ places_are_kept m tables fit = kept_on m [] [] (λ k h. absurd h) tt tables fit
 
 follow_on : (before : Table) (old : List ℕ) (xs ys : List Table) (t : ℕ) → ((u : ℕ) → u ≤ t → slice_get xs u ≡ slice_get ys u) → slice_get (places_from before old xs) t ≡ slice_get (places_from before old ys) t
 follow_on before old [] [] t same = refl
-follow_on before old [] (y ∷ ys) t same = absurd (none_some y (same zero (omega arith)))
-  where
-    none_some : (y : Table) → None ≡ Some y → ⊥
-    none_some y e = cc
+follow_on before old [] (y ∷ ys) t same = absurd (none-some y (same zero (omega arith)))
 follow_on before old (x ∷ xs) [] t same = absurd (some_none x (same zero (omega arith)))
   where
     some_none : (x : Table) → Some x ≡ None → ⊥
     some_none x e = cc
-follow_on before old (x ∷ xs) (y ∷ ys) zero same = ap (λ (r : Table). Some (places_after before old r)) (some_same x y (same zero (omega arith)))
+follow_on before old (x ∷ xs) (y ∷ ys) zero same = ap (λ (r : Table). Some (places_after before old r)) (same_Some x y (same zero (omega arith)))
 follow_on before old (x ∷ xs) (y ∷ ys) (suc t) same =
-    ap (λ (r : Table). slice_get (places_from r (places_after before old r) xs) t) (some_same x y (same zero (omega arith)))
+    ap (λ (r : Table). slice_get (places_from r (places_after before old r) xs) t) (same_Some x y (same zero (omega arith)))
     ∙ follow_on y (places_after before old y) xs ys t (λ u l. same (suc u) (omega (arith, l)))
 
 pub places_follow_tables : PlacesFollowTables

@@ -1,5 +1,5 @@
 -- The places of one more table, and those of the tables that a dispatcher plans.
-use Rattle.std.proofs.Common.{ℕ, zero, suc, ◌-◌, ◌<◌, ◌≤◌, ◌≡◌, refl, sym, ap, ◌∙◌, subst, arith, List, [], ◌∷◌, ◌++◌, length, map, Some, None}
+use Rattle.std.proofs.Common.{ℕ, zero, suc, ◌-◌, ◌<◌, ◌≤◌, ◌≡◌, refl, sym, ap, ◌∙◌, subst, arith, List, [], ◌∷◌, ◌++◌, length, map, Some}
 use Rattle.std.specs.Prelude.{slice_get}
 use Rattle.std.specs.List.{AllByRecursion}
 use Rattle.pfair_replica.specs.Replica.{Replica, numbers_below}
@@ -9,7 +9,7 @@ use Rattle.pfair_table.specs.Places.{places_after, places_from, places_of}
 use Rattle.pfair_table.specs.PlaceLaws.{IsFit}
 use Rattle.pfair_table.specs.Planned.{last_or}
 use Rattle.pfair_table.specs.Refinement.{IsPlanOf}
-use Rattle.pfair_table.proofs.Apart.{Among, all_among, among_map}
+use Rattle.pfair_replica.specs.Among.{Among, all_among, among_map}
 use Rattle.pfair_table.proofs.TableLaws.{tables_are_ordered}
 use Rattle.pfair_table.proofs.Keeping.{tables_listed}
 use Rattle.pfair_table.proofs.PlacesKept.{below_after}
@@ -22,13 +22,6 @@ last_is f d (x ∷ []) zero y e h = ap f (let same : x ≡ y = cc in same)
 last_is f d (x ∷ []) (suc n) y e h = absurd (omega (arith, e))
 last_is f d (x ∷ z ∷ zs) zero y e h = absurd (omega (arith, e))
 last_is f d (x ∷ z ∷ zs) (suc n) y e h = last_is f d (z ∷ zs) n y (omega (arith, e)) h
-
-pub none_is : {A : Type 0} (xs : List A) (n : ℕ) → n ≡ length xs - 1 → None ≡ slice_get xs n → xs ≡ []
-none_is [] n e h = refl
-none_is (x ∷ []) zero e h = absurd (cc)
-none_is (x ∷ []) (suc n) e h = absurd (omega (arith, e))
-none_is (x ∷ z ∷ zs) zero e h = absurd (omega (arith, e))
-none_is (x ∷ z ∷ zs) (suc n) e h = (let none = ap length (none_is (z ∷ zs) n (omega (arith, e)) h) in absurd (omega (arith, none)))
 
 last_all : {A : Type 0} (P : A → Type 0) (d : A) (xs : List A) → P d → AllByRecursion P xs → P (last_or d xs)
 last_all P d [] h all = h

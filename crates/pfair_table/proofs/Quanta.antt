@@ -1,15 +1,17 @@
 -- The loop over the keys that have a quantum.
-use Rattle.std.proofs.Common.{ℕ, zero, suc, ◌+◌, ◌≤◌, ◌<◌, ◌≡◌, refl, sym, ap, ◌∙◌, subst, arith, inl, inr, Bool, true, false, List, [], ◌∷◌, ◌++◌, length, get_or, drop, take, Option, Some, None}
+use Rattle.std.proofs.Common.{ℕ, ◌+◌, ◌≤◌, ◌<◌, ◌≡◌, refl, sym, ap, ◌∙◌, subst, inl, inr, Bool, true, false, List, [], ◌∷◌, ◌++◌, length, get_or, drop, take, Option, Some, None}
 use Rattle.std.specs.Prelude.{◌≢◌, ◌||◌, not, map, if◌then◌else◌}
 use Rattle.std.specs.Option.{ForSome, option_map}
 use Rattle.std.specs.FinMap as finmap
-use Rattle.std.proofs.lemmas.List.{map-append}
+use Rattle.std.proofs.lemmas.List.{map-append, take_more, take-append-drop}
+use Rattle.std.proofs.lemmas.Option.{same_Some}
 use Rattle.std.proofs.lemmas.Bool.{false_from_ne_true, or_parts}
 use Rattle.pfair_ready.specs.Names.{NameValue as Name}
 use Rattle.pfair_order.specs.declared.Key.{Key}
 use Rattle.pfair_entry.specs.Same.{name_eq}
 use Rattle.pfair_entry.specs.Exact.{name_exact, name_itself}
-use Rattle.pfair_table.specs.Lists.{Among, Apart}
+use Rattle.pfair_replica.specs.Among.{Among, among_right}
+use Rattle.pfair_table.specs.Lists.{Apart}
 use Rattle.pfair_ready.specs.Waiting.{Held}
 use Rattle.pfair_admission.specs.Member.{Member}
 use Rattle.pfair_admission.specs.Admission.{member_named, ran, with_quantum, quantum_of}
@@ -21,9 +23,6 @@ use Rattle.pfair_table.specs.Table.{Table, names_task, pick, index_of, all_ran}
 use Rattle.pfair_table.specs.Queue.{queued, IsQueueWithout, IsToldOf, MayRun, has_key_of}
 use Rattle.pfair_table.proofs.Queues.{found_other, found_changed, absent_removed, told_next, drop_item}
 
-label : Key → Name
-label k = k.name
-
 -- the quanta of so many keys are given: the rows, the members, and what waits
 pub record RunSoFar (start : Roster) (first : List Key) (i : ℕ) (roster : Roster) (table : Table) (waiting : Held) : Type 0 where
   pub rows : table ≡ map (pick start.members) (take i first)
@@ -33,23 +32,7 @@ pub record RunSoFar (start : Roster) (first : List Key) (i : ℕ) (roster : Rost
 -- ---- lists
 
 take_item : {A : Type 0} (xs : List A) (i : ℕ) (x : A) → i < length xs → x ≡ get_or xs i x → take (i + 1) xs ≡ take i xs ++ x ∷ []
-take_item {A} xs i x l e = ap (λ n. take n xs) (let n : i + 1 ≡ suc i = omega arith in n) ∙ at xs i l e
-  where
-    at : (xs : List A) (i : ℕ) → i < length xs → x ≡ get_or xs i x → take (suc i) xs ≡ take i xs ++ x ∷ []
-    at [] i l e = absurd (omega (arith, l))
-    at (y ∷ []) zero l e = λ j. sym e j ∷ []
-    at (y ∷ z ∷ ys) zero l e = λ j. sym e j ∷ []
-    at (y ∷ ys) (suc i) l e = ap (λ zs. y ∷ zs) (at ys i (omega (arith, l)) e)
-
-take_drop : {A : Type 0} (i : ℕ) (xs : List A) → take i xs ++ drop i xs ≡ xs
-take_drop zero [] = refl
-take_drop zero (x ∷ xs) = refl
-take_drop (suc i) [] = refl
-take_drop (suc i) (x ∷ xs) = ap (λ ys. x ∷ ys) (take_drop i xs)
-
-among_right : {A : Type 0} (xs ys : List A) (x : A) → Among ys x → Among (xs ++ ys) x
-among_right [] ys x h = h
-among_right (y ∷ xs) ys x h = inr (among_right xs ys x h)
+take_item xs i x l e = take_more xs i x l ∙ ap (λ y. take i xs ++ y ∷ []) (sym e)
 
 -- around one key the others have other names
 apart_before : (xs : List Key) (k : Key) (ys : List Key) → Apart (λ (k : Key). k.name) (xs ++ k ∷ ys) → has_key_of k.name xs ≡ false
@@ -70,9 +53,6 @@ rows_named : (members : List Member) (name : Name) (keys : List Key) → names_t
 rows_named members name [] = refl
 rows_named members name (k ∷ keys) = ap (λ b. name_eq name k.name || b) (rows_named members name keys)
 
-one_some : {A : Type 0} (x y : A) → Some x ≡ Some y → x ≡ y
-one_some x y e = cc
-
 -- ---- members that ran
 
 found_after : (name : Name) (picks : Table) (members : List Member) → names_task name picks ≡ false → member_named (all_ran picks members) name ≡ member_named members name
@@ -87,7 +67,7 @@ all_ran_push (q ∷ picks) p members = all_ran_push picks p (ran q.name members)
 
 module _ (start : Roster) (first : List Key) (apart : Apart (λ (k : Key). k.name) first) (i : ℕ) (key : Key) (inside : i < length first) (item : key ≡ get_or first i key) where
   split : take i first ++ key ∷ drop (i + 1) first ≡ first
-  split = ap (λ ys. take i first ++ ys) (sym (drop_item first i key inside item)) ∙ take_drop i first
+  split = ap (λ ys. take i first ++ ys) (sym (drop_item first i key inside item)) ∙ take-append-drop i first
 
   split_apart : Apart (λ (k : Key). k.name) (take i first ++ key ∷ drop (i + 1) first)
   split_apart = subst (Apart (λ (k : Key). k.name)) (sym split) apart
@@ -104,7 +84,7 @@ module _ (start : Roster) (first : List Key) (apart : Apart (λ (k : Key). k.nam
 
   -- so it may run
   pub may_run : (roster : Roster) (table : Table) (waiting : Held) → RunSoFar start first i roster table waiting → MayRun start.members key → ForSome (member_named roster.members key.name) (λ m. m.next ≤ 1000000)
-  may_run roster table waiting so may x e = subst (λ (m : Member). m.next ≤ 1000000) (one_some may.0 x (sym (still_found roster table waiting so ∙ may.1) ∙ e)) may.3
+  may_run roster table waiting so may x e = subst (λ (m : Member). m.next ≤ 1000000) (same_Some may.0 x (sym (still_found roster table waiting so ∙ may.1) ∙ e)) may.3
 
   -- and its quantum is that of its next subtask
   pub runs_next : (roster : Roster) (table : Table) (waiting : Held) → RunSoFar start first i roster table waiting → (may : MayRun start.members key) → option_map quantum_of (running (member_named roster.members key.name)) ≡ Some (quantum_of may.0)

@@ -1,10 +1,8 @@
 -- The queue of the members' next subtasks, through boundaries and quanta.
 use Rattle.std.proofs.Common.{ℕ, zero, suc, ◌+◌, ◌<◌, ◌≡◌, refl, sym, ap, ◌∙◌, subst, arith, inl, inr, Bool, true, false, cond, List, [], ◌∷◌, ◌++◌, length, get_or, drop, Option, Some, None}
 use Rattle.std.specs.Prelude.{◌||◌, find, not, is_some, if◌then◌else◌}
-use Rattle.std.specs.declared.cmp.Ordering.{Ordering}
-use Rattle.std.specs.declared.cmp.Ordering.TheVariants.{Less, Equal, Greater}
 use Rattle.std.specs.Ordering.{is_eq, eq_by_cmp}
-use Rattle.std.specs.Cmp.{tied_itself, both_ways}
+use Rattle.std.specs.Cmp.{Equal-is, tied_itself, both_ways}
 use Rattle.std.proofs.lemmas.Cmp.{nat_list_cmp_total}
 use Rattle.std.specs.FinMap as finmap
 use Rattle.std.specs.FinMap.{get-insert, get-remove, same_map}
@@ -20,7 +18,8 @@ use Rattle.pfair_entry.specs.declared.said.Said.{Said}
 use Rattle.pfair_entry.specs.declared.announcement.Announcement.{Announcement}
 use Rattle.pfair_entry.specs.declared.announcement.Announcement.TheVariants.{Arrive, Depart, Late}
 use Rattle.pfair_entry.specs.Exact.{name_exact, name_itself}
-use Rattle.pfair_table.specs.Lists.{Among}
+use Rattle.pfair_replica.specs.Among.{Among}
+use Rattle.std.proofs.lemmas.Option.{none-some, same_Some}
 use Rattle.pfair_ready.specs.Waiting.{Held}
 use Rattle.pfair_admission.specs.Admission.{Machine, is_named, member_named, newcomer, change, effect, decision, present, is_freed, all_decided, boundary, announcements}
 use Rattle.pfair_admission.specs.Member.{Member, is_departing, eligible_from, next_key}
@@ -31,16 +30,11 @@ use Rattle.pfair_table.proofs.Members.{named_present, named_effect}
 
 -- ---- names
 
-tied : (r : Ordering) → is_eq r ≡ true → r ≡ Equal
-tied Less e = absurd (true≢false (sym e))
-tied Equal e = refl
-tied Greater e = absurd (true≢false (sym e))
-
 -- the order of names ties where they are one
 pub same_name : (a b : Name) → eq_by_cmp name_cmp a b ≡ name_eq a b
 same_name a b =
     both_ways (eq_by_cmp name_cmp a b) (name_eq a b)
-    (λ e. subst (λ c. name_eq a c ≡ true) (exact_bytes a b (tied (name_cmp a b) e)) (name_itself a))
+    (λ e. subst (λ c. name_eq a c ≡ true) (exact_bytes a b ((Equal-is (name_cmp a b)).0 e)) (name_itself a))
     (λ e. subst (λ c. eq_by_cmp name_cmp a c ≡ true) (name_exact a b e) (ap is_eq (tied_itself nat_list_cmp_total a)))
 
 -- ---- what is found
@@ -67,18 +61,12 @@ found_other name other f keeps e (m ∷ members) = by (name_eq other m.name) ref
 
 -- and its own member is found changed
 pub found_changed : (name : Name) (f : Member → Member) → ((m : Member) → (f m).name ≡ m.name) → (members : List Member) (m : Member) → member_named members name ≡ Some m → member_named (change name f members) name ≡ Some (f m)
-found_changed name f keeps [] m e = absurd (none_some m e)
-  where
-    none_some : (m : Member) → None ≡ Some m → ⊥
-    none_some m e = cc
+found_changed name f keeps [] m e = absurd (none-some m e)
 found_changed name f keeps (x ∷ members) m e = by (name_eq name x.name) refl e (found_changed name f keeps members m)
   where
-    one : (x m : Member) → Some x ≡ Some m → x ≡ m
-    one x m e = cc
-
     by : (b : Bool) → name_eq name x.name ≡ b → cond b (Some x) (member_named members name) ≡ Some m → (member_named members name ≡ Some m → member_named (change name f members) name ≡ Some (f m))
         → find (is_named name) ((if b then f x else x) ∷ change name f members) ≡ Some (f m)
-    by true q e more = ap (λ b. cond b (Some (f x)) (member_named (change name f members) name)) (ap (name_eq name) (keeps x) ∙ q) ∙ ap (λ (y : Member). Some (f y)) (one x m e)
+    by true q e more = ap (λ b. cond b (Some (f x)) (member_named (change name f members) name)) (ap (name_eq name) (keeps x) ∙ q) ∙ ap (λ (y : Member). Some (f y)) (same_Some x m e)
     by false q e more = ap (λ b. cond b (Some x) (member_named (change name f members) name)) q ∙ more e
 
 -- ---- a boundary changes nothing in the queue but of those that something was said about
@@ -154,17 +142,11 @@ told_in told members before e named same some name = by (name_eq name told) refl
 
 -- who is found has the name
 pub found_named : (members : List Member) (name : Name) (m : Member) → member_named members name ≡ Some m → m.name ≡ name
-found_named [] name m e = absurd (none_some m e)
-  where
-    none_some : (m : Member) → None ≡ Some m → ⊥
-    none_some m e = cc
+found_named [] name m e = absurd (none-some m e)
 found_named (x ∷ members) name m e = by (name_eq name x.name) refl e (found_named members name m)
   where
-    one : (x m : Member) → Some x ≡ Some m → x ≡ m
-    one x m e = cc
-
     by : (b : Bool) → name_eq name x.name ≡ b → cond b (Some x) (member_named members name) ≡ Some m → (member_named members name ≡ Some m → m.name ≡ name) → m.name ≡ name
-    by true q e more = ap (λ (y : Member). y.name) (sym (one x m e)) ∙ sym (name_exact name x.name q)
+    by true q e more = ap (λ (y : Member). y.name) (sym (same_Some x m e)) ∙ sym (name_exact name x.name q)
     by false q e more = more e
 
 -- what is absent need not go

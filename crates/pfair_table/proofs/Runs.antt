@@ -1,11 +1,12 @@
 -- Whatever events come, a slot that was planned has the table of a replica that is still held, and every other dispatcher
 -- that agrees has it too.
 use Rattle.pfair_replica.specs.HeldRows.{replica_of}
-use Rattle.std.proofs.Common.{ℕ, zero, suc, ◌<◌, ◌≤◌, ◌≡◌, refl, sym, ap, ◌∙◌, subst, arith, inl, inr, Bool, true, false, List, [], ◌∷◌, ◌++◌, length, min, Some, None}
+use Rattle.std.proofs.Common.{ℕ, zero, suc, ◌<◌, ◌≤◌, ◌≡◌, refl, sym, ap, ◌∙◌, subst, arith, inl, inr, Bool, true, false, List, [], ◌∷◌, ◌++◌, length, min, Some}
 use Rattle.std.specs.Prelude.{◌&&◌, not, nat_lt, map, slice_get, if◌then◌else◌}
 use Rattle.std.specs.List.{AllByRecursion}
 use Rattle.std.proofs.lemmas.List.{length-map, map-append, length-append}
 use Rattle.std.proofs.lemmas.Bool.{ltb-true, and_parts, not-true, cases_lt}
+use Rattle.std.proofs.lemmas.Option.{none-some, same_Some}
 use Rattle.pfair_lattice.specs.declared.flat.Flat.TheVariants.{One, Torn}
 use Rattle.pfair_lattice.specs.Held.{held_join}
 use Rattle.pfair_lattice.specs.HeldLaws.{join_least, join_first, join_second, below_itself, below_trans}
@@ -36,15 +37,12 @@ pub get_last : {A : Type 0} (xs : List A) (y : A) → slice_get (xs ++ y ∷ [])
 get_last [] y = refl
 get_last (x ∷ xs) y = get_last xs y
 
-some_same : {A : Type 0} (x y : A) → Some x ≡ Some y → x ≡ y
-some_same x y h = cc
-
 pub same_list : {A : Type 0} (xs ys : List A) → length xs ≡ length ys → ((t : ℕ) → t < length xs → slice_get xs t ≡ slice_get ys t) → xs ≡ ys
 same_list [] [] e h = refl
 same_list [] (y ∷ ys) e h = absurd (omega (arith, e))
 same_list (x ∷ xs) [] e h = absurd (omega (arith, e))
 same_list (x ∷ xs) (y ∷ ys) e h =
-    let head = some_same x y (h zero (omega arith)) in
+    let head = same_Some x y (h zero (omega arith)) in
     let tail = same_list xs ys (omega (arith, e)) (λ t l. h (suc t) (omega (arith, l))) in
     λ i. head i ∷ tail i
 
@@ -167,12 +165,9 @@ sound_run : (s : Settings) (events : List Event) (c : Course) → AllByRecursion
 sound_run s [] c all sound = sound
 sound_run s (e ∷ events) c all sound = sound_run s events (happens s c e) all.1 (sound_happens s c e all.0 sound)
 
-none_some : {A : Type 0} (x : A) → None ≡ Some x → ⊥
-none_some x h = cc
-
 sound_start : (s : Settings) (capacity : ℕ) → IsSound s (start s capacity)
 sound_start s capacity = record {
-  is_of = record { replica = record { in_range = λ k n c h. absurd (none_some c h); stamped = λ k n e h. absurd (none_some (One e) h) }; processors = refl };
+  is_of = record { replica = record { in_range = λ k n c h. absurd (none-some c h); stamped = λ k n e h. absurd (none-some (One e) h) }; processors = refl };
   as_many = refl;
   planned = λ t l. absurd (omega (arith, l));
 }

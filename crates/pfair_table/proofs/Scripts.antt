@@ -1,12 +1,12 @@
 -- Logs as a run has them.
 use Rattle.std.proofs.Common.{ℕ, zero, suc, ◌+◌, ◌<◌, ◌≤◌, ◌≡◌, Bool, true, false, refl, sym, ap, ◌∙◌, arith, List, [], ◌∷◌, Option, Some, None, Vec, Global, length, slice_get, slice_index_or}
-use Rattle.std.specs.Prelude.{◌==◌, ◌≢◌, nat_lt, nat_le, ◌&&◌, if◌then◌else◌}
-use Rattle.std.proofs.lemmas.Option.{slice_get_within}
+use Rattle.std.specs.Prelude.{◌==◌, nat_lt, nat_le, ◌&&◌, if◌then◌else◌}
+use Rattle.std.proofs.lemmas.Option.{same_Some, slice_get_within}
 use Rattle.std.proofs.lemmas.Bool.{leb-true, leb-false, ltb-true, ltb-false, eqb-true, eq-eqb, lt-ltb, le-leb, and_from, and_parts, true≢false}
-use Rattle.pfair_lattice.specs.declared.flat.Flat.TheVariants.{One, Torn}
+use Rattle.pfair_lattice.specs.declared.flat.Flat.TheVariants.{One}
 use Rattle.pfair_lattice.specs.Held.{Held, held_join}
 use Rattle.pfair_entry.specs.Same.{entry_eq}
-use Rattle.pfair_replica.specs.Replica.{contents_join, only, nothing_held, with_entry, empty_replica, Untorn}
+use Rattle.pfair_replica.specs.Replica.{contents_join, only, nothing_held, with_entry, empty_replica}
 use Rattle.pfair_replica.specs.Offered.{has_key, taken}
 use Rattle.std.specs.List.{list_all}
 use Rattle.std.proofs.lemmas.List.{length-map}
@@ -20,9 +20,6 @@ logged_run s logs count short = record {
   one_each = length-map logs (λ log. log.items) ∙ count;
   short = list_all-map is_short (λ log. log.items) logs ∙ short;
 }
-
-pub logs_count : (s : Settings) (logs : List (Vec Logged Global)) → IsLoggedRun (record { settings = s; logs = lists_of logs }) → length logs ≡ s.processors
-logs_count s logs run = sym (length-map logs (λ log. log.items)) ∙ run.one_each
 
 pub logs_short : (s : Settings) (logs : List (Vec Logged Global)) → IsLoggedRun (record { settings = s; logs = lists_of logs }) → list_all (λ log. is_short log.items) logs ≡ true
 logs_short s logs run = sym (list_all-map is_short (λ log. log.items) logs) ∙ run.short
@@ -147,30 +144,11 @@ so_far_all logs = λ x j n. each j n x
         by false true false ea = sym (outside ea)
         by false false z ea = sym (outside ea)
 
--- ---- logs have one content for each number
-
-entry_whole : (log : List Logged) (n : ℕ) → entry_of log n ≢ Some Torn
-entry_whole [] n h = cc
-entry_whole (e ∷ log) zero h = cc
-entry_whole (e ∷ log) (suc zero) h = cc
-entry_whole (e ∷ log) (suc (suc n)) h = entry_whole log (suc n) h
-
-row_whole : (o : Option (List Logged)) (n : ℕ) → row_of o n ≢ Some Torn
-row_whole None n h = cc
-row_whole (Some log) n h = entry_whole log n h
-
--- nothing of a script is torn
-pub script_whole : (logs : List (List Logged)) → Untorn (replica_of_logs logs)
-script_whole logs k n = row_whole (slice_get logs k) n
-
 -- ---- the keys of a script's entries are in range
 
 pub log_fits : (logs : List (List Logged)) (k : ℕ) (log : List Logged) → slice_get logs k ≡ Some log → length log ≤ capacity_of logs
 log_fits [] k log h = absurd (cc)
-log_fits (first ∷ logs) zero log h = let same : first ≡ log = some_one first log h in let long = ap (λ (l : List Logged). length l) same in omega (arith, long)
-  where
-    some_one : (x y : List Logged) → Some x ≡ Some y → x ≡ y
-    some_one x y e = cc
+log_fits (first ∷ logs) zero log h = let same : first ≡ log = same_Some first log h in let long = ap (λ (l : List Logged). length l) same in omega (arith, long)
 log_fits (first ∷ logs) (suc k) log h = let fits = log_fits logs k log h in omega (arith, fits)
 
 -- the log at a place, read where it stands

@@ -22,13 +22,11 @@ use Rattle.pfair_table.specs.Table.{Table, eligible, is_eligible, pick, all_ran,
 use Rattle.pfair_table.specs.Laws.{EachNameOnce}
 use Rattle.pfair_table.specs.Queue.{IsQueue, IsSteady, Named}
 use Rattle.pfair_table.proofs.Members.{named_boundary, named_change}
+use Rattle.std.proofs.lemmas.Option.{same_Some}
 use Rattle.pfair_table.proofs.TableLaws.{once}
 use Rattle.pfair_table.proofs.Counts.{each_filter, each_map, each_push, all_ran_is, after_table}
 
 -- ---- next indexes
-
-AllFew : ℕ → List Member → Type 0
-AllFew n members = AllByRecursion (λ m. m.next ≤ n) members
 
 few_change : (n : ℕ) (name : Name) (f : Member → Member) → ((m : Member) → (f m).next ≡ m.next) → (members : List Member) → AllByRecursion (λ m. m.next ≤ n) members → AllByRecursion (λ m. m.next ≤ n) (change name f members)
 few_change n name f keeps members all = each_map (λ m. m.next ≤ n) (λ m. m.next ≤ n) (λ m. if is_named name m then f m else m) (λ m h. by m h (is_named name m)) members all
@@ -86,10 +84,7 @@ rows_once m n members named =
     (apart_first (eligible n members) (apart_map (λ (m : Member). m.name) (λ (k : Key). k.name) next_key (λ m. refl) (filter (is_eligible n) members) (apart_filter (λ (m : Member). m.name) (is_eligible n) members named)) m))
 
 pub some_slot : (slot : ℕ) → ForSome (Some slot) (λ last. last ≤ slot + 1)
-some_slot slot x e = (let s = one slot x e in omega (arith, s))
-  where
-    one : (x y : ℕ) → Some x ≡ Some y → x ≡ y
-    one x y e = cc
+some_slot slot x e = (let s = same_Some slot x e in omega (arith, s))
 
 -- after the quanta of a slot all is steady for the next
 pub steady_next : (slot now now2 : ℕ) (before after : Roster) (waiting waiting2 : Held) (heard : List Said) (m : ℕ) (rows : Table)

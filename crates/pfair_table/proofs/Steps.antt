@@ -1,15 +1,14 @@
 -- A dispatcher's parts from one slot to the next, and from one replica to one that is above it.
 use Rattle.std.proofs.Common.{ℕ, zero, suc, ◌+◌, ◌*◌, ◌≤◌, ◌<◌, ◌≡◌, refl, sym, ap, ◌∙◌, subst, arith, inl, Bool, true, false, List, [], ◌∷◌, ◌++◌, length, map, Option, Some, None}
-use Rattle.std.specs.Prelude.{flat_map, nat_le, ◌==◌, if◌then◌else◌}
+use Rattle.std.specs.Prelude.{flat_map, ◌==◌, if◌then◌else◌}
 use Rattle.std.proofs.lemmas.List.{length-append, map-append}
 use Rattle.pfair_entry.specs.Entry.{Logged}
 use Rattle.pfair_entry.specs.declared.said.Said.{Said}
-use Rattle.pfair_lattice.specs.declared.flat.Flat.TheVariants.{One, Torn}
-use Rattle.pfair_lattice.specs.Held.{Held as HeldAt}
 use Rattle.pfair_entry.specs.declared.announcement.Announcement.{Announcement}
 use Rattle.std.proofs.lemmas.Bool.{eqb-true}
-use Rattle.pfair_replica.specs.Replica.{said_by, said_in, run_on, run_from, sound_beginning, Replica, Below, Untorn, said, frontier, numbers_below}
+use Rattle.pfair_replica.specs.Replica.{said_by, said_in, sound_beginning, Replica, Below, Untorn, said, frontier, numbers_below}
 use Rattle.pfair_replica.proofs.Marks.{same_said, below_agree, frontier_le}
+use Rattle.pfair_replica.proofs.SoundEntries.{read_by_number}
 use Rattle.pfair_table.specs.Ranks.{first_by_rank}
 use Rattle.pfair_ready.specs.Waiting.{Held}
 use Rattle.pfair_admission.specs.Admission.{boundary, boundary_decisions, announcements}
@@ -19,7 +18,8 @@ use Rattle.pfair_table.specs.Table.{Settings, Table, eligible, pick, all_ran, hi
 use Rattle.pfair_table.specs.Laws.{IsOf}
 use Rattle.pfair_table.specs.Queue.{IsSteady}
 use Rattle.pfair_table.specs.Refinement.{IsPlanOf, IsInStep, IsKept, heard_before}
-use Rattle.pfair_table.proofs.TableLaws.{same_history, map_same, among_below, one_table}
+use Rattle.pfair_replica.specs.Among.{map_same, among_below}
+use Rattle.pfair_table.proofs.TableLaws.{same_history, one_table}
 use Rattle.pfair_table.proofs.Counts.{runs_are_counted}
 use Rattle.pfair_table.proofs.Runs.{below_all, length_numbers}
 
@@ -184,26 +184,13 @@ run_once k n (e ∷ es) m =
     let more = run_once k (suc n) es m in
     omega (arith, sum, one, more)
 
-run_short : (row : ℕ → HeldAt Logged) (left n floor : ℕ) → length (run_from row left n floor) ≤ left
-run_short row zero n floor = omega arith
-run_short row (suc left) n floor = on (row n) (λ f. run_short row left (suc n) f)
-  where
-    on : (c : HeldAt Logged) → ((f : ℕ) → length (run_from row left (suc n) f) ≤ left) → length (run_on c floor (run_from row left (suc n))) ≤ suc left
-    on (Some (One e)) more = by (nat_le floor e.floor)
-      where
-        by : (b : Bool) → length (if b then e ∷ run_from row left (suc n) e.floor else []) ≤ suc left
-        by true = (let le = more e.floor in omega (arith, le))
-        by false = omega arith
-    on (Some Torn) more = omega arith
-    on None more = omega arith
-
 rows_few : (x : Replica) (ks : List ℕ) (m : ℕ) → total (λ t. length (flat_map (λ k. said_in t k 1 (sound_beginning x k)) ks)) m ≤ length ks * x.capacity
 rows_few x [] m = (let none = total_none (λ t. 0) (λ t. refl) m in omega (arith, none))
 rows_few x (k ∷ ks) m =
     let sum = total_sum (λ t. length (flat_map (λ k. said_in t k 1 (sound_beginning x k)) (k ∷ ks))) (λ t. length (said_in t k 1 (sound_beginning x k))) (λ t. length (flat_map (λ k. said_in t k 1 (sound_beginning x k)) ks))
     (λ t. length-append (said_in t k 1 (sound_beginning x k)) (flat_map (λ k. said_in t k 1 (sound_beginning x k)) ks)) m in
     let one = run_once k 1 (sound_beginning x k) m in
-    let short = run_short (x.at k) x.capacity 1 0 in
+    let short = read_by_number.within x k in
     let more = rows_few x ks m in
     grind (arith, sum, one, short, more)
 

@@ -4,7 +4,9 @@ use Rattle.std.specs.Prelude.{◌≢◌, map, filter}
 use Rattle.std.proofs.lemmas.List.{length-map, map-append, append_assoc, append-nil}
 use Rattle.std.proofs.lemmas.Bool.{cases_order}
 use Rattle.pfair_order.specs.declared.Key.{Key}
-use Rattle.pfair_table.proofs.Apart.{Among, among_append, Apart, apart_filter, apart_map, all_among}
+use Rattle.pfair_replica.specs.Among.{all_among, among_below, map_same}
+use Rattle.pfair_table.specs.Lists.{Apart}
+use Rattle.pfair_table.proofs.Apart.{apart_filter, apart_map}
 use Rattle.pfair_table.proofs.Firsts.{length_first, rising_first, apart_first}
 use Rattle.pfair_replica.specs.Replica.{Replica, said, frontier, numbers_below}
 use Rattle.pfair_replica.proofs.Marks.{same_said, mark_le, frontier_le, below_agree}
@@ -40,19 +42,6 @@ numbers_more m (suc n) h =
       | inr (inl l) ↦ (let t = numbers_more m n (omega (arith, l)) in (t.0 ++ n ∷ [], sym (append_assoc (numbers_below m) t.0 (n ∷ [])) ∙ ap (λ xs. xs ++ n ∷ []) t.1))
       | inr (inr g) ↦ absurd (omega (arith, h, g))
     ]
-
-pub among_below : (n k : ℕ) → Among (numbers_below n) k → k < n
-among_below zero k h = absurd h
-among_below (suc n) k h =
-    elim (among_append (numbers_below n) (n ∷ []) k h) [
-      | inl i ↦ (let l = among_below n k i in omega (arith, l))
-      | inr (inl e) ↦ omega (arith, e)
-      | inr (inr e) ↦ absurd e
-    ]
-
-pub map_same : {A B : Type 0} (f g : A → B) (xs : List A) → ((x : A) → Among xs x → f x ≡ g x) → map f xs ≡ map g xs
-map_same f g [] h = refl
-map_same f g (x ∷ xs) h = λ i. h x (inl refl) i ∷ map_same f g xs (λ y j. h y (inr j)) i
 
 pub prefix_map : {B : Type 0} (f g : ℕ → B) (m n : ℕ) → m ≤ n → ((k : ℕ) → k < m → f k ≡ g k) → IsPrefixOf (map f (numbers_below m)) (map g (numbers_below n))
 prefix_map f g m n le same =

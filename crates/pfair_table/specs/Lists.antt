@@ -1,11 +1,7 @@
 -- Lists whose elements have names.
-use Rattle.std.specs.Prelude.{◌≡◌, ◌≢◌, ◌⊎◌, List, [], ◌∷◌}
-use Rattle.pfair_ready.specs.Names.{NameValue as Name}
-
--- x is one of xs
-abbrev pub Among : {A : Type 0} → List A → A → Type 0
-Among [] x = ⊥
-Among (y ∷ ys) x = (x ≡ y) ⊎ Among ys x
+use Rattle.std.specs.Prelude.{◌≢◌, List, [], ◌∷◌}
+use Rattle.pfair_weight.specs.Name.{NameValue as Name}
+use Rattle.pfair_replica.specs.Among.{Among}
 
 -- no two have one name
 abbrev pub Apart : {A : Type 0} → (A → Name) → List A → Type 0

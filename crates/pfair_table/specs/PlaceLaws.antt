@@ -1,6 +1,5 @@
 -- What holds of the places of tables.
 use Rattle.std.specs.Prelude.{ℕ, suc, ◌≡◌, ◌≢◌, ◌≤◌, ◌<◌, IsTrue, List, [], ◌∷◌, length, ⊤, Some, slice_get}
-use Rattle.std.proofs.Common.{ap, refl}
 use Rattle.std.specs.List.{AllByRecursion}
 use Rattle.pfair_ready.specs.Names.{NameValue as Name}
 use Rattle.pfair_replica.specs.Replica.{Agree}
@@ -9,7 +8,7 @@ use Rattle.pfair_table.specs.declared.event.Event.{Event}
 use Rattle.pfair_table.specs.Events.{IsEvent, run_of}
 use Rattle.pfair_table.specs.Table.{Settings, Table, names_task}
 use Rattle.pfair_table.specs.Laws.{EachNameOnce}
-use Rattle.pfair_table.specs.Places.{place_of, places_after, places_from, places_of}
+use Rattle.pfair_table.specs.Places.{place_of, places_of}
 use Rattle.pfair_table.specs.Refinement.{Dispatch}
 
 -- no more rows than that, and each name once
@@ -54,12 +53,3 @@ abbrev pub HavePlacedAlike : Dispatch → Dispatch → Type 0
 HavePlacedAlike c d =
     c.settings ≡ d.settings → Agree (replica_of c.held) (replica_of d.held) → (t : ℕ) → t < length c.tables → t < length d.tables
     → slice_get (places_of c.tables) t ≡ slice_get (places_of d.tables) t
-
--- ---- the places are those of one table each
-
-places_from_long : (before : Table) (places : List ℕ) (tables : List Table) → length (places_from before places tables) ≡ length tables
-places_from_long before places [] = refl
-places_from_long before places (now ∷ tables) = ap suc (places_from_long now (places_after before places now) tables)
-
-pub places_long : (tables : List Table) → length (places_of tables) ≡ length tables
-places_long tables = places_from_long [] [] tables

@@ -1,13 +1,12 @@
 //! What the sound beginnings of a replica say, where each entry is looked at once.
 
-ghost use Rattle.std.specs.Prelude.{◌≡◌, ◌+◌, ◌++◌, ℕ, [], IfOk, OnOk, OnErr, length};
+ghost use Rattle.std.specs.Prelude.{◌≡◌, ℕ, [], IfOk, OnOk, length};
 ghost use Rattle.pfair_replica.specs.Agenda.{said_at};
 ghost use Rattle.pfair_replica.specs.HeldRows.{replica_of};
-ghost use Rattle.pfair_replica.specs.Replica.{Replica as Held, IsReplica, Untorn, said_by, sound_beginning};
+ghost use Rattle.pfair_replica.specs.Replica.{Replica as Held, IsReplica, Untorn, sound_beginning};
 ghost use Rattle.pfair_table.specs.Readings.{IsReadingOf, AreReadingsOf, AreWhole, said_by_all};
 
-use pfair_entry::{Entry, Said};
-use pfair_lattice::Flat;
+use pfair_entry::Said;
 use pfair_replica::{Agenda, Replica};
 use std::alloc::{AllocError, Global};
 
@@ -32,33 +31,23 @@ impl Reading {
         }
     }
 
-    // Reads on in the sound beginning of a processor, from where it stood.
-    fn read_on(&mut self, replica: &Replica, processor: u8) -> Result<(), AllocError>
+    // Reads on in the sound beginning of a processor, from where it stood. Where memory was refused
+    // nothing counts as read.
+    fn read_on(&mut self, alloc: Global, replica: &Replica, processor: u8) -> Result<(), AllocError>
         requires { IsReadingOf processor (sound_beginning (replica_of replica.now) processor) self.old }
         ensures reading { IsReadingOf processor (sound_beginning (replica_of replica.now) processor) self.new }
         ensures whole { OnOk result (self.new.count ≡ length (sound_beginning (replica_of replica.now) processor)) }
     {
-        for place in self.count..replica.sound_count(processor) {
-            match replica.get(processor, place + 1) {
-                Some(Flat::One(entry)) => self.note(processor, place + 1, entry)?,
-                _ => unreachable!(),
+        match replica.note_said(processor, self.count, &mut self.agenda) {
+            Ok(()) => {
+                self.count = replica.sound_count(processor);
+                Ok(())
+            }
+            Err(refused) => {
+                *self = Reading::new(alloc);
+                Err(refused)
             }
         }
-        Ok(())
-    }
-
-    // Reads the next entry, which has that number.
-    fn note(&mut self, processor: u8, number: u32, entry: Entry) -> Result<(), AllocError>
-        ensures count { OnOk result (self.new.count ≡ number) }
-        ensures says { OnOk result ((t : ℕ) → said_at self.new.agenda t ≡ said_at self.old.agenda t ++ said_by t processor number entry.said) }
-        ensures not_counted { OnErr result (self.new.count ≡ self.old.count) }
-        ensures not_said { OnErr result ((t : ℕ) → said_at self.new.agenda t ≡ said_at self.old.agenda t) }
-    {
-        if let Some((stamp, announcement)) = entry.said() {
-            self.agenda.push(stamp, processor, number, announcement)?;
-        }
-        self.count = number;
-        Ok(())
     }
 }
 
@@ -93,7 +82,7 @@ impl Readings {
         ensures whole { OnOk result (AreWhole (replica_of replica.now) self.new.by_processor.items) }
     {
         for processor in 0..replica.processors() {
-            self.by_processor[processor as usize].read_on(replica, processor)?;
+            self.by_processor[processor as usize].read_on(self.alloc, replica, processor)?;
         }
         Ok(())
     }

@@ -4,7 +4,8 @@ ghost use Rattle.std.specs.Prelude.{◌≡◌, ◌≤◌, ◌<◌, ◌+◌, Some
 ghost use Rattle.std.specs.Option.{ForSome};
 ghost use Rattle.std.specs.List.{AllByRecursion};
 ghost use Rattle.pfair_order.specs.declared.Key.{Key};
-ghost use Rattle.pfair_table.specs.Lists.{Among, Apart};
+ghost use Rattle.pfair_replica.specs.Among.{Among};
+ghost use Rattle.pfair_table.specs.Lists.{Apart};
 ghost use Rattle.pfair_table.specs.Ranks.{first_by_rank};
 ghost use Rattle.pfair_admission.specs.Admission.{boundary, boundary_decisions, announcements};
 ghost use Rattle.pfair_entry.specs.Entry.{IsWithinLimits};

@@ -1,16 +1,11 @@
-use Rattle.std.proofs.Common.{◌≡◌, ◌∙◌, sym, ap, Some, None, Option}
+use Rattle.std.proofs.Common.{◌≡◌, ◌∙◌, sym, ap, Option}
 use Rattle.std.specs.Prelude.{is_some, if◌then◌else◌}
+use Rattle.std.proofs.lemmas.Option.{none-some, same_Some}
 use Rattle.pfair_admission.specs.declared.quantum.Quantum.{Quantum}
 use Rattle.pfair_admission.specs.Admission.{ran, quantum_of}
 use Rattle.pfair_table.specs.Queue.{MayRun}
 use Rattle.pfair_table.proofs.Quanta.{key_among, may_run, runs_next, told_on, run_turn}
 use Rattle.pfair_table.proofs.slot.run_each.Goals as goal
-
-some_one : {A : Type 0} (x y : A) → Some x ≡ Some y → x ≡ y
-some_one x y e = cc
-
-none_some : {A : Type 0} (x : A) → None ≡ Some x → ⊥
-none_some x e = cc
 
 pub ran_on-requires : goal.ran_on-requires
 ran_on-requires g c =
@@ -21,13 +16,13 @@ ran_on-requires g c =
 pub loop-key-preserved-in_default : goal.loop-key-preserved-in_default
 loop-key-preserved-in_default g c =
     let may : MayRun c.args.members.now.members c.key-item.result = c.requires.running c.key-item.result (key_among c.args.members.now c.args.first.now c.requires.apart c.loop-key.key-index c.key-item.result c.loop-key-test.true c.key-item.is) in
-    absurd (none_some (quantum_of may.0) (sym c.in_default.is ∙ c.ran_on.ensures.quantum ∙ runs_next c.args.members.now c.args.first.now c.requires.apart c.loop-key.key-index c.key-item.result c.loop-key-test.true c.key-item.is
+    absurd (none-some (quantum_of may.0) (sym c.in_default.is ∙ c.ran_on.ensures.quantum ∙ runs_next c.args.members.now c.args.first.now c.requires.apart c.loop-key.key-index c.key-item.result c.loop-key-test.true c.key-item.is
     c.loop-key.members c.loop-key.table.items (g.R.Ready.held c.loop-key.ready) c.loop-key.invariant.0 may))
 
 pub loop-key-preserved : goal.loop-key-preserved
 loop-key-preserved g c =
     let may : MayRun c.args.members.now.members c.key-item.result = c.requires.running c.key-item.result (key_among c.args.members.now c.args.first.now c.requires.apart c.loop-key.key-index c.key-item.result c.loop-key-test.true c.key-item.is) in
-    let quantum_is : c.in-Some.quantum ≡ quantum_of may.0 = some_one c.in-Some.quantum (quantum_of may.0) (sym c.in-Some.is ∙ c.ran_on.ensures.quantum ∙ runs_next c.args.members.now c.args.first.now c.requires.apart c.loop-key.key-index c.key-item.result c.loop-key-test.true c.key-item.is
+    let quantum_is : c.in-Some.quantum ≡ quantum_of may.0 = same_Some c.in-Some.quantum (quantum_of may.0) (sym c.in-Some.is ∙ c.ran_on.ensures.quantum ∙ runs_next c.args.members.now c.args.first.now c.requires.apart c.loop-key.key-index c.key-item.result c.loop-key-test.true c.key-item.is
     c.loop-key.members c.loop-key.table.items (g.R.Ready.held c.loop-key.ready) c.loop-key.invariant.0 may) in
     let after_is : c.ran_on.new.self ≡ record c.loop-key.members { members = ran c.key-item.result.name c.loop-key.members.members } =
     c.ran_on.ensures.members ∙ ap (λ (o : Option Quantum). if is_some o then record c.loop-key.members { members = ran c.key-item.result.name c.loop-key.members.members } else c.loop-key.members) c.in-Some.is in (

@@ -1,4 +1,4 @@
-use Rattle.std.proofs.Common.{◌≡◌, ◌<◌, ◌≤◌, ◌*◌, ℕ}
+use Rattle.std.proofs.Common.{◌≡◌, ◌≤◌, ◌*◌, ℕ}
 use Rattle.pfair_replica.specs.HeldRows.{held, replica_of}
 use Rattle.pfair_board.specs.Desks.{Keeps}
 use Rattle.pfair_board.specs.Gained.{gained_in_rows, NoGapInRow, SameDesk}

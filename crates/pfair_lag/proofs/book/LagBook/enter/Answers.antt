@@ -1,7 +1,8 @@
 use Rattle.std.proofs.Common.{◌≡◌, not, sym, ap, ◌∙◌}
 use Rattle.std.specs.Prelude.{is_some}
 use Rattle.indexmap.proofs.CallerLemmas.{insert_entry-new}
-use Rattle.pfair_lag.specs.Book.{name_eq, tally_of}
+use Rattle.pfair_weight.specs.Name.{name_eq}
+use Rattle.pfair_lag.specs.Book.{tally_of}
 use Rattle.pfair_lag.proofs.BookLemmas.{contained, nothing, true_not_false, account_new, entered_there, entered_new, kept_new}
 use Rattle.pfair_lag.proofs.book.LagBook.enter.Goals as goal
 use Rattle.pfair_lag.proofs.book.LagBook.enter.Goals.{After-contains_key}

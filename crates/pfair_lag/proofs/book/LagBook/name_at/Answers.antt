@@ -3,7 +3,7 @@ use Rattle.std.specs.Prelude.{slice_get}
 use Rattle.std.specs.Option.{option_map}
 use Rattle.std.specs.Map.Iter.{deref_pair}
 use Rattle.pfair_lag.specs.declared.book.Account.{Account}
-use Rattle.pfair_lag.specs.Book.{NameValue}
+use Rattle.pfair_weight.specs.Name.{NameValue}
 use Rattle.pfair_lag.proofs.BookLemmas.{name_shown, names_apart}
 use Rattle.pfair_lag.proofs.book.LagBook.name_at.Goals as goal
 

@@ -1,30 +1,30 @@
-use Rattle.std.proofs.Common.{◌<◌, sym, ap, ◌∙◌, arith}
+use Rattle.std.proofs.Common.{◌<◌, ◌++◌, sym, ap, ◌∙◌, arith, length, Some}
 use Rattle.pfair_replica.specs.Agenda.{said_at}
-use Rattle.pfair_replica.specs.HeldRows.{held}
-use Rattle.pfair_replica.proofs.Scanning.{says_start, says_next, says_some, says_end}
+use Rattle.pfair_replica.specs.HeldRows.{replica_of}
+use Rattle.pfair_replica.specs.Replica.{Replica, sound_beginning, said_behind}
 use Rattle.pfair_replica.proofs.Merging.{on_err_here}
+use Rattle.pfair_replica.proofs.SoundEntries.{entry_there, entry_is}
+use Rattle.pfair_replica.proofs.SaidBehind.{noted_next, some_behind}
 use Rattle.pfair_replica.proofs.replica.Replica.note_said.Goals as goal
+use Rattle.pfair_replica.proofs.replica.Replica.note_said.Goals.{in_default-via-in-Some+in_default, in_default-via-in_default}
 
-pub loop-before-init : goal.loop-before-init
-loop-before-init c = λ t. says_start (held c.args.self.now c.args.processor) c.args.self.now.capacity t c.args.processor (said_at c.args.agenda.now t)
+pub unreachable-requires : goal.unreachable-requires
+unreachable-requires c =
+    let x : Replica = replica_of c.args.self.now in
+    let room : c.loop-place.place < length (sound_beginning x c.args.processor) = omega arith in
+    let held = (entry_there x c.args.processor c.loop-place.place room).2 in
+    let got = c.get.ensures.value in
+    elim c.in_default.branch [ in_default-via-in-Some+in_default w ↦ (let is = w.in_default.is in cc) | in_default-via-in_default w ↦ (let is = w.in_default.is in cc) ]
 
-pub returns-in-None-clause-heard : goal.returns-in-None-clause-heard
-returns-in-None-clause-heard c = λ t.
-    says_end (held c.args.self.now c.args.processor) c.args.self.now.capacity c.loop-before.before c.loop-before.floor (sym c.going_on.ensures ∙ c.in-None.is)
-    t c.args.processor (said_at c.args.agenda.now t) (said_at c.loop-before.agenda t) (c.loop-before.invariant t)
+pub loop-place-preserved : goal.loop-place-preserved
+loop-place-preserved c = λ t.
+    (let x : Replica = replica_of c.args.self.now in
+    let is = entry_is x c.args.processor c.loop-place.place c.in-Some-One.entry (omega arith) (sym c.get.ensures.value ∙ c.in-Some-One.is ∙ ap Some c.in-Some-One.field-0-is) in
+    noted_next x c.args.processor c.loop-place.place t c.in-Some-One.entry (said_at c.args.agenda.now t ++ said_behind x t c.args.processor c.args.from) (said_at c.loop-place.agenda t) (said_at c.note_said_by.new.agenda t) is
+    (c.in_ok-note_said_by-in-Some-One.ensures.heard t) (c.loop-place.invariant t))
 
-pub loop-before-preserved : goal.loop-before-preserved
-loop-before-preserved c = λ t.
-    (let capacity = ap (λ x. x.capacity) c.self.view_is in
-    let room : c.loop-before.before < c.args.self.now.capacity = omega arith in
-    rw c.floor-floor.ensures.value (says_next (held c.args.self.now c.args.processor) c.args.self.now.capacity c.loop-before.before c.loop-before.floor c.in-Some.entry
-    (sym c.going_on.ensures ∙ c.in-Some.is)
-    t c.args.processor (said_at c.args.agenda.now t) (said_at c.loop-before.agenda t) (said_at c.note_said_by.new.agenda t) (c.loop-before.invariant t) room (c.in_ok-note_said_by-in-Some.ensures.heard t)))
-
-pub returns-in_err-note_said_by-in-Some-clause-wanted : goal.returns-in_err-note_said_by-in-Some-clause-wanted
-returns-in_err-note_said_by-in-Some-clause-wanted c =
-    let capacity = ap (λ x. x.capacity) c.self.view_is in
-    let room : c.loop-before.before < c.args.self.now.capacity = omega arith in
-    on_err_here c.from_residual.result (says_some (held c.args.self.now c.args.processor) c.args.self.now.capacity c.loop-before.before c.loop-before.floor c.in-Some.entry
-    (sym c.going_on.ensures ∙ c.in-Some.is)
-    c.args.processor (said_at c.args.agenda.now) (said_at c.loop-before.agenda) c.loop-before.invariant room c.in_err-note_said_by-in-Some.ensures.wanted)
+pub returns-in_err-note_said_by-in-Some-One-clause-wanted : goal.returns-in_err-note_said_by-in-Some-One-clause-wanted
+returns-in_err-note_said_by-in-Some-One-clause-wanted c =
+    let x : Replica = replica_of c.args.self.now in
+    let is = entry_is x c.args.processor c.loop-place.place c.in-Some-One.entry (omega arith) (sym c.get.ensures.value ∙ c.in-Some-One.is ∙ ap Some c.in-Some-One.field-0-is) in
+    on_err_here c.from_residual.result (some_behind x c.args.processor c.args.from c.loop-place.place c.in-Some-One.entry (omega arith) is c.in_err-note_said_by-in-Some-One.ensures.wanted)

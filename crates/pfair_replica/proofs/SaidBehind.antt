@@ -1,0 +1,45 @@
+-- What is said in a sound beginning behind some of its entries.
+use Rattle.std.proofs.Common.{ℕ, zero, suc, ◌+◌, ◌≤◌, ◌≡◌, refl, sym, ap, ◌∙◌, subst, arith, List, [], ◌∷◌, ◌++◌, length, drop, Option, Some, None, append_assoc}
+use Rattle.std.specs.Prelude.{◌≢◌, slice_get, IsSome}
+use Rattle.std.proofs.lemmas.List.{drop_more, drop_all}
+use Rattle.std.proofs.lemmas.Option.{slice_get_within, get_or_from_slice_get}
+use Rattle.pfair_entry.specs.declared.announcement.Announcement.{Announcement}
+use Rattle.pfair_entry.specs.declared.said.Said.{Said}
+use Rattle.pfair_entry.specs.Entry.{Logged}
+use Rattle.pfair_replica.specs.Among.{Among}
+use Rattle.pfair_replica.specs.Replica.{Replica, sound_beginning, said_by, said_in, said_behind}
+use Rattle.pfair_replica.proofs.SaidListed.{said_to}
+
+module _ (x : Replica) (k place : ℕ) where
+  -- the next entry says the first of it
+  behind_next : (t : ℕ) (e : Logged) → slice_get (sound_beginning x k) place ≡ Some e → said_behind x t k place ≡ said_by t k (place + 1) e.said ++ said_behind x t k (place + 1)
+  behind_next t e is =
+      let es = sound_beginning x k in
+      let next : suc (place + 1) ≡ place + 1 + 1 = omega arith in
+      ap (said_in t k (place + 1)) (drop_more es place e (slice_get_within es place e is))
+      ∙ (λ i. said_by t k (place + 1) (get_or_from_slice_get es place e e is i).said ++ said_in t k (next i) (drop (place + 1) es))
+
+  -- so where that is noted the rest is what is behind it
+  pub noted_next : (t : ℕ) (e : Logged) (all now then_now : List Said) → slice_get (sound_beginning x k) place ≡ Some e → then_now ≡ now ++ said_by t k (place + 1) e.said → now ++ said_behind x t k place ≡ all → then_now ++ said_behind x t k (place + 1) ≡ all
+  noted_next t e all now then_now is noted so_far =
+      ap (λ xs. xs ++ said_behind x t k (place + 1)) noted
+      ∙ append_assoc now (said_by t k (place + 1) e.said) (said_behind x t k (place + 1))
+      ∙ ap (λ xs. now ++ xs) (sym (behind_next t e is))
+      ∙ so_far
+
+  pub none_behind : (t : ℕ) → length (sound_beginning x k) ≤ place → said_behind x t k place ≡ []
+  none_behind t past = ap (said_in t k (place + 1)) (drop_all place (sound_beginning x k) past)
+
+still_said : (k n from place : ℕ) (es : List Logged) (e : Logged) (s : ℕ × Announcement) → from ≤ place → slice_get es place ≡ Some e → e.said ≡ Some s → said_in s.0 k n (drop from es) ≢ []
+still_said k n zero place es e s le is says none = subst (λ (l : List Said). Among l (record { processor = k; number = n + place; announcement = s.1 })) none (said_to s.0 k n es place e s.1 is says)
+still_said k n (suc from) place [] e s le is says none = cc
+still_said k n (suc from) zero (d ∷ es) e s le is says none = omega arith
+still_said k n (suc from) (suc place) (d ∷ es) e s le is says none = still_said k n from place es e s (omega arith) is says none
+
+-- an entry behind them that says something
+pub some_behind : (x : Replica) (k from place : ℕ) (e : Logged) → from ≤ place → slice_get (sound_beginning x k) place ≡ Some e → IsSome e.said → (t : ℕ) × (said_behind x t k from ≢ [])
+some_behind x k from place e le is some = by e.said refl some
+  where
+    by : (o : Option (ℕ × Announcement)) → e.said ≡ o → IsSome o → (t : ℕ) × (said_behind x t k from ≢ [])
+    by None says none = absurd (cc)
+    by (Some s) says some = (s.0, still_said k (from + 1) from place (sound_beginning x k) e s le is says)
