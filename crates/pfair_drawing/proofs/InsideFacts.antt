@@ -20,18 +20,18 @@ use Rattle.pfair_drawing.specs.Windows.{windows_from, life_windows, window_area,
 abbrev pub InFrame : Frame → Area → Type 0
 InFrame f a = AreaLiesIn (width_of f) (height_of f) a
 
-slot_at_most : (f : Frame) (slot : ℕ) → slot_x f slot ≤ slot_x f f.to
+pub slot_at_most : (f : Frame) (slot : ℕ) → slot_x f slot ≤ slot_x f f.to
 slot_at_most f slot =
     let wide : (min (max slot f.from) f.to - f.from) * f.sizes.slot ≤ (min (max f.to f.from) f.to - f.from) * f.sizes.slot =
     mul-le (min (max slot f.from) f.to - f.from) f.sizes.slot (min (max f.to f.from) f.to - f.from) f.sizes.slot (omega arith) (le_refl f.sizes.slot) in
     omega arith
 
-row_at_most : (f : Frame) (row : ℕ) → row_y f row ≤ row_y f f.rows
+pub row_at_most : (f : Frame) (row : ℕ) → row_y f row ≤ row_y f f.rows
 row_at_most f row =
     let high : min row f.rows * row_height f ≤ min f.rows f.rows * row_height f = mul-le (min row f.rows) (row_height f) (min f.rows f.rows) (row_height f) (omega arith) (le_refl (row_height f)) in
     omega arith
 
-lane_at_most : (f : Frame) (row index : ℕ) → IsFrame f → lane_y f row index + f.sizes.lane ≤ row_y f f.rows + 48
+pub lane_at_most : (f : Frame) (row index : ℕ) → IsFrame f → lane_y f row index + f.sizes.lane ≤ row_y f f.rows + 48
 lane_at_most f row index h =
     let high : row_y f row ≤ row_y f f.rows = row_at_most f row in
     let parity : 1 - index % 2 ≤ 1 = omega arith in

@@ -1,7 +1,9 @@
 mod HistoryFacts
 mod InsideFacts
+mod MarkFacts
 mod RowFacts
 mod ScheduleFacts
+mod StepFacts
 mod SlotFacts
 mod TextFacts
 mod WindowFacts

@@ -1,5 +1,5 @@
 -- Where slots, rows and lanes lie in a figure.
-use Rattle.std.specs.Prelude.{ℕ, ◌+◌, ◌-◌, ◌*◌, ◌/◌, ◌%◌, ◌≤◌, min, max}
+use Rattle.std.specs.Prelude.{ℕ, ◌+◌, ◌-◌, ◌*◌, ◌/◌, ◌%◌, ◌≤◌, min, max, Bool, ◌&&◌, nat_le, nat_lt}
 use Rattle.pfair_drawing.specs.declared.frame.Frame.{Frame}
 use Rattle.pfair_drawing.specs.declared.sizes.Sizes.{Sizes}
 use Rattle.pfair_drawing.specs.declared.shape.Area.{Area}
@@ -32,6 +32,10 @@ pub record IsFrame (f : Frame) : Type 0 where
 -- where a slot begins; a slot before the first or after the last counts as that one
 abbrev pub slot_x : Frame → ℕ → ℕ
 slot_x f slot = f.left + (min (max slot f.from) f.to - f.from) * f.sizes.slot
+
+-- whether a slot is one of the figure's
+abbrev pub has_slot : Frame → ℕ → Bool
+has_slot f slot = nat_le f.from slot && nat_lt slot f.to
 
 abbrev pub lanes_height : Frame → ℕ
 lanes_height f = 2 * f.sizes.lane + 1 + 2 * f.sizes.pad

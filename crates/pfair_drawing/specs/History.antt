@@ -1,5 +1,5 @@
 -- What became of each task, as the decisions and tables of slot after slot tell it.
-use Rattle.std.specs.Prelude.{ℕ, zero, suc, if◌then◌else◌, List, [], ◌∷◌, ◌++◌, length, Some, None, slice_get, unwrap_or}
+use Rattle.std.specs.Prelude.{ℕ, zero, suc, if◌then◌else◌, List, [], ◌∷◌, ◌++◌, length, Some, None}
 use Rattle.std.specs.List.{range_with_len}
 use Rattle.pfair_weight.specs.Share.{Share}
 use Rattle.pfair_entry.specs.declared.announcement.Announcement.{Announcement}
@@ -12,6 +12,7 @@ use Rattle.pfair_table.specs.Table.{Table}
 use Rattle.pfair_drawing.specs.declared.history.Life.{Life}
 use Rattle.pfair_drawing.specs.declared.history.Late.{Late}
 use Rattle.pfair_drawing.specs.Names.{NameValue, name_eq}
+use Rattle.pfair_drawing.specs.Slots.{decided_at, table_at}
 
 -- the incarnations of all tasks in the order in which they joined, and the late releases that were accepted, in order
 pub record Told : Type 0 where
@@ -77,7 +78,7 @@ ran (p ∷ ps) h = ran ps (on_latest (λ l. record l { ran = p.index }) p.name h
 
 -- the decisions at the boundary of a slot, and then its table
 abbrev pub slot_told : List (List Decided) → List Table → Told → ℕ → Told
-slot_told decided tables h slot = ran (unwrap_or (slice_get tables slot) []) (all_told slot (unwrap_or (slice_get decided slot) []) h)
+slot_told decided tables h slot = ran (table_at tables slot) (all_told slot (decided_at decided slot) h)
 
 abbrev pub slots_told : List (List Decided) → List Table → Told → List ℕ → Told
 slots_told decided tables h [] = h

@@ -2,10 +2,13 @@ pub mod Colours
 pub mod Frame
 pub mod History
 pub mod Inside
+pub mod Lags
 pub mod Laws
+pub mod Marks
 pub mod Names
 pub mod Notes
 pub mod Quanta
 pub mod Schedule
+pub mod Slots
 pub mod Svg
 pub mod Windows

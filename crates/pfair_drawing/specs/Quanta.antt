@@ -2,12 +2,12 @@
 use Rattle.std.specs.Prelude.{ℕ, suc, ◌+◌, ◌-◌, ◌*◌, List, [], ◌∷◌, map, slice_get, unwrap_or}
 use Rattle.std.specs.List.{flat_map, range_with_len}
 use Rattle.pfair_table.specs.Table.{Table}
-use Rattle.pfair_table.specs.Places.{places_of}
 use Rattle.pfair_drawing.specs.declared.frame.Frame.{Frame}
 use Rattle.pfair_drawing.specs.declared.shape.Quantum.{Quantum}
 use Rattle.pfair_drawing.specs.declared.runs.Ran.{Ran}
 use Rattle.pfair_drawing.specs.Frame.{slot_x, lane_y, cell_y}
 use Rattle.pfair_drawing.specs.Names.{NameValue, row_of}
+use Rattle.pfair_drawing.specs.Slots.{places_at, table_at}
 
 -- the place of row k of a table, where the table's rows have these places
 abbrev pub place_at : (places : List ℕ) → ℕ → ℕ
@@ -18,12 +18,6 @@ abbrev pub ran_from : List NameValue → (slot : ℕ) → (places : List ℕ) �
 ran_from names slot places k [] = []
 ran_from names slot places k (p ∷ more) =
     record { slot = slot; processor = place_at places k; row = row_of names p.name; index = p.index } ∷ ran_from names slot places (suc k) more
-
-abbrev pub table_at : List Table → ℕ → Table
-table_at tables slot = unwrap_or (slice_get tables slot) []
-
-abbrev pub places_at : List Table → ℕ → List ℕ
-places_at tables slot = unwrap_or (slice_get (places_of tables) slot) []
 
 -- those of a slot, in the order of its table
 abbrev pub ran_in : List NameValue → List Table → ℕ → List Ran

@@ -1,28 +1,35 @@
 -- The text of a picture in SVG: a head, and one element for each shape.
-use Rattle.std.specs.Prelude.{ℕ, Bool, if◌then◌else◌, List, [], ◌++◌, codes, slice_get, unwrap_or}
+use Rattle.std.specs.Prelude.{ℕ, Bool, true, false, ◌&&◌, not, if◌then◌else◌, List, [], ◌++◌, Option, None, Some, codes, slice_get, unwrap_or}
 use Rattle.std.specs.List.{flat_map, range_with_len}
 use Rattle.std.specs.Fmt.{decimal}
 use Rattle.pfair_drawing.specs.declared.colour.Colour.{Colour}
 use Rattle.pfair_drawing.specs.declared.shape.Area.{Area}
 use Rattle.pfair_drawing.specs.declared.shape.Point.{Point}
 use Rattle.pfair_drawing.specs.declared.shape.Fill.{Fill}
-use Rattle.pfair_drawing.specs.declared.shape.Fill.TheVariants.{Band, Window, Held, Key, Within}
+use Rattle.pfair_drawing.specs.declared.shape.Fill.TheVariants.{Band, Within}
 use Rattle.pfair_drawing.specs.declared.shape.Stroke.{Stroke}
-use Rattle.pfair_drawing.specs.declared.shape.Stroke.TheVariants.{Grid, Tick, Edge, Shaft, Late, Zero, Bound, Lag, Outside}
-use Rattle.pfair_drawing.specs.declared.shape.Mark.{Mark}
-use Rattle.pfair_drawing.specs.declared.shape.Mark.TheVariants.{Join, Departure, Stamp, Later, Refusal, Inside, Outside as OutsideMark}
+use Rattle.pfair_drawing.specs.declared.shape.Stroke.TheVariants.{Grid, Tick, Edge, Zero, Bound}
+use Rattle.pfair_drawing.specs.declared.mark.Mark.{Mark}
+use Rattle.pfair_drawing.specs.declared.mark.Mark.TheVariants.{Join, Departure, Stamp, Later, Refusal, Inside, Outside}
+use Rattle.pfair_drawing.specs.declared.mark.Arrow.{Arrow}
+use Rattle.pfair_drawing.specs.declared.mark.LateMark.{LateMark}
+use Rattle.pfair_drawing.specs.declared.mark.RefusalMark.{RefusalMark}
+use Rattle.pfair_drawing.specs.declared.mark.LagStep.{LagStep}
 use Rattle.pfair_drawing.specs.declared.shape.Style.{Style}
 use Rattle.pfair_drawing.specs.declared.shape.Style.TheVariants.{Title, Name, Absent, Side, Scale, On, Late as LateStyle, Refusal as RefusalStyle, Key as KeyStyle}
 use Rattle.pfair_drawing.specs.declared.shape.Label.{Label}
 use Rattle.pfair_drawing.specs.declared.shape.Quantum.{Quantum}
 use Rattle.pfair_drawing.specs.declared.shape.Shape.{Shape}
-use Rattle.pfair_drawing.specs.declared.shape.Shape.TheVariants.{Bar, Line, Step, Mark as MarkShape, Label as LabelShape}
-use Rattle.pfair_drawing.specs.declared.shape.Drawing.{Drawing}
+use Rattle.pfair_drawing.specs.declared.shape.Shape.TheVariants.{Bar, Line, Label as LabelShape}
+use Rattle.pfair_drawing.specs.declared.drawing.Sign.{Sign}
+use Rattle.pfair_drawing.specs.declared.drawing.Sign.TheVariants as sign
+use Rattle.pfair_drawing.specs.declared.drawing.Drawing.{Drawing}
 use Rattle.pfair_drawing.specs.declared.words.Words.{Words}
 use Rattle.pfair_drawing.specs.declared.words.Words.TheVariants.{Name as NameWords, Share, Number, More, Processor, Figures as FiguresWords, Note as NoteWords}
 use Rattle.pfair_drawing.specs.declared.words.Figures.{Figures}
 use Rattle.pfair_drawing.specs.declared.style.TheConstants.{OPENING, STYLES, MARKS}
-use Rattle.pfair_drawing.specs.declared.svg.TheConstants.{PROCESSORS, WINDOWS, QUANTA, CELLS, END}
+use Rattle.pfair_drawing.specs.declared.svg.TheConstants.{WINDOWS, QUANTA, CELLS, END}
+use Rattle.pfair_drawing.specs.declared.elements.TheConstants.{PROCESSORS}
 use Rattle.pfair_drawing.specs.Notes.{note_text}
 use Rattle.pfair_drawing.specs.Colours.{colour_of, is_light}
 use Rattle.pfair_drawing.specs.Names.{NameValue}
@@ -46,12 +53,15 @@ point_text p = attribute (codes "x") p.x ++ attribute (codes "y") p.y
 
 -- ---- bars
 
-abbrev pub fill_text : Fill → List ℕ
-fill_text Band = class_text (codes "band")
-fill_text Window = codes " rx=\"2\" class=\"window\""
-fill_text Held = class_text (codes "held")
-fill_text (Key processor) = processor_class processor
-fill_text Within = class_text (codes "within")
+abbrev pub bar_text : Area → List ℕ → List ℕ
+bar_text area class = area_text area ++ class_text class ++ codes "/>\n"
+
+abbrev pub fill_class : Fill → List ℕ
+fill_class Band = codes "band"
+fill_class Within = codes "within"
+
+abbrev pub held_text : Area → List ℕ
+held_text area = bar_text area (codes "held")
 
 abbrev pub window_text : Bool → Area → List ℕ
 window_text has_outlines a = area_text a ++ (if has_outlines then codes " rx=\"2\" class=\"window\"/>\n" else codes " class=\"dense\"/>\n")
@@ -65,16 +75,12 @@ abbrev pub stroke_class : Stroke → List ℕ
 stroke_class Grid = codes "grid"
 stroke_class Tick = codes "tick"
 stroke_class Edge = codes "edge"
-stroke_class Shaft = codes "shaft"
-stroke_class Late = codes "late"
 stroke_class Zero = codes "zero"
 stroke_class Bound = codes "bound"
-stroke_class Lag = codes "lag"
-stroke_class Outside = codes "past"
 
-abbrev pub line_text : Point → Point → Stroke → List ℕ
-line_text from to stroke =
-    codes "<line" ++ attribute (codes "x1") from.x ++ attribute (codes "y1") from.y ++ attribute (codes "x2") to.x ++ attribute (codes "y2") to.y ++ class_text (stroke_class stroke) ++ codes "/>\n"
+abbrev pub line_text : Point → Point → List ℕ → List ℕ
+line_text from to class =
+    codes "<line" ++ attribute (codes "x1") from.x ++ attribute (codes "y1") from.y ++ attribute (codes "x2") to.x ++ attribute (codes "y2") to.y ++ class_text class ++ codes "/>\n"
 
 abbrev pub start_text : Point → List ℕ
 start_text p = codes "<path d=\"M" ++ decimal p.x ++ codes " " ++ decimal p.y
@@ -82,8 +88,9 @@ start_text p = codes "<path d=\"M" ++ decimal p.x ++ codes " " ++ decimal p.y
 abbrev pub way_text : Point → List ℕ
 way_text p = codes "H" ++ decimal p.x ++ codes "V" ++ decimal p.y ++ codes "\""
 
-abbrev pub step_text : Point → Point → Stroke → List ℕ
-step_text from to stroke = start_text from ++ way_text to ++ class_text (stroke_class stroke) ++ codes "/>\n"
+-- a line across, and then up or down
+abbrev pub path_text : Point → Point → List ℕ → List ℕ
+path_text from to class = start_text from ++ way_text to ++ class_text class ++ codes "/>\n"
 
 abbrev pub mark_name : Mark → List ℕ
 mark_name Join = codes "join"
@@ -92,10 +99,17 @@ mark_name Stamp = codes "stamp"
 mark_name Later = codes "later"
 mark_name Refusal = codes "refusal"
 mark_name Inside = codes "inside"
-mark_name OutsideMark = codes "outside"
+mark_name Outside = codes "outside"
 
 abbrev pub mark_text : Point → Mark → List ℕ
 mark_text at mark = codes "<use href=\"#" ++ mark_name mark ++ codes "\"" ++ point_text at ++ codes "/>\n"
+
+abbrev pub shaft_class : Mark → List ℕ
+shaft_class Later = codes "late"
+shaft_class _ = codes "shaft"
+
+abbrev pub arrow_text : Arrow → List ℕ
+arrow_text a = line_text a.from a.to (shaft_class a.head) ++ mark_text a.tip a.head
 
 -- ---- labels
 
@@ -139,11 +153,58 @@ abbrev pub label_text : List NameValue → Label → List ℕ
 label_text names l = codes "<text" ++ point_text l.at ++ class_text (style_class l.style) ++ codes ">" ++ words_text names l.words ++ codes "</text>\n"
 
 abbrev pub shape_text : List NameValue → Shape → List ℕ
-shape_text names (Bar area fill) = area_text area ++ fill_text fill ++ codes "/>\n"
-shape_text names (Line from to stroke) = line_text from to stroke
-shape_text names (Step from to stroke) = step_text from to stroke
-shape_text names (MarkShape at mark) = mark_text at mark
+shape_text names (Bar area fill) = bar_text area (fill_class fill)
+shape_text names (Line from to stroke) = line_text from to (stroke_class stroke)
 shape_text names (LabelShape label) = label_text names label
+
+-- ---- decisions
+
+abbrev pub tip_text : Option Arrow → List ℕ
+tip_text None = []
+tip_text (Some arrow) = arrow_text arrow
+
+abbrev pub more_text : List NameValue → Option Label → List ℕ
+more_text names None = []
+more_text names (Some label) = label_text names label
+
+abbrev pub late_text : List NameValue → LateMark → List ℕ
+late_text names m = mark_text m.stamp Stamp ++ tip_text m.arrow ++ more_text names m.more
+
+abbrev pub refusal_text : List NameValue → RefusalMark → List ℕ
+refusal_text names m = mark_text m.at Refusal ++ label_text names m.number
+
+-- ---- lags
+
+abbrev pub lag_class : Bool → List ℕ
+lag_class is_outside = if is_outside then codes "past" else codes "lag"
+
+abbrev pub corner_of : LagStep → Point
+corner_of s = record { x = s.to.x; y = s.from.y }
+
+-- a lag that comes back within its bounds: the part up or down looks as within
+abbrev pub return_text : LagStep → List ℕ
+return_text s = line_text s.from (corner_of s) (lag_class true) ++ line_text (corner_of s) s.to (lag_class false)
+
+abbrev pub lag_line_text : LagStep → List ℕ
+lag_line_text s = if s.was_outside && not s.is_outside then return_text s else path_text s.from s.to (lag_class s.was_outside)
+
+abbrev pub dot_of : Bool → Mark
+dot_of is_outside = if is_outside then Outside else Inside
+
+abbrev pub step_text : Bool → LagStep → List ℕ
+step_text has_dots s = lag_line_text s ++ (if has_dots then mark_text s.to (dot_of s.is_outside) else [])
+
+-- ---- the key
+
+abbrev pub sign_text : List NameValue → Sign → List ℕ
+sign_text names (sign.Window area) = window_text true area
+sign_text names (sign.Held area) = held_text area
+sign_text names (sign.Quantum quantum) = quantum_text quantum
+sign_text names (sign.Arrow arrow) = arrow_text arrow
+sign_text names (sign.Mark at mark) = mark_text at mark
+sign_text names (sign.Lag from to) = line_text from to (lag_class false)
+sign_text names (sign.Bound from to) = line_text from to (stroke_class Bound)
+sign_text names (sign.Label label) = label_text names label
 
 -- ---- the head
 
@@ -168,6 +229,10 @@ head_text width height processors = opening_text width height ++ STYLES.now ++ c
 abbrev pub shapes_text : List NameValue → List Shape → List ℕ
 shapes_text names shapes = flat_map (shape_text names) shapes
 
+-- below the windows
+unfoldable pub ground_text : Drawing → List ℕ
+ground_text d = shapes_text d.names.items d.ground.items ++ flat_map held_text d.held.items ++ shapes_text d.names.items d.ties.items
+
 -- windows, quanta and the quanta of processors each as a group
 unfoldable pub windows_text : Bool → List Area → List ℕ
 windows_text has_outlines windows = WINDOWS.now ++ flat_map (window_text has_outlines) windows ++ END.now
@@ -178,8 +243,17 @@ quanta_text quanta = QUANTA.now ++ flat_map quantum_text quanta ++ END.now
 unfoldable pub cells_text : List Quantum → List ℕ
 cells_text cells = CELLS.now ++ flat_map quantum_text cells ++ END.now
 
+unfoldable pub bars_text : Drawing → List ℕ
+bars_text d = windows_text d.has_outlines d.windows.items ++ quanta_text d.quanta.items ++ cells_text d.cells.items
+
+unfoldable pub decisions_text : Drawing → List ℕ
+decisions_text d = flat_map arrow_text d.arrows.items ++ flat_map (late_text d.names.items) d.late.items ++ flat_map (refusal_text d.names.items) d.refusals.items
+
+-- over the quanta
+unfoldable pub marks_text : Drawing → List ℕ
+marks_text d =
+    flat_map (label_text d.names.items) d.labels.items ++ decisions_text d ++ flat_map (step_text d.has_dots) d.steps.items ++ flat_map (sign_text d.names.items) d.key.items
+
 -- a head, and the layers one over another
 abbrev pub svg_text : Drawing → List ℕ
-svg_text d =
-    head_text d.width d.height d.processors ++ shapes_text d.names.items d.ground.items ++ windows_text d.has_outlines d.windows.items
-    ++ quanta_text d.quanta.items ++ cells_text d.cells.items ++ shapes_text d.names.items d.marks.items ++ codes "</svg>\n"
+svg_text d = head_text d.width d.height d.processors ++ ground_text d ++ bars_text d ++ marks_text d ++ codes "</svg>\n"

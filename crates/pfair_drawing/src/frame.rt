@@ -1,7 +1,7 @@
 //! Where slots, rows and lanes lie in a figure.
 
-ghost use Rattle.std.specs.Prelude.{◌≡◌, ◌≤◌, ◌<◌, ◌^◌, ◌-◌, ◌&&◌, nat_le, nat_lt};
-ghost use Rattle.pfair_drawing.specs.Frame.{IsFrame, slot_x, lanes_height, row_height, row_y, lane_y, cell_y, bottom, width_of, height_of, lane_area, lane_middle};
+ghost use Rattle.std.specs.Prelude.{◌≡◌, ◌≤◌, ◌<◌, ◌^◌, ◌-◌};
+ghost use Rattle.pfair_drawing.specs.Frame.{IsFrame, has_slot, slot_x, lanes_height, row_height, row_y, lane_y, cell_y, bottom, width_of, height_of, lane_area, lane_middle};
 
 use crate::shape::{Area, Point};
 use crate::sizes::{BELOW, BETWEEN, NARROWEST, RIGHT, Sizes, TOP};
@@ -111,7 +111,7 @@ impl Frame {
 
     /// Whether a slot is one of the figure's.
     pub fn has_slot(&self, slot: u64) -> bool
-        ensures { result ≡ nat_le self.now.from slot && nat_lt slot self.now.to }
+        ensures { result ≡ has_slot self.now slot }
     {
         self.from <= slot && slot < self.to
     }

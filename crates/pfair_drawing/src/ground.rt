@@ -150,19 +150,3 @@ pub(crate) fn add_level(
     };
     add(shapes, Shape::Line { from, to, stroke })
 }
-
-/// Adds the numbers of processors beside their rows, where there is room for them.
-pub(crate) fn add_processors(shapes: &mut Vec<Shape>, frame: &Frame) -> Result<(), AllocError>
-    requires { IsFrame frame.now }
-{
-    let is_roomy = frame.sizes.cell > 8;
-    for processor in 0..frame.processors {
-        let y = frame.cell_y(processor) + frame.sizes.cell;
-        if is_roomy {
-            add_side(shapes, frame, y - 4, Words::Processor(processor))?;
-        } else if processor % 2 == 0 {
-            add_side(shapes, frame, y, Words::Number(processor))?;
-        }
-    }
-    Ok(())
-}

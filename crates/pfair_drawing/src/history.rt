@@ -5,6 +5,7 @@ ghost use Rattle.std.specs.Prelude.{◌≡◌, ◌≤◌, IfOk, OnOk, length};
 ghost use Rattle.pfair_drawing.specs.Names.{NameValue};
 ghost use Rattle.pfair_drawing.specs.History.{all_told, latest, on_latest, ran, slot_told, told, told_before};
 
+use crate::slots::{decided_at, table_at};
 use pfair_admission::Decision;
 use pfair_entry::Announcement;
 use pfair_ready::Ready;
@@ -89,12 +90,8 @@ fn tell_slot<R: Ready>(
 ) -> Result<(), AllocError>
     ensures { OnOk result (history.new ≡ slot_told dispatcher.now.decided dispatcher.now.tables history.old slot) }
 {
-    if let Some(decided) = dispatcher.decisions(slot) {
-        tell_all(history, slot, decided)?;
-    }
-    if let Some(table) = dispatcher.table(slot) {
-        tell_table(history, table);
-    }
+    tell_all(history, slot, decided_at(dispatcher, slot))?;
+    tell_table(history, table_at(dispatcher, slot));
     Ok(())
 }
 

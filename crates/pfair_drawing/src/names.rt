@@ -62,8 +62,8 @@ fn add_run(names: &mut Vec<TaskName>, table: &[Pick]) -> Result<(), AllocError>
     Ok(())
 }
 
-// Adds a name behind the others, unless it is there.
-fn add_name(names: &mut Vec<TaskName>, name: TaskName) -> Result<(), AllocError>
+/// Adds a name behind the others, unless it is there.
+pub(crate) fn add_name(names: &mut Vec<TaskName>, name: TaskName) -> Result<(), AllocError>
     ensures { OnOk result (names.new.items ≡ with_name names.old.items name) }
 {
     if row_of(names.as_slice(), name) >= names.len() as u64 {

@@ -1,9 +1,10 @@
 //! The quanta that are planned in some slots.
 
 ghost use Rattle.std.specs.Prelude.{◌≡◌, ◌-◌, ◌++◌, IfOk, OnOk};
-ghost use Rattle.pfair_drawing.specs.Quanta.{place_at, places_at, ran_between, ran_from, ran_in};
+ghost use Rattle.pfair_drawing.specs.Quanta.{place_at, ran_between, ran_from, ran_in};
 
 use crate::names::row_of;
+use crate::slots::{places_at, table_at};
 use pfair_ready::Ready;
 use pfair_table::{Dispatcher, Pick};
 use pfair_weight::TaskName;
@@ -49,20 +50,8 @@ fn add_slot<R: Ready>(
 ) -> Result<(), AllocError>
     ensures { OnOk result (runs.new.items ≡ runs.old.items ++ ran_in names.now dispatcher.now.tables slot) }
 {
-    match dispatcher.table(slot) {
-        Some(table) => add_table(runs, names, slot, table, slot_places(dispatcher, slot)),
-        None => Ok(()),
-    }
-}
-
-// The places of a slot.
-fn slot_places<R: Ready>(dispatcher: &Dispatcher<R>, slot: u64) -> &[u8]
-    ensures { result.now ≡ places_at dispatcher.now.tables slot }
-{
-    match dispatcher.places(slot) {
-        Some(places) => places,
-        None => &[],
-    }
+    let places = places_at(dispatcher, slot);
+    add_table(runs, names, slot, table_at(dispatcher, slot), places)
 }
 
 // Adds the quanta of a table.

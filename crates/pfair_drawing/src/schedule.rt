@@ -2,24 +2,30 @@
 
 ghost use Rattle.std.specs.Prelude.{◌≡◌, ◌≤◌, ◌<◌, ◌↔◌, length, All, Err, IfOk, IsTrue, map, min};
 ghost use Rattle.pfair_drawing.specs.Frame.{IsFrame, height_of, width_of};
-ghost use Rattle.pfair_drawing.specs.Inside.{LiesIn};
+ghost use Rattle.pfair_drawing.specs.Inside.{LabelLiesIn, LiesIn, SignLiesIn};
+ghost use Rattle.pfair_drawing.specs.Marks.{arrows, held, late_marks, refusals};
 ghost use Rattle.pfair_drawing.specs.Names.{names_before};
 ghost use Rattle.pfair_drawing.specs.Quanta.{cell_bar, quantum_bar};
 ghost use Rattle.pfair_drawing.specs.Windows.{windows};
 ghost use Rattle.pfair_drawing.specs.Schedule.{AreRefused, IsSchedule};
 
-use crate::canvas::shown;
+use crate::arrows::{arrows_of, held_of};
+use crate::canvas::{shown, shown_signs};
+use crate::drawing::{Drawing, Sign};
 use crate::frame::Frame;
-use crate::ground::{add_grid, add_processors, add_rows, add_title};
+use crate::ground::{add_grid, add_rows, add_title};
 use crate::history::{History, history_of};
 use crate::key::add_schedule_key;
-use crate::marks::{add_arrows, add_labels, add_late_releases, add_refusals};
+use crate::labels::labels_of;
+use crate::late::late_marks_of;
+use crate::mark::{Arrow, LateMark, RefusalMark};
 use crate::names::names_of;
 use crate::quanta::{cells_of, quanta_of};
+use crate::refusals::refusals_of;
 use crate::runs::{Ran, runs_of};
-use crate::shape::{Area, Drawing, Quantum, Shape};
+use crate::shape::{Area, Label, Quantum, Shape};
 use crate::sizes::{BESIDE, LETTER, NARROWEST_LEFT, Sizes};
-use crate::ties::{add_held, add_ties};
+use crate::ties::ties_of;
 use crate::windows::windows_of;
 use crate::words::{Figures, Note};
 use pfair_ready::Ready;
@@ -117,24 +123,29 @@ fn draw_in<R: Ready>(
     let rows = names.as_slice();
     let history = history_of(alloc, dispatcher, frame.to)?;
     let runs = runs_of(alloc, dispatcher, rows, frame.from, frame.to)?;
+    let figures = figures_of(dispatcher, frame.from, frame.to);
+    let scenery = scenery_of(alloc, frame, rows, &history, &runs, figures)?;
     let bars = bars_of(alloc, frame, rows, &history, &runs)?;
-    let (ground, marks) = surroundings_of(alloc, dispatcher, frame, rows, &history, &runs)?;
-    let Bars {
-        windows,
-        quanta,
-        cells,
-    } = bars;
+    let marks = marks_of(alloc, frame, rows, &history, dispatcher)?;
     Ok(Drawing {
         width,
         height,
         processors: frame.processors,
         has_outlines: frame.sizes.slot >= 8,
+        has_dots: false,
         names,
-        ground,
-        windows,
-        quanta,
-        cells,
-        marks,
+        ground: scenery.ground,
+        held: marks.held,
+        ties: scenery.ties,
+        windows: bars.windows,
+        quanta: bars.quanta,
+        cells: bars.cells,
+        labels: scenery.labels,
+        arrows: marks.arrows,
+        late: marks.late,
+        refusals: marks.refusals,
+        steps: Vec::new(alloc),
+        key: scenery.key,
     })
 }
 
@@ -168,32 +179,81 @@ fn bars_of(
     })
 }
 
-// What lies below the windows, and what over the quanta.
-fn surroundings_of<R: Ready>(
+// The marks of decisions, and the weights that departed tasks hold.
+#[derive(Drop)]
+struct Marks {
+    held: Vec<Area>,
+    arrows: Vec<Arrow>,
+    late: Vec<LateMark>,
+    refusals: Vec<RefusalMark>,
+}
+
+fn marks_of<R: Ready>(
     alloc: Global,
+    frame: &Frame,
+    names: &[TaskName],
+    history: &History,
     dispatcher: &Dispatcher<R>,
+) -> Result<Marks, AllocError>
+    requires { IsFrame frame.now }
+    ensures held { IfOk result (λ m. m.held.items ≡ held frame.now names.now history.now.lives) }
+    ensures arrows { IfOk result (λ m. m.arrows.items ≡ arrows frame.now names.now history.now.lives) }
+    ensures late { IfOk result (λ m. m.late.items ≡ late_marks frame.now names.now history.now) }
+    ensures refusals { IfOk result (λ m. m.refusals.items ≡ refusals frame.now names.now dispatcher.now.decided) }
+{
+    let held = held_of(alloc, frame, names, history.lives())?;
+    let arrows = arrows_of(alloc, frame, names, history.lives())?;
+    let late = late_marks_of(alloc, frame, names, history)?;
+    let refusals = refusals_of(alloc, frame, names, dispatcher)?;
+    Ok(Marks {
+        held,
+        arrows,
+        late,
+        refusals,
+    })
+}
+
+// What lies round the bars and the marks.
+#[derive(Drop)]
+struct Scenery {
+    ground: Vec<Shape>,
+    ties: Vec<Shape>,
+    labels: Vec<Label>,
+    key: Vec<Sign>,
+}
+
+fn scenery_of(
+    alloc: Global,
     frame: &Frame,
     names: &[TaskName],
     history: &History,
     runs: &[Ran],
-) -> Result<(Vec<Shape>, Vec<Shape>), AllocError>
+    figures: Figures,
+) -> Result<Scenery, AllocError>
     requires { IsFrame frame.now }
-    ensures ground { IfOk result (λ s. All (LiesIn (width_of frame.now) (height_of frame.now)) s.0.items) }
-    ensures marks { IfOk result (λ s. All (LiesIn (width_of frame.now) (height_of frame.now)) s.1.items) }
+    ensures ground { IfOk result (λ s. All (LiesIn (width_of frame.now) (height_of frame.now)) s.ground.items) }
+    ensures ties { IfOk result (λ s. All (LiesIn (width_of frame.now) (height_of frame.now)) s.ties.items) }
+    ensures labels { IfOk result (λ s. All (LabelLiesIn (width_of frame.now) (height_of frame.now)) s.labels.items) }
+    ensures key { IfOk result (λ s. All (SignLiesIn (width_of frame.now) (height_of frame.now)) s.key.items) }
 {
-    let figures = figures_of(dispatcher, frame.from, frame.to);
-    let ground = ground_of(alloc, frame, names, history, runs, figures)?;
-    let marks = marks_of(alloc, frame, names, history, runs, dispatcher)?;
-    Ok((ground, marks))
+    let ground = ground_of(alloc, frame, names, history, figures)?;
+    let ties = ties_of(alloc, frame, names, history, runs)?;
+    let labels = labels_of(alloc, frame, names, runs)?;
+    let key = key_of(alloc, frame)?;
+    Ok(Scenery {
+        ground,
+        ties,
+        labels,
+        key,
+    })
 }
 
-// What lies below the windows.
+// What lies below all else.
 fn ground_of(
     alloc: Global,
     frame: &Frame,
     names: &[TaskName],
     history: &History,
-    runs: &[Ran],
     figures: Figures,
 ) -> Result<Vec<Shape>, AllocError>
     requires { IsFrame frame.now }
@@ -203,31 +263,17 @@ fn ground_of(
     add_title(&mut ground, Note::Schedule, figures)?;
     add_rows(&mut ground, frame, names, history.lives())?;
     add_grid(&mut ground, frame, frame.bottom(), true)?;
-    add_held(&mut ground, frame, names, history.lives())?;
-    add_ties(&mut ground, frame, names, history, runs)?;
     shown(alloc, ground.as_slice(), frame.width(), frame.height())
 }
 
-// What lies over the quanta: numbers and names, the marks of decisions, and the key.
-fn marks_of<R: Ready>(
-    alloc: Global,
-    frame: &Frame,
-    names: &[TaskName],
-    history: &History,
-    runs: &[Ran],
-    dispatcher: &Dispatcher<R>,
-) -> Result<Vec<Shape>, AllocError>
+// The key.
+fn key_of(alloc: Global, frame: &Frame) -> Result<Vec<Sign>, AllocError>
     requires { IsFrame frame.now }
-    ensures { IfOk result (λ marks. All (LiesIn (width_of frame.now) (height_of frame.now)) marks.items) }
+    ensures { IfOk result (λ key. All (SignLiesIn (width_of frame.now) (height_of frame.now)) key.items) }
 {
-    let mut marks = Vec::new(alloc);
-    add_processors(&mut marks, frame)?;
-    add_labels(&mut marks, frame, names, runs)?;
-    add_arrows(&mut marks, frame, names, history.lives())?;
-    add_late_releases(&mut marks, frame, names, history)?;
-    add_refusals(&mut marks, frame, names, dispatcher)?;
-    add_schedule_key(&mut marks, frame.processors, frame.bottom() + 36)?;
-    shown(alloc, marks.as_slice(), frame.width(), frame.height())
+    let mut key = Vec::new(alloc);
+    add_schedule_key(&mut key, frame.processors, frame.bottom() + 36)?;
+    shown_signs(alloc, key.as_slice(), frame.width(), frame.height())
 }
 
 /// Whether no picture shows these slots: they are none, aren't all planned, or are more than

@@ -1,7 +1,6 @@
 //! Shapes: what a picture is made of.
 
 use crate::words::Words;
-use pfair_weight::TaskName;
 
 /// A place in a figure, in pixels from its upper left corner.
 #[derive(Clone, Copy, Debug, PartialEq, Eq)]
@@ -25,17 +24,11 @@ pub struct Area {
     pub height: u64,
 }
 
-/// What a bar stands for.
+/// What a bar of the ground stands for.
 #[derive(Clone, Copy, Debug, PartialEq, Eq)]
 pub enum Fill {
     /// The ground of every second row.
     Band,
-    /// A window in the key.
-    Window,
-    /// The weight of a departing task, held until it is free.
-    Held,
-    /// A processor's colour in the key.
-    Key(u64),
     /// Where a lag stays within its bounds.
     Within,
 }
@@ -49,7 +42,7 @@ pub struct Quantum {
     pub processor: u64,
 }
 
-/// What a line stands for.
+/// What a line of the ground stands for.
 #[derive(Clone, Copy, Debug, PartialEq, Eq)]
 pub enum Stroke {
     /// Between two slots.
@@ -58,37 +51,10 @@ pub enum Stroke {
     Tick,
     /// The end of the rows, and what joins a quantum to its window.
     Edge,
-    /// The shaft of an arrow of a join or a departure.
-    Shaft,
-    /// A late release, from the old release to the new one.
-    Late,
     /// A lag of 0.
     Zero,
     /// A lag of -1 or 1.
     Bound,
-    /// A lag within its bounds.
-    Lag,
-    /// A lag at or past a bound.
-    Outside,
-}
-
-/// What a mark stands for. Its place is where its tip or its middle lies.
-#[derive(Clone, Copy, Debug, PartialEq, Eq)]
-pub enum Mark {
-    /// The tip of a join's arrow.
-    Join,
-    /// The tip of a departure's arrow.
-    Departure,
-    /// Where a late release was announced.
-    Stamp,
-    /// The tip of a late release's arrow.
-    Later,
-    /// A refusal.
-    Refusal,
-    /// A lag within its bounds.
-    Inside,
-    /// A lag at or past a bound.
-    Outside,
 }
 
 /// How a label stands.
@@ -125,7 +91,7 @@ pub struct Label {
     pub style: Style,
 }
 
-/// A shape of a picture.
+/// A shape of the ground. It is no mark, and no bar or line that stands for a decision or a lag.
 #[derive(Clone, Copy, Debug, PartialEq, Eq)]
 pub enum Shape {
     /// A rectangle.
@@ -144,49 +110,6 @@ pub enum Shape {
         /// What it stands for.
         stroke: Stroke,
     },
-    /// A line across, and then up or down.
-    Step {
-        /// Where it begins.
-        from: Point,
-        /// Where it ends.
-        to: Point,
-        /// What it stands for.
-        stroke: Stroke,
-    },
-    /// A mark.
-    Mark {
-        /// Where.
-        at: Point,
-        /// What it stands for.
-        mark: Mark,
-    },
     /// A label.
     Label(Label),
-}
-
-/// A picture: its size in pixels, the processors whose colours it uses, the names of its rows, and
-/// its shapes in layers, each shape over those before it. Windows, quanta and the quanta of
-/// processors are layers of their own, and in no other.
-#[derive(Debug, Drop)]
-pub struct Drawing {
-    /// The width.
-    pub width: u64,
-    /// The height.
-    pub height: u64,
-    /// The number of processors.
-    pub processors: u64,
-    /// Whether windows have outlines; else slots are too narrow for them.
-    pub has_outlines: bool,
-    /// The names of its rows.
-    pub names: Vec<TaskName>,
-    /// The shapes below the windows.
-    pub ground: Vec<Shape>,
-    /// The windows.
-    pub windows: Vec<Area>,
-    /// The quanta in the rows of their tasks.
-    pub quanta: Vec<Quantum>,
-    /// The quanta in the rows of their processors.
-    pub cells: Vec<Quantum>,
-    /// The shapes over these.
-    pub marks: Vec<Shape>,
 }

@@ -1,35 +1,38 @@
-//! What joins quanta to windows, and departures to the slots that free their weight.
+//! What joins quanta to windows.
 
-ghost use Rattle.pfair_drawing.specs.Frame.{IsFrame};
+ghost use Rattle.std.specs.Prelude.{All, IfOk};
+ghost use Rattle.pfair_drawing.specs.Frame.{IsFrame, height_of, width_of};
+ghost use Rattle.pfair_drawing.specs.Inside.{LiesIn};
 
-use crate::canvas::add;
+use crate::canvas::{add, shown};
 use crate::frame::Frame;
 use crate::history::{History, Life};
-use crate::names::row_of;
 use crate::runs::Ran;
-use crate::shape::{Area, Fill, Shape, Stroke};
+use crate::shape::{Shape, Stroke};
 use crate::windows::{closes, opens};
 use pfair_weight::{MAX_INDEX, TaskName};
-use std::alloc::AllocError;
+use std::alloc::{AllocError, Global};
 
-/// Adds a line for each quantum that lies outside its window, from the quantum to the window.
-pub(crate) fn add_ties(
-    shapes: &mut Vec<Shape>,
+/// A line for each quantum that lies outside its window, from the quantum to the window.
+pub(crate) fn ties_of(
+    alloc: Global,
     frame: &Frame,
     names: &[TaskName],
     history: &History,
     runs: &[Ran],
-) -> Result<(), AllocError>
+) -> Result<Vec<Shape>, AllocError>
     requires { IsFrame frame.now }
+    ensures { IfOk result (λ made. All (LiesIn (width_of frame.now) (height_of frame.now)) made.items) }
 {
+    let mut ties = Vec::new(alloc);
     for ran in runs {
         if let Some(name) = names.get(ran.row as usize)
             && let Some((place, life)) = life_at(history.lives(), *name, ran.slot)
         {
-            add_tie(shapes, frame, history, place, &life, ran)?;
+            add_tie(&mut ties, frame, history, place, &life, ran)?;
         }
     }
-    Ok(())
+    shown(alloc, ties.as_slice(), frame.width(), frame.height())
 }
 
 // The last incarnation of a name that joined by a slot, and its place.
@@ -77,32 +80,4 @@ fn tie(frame: &Frame, ran: &Ran, from: u64, to: u64) -> Shape
         to: frame.lane_middle(ran.row, ran.index, to),
         stroke: Stroke::Edge,
     }
-}
-
-/// Adds a bar for the weight of each departing task, from its stamp until it is free.
-pub(crate) fn add_held(
-    shapes: &mut Vec<Shape>,
-    frame: &Frame,
-    names: &[TaskName],
-    lives: &[Life],
-) -> Result<(), AllocError>
-    requires { IsFrame frame.now }
-{
-    for life in lives {
-        if let Some(leave) = life.leave {
-            let x = frame.slot_x(leave.stamp);
-            let width = frame.slot_x(leave.freed_at).saturating_sub(x);
-            let area = Area {
-                x,
-                y: frame.row_y(row_of(names, life.name)) + frame.sizes.pad,
-                width,
-                height: 2 * frame.sizes.lane + 1,
-            };
-            if width > 0 {
-                let fill = Fill::Held;
-                add(shapes, Shape::Bar { area, fill })?;
-            }
-        }
-    }
-    Ok(())
 }

@@ -76,8 +76,12 @@ fn add_slot<R: Ready>(
     add_lags(writer, book)
 }
 
-// Tells the book who enters and who leaves at the boundary of a slot.
-fn tell_all(book: &mut LagBook, decided: &[Decided]) -> Result<(), AllocError>
+/// Tells a book of lags who enters and who leaves at the boundary of a slot: who is admitted, and
+/// who departs. It costs a look-up for each decision, and a pass over the book for each departure.
+///
+/// # Errors
+/// `AllocError` where memory was wanted and refused; the book is then told some of the decisions.
+pub fn tell_all(book: &mut LagBook, decided: &[Decided]) -> Result<(), AllocError>
     ensures { OnOk result (book.new ≡ all_told decided.now book.old) }
 {
     for one in decided {

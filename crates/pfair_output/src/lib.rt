@@ -8,5 +8,5 @@ mod replay;
 mod tests;
 
 pub use decisions::decisions_of;
-pub use lags::lags_of;
+pub use lags::{lags_of, tell_all};
 pub use replay::{placed_replay_of, replay_of};

@@ -5,7 +5,7 @@ use Rattle.pfair_table.specs.Script.{LoggedRun}
 use Rattle.pfair_table.specs.ScriptRun.{IsRunOf}
 use Rattle.pfair_table.specs.Refinement.{Dispatch}
 use Rattle.pfair_file.specs.Documents.{script_of_file}
-use Rattle.pfair_drawing.specs.declared.shape.Drawing.{Drawing}
+use Rattle.pfair_drawing.specs.declared.drawing.Drawing.{Drawing}
 use Rattle.pfair_drawing.specs.Schedule.{AreRefused}
 use Rattle.pfair_drawing.specs.Svg.{svg_text}
 use Rattle.pfair_picture.specs.declared.fault.ProgramFault.{ProgramFault}

@@ -7,8 +7,8 @@ use Rattle.pfair_table.specs.Script.{LoggedRun, replica_of_logs}
 use Rattle.pfair_table.specs.ScriptRun.{IsRunOf}
 use Rattle.pfair_table.specs.Refinement.{Dispatch}
 use Rattle.pfair_file.specs.Documents.{script_of_file}
-use Rattle.pfair_drawing.specs.declared.shape.Drawing.{Drawing}
-use Rattle.pfair_drawing.specs.Inside.{LieInside}
+use Rattle.pfair_drawing.specs.declared.drawing.Drawing.{Drawing}
+use Rattle.pfair_drawing.specs.Lags.{AreLags}
 use Rattle.pfair_drawing.specs.Schedule.{AreRefused, IsSchedule}
 use Rattle.pfair_drawing.specs.Svg.{svg_text}
 use Rattle.pfair_picture.specs.declared.fault.ProgramFault.{ProgramFault}
@@ -28,7 +28,7 @@ end_of (Some slots) all = slots.1
 -- what a picture shows of some tables and the decisions before them
 abbrev pub Shows : Picture → List (List Decided) → List Table → (processors from to : ℕ) → Drawing → Type 0
 Shows Schedule decided tables processors from to drawn = IsSchedule decided tables processors from to drawn
-Shows Lags decided tables processors from to drawn = LieInside drawn
+Shows Lags decided tables processors from to drawn = AreLags decided tables from to drawn
 
 -- a picture of some slots of what a dispatcher has planned, which no picture refuses
 abbrev pub IsDrawnBetween : Picture → Dispatch → (from to : ℕ) → Drawing → Type 0

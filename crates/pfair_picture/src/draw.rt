@@ -7,7 +7,7 @@ ghost use Rattle.pfair_text.specs.Output.{TakesPrefix};
 ghost use Rattle.pfair_table.specs.ScriptRun.{IsRunOf};
 ghost use Rattle.pfair_table.specs.Script.{LoggedRun};
 ghost use Rattle.pfair_file.specs.Documents.{script_of_file};
-ghost use Rattle.pfair_drawing.specs.declared.shape.Drawing.{Drawing};
+ghost use Rattle.pfair_drawing.specs.declared.drawing.Drawing.{Drawing};
 ghost use Rattle.pfair_drawing.specs.Schedule.{AreRefused};
 ghost use Rattle.pfair_drawing.specs.Svg.{svg_text};
 ghost use Rattle.pfair_picture.specs.Pictures.{AreSlotsRefused, IsDrawnBetween, IsDrawnOf, IsFaultOfRun, IsOutputOf, IsRefusalOf, Shows, end_of, first_of};

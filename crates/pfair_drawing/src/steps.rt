@@ -1,0 +1,160 @@
+//! Lags as steps from slot to slot.
+
+ghost use Rattle.std.specs.Prelude.{◌≡◌, ◌++◌, ◌≤◌, ◌<◌, ◌^◌, ◌+◌, List, IfOk, OnOk, map, ℤ, ℕ};
+ghost use Rattle.pfair_lag.specs.Book.{lag_of, recorded};
+ghost use Rattle.pfair_drawing.specs.Frame.{IsFrame};
+ghost use Rattle.pfair_drawing.specs.Lags.{book_before, is_past, lag_height, lag_step, lag_steps, lag_y, task_step, zero_y};
+
+use crate::frame::Frame;
+use crate::mark::LagStep;
+use crate::names::row_of;
+use crate::shape::Point;
+use crate::slots::{decided_at, table_at};
+use pfair_lag::{LagBook, MAX_HORIZON};
+use pfair_output::tell_all;
+use pfair_ready::Ready;
+use pfair_table::{Dispatcher, Pick};
+use pfair_weight::TaskName;
+use std::alloc::{AllocError, Global};
+
+/// A step for each of the figure's slots and each task that is a member in it and isn't departing,
+/// from its lag at the slot's beginning to that at its end. It costs all slots before the figure's
+/// end.
+pub(crate) fn steps_of<R: Ready>(
+    alloc: Global,
+    frame: &Frame,
+    names: &[TaskName],
+    dispatcher: &Dispatcher<R>,
+) -> Result<Vec<LagStep>, AllocError>
+    requires { IsFrame frame.now }
+    ensures { IfOk result (λ made. made.items ≡ lag_steps frame.now names.now dispatcher.now.decided dispatcher.now.tables) }
+{
+    let mut steps = Vec::new(alloc);
+    let mut book = book_before(alloc, dispatcher, frame.from)?;
+    for slot in frame.from..frame.to {
+        tell_all(&mut book, decided_at(dispatcher, slot))?;
+        let table = table_at(dispatcher, slot);
+        add_slot(alloc, &mut steps, frame, names, &mut book, slot, table)?;
+    }
+    Ok(steps)
+}
+
+// The book of lags before the boundary of a slot.
+fn book_before<R: Ready>(
+    alloc: Global,
+    dispatcher: &Dispatcher<R>,
+    slot: u64,
+) -> Result<LagBook, AllocError>
+    requires { slot ≤ MAX_HORIZON }
+    ensures { IfOk result (λ book. book ≡ book_before dispatcher.now.decided dispatcher.now.tables slot) }
+{
+    let mut book = LagBook::new(alloc);
+    for earlier in 0..slot {
+        tell_all(&mut book, decided_at(dispatcher, earlier))?;
+        book.record(table_at(dispatcher, earlier));
+    }
+    Ok(book)
+}
+
+// Records a slot's table, and adds a step for each task of the book.
+fn add_slot(
+    alloc: Global,
+    steps: &mut Vec<LagStep>,
+    frame: &Frame,
+    names: &[TaskName],
+    book: &mut LagBook,
+    slot: u64,
+    table: &[Pick],
+) -> Result<(), AllocError>
+    requires frame { IsFrame frame.now }
+    requires slot { slot < MAX_HORIZON }
+    requires time { book.old.time < MAX_HORIZON }
+    ensures book { OnOk result (book.new ≡ recorded (map (λ p. p.name) table.now) book.old) }
+    ensures steps { OnOk result (steps.new.items ≡ steps.old.items ++ map (task_step frame.now names.now slot (map (λ p. p.name) table.now)) book.old.entered) }
+{
+    let before = lags_of(alloc, book)?;
+    book.record(table);
+    for (place, old) in before.iter().enumerate() {
+        if let Some((name, new)) = book.row_at(place) {
+            steps.push(lag_step(frame, row_of(names, *name), slot, *old, new))?;
+        }
+    }
+    Ok(())
+}
+
+// The lag of each task of a book, in their order, each as a numerator over its period.
+fn lags_of(alloc: Global, book: &LagBook) -> Result<Vec<(i64, u64)>, AllocError>
+    ensures { IfOk result (λ lags. lags.items ≡ map (λ e. lag_of e.1) book.now.entered) }
+{
+    let mut lags = Vec::new(alloc);
+    for place in 0..book.len() {
+        if let Some((_, lag)) = book.row_at(place) {
+            lags.push(lag)?;
+        }
+    }
+    Ok(lags)
+}
+
+// A task's step from the beginning of a slot to its end.
+fn lag_step(frame: &Frame, row: u64, slot: u64, old: (i64, u64), new: (i64, u64)) -> LagStep
+    requires frame { IsFrame frame.now }
+    requires slot { slot < MAX_HORIZON }
+    ensures { result ≡ lag_step frame.now row slot old new }
+{
+    LagStep {
+        from: Point {
+            x: frame.slot_x(slot),
+            y: lag_y(frame, row, old),
+        },
+        to: Point {
+            x: frame.slot_x(slot + 1),
+            y: lag_y(frame, row, new),
+        },
+        was_outside: is_past(old),
+        is_outside: is_past(new),
+    }
+}
+
+// Where a lag lies in a row: up where it is positive.
+fn lag_y(frame: &Frame, row: u64, lag: (i64, u64)) -> u64
+    requires { IsFrame frame.now }
+    ensures { result ≡ lag_y frame.now row lag }
+{
+    let zero = zero_y(frame, row);
+    let height = lag_height(frame, lag);
+    if lag.0 >= 0 {
+        zero - height
+    } else {
+        zero + height
+    }
+}
+
+/// Where a lag of 0 lies in a row.
+pub(crate) fn zero_y(frame: &Frame, row: u64) -> u64
+    requires { IsFrame frame.now }
+    ensures value { result ≡ zero_y frame.now row }
+    ensures low { frame.now.sizes.lane + frame.now.sizes.pad ≤ result }
+    ensures within { result < 2 ^ 40 }
+{
+    frame.row_y(row) + frame.sizes.pad + frame.sizes.lane
+}
+
+// How high a lag lies over or below that: a lag of 1 as high as a lane, and the pad past it at
+// most.
+fn lag_height(frame: &Frame, lag: (i64, u64)) -> u64
+    requires { IsFrame frame.now }
+    ensures value { result ≡ lag_height frame.now lag }
+    ensures within { result ≤ frame.now.sizes.lane + frame.now.sizes.pad }
+{
+    let (lane, most) = (frame.sizes.lane, frame.sizes.lane + frame.sizes.pad);
+    let size = lag.0.unsigned_abs() as u128;
+    let height = size * lane as u128 / lag.1.max(1) as u128;
+    height.min(most as u128) as u64
+}
+
+// Whether a lag is at or past a bound.
+fn is_past(lag: (i64, u64)) -> bool
+    ensures { result ≡ is_past lag }
+{
+    lag.0.unsigned_abs() >= lag.1
+}
