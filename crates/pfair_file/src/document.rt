@@ -11,6 +11,7 @@ use crate::fault::FileFault;
 use crate::field::Field;
 use crate::header::{read_settings, read_version};
 use crate::lookup::find;
+use crate::made::MOST_ENTRIES;
 use crate::tables::add_entries;
 use pfair_entry::Entry;
 use pfair_table::{Script, Settings};
@@ -76,7 +77,7 @@ fn read_logs(
 fn make_logs(alloc: Global, processors: u8) -> Result<Vec<Vec<Entry>>, AllocError>
     ensures ok { IfOk result (λ logs. lists_of logs.items ≡ empty_logs processors) }
     ensures count { IfOk result (λ logs. vec_len logs ≡ processors) }
-    ensures short { IfOk result (λ logs. All (λ log. vec_len log ≤ 4095) logs.items) }
+    ensures short { IfOk result (λ logs. All (λ log. vec_len log ≤ MOST_ENTRIES) logs.items) }
 {
     let mut logs = Vec::new(alloc);
     for _ in 0..processors {
@@ -88,12 +89,12 @@ fn make_logs(alloc: Global, processors: u8) -> Result<Vec<Vec<Entry>>, AllocErro
 // Adds the entries of a file.
 fn add_tables(logs: &mut Vec<Vec<Entry>>, version: u64, table: &Table) -> Result<(), FileFault>
     requires some { 1 ≤ vec_len logs.old }
-    requires few { vec_len logs.old ≤ 64 }
-    requires short { All (λ log. vec_len log ≤ 4095) logs.old.items }
+    requires few { vec_len logs.old ≤ Settings.MAX_PROCESSORS }
+    requires short { All (λ log. vec_len log ≤ MOST_ENTRIES) logs.old.items }
     ensures ok { OnOk result (entries_at version (lists_of logs.old.items) (table_view table.now) ≡ Ok (lists_of logs.new.items)) }
     ensures fault { IfErr result (λ f. f ≢ Memory → entries_at version (lists_of logs.old.items) (table_view table.now) ≡ Err f) }
     ensures same { vec_len logs.new ≡ vec_len logs.old }
-    ensures short { All (λ log. vec_len log ≤ 4095) logs.new.items }
+    ensures short { All (λ log. vec_len log ≤ MOST_ENTRIES) logs.new.items }
 {
     match find(table, Field::Entries) {
         None => Ok(()),
@@ -109,7 +110,7 @@ fn add_tables(logs: &mut Vec<Vec<Entry>>, version: u64, table: &Table) -> Result
 
 // Closes each log.
 fn close_logs(logs: &mut Vec<Vec<Entry>>, slots: u64) -> Result<(), AllocError>
-    requires { slots ≤ 1000000 }
+    requires { slots ≤ Settings.MAX_SLOTS }
     ensures closed { OnOk result (lists_of logs.new.items ≡ close_all slots (lists_of logs.old.items)) }
     ensures same { OnOk result (vec_len logs.new ≡ vec_len logs.old) }
 {
@@ -121,7 +122,7 @@ fn close_logs(logs: &mut Vec<Vec<Entry>>, slots: u64) -> Result<(), AllocError>
 
 // Adds the entry that closes a log, where its last floor is below the number of slots.
 fn close_log(log: &mut Vec<Entry>, slots: u64) -> Result<(), AllocError>
-    requires { slots ≤ 1000000 }
+    requires { slots ≤ Settings.MAX_SLOTS }
     ensures { OnOk result (log.new.items ≡ closed slots log.old.items) }
 {
     let is_open = match log.last() {
@@ -136,7 +137,7 @@ fn close_log(log: &mut Vec<Entry>, slots: u64) -> Result<(), AllocError>
 
 // The entry that closes a log of a run of so many slots.
 fn closing_entry(slots: u64) -> Entry
-    requires { slots ≤ 1000000 }
+    requires { slots ≤ Settings.MAX_SLOTS }
     ensures { result ≡ record { floor = slots; said = None } }
 {
     match Entry::new(slots, None) {

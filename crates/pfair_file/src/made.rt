@@ -14,8 +14,9 @@ use pfair_entry::{Announcement, Entry, EntryFault};
 use pfair_weight::{Weight, WeightFault};
 use toml::Table;
 
-// The most entries that a file can hold of one processor.
-const MOST_ENTRIES: usize = 4095;
+/// The most entries that a file can hold of one processor: one less than a log has, which the file's
+/// end closes.
+pub(crate) const MOST_ENTRIES: usize = 4095;
 
 /// What a table makes.
 #[derive(Clone, Copy)]
@@ -32,10 +33,10 @@ pub fn append(
     processor: u8,
     made: Result<Entry, EntryCause>,
 ) -> Result<(), FileFault>
-    requires { vec_len log.old ≤ 4095 }
+    requires { vec_len log.old ≤ MOST_ENTRIES }
     ensures ok { OnOk result (longer_log processor log.old.items made ≡ Ok log.new.items) }
     ensures fault { IfErr result (λ f. f ≢ Memory → longer_log processor log.old.items made ≡ Err f) }
-    ensures short { vec_len log.new ≤ 4095 }
+    ensures short { vec_len log.new ≤ MOST_ENTRIES }
 {
     match next_entry(log.as_slice(), made) {
         Ok(entry) => match log.push(entry) {

@@ -7,8 +7,9 @@ ghost use Rattle.pfair_file.specs.declared.fault.FileFault.TheVariants.{Memory};
 
 use crate::fault::FileFault;
 use crate::field::Field;
-use crate::made::{append, read_entry};
+use crate::made::{MOST_ENTRIES, append, read_entry};
 use pfair_entry::Entry;
+use pfair_table::Settings;
 use toml::{Table, Value};
 
 // Adds the entry of one table to the log of its processor.
@@ -19,12 +20,12 @@ fn add_entry(
     table: &Table,
 ) -> Result<(), FileFault>
     requires some { 1 ≤ vec_len logs.old }
-    requires few { vec_len logs.old ≤ 64 }
-    requires short { All (λ log. vec_len log ≤ 4095) logs.old.items }
+    requires few { vec_len logs.old ≤ Settings.MAX_PROCESSORS }
+    requires short { All (λ log. vec_len log ≤ MOST_ENTRIES) logs.old.items }
     ensures ok { OnOk result (with_entry version place (lists_of logs.old.items) (table_view table.now) ≡ Ok (lists_of logs.new.items)) }
     ensures fault { IfErr result (λ f. f ≢ Memory → with_entry version place (lists_of logs.old.items) (table_view table.now) ≡ Err f) }
     ensures same { vec_len logs.new ≡ vec_len logs.old }
-    ensures short { All (λ log. vec_len log ≤ 4095) logs.new.items }
+    ensures short { All (λ log. vec_len log ≤ MOST_ENTRIES) logs.new.items }
 {
     let made = read_entry(table, place, logs.len() as u64, version)?;
     let processor = made.processor;
@@ -50,12 +51,12 @@ pub fn add_entries(
     items: &[Value],
 ) -> Result<(), FileFault>
     requires some { 1 ≤ vec_len logs.old }
-    requires few { vec_len logs.old ≤ 64 }
-    requires short { All (λ log. vec_len log ≤ 4095) logs.old.items }
+    requires few { vec_len logs.old ≤ Settings.MAX_PROCESSORS }
+    requires short { All (λ log. vec_len log ≤ MOST_ENTRIES) logs.old.items }
     ensures ok { OnOk result (with_items version (lists_of logs.old.items) (items_view items.now) ≡ Ok (lists_of logs.new.items)) }
     ensures fault { IfErr result (λ f. f ≢ Memory → with_items version (lists_of logs.old.items) (items_view items.now) ≡ Err f) }
     ensures same { vec_len logs.new ≡ vec_len logs.old }
-    ensures short { All (λ log. vec_len log ≤ 4095) logs.new.items }
+    ensures short { All (λ log. vec_len log ≤ MOST_ENTRIES) logs.new.items }
 {
     let no_table = FileFault::WrongKind {
         place: 0,

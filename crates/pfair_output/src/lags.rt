@@ -16,7 +16,7 @@ use csv::Writer;
 use itoa::Buffer;
 use pfair_admission::Decision;
 use pfair_entry::Announcement;
-use pfair_lag::LagBook;
+use pfair_lag::{LagBook, MAX_HORIZON};
 use pfair_ready::Ready;
 use pfair_table::{Decided, Dispatcher};
 use pfair_text::{add_row, finish, new_text};
@@ -56,7 +56,7 @@ fn add_slot<R: Ready>(
     slot: u64,
 ) -> Result<(), AllocError>
     requires open { IsOpen writer.old }
-    requires room { book.old.time < 1000000 }
+    requires room { book.old.time < MAX_HORIZON }
     ensures open { OnOk result (IsOpen writer.new) }
     ensures book { OnOk result ((decided : List Decided) (table : Table)
         → slice_get dispatcher.now.decided slot ≡ Some decided → slice_get dispatcher.now.tables slot ≡ Some table

@@ -1,6 +1,8 @@
 -- A dispatcher's parts from one slot to the next, and from one replica to one that is above it.
 use Rattle.std.proofs.Common.{ℕ, zero, suc, ◌+◌, ◌*◌, ◌≤◌, ◌<◌, ◌≡◌, refl, sym, ap, ◌∙◌, subst, arith, inl, Bool, true, false, List, [], ◌∷◌, ◌++◌, length, map, Option, Some, None}
-use Rattle.std.specs.Prelude.{flat_map, ◌==◌, if◌then◌else◌}
+use Rattle.std.specs.Prelude.{flat_map, ◌==◌, if◌then◌else◌, Result, Ok, Err, IfOk, OnOk}
+use Rattle.std.specs.declared.alloc.AllocError.{AllocError}
+use Rattle.pfair_table.specs.declared.slot.SlotPlan.{SlotPlan}
 use Rattle.std.proofs.lemmas.List.{length-append, map-append}
 use Rattle.pfair_entry.specs.Entry.{Logged}
 use Rattle.pfair_entry.specs.declared.said.Said.{Said}
@@ -42,7 +44,7 @@ decided_is s x n before now waiting step all is =
     is ∙ (λ i. with_decisions (said x n) (boundary_decisions (m i) n (ms i) (announcements (said x n))))
 
 -- One slot on.
-pub step_next : (s : Settings) (x : Replica) (n : ℕ) (before after : Roster) (now now2 : ℕ) (waiting waiting2 : Held) (rows : Table) → IsInStep s x n before now waiting
+step_next : (s : Settings) (x : Replica) (n : ℕ) (before after : Roster) (now now2 : ℕ) (waiting waiting2 : Held) (rows : Table) → IsInStep s x n before now waiting
     → rows ≡ table s x n → after.machine ≡ before.machine → after.members ≡ all_ran rows (boundary before.machine n before.members (announcements (said x n)))
     → after.heard ≡ before.heard + length (said x n) → IsSteady (n + 1) after now2 waiting2 → IsInStep s x (n + 1) after now2 waiting2
 step_next s x n before after now now2 waiting waiting2 rows step rows_is machine_is ran_is heard_is steady =
@@ -54,6 +56,16 @@ step_next s x n before after now now2 waiting waiting2 rows step rows_is machine
       heard_is = heard_is ∙ ap (λ k. k + length (said x n)) step.heard_is ∙ ap (heard_before x) one;
       steady = steady;
     }
+
+-- so what a slot's plan leaves is in step
+pub step_after : (s : Settings) (x : Replica) (n : ℕ) (before after : Roster) (now now2 : ℕ) (waiting waiting2 : Held) (heard : List Said) (processors : ℕ) (r : Result SlotPlan AllocError)
+    → IsInStep s x n before now waiting → heard ≡ said x n → processors ≡ s.processors
+    → IfOk r (λ p. let w = boundary before.machine n before.members (announcements heard) in p.table.items ≡ map (pick w) (first_by_rank processors (eligible n w)))
+    → IfOk r (λ p. after.members ≡ all_ran p.table.items (boundary before.machine n before.members (announcements heard)))
+    → OnOk r (after.machine ≡ before.machine) → OnOk r (after.heard ≡ before.heard + length heard) → OnOk r (IsSteady (n + 1) after now2 waiting2) → OnOk r (IsInStep s x (n + 1) after now2 waiting2)
+step_after s x n before after now now2 waiting waiting2 heard processors (Ok p) step is many rows ran machine count steady =
+    step_next s x n before after now now2 waiting waiting2 p.table.items step (rows_are s x n before now waiting step processors many p.table.items (rw is at rows)) machine (rw is at ran) (rw is at count) steady
+step_after s x n before after now now2 waiting waiting2 heard processors (Err e) step is many rows ran machine count steady = tt
 
 -- ---- the growth law, for members and ready structure
 

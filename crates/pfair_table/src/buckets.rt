@@ -6,6 +6,7 @@ ghost use Rattle.pfair_table.specs.Laws.{EachNameOnce};
 ghost use Rattle.pfair_table.specs.Places.{place_of};
 
 use crate::pick::Pick;
+use crate::settings::Settings;
 use pfair_weight::TaskName;
 
 /// The rows of a table by buckets: for each of 256 buckets, into which names fall, one more than
@@ -18,7 +19,7 @@ pub(crate) struct Buckets {
 impl Buckets {
     /// Those of a table of at most 64 rows.
     pub(crate) fn of(table: &[Pick]) -> Buckets
-        requires { length table.now ≤ 64 }
+        requires { length table.now ≤ Settings.MAX_PROCESSORS }
         ensures { AreBucketsOf table.now result.ends }
     {
         let mut ends = [0; 256];

@@ -1,6 +1,6 @@
 //! The dispatcher.
 
-ghost use Rattle.std.specs.Prelude.{◌≡◌, ◌≤◌, ◌<◌, ◌++◌, ◌∷◌, [], true, false, IfOk, IfErr, OnOk, OnErr, Err, length, slice_get};
+ghost use Rattle.std.specs.Prelude.{◌≡◌, ◌≤◌, ◌<◌, ◌+◌, ◌++◌, ◌∷◌, [], true, false, IfOk, IfErr, OnOk, OnErr, Err, length, slice_get};
 ghost use Rattle.std.specs.Option.{option_map};
 ghost use Rattle.pfair_replica.specs.Replica.{Untorn, has_torn};
 ghost use Rattle.pfair_replica.specs.Offered.{taken, absorbed};
@@ -9,6 +9,7 @@ ghost use Rattle.pfair_replica.specs.Faults.{IsKeyOf, IsTakenAs, IsTakeFaultOf, 
 ghost use Rattle.pfair_table.specs.declared.event.Event.TheVariants.{Plan as PlanEvent};
 ghost use Rattle.pfair_table.specs.Events.{start, happens};
 ghost use Rattle.pfair_table.specs.Laws.{IsOf};
+ghost use Rattle.pfair_table.specs.Limits.{IsSettings};
 ghost use Rattle.pfair_table.specs.Table.{table, decisions};
 ghost use Rattle.std.specs.List.{AllByRecursion};
 ghost use Rattle.pfair_table.specs.Planned.{as_tables, as_places};
@@ -22,8 +23,9 @@ use crate::pick::{Decided, Pick};
 use crate::places::next_places;
 use crate::planned::{Planned, Schedule};
 use crate::readings::Readings;
+use crate::script::Script;
 use crate::settings::Settings;
-use crate::slot::plan_slot;
+use crate::slot::{SlotPlan, plan_slot};
 use pfair_admission::Members;
 use pfair_entry::Entry;
 use pfair_ready::Ready;
@@ -301,7 +303,7 @@ fn plan_onto<R: Ready>(
 ) -> Result<(), AllocError>
     requires of { IsOf settings (replica_of replica.now) }
     requires untorn { Untorn (replica_of replica.now) }
-    requires room { replica.now.capacity ≤ 4096 }
+    requires room { replica.now.capacity ≤ Script.LONGEST_LOG }
     requires slots { length planned.old.tables < settings.slots }
     requires readings { AreReadingsOf (replica_of replica.now) readings.old.by_processor.items }
     requires fit { AllByRecursion (IsFit settings.processors) planned.old.tables }
@@ -313,16 +315,7 @@ fn plan_onto<R: Ready>(
     ensures readings { AreReadingsOf (replica_of replica.now) readings.new.by_processor.items }
 {
     let slot = planned.len() as u64;
-    readings.read_on(replica)?;
-    let announced = readings.said(slot)?;
-    let next = plan_slot(
-        alloc,
-        &announced,
-        members,
-        ready,
-        settings.processors(),
-        slot,
-    )?;
+    let next = plan_in_step(alloc, settings, replica, readings, members, ready, slot)?;
     let places = next_places(alloc, planned, &next.table)?;
     planned.push(next.table, places, next.decided)?;
     Ok(())
@@ -338,25 +331,81 @@ fn plan_again<R: Ready>(
 ) -> Result<(Members, R), AllocError>
     requires of { IsOf settings (replica_of replica.now) }
     requires untorn { Untorn (replica_of replica.now) }
-    requires room { replica.now.capacity ≤ 4096 }
+    requires room { replica.now.capacity ≤ Script.LONGEST_LOG }
     requires readings { AreReadingsOf (replica_of replica.now) readings.old.by_processor.items }
     requires slots { slots ≤ settings.slots }
     ensures step { IfOk result (λ made. IsInStep settings (replica_of replica.now) slots made.0 (R.now made.1) (R.held made.1)) }
     ensures readings { AreReadingsOf (replica_of replica.now) readings.new.by_processor.items }
 {
-    readings.read_on(replica)?;
     let mut members = Members::new(alloc, settings.processors(), settings.frame());
     let mut ready = R::new(alloc);
-    for slot in 0..slots {
-        let said = readings.said(slot)?;
-        plan_slot(
-            alloc,
-            &said,
-            &mut members,
-            &mut ready,
-            settings.processors(),
-            slot,
-        )?;
-    }
+    plan_over(
+        alloc,
+        settings,
+        replica,
+        readings,
+        &mut members,
+        &mut ready,
+        slots,
+    )?;
     Ok((members, ready))
+}
+
+// Plans so many slots, from the first one on, of which the tables aren't wanted.
+fn plan_over<R: Ready>(
+    alloc: Global,
+    settings: Settings,
+    replica: &Replica,
+    readings: &mut Readings,
+    members: &mut Members,
+    ready: &mut R,
+    slots: u64,
+) -> Result<(), AllocError>
+    requires of { IsOf settings (replica_of replica.now) }
+    requires untorn { Untorn (replica_of replica.now) }
+    requires room { replica.now.capacity ≤ Script.LONGEST_LOG }
+    requires readings { AreReadingsOf (replica_of replica.now) readings.old.by_processor.items }
+    requires slots { slots ≤ settings.slots }
+    requires step { IsInStep settings (replica_of replica.now) 0 members.old (R.now ready.old) (R.held ready.old) }
+    ensures step { OnOk result (IsInStep settings (replica_of replica.now) slots members.new (R.now ready.new) (R.held ready.new)) }
+    ensures readings { AreReadingsOf (replica_of replica.now) readings.new.by_processor.items }
+{
+    for slot in 0..slots {
+        plan_in_step(alloc, settings, replica, readings, members, ready, slot)?;
+    }
+    Ok(())
+}
+
+// Plans slot n of the replica, on members and a ready structure that are in step with the n slots
+// before it.
+fn plan_in_step<R: Ready>(
+    alloc: Global,
+    settings: Settings,
+    replica: &Replica,
+    readings: &mut Readings,
+    members: &mut Members,
+    ready: &mut R,
+    slot: u64,
+) -> Result<SlotPlan, AllocError>
+    requires of { IsOf settings (replica_of replica.now) }
+    requires untorn { Untorn (replica_of replica.now) }
+    requires room { replica.now.capacity ≤ Script.LONGEST_LOG }
+    requires slot { slot < settings.slots }
+    requires readings { AreReadingsOf (replica_of replica.now) readings.old.by_processor.items }
+    requires step { IsInStep settings (replica_of replica.now) slot members.old (R.now ready.old) (R.held ready.old) }
+    ensures table { IfOk result (λ next. next.table.items ≡ table settings (replica_of replica.now) slot) }
+    ensures decided { IfOk result (λ next. next.decided.items ≡ decisions settings (replica_of replica.now) slot) }
+    ensures step { OnOk result (IsInStep settings (replica_of replica.now) (slot + 1) members.new (R.now ready.new) (R.held ready.new)) }
+    ensures limits { OnOk result (IsSettings settings) }
+    ensures readings { AreReadingsOf (replica_of replica.now) readings.new.by_processor.items }
+{
+    let announced = readings.heard(replica, slot)?;
+    plan_slot(
+        alloc,
+        &announced,
+        members,
+        ready,
+        settings.processors(),
+        slot,
+    )
 }

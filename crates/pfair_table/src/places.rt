@@ -10,6 +10,7 @@ ghost use Rattle.pfair_table.specs.PlacesInUse.{AreInUse};
 use crate::buckets::Buckets;
 use crate::pick::Pick;
 use crate::planned::Planned;
+use crate::settings::Settings;
 use std::alloc::{AllocError, Global};
 
 /// The places of the table that comes after the slots so far.
@@ -18,8 +19,8 @@ pub(crate) fn next_places(
     planned: &Planned,
     table: &[Pick],
 ) -> Result<Vec<u8>, AllocError>
-    requires fit { AllByRecursion (IsFit 64) planned.now.tables }
-    requires rows { length table.now ≤ 64 }
+    requires fit { AllByRecursion (IsFit Settings.MAX_PROCESSORS) planned.now.tables }
+    requires rows { length table.now ≤ Settings.MAX_PROCESSORS }
     ensures { IfOk result (λ places. places_of (planned.now.tables ++ table.now ∷ []) ≡ places_of planned.now.tables ++ places.items ∷ []) }
 {
     places_beside(alloc, planned.last_table(), planned.last_places(), table)
@@ -32,9 +33,9 @@ fn places_beside(
     places: &[u8],
     table: &[Pick],
 ) -> Result<Vec<u8>, AllocError>
-    requires before { IsFit 64 before.now }
+    requires before { IsFit Settings.MAX_PROCESSORS before.now }
     requires below { AllByRecursion (λ k. k < 64) places.now }
-    requires rows { length table.now ≤ 64 }
+    requires rows { length table.now ≤ Settings.MAX_PROCESSORS }
     ensures { IfOk result (λ here. here.items ≡ places_after before.now places.now table.now) }
 {
     let kept = keep_places(alloc, before, places, table)?;
@@ -48,7 +49,7 @@ fn keep_places(
     places: &[u8],
     table: &[Pick],
 ) -> Result<Vec<Option<u8>>, AllocError>
-    requires { IsFit 64 before.now }
+    requires { IsFit Settings.MAX_PROCESSORS before.now }
     ensures { IfOk result (λ kept. kept.items ≡ kept_places before.now places.now table.now) }
 {
     let buckets = Buckets::of(before);
@@ -62,7 +63,7 @@ fn keep_places(
 // The kept places, and for each other row the least processor that is not in use.
 fn fill_places(alloc: Global, kept: &[Option<u8>]) -> Result<Vec<u8>, AllocError>
     requires below { AllByRecursion (λ k. k < 64) (all_kept kept.now) }
-    requires rows { length kept.now ≤ 64 }
+    requires rows { length kept.now ≤ Settings.MAX_PROCESSORS }
     ensures { IfOk result (λ here. here.items ≡ filled (all_kept kept.now) kept.now) }
 {
     let mut in_use = use_kept(kept);

@@ -3,7 +3,7 @@
 ghost use Rattle.std.specs.Prelude.{◌≡◌, ℕ, [], IfOk, OnOk, length};
 ghost use Rattle.pfair_replica.specs.Agenda.{said_at};
 ghost use Rattle.pfair_replica.specs.HeldRows.{replica_of};
-ghost use Rattle.pfair_replica.specs.Replica.{Replica as Held, IsReplica, Untorn, sound_beginning};
+ghost use Rattle.pfair_replica.specs.Replica.{Replica as Held, IsReplica, Untorn, sound_beginning, said};
 ghost use Rattle.pfair_table.specs.Readings.{IsReadingOf, AreReadingsOf, AreWhole, said_by_all};
 
 use pfair_entry::Said;
@@ -73,8 +73,8 @@ impl Readings {
         })
     }
 
-    /// Reads on in all sound beginnings, from where it stood in each.
-    pub(crate) fn read_on(&mut self, replica: &Replica) -> Result<(), AllocError>
+    // Reads on in all sound beginnings, from where it stood in each.
+    fn read_on(&mut self, replica: &Replica) -> Result<(), AllocError>
         requires replica { IsReplica (replica_of replica.now) }
         requires untorn { Untorn (replica_of replica.now) }
         requires readings { AreReadingsOf (replica_of replica.now) self.old.by_processor.items }
@@ -87,8 +87,20 @@ impl Readings {
         Ok(())
     }
 
-    /// What was read for a slot, in order of processors, and of numbers for each processor.
-    pub(crate) fn said(&self, slot: u64) -> Result<Vec<Said>, AllocError>
+    /// What a replica says at a slot.
+    pub(crate) fn heard(&mut self, replica: &Replica, slot: u64) -> Result<Vec<Said>, AllocError>
+        requires replica { IsReplica (replica_of replica.now) }
+        requires untorn { Untorn (replica_of replica.now) }
+        requires readings { AreReadingsOf (replica_of replica.now) self.old.by_processor.items }
+        ensures readings { AreReadingsOf (replica_of replica.now) self.new.by_processor.items }
+        ensures heard { IfOk result (λ announced. announced.items ≡ said (replica_of replica.now) slot) }
+    {
+        self.read_on(replica)?;
+        self.said(slot)
+    }
+
+    // What was read for a slot, in order of processors, and of numbers for each processor.
+    fn said(&self, slot: u64) -> Result<Vec<Said>, AllocError>
         ensures { IfOk result (λ announced. announced.items ≡ said_by_all self.now.by_processor.items slot) }
     {
         let mut announced = Vec::new(self.alloc);

@@ -63,14 +63,8 @@ pub fn run_script<R: Ready>(alloc: Global, script: &Script) -> Result<Dispatcher
     ensures fault { IfErr result (IsScriptFaultOf script.now) }
 {
     let mut dispatcher = take_script(alloc, script)?;
-    let frontier = dispatcher.replica().frontier();
-    if frontier < script.settings().slots() {
-        return Err(ScriptFault::Stalled { slot: frontier });
-    }
-    match plan_all(&mut dispatcher) {
-        Ok(()) => Ok(dispatcher),
-        Err(_) => Err(ScriptFault::Memory),
-    }
+    plan_script(&mut dispatcher, script)?;
+    Ok(dispatcher)
 }
 
 /// The dispatcher that has taken every entry of a script's logs, and planned nothing. It costs the
@@ -92,13 +86,30 @@ pub fn take_script<R: Ready>(alloc: Global, script: &Script) -> Result<Dispatche
     Ok(dispatcher)
 }
 
+// Plans all slots of a script of which every entry was taken.
+fn plan_script<R: Ready>(dispatcher: &mut Dispatcher<R>, script: &Script) -> Result<(), ScriptFault>
+    requires settings { dispatcher.old.settings ≡ script.now.settings }
+    requires held { replica_of dispatcher.old.held ≡ replica_of_logs script.now.logs }
+    ensures ok { OnOk result (IsRunOf script.now dispatcher.new) }
+    ensures fault { IfErr result (IsScriptFaultOf script.now) }
+{
+    let frontier = dispatcher.replica().frontier();
+    if frontier < script.settings().slots() {
+        return Err(ScriptFault::Stalled { slot: frontier });
+    }
+    match plan_all(dispatcher) {
+        Ok(()) => Ok(()),
+        Err(_) => Err(ScriptFault::Memory),
+    }
+}
+
 // Takes the entries of one log, in order.
 fn take_log<R: Ready>(
     dispatcher: &mut Dispatcher<R>,
     processor: u8,
     log: &[Entry],
 ) -> Result<(), AllocError>
-    requires { length log.now ≤ 4096 }
+    requires { length log.now ≤ Script.LONGEST_LOG }
     ensures rest { dispatcher.new ≡ record dispatcher.old { held = dispatcher.new.held } }
     ensures held { OnOk result ((logs : List (List Logged)) → slice_get logs processor ≡ Some log.now
         → replica_of dispatcher.old.held ≡ held_so_far logs processor 0 → replica_of dispatcher.new.held ≡ held_so_far logs (processor + 1) 0) }

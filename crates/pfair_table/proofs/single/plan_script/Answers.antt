@@ -3,22 +3,22 @@ use Rattle.pfair_replica.specs.Replica.{frontier}
 use Rattle.pfair_replica.specs.HeldRows.{HeldRows, replica_of}
 use Rattle.pfair_table.specs.Table.{Settings}
 use Rattle.pfair_table.specs.Script.{replica_of_logs}
-use Rattle.pfair_table.proofs.single.run_script.Goals as goal
+use Rattle.pfair_table.proofs.single.plan_script.Goals as goal
 
 pub returns-then-frontier-slots-clause-fault : goal.returns-then-frontier-slots-clause-fault
 returns-then-frontier-slots-clause-fault g c =
     let slots_are : c.settings.result.slots ≡ c.args.script.now.settings.slots = ap (λ (s : Settings). s.slots) c.settings.ensures.value in (
-      c.frontier-frontier.ensures.value ∙ ap (λ (h : HeldRows). frontier (replica_of h)) c.replica.ensures.value ∙ ap frontier c.in_ok-dispatcher.ensures.held,
+      c.frontier-frontier.ensures.value ∙ ap (λ (h : HeldRows). frontier (replica_of h)) c.replica.ensures.value ∙ ap frontier c.requires.held,
       omega (arith, c.if-frontier-slots.true, c.slots.ensures.value, slots_are),
     )
 
 pub returns-in-Ok-clause-ok : goal.returns-in-Ok-clause-ok
 returns-in-Ok-clause-ok g c =
-    let held_is = c.in_ok-dispatcher.ensures.held in
+    let held_is = c.requires.held in
     let slots_are : c.settings.result.slots ≡ c.args.script.now.settings.slots = ap (λ (s : Settings). s.slots) c.settings.ensures.value in
     let mark_is : c.frontier-frontier.result ≡ frontier (replica_of_logs c.args.script.now.logs) = c.frontier-frontier.ensures.value ∙ ap (λ (h : HeldRows). frontier (replica_of h)) c.replica.ensures.value ∙ ap frontier held_is in
     record {
-      settings_are = c.in-Ok.ensures.settings ∙ c.in_ok-dispatcher.ensures.settings;
+      settings_are = c.in-Ok.ensures.settings ∙ c.requires.settings;
       held_is = ap replica_of c.in-Ok.ensures.held ∙ held_is;
       far_enough = omega (arith, c.if-frontier-slots.false, c.slots.ensures.value, slots_are, mark_is);
       whole = c.in-Ok.ensures.whole;

@@ -1,0 +1,11 @@
+use Rattle.std.proofs.Common.{◌≡◌, subst, List}
+use Rattle.std.specs.Prelude.{IfOk}
+use Rattle.pfair_entry.specs.declared.said.Said.{Said}
+use Rattle.pfair_replica.specs.HeldRows.{replica_of}
+use Rattle.pfair_table.proofs.ReadOn.{whole_said}
+use Rattle.pfair_table.proofs.readings.Readings.heard.Goals as goal
+
+pub returns-clause-heard : goal.returns-clause-heard
+returns-clause-heard c =
+    subst (λ (s : List Said). IfOk c.said.result (λ announced. announced.items ≡ s))
+    (whole_said (replica_of c.args.replica.now) c.read_on.new.self.by_processor.items c.in_ok-read_on.ensures.readings c.requires.replica c.requires.untorn c.in_ok-read_on.ensures.whole c.args.slot) c.said.ensures
