@@ -1,5 +1,5 @@
 -- How far the announcements of a boundary are decided, and how far delays can lead.
-use Rattle.std.proofs.Common.{◌≡◌, ℕ, zero, suc, ◌+◌, ◌*◌, ◌<◌, ◌≤◌, Bool, true, false, cond, List, [], ◌∷◌, ◌++◌, length, take, get_or, refl, sym, ap, subst, ◌∙◌, arith}
+use Rattle.std.proofs.Common.{◌≡◌, ℕ, zero, suc, ◌+◌, ◌-◌, ◌*◌, ◌<◌, ◌≤◌, Bool, true, false, cond, List, [], ◌∷◌, ◌++◌, length, take, get_or, None, refl, sym, ap, subst, ◌∙◌, arith}
 use Rattle.std.specs.Prelude.{not, if◌then◌else◌}
 use Rattle.std.specs.List.{AllByRecursion, filter}
 use Rattle.std.proofs.lemmas.List.{take_more}
@@ -15,10 +15,8 @@ use Rattle.pfair_entry.specs.declared.entry.TheConstants.Entry.{LAST_SLOT, LONGE
 use Rattle.pfair_admission.specs.declared.members.TheConstants.Members.{MAX_HEARD}
 use Rattle.pfair_admission.specs.Member.{Member, last_offset}
 use Rattle.pfair_admission.specs.Admission.{Machine, is_named, change, newcomer, with_freeing, with_delay, with_quantum, effect, is_freed, present, decision, decided, all_decided, all_decisions, announcements, ran}
-use Rattle.pfair_admission.specs.Removal.{NoneFreed}
-use Rattle.pfair_admission.specs.Roster.{Roster, EachBounded, EachHasRoom}
+use Rattle.pfair_admission.specs.Roster.{EachBounded, EachHasRoom}
 use Rattle.pfair_admission.specs.Standing.{Standing}
-use Rattle.pfair_admission.proofs.MemberLists.{none_freed_present}
 
 -- ---- how far delays lead
 
@@ -79,11 +77,6 @@ has_room n (x ∷ ms) few h = (let o = h.0 in omega arith, has_room n ms few h.1
 
 -- ---- how far the announcements are decided
 
--- nobody is freed after an announcement is decided
-none_freed_decided : (machine : Machine) (t : ℕ) (ms : List Member) (announced : List Announcement) → NoneFreed t ms → NoneFreed t (all_decided machine t ms announced)
-none_freed_decided machine t ms [] h = h
-none_freed_decided machine t ms (a ∷ more) h = none_freed_decided machine t (decided machine t ms a) more (none_freed_present t (effect t ms a (decision machine t ms a)))
-
 decided_push : (machine : Machine) (t : ℕ) (ms : List Member) (xs : List Announcement) (a : Announcement) → all_decided machine t ms (xs ++ a ∷ []) ≡ decided machine t (all_decided machine t ms xs) a
 decided_push machine t ms [] a = refl
 decided_push machine t ms (x ∷ xs) a = decided_push machine t (decided machine t ms x) xs a
@@ -93,31 +86,37 @@ decisions_push machine t ms [] a = refl
 decisions_push machine t ms (x ∷ xs) a = ap (λ (l : List Decision). decision machine t ms x ∷ l) (decisions_push machine t (decided machine t ms x) xs a)
 
 -- the first n are decided
-pub record SoFar (start : Roster) (t n : ℕ) (announced : List Announcement) (now : Roster) (all : List Decision) : Type 0 where
-  pub left : now ≡ record start { members = all_decided start.machine t start.members (take n announced); heard = start.heard + n }
+pub record SoFar (start : Standing) (t n : ℕ) (announced : List Announcement) (now : Standing) (all : List Decision) : Type 0 where
+  pub left : now ≡ record start { members = all_decided start.machine t start.members (take n announced) }
   pub told : all ≡ all_decisions start.machine t start.members (take n announced)
-
--- nobody is freed so far
-pub none_freed_so_far : (start : Roster) (t n : ℕ) (announced : List Announcement) (now : Roster) (all : List Decision) → SoFar start t n announced now all → NoneFreed t start.members → NoneFreed t now.members
-none_freed_so_far start t n announced now all s h = subst (λ (r : Roster). NoneFreed t r.members) (sym s.left) (none_freed_decided start.machine t start.members (take n announced) h)
+  pub bounded : (heard : ℕ) → EachBounded heard start.members → EachBounded (heard + n) now.members
 
 -- one announcement more is decided
-pub one_more : (start : Roster) (t n : ℕ) (announced : List Announcement) (now after : Roster) (all : List Decision) (a : Announcement) (d : Decision) → SoFar start t n announced now all → n < length announced → get_or announced n a ≡ a
-    → d ≡ decision now.machine t now.members a → after ≡ record now { members = decided now.machine t now.members a; heard = now.heard + 1 } → SoFar start t (n + 1) announced after (all ++ d ∷ [])
-one_more start t n announced now after all a d s within at is left =
+pub one_more : (start : Standing) (t n : ℕ) (announced : List Announcement) (now after : Standing) (all : List Decision) (a : Announcement) (d : Decision) → SoFar start t n announced now all → t ≤ LAST_SLOT → IsWithinLimits a → n < length announced → get_or announced n a ≡ a
+    → d ≡ decision now.machine t now.members a → after ≡ record now { members = decided now.machine t now.members a } → SoFar start t (n + 1) announced after (all ++ d ∷ [])
+one_more start t n announced now after all a d s in_time limits within at is left =
     let front : take (n + 1) announced ≡ take n announced ++ a ∷ [] = take_more announced n a within ∙ ap (λ (x : Announcement). take n announced ++ x ∷ []) at in
-    let of : List Member → Roster = λ ms. record start { members = ms; heard = start.heard + (n + 1) } in
-    let count : start.heard + n + 1 ≡ start.heard + (n + 1) = omega arith in
-    let with : ℕ → Roster = λ k. record start { members = decided start.machine t (all_decided start.machine t start.members (take n announced)) a; heard = k } in
+    let of : List Member → Standing = λ ms. record start { members = ms } in
     record {
       left =
-          left ∙ ap (λ (r : Roster). record r { members = decided r.machine t r.members a; heard = r.heard + 1 }) s.left
-          ∙ ap with count
+          left ∙ ap (λ (r : Standing). record r { members = decided r.machine t r.members a }) s.left
           ∙ ap of (sym (decided_push start.machine t start.members (take n announced) a) ∙ ap (all_decided start.machine t start.members) (sym front));
       told =
-          ap (λ (l : List Decision). l ++ d ∷ []) s.told ∙ ap (λ (x : Decision). all_decisions start.machine t start.members (take n announced) ++ x ∷ []) (is ∙ ap (λ (r : Roster). decision r.machine t r.members a) s.left)
+          ap (λ (l : List Decision). l ++ d ∷ []) s.told ∙ ap (λ (x : Decision). all_decisions start.machine t start.members (take n announced) ++ x ∷ []) (is ∙ ap (λ (r : Standing). decision r.machine t r.members a) s.left)
           ∙ sym (decisions_push start.machine t start.members (take n announced) a) ∙ ap (all_decisions start.machine t start.members) (sym front);
+      bounded = λ heard h.
+          let count : heard + n + 1 ≡ heard + (n + 1) = omega arith in
+          subst (λ (r : Standing). EachBounded (heard + (n + 1)) r.members) (sym left)
+          (subst (λ k. EachBounded k (decided now.machine t now.members a)) count (bounded_decided now.machine (heard + n) t now.members a in_time limits (s.bounded heard h)));
     }
+
+-- and more may be heard
+pub bounded_so_far : (start : Standing) (t n m : ℕ) (announced : List Announcement) (now : Standing) (all : List Decision) → SoFar start t n announced now all → n ≤ m → (heard : ℕ) → EachBounded heard start.members → EachBounded (heard + m) now.members
+bounded_so_far start t n m announced now all s more heard h = bounded_later (heard + n) (heard + m) (omega arith) now.members (s.bounded heard h)
+
+-- while there is more to hear each member has room for one delay more
+pub room_so_far : (start : Standing) (t n m : ℕ) (announced : List Announcement) (now : Standing) (all : List Decision) → SoFar start t n announced now all → n < m → m ≤ MAX_HEARD → EachBounded (MAX_HEARD - m) start.members → EachHasRoom now.members
+room_so_far start t n m announced now all s more few h = has_room (MAX_HEARD - m + n) now.members (omega arith) (s.bounded (MAX_HEARD - m) h)
 
 -- ---- announcements at their places
 
@@ -142,6 +141,10 @@ pub limits_item : (xs : List Said) (i : ℕ) (x : Said) → AllByRecursion (λ a
 limits_item xs i x h within is = subst (λ (a : Said). IsWithinLimits a.announcement) (sym is) (limits_at xs i x h within)
 
 -- what a quantum leaves
+pub ran_settled : (s after : Standing) (name : List ℕ) (b : Bool) → after ≡ (if b then record s { members = ran name s.members } else s) → s.under_way ≡ None → after.under_way ≡ None
+ran_settled s after name true is e = ap (λ (r : Standing). r.under_way) is ∙ e
+ran_settled s after name false is e = ap (λ (r : Standing). r.under_way) is ∙ e
+
 pub bounded_run : (n : ℕ) (name : List ℕ) (s after : Standing) (b : Bool) → after ≡ (if b then record s { members = ran name s.members } else s) → EachBounded n s.members → EachBounded n after.members
 bounded_run n name s after true is h = subst (λ (r : Standing). EachBounded n r.members) (sym is) (bounded_ran n name s.members h)
 bounded_run n name s after false is h = subst (λ (r : Standing). EachBounded n r.members) (sym is) h

@@ -1,24 +1,23 @@
 -- What is left when an announcement is decided.
-use Rattle.std.proofs.Common.{◌≡◌, ℕ, ◌+◌, ◌*◌, ◌%◌, ◌<◌, ◌≤◌, Bool, true, false, cond, List, [], ◌∷◌, ◌++◌, Option, Some, None, Result, Ok, Err, IfOk, OnOk, OnErr, refl, sym, ap, subst, ◌∙◌, arith}
-use Rattle.std.specs.Prelude.{not, nat_le, nat_lt, ◌==◌, is_some, if◌then◌else◌}
+use Rattle.std.proofs.Common.{◌≡◌, ℕ, ◌+◌, ◌*◌, ◌%◌, ◌≤◌, Bool, true, false, cond, List, [], ◌∷◌, ◌++◌, Option, Some, None, Result, Ok, Err, IfOk, OnErr, refl, sym, ap, subst, ◌∙◌, arith}
+use Rattle.std.specs.Prelude.{not, nat_lt, ◌==◌, is_some, if◌then◌else◌}
 use Rattle.std.proofs.lemmas.List.Sums.{sum_by_push}
 use Rattle.std.proofs.Common.{inl, inr}
 use Rattle.std.proofs.lemmas.Bool.{cases_lt}
 use Rattle.std.proofs.lemmas.Bool.Decides.{nat_tests}
 use Rattle.pfair_weight.specs.Share.{Share, units_of}
 use Rattle.pfair_weight.specs.declared.window.TheConstants.{MAX_OFFSET}
-use Rattle.pfair_entry.specs.declared.announcement.Announcement.TheVariants.{Arrive, Depart, Late}
+use Rattle.pfair_entry.specs.declared.announcement.Announcement.TheVariants.{Arrive, Late}
 use Rattle.pfair_admission.specs.declared.decision.Decision.{Decision}
 use Rattle.pfair_admission.specs.declared.decision.Decision.TheVariants.{Admitted, Departing, Delayed, Refused}
 use Rattle.pfair_admission.specs.declared.refusal.Refusal.TheVariants.{NameTaken, PeriodOutsideFrame, NoRoom}
 use Rattle.pfair_entry.specs.declared.entry.TheConstants.Entry.{LONGEST_DELAY}
 use Rattle.pfair_admission.specs.declared.members.TheConstants.Members.{MAX_PROCESSORS, MAX_FRAME}
 use Rattle.pfair_admission.specs.Member.{Member, last_offset}
-use Rattle.pfair_admission.specs.Admission.{Machine, is_named, member_named, claimed, arrival, departure, late_release, change, newcomer, with_freeing, with_delay, with_quantum, effect, present, decided, ran}
-use Rattle.pfair_admission.specs.Removal.{without, NoneFreedBefore, NoneFreed}
-use Rattle.pfair_admission.specs.Roster.{NamesApart, EachHasRoom}
-use Rattle.pfair_admission.specs.Standing.{Standing}
-use Rattle.pfair_admission.proofs.MemberLists.{present_all, none_freed_push, none_freed_change, gone_at_once, first_change, claimed_change, claimed_without, units_named}
+use Rattle.pfair_admission.specs.Admission.{Machine, is_named, member_named, claimed, arrival, newcomer, with_delay, with_quantum, effect, present, decided, ran}
+use Rattle.pfair_admission.specs.Removal.{NoneFreedBefore, NoneFreed}
+use Rattle.pfair_admission.specs.Roster.{EachHasRoom}
+use Rattle.pfair_admission.proofs.MemberLists.{present_all, none_freed_push, first_change, claimed_change}
 
 pub product_fits : (p f : ℕ) → p ≤ MAX_PROCESSORS → f ≤ MAX_FRAME → p * f ≤ MAX_PROCESSORS * MAX_FRAME
 product_fits p f a b = grind arith
@@ -74,41 +73,6 @@ not_arrived machine t ms name w early d h other is = sym (present_all t ms h) �
 pub claimed_arrived : (frame t : ℕ) (ms : List Member) (name : List ℕ) (w : Share) (early : Bool) → claimed frame (ms ++ newcomer t name w early ∷ []) ≡ claimed frame ms + units_of w frame
 claimed_arrived frame t ms name w early = sum_by_push (λ (m : Member). units_of m.weight frame) ms (newcomer t name w early)
 
--- ---- departures
-
--- who departs stays until a later slot
-pub departs_later : (machine : Machine) (t slot : ℕ) (ms after : List Member) (name : List ℕ) → NoneFreed t ms → t < slot → Departing slot ≡ departure t (member_named ms name) → after ≡ effect t ms (Depart name) (Departing slot) → after ≡ decided machine t ms (Depart name)
-departs_later machine t slot ms after name h later is changed =
-    let stays : nat_le slot t ≡ false = grind (arith, nat_tests) in
-    changed ∙ sym (present_all t (change name (with_freeing slot) ms) (none_freed_change t name (with_freeing slot) ms (λ m _. stays) h))
-    ∙ ap (λ (d : Decision). present t (effect t ms (Depart name) d)) is
-
--- or goes at once
-pub departs_now : (machine : Machine) (t slot : ℕ) (ms after gone : List Member) (name : List ℕ) → NoneFreed t ms → slot ≤ t → Departing slot ≡ departure t (member_named ms name) → after ≡ effect t ms (Depart name) (Departing slot) → gone ≡ without name after → gone ≡ decided machine t ms (Depart name)
-departs_now machine t slot ms after gone name h now is changed removed =
-    removed ∙ ap (without name) changed ∙ gone_at_once t slot name ms now h
-    ∙ ap (λ (d : Decision). present t (effect t ms (Depart name) d)) is
-
--- or is refused
-refused_departure : (t : ℕ) (ms : List Member) (name : List ℕ) (d : Decision) → ((slot : ℕ) → d ≡ Departing slot → ⊥) → effect t ms (Depart name) d ≡ ms
-refused_departure t ms name (Departing slot) other = absurd (other slot refl)
-refused_departure t ms name Admitted other = refl
-refused_departure t ms name Delayed other = refl
-refused_departure t ms name (Refused r) other = refl
-
-pub not_departs : (t : ℕ) (ms after : List Member) (name : List ℕ) (d : Decision) → ((slot : ℕ) → d ≡ Departing slot → ⊥) → after ≡ effect t ms (Depart name) d → after ≡ ms
-not_departs t ms after name d other changed = changed ∙ refused_departure t ms name d other
-
-pub stays_decided : (machine : Machine) (t : ℕ) (ms : List Member) (name : List ℕ) (d : Decision) → NoneFreed t ms → ((slot : ℕ) → d ≡ Departing slot → ⊥) → d ≡ departure t (member_named ms name) → ms ≡ decided machine t ms (Depart name)
-stays_decided machine t ms name d h other is =
-    sym (present_all t ms h) ∙ ap (present t) (sym (refused_departure t ms name d other)) ∙ ap (λ (d : Decision). present t (effect t ms (Depart name) d)) is
-
--- what is claimed without the member that went
-pub claimed_gone : (frame slot : ℕ) (ms after gone : List Member) (name : List ℕ) (m : Option Member) → NamesApart after → after ≡ change name (with_freeing slot) ms → gone ≡ without name after → m ≡ member_named after name → claimed frame gone + units_named frame m ≡ claimed frame ms
-claimed_gone frame slot ms after gone name m apart changed removed found =
-    ap (λ (l : List Member). claimed frame l + units_named frame m) removed ∙ ap (λ (o : Option Member). claimed frame (without name after) + units_named frame o) found
-    ∙ claimed_without frame name after apart ∙ ap (claimed frame) changed ∙ claimed_change frame name (with_freeing slot) (λ _. refl) ms
-
 -- ---- late releases
 
 -- the named member has room for one delay more
@@ -123,13 +87,7 @@ room_of_named (x ∷ ms) name m h found =
     same : (x y : Member) → Some x ≡ Some y → x ≡ y
     same x y e = cc
 
-none_freed_late : (t : ℕ) (ms : List Member) (name : List ℕ) (index by : ℕ) (d : Decision) → NoneFreed t ms → NoneFreed t (effect t ms (Late name index by) d)
-none_freed_late t ms name index by Delayed h = none_freed_change t name (with_delay index by) ms (λ _ e. e) h
-none_freed_late t ms name index by Admitted h = h
-none_freed_late t ms name index by (Departing slot) h = h
-none_freed_late t ms name index by (Refused r) h = h
-
-claimed_late : (frame t : ℕ) (ms : List Member) (name : List ℕ) (index by : ℕ) (d : Decision) → claimed frame (effect t ms (Late name index by) d) ≡ claimed frame ms
+pub claimed_late : (frame t : ℕ) (ms : List Member) (name : List ℕ) (index by : ℕ) (d : Decision) → claimed frame (effect t ms (Late name index by) d) ≡ claimed frame ms
 claimed_late frame t ms name index by Delayed = claimed_change frame name (with_delay index by) (λ _. refl) ms
 claimed_late frame t ms name index by Admitted = refl
 claimed_late frame t ms name index by (Departing slot) = refl
@@ -140,17 +98,6 @@ first_late first t ms name index by Delayed h = first_change first name (with_de
 first_late first t ms name index by Admitted h = h
 first_late first t ms name index by (Departing slot) h = h
 first_late first t ms name index by (Refused r) h = h
-
-pub late_decided : {E : Type 0} (r : Result Decision E) (machine : Machine) (t : ℕ) (ms after : List Member) (name : List ℕ) (index by : ℕ) → NoneFreed t ms
-    → IfOk r (λ d. d ≡ late_release t (member_named ms name) index) → IfOk r (λ d. after ≡ effect t ms (Late name index by) d) → OnOk r (after ≡ decided machine t ms (Late name index by))
-late_decided (Ok d) machine t ms after name index by h is changed =
-    changed ∙ sym (present_all t (effect t ms (Late name index by) d) (none_freed_late t ms name index by d h)) ∙ ap (λ (d : Decision). present t (effect t ms (Late name index by) d)) is
-late_decided (Err e) machine t ms after name index by h is changed = is
-
-pub late_claimed : {E : Type 0} (r : Result Decision E) (frame t : ℕ) (ms after : List Member) (name : List ℕ) (index by : ℕ)
-    → IfOk r (λ d. after ≡ effect t ms (Late name index by) d) → OnErr r (after ≡ ms) → claimed frame after ≡ claimed frame ms
-late_claimed (Ok d) frame t ms after name index by changed same = ap (claimed frame) changed ∙ claimed_late frame t ms name index by d
-late_claimed (Err e) frame t ms after name index by changed same = ap (claimed frame) same
 
 pub late_first : {E : Type 0} (r : Result Decision E) (first : Option ℕ) (t : ℕ) (ms after : List Member) (name : List ℕ) (index by : ℕ)
     → IfOk r (λ d. after ≡ effect t ms (Late name index by) d) → OnErr r (after ≡ ms) → NoneFreedBefore first ms → NoneFreedBefore first after
@@ -166,12 +113,3 @@ claimed_ran frame name ms after false is = ap (claimed frame) is
 pub first_ran : (first : Option ℕ) (name : List ℕ) (ms after : List Member) (b : Bool) → after ≡ (if b then ran name ms else ms) → NoneFreedBefore first ms → NoneFreedBefore first after
 first_ran first name ms after true is h = subst (NoneFreedBefore first) (sym is) (first_change first name with_quantum ms (λ _. refl) h)
 first_ran first name ms after false is h = subst (NoneFreedBefore first) (sym is) h
-
--- ---- the members, with their machine
-
-abbrev pub standing : Machine → List Member → Standing
-standing machine ms = record { machine = machine; members = ms }
-
-pub on_ok_with : {A E : Type 0} (r : Result A E) (machine : Machine) (ms after : List Member) → OnOk r (ms ≡ after) → OnOk r (standing machine ms ≡ standing machine after)
-on_ok_with (Ok x) machine ms after e = ap (standing machine) e
-on_ok_with (Err x) machine ms after e = e

@@ -2,6 +2,7 @@ mod Boundaries
 mod Changes
 mod Deciding
 mod Delays
+mod Gone
 mod Keeping
 mod MemberLists
 mod Registers

@@ -1,16 +1,12 @@
 -- Lists of members: who is freed, and what they claim.
 use Rattle.std.proofs.Common.{◌≡◌, ℕ, zero, suc, ◌+◌, ◌≤◌, ◌<◌, min, get_or, Bool, true, false, cond, List, [], ◌∷◌, ◌++◌, Option, Some, None, refl, sym, ap, subst, ◌∙◌, arith}
-use Rattle.std.specs.Prelude.{not, nat_le, map, length, take}
-use Rattle.std.specs.List.{AllByRecursion, IsDistinct}
-use Rattle.std.specs.Cmp.Lexicographic.{bytes_decides}
+use Rattle.std.specs.Prelude.{not, nat_le, length, take}
 use Rattle.std.proofs.lemmas.List.Sums.{sum_by-cons}
 use Rattle.std.proofs.lemmas.Bool.Decides.{nat_tests}
 use Rattle.pfair_weight.specs.Share.{Share, units_of}
-use Rattle.pfair_entry.specs.Same.{name_eq}
 use Rattle.pfair_admission.specs.Member.{Member}
-use Rattle.pfair_admission.specs.Admission.{is_named, member_named, claimed, change, with_freeing, is_freed, present}
-use Rattle.pfair_admission.specs.Removal.{without, earlier_of, IsNotBefore, NoneFreedBefore, SomeFreedAt, NoneFreed}
-use Rattle.pfair_admission.specs.Roster.{NamesApart}
+use Rattle.pfair_admission.specs.Admission.{is_named, claimed, change, with_freeing, is_freed, present}
+use Rattle.pfair_admission.specs.Removal.{earlier_of, IsNotBefore, NoneFreedBefore, SomeFreedAt, NoneFreed}
 use Rattle.pfair_admission.proofs.Sums.{sum_filter}
 
 -- ---- who is freed
@@ -48,23 +44,6 @@ later_stays t (Some first) (Some slot) before not_before = grind (arith, nat_tes
 pub none_freed_before : (t : ℕ) (first : Option ℕ) (ms : List Member) → is_freed t first ≡ false → NoneFreedBefore first ms → NoneFreed t ms
 none_freed_before t first [] before h = tt
 none_freed_before t first (m ∷ ms) before h = (later_stays t first m.freed_at before h.0, none_freed_before t first ms before h.1)
-
--- who departs and is freed at once goes, and nobody else
-pub gone_at_once : (t slot : ℕ) (name : List ℕ) (ms : List Member) → slot ≤ t → NoneFreed t ms → without name (change name (with_freeing slot) ms) ≡ present t (change name (with_freeing slot) ms)
-gone_at_once t slot name [] now h = refl
-gone_at_once t slot name (m ∷ ms) now h =
-    let freed : nat_le slot t ≡ true = grind (arith, nat_tests) in
-    let rest : without name (change name (with_freeing slot) ms) ≡ present t (change name (with_freeing slot) ms) = gone_at_once t slot name ms now h.1 in
-    (elim (is_named name m) as (λ b. is_named name m ≡ b →
-    cond (not (is_named name (cond b (with_freeing slot m) m))) (cond b (with_freeing slot m) m ∷ without name (change name (with_freeing slot) ms)) (without name (change name (with_freeing slot) ms))
-    ≡ cond (not (is_freed t (cond b (with_freeing slot m) m).freed_at)) (cond b (with_freeing slot m) m ∷ present t (change name (with_freeing slot) ms)) (present t (change name (with_freeing slot) ms))) [
-      | true ↦ λ named.
-          ap (λ b. cond (not b) (with_freeing slot m ∷ without name (change name (with_freeing slot) ms)) (without name (change name (with_freeing slot) ms))) named
-          ∙ rest ∙ sym (ap (λ b. cond (not b) (with_freeing slot m ∷ present t (change name (with_freeing slot) ms)) (present t (change name (with_freeing slot) ms))) freed)
-      | false ↦ λ other.
-          ap (λ b. cond (not b) (m ∷ without name (change name (with_freeing slot) ms)) (without name (change name (with_freeing slot) ms))) other
-          ∙ ap (λ (l : List Member). m ∷ l) rest ∙ sym (ap (λ b. cond (not b) (m ∷ present t (change name (with_freeing slot) ms)) (present t (change name (with_freeing slot) ms))) h.0)
-    ]) refl
 
 -- ---- the first freeing slot
 
@@ -121,15 +100,6 @@ pub first_push : (first : Option ℕ) (ms : List Member) (m : Member) → m.free
 first_push first [] m none h = (subst (IsNotBefore first) (sym none) tt, tt)
 first_push first (x ∷ ms) m none h = (h.0, first_push first ms m none h.1)
 
--- who departs at once leaves the first freeing slot as it was
-pub first_without : (first : Option ℕ) (slot : ℕ) (name : List ℕ) (ms : List Member) → NoneFreedBefore first ms → NoneFreedBefore first (without name (change name (with_freeing slot) ms))
-first_without first slot name [] h = tt
-first_without first slot name (m ∷ ms) h =
-    (elim (is_named name m) as (λ b. is_named name m ≡ b → NoneFreedBefore first (cond (not (is_named name (cond b (with_freeing slot m) m))) (cond b (with_freeing slot m) m ∷ without name (change name (with_freeing slot) ms)) (without name (change name (with_freeing slot) ms)))) [
-      | true ↦ λ named. subst (λ b. NoneFreedBefore first (cond (not b) (with_freeing slot m ∷ without name (change name (with_freeing slot) ms)) (without name (change name (with_freeing slot) ms)))) (sym named) (first_without first slot name ms h.1)
-      | false ↦ λ other. subst (λ b. NoneFreedBefore first (cond (not b) (m ∷ without name (change name (with_freeing slot) ms)) (without name (change name (with_freeing slot) ms)))) (sym other) (h.0, first_without first slot name ms h.1)
-    ]) refl
-
 -- ---- what is claimed
 
 -- a change that keeps the weight keeps the claim
@@ -144,32 +114,3 @@ claimed_change frame name f keeps (m ∷ ms) =
 
 pub claimed_present : (frame t : ℕ) (ms : List Member) → claimed frame (present t ms) ≤ claimed frame ms
 claimed_present frame t ms = sum_filter (λ (m : Member). units_of m.weight frame) (λ (m : Member). not (is_freed t m.freed_at)) ms
-
--- the units of the named member
-abbrev pub units_named : ℕ → Option Member → ℕ
-units_named frame None = 0
-units_named frame (Some m) = units_of m.weight frame
-
--- who has none of these names stays
-others_all : (name : List ℕ) (ms : List Member) → AllByRecursion (λ n. name_eq name n ≡ false) (map (λ (m : Member). m.name) ms) → without name ms ≡ ms
-others_all name [] apart = refl
-others_all name (m ∷ ms) apart = ap (λ b. cond (not b) (m ∷ without name ms) (without name ms)) apart.0 ∙ ap (λ (l : List Member). m ∷ l) (others_all name ms apart.1)
-
--- without the named member the claim is lower by its units
-pub claimed_without : (frame : ℕ) (name : List ℕ) (ms : List Member) → NamesApart ms → claimed frame (without name ms) + units_named frame (member_named ms name) ≡ claimed frame ms
-unfolding IsDistinct
-claimed_without frame name [] apart = refl
-claimed_without frame name (m ∷ ms) apart =
-    (elim (is_named name m) as (λ b. is_named name m ≡ b → claimed frame (cond (not b) (m ∷ without name ms) (without name ms)) + units_named frame (cond b (Some m) (member_named ms name)) ≡ claimed frame (m ∷ ms)) [
-      | true ↦ λ named.
-          let is : name ≡ m.name = (bytes_decides name m.name).0 named in
-          let others : AllByRecursion (λ n. name_eq name n ≡ false) (map (λ (m : Member). m.name) ms) = subst (λ (k : List ℕ). AllByRecursion (λ n. name_eq k n ≡ false) (map (λ (m : Member). m.name) ms)) (sym is) apart.0 in
-          let rest : claimed frame (without name ms) ≡ claimed frame ms = ap (claimed frame) (others_all name ms others) in
-          let all : claimed frame (m ∷ ms) ≡ units_of m.weight frame + claimed frame ms = sum_by-cons (λ (m : Member). units_of m.weight frame) m ms in
-          omega arith
-      | false ↦ λ other.
-          let rest : claimed frame (without name ms) + units_named frame (member_named ms name) ≡ claimed frame ms = claimed_without frame name ms apart.1 in
-          let all : claimed frame (m ∷ ms) ≡ units_of m.weight frame + claimed frame ms = sum_by-cons (λ (m : Member). units_of m.weight frame) m ms in
-          let kept : claimed frame (m ∷ without name ms) ≡ units_of m.weight frame + claimed frame (without name ms) = sum_by-cons (λ (m : Member). units_of m.weight frame) m (without name ms) in
-          omega arith
-    ]) refl

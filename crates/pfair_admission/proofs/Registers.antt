@@ -1,28 +1,20 @@
 -- A register's entries, and its members.
 use Rattle.std.proofs.Common.{◌≡◌, ℕ, zero, suc, Bool, true, false, cond, List, [], ◌∷◌, ◌++◌, map, length, get_or, Option, Some, None, refl, sym, ap, subst, ◌∙◌}
-use Rattle.std.specs.Prelude.{slice_get, position, not}
+use Rattle.std.specs.Prelude.{slice_get}
 use Rattle.std.specs.List.{AllByRecursion, IsDistinct, filter}
 use Rattle.std.specs.Option.{option_map, is_some}
-use Rattle.std.specs.Map.{keys_of, values_of, lookup, remove_entry}
+use Rattle.std.specs.Map.{keys_of, values_of, lookup}
 use Rattle.std.specs.Cmp.Lexicographic.{bytes_decides, nat_list_eq_equiv}
-use Rattle.std.proofs.lemmas.Option.{slice_get-get_or}
-use Rattle.std.proofs.lemmas.List.Quantifiers.{position-Some}
 use Rattle.indexmap.specs.IndexMap.{set_value_at}
+use Rattle.pfair_weight.specs.Options.{some_inj, none_some}
 use Rattle.pfair_entry.specs.Same.{name_eq}
 use Rattle.pfair_admission.specs.Member.{Member}
-use Rattle.pfair_admission.specs.Admission.{member_named, change}
+use Rattle.pfair_admission.specs.Admission.{is_named, member_named, change}
 use Rattle.pfair_admission.specs.Registry.{EachUnderItsName}
-use Rattle.pfair_admission.specs.Removal.{without}
 use Rattle.pfair_admission.specs.Roster.{NamesApart}
 
 abbrev pub Entries : Type 0
 Entries = List (List ℕ × Member)
-
-pub some_inj : {A : Type 0} (x y : A) → Some x ≡ Some y → x ≡ y
-some_inj x y e = cc
-
-pub none_some : {A : Type 0} (x : A) → None ≡ Some x → ⊥
-none_some x e = cc
 
 -- a member is found under a name exactly as by its own name
 pub found_by_name : (name : List ℕ) (es : Entries) → EachUnderItsName es → lookup (name_eq name) es ≡ member_named (values_of es) name
@@ -50,20 +42,19 @@ entry_at_place [] i h = refl
 entry_at_place (e ∷ es) zero h = ap (λ (k : List ℕ). Some (k, e.1)) (sym h.0)
 entry_at_place (e ∷ es) (suc i) h = entry_at_place es i h.1
 
--- the key that is looked for stands at the place that is found
-key_at : (ks : List (List ℕ)) (name : List ℕ) (i : ℕ) → position (name_eq name) ks ≡ Some i → slice_get ks i ≡ Some name
-key_at ks name i e =
-    let f = position-Some (name_eq name) ks i name e in
-    slice_get-get_or ks i name f.0 ∙ ap Some (sym ((bytes_decides name (get_or ks i name)).0 f.1))
+-- who is found by a name has it
+found_named : (ms : List Member) (name : List ℕ) (m : Member) → member_named ms name ≡ Some m → m.name ≡ name
+found_named [] name m e = absurd (none_some m e)
+found_named (x ∷ ms) name m e =
+    (elim (is_named name x) as (λ b. is_named name x ≡ b → cond b (Some x) (member_named ms name) ≡ Some m → m.name ≡ name) [
+      | true ↦ λ named e. ap (λ (l : Member). l.name) (sym (some_inj x m e)) ∙ sym ((bytes_decides name x.name).0 named)
+      | false ↦ λ _ e. found_named ms name m e
+    ]) refl e
 
-entry_at : {K V : Type 0} (es : List (K × V)) (i : ℕ) (k : K) (v : V) → slice_get (keys_of es) i ≡ Some k → slice_get (values_of es) i ≡ Some v → slice_get es i ≡ Some (k, v)
-entry_at [] i k v e f = absurd (none_some k e)
-entry_at (e' ∷ es) zero k v e f = λ j. Some (some_inj e'.0 k e j, some_inj e'.1 v f j)
-entry_at (e' ∷ es) (suc i) k v e f = entry_at es i k v e f
-
--- the entry at the place that is found
-pub found_entry : (es : Entries) (name : List ℕ) (i : ℕ) (m : Member) → position (name_eq name) (keys_of es) ≡ Some i → slice_get (values_of es) i ≡ Some m → slice_get es i ≡ Some (name, m)
-found_entry es name i m e f = entry_at es i name m (key_at (keys_of es) name i e) f
+-- the entry at the place of a member that is found by its name
+pub found_entry : (es : Entries) (ms : List Member) (name : List ℕ) (i : ℕ) (m : Member) → EachUnderItsName es → member_named ms name ≡ Some m → slice_get (values_of es) i ≡ Some m → slice_get es i ≡ Some (name, m)
+found_entry es ms name i m h found at =
+    entry_at_place es i h ∙ ap (option_map (λ (m : Member). (m.name, m))) at ∙ ap (λ (n : List ℕ). Some (n, m)) (found_named ms name m found)
 
 -- a value that is written back where it was
 pub same_value : (es : Entries) (i : ℕ) (m : Member) → slice_get (values_of es) i ≡ Some m → set_value_at es i m ≡ es
@@ -130,47 +121,19 @@ named_filter p (e ∷ es) h =
       | false ↦ named_filter p es h.1
     ]
 
-others_all : (name : List ℕ) (es : Entries) → EachUnderItsName es → AllByRecursion (λ n. name_eq name n ≡ false) (keys_of es) → without name (values_of es) ≡ values_of es
-others_all name [] h apart = refl
-others_all name (e ∷ es) h apart =
-    let other : name_eq name e.1.name ≡ false = ap (name_eq name) h.0 ∙ apart.0 in
-    ap (λ b. cond (not b) (e.1 ∷ without name (values_of es)) (without name (values_of es))) other ∙ ap (λ (l : List Member). e.1 ∷ l) (others_all name es h.1 apart.1)
-
--- to take out the entry of a name is to keep all other members
-pub removed : (name : List ℕ) (es : Entries) → EachUnderItsName es → IsDistinct name_eq (keys_of es) → values_of (remove_entry (name_eq name) es) ≡ without name (values_of es)
-unfolding IsDistinct
-removed name [] h unique = refl
-removed name (e ∷ es) h unique =
-    let key : name_eq name e.0 ≡ name_eq name e.1.name = ap (name_eq name) (sym h.0) in
-    (elim (name_eq name e.0) as (λ b. name_eq name e.0 ≡ b → values_of (cond b es (e ∷ remove_entry (name_eq name) es)) ≡ cond (not b) (e.1 ∷ without name (values_of es)) (without name (values_of es))) [
-      | true ↦ λ found.
-          let is : name ≡ e.0 = (bytes_decides name e.0).0 found in
-          let apart : AllByRecursion (λ n. name_eq name n ≡ false) (keys_of es) = subst (λ (k : List ℕ). AllByRecursion (λ n. name_eq k n ≡ false) (keys_of es)) (sym is) unique.0 in
-          sym (others_all name es h.1 apart)
-      | false ↦ λ other. ap (λ (l : List Member). e.1 ∷ l) (removed name es h.1 unique.1)
-    ]) refl
-    ∙ ap (λ b. cond (not b) (e.1 ∷ without name (values_of es)) (without name (values_of es))) key
-
-pub named_removed : (name : List ℕ) (es : Entries) → EachUnderItsName es → EachUnderItsName (remove_entry (name_eq name) es)
-named_removed name [] h = tt
-named_removed name (e ∷ es) h =
-    elim (name_eq name e.0) as (λ b. EachUnderItsName (cond b es (e ∷ remove_entry (name_eq name) es))) [
-      | true ↦ h.1
-      | false ↦ (h.0, named_removed name es h.1)
-    ]
-
 -- the member at the place that is found is the named one
 pub found_member : (es : Entries) (name : List ℕ) (i : ℕ) (m : Member) → EachUnderItsName es → slice_get (values_of es) i ≡ lookup (name_eq name) es → slice_get (values_of es) i ≡ Some m → member_named (values_of es) name ≡ Some m
 found_member es name i m h at is = sym (found_by_name name es h) ∙ sym at ∙ is
 
--- where no place is found, no member has the name
+-- where no place is found, nothing is there
+pub none_there : {A B : Type 0} (place : Option A) (there : Option B) → ((i : A) → place ≡ Some i → ⊥) → is_some place ≡ is_some there → there ≡ None
+none_there (Some i) there none same = absurd (none i refl)
+none_there None None none same = refl
+none_there None (Some x) none same = cc
+
+-- and no member has the name
 pub no_member : (es : Entries) (name : List ℕ) (place : Option ℕ) → EachUnderItsName es → ((i : ℕ) → place ≡ Some i → ⊥) → is_some place ≡ is_some (lookup (name_eq name) es) → member_named (values_of es) name ≡ None
-no_member es name (Some i) h none same = absurd (none i refl)
-no_member es name None h none same = sym (found_by_name name es h) ∙ nothing (lookup (name_eq name) es) (sym same)
-  where
-    nothing : (o : Option Member) → is_some o ≡ false → o ≡ None
-    nothing None e = refl
-    nothing (Some x) e = cc
+no_member es name place h none same = sym (found_by_name name es h) ∙ none_there place (lookup (name_eq name) es) none same
 
 -- the names are apart, since the keys are
 pub names_apart : (es : Entries) → EachUnderItsName es → IsDistinct name_eq (keys_of es) → NamesApart (values_of es)

@@ -1,12 +1,23 @@
 -- Members that go, and when the first of them goes.
-use Rattle.std.specs.Prelude.{ℕ, min, false, ◌≡◌, ◌≤◌, not, List, filter, Option, Some, None, IfSome, Any, ⊤}
+use Rattle.std.specs.Prelude.{ℕ, min, false, ◌≡◌, ◌≤◌, ◌<◌, List, length, slice_get, Option, Some, None, is_some, if◌then◌else◌, IfSome, Any, ⊤}
 use Rattle.std.specs.List.{AllByRecursion}
+use Rattle.pfair_weight.specs.Share.{units_of}
 use Rattle.pfair_admission.specs.Member.{Member}
-use Rattle.pfair_admission.specs.Admission.{is_named, is_freed}
+use Rattle.pfair_admission.specs.Admission.{member_named, is_freed, present}
 
--- all members but the named one
-abbrev pub without : List ℕ → List Member → List Member
-without name members = filter (λ m. not (is_named name m)) members
+-- the member of that name, unless it is freed by slot t, stands at the place
+pub record StandsAt (members : List Member) (t : ℕ) (name : List ℕ) (place : ℕ) : Type 0 where
+  pub within : place < length members
+  pub there : slice_get members place ≡ member_named (present t members) name
+
+-- where some member has the name, those that are freed by slot t are gone
+abbrev pub cleared : ℕ → List ℕ → List Member → List Member
+cleared t name members = if is_some (member_named members name) then present t members else members
+
+-- the units of the named member
+abbrev pub units_named : ℕ → Option Member → ℕ
+units_named frame None = 0
+units_named frame (Some m) = units_of m.weight frame
 
 -- the earlier of two slots, where there are any
 abbrev pub earlier_of : Option ℕ → Option ℕ → Option ℕ

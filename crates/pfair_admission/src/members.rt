@@ -71,11 +71,14 @@ impl Members {
     /// calls.
     ///
     /// It costs three passes over all members where a freeing slot has come since the last
-    /// boundary, and none where not. Then each announcement costs a look-up of its name, and
+    /// boundary, two more where members depart and are freed at this very slot, which are held
+    /// until then, and none where neither is so. Then each announcement costs a look-up of its
+    /// name, and
     ///
-    /// - an arrival: a second one where it is admitted;
-    /// - a departure: a pass over the accepted delays of the member where it ran, and one over the
-    ///   members admitted after it where it is freed at its very stamp;
+    /// - an arrival: two more where it is admitted, and a pass over all members where its name is
+    ///   held for one that is freed at this very slot; all such go in that pass;
+    /// - a departure: a pass over the accepted delays of the member where it ran, and a second
+    ///   look-up where it is freed at its very stamp;
     /// - a late release: a number of steps that grows with the logarithm of the number of later
     ///   subtasks that are put off, and a pass over the accepted delays of the member where the
     ///   offset of its next subtask would have the named one released before `slot`.
@@ -97,48 +100,10 @@ impl Members {
         ensures heard { self.new.heard ≡ self.old.heard + length announced.now }
         ensures last_slot { self.new.last_slot ≡ Some slot }
     {
-        let heard_after = self.heard + announced.len() as u64;
-        self.ledger.free(slot);
+        let decisions = self.ledger.boundary(self.alloc, slot, announced);
+        self.heard += announced.len() as u64;
         self.last_slot = Some(slot);
-        let decisions = self.decide_all(slot, announced);
-        self.heard = heard_after;
         decisions
-    }
-
-    // The announcements are decided one by one.
-    fn decide_all(&mut self, slot: u64, announced: &[Said]) -> Result<Vec<Decision>, AllocError>
-        requires slot { slot ≤ Entry.LAST_SLOT }
-        requires present { NoneFreed slot self.old.members }
-        requires heard { self.old.heard + length announced.now ≤ Members.MAX_HEARD }
-        requires limits { AllByRecursion (λ a. IsWithinLimits a.announcement) announced.now }
-        ensures decisions { IfOk result (λ all. all.items ≡ all_decisions self.old.machine slot self.old.members (announcements announced.now)) }
-        ensures members { OnOk result (self.new.members ≡ all_decided self.old.machine slot self.old.members (announcements announced.now)) }
-        ensures err { OnErr result ((k : ℕ) × (self.new.members ≡ all_decided self.old.machine slot self.old.members (take k (announcements announced.now)))) }
-        ensures wanted { OnErr result (0 < length announced.now) }
-        ensures machine { self.new.machine ≡ self.old.machine }
-        ensures heard { self.new.heard ≤ self.old.heard + length announced.now }
-        ensures last_slot { self.new.last_slot ≡ self.old.last_slot }
-    {
-        let mut all = Vec::new(self.alloc);
-        for said in announced {
-            all.push(self.decide(slot, said.announcement)?)?;
-        }
-        Ok(all)
-    }
-
-    // One announcement is decided, and heard.
-    fn decide(&mut self, slot: u64, announcement: Announcement) -> Result<Decision, AllocError>
-        requires slot { slot ≤ Entry.LAST_SLOT }
-        requires present { NoneFreed slot self.old.members }
-        requires heard { self.old.heard < Members.MAX_HEARD }
-        requires limits { IsWithinLimits announcement }
-        ensures decision { IfOk result (λ d. d ≡ decision self.old.machine slot self.old.members announcement) }
-        ensures members { OnOk result (self.new ≡ record self.old { members = decided self.old.machine slot self.old.members announcement; heard = self.old.heard + 1 }) }
-        ensures err { OnErr result (self.new ≡ self.old) }
-    {
-        let decision = self.ledger.decide(self.alloc, slot, announcement)?;
-        self.heard += 1;
-        Ok(decision)
     }
 
     /// Gives the next subtask of the named member a quantum and answers the subtask's index, or

@@ -1,10 +1,10 @@
 //! The members by name, in the order of their admission.
-ghost use Rattle.std.specs.Prelude.{◌≡◌, ◌≤◌, ◌<◌, ◌+◌, ◌++◌, ◌∷◌, [], ◌^◌, OnOk, OnErr, IfOk, None, Some, is_some, not, map, length, slice_get, if◌then◌else◌};
+ghost use Rattle.std.specs.Prelude.{◌≡◌, ◌≤◌, ◌<◌, ◌+◌, ◌++◌, ◌∷◌, [], ◌^◌, OnOk, OnErr, IfOk, IfSome, None, Some, is_some, not, map, length, slice_get, if◌then◌else◌};
 ghost use Rattle.std.specs.Option.{ForSome, option_copied, option_map};
 ghost use Rattle.pfair_entry.specs.declared.announcement.Announcement.TheVariants.{Arrive, Depart, Late};
 ghost use Rattle.pfair_admission.specs.Member.{last_offset};
 ghost use Rattle.pfair_admission.specs.Admission.{member_named, departure, late_release, effect, present, claimed, running, ran, quantum_of, is_freed};
-ghost use Rattle.pfair_admission.specs.Removal.{without, earlier_of, NoneFreedBefore, SomeFreedAt};
+ghost use Rattle.pfair_admission.specs.Removal.{cleared, earlier_of, units_named, NoneFreedBefore, SomeFreedAt, StandsAt};
 ghost use Rattle.pfair_weight.specs.Share.{units_of};
 ghost use Rattle.pfair_admission.specs.Roster.{NamesApart};
 
@@ -77,18 +77,41 @@ impl Registry {
         Ok(())
     }
 
-    /// A member departs, if that isn't refused.
-    pub(crate) fn depart(&mut self, slot: u64, name: &TaskName) -> Decision
-        ensures decision { result ≡ departure slot (member_named self.old name.now) }
-        ensures members { self.new ≡ effect slot self.old (Depart name.now) result }
+    /// The place of the member of that name, unless it is freed by `slot`.
+    pub(crate) fn place_of(&self, slot: u64, name: &TaskName) -> Option<usize>
+        ensures found { is_some result ≡ is_some (member_named (present slot self.now) name.now) }
+        ensures some { IfSome result (StandsAt self.now slot name.now) }
     {
-        let Some(place) = self.members.get_index_of(name) else {
+        let place = self.members.get_index_of(name)?;
+        if has_come(self.members[place].freed_at(), slot) {
+            return None;
+        }
+        Some(place)
+    }
+
+    /// Where a member that is freed by `slot` has the name, all such members go.
+    pub(crate) fn make_way(&mut self, slot: u64, name: &TaskName)
+        ensures { self.new ≡ cleared slot name.now self.old }
+    {
+        if self.members.contains_key(name) {
+            self.keep_present(slot);
+        }
+    }
+
+    /// A member departs, if that isn't refused. Who is freed by `slot` is gone.
+    pub(crate) fn depart(&mut self, slot: u64, name: &TaskName) -> Decision
+        ensures decision { result ≡ departure slot (member_named (present slot self.old) name.now) }
+        ensures members { self.new ≡ effect slot self.old (Depart name.now) result }
+        ensures apart { NamesApart self.old }
+    {
+        let Some(place) = self.place_of(slot, name) else {
             return Decision::Refused(Refusal::NoSuchTask);
         };
         self.members[place].depart(slot)
     }
 
-    /// A subtask of a member and all after it come later, if that isn't refused.
+    /// A subtask of a member and all after it come later, if that isn't refused. Who is freed by
+    /// `slot` is gone.
     pub(crate) fn delay(
         &mut self,
         slot: u64,
@@ -98,12 +121,12 @@ impl Registry {
     ) -> Result<Decision, AllocError>
         requires first { 1 ≤ index }
         requires last { index ≤ MAX_INDEX }
-        requires room { ForSome (member_named self.old name.now) (λ m. last_offset m + by ≤ MAX_OFFSET) }
-        ensures decision { IfOk result (λ d. d ≡ late_release slot (member_named self.old name.now) index) }
+        requires room { ForSome (member_named (present slot self.old) name.now) (λ m. last_offset m + by ≤ MAX_OFFSET) }
+        ensures decision { IfOk result (λ d. d ≡ late_release slot (member_named (present slot self.old) name.now) index) }
         ensures members { IfOk result (λ d. self.new ≡ effect slot self.old (Late name.now index by) d) }
         ensures err { OnErr result (self.new ≡ self.old) }
     {
-        let Some(place) = self.members.get_index_of(name) else {
+        let Some(place) = self.place_of(slot, name) else {
             return Ok(Decision::Refused(Refusal::NoSuchTask));
         };
         self.members[place].delay(slot, index, by)
@@ -119,13 +142,29 @@ impl Registry {
         self.members[place].run_on()
     }
 
-    /// Takes the member of that name out. The others keep their order.
-    pub(crate) fn remove(&mut self, name: &TaskName) -> Option<Incarnation>
-        ensures removed { result ≡ member_named self.old name.now }
-        ensures members { self.new ≡ without name.now self.old }
-        ensures apart { NamesApart self.old }
+    /// The units of the member of that name, and 0 where there is none.
+    pub(crate) fn units_of(&self, name: &TaskName, frame: u64) -> u64
+        ensures { result ≡ units_named frame (member_named self.now name.now) }
     {
-        self.members.shift_remove(name)
+        match self.get(name) {
+            Some(member) => claim_of(member.weight(), frame),
+            None => 0,
+        }
+    }
+
+    /// Those whose freeing slot has come go, in a pass over all members, which is taken only where
+    /// `first`, before which nobody is freed, has come. Answers such a slot for the others.
+    pub(crate) fn free(&mut self, first: Option<u64>, slot: u64) -> Option<u64>
+        requires { NoneFreedBefore first self.old }
+        ensures members { self.new ≡ present slot self.old }
+        ensures first { NoneFreedBefore result self.new }
+    {
+        if has_come(first, slot) {
+            self.keep_present(slot);
+            self.first_freeing()
+        } else {
+            first
+        }
     }
 
     /// Those whose freeing slot has come go.

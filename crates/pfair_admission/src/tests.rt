@@ -468,6 +468,61 @@ fn keeps_the_order_of_admission(rt: &impl Abort, alloc: Global) -> Result<(), Al
     Ok(())
 }
 
+fn rejoins_at_one_boundary(rt: &impl Abort, alloc: Global) -> Result<(), AllocError> {
+    let mut members = Members::new(alloc, 1, 4);
+    let announced = [
+        arrives(rt, "a", 1, 4, false),
+        arrives(rt, "b", 1, 4, false),
+        arrives(rt, "c", 1, 4, false),
+        arrives(rt, "d", 1, 4, false),
+        departs(rt, "a"),
+        departs(rt, "b"),
+        departs(rt, "c"),
+        departs(rt, "a"),
+        is_late(rt, "c", 1, 1),
+        arrives(rt, "b", 2, 4, true),
+        arrives(rt, "e", 2, 4, false),
+        arrives(rt, "e", 1, 4, false),
+    ];
+    let expected = [
+        Decision::Admitted,
+        Decision::Admitted,
+        Decision::Admitted,
+        Decision::Admitted,
+        FREED_AT_ONCE,
+        FREED_AT_ONCE,
+        FREED_AT_ONCE,
+        Decision::Refused(Refusal::NoSuchTask),
+        Decision::Refused(Refusal::NoSuchTask),
+        Decision::Admitted,
+        Decision::Refused(Refusal::NoRoom),
+        Decision::Admitted,
+    ];
+    decides(
+        rt,
+        &mut members,
+        0,
+        announced.as_slice(),
+        expected.as_slice(),
+    )?;
+    stand_in_order(rt, &members, [("d", 1), ("b", 2), ("e", 1)].as_slice());
+    Ok(())
+}
+
+// The members are these, in the order of admission, of these costs.
+fn stand_in_order(rt: &impl Abort, members: &Members, expected: &[(&str, u64)]) {
+    assert_eq!(rt; members.len(), expected.len());
+    for (place, (text, cost)) in expected.iter().enumerate() {
+        let (name, member) = members.at(place).expect(rt, "a member");
+        assert!(rt; name.as_bytes() == text.as_bytes());
+        assert_eq!(rt;
+            (member.weight().cost(), member.is_departing()),
+            (*cost, false)
+        );
+        assert!(rt; members.get(name).is_some());
+    }
+}
+
 // A task of its own for each place, of the least weight in a frame of 199 slots.
 fn arrives_light(rt: &impl Abort, place: u8) -> Said
     requires { place < 200 }
@@ -552,6 +607,7 @@ fn delays_and_releases_early(rt: HostRuntime) -> Result<(), AllocError> {
 #[test]
 fn keeps_order(rt: HostRuntime) -> Result<(), AllocError> {
     keeps_the_order_of_admission(&rt, rt.alloc())?;
+    rejoins_at_one_boundary(&rt, rt.alloc())?;
     Ok(())
 }
 

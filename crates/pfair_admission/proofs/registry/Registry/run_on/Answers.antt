@@ -1,7 +1,8 @@
 use Rattle.std.proofs.Common.{◌≡◌, Some, sym, ap, ◌∙◌}
 use Rattle.std.specs.Option.{option_map}
 use Rattle.pfair_admission.specs.Admission.{member_named, running, quantum_of}
-use Rattle.pfair_admission.proofs.Registers.{none_some, found_entry, found_member, no_member, unique_written, named_written}
+use Rattle.pfair_weight.specs.Options.{none_some}
+use Rattle.pfair_admission.proofs.Registers.{found_entry, found_member, no_member, unique_written, named_written}
 use Rattle.pfair_admission.proofs.Changes.{ran_written, ran_name}
 use Rattle.pfair_admission.proofs.registry.Registry.run_on.Goals as goal
 use Rattle.pfair_admission.proofs.registry.Registry.run_on.Goals.{After-index_mut}
@@ -33,6 +34,6 @@ returns-clause-quantum c = c.run_on.ensures.quantum ∙ ap (λ o. option_map qua
 
 pub returns-clause-members : goal.returns-clause-members
 returns-clause-members c =
-    let at = found_entry c.self.inside.members.entries c.args.name.now c.in_ok-place.place c.index_mut.result.now (sym c.get_index_of.ensures.index ∙ c.in_ok-place.was) c.index_mut.ensures.value in
+    let at = found_entry c.self.inside.members.entries c.args.self.now c.args.name.now c.in_ok-place.place c.index_mut.result.now c.self.invariant.named (found ((goal.at.returns-clause-members c).After-index_mut)) c.index_mut.ensures.value in
     rw (← c.self.view_is)
     (ran_written c.self.inside.members.entries c.in_ok-place.place c.args.name.now c.index_mut.result.now _ c.run_on.result c.self.invariant.named c.self.invariant.unique at c.index_mut.ensures.value c.run_on.ensures.quantum c.run_on.ensures.member)
