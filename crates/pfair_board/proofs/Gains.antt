@@ -55,7 +55,7 @@ row_next x y k zero le = absurd (omega arith)
 row_next x y k (suc n) le = let same : n ≡ suc n - 1 = omega arith in ap (λ m. gained_in_row x y k m + cond (is_gained x y k (suc n)) 1 0) same
 
 pub same_trans : (a b c : DeskView) → SameDesk a b → SameDesk b c → SameDesk a c
-same_trans a b c p q = record { proc = q.proc ∙ p.proc; next_number = q.next_number ∙ p.next_number; cells = q.cells ∙ p.cells; processors = q.processors ∙ p.processors; capacity = q.capacity ∙ p.capacity }
+same_trans a b c p q = record { processor = q.processor ∙ p.processor; next_number = q.next_number ∙ p.next_number; cells = q.cells ∙ p.cells; processors = q.processors ∙ p.processors; capacity = q.capacity ∙ p.capacity }
 
 pub no_gap_alike : (x y z : Replica) (k : ℕ) → ((n : ℕ) → y.at k n ≡ z.at k n) → NoGapInRow x y k → NoGapInRow x z k
 no_gap_alike x y z k same gap n j none some a b = subst (λ h. IsSome h) (same j) (gap n j none (subst (λ h. IsSome h) (sym (same n)) some) a b)
@@ -70,7 +70,7 @@ no_gap_on old now new row same others before mine k = elim (cases_Bool (k == row
 
 pub same_learned : (d new : DeskView) (p m : ℕ) (e : Logged) → state_of new ≡ learned (state_of d) p m e → SameDesk d new
 same_learned d new p m e is = record {
-  proc = ap (λ (x : DeskState). x.proc) is;
+  processor = ap (λ (x : DeskState). x.processor) is;
   next_number = ap (λ (x : DeskState). x.next_number) is;
   cells = ap (λ (x : DeskState). x.cells) is;
   processors = ap (λ (x : DeskState). x.replica.processors) is;

@@ -80,15 +80,15 @@ keeps_learned x ks k n e all agrees i j f =
     by_keys k n Goal (λ is. one ∙ (sym (noted_one (x.at k n) (slice_index_or ks (place_of x.capacity k n) None) e f (all k n) agrees is) ∙ is))
     (λ i j apart is. held_after.other x k n e i j apart ∙ is) i j
 
-in_order_known : (proc next : ℕ) (x : Replica) (w : Knowledge) (p : ℕ) (e : Logged) → IsInOrder proc next x w → p < length w.cells
-    → IfSome (slice_index_or w.known p None) (λ y. y ≡ e) → IsInOrder proc next x (knowing w p e)
-in_order_known proc next x w p e is within agrees =
+in_order_known : (processor next : ℕ) (x : Replica) (w : Knowledge) (p : ℕ) (e : Logged) → IsInOrder processor next x w → p < length w.cells
+    → IfSome (slice_index_or w.known p None) (λ y. y ≡ e) → IsInOrder processor next x (knowing w p e)
+in_order_known processor next x w p e is within agrees =
     let cells = is.cells in let known = is.known in
     record { shape = is.shape; cells = is.cells; known = length-set w.known p (Some e) ∙ is.known; row = is.row; numbered = is.numbered; room = is.room; noted = remember x w.known p e is.noted (omega arith) agrees }
 
-in_order_learned : (proc next : ℕ) (x : Replica) (w : Knowledge) (k n : ℕ) (e : Logged) → IsInOrder proc next x w → place_of x.capacity k n < length w.cells
-    → IfSome (slice_index_or w.known (place_of x.capacity k n) None) (λ y. y ≡ e) → IsInOrder proc next (with_entry x k n e) (knowing w (place_of x.capacity k n) e)
-in_order_learned proc next x w k n e is within agrees =
+in_order_learned : (processor next : ℕ) (x : Replica) (w : Knowledge) (k n : ℕ) (e : Logged) → IsInOrder processor next x w → place_of x.capacity k n < length w.cells
+    → IfSome (slice_index_or w.known (place_of x.capacity k n) None) (λ y. y ≡ e) → IsInOrder processor next (with_entry x k n e) (knowing w (place_of x.capacity k n) e)
+in_order_learned processor next x w k n e is within agrees =
     let cells = is.cells in let known = is.known in
     record { shape = is.shape; cells = is.cells; known = length-set w.known (place_of x.capacity k n) (Some e) ∙ is.known; row = is.row; numbered = is.numbered; room = is.room; noted = learn x w.known k n e is.noted (omega arith) agrees }
 
@@ -99,20 +99,20 @@ place_within m c k n key =
     omega (arith, mul_comm m c)
 
 -- the same for the values that a body has
-pub in_order_after : (proc next : ℕ) (x : Replica) (w : Knowledge) (k n p : ℕ) (e : Logged) (y : Replica) (v : Knowledge) → IsInOrder proc next x w → IsKey x.processors x.capacity k n
-    → p ≡ place_of x.capacity k n → v ≡ knowing w p e → IfSome (slice_index_or w.known p None) (λ z. z ≡ e) → y ≡ with_entry x k n e → IsInOrder proc next y v
-in_order_after proc next x w k n p e y v is key at known agrees learned =
+pub in_order_after : (processor next : ℕ) (x : Replica) (w : Knowledge) (k n p : ℕ) (e : Logged) (y : Replica) (v : Knowledge) → IsInOrder processor next x w → IsKey x.processors x.capacity k n
+    → p ≡ place_of x.capacity k n → v ≡ knowing w p e → IfSome (slice_index_or w.known p None) (λ z. z ≡ e) → y ≡ with_entry x k n e → IsInOrder processor next y v
+in_order_after processor next x w k n p e y v is key at known agrees learned =
     let cells = is.cells in
     let within : place_of x.capacity k n < length w.cells = omega (arith, place_within x.processors x.capacity k n key) in
     let agrees' : IfSome (slice_index_or w.known (place_of x.capacity k n) None) (λ z. z ≡ e) = rw (← at) agrees in
-    rw (learned, known, at) (in_order_learned proc next x w k n e is within agrees')
+    rw (learned, known, at) (in_order_learned processor next x w k n e is within agrees')
 
-pub in_order_only : (proc next : ℕ) (x : Replica) (w : Knowledge) (k n p : ℕ) (e : Logged) (y : Replica) (v : Knowledge) → IsInOrder proc next x w → IsKey x.processors x.capacity k n
-    → p ≡ place_of x.capacity k n → v ≡ knowing w p e → IfSome (slice_index_or w.known p None) (λ z. z ≡ e) → y ≡ x → IsInOrder proc next y v
-in_order_only proc next x w k n p e y v is key at known agrees same =
+pub in_order_only : (processor next : ℕ) (x : Replica) (w : Knowledge) (k n p : ℕ) (e : Logged) (y : Replica) (v : Knowledge) → IsInOrder processor next x w → IsKey x.processors x.capacity k n
+    → p ≡ place_of x.capacity k n → v ≡ knowing w p e → IfSome (slice_index_or w.known p None) (λ z. z ≡ e) → y ≡ x → IsInOrder processor next y v
+in_order_only processor next x w k n p e y v is key at known agrees same =
     let cells = is.cells in
     let within : p < length w.cells = omega (arith, place_within x.processors x.capacity k n key) in
-    rw (same, known) (in_order_known proc next x w p e is within agrees)
+    rw (same, known) (in_order_known processor next x w p e is within agrees)
 
 pub keeps_after : (x : Replica) (w : Knowledge) (k n p : ℕ) (e : Logged) (y : Replica) → AllNoted x w.known
     → p ≡ place_of x.capacity k n → IfSome (slice_index_or w.known p None) (λ z. z ≡ e) → y ≡ with_entry x k n e → Keeps x y
@@ -128,8 +128,8 @@ now_one x w k n p e y all at agrees learned =
     ap (λ (z : Replica). z.at k n) learned ∙ joined_now x w.known k n e all agrees'
 
 -- a new desk's fields
-pub in_order_fresh : (m c proc : ℕ) (x : Replica) (w : Knowledge) → IsShape m c → x ≡ empty_replica m c → length w.cells ≡ m * c → w.known ≡ replicate (m * c) None → proc < m → IsInOrder proc 1 x w
-in_order_fresh m c proc x w shape is cells known row = rw is (record {
+pub in_order_fresh : (m c processor : ℕ) (x : Replica) (w : Knowledge) → IsShape m c → x ≡ empty_replica m c → length w.cells ≡ m * c → w.known ≡ replicate (m * c) None → processor < m → IsInOrder processor 1 x w
+in_order_fresh m c processor x w shape is cells known row = rw is (record {
   shape = shape;
   cells = cells;
   known = ap length known ∙ length-replicate (m * c) None;
@@ -144,8 +144,8 @@ pub holds_more : (x y : HeldRows) (f : MergeFault) → SameShape x y → IsMerge
 holds_more x y OtherShape same is = absurd (is same)
 holds_more x y Memory same is = is.1
 
-pub in_order_next : (proc next : ℕ) (x : Replica) (w : Knowledge) → IsInOrder proc next x w → next ≤ x.capacity → IsInOrder proc (next + 1) x w
-in_order_next proc next x w is room =
+pub in_order_next : (processor next : ℕ) (x : Replica) (w : Knowledge) → IsInOrder processor next x w → next ≤ x.capacity → IsInOrder processor (next + 1) x w
+in_order_next processor next x w is room =
     record { shape = is.shape; cells = is.cells; known = is.known; row = is.row; numbered = omega arith; room = omega arith; noted = is.noted }
 
 pub more_refl : (w : Knowledge) → KnowMore w w
@@ -215,8 +215,8 @@ noted_whole z ks all k n torn = subst (λ c. IsNoted c (slice_index_or ks (place
 pub kept_noted : (x y : Replica) (ks : List (Option Logged)) → Below x y → AllNoted y ks → Keeps x y
 kept_noted x y ks below all k n f is = ⊎_elim (λ same. same) (λ torn. absurd (noted_whole y ks all k n torn)) (below k n f is)
 
-pub in_order_met : (proc next : ℕ) (x y : Replica) (v w : Knowledge) → IsInOrder proc next x v → KnowMore v w → (x.processors ≡ y.processors) × (x.capacity ≡ y.capacity) → AllNoted y w.known → IsInOrder proc next y w
-in_order_met proc next x y v w is more same all =
+pub in_order_met : (processor next : ℕ) (x y : Replica) (v w : Knowledge) → IsInOrder processor next x v → KnowMore v w → (x.processors ≡ y.processors) × (x.capacity ≡ y.capacity) → AllNoted y w.known → IsInOrder processor next y w
+in_order_met processor next x y v w is more same all =
     let rows = same.0 in let row = same.1 in
     let product : x.processors * x.capacity ≡ y.processors * y.capacity = rw (rows, row) refl in
     record {

@@ -20,7 +20,7 @@ each_snoc P (z ∷ zs) x old new (suc k) y at = each_snoc (λ j. P (suc j)) zs x
 
 -- the same work of a row that is known by other names
 pub work_moves : (m : _) (b b' : BoardFrame) (s s' : Settings) (k k' : ℕ) (w : Worked) → b ≡ b' → s ≡ s' → k ≡ k' → IsWorkOf m b s k w → IsWorkOf m b' s' k' w
-work_moves m b b' s s' k k' w eb es ek h = record { desk = subst (IsDeskOf w.desk) eb h.desk; proc = h.proc ∙ ek; settings = h.settings ∙ es; gate = h.gate }
+work_moves m b b' s s' k k' w eb es ek h = record { desk = subst (IsDeskOf w.desk) eb h.desk; processor = h.processor ∙ ek; settings = h.settings ∙ es; gate = h.gate }
 
 -- nothing stands in an empty list
 pub none_in_empty : {A : Type 0} (xs : List A) (k : ℕ) (x : A) → xs ≡ [] → slice_get xs k ≡ Some x → ⊥

@@ -17,7 +17,7 @@ use Rattle.pfair_board.specs.Logs.{HoldsLog, IsBehind}
 
 pub grown_trans : (a b c : DeskView) → GrownDesk a b → GrownDesk b c → GrownDesk a c
 grown_trans a b c p q = record {
-  proc = q.proc ∙ p.proc;
+  processor = q.processor ∙ p.processor;
   cells = q.cells ∙ p.cells;
   processors = q.processors ∙ p.processors;
   capacity = q.capacity ∙ p.capacity;
@@ -26,7 +26,7 @@ grown_trans a b c p q = record {
 
 -- a log that is held is held later
 pub log_kept : (d e : DeskView) (first : ℕ) (log : List Logged) → GrownDesk d e → HoldsLog d first log → HoldsLog e first log
-log_kept d e first log grown holds i x at = subst (λ k. held e.replica k (first + i) ≡ Some (One x)) (sym grown.proc) (grown.kept d.proc (first + i) (One x) (holds i x at))
+log_kept d e first log grown holds i x at = subst (λ k. held e.replica k (first + i) ≡ Some (One x)) (sym grown.processor) (grown.kept d.processor (first + i) (One x) (holds i x at))
 
 -- who is behind a desk is behind what it grows to
 pub behind_grown : (a : Dispatch) (d e : DeskView) → IsBehind a d → GrownDesk d e → IsBehind a e

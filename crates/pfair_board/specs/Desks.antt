@@ -9,20 +9,20 @@ use Rattle.pfair_board.specs.Boards.{BoardFrame}
 
 -- a desk as a contract sees it: its row, its next number there, the cells that it has notes of, and what it holds
 pub record DeskView : Type 0 where
-  pub proc : ℕ
+  pub processor : ℕ
   pub next_number : ℕ
   pub cells : List ℕ
   pub replica : HeldRows
 
 -- the same, with the replica that the definitions speak of
 pub record DeskState : Type 0 where
-  pub proc : ℕ
+  pub processor : ℕ
   pub next_number : ℕ
   pub cells : List ℕ
   pub replica : Replica
 
 abbrev pub state_of : DeskView → DeskState
-state_of d = record { proc = d.proc; next_number = d.next_number; cells = d.cells; replica = replica_of d.replica }
+state_of d = record { processor = d.processor; next_number = d.next_number; cells = d.cells; replica = replica_of d.replica }
 
 -- the desk has a note for each cell of the board, in the same order
 pub record IsDeskOf (desk : DeskView) (board : BoardFrame) : Type 0 where
@@ -38,7 +38,7 @@ pub record OfOneBoard (one other : DeskView) : Type 0 where
 
 -- the desk of row k, as the board makes it
 abbrev pub fresh_desk : BoardFrame → ℕ → DeskState
-fresh_desk b k = record { proc = k; next_number = 1; cells = b.cells; replica = empty_replica b.processors b.capacity }
+fresh_desk b k = record { processor = k; next_number = 1; cells = b.cells; replica = empty_replica b.processors b.capacity }
 
 -- the desk with e learned at (k, n)
 abbrev pub learned : DeskState → ℕ → ℕ → Logged → DeskState
@@ -46,7 +46,7 @@ learned d k n e = record d { replica = with_entry d.replica k n e }
 
 -- the desk with e learned at its own next number, and one number further
 abbrev pub numbered : DeskState → Logged → DeskState
-numbered d e = record d { next_number = d.next_number + 1; replica = with_entry d.replica d.proc d.next_number e }
+numbered d e = record d { next_number = d.next_number + 1; replica = with_entry d.replica d.processor d.next_number e }
 
 -- the desk with all that another one holds joined in
 abbrev pub met : DeskState → DeskState → DeskState
@@ -63,7 +63,7 @@ Keeps x y = (k n : ℕ) (f : Flat Logged) → x.at k n ≡ Some f → y.at k n �
 
 -- the desk of the same row and cells, which holds all that it held
 pub record GrownDesk (old now : DeskView) : Type 0 where
-  pub proc : now.proc ≡ old.proc
+  pub processor : now.processor ≡ old.processor
   pub cells : now.cells ≡ old.cells
   pub processors : now.replica.processors ≡ old.replica.processors
   pub capacity : now.replica.capacity ≡ old.replica.capacity

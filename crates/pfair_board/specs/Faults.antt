@@ -19,8 +19,8 @@ IsLookFaultOf d k n look.Memory = IsKey d.replica.processors d.replica.capacity 
 -- why e isn't published, and what the desk is then; memory is wanted for a missing key alone
 abbrev pub IsPublishFaultOf : (old now : DeskView) → Logged → PublishFault → Type 0
 IsPublishFaultOf old now e publish.RowFull = (old.replica.capacity < old.next_number) × (now ≡ old)
-IsPublishFaultOf old now e (publish.Taken standing) = (old.next_number ≤ old.replica.capacity) × (standing ≢ e) × (state_of now ≡ numbered (state_of old) standing) × (held now.replica old.proc old.next_number ≡ Some (One standing))
-IsPublishFaultOf old now e publish.Memory = (old.next_number ≤ old.replica.capacity) × (held old.replica old.proc old.next_number ≡ None) × (now ≡ old)
+IsPublishFaultOf old now e (publish.Taken standing) = (old.next_number ≤ old.replica.capacity) × (standing ≢ e) × (state_of now ≡ numbered (state_of old) standing) × (held now.replica old.processor old.next_number ≡ Some (One standing))
+IsPublishFaultOf old now e publish.Memory = (old.next_number ≤ old.replica.capacity) × (held old.replica old.processor old.next_number ≡ None) × (now ≡ old)
 
 -- under which numbers they are reported
 abbrev pub look_fault_number : LookFault → ℕ

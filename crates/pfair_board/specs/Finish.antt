@@ -14,7 +14,7 @@ use Rattle.pfair_table.specs.Planned.{as_tables, as_places}
 -- the desk of row k of this board, which holds the script's replica
 pub record IsFullDesk (r : LoggedRun) (b : BoardFrame) (k : ℕ) (d : DeskView) : Type 0 where
   pub own : IsDeskOf d b
-  pub proc : d.proc ≡ k
+  pub processor : d.processor ≡ k
   pub replica : replica_of d.replica ≡ replica_of_logs r.logs
 
 -- the tables are the plan of the script's replica

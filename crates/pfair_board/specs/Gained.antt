@@ -36,7 +36,7 @@ pub record LacksSome (rows : HeldRows) : Type 0 where
 
 -- the desk as it was but for what it holds
 pub record SameDesk (old now : DeskView) : Type 0 where
-  pub proc : now.proc ≡ old.proc
+  pub processor : now.processor ≡ old.processor
   pub next_number : now.next_number ≡ old.next_number
   pub cells : now.cells ≡ old.cells
   pub processors : now.replica.processors ≡ old.replica.processors

@@ -9,11 +9,11 @@ use Rattle.pfair_board.specs.Desks.{DeskView}
 
 -- it holds the log in its own row, from that number on
 abbrev pub HoldsLog : DeskView → (first : ℕ) → List Logged → Type 0
-HoldsLog d first log = (i : ℕ) (e : Logged) → slice_get log i ≡ Some e → held d.replica d.proc (first + i) ≡ Some (One e)
+HoldsLog d first log = (i : ℕ) (e : Logged) → slice_get log i ≡ Some e → held d.replica d.processor (first + i) ≡ Some (One e)
 
 -- its row has another entry at a number of the log
 abbrev pub IsTaken : DeskView → (first : ℕ) → List Logged → Type 0
-IsTaken d first log = (i : ℕ) × (e f : Logged) × (slice_get log i ≡ Some e) × (held d.replica d.proc (first + i) ≡ Some (One f)) × (f ≢ e)
+IsTaken d first log = (i : ℕ) × (e f : Logged) × (slice_get log i ≡ Some e) × (held d.replica d.processor (first + i) ≡ Some (One f)) × (f ≢ e)
 
 -- the dispatcher holds nothing but what the desk holds, and can plan
 pub record IsBehind (a : Dispatch) (d : DeskView) : Type 0 where

@@ -23,11 +23,11 @@ abbrev pub AllNoted : Replica → List (Option Logged) → Type 0
 AllNoted x known = (k : ℕ) → RowNoted x known k
 
 -- a desk's fields fit together: a note for each key, its row and its next number, and each entry that it holds is what the key's note knows
-pub record IsInOrder (proc next_number : ℕ) (x : Replica) (notes : Knowledge) : Type 0 where
+pub record IsInOrder (processor next_number : ℕ) (x : Replica) (notes : Knowledge) : Type 0 where
   pub shape : IsShape x.processors x.capacity
   pub cells : length notes.cells ≡ x.processors * x.capacity
   pub known : length notes.known ≡ x.processors * x.capacity
-  pub row : proc < x.processors
+  pub row : processor < x.processors
   pub numbered : 1 ≤ next_number
   pub room : next_number ≤ x.capacity + 1
   pub noted : AllNoted x notes.known

@@ -9,7 +9,7 @@ use Rattle.pfair_board.specs.Desks.{DeskView, IsDeskOf}
 -- the work of the board's row k under these settings, whose gate gave up only if its type may
 pub record IsWorkOf (may_give_up : Bool) (b : BoardFrame) (s : Settings) (k : ℕ) (w : Worked) : Type 0 where
   pub desk : IsDeskOf w.desk b
-  pub proc : w.desk.proc ≡ k
+  pub processor : w.desk.processor ≡ k
   pub settings : w.settings ≡ s
   pub gate : IfErr w.run (λ f. f ≡ GateGaveUp → may_give_up ≡ true)
 
@@ -22,4 +22,4 @@ pub record AreWorks (may_give_up : Bool) (b : BoardFrame) (s : Settings) (ws : L
 pub record AreFirstDesks (b : BoardFrame) (ds : List DeskView) : Type 0 where
   pub count : length ds ≡ b.processors
   pub own : (k : ℕ) (d : DeskView) → slice_get ds k ≡ Some d → IsDeskOf d b
-  pub rows : (k : ℕ) (d : DeskView) → slice_get ds k ≡ Some d → (d.proc ≡ k) × (d.next_number ≡ 1)
+  pub rows : (k : ℕ) (d : DeskView) → slice_get ds k ≡ Some d → (d.processor ≡ k) × (d.next_number ≡ 1)

@@ -89,8 +89,8 @@ impl Board {
         ensures own { IfOk result (λ desks. (k : ℕ) (d : DeskView) → slice_get desks.items k ≡ Some d → IsDeskOf d self.now) }
     {
         let mut desks = Vec::new(self.alloc);
-        for proc in 0..self.processors {
-            desks.push(self.desk(proc)?)?;
+        for processor in 0..self.processors {
+            desks.push(self.desk(processor)?)?;
         }
         Ok(desks)
     }
@@ -104,16 +104,16 @@ impl Board {
     }
 
     // The desk of one row.
-    fn desk(&self, proc: u8) -> Result<Desk, AllocError>
-        requires { proc < self.now.processors }
-        ensures { IfOk result (λ desk. state_of desk ≡ fresh_desk self.now proc) }
+    fn desk(&self, processor: u8) -> Result<Desk, AllocError>
+        requires { processor < self.now.processors }
+        ensures { IfOk result (λ desk. state_of desk ≡ fresh_desk self.now processor) }
     {
         Desk::of(
             self.alloc,
             self.processors,
             self.capacity,
             self.cells.as_slice(),
-            proc,
+            processor,
         )
     }
 }

@@ -27,7 +27,7 @@ use std::marker::Model;
 /// it holds is torn.
 #[derive(Drop)]
 pub struct Desk {
-    proc: u8,
+    processor: u8,
     next_number: u32,
     replica: Replica,
     notes: Notes,
@@ -41,9 +41,9 @@ impl Model for Desk {
 
     ghost Value = { DeskView };
 
-    ghost view = { λ d. record { proc = d.proc; next_number = d.next_number; cells = d.notes.cells; replica = d.replica } };
+    ghost view = { λ d. record { processor = d.processor; next_number = d.next_number; cells = d.notes.cells; replica = d.replica } };
 
-    ghost invariant = { λ d. IsInOrder d.proc d.next_number (replica_of d.replica) d.notes };
+    ghost invariant = { λ d. IsInOrder d.processor d.next_number (replica_of d.replica) d.notes };
 }
 
 impl Desk {
@@ -53,16 +53,16 @@ impl Desk {
         processors: u8,
         capacity: u32,
         cells: &[OnceBox<Entry>],
-        proc: u8,
+        processor: u8,
     ) -> Result<Desk, AllocError>
         requires shape { IsShape processors capacity }
         requires all { length cells.now ≡ processors * capacity }
-        requires row { proc < processors }
-        ensures { IfOk result (λ desk. state_of desk ≡ fresh_desk (record { processors = processors; capacity = capacity; cells = map cell_name cells.now }) proc) }
+        requires row { processor < processors }
+        ensures { IfOk result (λ desk. state_of desk ≡ fresh_desk (record { processors = processors; capacity = capacity; cells = map cell_name cells.now }) processor) }
     {
         let notes = Notes::of(alloc, cells)?;
         Ok(Desk {
-            proc,
+            processor,
             next_number: 1,
             replica: Replica::new(alloc, processors, capacity)?,
             notes,
@@ -71,11 +71,11 @@ impl Desk {
     }
 
     /// The processor whose row it is, counted from 0.
-    pub fn proc(&self) -> u8
-        ensures value { result ≡ self.now.proc }
-        ensures row { self.now.proc < self.now.replica.processors }
+    pub fn processor(&self) -> u8
+        ensures value { result ≡ self.now.processor }
+        ensures row { self.now.processor < self.now.replica.processors }
     {
-        self.proc
+        self.processor
     }
 
     /// The number at which the desk publishes next, counted from 1; past the capacity where its row
@@ -108,27 +108,32 @@ impl Desk {
     /// # Errors
     /// The first of these that applies, and then the desk is unchanged: `NoSuchProcessor`,
     /// `NumberOutOfRange`, and `Memory`, which comes only where the desk held nothing of that key.
-    pub fn look(&mut self, board: &Board, proc: u8, number: u32) -> Result<Option<Entry>, LookFault>
+    pub fn look(
+        &mut self,
+        board: &Board,
+        processor: u8,
+        number: u32,
+    ) -> Result<Option<Entry>, LookFault>
         requires own { IsDeskOf self.old board.now }
-        ensures some { (e : Logged) → result ≡ Ok (Some e) → state_of self.new ≡ learned (state_of self.old) proc number e }
-        ensures none { result ≡ Ok None → (held self.old.replica proc number ≡ None) × (self.new ≡ self.old) }
-        ensures key { OnOk result (IsKey self.old.replica.processors self.old.replica.capacity proc number) }
-        ensures fault { IfErr result (IsLookFaultOf self.old proc number) }
+        ensures some { (e : Logged) → result ≡ Ok (Some e) → state_of self.new ≡ learned (state_of self.old) processor number e }
+        ensures none { result ≡ Ok None → (held self.old.replica processor number ≡ None) × (self.new ≡ self.old) }
+        ensures key { OnOk result (IsKey self.old.replica.processors self.old.replica.capacity processor number) }
+        ensures fault { IfErr result (IsLookFaultOf self.old processor number) }
         ensures unchanged { OnErr result (self.new ≡ self.old) }
-        ensures held_now { (e : Logged) → result ≡ Ok (Some e) → held self.new.replica proc number ≡ Some (One e) }
+        ensures held_now { (e : Logged) → result ≡ Ok (Some e) → held self.new.replica processor number ≡ Some (One e) }
         ensures kept { GrownDesk self.old self.new }
         ensures own { IsDeskOf self.new board.now }
     {
-        if proc >= self.replica.processors() {
+        if processor >= self.replica.processors() {
             return Err(LookFault::NoSuchProcessor);
         }
         if number == 0 || number > self.replica.capacity() {
             return Err(LookFault::NumberOutOfRange);
         }
-        let place = proc as usize * self.replica.capacity() as usize + (number as usize - 1);
+        let place = processor as usize * self.replica.capacity() as usize + (number as usize - 1);
         match self.notes.read(board.cell(place), place) {
             None => Ok(None),
-            Some(entry) => match self.replica.take(proc, number, entry) {
+            Some(entry) => match self.replica.take(processor, number, entry) {
                 Ok(_) => Ok(Some(entry)),
                 Err(_) => Err(LookFault::Memory),
             },
@@ -150,7 +155,7 @@ impl Desk {
         ensures ok { IfOk result (λ n. (n ≡ self.old.next_number) × (state_of self.new ≡ numbered (state_of self.old) entry)) }
         ensures room { OnOk result (self.old.next_number ≤ self.old.replica.capacity) }
         ensures fault { IfErr result (IsPublishFaultOf self.old self.new entry) }
-        ensures held_now { OnOk result (held self.new.replica self.old.proc self.old.next_number ≡ Some (One entry)) }
+        ensures held_now { OnOk result (held self.new.replica self.old.processor self.old.next_number ≡ Some (One entry)) }
         ensures kept { GrownDesk self.old self.new }
         ensures own { IsDeskOf self.new board.now }
     {
@@ -158,11 +163,12 @@ impl Desk {
             return Err(PublishFault::RowFull);
         }
         let number = self.next_number;
-        let place = self.proc as usize * self.replica.capacity() as usize + (number as usize - 1);
+        let place = self.processor as usize * self.replica.capacity() as usize
+            + (number as usize - 1);
         let Ok(standing) = self.notes.set(self.alloc, board.cell(place), place, entry) else {
             return Err(PublishFault::Memory);
         };
-        let Ok(_) = self.replica.take(self.proc, number, standing) else {
+        let Ok(_) = self.replica.take(self.processor, number, standing) else {
             return Err(PublishFault::Memory);
         };
         self.next_number = number + 1;
@@ -219,32 +225,32 @@ impl Desk {
         ensures own { IsDeskOf self.new board.now }
     {
         let mut found = 0;
-        for proc in 0..board.processors() {
-            found += self.refresh_row(board, proc)?;
+        for processor in 0..board.processors() {
+            found += self.refresh_row(board, processor)?;
         }
         Ok(found)
     }
 
     // The same for one row.
-    fn refresh_row(&mut self, board: &Board, proc: u8) -> Result<u64, AllocError>
+    fn refresh_row(&mut self, board: &Board, processor: u8) -> Result<u64, AllocError>
         requires own { IsDeskOf self.old board.now }
-        requires row { proc < self.old.replica.processors }
-        ensures count { IfOk result (λ c. c ≡ gained_in_row (replica_of self.old.replica) (replica_of self.new.replica) proc self.new.replica.capacity) }
+        requires row { processor < self.old.replica.processors }
+        ensures count { IfOk result (λ c. c ≡ gained_in_row (replica_of self.old.replica) (replica_of self.new.replica) processor self.new.replica.capacity) }
         ensures few { IfOk result (λ c. c ≤ 4096) }
-        ensures no_gap { NoGapInRow (replica_of self.old.replica) (replica_of self.new.replica) proc }
+        ensures no_gap { NoGapInRow (replica_of self.old.replica) (replica_of self.new.replica) processor }
         ensures lacking { OnErr result (LacksSome self.new.replica) }
         ensures same { SameDesk self.old self.new }
         ensures kept { Keeps (replica_of self.old.replica) (replica_of self.new.replica) }
-        ensures others { (k n : ℕ) → (k ≡ proc → ⊥) → held self.new.replica k n ≡ held self.old.replica k n }
+        ensures others { (k n : ℕ) → (k ≡ processor → ⊥) → held self.new.replica k n ≡ held self.old.replica k n }
         ensures own { IsDeskOf self.new board.now }
     {
         read_by_number();
         let mut found = 0;
-        for number in self.replica.sound_count(proc) + 1..self.replica.capacity() + 1 {
-            if self.replica.get(proc, number).is_some() {
+        for number in self.replica.sound_count(processor) + 1..self.replica.capacity() + 1 {
+            if self.replica.get(processor, number).is_some() {
                 continue;
             }
-            match self.look(board, proc, number) {
+            match self.look(board, processor, number) {
                 Ok(Some(_)) => found += 1,
                 Ok(None) => return Ok(found),
                 Err(_) => return Err(AllocError),

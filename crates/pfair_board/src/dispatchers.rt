@@ -84,11 +84,11 @@ struct RowOf<G> {
     board: Snapshot<Board>,
     of: PhantomData<G>,
     settings: Settings,
-    proc: u8,
+    processor: u8,
 }
 
 impl<G: Gate> Promise<Worked> for RowOf<G> {
-    ghost kept_by = { λ p r. IsWorkOf G.may_give_up p.board.value p.settings p.proc r };
+    ghost kept_by = { λ p r. IsWorkOf G.may_give_up p.board.value p.settings p.processor r };
 }
 
 // What a worker's thread does.
@@ -106,7 +106,7 @@ fn work<P: Wait, R: Ready, G: Gate>(
     requires own { IsDeskOf desk board.now }
     requires room { desk.next_number + length log.now ≤ board.now.capacity + 1 }
     requires processors { settings.processors ≡ board.now.processors }
-    ensures { IsWorkOf G.may_give_up board.now settings desk.proc result }
+    ensures { IsWorkOf G.may_give_up board.now settings desk.processor result }
 {
     let run = run_worker::<P, R, G>(rt, alloc, settings, &mut desk, board, log, hints, gate);
     Worked {
@@ -143,8 +143,8 @@ fn run_all<P: Threads + Wait + Sync, R: Ready + Send, G: Gate + Sync>(
             let mut hints = hints.into_iter();
             let mut threads = Vec::new(alloc);
             for desk in desks {
-                let proc = desk.proc();
-                let log = script.log(proc);
+                let processor = desk.processor();
+                let log = script.log(processor);
                 let Some(own) = hints.next() else {
                     unreachable!()
                 };
@@ -152,14 +152,14 @@ fn run_all<P: Threads + Wait + Sync, R: Ready + Send, G: Gate + Sync>(
                     board: Snapshot::of(board),
                     of: PhantomData,
                     settings,
-                    proc,
+                    processor,
                 };
                 let of: PhantomData<R> = PhantomData;
                 let started = scope.spawn_with(
                     row,
                     move || -> Worked
                         requires { IsDeskOf desk board.now × (desk.next_number + length log.now ≤ board.now.capacity + 1) × (settings.processors ≡ board.now.processors) }
-                        ensures { IsWorkOf G.may_give_up board.entry.now settings desk.proc result }
+                        ensures { IsWorkOf G.may_give_up board.entry.now settings desk.processor result }
                     { work::<P, R, G>(rt, alloc, settings, desk, board, log, own, gate, of) },
                 )?;
                 threads.push(started)?;

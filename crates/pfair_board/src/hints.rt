@@ -8,7 +8,7 @@ use std::alloc::{AllocError, Global};
 #[derive(Clone, Copy, Debug, PartialEq, Eq)]
 pub struct Hint {
     /// The processor, counted from 0.
-    pub proc: u8,
+    pub processor: u8,
     /// The entry's number, counted from 1.
     pub number: u32,
 }

@@ -15,12 +15,12 @@ fn floor(rt: &impl Abort, floor: u64) -> Entry {
 }
 
 /// The desk of a row, one of a new set.
-pub(crate) fn row(board: &Board, proc: u8) -> Result<Desk, AllocError>
-    requires { proc < board.now.processors }
+pub(crate) fn row(board: &Board, processor: u8) -> Result<Desk, AllocError>
+    requires { processor < board.now.processors }
     ensures { IfOk result (λ desk. IsDeskOf desk board.now × (desk.next_number ≡ 1)) }
 {
     let mut desks = board.desks()?;
-    Ok(desks.swap_remove(proc as usize))
+    Ok(desks.swap_remove(processor as usize))
 }
 
 #[test]
@@ -39,7 +39,7 @@ fn one_desk_reads_what_another_published(rt: HostRuntime) -> Result<(), Fail> {
     assert!(&rt; writer.publish(&board, entry) == Err(PublishFault::RowFull));
     assert!(&rt; reader.look(&board, 2, 1) == Err(LookFault::NoSuchProcessor));
     assert!(&rt; reader.look(&board, 0, 2) == Err(LookFault::NumberOutOfRange));
-    assert!(&rt; reader.proc() == 1 && reader.next_number() == 1);
+    assert!(&rt; reader.processor() == 1 && reader.next_number() == 1);
     Ok(())
 }
 
@@ -128,8 +128,8 @@ fn four_threads_publish_at_once(rt: HostRuntime) -> Result<(), Fail> {
     assert!(&rt; desks.len() == 4);
     desks[0].refresh(&board)?;
     let held = desks[0].replica();
-    for proc in 0..4u8 {
-        assert!(&rt; held.missing(proc).is_none());
+    for processor in 0..4u8 {
+        assert!(&rt; held.missing(processor).is_none());
     }
     assert!(&rt; held.first_torn().is_none());
     Ok(())

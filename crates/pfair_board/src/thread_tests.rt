@@ -396,7 +396,7 @@ fn a_worker_tells_the_others_of_its_log(rt: HostRuntime) -> Result<(), Fail> {
     assert!(&rt; run.tables.is_empty());
     for number in 1..6 {
         let hint = receiver.recv(&rt).expect(&rt, "a hint");
-        assert!(&rt; hint.proc == 0 && hint.number == number);
+        assert!(&rt; hint.processor == 0 && hint.number == number);
     }
     assert!(&rt; receiver.recv(&rt).is_err());
     Ok(())
@@ -420,7 +420,16 @@ fn tells_and_waits<P: Wait>(
     }
     for number in 1..6 {
         for sender in &senders {
-            if sender.send(rt, Hint { proc: 1, number }).is_err() {
+            if sender
+                .send(
+                    rt,
+                    Hint {
+                        processor: 1,
+                        number,
+                    },
+                )
+                .is_err()
+            {
                 return false;
             }
         }
@@ -597,10 +606,10 @@ fn another_pen_leads_astray(rt: HostRuntime) -> Result<(), Fail> {
 // A script of 8 processors, 60 tasks and 200 slots.
 fn busy(rt: &impl Abort, alloc: Global) -> Result<Script, AllocError> {
     let mut logs = Vec::new(alloc);
-    for proc in 0..8u8 {
+    for processor in 0..8u8 {
         let mut log = Vec::new(alloc);
-        for task in 0..7 + u8::from(proc < 4) {
-            let name = TaskName::from_bytes(&[b'a' + proc, b'a' + task]).expect(rt, "a name");
+        for task in 0..7 + u8::from(processor < 4) {
+            let name = TaskName::from_bytes(&[b'a' + processor, b'a' + task]).expect(rt, "a name");
             let weight = Weight::new(1 + task as u64 % 2, 12).expect(rt, "a weight");
             let at = task as u64 * 20;
             let said = Announcement::Arrive {

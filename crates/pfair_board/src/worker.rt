@@ -101,7 +101,7 @@ fn publish_log<P: Wait>(
                 rt,
                 senders,
                 Hint {
-                    proc: desk.proc(),
+                    processor: desk.processor(),
                     number,
                 },
             )?,
@@ -175,10 +175,10 @@ fn heed<R: Ready>(
     ensures settings { dispatcher.new.settings ≡ dispatcher.old.settings }
     ensures behind { IsBehind dispatcher.new desk.new }
 {
-    let Ok(Some(entry)) = desk.look(board, hint.proc, hint.number) else {
+    let Ok(Some(entry)) = desk.look(board, hint.processor, hint.number) else {
         return Ok(());
     };
-    match dispatcher.take(hint.proc, hint.number, entry) {
+    match dispatcher.take(hint.processor, hint.number, entry) {
         Ok(_) => Ok(()),
         Err(_) => Err(AllocError),
     }
@@ -222,7 +222,7 @@ fn plan_held<P: Wait, R: Ready, G: Gate>(
     torn_test();
     // nothing that a desk holds is torn
     let _held = desk.replica();
-    plan_settled(rt, dispatcher, desk.proc(), gate)
+    plan_settled(rt, dispatcher, desk.processor(), gate)
 }
 
 // Plans every slot that what is held settles. The worker comes to the gate before each.

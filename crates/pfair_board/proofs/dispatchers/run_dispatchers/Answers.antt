@@ -13,7 +13,7 @@ pub run_all-requires-clause-desks : goal.run_all-requires-clause-desks
 run_all-requires-clause-desks g c κs within = record {
   count = search rules;
   own = c.in_ok-desks.ensures.own;
-  rows = λ k d at. (ap (λ (x : DeskState). x.proc) (c.in_ok-desks.ensures.fresh k d at), ap (λ (x : DeskState). x.next_number) (c.in_ok-desks.ensures.fresh k d at));
+  rows = λ k d at. (ap (λ (x : DeskState). x.processor) (c.in_ok-desks.ensures.fresh k d at), ap (λ (x : DeskState). x.next_number) (c.in_ok-desks.ensures.fresh k d at));
 }
 
 pub returns-in-Some-clause-fault : goal.returns-in-Some-clause-fault
@@ -39,7 +39,7 @@ hand_back-requires-clause-good g c = λ k w at.
     record {
       desk = record {
         own = work.desk;
-        proc = work.proc;
+        processor = work.processor;
         replica = same_replica c.least_join.ensures (replica_of w.desk.replica) (replica_of_logs logs) rows row
             (subst (λ y. Below (replica_of w.desk.replica) y) whole_is held.1)
             (subst (λ y. Below y (replica_of w.desk.replica)) whole_is held.2);

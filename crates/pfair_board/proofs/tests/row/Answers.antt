@@ -7,5 +7,5 @@ pub returns : goal.returns
 returns c =
     let items = c.in_ok-desks.desks.items in
     let long : length items ≡ vec_len c.in_ok-desks.desks = search rules in
-    let at = slice_get_read items (length items) c.args.proc c.swap_remove.result refl (omega (arith, long, c.in_ok-desks.ensures.count, c.requires)) c.swap_remove.ensures.value in
-    (c.in_ok-desks.ensures.own c.args.proc c.swap_remove.result at, ap (λ (d : DeskState). d.next_number) (c.in_ok-desks.ensures.fresh c.args.proc c.swap_remove.result at))
+    let at = slice_get_read items (length items) c.args.processor c.swap_remove.result refl (omega (arith, long, c.in_ok-desks.ensures.count, c.requires)) c.swap_remove.ensures.value in
+    (c.in_ok-desks.ensures.own c.args.processor c.swap_remove.result at, ap (λ (d : DeskState). d.next_number) (c.in_ok-desks.ensures.fresh c.args.processor c.swap_remove.result at))

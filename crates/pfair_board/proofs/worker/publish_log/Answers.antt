@@ -14,7 +14,7 @@ returns-in-Err-Taken-clause-fault g c =
     let e = c.entry-item.result in
     let at = slice_get_read c.args.log.now (length c.args.log.now) c.loop-entry.entry-index e refl c.loop-entry-test.true c.entry-item.is in
     let taken : IsPublishFaultOf c.loop-entry.desk c.publish.new.self e (Taken c.in-Err-Taken.field-0-0) = subst (IsPublishFaultOf c.loop-entry.desk c.publish.new.self e) c.in-Err-Taken.field-0-is c.in-Err-Taken.ensures.fault in
-    let stands : held c.publish.new.self.replica c.publish.new.self.proc (c.args.desk.now.next_number + c.loop-entry.entry-index) ≡ Some (One c.in-Err-Taken.field-0-0) = rw (c.publish.ensures.kept.proc, ← c.loop-entry.invariant.next) taken.3 in
+    let stands : held c.publish.new.self.replica c.publish.new.self.processor (c.args.desk.now.next_number + c.loop-entry.entry-index) ≡ Some (One c.in-Err-Taken.field-0-0) = rw (c.publish.ensures.kept.processor, ← c.loop-entry.invariant.next) taken.3 in
     (c.loop-entry.entry-index, e, c.in-Err-Taken.field-0-0, at, stands, taken.1)
 
 pub loop-entry-preserved : goal.loop-entry-preserved
@@ -31,18 +31,18 @@ loop-entry-preserved g c =
       grown = grown_trans c.args.desk.now old new c.loop-entry.invariant.grown c.publish.ensures.kept;
       next = omega (arith, more, next);
       log = λ j x below at. ⊎_elim
-          (λ before. c.publish.ensures.kept.kept c.args.desk.now.proc (c.args.desk.now.next_number + j) (One x) (c.loop-entry.invariant.log j x before at))
+          (λ before. c.publish.ensures.kept.kept c.args.desk.now.processor (c.args.desk.now.next_number + j) (One x) (c.loop-entry.invariant.log j x before at))
           (λ last. let here : j ≡ i = omega arith in
           let both = sym at_i ∙ (ap (slice_get c.args.log.now) (sym here) ∙ at) in
           let same : e ≡ x = cc both in
           let place : c.args.desk.now.next_number + j ≡ old.next_number = omega (arith, here, next) in
-          ap (λ k. held new.replica k (c.args.desk.now.next_number + j)) (sym c.loop-entry.invariant.grown.proc)
-          ∙ (ap (held new.replica old.proc) place ∙ (c.in-Ok.ensures.held_now ∙ ap (λ y. Some (One y)) same)))
+          ap (λ k. held new.replica k (c.args.desk.now.next_number + j)) (sym c.loop-entry.invariant.grown.processor)
+          ∙ (ap (held new.replica old.processor) place ∙ (c.in-Ok.ensures.held_now ∙ ap (λ y. Some (One y)) same)))
           (cases_lt j i);
     }
 
 pub returns-clause-log : goal.returns-clause-log
 returns-clause-log g c = λ i e at.
     (let within = slice_get_within c.args.log.now i e at in
-    subst (λ k. held c.loop-entry.desk.replica k (c.args.desk.now.next_number + i) ≡ Some (One e)) (sym c.loop-entry.invariant.grown.proc)
+    subst (λ k. held c.loop-entry.desk.replica k (c.args.desk.now.next_number + i) ≡ Some (One e)) (sym c.loop-entry.invariant.grown.processor)
     (c.loop-entry.invariant.log i e (omega (arith, within, c.loop-entry-test.false, c.loop-entry.auto.entry-index-end)) at))

@@ -11,5 +11,5 @@ invariant-loop-entry g l = record {
   own : IsDeskOf l.desk l.board;
   grown : GrownDesk l.fn.desk l.desk;
   next : l.desk.next_number ≡ l.fn.desk.next_number + l.entry-index;
-  log : (i : ℕ) (e : Logged) → i < l.entry-index → slice_get l.log i ≡ Some e → held l.desk.replica l.fn.desk.proc (l.fn.desk.next_number + i) ≡ Some (One e);
+  log : (i : ℕ) (e : Logged) → i < l.entry-index → slice_get l.log i ≡ Some e → held l.desk.replica l.fn.desk.processor (l.fn.desk.next_number + i) ≡ Some (One e);
 }

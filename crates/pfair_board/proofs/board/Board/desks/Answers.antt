@@ -6,12 +6,12 @@ use Rattle.pfair_board.proofs.Rows.{each_snoc}
 use Rattle.pfair_board.proofs.board.Board.desks.Goals as goal
 
 -- one more fresh desk
-pub loop-proc-preserved : goal.loop-proc-preserved
-loop-proc-preserved c = record {
+pub loop-processor-preserved : goal.loop-processor-preserved
+loop-processor-preserved c = record {
   count = grind (arith, common_steps);
-  fresh = λ k d at. each_snoc (λ j x. state_of x ≡ fresh_desk c.args.self.now j) c.loop-proc.desks.items c.in_ok-desk.field-0 c.loop-proc.invariant.fresh
-      (c.in_ok-desk.ensures ∙ sym (ap (fresh_desk c.args.self.now) c.loop-proc.invariant.count)) k d (rw (← c.in_ok-push.ensures.items) at);
+  fresh = λ k d at. each_snoc (λ j x. state_of x ≡ fresh_desk c.args.self.now j) c.loop-processor.desks.items c.in_ok-desk.field-0 c.loop-processor.invariant.fresh
+      (c.in_ok-desk.ensures ∙ sym (ap (fresh_desk c.args.self.now) c.loop-processor.invariant.count)) k d (rw (← c.in_ok-push.ensures.items) at);
 }
 
 pub returns-clause-own : goal.returns-clause-own
-returns-clause-own c = λ k d at. fresh_is_of _ k d (c.loop-proc.invariant.fresh k d at)
+returns-clause-own c = λ k d at. fresh_is_of _ k d (c.loop-processor.invariant.fresh k d at)

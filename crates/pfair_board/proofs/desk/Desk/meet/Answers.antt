@@ -18,14 +18,14 @@ now_known : (c : After-merge) → AllNoted (replica_of c.merge.new.self) c.share
 now_known c = below_noted (replica_of c.merge.new.self) (join (replica_of c.self.inside.replica) (replica_of c.other.inside.replica)) c.share.new.self.known (sym c.merge.ensures.shape.1) c.merge.ensures.within (join_known c)
 
 pub invariant_of-self : goal.invariant_of-self
-invariant_of-self c = in_order_met c.self.inside.proc c.self.inside.next_number (replica_of c.self.inside.replica) (replica_of c.merge.new.self) c.self.inside.notes c.share.new.self c.self.invariant c.share.ensures.mine c.merge.ensures.shape (now_known (goal.at.invariant_of-self c).After-merge)
+invariant_of-self c = in_order_met c.self.inside.processor c.self.inside.next_number (replica_of c.self.inside.replica) (replica_of c.merge.new.self) c.self.inside.notes c.share.new.self c.self.invariant c.share.ensures.mine c.merge.ensures.shape (now_known (goal.at.invariant_of-self c).After-merge)
 
 pub returns-clause-agree : goal.returns-clause-agree
 returns-clause-agree c = rw (← c.self.view_is, ← c.other.view_is) (noted_whole (join (replica_of c.self.inside.replica) (replica_of c.other.inside.replica)) c.share.new.self.known (join_known (goal.at.returns-clause-agree c).After-merge))
 
 pub returns-clause-kept : goal.returns-clause-kept
 returns-clause-kept c = rw (← c.self.view_is) (record {
-  proc = refl;
+  processor = refl;
   cells = c.share.ensures.mine.cells;
   processors = sym c.merge.ensures.shape.0;
   capacity = sym c.merge.ensures.shape.1;

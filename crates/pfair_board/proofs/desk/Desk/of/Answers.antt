@@ -6,7 +6,7 @@ use Rattle.pfair_board.proofs.NotedLemmas.{in_order_fresh}
 use Rattle.pfair_board.proofs.desk.Desk.of.Goals as goal
 
 pub invariant_of-result : goal.invariant_of-result
-invariant_of-result c = in_order_fresh c.args.processors c.args.capacity c.args.proc (replica_of c.in_ok-new.field-0) c.in_ok-notes.notes c.requires.shape c.in_ok-new.ensures
+invariant_of-result c = in_order_fresh c.args.processors c.args.capacity c.args.processor (replica_of c.in_ok-new.field-0) c.in_ok-notes.notes c.requires.shape c.in_ok-new.ensures
     (ap length c.in_ok-notes.ensures.cells ∙ length-map c.args.cells.now cell_name ∙ c.requires.all)
     (c.in_ok-notes.ensures.known ∙ ap (λ n. replicate n None) c.requires.all)
     c.requires.row

@@ -7,22 +7,22 @@ use Rattle.pfair_board.proofs.desk.Desk.refresh.Goals as goal
 -- want of memory in a row
 pub returns-in_err-found-clause-no_gap : goal.returns-in_err-found-clause-no_gap
 returns-in_err-found-clause-no_gap c =
-    no_gap_on (replica_of c.args.self.now.replica) (replica_of c.loop-proc.self.replica) (replica_of c.refresh_row.new.self.replica) c.loop-proc.proc
-    (λ n. c.loop-proc.invariant.later c.loop-proc.proc n (omega arith)) c.in_err-found.ensures.others c.loop-proc.invariant.no_gap c.in_err-found.ensures.no_gap
+    no_gap_on (replica_of c.args.self.now.replica) (replica_of c.loop-processor.self.replica) (replica_of c.refresh_row.new.self.replica) c.loop-processor.processor
+    (λ n. c.loop-processor.invariant.later c.loop-processor.processor n (omega arith)) c.in_err-found.ensures.others c.loop-processor.invariant.no_gap c.in_err-found.ensures.no_gap
 
-pub loop-proc-preserved : goal.loop-proc-preserved
-loop-proc-preserved c =
+pub loop-processor-preserved : goal.loop-processor-preserved
+loop-processor-preserved c =
     let old = replica_of c.args.self.now.replica in
-    let now = replica_of c.loop-proc.self.replica in
+    let now = replica_of c.loop-processor.self.replica in
     let new = replica_of c.refresh_row.new.self.replica in
-    let proc = c.loop-proc.proc in
-    let below : gained_in_rows old new proc ≡ gained_in_rows old now proc = rows_alike old new now proc c.in_ok-found.ensures.same.capacity (λ k n lt. c.in_ok-found.ensures.others k n (λ is. absurd (omega arith))) in
-    let row : gained_in_row old new proc new.capacity ≡ gained_in_row now new proc new.capacity = row_alike old new now new proc new.capacity (λ j a b. same_missing old now new proc j (sym (c.loop-proc.invariant.later proc j (omega arith)))) in
+    let processor = c.loop-processor.processor in
+    let below : gained_in_rows old new processor ≡ gained_in_rows old now processor = rows_alike old new now processor c.in_ok-found.ensures.same.capacity (λ k n lt. c.in_ok-found.ensures.others k n (λ is. absurd (omega arith))) in
+    let row : gained_in_row old new processor new.capacity ≡ gained_in_row now new processor new.capacity = row_alike old new now new processor new.capacity (λ j a b. same_missing old now new processor j (sym (c.loop-processor.invariant.later processor j (omega arith)))) in
     record {
-      same = same_trans c.args.self.now c.loop-proc.self c.refresh_row.new.self c.loop-proc.invariant.same c.in_ok-found.ensures.same;
-      kept = λ k n f is. c.in_ok-found.ensures.kept k n f (c.loop-proc.invariant.kept k n f is);
-      count = rw add-one (let count = c.loop-proc.invariant.count in let mine = c.in_ok-found.ensures.count in omega arith);
-      few = let few = c.loop-proc.invariant.few in let mine = c.in_ok-found.ensures.few in omega arith;
-      no_gap = no_gap_on old now new proc (λ n. c.loop-proc.invariant.later proc n (omega arith)) c.in_ok-found.ensures.others c.loop-proc.invariant.no_gap c.in_ok-found.ensures.no_gap;
-      later = λ k n le. c.in_ok-found.ensures.others k n (λ is. absurd (omega arith)) ∙ c.loop-proc.invariant.later k n (omega arith);
+      same = same_trans c.args.self.now c.loop-processor.self c.refresh_row.new.self c.loop-processor.invariant.same c.in_ok-found.ensures.same;
+      kept = λ k n f is. c.in_ok-found.ensures.kept k n f (c.loop-processor.invariant.kept k n f is);
+      count = rw add-one (let count = c.loop-processor.invariant.count in let mine = c.in_ok-found.ensures.count in omega arith);
+      few = let few = c.loop-processor.invariant.few in let mine = c.in_ok-found.ensures.few in omega arith;
+      no_gap = no_gap_on old now new processor (λ n. c.loop-processor.invariant.later processor n (omega arith)) c.in_ok-found.ensures.others c.loop-processor.invariant.no_gap c.in_ok-found.ensures.no_gap;
+      later = λ k n le. c.in_ok-found.ensures.others k n (λ is. absurd (omega arith)) ∙ c.loop-processor.invariant.later k n (omega arith);
     }

@@ -4,12 +4,12 @@ use Rattle.pfair_board.specs.Desks.{Keeps}
 use Rattle.pfair_board.specs.Gained.{gained_in_rows, NoGapInRow, SameDesk}
 use Rattle.pfair_board.proofs.desk.Desk.refresh.Given as goal
 
-abbrev pub invariant-loop-proc : goal.invariant-loop-proc
-invariant-loop-proc l = record {
+abbrev pub invariant-loop-processor : goal.invariant-loop-processor
+invariant-loop-processor l = record {
   same : SameDesk l.fn.self l.self;
   kept : Keeps (replica_of l.fn.self.replica) (replica_of l.self.replica);
-  count : l.found ≡ gained_in_rows (replica_of l.fn.self.replica) (replica_of l.self.replica) l.proc;
-  few : l.found ≤ 4096 * l.proc;
+  count : l.found ≡ gained_in_rows (replica_of l.fn.self.replica) (replica_of l.self.replica) l.processor;
+  few : l.found ≤ 4096 * l.processor;
   no_gap : (k : ℕ) → NoGapInRow (replica_of l.fn.self.replica) (replica_of l.self.replica) k;
-  later : (k n : ℕ) → l.proc ≤ k → held l.self.replica k n ≡ held l.fn.self.replica k n;
+  later : (k n : ℕ) → l.processor ≤ k → held l.self.replica k n ≡ held l.fn.self.replica k n;
 }

@@ -10,9 +10,9 @@ invariant-loop-number l = record {
   kept : Keeps (replica_of l.fn.self.replica) (replica_of l.self.replica);
   positive : 1 ≤ l.number;
   room : l.number ≤ l.self.replica.capacity + 1;
-  full : (j : ℕ) → 1 ≤ j → j < l.number → IsSome (held l.self.replica l.proc j);
-  count : l.found ≡ gained_in_row (replica_of l.fn.self.replica) (replica_of l.self.replica) l.proc (l.number - 1);
+  full : (j : ℕ) → 1 ≤ j → j < l.number → IsSome (held l.self.replica l.processor j);
+  count : l.found ≡ gained_in_row (replica_of l.fn.self.replica) (replica_of l.self.replica) l.processor (l.number - 1);
   few : l.found < l.number;
-  others : (k n : ℕ) → (k ≡ l.proc → ⊥) → held l.self.replica k n ≡ held l.fn.self.replica k n;
-  later : (n : ℕ) → l.number ≤ n → held l.self.replica l.proc n ≡ held l.fn.self.replica l.proc n;
+  others : (k n : ℕ) → (k ≡ l.processor → ⊥) → held l.self.replica k n ≡ held l.fn.self.replica k n;
+  later : (n : ℕ) → l.number ≤ n → held l.self.replica l.processor n ≡ held l.fn.self.replica l.processor n;
 }

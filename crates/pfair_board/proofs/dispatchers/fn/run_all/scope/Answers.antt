@@ -16,7 +16,7 @@ pub log-log-requires : goal.log-log-requires
 log-log-requires g c =
     let at : slice_get (into_iter_items c.loop-desk.desk-iterator) 0 ≡ Some c.in-Some.desk = grind (arith, common_steps) in
     let desk = c.loop-desk.invariant.2 0 c.in-Some.desk at in
-    omega (arith, c.proc-proc.ensures.value, c.proc-proc.ensures.row, desk.0.processors, c.requires.1)
+    omega (arith, c.processor-processor.ensures.value, c.processor-processor.ensures.row, desk.0.processors, c.requires.1)
 
 -- the desk that comes is the first that was left
 pub spawn_with-requires-clause-runs : goal.spawn_with-requires-clause-runs
@@ -42,12 +42,12 @@ loop-desk-preserved g c =
           let there : slice_get (into_iter_items c.loop-desk.desk-iterator) (k + 1) ≡ Some d = rw (next, add-one) at in
           let d' = was.2 (k + 1) d there in (d'.0, omega arith, d'.2)),
       (λ k h at.
-          let P = (λ (j : ℕ) (x : PromisedHandle Worked (RowOf g.row.G.Denot)). (x.promise.board.value ≡ c.captures.board.now) × (x.promise.proc ≡ j) × (x.promise.settings ≡ c.captures.settings)) in
+          let P = (λ (j : ℕ) (x : PromisedHandle Worked (RowOf g.row.G.Denot)). (x.promise.board.value ≡ c.captures.board.now) × (x.promise.processor ≡ j) × (x.promise.settings ≡ c.captures.settings)) in
           let count : length c.loop-desk.threads.items ≡ started = search rules in
           let first : slice_get (into_iter_items c.loop-desk.desk-iterator) 0 ≡ Some c.in-Some.desk = grind (arith, common_steps) in
           let row = c.in_ok-started.ensures.ok in
-          let proc : c.in_ok-started.started.promise.proc ≡ length c.loop-desk.threads.items = omega (arith, ap (λ r. r.proc) row, c.proc-proc.ensures.value, (was.2 0 c.in-Some.desk first).1) in
-          let new : P (length c.loop-desk.threads.items) c.in_ok-started.started = (ap (λ r. r.board.value) row ∙ c.of.ensures, proc, ap (λ r. r.settings) row) in
+          let processor : c.in_ok-started.started.promise.processor ≡ length c.loop-desk.threads.items = omega (arith, ap (λ r. r.processor) row, c.processor-processor.ensures.value, (was.2 0 c.in-Some.desk first).1) in
+          let new : P (length c.loop-desk.threads.items) c.in_ok-started.started = (ap (λ r. r.board.value) row ∙ c.of.ensures, processor, ap (λ r. r.settings) row) in
           let at' : slice_get (c.loop-desk.threads.items ++ c.in_ok-started.started ∷ []) k ≡ Some h = rw (← c.in_ok-push.ensures.items) at in
           each_snoc P c.loop-desk.threads.items c.in_ok-started.started was.3 new k h at'),
     )
@@ -65,5 +65,5 @@ returns g c = record {
       let here : slice_get hs k ≡ Some kept.handle = slice_get_read hs (length hs) k kept.handle refl (omega arith) kept.handle_is in
       let is = was.3 k kept.handle here in
       let w_is = get_or_from_slice_get ws k w w at in
-      work_moves _ _ _ _ _ _ _ w is.0 is.2 is.1 (subst (λ x. IsWorkOf g.G.Gate.may_give_up kept.handle.promise.board.value kept.handle.promise.settings kept.handle.promise.proc x) w_is kept.kept);
+      work_moves _ _ _ _ _ _ _ w is.0 is.2 is.1 (subst (λ x. IsWorkOf g.G.Gate.may_give_up kept.handle.promise.board.value kept.handle.promise.settings kept.handle.promise.processor x) w_is kept.kept);
 }

@@ -9,5 +9,5 @@ invariant-loop-desk g l =
     let started = vec_len l.threads in let rest = l.desk-iterator in
     (started + into_iter_len rest ≡ l.board.processors)
     × (into_iter_len l.hints ≡ into_iter_len rest)
-    × ((k : ℕ) (d : DeskView) → slice_get (into_iter_items rest) k ≡ Some d → IsDeskOf d l.board × (d.proc ≡ started + k) × (d.next_number ≡ 1))
-    × ((k : ℕ) (h : _) → slice_get l.threads.items k ≡ Some h → (h.promise.board.value ≡ l.board) × (h.promise.proc ≡ k) × (h.promise.settings ≡ l.settings))
+    × ((k : ℕ) (d : DeskView) → slice_get (into_iter_items rest) k ≡ Some d → IsDeskOf d l.board × (d.processor ≡ started + k) × (d.next_number ≡ 1))
+    × ((k : ℕ) (h : _) → slice_get l.threads.items k ≡ Some h → (h.promise.board.value ≡ l.board) × (h.promise.processor ≡ k) × (h.promise.settings ≡ l.settings))
