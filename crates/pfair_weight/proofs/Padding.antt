@@ -1,6 +1,7 @@
 -- Names, and the bytes that store them.
-use Rattle.std.proofs.Common.{ℕ, zero, suc, ◌≡◌, ◌+◌, ◌-◌, ◌<◌, ◌≤◌, ◌==◌, true, false, cond, List, [], ◌∷◌, ◌++◌, length, get_or, take, drop, refl, sym, ap, ◌∙◌, subst, arith}
-use Rattle.std.specs.Prelude.{replicate, count_by, not, slice_index}
+use Rattle.std.proofs.Common.{one-add, ℕ, zero, suc, ◌≡◌, ◌+◌, ◌-◌, ◌<◌, ◌≤◌, ◌==◌, true, false, cond, List, [], ◌∷◌, ◌++◌, length, get_or, take, drop, refl, sym, ap, ◌∙◌, subst, arith}
+use Rattle.std.specs.Prelude.{replicate, not, slice_index}
+use Rattle.std.specs.List.{position_or_len}
 use Rattle.std.specs.Cmp.Lexicographic.{slice_cmp}
 use Rattle.std.specs.Ordering.{nat_cmp, ordering_then}
 use Rattle.std.specs.declared.cmp.Ordering.TheVariants.{Less, Equal, Greater}
@@ -8,9 +9,6 @@ use Rattle.std.proofs.lemmas.Bool.{ne_eqb}
 use Rattle.std.proofs.lemmas.Bool.Decides.{nat_tests}
 use Rattle.std.proofs.lemmas.Cmp.{nat_list_cmp_total, tied_itself}
 use Rattle.std.proofs.lemmas.List.{drop-replicate}
-use Rattle.std.proofs.lemmas.List.Sums.{sum_by-cons}
-use Rattle.std.proofs.lemmas.List.Folds.{sum_by-replicate}
-use Rattle.std.proofs.Math.Seq.{take-append_seam}
 use Rattle.pfair_weight.specs.declared.name.TaskName.TheInside.{Inside}
 use Rattle.pfair_weight.specs.Name.{may_stand, IsTaskName}
 use Rattle.pfair_weight.specs.Padded.{before_zero, with_zeros, IsPadded}
@@ -67,21 +65,14 @@ module _ (name after : List ℕ) (named : IsTaskName name) (same : after ≡ nam
 
 -- ---- the end of the name
 
-counted : (name : List ℕ) (n : ℕ) → NoZeros name → count_by (λ byte. not (byte == 0)) (name ++ replicate n 0) ≡ length name
-counted [] n h = sum_by-replicate (λ byte. cond (not (byte == 0)) 1 0) n 0 ∙ omega arith
-counted (byte ∷ name) n h =
-    let one : ◌≡◌ {A = ℕ} (cond (not (byte == 0)) 1 0) 1 = ap (λ t. cond (not t) 1 0) (ne_eqb byte 0 (λ e. (let some = h.0 in omega (arith, e, some)))) in
-    let rest = counted name n h.1 in
-    let sum = sum_by-cons (λ byte. cond (not (byte == 0)) 1 0) byte (name ++ replicate n 0) in
-    omega (arith, one, rest, sum)
-
--- the bytes that are not 0 are the name's
-pub name_in_front : (a : Inside) (n : ℕ) → IsPadded a → n ≡ count_by (λ byte. not (byte == 0)) a.bytes → take n a.bytes ≡ before_zero a.bytes
-name_in_front a n p same =
-    let name = before_zero a.bytes in
-    let zeros = replicate (16 - length name) 0 in
-    let so_many : n ≡ length name = same ∙ ap (count_by (λ byte. not (byte == 0))) p.padded_with_zeros ∙ counted name (16 - length name) (no_zeros name p.named) in
-    (λ i. take (so_many i) (p.padded_with_zeros i)) ∙ take-append_seam name zeros
+-- the name is what stands before the first zero
+pub before_first_zero : (bytes : List ℕ) → take (position_or_len (λ byte. byte == 0) bytes) bytes ≡ before_zero bytes
+before_first_zero [] = refl
+before_first_zero (byte ∷ bytes) =
+    elim (byte == 0) as (λ t. take (cond (not t) (1 + position_or_len (λ byte. byte == 0) bytes) 0) (byte ∷ bytes) ≡ cond t [] (byte ∷ before_zero bytes)) [
+      | true ↦ refl
+      | false ↦ rw one-add (ap (λ l. byte ∷ l) (before_first_zero bytes))
+    ]
 
 -- ---- the order
 

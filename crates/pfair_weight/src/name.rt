@@ -1,6 +1,7 @@
 //! Task names.
-ghost use Rattle.std.specs.Prelude.{◌≡◌, ◌≤◌, ◌<◌, ◌==◌, IfOk, IfErr, length, count_by, not, nat_eq};
+ghost use Rattle.std.specs.Prelude.{◌≡◌, ◌≤◌, ◌<◌, ◌==◌, IfOk, IfErr, length, nat_eq};
 ghost use Rattle.std.proofs.Common.{rules};
+ghost use Rattle.std.specs.List.{position_or_len};
 ghost use Rattle.std.specs.Cmp.{partial_order_from_own_ties};
 ghost use Rattle.std.specs.Cmp.Rules.{comparing};
 ghost use Rattle.std.specs.Cmp.Lexicographic.{slice_cmp};
@@ -98,12 +99,12 @@ impl TaskName {
         Ok(TaskName { bytes: padded })
     }
 
-    /// The bytes that spell the name.
+    /// The bytes that spell the name. They are gone through once, to find where they end.
     pub fn as_bytes(&self) -> &[u8]
         ensures value { result.now ≡ self.now }
         ensures named { IsTaskName self.now }
     {
-        &self.bytes[..count_some(&self.bytes)]
+        &self.bytes[..first_zero(&self.bytes)]
     }
 }
 
@@ -163,12 +164,15 @@ impl Hash for TaskName {
     }
 }
 
-// How many bytes aren't 0.
-fn count_some(bytes: &[u8]) -> usize
-    ensures value { result ≡ count_by (λ byte. not (byte == 0)) bytes.now }
+// The place of the first 0, or the length where there is none.
+fn first_zero(bytes: &[u8]) -> usize
+    ensures value { result ≡ position_or_len (λ byte. byte == 0) bytes.now }
     ensures within { result ≤ length bytes.now }
 {
-    bytes.iter().filter(|byte| **byte != 0).count()
+    bytes
+        .iter()
+        .position(|byte| *byte == 0)
+        .unwrap_or(bytes.len())
 }
 
 // Whether a byte may stand at this place of a name.

@@ -1,6 +1,6 @@
-use Rattle.std.proofs.Common.{◌∙◌}
-use Rattle.pfair_weight.proofs.Padding.{name_in_front}
+use Rattle.std.proofs.Common.{◌∙◌, ap, take}
+use Rattle.pfair_weight.proofs.Padding.{before_first_zero}
 use Rattle.pfair_weight.proofs.name.TaskName.as_bytes.Goals as goal
 
 pub returns-clause-value : goal.returns-clause-value
-returns-clause-value c = name_in_front c.self.inside c.count_some.result c.self.invariant c.count_some.ensures.value ∙ c.self.view_is
+returns-clause-value c = ap (λ n. take n c.self.inside.bytes) c.first_zero.ensures.value ∙ before_first_zero c.self.inside.bytes ∙ c.self.view_is
