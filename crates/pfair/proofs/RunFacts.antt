@@ -2,7 +2,7 @@
 use Rattle.std.proofs.Common.{ℕ, List, Option, None, Some, Result, Ok, Err, OnOk, OnErr, ◌≡◌, ◌≤◌, ◌⊎◌, inl, inr, refl, sym, ap, ◌∙◌, subst, map}
 use Rattle.std.specs.Prelude.{IfSome, IfErr, IsErrAnd, min}
 use Rattle.pfair.specs.declared.fault.ProgramFault.{ProgramFault}
-use Rattle.pfair.specs.declared.fault.ProgramFault.TheVariants.{Memory, WriteFailed}
+use Rattle.pfair.specs.declared.fault.ProgramFault.TheVariants.{FileTooLong, ReadFailed, Memory, WriteFailed}
 use Rattle.pfair_replica.specs.Replica.{Replica, frontier, numbers_below}
 use Rattle.pfair_replica.specs.HeldRows.{replica_of}
 use Rattle.pfair_table.specs.Table.{Settings, decisions}
@@ -16,8 +16,8 @@ use Rattle.pfair_output.specs.Replay.{placed_replay_text, placed_text, replay_te
 use Rattle.pfair_output.specs.Decisions.{decisions_text}
 use Rattle.pfair_output.specs.Lags.{lags_text}
 use Rattle.pfair_file.specs.Documents.{script_of_file}
-use Rattle.pfair_text.specs.Input.{HasTaken}
-use Rattle.pfair.specs.Runs.{TakesOneFile, IsOutputOf, IsRefusalOf, IsWholeRun, replay_of_run, placed_replay_of_run, decisions_of_run, lags_of_run}
+use Rattle.pfair_text.specs.Input.{HasTaken, TakesOneFile}
+use Rattle.pfair.specs.Runs.{IsOutputOf, IsRefusalOf, IsWholeRun, replay_of_run, placed_replay_of_run, decisions_of_run, lags_of_run}
 
 -- the bytes are known to hold a script that the dispatcher has run
 abbrev pub HasRun : Option (List ℕ) → Dispatch → Type 0
@@ -84,7 +84,7 @@ memory_refuses_nothing (Err e) (Some bytes) is = subst (IsRefusalOf bytes) (sym 
 
 -- no more was taken than a file may have, and then the writer failed or memory was wanting, or nothing did
 pub taken_then : {T : Type 0} → (r : Result T ProgramFault) → (given left : Option (List ℕ)) → HasTaken given left (λ n. n ≤ 67108864) → HasTaken given left (λ n. n ≤ 67108865)
-    → IfErr r (λ e. (e ≡ WriteFailed) ⊎ (e ≡ Memory)) → TakesOneFile r given left
+    → IfErr r (λ e. (e ≡ WriteFailed) ⊎ (e ≡ Memory)) → TakesOneFile FileTooLong ReadFailed Memory r given left
 taken_then (Ok x) given left few most why = record { long = λ is. cc is; unread = λ is. few; within = few; within_fault = tt; most = most }
 taken_then (Err e) given left few most why = record {
   long = λ is. elim why [ inl failed ↦ cc (is, failed) | inr wanting ↦ cc (is, wanting) ];

@@ -1,7 +1,7 @@
 -- What a command writes of a task file, and why it refuses one.
 use Rattle.std.specs.Prelude.{ℕ, Bool, true, List, map, min, ◌≡◌, ◌≢◌, ◌<◌, ◌≤◌, ◌⊎◌, Option, Result, Ok, Err, IfErr, IfSome, IsErrOf, OnOk}
 use Rattle.std.specs.Io.KnownBytes.{Appends, Keeps}
-use Rattle.pfair_text.specs.Input.{HasTaken}
+use Rattle.pfair_text.specs.Input.{TakesOneFile}
 use Rattle.pfair_text.specs.Output.{TakesPrefix}
 use Rattle.pfair_replica.specs.Replica.{Replica, frontier, numbers_below}
 use Rattle.pfair_table.specs.Table.{decisions, plan}
@@ -78,22 +78,13 @@ pub record IsWholeRun (run : LoggedRun) (made : Run) : Type 0 where
   pub tables : IsFullRun run made
   pub places : IsPlacedRun made
 
--- What is taken of a file, by the bytes that the reader has to give before a call and after it: no more than the longest file has, but
--- where the file is too long or memory was wanting, and then at most one more.
-pub record TakesOneFile {T : Type 0} (result : Result T ProgramFault) (given left : Option (List ℕ)) : Type 0 where
-  pub long : IsErrOf result FileTooLong → HasTaken given left (λ n. n ≡ 67108865)
-  pub unread : IsErrOf result ReadFailed → HasTaken given left (λ n. n ≤ 67108864)
-  pub within : OnOk result (HasTaken given left (λ n. n ≤ 67108864))
-  pub within_fault : IfErr result (λ e. e ≢ FileTooLong → e ≢ Memory → HasTaken given left (λ n. n ≤ 67108864))
-  pub most : HasTaken given left (λ n. n ≤ 67108865)
-
 -- A command that writes such a text of a file's script, by the bytes that the reader has to give before it and after it, and by those that
 -- the writer holds. It ends well where the writer has taken the text, and with a fault of the writer where it has taken a prefix
 -- of it; with any other fault, which is one of these, nothing was written, and the file, the reader, the run or memory gave cause for it.
 pub record IsCommandOf {T : Type 0} (text : LoggedRun → List ℕ) (IsFault : ProgramFault → Type 0) (result : Result T ProgramFault) (given left before after : Option (List ℕ)) : Type 0 where
   pub ok : OnOk result (IfSome given (λ bytes. IsOutputOf text bytes (Appends before after)))
   pub refused : IfErr result (λ e. IfSome given (λ bytes. IsRefusalOf bytes e))
-  pub taken : TakesOneFile result given left
+  pub taken : TakesOneFile FileTooLong ReadFailed Memory result given left
   pub nothing : IfErr result (λ e. e ≢ WriteFailed → Keeps before after)
   pub cut : IsErrOf result WriteFailed → IfSome given (λ bytes. IsOutputOf text bytes (TakesPrefix before after))
   pub only : IfErr result (λ e. IsFault e ⊎ (e ≡ WriteFailed))

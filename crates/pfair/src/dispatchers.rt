@@ -1,10 +1,11 @@
 //! The run of a script's dispatchers, each in a thread of its own.
 
 ghost use Rattle.std.specs.Prelude.{◌≡◌, ◌≤◌, Ok, IfErr, IfOk, IfSome, IsErrOf, ◌≢◌, OnOk};
+ghost use Rattle.pfair_text.specs.Input.{TakesOneFile};
 ghost use Rattle.pfair_table.specs.Script.{LoggedRun};
 ghost use Rattle.pfair_board.specs.Finish.{IsFinished};
 ghost use Rattle.pfair_file.specs.Documents.{script_of_file};
-ghost use Rattle.pfair.specs.Runs.{IsFaultOfReplay, IsRefusalOf, IsRunRefusal, IsWholeRun, TakesOneFile};
+ghost use Rattle.pfair.specs.Runs.{IsFaultOfReplay, IsRefusalOf, IsRunRefusal, IsWholeRun};
 ghost use Rattle.pfair.specs.declared.fault.ProgramFault.TheVariants.{FileTooLong, ReadFailed, Memory};
 
 use crate::fault::ProgramFault;
@@ -26,7 +27,7 @@ pub(crate) fn first_run<P: Threads + Wait + Sync, R: Read, G: Gate + Sync>(
 ) -> Result<Run, ProgramFault>
     ensures ok { IfOk result (λ first. IfSome (R.remaining reader.old) (λ bytes. (run : LoggedRun) × (script_of_file bytes ≡ Ok run) × IsWholeRun run first)) }
     ensures refused { IfErr result (λ e. IfSome (R.remaining reader.old) (λ bytes. IsRefusalOf bytes e)) }
-    ensures taken { TakesOneFile result (R.remaining reader.old) (R.remaining reader.new) }
+    ensures taken { TakesOneFile FileTooLong ReadFailed Memory result (R.remaining reader.old) (R.remaining reader.new) }
     ensures only { IfErr result (IsFaultOfReplay G.may_give_up) }
 {
     let script = read_script(alloc, reader)?;

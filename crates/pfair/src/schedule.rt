@@ -4,9 +4,10 @@ ghost use Rattle.std.specs.Prelude.{◌≡◌, ◌≤◌, Ok, OnOk, OnErr, IfOk,
 ghost use Rattle.std.specs.Io.KnownBytes.{Appends};
 ghost use Rattle.pfair_text.specs.Output.{TakesPrefix};
 ghost use Rattle.pfair_table.specs.ScriptRun.{IsRunOf};
+ghost use Rattle.pfair_text.specs.Input.{TakesOneFile};
 ghost use Rattle.pfair_table.specs.Script.{LoggedRun};
 ghost use Rattle.pfair_file.specs.Documents.{script_of_file};
-ghost use Rattle.pfair.specs.Runs.{IsFaultOfRun, IsRefusalOf, TakesOneFile};
+ghost use Rattle.pfair.specs.Runs.{IsFaultOfRun, IsRefusalOf};
 ghost use Rattle.pfair.specs.declared.fault.ProgramFault.TheVariants.{FileTooLong, ReadFailed, WriteFailed, Memory};
 
 use crate::fault::ProgramFault;
@@ -24,7 +25,7 @@ pub(crate) fn scheduled<R: Read>(
 ) -> Result<Dispatcher<HeapReady>, ProgramFault>
     ensures ok { IfOk result (λ d. IfSome (R.remaining reader.old) (λ bytes. (run : LoggedRun) × (script_of_file bytes ≡ Ok run) × IsRunOf run d)) }
     ensures refused { IfErr result (λ e. IfSome (R.remaining reader.old) (λ bytes. IsRefusalOf bytes e)) }
-    ensures taken { TakesOneFile result (R.remaining reader.old) (R.remaining reader.new) }
+    ensures taken { TakesOneFile FileTooLong ReadFailed Memory result (R.remaining reader.old) (R.remaining reader.new) }
     ensures only { IfErr result IsFaultOfRun }
 {
     let script = read_script(alloc, reader)?;
@@ -47,7 +48,7 @@ pub(crate) fn send_text<W: Write>(writer: &mut W, text: &[u8]) -> Result<(), Pro
 pub(crate) fn read_script<R: Read>(alloc: Global, reader: &mut R) -> Result<Script, ProgramFault>
     ensures ok { IfOk result (λ s. IfSome (R.remaining reader.old) (λ bytes. script_of_file bytes ≡ Ok s)) }
     ensures refused { IfErr result (λ e. IfSome (R.remaining reader.old) (λ bytes. IsRefusalOf bytes e)) }
-    ensures taken { TakesOneFile result (R.remaining reader.old) (R.remaining reader.new) }
+    ensures taken { TakesOneFile FileTooLong ReadFailed Memory result (R.remaining reader.old) (R.remaining reader.new) }
     ensures only { IfErr result IsFaultOfRun }
 {
     let bytes = read_bytes(alloc, reader)?;

@@ -4,7 +4,7 @@ use Rattle.std.proofs.Math.ListN.{set}
 use Rattle.pfair_drawing.specs.declared.history.Life.{Life}
 use Rattle.pfair_drawing.specs.declared.history.Late.{Late}
 use Rattle.pfair_drawing.specs.History.{Told, latest, on_latest, on_place}
-use Rattle.pfair_drawing.specs.Names.{NameValue}
+use Rattle.pfair_weight.specs.Name.{NameValue}
 
 -- the element at a place is written over by what it changes to
 pub set_is : (change : Life → Life) (ls : List Life) (k : ℕ) (x : Life) → k < length ls → x ≡ get_or ls k x → set ls k (change x) ≡ on_place change k ls

@@ -12,7 +12,8 @@ use Rattle.pfair_drawing.specs.declared.history.Late.{Late}
 use Rattle.pfair_drawing.specs.declared.runs.Ran.{Ran}
 use Rattle.pfair_drawing.specs.Frame.{IsFrame, slot_x, row_y, row_height, lane_y, lane_area, width_of, height_of}
 use Rattle.pfair_drawing.specs.Inside.{AreaLiesIn}
-use Rattle.pfair_drawing.specs.Names.{NameValue, row_of}
+use Rattle.pfair_weight.specs.Name.{NameValue}
+use Rattle.pfair_drawing.specs.Names.{row_of}
 use Rattle.pfair_drawing.specs.Quanta.{quantum_bar, cell_bar}
 use Rattle.pfair_drawing.specs.Windows.{windows_from, life_windows, window_area, meets}
 

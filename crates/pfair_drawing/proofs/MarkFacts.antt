@@ -15,7 +15,8 @@ use Rattle.pfair_drawing.specs.declared.history.Late.{Late}
 use Rattle.pfair_drawing.specs.declared.history.Leave.{Leave}
 use Rattle.pfair_drawing.specs.Frame.{IsFrame, has_slot, slot_x, row_y, lanes_height, lane_y, lane_middle, width_of, height_of}
 use Rattle.pfair_drawing.specs.Inside.{AreaLiesIn, ArrowLiesIn, LabelLiesIn, LateLiesIn, PointLiesIn, RefusalLiesIn, StepLiesIn}
-use Rattle.pfair_drawing.specs.Names.{NameValue, row_of}
+use Rattle.pfair_weight.specs.Name.{NameValue}
+use Rattle.pfair_drawing.specs.Names.{row_of}
 use Rattle.pfair_drawing.specs.Marks.{arrows, departures, departure_arrow, held, held_area, held_by, is_refused, is_shown, join_arrow, late_after, late_arrow, late_mark, late_of, late_of_life, life_arrows, more_label, refusal_mark, refusal_of, refusals, refusals_after}
 use Rattle.pfair_drawing.specs.Lags.{book_at, lag_step, lag_steps, lag_y, ran_at, slot_steps, task_step}
 use Rattle.pfair_drawing.specs.Slots.{decided_at}

@@ -4,17 +4,13 @@ use Rattle.std.specs.Prelude.{slice_get, nat_lt}
 use Rattle.std.specs.List.{range_with_len}
 use Rattle.std.specs.Cmp.Lexicographic.{bytes_decides}
 use Rattle.std.proofs.lemmas.Bool.{ltb-true, cases_lt}
+use Rattle.pfair_weight.specs.Options.{none_some, some_inj}
 use Rattle.pfair_table.specs.declared.pick.Pick.{Pick}
 use Rattle.pfair_table.specs.declared.pick.Decided.{Decided}
 use Rattle.pfair_table.specs.Table.{Table}
-use Rattle.pfair_drawing.specs.Names.{NameValue, name_eq, row_of, with_name, with_names, announced, ran_names, with_slot, with_slots, names_before}
+use Rattle.pfair_weight.specs.Name.{NameValue, name_eq}
+use Rattle.pfair_drawing.specs.Names.{row_of, with_name, with_names, announced, ran_names, with_slot, with_slots, names_before}
 use Rattle.pfair_drawing.specs.Laws.{RunsHaveRows}
-
-none_some : {A : Type 0} (x : A) → None ≡ Some x → ⊥
-none_some x e = cc
-
-some_inj : {A : Type 0} (x y : A) → Some x ≡ Some y → x ≡ y
-some_inj x y e = cc
 
 -- ---- a name that is there
 

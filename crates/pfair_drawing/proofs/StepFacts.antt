@@ -3,6 +3,7 @@ use Rattle.std.proofs.Common.{ℕ, zero, suc, ◌+◌, ◌<◌, ◌≡◌, refl,
 use Rattle.std.specs.Prelude.{ℤ, slice_get}
 use Rattle.std.specs.Option.{option_map}
 use Rattle.std.proofs.lemmas.Option.{slice_get-map}
+use Rattle.pfair_weight.specs.Options.{none_some, some_inj}
 use Rattle.pfair_table.specs.declared.pick.Decided.{Decided}
 use Rattle.pfair_table.specs.Table.{Table}
 use Rattle.pfair_lag.specs.Book.{Tally, Book, lag_of, recorded, slot_more}
@@ -11,14 +12,9 @@ use Rattle.pfair_output.proofs.SlotFacts.{first_left}
 use Rattle.pfair_output.proofs.ToldFacts.{time-all_told}
 use Rattle.pfair_drawing.specs.declared.frame.Frame.{Frame}
 use Rattle.pfair_drawing.specs.Lags.{book_at, book_before, lag_step, ran_at, task_step}
-use Rattle.pfair_drawing.specs.Names.{NameValue, row_of}
+use Rattle.pfair_weight.specs.Name.{NameValue}
+use Rattle.pfair_drawing.specs.Names.{row_of}
 use Rattle.pfair_drawing.specs.Slots.{decided_at}
-
-some_inj : {A : Type 0} (x y : A) → Some x ≡ Some y → x ≡ y
-some_inj x y e = cc
-
-none_some : {A : Type 0} (x : A) → None ≡ Some x → ⊥
-none_some x e = cc
 
 module _ (decided : List (List Decided)) (tables : List Table) where
   -- a slot more for each slot

@@ -1,12 +1,7 @@
 -- Texts that grew by some pieces.
-use Rattle.std.proofs.Common.{ℕ, ◌+◌, ◌<◌, ◌≡◌, sym, ap, ◌∙◌, List, ◌++◌, length, drop, get_or, Result, Ok, Err, OnOk, append_assoc}
+use Rattle.std.proofs.Common.{ℕ, ◌+◌, ◌<◌, ◌≡◌, sym, ap, ◌∙◌, List, ◌++◌, length, drop, get_or, append_assoc}
 use Rattle.std.specs.List.{flat_map}
 use Rattle.std.proofs.lemmas.List.{at_drop_more}
-
--- what holds at the end of a call gives what follows from it
-pub on_ok : {T E : Type 0} {A B : Type 0} → (r : Result T E) → (A → B) → OnOk r A → OnOk r B
-on_ok (Ok x) f a = f a
-on_ok (Err e) f a = tt
 
 pub two : (a b c x y : List ℕ) → b ≡ a ++ x → c ≡ b ++ y → c ≡ a ++ (x ++ y)
 two a b c x y p q = q ∙ ap (λ l. l ++ y) p ∙ append_assoc a x y

@@ -11,7 +11,7 @@ use Rattle.pfair_table.specs.declared.pick.Decided.{Decided}
 use Rattle.pfair_table.specs.Table.{Table}
 use Rattle.pfair_drawing.specs.declared.history.Life.{Life}
 use Rattle.pfair_drawing.specs.declared.history.Late.{Late}
-use Rattle.pfair_drawing.specs.Names.{NameValue, name_eq}
+use Rattle.pfair_weight.specs.Name.{NameValue, name_eq}
 use Rattle.pfair_drawing.specs.Slots.{decided_at, table_at}
 
 -- the incarnations of all tasks in the order in which they joined, and the late releases that were accepted, in order

@@ -11,7 +11,8 @@ use Rattle.pfair_drawing.specs.declared.mark.LagStep.{LagStep}
 use Rattle.pfair_drawing.specs.Frame.{IsFrame, slot_x, row_y, width_of, height_of}
 use Rattle.pfair_drawing.specs.Inside.{LieInside}
 use Rattle.pfair_drawing.specs.History.{told_before}
-use Rattle.pfair_drawing.specs.Names.{NameValue, row_of, with_names}
+use Rattle.pfair_weight.specs.Name.{NameValue}
+use Rattle.pfair_drawing.specs.Names.{row_of, with_names}
 use Rattle.pfair_drawing.specs.Slots.{decided_at, table_at}
 
 -- ---- a lag in its row, as a numerator over its period

@@ -21,7 +21,8 @@ use Rattle.pfair_drawing.specs.declared.history.Life.{Life}
 use Rattle.pfair_drawing.specs.declared.history.Late.{Late}
 use Rattle.pfair_drawing.specs.declared.history.Leave.{Leave}
 use Rattle.pfair_drawing.specs.Frame.{has_slot, slot_x, row_y, lanes_height, lane_middle, width_of}
-use Rattle.pfair_drawing.specs.Names.{NameValue, name_eq, row_of}
+use Rattle.pfair_weight.specs.Name.{NameValue, name_eq}
+use Rattle.pfair_drawing.specs.Names.{row_of}
 use Rattle.pfair_drawing.specs.Slots.{decided_at}
 use Rattle.pfair_drawing.specs.History.{Told}
 use Rattle.pfair_drawing.specs.Windows.{opens}

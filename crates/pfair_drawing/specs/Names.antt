@@ -1,17 +1,10 @@
 -- The names of a picture's rows.
-use Rattle.std.specs.Prelude.{ℕ, suc, Bool, nat_eq, nat_lt, if◌then◌else◌, List, [], ◌∷◌, ◌++◌, length, map, Option, Some, None, slice_get}
+use Rattle.std.specs.Prelude.{ℕ, suc, nat_lt, if◌then◌else◌, List, [], ◌∷◌, ◌++◌, length, map, Option, Some, None, slice_get}
 use Rattle.std.specs.List.{range_with_len}
-use Rattle.std.specs.Cmp.Lexicographic.{pointwise}
+use Rattle.pfair_weight.specs.Name.{NameValue, name_eq}
 use Rattle.pfair_entry.specs.Names.{name_of}
 use Rattle.pfair_table.specs.declared.pick.Decided.{Decided}
 use Rattle.pfair_table.specs.Table.{Table}
-
--- a task's name, by its bytes
-abbrev pub NameValue : Type 0
-NameValue = List ℕ
-
-abbrev pub name_eq : NameValue → NameValue → Bool
-name_eq = pointwise nat_eq
 
 -- the row of a name: its place among the names, or where it isn't there the one after the last
 abbrev pub row_of : List NameValue → NameValue → ℕ

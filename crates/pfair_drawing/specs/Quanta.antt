@@ -6,7 +6,8 @@ use Rattle.pfair_drawing.specs.declared.frame.Frame.{Frame}
 use Rattle.pfair_drawing.specs.declared.shape.Quantum.{Quantum}
 use Rattle.pfair_drawing.specs.declared.runs.Ran.{Ran}
 use Rattle.pfair_drawing.specs.Frame.{slot_x, lane_y, cell_y}
-use Rattle.pfair_drawing.specs.Names.{NameValue, row_of}
+use Rattle.pfair_weight.specs.Name.{NameValue}
+use Rattle.pfair_drawing.specs.Names.{row_of}
 use Rattle.pfair_drawing.specs.Slots.{places_at, table_at}
 
 -- the place of row k of a table, where the table's rows have these places

@@ -32,7 +32,7 @@ use Rattle.pfair_drawing.specs.declared.svg.TheConstants.{WINDOWS, QUANTA, CELLS
 use Rattle.pfair_drawing.specs.declared.elements.TheConstants.{PROCESSORS}
 use Rattle.pfair_drawing.specs.Notes.{note_text}
 use Rattle.pfair_drawing.specs.Colours.{colour_of, is_light}
-use Rattle.pfair_drawing.specs.Names.{NameValue}
+use Rattle.pfair_weight.specs.Name.{NameValue}
 
 -- ---- parts of elements
 

@@ -9,7 +9,8 @@ use Rattle.pfair_drawing.specs.declared.history.Life.{Life}
 use Rattle.pfair_drawing.specs.declared.history.Late.{Late}
 use Rattle.pfair_drawing.specs.declared.history.Leave.{Leave}
 use Rattle.pfair_drawing.specs.Frame.{lane_area}
-use Rattle.pfair_drawing.specs.Names.{NameValue, row_of}
+use Rattle.pfair_weight.specs.Name.{NameValue}
+use Rattle.pfair_drawing.specs.Names.{row_of}
 use Rattle.pfair_drawing.specs.History.{Told}
 
 -- by how many slots a late release puts off a subtask of the incarnation at a place

@@ -2,7 +2,6 @@
 //! when it left.
 
 ghost use Rattle.std.specs.Prelude.{◌≡◌, ◌≤◌, IfOk, OnOk, length};
-ghost use Rattle.pfair_drawing.specs.Names.{NameValue};
 ghost use Rattle.pfair_drawing.specs.History.{all_told, latest, on_latest, ran, slot_told, told, told_before};
 
 use crate::slots::{decided_at, table_at};

@@ -1,12 +1,10 @@
 //! The picture of lags.
 
-ghost use Rattle.std.specs.Prelude.{◌≡◌, ◌≤◌, ◌<◌, ◌+◌, ◌↔◌, length, min, All, Err, IfOk};
+ghost use Rattle.std.specs.Prelude.{◌≡◌, ◌≤◌, ◌<◌, ◌+◌, ◌↔◌, [], length, map, min, All, Err, IfOk};
 ghost use Rattle.pfair_drawing.specs.Frame.{IsFrame, height_of, width_of};
-ghost use Rattle.pfair_drawing.specs.History.{Told};
 ghost use Rattle.pfair_drawing.specs.Inside.{LiesIn, SignLiesIn};
-ghost use Rattle.pfair_drawing.specs.Lags.{AreLags, admitted_before};
+ghost use Rattle.pfair_drawing.specs.Lags.{AreLags};
 ghost use Rattle.pfair_drawing.specs.Names.{with_names};
-ghost use Rattle.std.specs.Prelude.{map, []};
 ghost use Rattle.pfair_drawing.specs.Schedule.{AreRefused};
 
 use crate::canvas::{add, shown, shown_signs};

@@ -1,6 +1,6 @@
 //! Lags as steps from slot to slot.
 
-ghost use Rattle.std.specs.Prelude.{◌≡◌, ◌++◌, ◌≤◌, ◌<◌, ◌^◌, ◌+◌, List, IfOk, OnOk, map, ℤ, ℕ};
+ghost use Rattle.std.specs.Prelude.{◌≡◌, ◌++◌, ◌≤◌, ◌<◌, ◌^◌, ◌+◌, IfOk, OnOk, map};
 ghost use Rattle.pfair_lag.specs.Book.{lag_of, recorded};
 ghost use Rattle.pfair_drawing.specs.Frame.{IsFrame};
 ghost use Rattle.pfair_drawing.specs.Lags.{book_before, is_past, lag_height, lag_step, lag_steps, lag_y, task_step, zero_y};

@@ -1,6 +1,7 @@
 -- What is known of the text of a dispatcher that ran a file's script is known of the output of the file.
-use Rattle.std.proofs.Common.{ℕ, List, Option, None, Some, Result, Ok, Err, OnOk, OnErr, ◌≡◌, ◌≢◌, ◌⊎◌, inl, inr, subst, sym}
+use Rattle.std.proofs.Common.{ℕ, List, Option, None, Some, Result, Ok, Err, OnOk, OnErr, ◌≡◌, ◌≢◌, ◌≤◌, ◌⊎◌, inl, inr, subst, sym}
 use Rattle.std.specs.Prelude.{IfSome, IfErr, IsErrAnd, length}
+use Rattle.pfair_text.specs.Input.{HasTaken, TakesOneFile}
 use Rattle.pfair_table.specs.Script.{LoggedRun}
 use Rattle.pfair_table.specs.ScriptRun.{IsRunOf}
 use Rattle.pfair_table.specs.Refinement.{Dispatch}
@@ -9,7 +10,7 @@ use Rattle.pfair_drawing.specs.declared.drawing.Drawing.{Drawing}
 use Rattle.pfair_drawing.specs.Schedule.{AreRefused}
 use Rattle.pfair_drawing.specs.Svg.{svg_text}
 use Rattle.pfair_picture.specs.declared.fault.ProgramFault.{ProgramFault}
-use Rattle.pfair_picture.specs.declared.fault.ProgramFault.TheVariants.{Memory, Slots, WriteFailed}
+use Rattle.pfair_picture.specs.declared.fault.ProgramFault.TheVariants.{FileTooLong, ReadFailed, Memory, Slots, WriteFailed}
 use Rattle.pfair_picture.specs.declared.words.Picture.{Picture}
 use Rattle.pfair_picture.specs.Pictures.{AreSlotsRefused, IsDrawnOf, IsFaultOfRun, IsOutputOf, IsRefusalOf, first_of, end_of}
 
@@ -59,3 +60,9 @@ nothing_of K (Err e) is = λ other. absurd (other is)
 pub only_of : {T : Type 0} → (r : Result T ProgramFault) → IfErr r (λ e. e ≡ WriteFailed) → IfErr r (λ e. IsFaultOfRun e ⊎ ((e ≡ Slots) ⊎ (e ≡ WriteFailed)))
 only_of (Ok x) is = tt
 only_of (Err e) is = inr (inr is)
+
+-- no more was taken than a file may have, and then at most the writer failed
+pub taken_of : {T : Type 0} → (r : Result T ProgramFault) → (given left : Option (List ℕ)) → HasTaken given left (λ n. n ≤ 67108864) → HasTaken given left (λ n. n ≤ 67108865)
+    → IfErr r (λ e. e ≡ WriteFailed) → TakesOneFile FileTooLong ReadFailed Memory r given left
+taken_of (Ok x) given left few most is = record { long = λ other. cc other; unread = λ other. few; within = few; within_fault = tt; most = most }
+taken_of (Err e) given left few most is = record { long = λ other. cc (other, is); unread = λ other. few; within = tt; within_fault = λ short known. few; most = most }

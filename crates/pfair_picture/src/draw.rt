@@ -1,8 +1,8 @@
 //! Drawing the run of a task file.
 
-ghost use Rattle.std.specs.Prelude.{◌≡◌, ◌≢◌, ◌≤◌, length, Ok, OnOk, OnErr, IfOk, IfErr, IfSome, IsErrOf, ◌⊎◌};
+ghost use Rattle.std.specs.Prelude.{◌≡◌, ◌≢◌, length, Ok, OnOk, OnErr, IfOk, IfErr, IfSome, IsErrOf, ◌⊎◌};
 ghost use Rattle.std.specs.Io.KnownBytes.{Appends, Keeps};
-ghost use Rattle.pfair_text.specs.Input.{HasTaken};
+ghost use Rattle.pfair_text.specs.Input.{TakesOneFile};
 ghost use Rattle.pfair_text.specs.Output.{TakesPrefix};
 ghost use Rattle.pfair_table.specs.ScriptRun.{IsRunOf};
 ghost use Rattle.pfair_table.specs.Script.{LoggedRun};
@@ -15,11 +15,11 @@ ghost use Rattle.pfair_picture.specs.declared.fault.ProgramFault.TheVariants.{Fi
 
 use crate::fault::ProgramFault;
 use crate::words::Picture;
-use pfair_drawing::{DrawFault, Drawing, lags_drawing, schedule_drawing, svg_of};
-use pfair_file::{FileFault, read_file};
+use pfair_drawing::{Drawing, lags_drawing, schedule_drawing, svg_of};
+use pfair_file::read_file;
 use pfair_ready::HeapReady;
-use pfair_table::{Dispatcher, Script, ScriptFault, run_script};
-use pfair_text::{ReadFault, read_bytes, send};
+use pfair_table::{Dispatcher, Script, run_script};
+use pfair_text::{read_bytes, send};
 use std::alloc::Global;
 use std::io::{Read, Write};
 
@@ -48,11 +48,7 @@ pub fn draw<R: Read, W: Write>(
     ensures ok { OnOk result (IfSome (R.remaining reader.old) (λ bytes. IsOutputOf picture slots bytes (Appends (W.contents writer.old) (W.contents writer.new)))) }
     ensures refused { IfErr result (λ e. IfSome (R.remaining reader.old) (λ bytes. IsRefusalOf bytes e)) }
     ensures slots { IsErrOf result Slots → IfSome (R.remaining reader.old) (AreSlotsRefused slots) }
-    ensures long { IsErrOf result FileTooLong → HasTaken (R.remaining reader.old) (R.remaining reader.new) (λ n. n ≡ 67108865) }
-    ensures unread { IsErrOf result ReadFailed → HasTaken (R.remaining reader.old) (R.remaining reader.new) (λ n. n ≤ 67108864) }
-    ensures within { OnOk result (HasTaken (R.remaining reader.old) (R.remaining reader.new) (λ n. n ≤ 67108864)) }
-    ensures within_fault { IfErr result (λ e. e ≢ FileTooLong → e ≢ Memory → HasTaken (R.remaining reader.old) (R.remaining reader.new) (λ n. n ≤ 67108864)) }
-    ensures most { HasTaken (R.remaining reader.old) (R.remaining reader.new) (λ n. n ≤ 67108865) }
+    ensures taken { TakesOneFile FileTooLong ReadFailed Memory result (R.remaining reader.old) (R.remaining reader.new) }
     ensures nothing { IfErr result (λ e. e ≢ WriteFailed → Keeps (W.contents writer.old) (W.contents writer.new)) }
     ensures cut { IsErrOf result WriteFailed → IfSome (R.remaining reader.old) (λ bytes. IsOutputOf picture slots bytes (TakesPrefix (W.contents writer.old) (W.contents writer.new))) }
     ensures only { IfErr result (λ e. IsFaultOfRun e ⊎ ((e ≡ Slots) ⊎ (e ≡ WriteFailed))) }
@@ -127,52 +123,27 @@ fn drawing_of(
         Picture::Schedule => schedule_drawing(alloc, dispatcher, from, to),
         Picture::Lags => lags_drawing(alloc, dispatcher, from, to),
     };
-    match made {
-        Ok(drawing) => Ok(drawing),
-        Err(DrawFault::Slots) => Err(ProgramFault::Slots),
-        Err(DrawFault::Memory) => Err(ProgramFault::Memory),
-    }
+    Ok(made?)
 }
 
 // The dispatcher that has planned all slots of the script that a reader's bytes hold.
 fn scheduled<R: Read>(alloc: Global, reader: &mut R) -> Result<Dispatcher<HeapReady>, ProgramFault>
     ensures ok { IfOk result (λ d. IfSome (R.remaining reader.old) (λ bytes. (run : LoggedRun) × (script_of_file bytes ≡ Ok run) × IsRunOf run d)) }
     ensures refused { IfErr result (λ e. IfSome (R.remaining reader.old) (λ bytes. IsRefusalOf bytes e)) }
-    ensures long { IsErrOf result FileTooLong → HasTaken (R.remaining reader.old) (R.remaining reader.new) (λ n. n ≡ 67108865) }
-    ensures unread { IsErrOf result ReadFailed → HasTaken (R.remaining reader.old) (R.remaining reader.new) (λ n. n ≤ 67108864) }
-    ensures within { OnOk result (HasTaken (R.remaining reader.old) (R.remaining reader.new) (λ n. n ≤ 67108864)) }
-    ensures within_fault { IfErr result (λ e. e ≢ FileTooLong → e ≢ Memory → HasTaken (R.remaining reader.old) (R.remaining reader.new) (λ n. n ≤ 67108864)) }
-    ensures most { HasTaken (R.remaining reader.old) (R.remaining reader.new) (λ n. n ≤ 67108865) }
+    ensures taken { TakesOneFile FileTooLong ReadFailed Memory result (R.remaining reader.old) (R.remaining reader.new) }
     ensures only { IfErr result IsFaultOfRun }
 {
     let script = read_script(alloc, reader)?;
-    match run_script(alloc, &script) {
-        Ok(dispatcher) => Ok(dispatcher),
-        Err(ScriptFault::Stalled { slot }) => Err(ProgramFault::Stalled { slot }),
-        Err(ScriptFault::Memory) => Err(ProgramFault::Memory),
-    }
+    Ok(run_script(alloc, &script)?)
 }
 
 // The script that a reader's bytes hold.
 fn read_script<R: Read>(alloc: Global, reader: &mut R) -> Result<Script, ProgramFault>
     ensures ok { IfOk result (λ s. IfSome (R.remaining reader.old) (λ bytes. script_of_file bytes ≡ Ok s)) }
     ensures refused { IfErr result (λ e. IfSome (R.remaining reader.old) (λ bytes. IsRefusalOf bytes e)) }
-    ensures long { IsErrOf result FileTooLong → HasTaken (R.remaining reader.old) (R.remaining reader.new) (λ n. n ≡ 67108865) }
-    ensures unread { IsErrOf result ReadFailed → HasTaken (R.remaining reader.old) (R.remaining reader.new) (λ n. n ≤ 67108864) }
-    ensures within { OnOk result (HasTaken (R.remaining reader.old) (R.remaining reader.new) (λ n. n ≤ 67108864)) }
-    ensures within_fault { IfErr result (λ e. e ≢ FileTooLong → e ≢ Memory → HasTaken (R.remaining reader.old) (R.remaining reader.new) (λ n. n ≤ 67108864)) }
-    ensures most { HasTaken (R.remaining reader.old) (R.remaining reader.new) (λ n. n ≤ 67108865) }
+    ensures taken { TakesOneFile FileTooLong ReadFailed Memory result (R.remaining reader.old) (R.remaining reader.new) }
     ensures only { IfErr result IsFaultOfRun }
 {
-    let bytes = match read_bytes(alloc, reader) {
-        Ok(bytes) => bytes,
-        Err(ReadFault::TooLong) => return Err(ProgramFault::FileTooLong),
-        Err(ReadFault::ReadFailed) => return Err(ProgramFault::ReadFailed),
-        Err(ReadFault::Memory) => return Err(ProgramFault::Memory),
-    };
-    match read_file(alloc, bytes.as_slice()) {
-        Ok(script) => Ok(script),
-        Err(FileFault::Memory) => Err(ProgramFault::Memory),
-        Err(fault) => Err(ProgramFault::File(fault)),
-    }
+    let bytes = read_bytes(alloc, reader)?;
+    Ok(read_file(alloc, bytes.as_slice())?)
 }

@@ -1,10 +1,13 @@
 //! The faults of the program: their numbers, texts and exit statuses.
 
 ghost use Rattle.std.specs.Prelude.{◌≡◌};
-ghost use Rattle.pfair_picture.specs.Faults.{number_of, status_of};
+ghost use Rattle.pfair_picture.specs.Faults.{number_of, of_drawing, of_file, of_read, of_script, status_of};
 ghost use Rattle.pfair_picture.specs.declared.fault.ProgramFault.TheVariants.{Memory};
 
+use pfair_drawing::DrawFault;
 use pfair_file::FileFault;
+use pfair_table::ScriptFault;
+use pfair_text::ReadFault;
 use std::alloc::AllocError;
 use std::io::Write;
 use thiserror::Error;
@@ -48,6 +51,51 @@ impl From<AllocError> for ProgramFault {
 
     fn from(_: AllocError) -> ProgramFault {
         ProgramFault::Memory
+    }
+}
+
+impl From<ReadFault> for ProgramFault {
+    ghost from_gives = { λ fault e. e ≡ of_read fault };
+
+    fn from(fault: ReadFault) -> ProgramFault {
+        match fault {
+            ReadFault::TooLong => ProgramFault::FileTooLong,
+            ReadFault::ReadFailed => ProgramFault::ReadFailed,
+            ReadFault::Memory => ProgramFault::Memory,
+        }
+    }
+}
+
+impl From<FileFault> for ProgramFault {
+    ghost from_gives = { λ fault e. e ≡ of_file fault };
+
+    fn from(fault: FileFault) -> ProgramFault {
+        match fault {
+            FileFault::Memory => ProgramFault::Memory,
+            fault => ProgramFault::File(fault),
+        }
+    }
+}
+
+impl From<ScriptFault> for ProgramFault {
+    ghost from_gives = { λ fault e. e ≡ of_script fault };
+
+    fn from(fault: ScriptFault) -> ProgramFault {
+        match fault {
+            ScriptFault::Stalled { slot } => ProgramFault::Stalled { slot },
+            ScriptFault::Memory => ProgramFault::Memory,
+        }
+    }
+}
+
+impl From<DrawFault> for ProgramFault {
+    ghost from_gives = { λ fault e. e ≡ of_drawing fault };
+
+    fn from(fault: DrawFault) -> ProgramFault {
+        match fault {
+            DrawFault::Slots => ProgramFault::Slots,
+            DrawFault::Memory => ProgramFault::Memory,
+        }
     }
 }
 

@@ -1,5 +1,8 @@
 //! The words of the command line.
 
+ghost use Rattle.std.specs.Prelude.{◌≡◌, ◌≢◌, ◌∷◌, [], ℕ, MatchOption, slice_get, unwrap_or};
+ghost use Rattle.pfair_picture.specs.Words.{IsAnswerTo, Spells, name_of, texts};
+
 use crate::fault::ProgramFault;
 use crate::help::{HELP, VERSION};
 use std::alloc::Global;
@@ -32,51 +35,101 @@ pub enum Asked {
 /// Reads the words after the program's name: `schedule FILE [FROM TO]`, `lags FILE [FROM TO]`,
 /// `--help`, also behind the name of a picture, or `--version`.
 ///
+/// FROM and TO are numbers below 2^64 in decimal digits, behind one plus at most; whether a picture
+/// has these slots is seen once the file is known.
+///
 /// # Errors
-/// [`ProgramFault::CommandLine`] where no command has this form, and [`ProgramFault::Memory`] where
-/// memory was wanted and refused.
-pub fn read_words(alloc: Global, words: &[String]) -> Result<Asked, ProgramFault> {
-    let (first, second) = (word(words, 0), word(words, 1));
-    match (first, second, words.len()) {
-        ("--help", _, 1) | ("schedule" | "lags", "--help", 2) => Ok(Asked::Text(HELP)),
-        ("--version", _, 1) => Ok(Asked::Text(VERSION)),
-        ("schedule", file, 2 | 4) => drawn(alloc, Picture::Schedule, file, words),
-        ("lags", file, 2 | 4) => drawn(alloc, Picture::Lags, file, words),
+/// [`ProgramFault::CommandLine`] exactly where the words have none of these forms, and
+/// [`ProgramFault::Memory`] where memory was wanted and refused.
+pub fn read_words(alloc: Global, words: &[String]) -> Result<Asked, ProgramFault>
+    ensures { IsAnswerTo (texts words.now) result }
+{
+    let first = word(words, 0);
+    match words.len() {
+        1 => about(first),
+        2 => whole(alloc, first, word(words, 1)),
+        4 => part(alloc, first, word(words, 1), word(words, 2), word(words, 3)),
         _ => Err(ProgramFault::CommandLine),
     }
 }
 
-// A picture of a file, with the slots that follow it.
-fn drawn(
-    alloc: Global,
-    picture: Picture,
-    file: &str,
-    words: &[String],
-) -> Result<Asked, ProgramFault> {
-    let slots = if words.len() == 2 {
-        None
+// One word: a text about the program.
+fn about(word: &str) -> Result<Asked, ProgramFault>
+    ensures { IsAnswerTo (word.now ∷ []) result }
+{
+    if word == "--help" {
+        Ok(Asked::Text(HELP))
+    } else if word == "--version" {
+        Ok(Asked::Text(VERSION))
     } else {
-        Some((read_number(word(words, 2))?, read_number(word(words, 3))?))
+        Err(ProgramFault::CommandLine)
+    }
+}
+
+// Two words: a picture of all slots of a file, or the help.
+fn whole(alloc: Global, name: &str, file: &str) -> Result<Asked, ProgramFault>
+    ensures { IsAnswerTo (name.now ∷ file.now ∷ []) result }
+{
+    match picture_named(name) {
+        None => Err(ProgramFault::CommandLine),
+        Some(_) if file == "--help" => Ok(Asked::Text(HELP)),
+        Some(picture) => Ok(Asked::Draw {
+            picture,
+            file: String::from_str(alloc, file)?,
+            slots: None,
+        }),
+    }
+}
+
+// Four words: a picture of some slots of a file.
+fn part(alloc: Global, name: &str, file: &str, from: &str, to: &str) -> Result<Asked, ProgramFault>
+    ensures { IsAnswerTo (name.now ∷ file.now ∷ from.now ∷ to.now ∷ []) result }
+{
+    let Some(picture) = picture_named(name) else {
+        return Err(ProgramFault::CommandLine);
+    };
+    let Some(from) = number_spelled(from) else {
+        return Err(ProgramFault::CommandLine);
+    };
+    let Some(to) = number_spelled(to) else {
+        return Err(ProgramFault::CommandLine);
     };
     Ok(Asked::Draw {
         picture,
         file: String::from_str(alloc, file)?,
-        slots,
+        slots: Some((from, to)),
     })
 }
 
 // The word at a place, or an empty one.
-fn word(words: &[String], place: usize) -> &str {
+fn word(words: &[String], place: usize) -> &str
+    ensures { result.now ≡ unwrap_or (slice_get (texts words.now) place) [] }
+{
     match words.get(place) {
         Some(word) => word.as_str(),
         None => "",
     }
 }
 
+// The picture that a word names.
+fn picture_named(word: &str) -> Option<Picture>
+    ensures { MatchOption result ((picture : Picture) → word.now ≢ name_of picture) (λ picture. word.now ≡ name_of picture) }
+{
+    if word == "schedule" {
+        Some(Picture::Schedule)
+    } else if word == "lags" {
+        Some(Picture::Lags)
+    } else {
+        None
+    }
+}
+
 // The number that a word spells.
-fn read_number(word: &str) -> Result<u64, ProgramFault> {
+fn number_spelled(word: &str) -> Option<u64>
+    ensures { MatchOption result ((n : ℕ) → ¬ Spells word.now n) (Spells word.now) }
+{
     match word.parse::<u64>() {
-        Ok(number) => Ok(number),
-        Err(_) => Err(ProgramFault::CommandLine),
+        Ok(number) => Some(number),
+        Err(_) => None,
     }
 }

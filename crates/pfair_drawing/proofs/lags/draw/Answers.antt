@@ -3,7 +3,8 @@ use Rattle.std.specs.Prelude.{min}
 use Rattle.std.proofs.lemmas.List.Elements.{All-nil}
 use Rattle.pfair_drawing.specs.Frame.{width_of, height_of}
 use Rattle.pfair_drawing.specs.Inside.{LabelLiesIn, LiesIn}
-use Rattle.pfair_drawing.specs.Names.{NameValue, with_names}
+use Rattle.pfair_weight.specs.Name.{NameValue}
+use Rattle.pfair_drawing.specs.Names.{with_names}
 use Rattle.pfair_drawing.specs.History.{Told}
 use Rattle.pfair_drawing.specs.Lags.{admitted_before, lag_steps}
 use Rattle.pfair_drawing.proofs.ScheduleFacts.{lags_are}

@@ -1,6 +1,6 @@
 use Rattle.std.proofs.Common.{◌≡◌, ap, ◌∙◌, refl, List}
 use Rattle.std.specs.Prelude.{map}
-use Rattle.pfair_drawing.specs.Names.{NameValue}
+use Rattle.pfair_weight.specs.Name.{NameValue}
 use Rattle.pfair_drawing.specs.History.{Told, told_before}
 use Rattle.pfair_drawing.specs.Marks.{arrows, held, late_marks, refusals}
 use Rattle.pfair_drawing.specs.Quanta.{quanta, cells, quantum_bar, cell_bar, ran_between}

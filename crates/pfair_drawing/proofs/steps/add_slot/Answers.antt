@@ -6,7 +6,7 @@ use Rattle.std.proofs.lemmas.List.{length-map}
 use Rattle.std.proofs.lemmas.Option.{slice_get-get_or}
 use Rattle.pfair_lag.specs.Book.{Book, Tally, lag_of, slot_more}
 use Rattle.pfair_drawing.specs.declared.mark.LagStep.{LagStep}
-use Rattle.pfair_drawing.specs.Names.{NameValue}
+use Rattle.pfair_weight.specs.Name.{NameValue}
 use Rattle.pfair_drawing.specs.Lags.{lag_step, task_step}
 use Rattle.pfair_drawing.proofs.StepFacts.{more_left, not_none, step_is}
 use Rattle.pfair_drawing.proofs.steps.add_slot.Goals as goal

@@ -2,7 +2,7 @@ use Rattle.std.proofs.Common.{ℕ, ◌<◌, ◌∙◌, ap, arith, length, List, 
 use Rattle.std.specs.Prelude.{ℤ, Vec}
 use Rattle.std.specs.declared.alloc.Global.{Global}
 use Rattle.pfair_lag.specs.Book.{Tally, lag_of}
-use Rattle.pfair_drawing.specs.Names.{NameValue}
+use Rattle.pfair_weight.specs.Name.{NameValue}
 use Rattle.pfair_drawing.proofs.StepFacts.{lag_is, more_left, not_none}
 use Rattle.pfair_drawing.proofs.steps.lags_of.Goals as goal
 use Rattle.pfair_drawing.proofs.steps.lags_of.Goals.{in-Some+in_ok-push, in_default}
