@@ -1,7 +1,7 @@
 -- What is said in a sound beginning behind some of its entries.
-use Rattle.std.proofs.Common.{ℕ, zero, suc, ◌+◌, ◌≤◌, ◌≡◌, refl, sym, ap, ◌∙◌, subst, arith, List, [], ◌∷◌, ◌++◌, length, drop, Option, Some, None, append_assoc}
+use Rattle.std.proofs.Common.{ℕ, zero, suc, ◌+◌, ◌≤◌, ◌≡◌, refl, sym, ap, ◌∙◌, subst, arith, List, [], ◌∷◌, ◌++◌, drop, Option, Some, None, append_assoc}
 use Rattle.std.specs.Prelude.{◌≢◌, slice_get, IsSome}
-use Rattle.std.proofs.lemmas.List.{drop_more, drop_all}
+use Rattle.std.proofs.lemmas.List.{drop_more}
 use Rattle.std.proofs.lemmas.Option.{slice_get_within, get_or_from_slice_get}
 use Rattle.pfair_entry.specs.declared.announcement.Announcement.{Announcement}
 use Rattle.pfair_entry.specs.declared.said.Said.{Said}
@@ -26,9 +26,6 @@ module _ (x : Replica) (k place : ℕ) where
       ∙ append_assoc now (said_by t k (place + 1) e.said) (said_behind x t k (place + 1))
       ∙ ap (λ xs. now ++ xs) (sym (behind_next t e is))
       ∙ so_far
-
-  pub none_behind : (t : ℕ) → length (sound_beginning x k) ≤ place → said_behind x t k place ≡ []
-  none_behind t past = ap (said_in t k (place + 1)) (drop_all place (sound_beginning x k) past)
 
 still_said : (k n from place : ℕ) (es : List Logged) (e : Logged) (s : ℕ × Announcement) → from ≤ place → slice_get es place ≡ Some e → e.said ≡ Some s → said_in s.0 k n (drop from es) ≢ []
 still_said k n zero place es e s le is says none = subst (λ (l : List Said). Among l (record { processor = k; number = n + place; announcement = s.1 })) none (said_to s.0 k n es place e s.1 is says)

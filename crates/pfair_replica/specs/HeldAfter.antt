@@ -15,9 +15,8 @@ pub join_none : (a : Held Logged) → held_join entry_eq a None ≡ a
 join_none None = refl
 join_none (Some x) = refl
 
-only_here : (k n : ℕ) (e : Logged) → only k n e k n ≡ Some (One e)
-only_here k n e =
-    ap (λ b. cond b (cond (n == n) (Some (One e)) None) None) (eq-eqb k k refl) ∙ ap (λ b. cond b (Some (One e)) None) (eq-eqb n n refl)
+pub only_here : (k n : ℕ) (e : Logged) → only k n e k n ≡ Some (One e)
+only_here k n e = rw (eq-eqb k k refl, eq-eqb n n refl) refl
 
 only_there : (k n : ℕ) (e : Logged) (k' n' : ℕ) → ((k' ≡ k) × (n' ≡ n) → ⊥) → only k n e k' n' ≡ None
 only_there k n e k' n' apart = ⊎_elim

@@ -11,6 +11,7 @@ use Rattle.pfair_entry.specs.Same.{entry_eq}
 use Rattle.pfair_entry.specs.Exact.{entry_exact}
 use Rattle.pfair_replica.specs.HeldRows.{replica_of}
 use Rattle.pfair_replica.specs.Offered.{has_key, has_shape, taken, absorbed}
+use Rattle.pfair_replica.specs.HeldAfter.{only_here}
 use Rattle.pfair_replica.specs.Replica.{Replica, Below, join, only, with_entry}
 use Rattle.pfair_replica.proofs.OfferedTo.{offered_stays}
 use Rattle.pfair_table.specs.declared.event.Event.{Event}
@@ -49,13 +50,9 @@ grows s (e ∷ events) c = below_all c.held (happens s c e).held (run s (happens
 
 -- ---- above all
 
--- the entry at its own key
-at_own_key : (k n : ℕ) (e : Logged) → only k n e k n ≡ Some (One e)
-at_own_key k n e = rw (eq-eqb k k refl, eq-eqb n n refl) refl
-
 taken_holds : (x : Replica) (k n : ℕ) (e : Logged) → has_key x k n ≡ true → HeldBelow (Some (One e)) ((taken x k n e).at k n)
 taken_holds x k n e inside =
-    rw inside (subst (λ h. HeldBelow h ((with_entry x k n e).at k n)) (at_own_key k n e) (join_second entry_eq entry_exact (x.at k n) (only k n e k n)))
+    rw inside (subst (λ h. HeldBelow h ((with_entry x k n e).at k n)) (only_here k n e) (join_second entry_eq entry_exact (x.at k n) (only k n e k n)))
 
 key_of_shape : (s : Settings) (m : ℕ) (x : Replica) (k n : ℕ) → HasShape s m x → k < s.processors → 1 ≤ n → n ≤ m → has_key x k n ≡ true
 key_of_shape s m x k n shape row first last =

@@ -38,12 +38,6 @@ read_whole x k before after read count says =
 
 -- ---- all of them
 
-pub unread : (k : ℕ) (es : List Logged) (r : Reading) → r.count ≡ 0 → ((t : ℕ) → said_at r.agenda t ≡ []) → IsReadingOf k es r
-unread k es r count nothing = record {
-  within = omega (arith, count);
-  says = λ t. nothing t ∙ ap (λ n. said_in t k 1 (take n es)) (sym count);
-}
-
 -- nothing was read of any
 abbrev pub AreUnread : List Reading → Type 0
 AreUnread rs = (k : ℕ) (r : Reading) → slice_get rs k ≡ Some r → (r.count ≡ 0) × ((t : ℕ) → said_at r.agenda t ≡ [])

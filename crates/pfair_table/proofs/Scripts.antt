@@ -6,6 +6,7 @@ use Rattle.std.proofs.lemmas.Bool.{leb-true, leb-false, ltb-true, ltb-false, eqb
 use Rattle.pfair_lattice.specs.declared.flat.Flat.TheVariants.{One}
 use Rattle.pfair_lattice.specs.Held.{Held, held_join}
 use Rattle.pfair_entry.specs.Same.{entry_eq}
+use Rattle.pfair_replica.specs.HeldAfter.{join_none}
 use Rattle.pfair_replica.specs.Replica.{contents_join, only, nothing_held, with_entry, empty_replica}
 use Rattle.pfair_replica.specs.Offered.{has_key, taken}
 use Rattle.std.specs.List.{list_all}
@@ -25,10 +26,6 @@ pub logs_short : (s : Settings) (logs : List (Vec Logged Global)) → IsLoggedRu
 logs_short s logs run = sym (list_all-map is_short (λ log. log.items) logs) ∙ run.short
 
 -- ---- entries taken one after another
-
-join_none : (c : Held Logged) → held_join entry_eq c None ≡ c
-join_none None = refl
-join_none (Some x) = refl
 
 entry_at : (log : List Logged) (i : ℕ) (e : Logged) → slice_get log i ≡ Some e → entry_of log (suc i) ≡ Some (One e)
 entry_at [] i e h = absurd (cc)

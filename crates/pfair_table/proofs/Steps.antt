@@ -13,10 +13,10 @@ use Rattle.pfair_replica.proofs.Marks.{same_said, below_agree, frontier_le}
 use Rattle.pfair_replica.proofs.SoundEntries.{read_by_number}
 use Rattle.pfair_table.specs.Ranks.{first_by_rank}
 use Rattle.pfair_ready.specs.Waiting.{Held}
-use Rattle.pfair_admission.specs.Admission.{boundary, boundary_decisions, announcements}
+use Rattle.pfair_admission.specs.Admission.{boundary, announcements}
 use Rattle.pfair_admission.specs.Roster.{Roster}
 use Rattle.pfair_table.specs.declared.pick.Decided.{Decided}
-use Rattle.pfair_table.specs.Table.{Settings, Table, eligible, pick, all_ran, history, world, table, decisions, counted, with_decisions}
+use Rattle.pfair_table.specs.Table.{Settings, Table, eligible, pick, all_ran, history, world, table, decisions, counted}
 use Rattle.pfair_table.specs.Laws.{IsOf}
 use Rattle.pfair_table.specs.Queue.{IsSteady}
 use Rattle.pfair_table.specs.Refinement.{IsPlanOf, IsInStep, IsKept, heard_before}
@@ -35,13 +35,6 @@ pub rows_are : (s : Settings) (x : Replica) (n : ℕ) (before : Roster) (now : �
 rows_are s x n before now waiting step processors many rows is =
     let w = world_is s x n before now waiting step in
     is ∙ (λ i. map (pick (w i)) (first_by_rank (many i) (eligible n (w i))))
-
-pub decided_is : (s : Settings) (x : Replica) (n : ℕ) (before : Roster) (now : ℕ) (waiting : Held) → IsInStep s x n before now waiting → (all : List Decided)
-    → all ≡ with_decisions (said x n) (boundary_decisions before.machine n before.members (announcements (said x n))) → all ≡ decisions s x n
-decided_is s x n before now waiting step all is =
-    let m = step.machine_is in
-    let ms = step.members_are in
-    is ∙ (λ i. with_decisions (said x n) (boundary_decisions (m i) n (ms i) (announcements (said x n))))
 
 -- One slot on.
 step_next : (s : Settings) (x : Replica) (n : ℕ) (before after : Roster) (now now2 : ℕ) (waiting waiting2 : Held) (rows : Table) → IsInStep s x n before now waiting
