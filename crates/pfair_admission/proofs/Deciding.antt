@@ -5,6 +5,7 @@ use Rattle.std.proofs.lemmas.List.Sums.{sum_by_push}
 use Rattle.std.proofs.Common.{inl, inr}
 use Rattle.std.proofs.lemmas.Bool.{cases_lt}
 use Rattle.std.proofs.lemmas.Bool.Decides.{nat_tests}
+use Rattle.pfair_weight.specs.Options.{some_inj, nothing}
 use Rattle.pfair_weight.specs.Share.{Share, units_of}
 use Rattle.pfair_weight.specs.declared.window.TheConstants.{MAX_OFFSET}
 use Rattle.pfair_entry.specs.declared.announcement.Announcement.TheVariants.{Arrive, Late}
@@ -24,14 +25,10 @@ product_fits p f a b = grind arith
 
 -- ---- arrivals
 
-nothing_there : (o : Option Member) → is_some o ≡ false → o ≡ None
-nothing_there None e = refl
-nothing_there (Some x) e = cc
-
 -- where a task is admitted no member has its name
 pub admitted_new : (machine : Machine) (ms : List Member) (name : List ℕ) (w : Share) → Admitted ≡ arrival machine ms name w → member_named ms name ≡ None
 admitted_new machine ms name w is =
-    nothing_there (member_named ms name)
+    nothing (member_named ms name)
     ((elim (is_some (member_named ms name)) as (λ b. Admitted ≡ (if b then Refused NameTaken
     else if not (machine.frame % w.period == 0) then Refused PeriodOutsideFrame
     else if nat_lt (machine.processors * machine.frame) (claimed machine.frame ms + units_of w machine.frame) then Refused NoRoom
@@ -62,13 +59,13 @@ arrived machine t ms name w early h is =
 
 -- or all is as it was
 pub not_arrived : (machine : Machine) (t : ℕ) (ms : List Member) (name : List ℕ) (w : Share) (early : Bool) (d : Decision) → NoneFreed t ms → (d ≡ Admitted → ⊥) → d ≡ arrival machine ms name w → ms ≡ decided machine t ms (Arrive name w early)
-not_arrived machine t ms name w early d h other is = sym (present_all t ms h) ∙ ap (present t) (sym (nothing d other)) ∙ ap (λ (d : Decision). present t (effect t ms (Arrive name w early) d)) is
+not_arrived machine t ms name w early d h other is = sym (present_all t ms h) ∙ ap (present t) (sym (unchanged d other)) ∙ ap (λ (d : Decision). present t (effect t ms (Arrive name w early) d)) is
   where
-    nothing : (d : Decision) → (d ≡ Admitted → ⊥) → effect t ms (Arrive name w early) d ≡ ms
-    nothing Admitted other = absurd (other refl)
-    nothing (Departing slot) other = refl
-    nothing Delayed other = refl
-    nothing (Refused r) other = refl
+    unchanged : (d : Decision) → (d ≡ Admitted → ⊥) → effect t ms (Arrive name w early) d ≡ ms
+    unchanged Admitted other = absurd (other refl)
+    unchanged (Departing slot) other = refl
+    unchanged Delayed other = refl
+    unchanged (Refused r) other = refl
 
 pub claimed_arrived : (frame t : ℕ) (ms : List Member) (name : List ℕ) (w : Share) (early : Bool) → claimed frame (ms ++ newcomer t name w early ∷ []) ≡ claimed frame ms + units_of w frame
 claimed_arrived frame t ms name w early = sum_by_push (λ (m : Member). units_of m.weight frame) ms (newcomer t name w early)
@@ -80,12 +77,9 @@ pub room_of_named : (ms : List Member) (name : List ℕ) (m : Member) → EachHa
 room_of_named [] name m h found = absurd (cc)
 room_of_named (x ∷ ms) name m h found =
     (elim (is_named name x) as (λ b. cond b (Some x) (member_named ms name) ≡ Some m → last_offset m + LONGEST_DELAY ≤ MAX_OFFSET) [
-      | true ↦ λ e. subst (λ (l : Member). last_offset l + LONGEST_DELAY ≤ MAX_OFFSET) (same x m e) h.0
+      | true ↦ λ e. subst (λ (l : Member). last_offset l + LONGEST_DELAY ≤ MAX_OFFSET) (some_inj x m e) h.0
       | false ↦ λ e. room_of_named ms name m h.1 e
     ]) found
-  where
-    same : (x y : Member) → Some x ≡ Some y → x ≡ y
-    same x y e = cc
 
 pub claimed_late : (frame t : ℕ) (ms : List Member) (name : List ℕ) (index by : ℕ) (d : Decision) → claimed frame (effect t ms (Late name index by) d) ≡ claimed frame ms
 claimed_late frame t ms name index by Delayed = claimed_change frame name (with_delay index by) (λ _. refl) ms

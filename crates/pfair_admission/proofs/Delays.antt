@@ -11,6 +11,7 @@ use Rattle.std.proofs.lemmas.Bool.Decides.{nat_tests}
 use Rattle.std.proofs.lemmas.List.Elements.{filter-append}
 use Rattle.std.proofs.lemmas.List.Folds.{list_any-append}
 use Rattle.std.proofs.lemmas.List.Sums.{sum_by-cons, sum_by-append, sum_by_push}
+use Rattle.std.proofs.Math.Bool.{or-true}
 use Rattle.pfair_weight.specs.Position.{Position}
 use Rattle.pfair_weight.specs.declared.window.TheConstants.{MAX_INDEX, MAX_OFFSET}
 use Rattle.pfair_admission.specs.declared.delay.Delay.{Delay}
@@ -50,10 +51,6 @@ own_slots ds i = by (list_any (at i) ds) refl
 pub own_some : (ds : List Delay) (i : ℕ) → is_some (own_delay ds i) ≡ list_any (at i) ds
 own_some ds i = elim (list_any (at i) ds) as (λ b. is_some (if b then Some (slots (filter (at i) ds)) else None) ≡ b) [ true ↦ refl | false ↦ refl ]
 
-or_true : (b : Bool) → (b || true) ≡ true
-or_true true = refl
-or_true false = refl
-
 or_false : (b : Bool) → (b || false) ≡ b
 or_false true = refl
 or_false false = refl
@@ -74,7 +71,7 @@ own_push ds index by i =
 
     both : (b : Bool) → (if list_any (at i) ds || (b || false) then Some (slots (filter (at i) ds) + slots (cond b (d ∷ []) [])) else None) ≡ cond b (Some (unwrap_or (own_delay ds i) 0 + by)) (own_delay ds i)
     both true =
-        ap (λ c. if c then Some (slots (filter (at i) ds) + slots (d ∷ [])) else None) (or_true (list_any (at i) ds))
+        ap (λ c. if c then Some (slots (filter (at i) ds) + slots (d ∷ [])) else None) (or-true (list_any (at i) ds))
         ∙ (let same : slots (filter (at i) ds) + slots (d ∷ []) ≡ unwrap_or (own_delay ds i) 0 + by = (let own = own_slots ds i in let one = sum_by-cons (λ (e : Delay). e.by) d [] in omega (arith, own, one)) in ap Some same)
     both false =
         ap (λ c. if c then Some (slots (filter (at i) ds) + 0) else None) (or_false (list_any (at i) ds))
@@ -155,7 +152,7 @@ next_put_off m p q b coming index by next h is =
     let standing : ℕ → Position = λ n. record { weight = m.weight; index = m.next; theta = n } in
     record {
       position = is ∙ ap (λ (x : Position). record x { theta = x.theta + by }) h.position ∙ ap standing (sym later);
-      put_off = sym (delayed_push m m.next by m.next ∙ ap (λ c. is_delayed_at m m.next || (c || false)) itself ∙ or_true (is_delayed_at m m.next));
+      put_off = sym (delayed_push m m.next by m.next ∙ ap (λ c. is_delayed_at m m.next || (c || false)) itself ∙ or-true (is_delayed_at m m.next));
       coming = λ i less.
           let other : (m.next == i) ≡ false = grind (arith, nat_tests) in
           h.coming i less ∙ sym (own_push m.delays m.next by i ∙ ap (λ c. cond c (Some (unwrap_or (own_delay m.delays i) 0 + by)) (own_delay m.delays i)) other);

@@ -7,6 +7,7 @@ use Rattle.std.proofs.lemmas.Bool.Decides.{nat_tests}
 use Rattle.std.proofs.lemmas.List.Sums.{sum_by_push}
 use Rattle.std.proofs.lemmas.List.Kept.{AllPairs-filter}
 use Rattle.std.proofs.lemmas.List.Quantifiers.{all_pairs_push}
+use Rattle.std.proofs.Math.Bool.{or-true}
 use Rattle.pfair_weight.specs.Share.{Share}
 use Rattle.pfair_weight.specs.Window.{release_of, starts_job_of}
 use Rattle.pfair_entry.specs.Same.{name_eq}
@@ -298,20 +299,16 @@ released_from m i = omega arith
 pub eligible_not_early : (m : Member) (i : ℕ) → m.early ≡ false → eligible_from m i ≡ release_of m.weight i (theta m i)
 eligible_not_early m i e = ap (λ b. if not b || (starts_job_of m.weight i || is_delayed_at m i) then release_of m.weight i (theta m i) else m.joined) e
 
-or_true : (b : Bool) → (b || true) ≡ true
-or_true true = refl
-or_true false = refl
-
 pub eligible_at_job : (m : Member) (i : ℕ) → starts_job_of m.weight i ≡ true → eligible_from m i ≡ release_of m.weight i (theta m i)
 eligible_at_job m i e =
     ap (λ b. if not m.early || (b || is_delayed_at m i) then release_of m.weight i (theta m i) else m.joined) e
-    ∙ ap (λ b. if b then release_of m.weight i (theta m i) else m.joined) (or_true (not m.early))
+    ∙ ap (λ b. if b then release_of m.weight i (theta m i) else m.joined) (or-true (not m.early))
 
 pub eligible_at_delay : (m : Member) (i : ℕ) → is_delayed_at m i ≡ true → eligible_from m i ≡ release_of m.weight i (theta m i)
 eligible_at_delay m i e =
     ap (λ b. if not m.early || (starts_job_of m.weight i || b) then release_of m.weight i (theta m i) else m.joined) e
-    ∙ ap (λ b. if not m.early || b then release_of m.weight i (theta m i) else m.joined) (or_true (starts_job_of m.weight i))
-    ∙ ap (λ b. if b then release_of m.weight i (theta m i) else m.joined) (or_true (not m.early))
+    ∙ ap (λ b. if not m.early || b then release_of m.weight i (theta m i) else m.joined) (or-true (starts_job_of m.weight i))
+    ∙ ap (λ b. if b then release_of m.weight i (theta m i) else m.joined) (or-true (not m.early))
 
 pub eligible_joined : (m : Member) (i : ℕ) → m.early ≡ true → starts_job_of m.weight i ≡ false → is_delayed_at m i ≡ false → eligible_from m i ≡ m.joined
 eligible_joined m i e f g =

@@ -9,6 +9,7 @@ use Rattle.std.proofs.lemmas.List.Elements.{Contains-append_cases}
 use Rattle.std.proofs.lemmas.List.Sorted.{sum_by-IsPermutation, Contains-permutation}
 use Rattle.std.proofs.lemmas.List.Sums.{sum_by-append, sum_by-cons, length-filter}
 use Rattle.std.proofs.lemmas.Option.{slice_get_within}
+use Rattle.std.proofs.lemmas.List.{nil_from_length}
 use Rattle.pfair_weight.specs.Options.{some_inj, none_some}
 use Rattle.pfair_order.specs.Rank.{rank, of_rank, first_by_rank}
 use Rattle.pfair_order.proofs.RankLemmas.{IsSplit, place_of, at_place, none_counted, rank_given, rank_rest, each_place}
@@ -16,13 +17,9 @@ use Rattle.pfair_order.proofs.RankLemmas.{IsSplit, place_of, at_place, none_coun
 apart : (x y : ℕ) → (x ≡ y → ⊥) → (x == y) ≡ false
 apart x y differ = elim (x == y) as (λ b. (x == y) ≡ b → b ≡ false) [ true ↦ λ e. absurd (differ (eqb-true x y e)) | false ↦ λ _. refl ] refl
 
-no_items : {A : Type 0} (xs : List A) → length xs ≡ 0 → xs ≡ []
-no_items [] e = refl
-no_items (x ∷ xs) e = absurd (omega arith)
-
 one_item : {A : Type 0} (xs : List A) → length xs ≡ 1 → (x : A) × (xs ≡ x ∷ [])
 one_item [] e = absurd (omega arith)
-one_item (x ∷ xs) e = (x, ap (λ l. x ∷ l) (no_items xs (omega arith)))
+one_item (x ∷ xs) e = (x, ap (λ l. x ∷ l) (nil_from_length xs (omega arith)))
 
 -- the element at a place, as a list
 abbrev one_at : {A : Type 0} → List A → ℕ → List A
@@ -121,7 +118,7 @@ module _ {K : Type 0} {R : K → K → Ordering} (o : IsTotalOrder R) where
         apart (rank R keys k) r (λ same. omega arith))) in
         let none' : count_by (λ k. rank R keys k == r) rest ≡ 0 = subst (λ l. count_by (λ k. rank R keys k == r) l ≡ 0) (sym empty) refl in
         let parts : count_by (λ k. rank R keys k == r) keys ≡ count_by (λ k. rank R keys k == r) given + count_by (λ k. rank R keys k == r) rest = count_parts (λ k. rank R keys k == r) in
-        no_items (of_rank R keys r) (length-filter (λ k. rank R keys k == r) keys ∙ omega arith)
+        nil_from_length (of_rank R keys r) (length-filter (λ k. rank R keys k == r) keys ∙ omega arith)
 
     front_by_rank : (m : ℕ) → (length given < m → rest ≡ []) → (r : ℕ) → r ≤ m → first_by_rank R r keys ≡ take r given
     front_by_rank m all zero within = refl

@@ -47,7 +47,7 @@ both : {A : Type 0} (P Q : A → Type 0) (xs : List A) → AllByRecursion P xs �
 both P Q [] h k = tt
 both P Q (x ∷ xs) h k = ((h.0, k.0), both P Q xs h.1 k.1)
 
-each_trivial : {A : Type 0} (xs : List A) → AllByRecursion (λ _. Unit {0}) xs
+pub each_trivial : {A : Type 0} (xs : List A) → AllByRecursion (λ _. Unit {0}) xs
 each_trivial [] = tt
 each_trivial (x ∷ xs) = (tt, each_trivial xs)
 

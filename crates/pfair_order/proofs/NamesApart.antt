@@ -2,12 +2,11 @@
 use Rattle.std.proofs.Common.{◌≡◌, ◌≢◌, ℕ, suc, ◌+◌, ◌<◌, ◌≤◌, inl, inr, true, false, cond, List, [], ◌∷◌, length, refl, sym, ap, ◌∙◌, arith, get_or, Some}
 use Rattle.std.specs.Prelude.{AllPairs}
 use Rattle.std.specs.List.{count_by, slice_get}
-use Rattle.std.specs.declared.cmp.Ordering.{Ordering}
-use Rattle.std.specs.declared.cmp.Ordering.TheVariants.{Less, Equal, Greater}
 use Rattle.std.specs.Ordering.{is_eq}
 use Rattle.std.proofs.lemmas.Bool.{cases_lt}
 use Rattle.std.proofs.lemmas.List.Sums.{sum_by-cons}
 use Rattle.std.proofs.lemmas.Option.{slice_get_within, slice_get-get_or}
+use Rattle.std.specs.Cmp.{Equal-is}
 use Rattle.pfair_weight.specs.Options.{some_inj}
 use Rattle.pfair_order.specs.declared.Key.{Key}
 use Rattle.pfair_order.specs.Order.{pd2_cmp}
@@ -15,11 +14,6 @@ use Rattle.pfair_order.specs.Rank.{rank, first_by_rank, AreFirst, EachOnce}
 use Rattle.pfair_order.proofs.KeyLaws.{keys_total, keys_exact}
 use Rattle.pfair_order.proofs.RankLemmas.{each_place, none_counted, place_of}
 use Rattle.pfair_order.proofs.InOrder.{by_rank_first}
-
-equal_of : (r : Ordering) → is_eq r ≡ true → r ≡ Equal
-equal_of Less e = cc
-equal_of Equal e = refl
-equal_of Greater e = cc
 
 -- no two have one name
 abbrev NamesApart : List Key → Type 0
@@ -58,7 +52,7 @@ once_from_names (x ∷ xs) names k =
           none_counted (λ y. is_eq (pd2_cmp y k)) xs (each_place (λ y. is_eq (pd2_cmp y k) ≡ false) xs (λ i y e.
           elim (is_eq (pd2_cmp y k)) as (λ b. is_eq (pd2_cmp y k) ≡ b → b ≡ false) [
             | true ↦ λ u. absurd (apart_at (x ∷ xs) names 0 (suc i) x y refl e (omega arith)
-                (ap (λ (z : Key). z.name) (keys_exact x k (equal_of (pd2_cmp x k) t) ∙ sym (keys_exact y k (equal_of (pd2_cmp y k) u)))))
+                (ap (λ (z : Key). z.name) (keys_exact x k ((Equal-is (pd2_cmp x k)).0 t) ∙ sym (keys_exact y k ((Equal-is (pd2_cmp y k)).0 u)))))
             | false ↦ λ _. refl
           ] refl)) in
           omega arith

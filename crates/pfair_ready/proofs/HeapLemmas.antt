@@ -1,27 +1,26 @@
 -- The slots of names, as the map of what they hold.
 use Rattle.std.proofs.Common.{◌≡◌, ℕ, zero, suc, ◌<◌, ◌≤◌, ◌⊎◌, inl, inr, Bool, true, false, cond, List, [], ◌∷◌, ◌++◌, length, refl, sym, ap, subst, ◌∙◌, arith, Option, Some, None, get_or}
-use Rattle.std.specs.Prelude.{Result, Ok, Err, OnErr, Contains, is_some, slice_get, position, All, IfSome, IfNone, slice_index_or, nat_lt, ◌==◌}
-use Rattle.std.proofs.lemmas.Bool.Decides.{nat_tests}
-use Rattle.std.specs.Ordering.{nat_cmp, is_eq, is_lt}
+use Rattle.std.specs.Prelude.{Result, Ok, Err, OnErr, Contains, is_some, slice_get, position, IfSome, IfNone, slice_index_or}
+use Rattle.std.specs.Ordering.{is_eq}
 use Rattle.std.specs.Cmp.{eq_by_cmp_equiv, tied_itself}
 use Rattle.std.specs.List.{AllByRecursion, IsDistinct}
 use Rattle.std.specs.List.Sorted.{IsPermutation}
 use Rattle.std.specs.Map.{lookup, keys_of}
 use Rattle.std.specs.BTreeMap.{is_at}
-use Rattle.std.specs.BinaryHeap.{IsHeap, IsUpperBound, PopsGreatest}
+use Rattle.std.specs.BinaryHeap.{IsHeap, PopsGreatest}
 use Rattle.std.specs.FinMap as finmap
 use Rattle.std.specs.FinMap.{find, get-from_entries, get-insert, get-remove, same_map}
-use Rattle.std.specs.declared.cmp.Ordering.{Ordering}
-use Rattle.std.specs.declared.cmp.Ordering.TheVariants.{Less, Equal, Greater}
 use Rattle.std.specs.declared.cmp.Reverse.{Reverse}
 use Rattle.std.specs.Cmp.Lexicographic.{bytes_decides}
 use Rattle.std.proofs.lemmas.List.Sorted.{Contains-permutation}
-use Rattle.std.proofs.lemmas.List.Elements.{Contains-append_right, All-from_recursion}
+use Rattle.std.proofs.lemmas.List.Elements.{Contains-append_right}
 use Rattle.std.proofs.lemmas.List.Quantifiers.{position-Some}
 use Rattle.std.proofs.lemmas.Option.{slice_get-get_or}
 use Rattle.indexmap.specs.IndexMap.{set_value_at}
 use Rattle.pfair_order.specs.declared.Key.{Key}
 use Rattle.pfair_order.proofs.RankLemmas.{place_of, at_place}
+use Rattle.std.specs.Cmp.{Equal-is}
+use Rattle.pfair_weight.specs.Options.{some_inj, none_some}
 use Rattle.pfair_ready.specs.Names.{NameValue, name_cmp, name_eq}
 use Rattle.pfair_ready.specs.declared.date.Date.{Date}
 use Rattle.pfair_ready.specs.Slots.{SlotList, with_slot, live, entry_of, in_slot, IsPlaced, Keeps, Moves, IsCovered, later_cmp}
@@ -54,19 +53,8 @@ module _ {X : Type 0} where
       get_found fs q ∙ h q ∙ ap (λ b. cond b None (found es q)) ((eq_by_cmp_equiv names_total).symm s q)
       ∙ sym (get-remove names_total (finmap.from_entries es) s q ∙ ap (cond (is_at (name_cmp q) s) None) (get_found es q)))
 
-pub some_inj : {A : Type 0} (x y : A) → Some x ≡ Some y → x ≡ y
-some_inj x y e = cc
-
-none_some : {A : Type 0} (x : A) → None ≡ Some x → ⊥
-none_some x e = cc
-
-true_false : true ≡ false → ⊥
+pub true_false : true ≡ false → ⊥
 true_false e = cc
-
-equal_of : (r : Ordering) → is_eq r ≡ true → r ≡ Equal
-equal_of Less e = cc
-equal_of Equal e = refl
-equal_of Greater e = cc
 
 Entries : Type 0
 Entries = List (NameValue × (ℕ × Key))
@@ -119,7 +107,7 @@ live_set (e ∷ es) zero n u w at h q =
     (elim (is_eq (name_cmp e.0 q)) as (λ b. is_eq (name_cmp e.0 q) ≡ b → entry_of (with_slot e.0 w (live es)) q ≡ cond b w (entry_of (with_slot e.0 e.1 (live es)) q)) [
       | true ↦ λ t.
           let back : is_eq (name_cmp q e.0) ≡ true = (eq_by_cmp_equiv names_total).symm q e.0 ∙ t in
-          let none : entry_of (live es) q ≡ None = subst (λ x. entry_of (live es) x ≡ None) (names_exact e.0 q (equal_of (name_cmp e.0 q) t)) (no_live es e.0 h.0) in
+          let none : entry_of (live es) q ≡ None = subst (λ x. entry_of (live es) x ≡ None) (names_exact e.0 q ((Equal-is (name_cmp e.0 q)).0 t)) (no_live es e.0 h.0) in
           slot_own e.0 w (live es) q back none
       | false ↦ λ t.
           let back : is_eq (name_cmp q e.0) ≡ false = (eq_by_cmp_equiv names_total).symm q e.0 ∙ t in
@@ -130,7 +118,7 @@ live_set (e ∷ es) (suc p) n u w at h q =
     elim (is_eq (name_cmp n q)) as (λ b. is_eq (name_cmp n q) ≡ b → entry_of (live (set_value_at es p w)) q ≡ cond b w (entry_of (live es) q) → entry_of (with_slot e.0 e.1 (live (set_value_at es p w))) q ≡ cond b w (entry_of (with_slot e.0 e.1 (live es)) q)) [
       | true ↦ λ t r.
           let apart : is_eq (name_cmp q e.0) ≡ false =
-          subst (λ x. is_eq (name_cmp x e.0) ≡ false) (names_exact n q (equal_of (name_cmp n q) t))
+          subst (λ x. is_eq (name_cmp x e.0) ≡ false) (names_exact n q ((Equal-is (name_cmp n q)).0 t))
           ((eq_by_cmp_equiv names_total).symm n e.0 ∙ tied_names e.0 n ∙ key_holds (λ y. name_eq e.0 y ≡ false) es p n u at h.0) in
           slot_other e.0 e.1 (live (set_value_at es p w)) q apart ∙ r
       | false ↦ λ t r. slot_same e.0 e.1 (live (set_value_at es p w)) (live es) q r
@@ -152,7 +140,7 @@ stands (e ∷ es) q v h =
     elim e.1 as (λ o. e.1 ≡ o → entry_of (with_slot e.0 o (live es)) q ≡ Some v → Stands (e ∷ es) q v) [
       | None ↦ λ _ g. further e es q v (stands es q v g)
       | Some x ↦ λ i g. elim (is_eq (name_cmp q e.0)) as (λ b. is_eq (name_cmp q e.0) ≡ b → cond b (Some x) (entry_of (live es) q) ≡ Some v → Stands (e ∷ es) q v) [
-        | true ↦ λ t j. record { place = 0; name = e.0; at = ap (λ (o : Option (ℕ × Key)). Some (e.0, o)) (i ∙ j); is = sym (names_exact q e.0 (equal_of (name_cmp q e.0) t)) }
+        | true ↦ λ t j. record { place = 0; name = e.0; at = ap (λ (o : Option (ℕ × Key)). Some (e.0, o)) (i ∙ j); is = sym (names_exact q e.0 ((Equal-is (name_cmp q e.0)).0 t)) }
         | false ↦ λ _ j. further e es q v (stands es q v j)
       ] refl g
     ] refl h
@@ -256,14 +244,6 @@ pushed_place es es' n e h =
     let there : slice_get es' (length es) ≡ Some (n, None) = ap (λ (x : SlotList). slice_get x (length es)) e ∙ get_last es n in
     record { at = there ∙ ap (λ (o : Option (ℕ × Key)). Some (n, o)) (sym (live_at es' (length es) n None there h)); apart = h }
 
-pub same_keeps : (es es' : SlotList) → es' ≡ es → IsDistinct name_eq (keys_of es) → Keeps es es'
-same_keeps es es' e h =
-    record {
-      held = ap live e;
-      slots = λ p q v at. subst (λ (x : SlotList). slice_get x p ≡ Some (q, Some v)) e at;
-      apart = subst (λ (x : SlotList). IsDistinct name_eq (keys_of x)) (sym e) h;
-    }
-
 pub covered_kept : (now : ℕ) (es es' : SlotList) (dates : List (Reverse Date)) (heap : List (Reverse (Key × ℕ))) → Keeps es es' → IsCovered now es dates heap → IsCovered now es' dates heap
 covered_kept now es es' dates heap k c =
     record {
@@ -311,10 +291,6 @@ covered_filled now place r k es es' dates dates' heap here e perm up c =
       in_order = c.in_order;
     })
 
--- nothing has moved
-pub moves_none : (slot : ℕ) (es : SlotList) (dates : List (Reverse Date)) (heap : List (Reverse (Key × ℕ))) → Moves slot es dates dates heap heap
-moves_none slot es dates heap = record { kept = λ x h. h; moved = λ p r k at h. inl h }
-
 in_cons : {A : Type 0} (y : A) (xs : List A) (x : A) (i : ℕ) → slice_get (y ∷ xs) i ≡ Some x → (y ≡ x) ⊎ Contains xs x
 in_cons y xs x zero e = inl (some_inj y x e)
 in_cons y xs x (suc i) e = inr (at_place xs i x e)
@@ -344,21 +320,6 @@ moves_more slot es date dates0 dates dates' heap0 heap heap' m due perm kept the
       ];
     }
 
--- what is not before the first date is later than the slot
-not_less : (slot a b : ℕ) → slot < b → is_lt (nat_cmp a b) ≡ false → slot < a
-not_less slot a b h e =
-    elim (nat_lt a b) as (λ c. nat_lt a b ≡ c → is_lt (cond c Less (cond (a == b) Equal Greater)) ≡ false → slot < a) [
-      | true ↦ λ _ g. absurd (true_false g)
-      | false ↦ λ t _. grind (arith, nat_tests)
-    ] refl e
-
-later_each : (slot : ℕ) (top : Reverse Date) (dates : List (Reverse Date)) → slot < top.0.release → IsUpperBound later_cmp top dates → AllByRecursion (λ e. slot < e.0.release) dates
-later_each slot top [] h b = tt
-later_each slot top (e ∷ es) h b = (not_less slot e.0.release top.0.release h b.0, later_each slot top es h b.1)
-
-pub all_later : (slot : ℕ) (top : Reverse Date) (dates : List (Reverse Date)) → slot < top.0.release → IsUpperBound later_cmp top dates → All (λ e. slot < e.0.release) dates
-all_later slot top dates h b = All-from_recursion (λ e. slot < e.0.release) dates (later_each slot top dates h b)
-
 pub pushed_more : {A : Type 0} (item x : A) (xs ys : List A) → IsPermutation (item ∷ xs) ys → Contains xs x → Contains ys x
 pushed_more item x xs ys p h = Contains-permutation (item ∷ xs) ys x p (Contains-append_right (item ∷ []) xs x h)
 
@@ -387,9 +348,6 @@ pub on_err : {A E : Type 0} (r : Result A E) (P : Type 0) → P → OnErr r P
 on_err (Ok x) P h = tt
 on_err (Err e) P h = h
 
-pub in_slot_within : (es : SlotList) (i : ℕ) (v : ℕ × Key) → in_slot (slice_get es i) ≡ Some v → i < length es
-in_slot_within es i v e = let f = entry_in (slice_get es i) v e in get_within es i (f.0, Some v) f.1
-
 absent_of : {A B : Type 0} (o : Option A) (v : Option B) → o ≡ None → is_some o ≡ is_some v → v ≡ None
 absent_of o None e f = refl
 absent_of o (Some x) e f = absurd (true_false (sym f ∙ ap is_some e))
@@ -409,7 +367,7 @@ none_placed es name (Some i) f = tt
 pub none_gone : (es : List (NameValue × (ℕ × Key))) (name q : NameValue) → entry_of es name ≡ None → entry_of es q ≡ cond (is_at (name_cmp name) q) None (entry_of es q)
 none_gone es name q h =
     elim (is_eq (name_cmp name q)) as (λ b. is_eq (name_cmp name q) ≡ b → entry_of es q ≡ cond b None (entry_of es q)) [
-      | true ↦ λ t. ap (entry_of es) (sym (names_exact name q (equal_of (name_cmp name q) t))) ∙ h
+      | true ↦ λ t. ap (entry_of es) (sym (names_exact name q ((Equal-is (name_cmp name q)).0 t))) ∙ h
       | false ↦ λ _. refl
     ] refl
 

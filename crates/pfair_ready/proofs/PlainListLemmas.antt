@@ -1,5 +1,5 @@
 -- The list of waiting keys and the map that it holds.
-use Rattle.std.proofs.Common.{◌≡◌, ℕ, ◌+◌, ◌≤◌, Bool, true, false, cond, not, List, [], ◌∷◌, ◌++◌, map, length, refl, sym, ap, subst, ◌∙◌, arith, Option, Some, None}
+use Rattle.std.proofs.Common.{◌≡◌, ℕ, ◌+◌, ◌≤◌, Bool, true, false, cond, not, List, [], ◌∷◌, ◌++◌, map, refl, sym, ap, subst, ◌∙◌, arith, Option, Some, None}
 use Rattle.std.specs.Prelude.{nat_le, IsTrue}
 use Rattle.std.specs.List.{count_by, filter}
 use Rattle.std.specs.declared.cmp.Ordering.TheVariants.{Less, Equal, Greater}
@@ -22,15 +22,11 @@ use Rattle.pfair_order.specs.Order.{pd2_cmp}
 use Rattle.pfair_ready.specs.declared.plain.Waiting.{Waiting}
 use Rattle.pfair_ready.specs.Names.{NameValue, name_cmp, name_eq}
 use Rattle.pfair_ready.specs.Waiting.{Held, released}
-use Rattle.pfair_ready.proofs.Names.{names_total, names_exact, same_name, equal_names, name_itself, equal_of}
+use Rattle.std.specs.Cmp.{Equal-is}
+use Rattle.std.proofs.lemmas.List.{map-append, nil_from_length}
+use Rattle.pfair_weight.specs.Options.{none_some}
+use Rattle.pfair_ready.proofs.Names.{names_total, names_exact, same_name, equal_names, name_itself}
 use Rattle.pfair_ready.specs.PlainList.{held_of, first_named, EachNameOnce}
-
-some_none : {A : Type 0} (x : A) → Some x ≡ None → ⊥
-some_none x e = cc
-
-no_items : {A : Type 0} (xs : List A) → length xs ≡ 0 → xs ≡ []
-no_items [] e = refl
-no_items (x ∷ xs) e = absurd (omega arith)
 
 module _ {X Y : Type 0} (q : X → Bool) (f : X → Y) where
   -- what is made of the values that pass
@@ -61,7 +57,7 @@ module _ {X Y : Type 0} (q : X → Bool) (f : X → Y) where
   chosen_put k v (e ∷ es) none =
       elim (name_cmp k e.0) as (λ r. name_cmp k e.0 ≡ r → IsPermutation (chosen ((k, v) ∷ e ∷ es)) (chosen (finmap.Entries.by_order r ((k, v) ∷ e ∷ es) ((e.0, v) ∷ es) (e ∷ put name_cmp k v es)))) [
         | Less ↦ λ _. IsPermutation-refl (chosen ((k, v) ∷ e ∷ es))
-        | Equal ↦ λ t. absurd (some_none e.1 (ap (λ r. cond (is_eq r) (Some e.1) (find name_cmp k es)) (sym t) ∙ none))
+        | Equal ↦ λ t. absurd (none_some e.1 (sym (ap (λ r. cond (is_eq r) (Some e.1) (find name_cmp k es)) (sym t) ∙ none)))
         | Greater ↦ λ t. IsPermutation-trans (chosen ((k, v) ∷ e ∷ es)) (chosen (e ∷ (k, v) ∷ es)) (chosen (e ∷ put name_cmp k v es)) (chosen_swap (k, v) e es) (chosen_cons e ((k, v) ∷ es) (put name_cmp k v es) (chosen_put k v es (ap (λ r. cond (is_eq r) (Some e.1) (find name_cmp k es)) (sym t) ∙ none)))
       ] refl
 
@@ -86,14 +82,10 @@ pub contained : (held : Held) (ws seen : List Waiting) (name : NameValue) (o : O
 contained held ws seen name o b view same found is =
     ap (λ h. finmap.contains_key h name) (sym view) ∙ ap is_some (get_held ws name ∙ ap (first_named name) (sym same) ∙ sym found) ∙ sym is
 
-map_append : {A B : Type 0} (f : A → B) (xs : List A) (x : A) → map f (xs ++ x ∷ []) ≡ map f xs ++ f x ∷ []
-map_append f [] x = refl
-map_append f (y ∷ ys) x = ap (λ l. f y ∷ l) (map_append f ys x)
-
 -- one more with a new name
 pub held_of_push : (ws : List Waiting) (w : Waiting) → first_named w.key.name ws ≡ None → held_of (ws ++ w ∷ []) ≡ finmap.insert (held_of ws) w.key.name (w.release, w.key)
 held_of_push ws w none =
-    ap (λ es. finmap.from_entries {R = name_cmp} es) (map_append entry ws w)
+    ap (λ es. finmap.from_entries {R = name_cmp} es) (map-append entry ws (w ∷ []))
     ∙ from_entries_push names_total names_exact (map entry ws) w.key.name (w.release, w.key) (find_entry ws w.key.name ∙ none)
 
 abbrev shown : Waiting → ℕ × Key
@@ -157,7 +149,7 @@ none_counted q [] none = refl
 none_counted q (w ∷ ws) none =
     count_cons (λ w. name_eq w.key.name q) w ws
     ∙ elim (name_eq w.key.name q) as (λ b. option_map shown (cond b (Some w) (list.find (λ (w : Waiting). name_eq w.key.name q) ws)) ≡ None → cond b 1 0 + count_by (λ w. name_eq w.key.name q) ws ≡ 0) [
-      | true ↦ λ n. absurd (some_none (shown w) n)
+      | true ↦ λ n. absurd (none_some (shown w) (sym n))
       | false ↦ λ n. let rest : count_by (λ w. name_eq w.key.name q) ws ≡ 0 = none_counted q ws n in omega arith
     ] none
 
@@ -195,7 +187,7 @@ abbrev pub released_of : ℕ → List Waiting → List Key
 released_of slot ws = map (λ w. w.key) (filter (λ w. nat_le w.release slot) ws)
 
 empty_entries : finmap.entries (finmap.empty {X = ℕ × Key} {R = name_cmp}) ≡ []
-empty_entries = no_items _ (sym (finmap.len-entries finmap.empty) ∙ finmap.len-empty name_cmp (ℕ × Key))
+empty_entries = nil_from_length _ (sym (finmap.len-entries finmap.empty) ∙ finmap.len-empty name_cmp (ℕ × Key))
 
 -- the released keys of the list are those of what it holds, in another order
 pub released_held : (slot : ℕ) (ws : List Waiting) → EachNameOnce ws → IsPermutation (released_of slot ws) (released slot (held_of ws))
@@ -217,7 +209,7 @@ released_held slot (w ∷ ws) once =
 tie_names : (k l : Key) → cond (is_eq (pd2_cmp k l)) 1 0 ≤ cond (name_eq k.name l.name) 1 0
 tie_names k l =
     elim (is_eq (pd2_cmp k l)) as (λ b. is_eq (pd2_cmp k l) ≡ b → cond b 1 0 ≤ cond (name_eq k.name l.name) 1 0) [
-      | true ↦ λ t. rw (name_itself k.name l.name (ap (λ (k : Key). k.name) (keys_exact k l (equal_of (pd2_cmp k l) t)))) (omega arith)
+      | true ↦ λ t. rw (name_itself k.name l.name (ap (λ (k : Key). k.name) (keys_exact k l ((Equal-is (pd2_cmp k l)).0 t)))) (omega arith)
       | false ↦ λ _. omega arith
     ] refl
 
@@ -245,10 +237,6 @@ first_from_least slot m ws first once least =
     let split : IsSplit keys_total (released_of slot ws) first least.2 = split_from_least keys_total (released_of slot ws) first least.2 (released_once slot ws once) least.0 least.3 least.5 in
     by_rank_of_split keys_total (released slot (held_of ws)) first least.2
     (split_of_permutation keys_total (released_of slot ws) (released slot (held_of ws)) first least.2 (released_held slot ws once) split) m least.1 least.4
-
-pub none_from_not_some : {A : Type 0} (o : Option A) → is_some o ≡ false → o ≡ None
-none_from_not_some None e = refl
-none_from_not_some (Some x) e = cc
 
 pub true_not_false : (b : Bool) → IsTrue b → b ≡ false → ⊥
 true_not_false b t e = cc

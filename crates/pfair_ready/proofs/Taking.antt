@@ -21,6 +21,9 @@ use Rattle.pfair_order.specs.Rank.{first_by_rank}
 use Rattle.pfair_order.proofs.KeyLaws.{keys_total, keys_exact}
 use Rattle.pfair_order.proofs.RankLemmas.{IsSplit, less_of, split_more}
 use Rattle.pfair_order.proofs.ByRank.{by_rank_of_split}
+use Rattle.std.specs.Cmp.{Equal-is}
+use Rattle.pfair_order.proofs.InOrder.{each_trivial}
+use Rattle.pfair_weight.specs.Options.{none_some}
 use Rattle.pfair_ready.specs.Names.{NameValue, name_cmp, name_eq}
 use Rattle.pfair_ready.specs.Waiting.{released, without}
 use Rattle.pfair_ready.specs.Heap.{is_due}
@@ -31,8 +34,8 @@ use Rattle.std.specs.Ordering.{nat_cmp, ordering_then}
 use Rattle.std.specs.declared.cmp.Ordering.{Ordering}
 use Rattle.std.specs.declared.cmp.Ordering.TheVariants.{Equal, Greater}
 use Rattle.indexmap.specs.IndexMap.{set_value_at}
-use Rattle.pfair_ready.proofs.Names.{names_total, equal_of}
-use Rattle.pfair_ready.proofs.HeapLemmas.{get_found, one_taken, top_or_stays, live_at, live_set, stands, Stands, entry_in, set_none, keys_set}
+use Rattle.pfair_ready.proofs.Names.{names_total}
+use Rattle.pfair_ready.proofs.HeapLemmas.{true_false, get_found, one_taken, top_or_stays, live_at, live_set, stands, Stands, entry_in, set_none, keys_set}
 use Rattle.pfair_ready.proofs.Released.{IsReleased, each_released, released_remove, without_none, without_push}
 
 pub record IsTaking (slot m room : ℕ) (start es : SlotList) (dates : List (Reverse Date)) (heap : List (Reverse (Key × ℕ))) (first : List Key) : Type 0 where
@@ -44,15 +47,6 @@ pub record IsTaking (slot m room : ℕ) (start es : SlotList) (dates : List (Rev
   pub later : All (λ e. slot < e.0.release) dates
   pub few : length first ≤ m
   pub counted : length first + length heap ≤ room
-
-some_inj : {A : Type 0} (x y : A) → Some x ≡ Some y → x ≡ y
-some_inj x y e = cc
-
-none_some : {A : Type 0} (x : A) → None ≡ Some x → ⊥
-none_some x e = cc
-
-true_false : true ≡ false → ⊥
-true_false e = cc
 
 both_true : (a b : Bool) → (a && b) ≡ true → (a ≡ true) × (b ≡ true)
 both_true true b e = (refl, e)
@@ -69,10 +63,6 @@ no_elements : {A : Type 0} (xs : List A) → AllByRecursion (λ _. ⊥) xs → x
 no_elements [] h = refl
 no_elements (x ∷ xs) h = absurd h.0
 
-each_trivial : {A : Type 0} (xs : List A) → AllByRecursion (λ _. Unit {0}) xs
-each_trivial [] = tt
-each_trivial (x ∷ xs) = (tt, each_trivial xs)
-
 kept_entry : {A : Type 0} (b : Bool) (o : Option A) (x : A) → cond b None o ≡ Some x → (b ≡ false) × (o ≡ Some x)
 kept_entry true o x e = absurd (none_some x e)
 kept_entry false o x e = (refl, e)
@@ -82,7 +72,7 @@ pub due_held : (k : Key) (slot : ℕ) (o : Option (ℕ × Key)) → is_due k slo
 due_held k slot None e = absurd (true_false (sym e))
 due_held k slot (Some d) e =
     let parts : (nat_le d.0 slot ≡ true) × (is_eq (pd2_cmp d.1 k) ≡ true) = both_true (nat_le d.0 slot) (is_eq (pd2_cmp d.1 k)) e in
-    (d.0, ap (λ (x : Key). Some (d.0, x)) (keys_exact d.1 k (equal_of (pd2_cmp d.1 k) parts.1)), parts.0)
+    (d.0, ap (λ (x : Key). Some (d.0, x)) (keys_exact d.1 k ((Equal-is (pd2_cmp d.1 k)).0 parts.1)), parts.0)
 
 held_due : (k : Key) (slot r : ℕ) → r ≤ slot → is_due k slot (Some (r, k)) ≡ true
 held_due k slot r within =
@@ -197,7 +187,7 @@ module _ (slot m room : ℕ) (start es : SlotList) (dates : List (Reverse Date))
           (All-from_recursion (λ (y : Reverse (Key × ℕ)). is_lt (ordering_then (pd2_cmp y.0.0 top.0.0) (nat_cmp y.0.1 top.0.1)) ≡ false) heap least) there) in
           let not_same : is_eq (pd2_cmp k top.0.0) ≡ false =
           elim (is_eq (pd2_cmp k top.0.0)) as (λ b. is_eq (pd2_cmp k top.0.0) ≡ b → b ≡ false) [
-            | true ↦ λ v. absurd (other_name k w.name named kept.0 (sym (keys_exact k top.0.0 (equal_of (pd2_cmp k top.0.0) v))))
+            | true ↦ λ v. absurd (other_name k w.name named kept.0 (sym (keys_exact k top.0.0 ((Equal-is (pd2_cmp k top.0.0)).0 v))))
             | false ↦ λ _. refl
           ] refl in
           less_of keys_total (pd2_cmp k top.0.0) (pd2_cmp top.0.0 k) (keys_total.antisymm k top.0.0) not_before not_same

@@ -2,7 +2,8 @@ use Rattle.std.proofs.Common.{◌≡◌, ℕ, sym, subst, ◌∙◌}
 use Rattle.std.specs.Prelude.{Contains}
 use Rattle.std.specs.BinaryHeap.{heap_items}
 use Rattle.pfair_order.specs.declared.Key.{Key}
-use Rattle.pfair_ready.proofs.HeapLemmas.{pushed_more, pushed_top, some_inj}
+use Rattle.pfair_weight.specs.Options.{some_inj}
+use Rattle.pfair_ready.proofs.HeapLemmas.{pushed_more, pushed_top}
 use Rattle.pfair_ready.proofs.heap.release_one.Goals as goal
 
 pub returns-in_ok-push-clause-kept : goal.returns-in_ok-push-clause-kept

@@ -1,7 +1,8 @@
 use Rattle.std.proofs.Common.{◌≡◌, not, None, sym, ap, ◌∙◌}
 use Rattle.std.specs.FinMap as finmap
 use Rattle.pfair_ready.specs.PlainList.{held_of, first_named}
-use Rattle.pfair_ready.proofs.PlainListLemmas.{contained, held_of_push, EachNameOnce-push, none_from_not_some, true_not_false}
+use Rattle.pfair_weight.specs.Options.{nothing}
+use Rattle.pfair_ready.proofs.PlainListLemmas.{contained, held_of_push, EachNameOnce-push, true_not_false}
 use Rattle.pfair_ready.proofs.plain.PlainReadyReady.insert.Goals as goal
 
 pub returns-then-is_some-clause-answer : goal.returns-then-is_some-clause-answer
@@ -18,7 +19,7 @@ returns-in_err-push-clause-there c there =
 pub invariant_of-self-2 : goal.invariant_of-self-2
 invariant_of-self-2 c =
     let none : first_named c.args.key.name c.self.inside.waiting.items ≡ None =
-    sym (c.find_name.ensures ∙ ap (first_named c.args.key.name) c.deref.ensures.value) ∙ none_from_not_some c.find_name.result (sym c.is_some.ensures ∙ c.if-is_some.false) in
+    sym (c.find_name.ensures ∙ ap (first_named c.args.key.name) c.deref.ensures.value) ∙ nothing c.find_name.result (sym c.is_some.ensures ∙ c.if-is_some.false) in
     rw c.in_ok-push.ensures.items (EachNameOnce-push c.self.inside.waiting.items _ c.self.invariant none)
 
 pub returns-clause-answer : goal.returns-clause-answer
@@ -32,6 +33,6 @@ returns-clause-there c there =
 pub returns-clause-content : goal.returns-clause-content
 returns-clause-content c =
     let none : first_named c.args.key.name c.self.inside.waiting.items ≡ None =
-    sym (c.find_name.ensures ∙ ap (first_named c.args.key.name) c.deref.ensures.value) ∙ none_from_not_some c.find_name.result (sym c.is_some.ensures ∙ c.if-is_some.false) in
+    sym (c.find_name.ensures ∙ ap (first_named c.args.key.name) c.deref.ensures.value) ∙ nothing c.find_name.result (sym c.is_some.ensures ∙ c.if-is_some.false) in
     ap held_of c.in_ok-push.ensures.items ∙ held_of_push c.self.inside.waiting.items _ none
     ∙ ap (λ v. finmap.insert v.held c.args.key.name (c.args.release, c.args.key)) c.self.view_is
