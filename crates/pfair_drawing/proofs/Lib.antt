@@ -1,3 +1,4 @@
+mod DecisionFacts
 mod HistoryFacts
 mod InsideFacts
 mod MarkFacts

@@ -1,12 +1,20 @@
 -- The laws of pictures.
-use Rattle.std.specs.Prelude.{ℕ, ◌≡◌, ◌+◌, ◌≤◌, ◌<◌, List, Some, slice_get, All, ◌≢◌}
-use Rattle.pfair_weight.specs.Name.{IsTaskName}
+use Rattle.std.specs.Prelude.{ℕ, ◌≡◌, ◌+◌, ◌≤◌, ◌<◌, Bool, List, Some, slice_get, All, Contains, ◌≢◌}
+use Rattle.pfair_weight.specs.Name.{IsTaskName, NameValue}
 use Rattle.pfair_weight.specs.Share.{Share, IsWeight}
 use Rattle.pfair_weight.specs.Window.{release_of, deadline_of}
+use Rattle.pfair_entry.specs.Names.{name_of}
+use Rattle.pfair_entry.specs.declared.announcement.Announcement.TheVariants.{Arrive}
+use Rattle.pfair_admission.specs.declared.decision.Decision.TheVariants.{Admitted, Refused}
+use Rattle.pfair_admission.specs.declared.refusal.Refusal.{Refusal}
 use Rattle.pfair_table.specs.declared.pick.Pick.{Pick}
 use Rattle.pfair_table.specs.declared.pick.Decided.{Decided}
 use Rattle.pfair_table.specs.Table.{Table}
+use Rattle.pfair_drawing.specs.declared.frame.Frame.{Frame}
+use Rattle.pfair_drawing.specs.History.{told_before}
+use Rattle.pfair_drawing.specs.Marks.{arrows, join_arrow, refusal_mark, refusals}
 use Rattle.pfair_drawing.specs.Names.{row_of, names_before}
+use Rattle.pfair_drawing.specs.Slots.{decided_at}
 
 -- Each task that runs before `to` has its row: the one whose name is its own.
 abbrev pub RunsHaveRows : Type 0
@@ -14,6 +22,20 @@ RunsHaveRows =
     (decided : List (List Decided)) (tables : List Table) (to t k : ℕ) (table : Table) (p : Pick)
     → t < to → slice_get tables t ≡ Some table → slice_get table k ≡ Some p
     → let names = names_before decided tables to in slice_get names (row_of names p.name) ≡ Some p.name
+
+-- Each task that is admitted at a slot of a figure has its arrow there, in its row.
+abbrev pub AdmissionsHaveArrows : Type 0
+AdmissionsHaveArrows =
+    (f : Frame) (names : List NameValue) (decided : List (List Decided)) (tables : List Table) (slot k : ℕ) (d : Decided) (name : NameValue) (weight : Share) (early : Bool)
+    → f.from ≤ slot → slot < f.to → slice_get (decided_at decided slot) k ≡ Some d → d.announcement ≡ Arrive name weight early → d.decision ≡ Admitted
+    → Contains (arrows f names (told_before decided tables f.to).lives) (join_arrow f (row_of names name) slot)
+
+-- Each announcement that is refused at a slot of a figure has its mark there, in its row and with its number.
+abbrev pub RefusalsHaveMarks : Type 0
+RefusalsHaveMarks =
+    (f : Frame) (names : List NameValue) (decided : List (List Decided)) (slot k : ℕ) (d : Decided) (why : Refusal)
+    → f.from ≤ slot → slot < f.to → slice_get (decided_at decided slot) k ≡ Some d → d.decision ≡ Refused why
+    → (count : ℕ) × Contains (refusals f names decided) (refusal_mark f (row_of names (name_of d.announcement)) slot count why)
 
 -- Two lanes are enough: the window of the next subtask in the same lane opens where this one's closes, or later, also where it is put off.
 abbrev pub TwoLanesAreEnough : Type 0
