@@ -1,6 +1,6 @@
 mod NameFacts
 mod PlacedFacts
 mod SignedFacts
-mod SlotFacts
-mod ToldFacts
+pub mod SlotFacts
+pub mod ToldFacts
 mod WorldFacts
