@@ -1,5 +1,6 @@
 -- What a task name may be.
-use Rattle.std.specs.Prelude.{ℕ, ◌≡◌, ◌<◌, ◌≤◌, ◌==◌, Bool, true, false, nat_le, nat_eq, ◌&&◌, ◌||◌, List, length, slice_index}
+use Rattle.std.specs.Prelude.{ℕ, ◌≡◌, ◌<◌, ◌≤◌, ◌==◌, Bool, true, false, nat_le, nat_eq, ◌&&◌, ◌||◌, List, length, map, slice_index}
+use Rattle.std.specs.List.{IsDistinct}
 use Rattle.std.specs.Cmp.Lexicographic.{pointwise}
 
 -- a name, as a contract sees it: its bytes
@@ -9,6 +10,10 @@ NameValue = List ℕ
 -- the same bytes
 abbrev pub name_eq : NameValue → NameValue → Bool
 name_eq = pointwise nat_eq
+
+-- no two have one name
+abbrev pub NamesApart : {A : Type 0} → (A → NameValue) → List A → Type 0
+NamesApart name xs = IsDistinct name_eq (map name xs)
 
 abbrev pub is_letter : ℕ → Bool
 is_letter byte = nat_le 97 byte && nat_le byte 122

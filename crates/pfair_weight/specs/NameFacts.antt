@@ -1,9 +1,11 @@
 -- The order of names, and when they are equal.
-use Rattle.std.specs.Prelude.{ℕ, ◌≡◌, ◌<◌, ◌↔◌, true, List, [], ◌∷◌, ◌++◌, length, nat_eq}
+use Rattle.std.specs.Prelude.{ℕ, ◌≡◌, ◌<◌, ◌↔◌, true, List, [], ◌∷◌, ◌++◌, length, nat_eq, position, slice_get, Some}
 use Rattle.std.specs.Cmp.Lexicographic.{pointwise, slice_cmp, bytes_decides, texts_ties}
 use Rattle.std.specs.Ordering.{nat_cmp, is_eq}
 use Rattle.std.specs.declared.cmp.Ordering.TheVariants.{Less, Equal}
-use Rattle.std.proofs.Common.{arith, refl, ap, ◌∙◌}
+use Rattle.std.proofs.Common.{arith, refl, sym, ap, ◌∙◌, get_or}
+use Rattle.std.proofs.lemmas.List.Quantifiers.{position-Some}
+use Rattle.std.proofs.lemmas.Option.{slice_get-get_or}
 use Rattle.std.proofs.lemmas.Cmp.{nat_list_cmp_total, tied_itself, nat_cmp_total}
 use Rattle.std.proofs.lemmas.Bool.Decides.{nat_tests}
 
@@ -17,6 +19,12 @@ tied_names a b = (
   (λ tied. (bytes_decides a b).0 (texts_ties a b ∙ ap is_eq tied)),
   (λ same. rw same (tied_itself nat_list_cmp_total b)),
 )
+
+-- the place that is found for a name is its own
+pub name_at : (names : List (List ℕ)) (name : List ℕ) (i : ℕ) → position (pointwise nat_eq name) names ≡ Some i → slice_get names i ≡ Some name
+name_at names name i e =
+    let found = position-Some (pointwise nat_eq name) names i name e in
+    slice_get-get_or names i name found.0 ∙ ap Some (sym ((bytes_decides name (get_or names i name)).0 found.1))
 
 -- a byte ties with itself
 tied_byte : (x : ℕ) → nat_cmp x x ≡ Equal

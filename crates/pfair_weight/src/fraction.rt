@@ -1,5 +1,5 @@
 //! Fractions that grow by addition.
-ghost use Rattle.std.specs.Prelude.{◌≡◌, ◌+◌, ◌*◌, ◌/◌, ◌%◌, ◌≤◌, ◌<◌, ◌^◌};
+ghost use Rattle.std.specs.Prelude.{◌≡◌, ◌+◌, ◌*◌, ◌/◌, ◌%◌, ◌<◌, ◌^◌};
 ghost use Rattle.std.specs.Int.{div_ceil};
 ghost use Rattle.pfair_weight.specs.Ratio.{Ratio, IsSmall};
 

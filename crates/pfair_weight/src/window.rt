@@ -76,7 +76,7 @@ pub fn group_deadline(weight: Weight, index: u64, theta: u64) -> u64
         return deadline(weight, index, theta);
     }
     let close = (index * weight.period()).div_ceil(weight.cost());
-    theta + cascade_end(weight, close)
+    theta + end_of_cascade(weight, close)
 }
 
 /// Whether subtask `index` is the first of a job. Job k of a weight is its subtasks
@@ -91,7 +91,7 @@ pub fn starts_job(weight: Weight, index: u64) -> bool
 
 // The end of the cascade of a heavy weight below 1 that holds the slot before `close`, at offset
 // 0. The products need more than 64 bits.
-fn cascade_end(weight: Weight, close: u64) -> u64
+fn end_of_cascade(weight: Weight, close: u64) -> u64
     requires below_one { weight.cost < weight.period }
     requires close_in_range { close ≤ 1000001000000000 }
     ensures value { result ≡ cascade_end weight close }
