@@ -8,9 +8,8 @@ use Rattle.std.proofs.lemmas.Bool.{cases_lt, eqb-true, eq-eqb}
 use Rattle.std.proofs.lemmas.List.Elements.{Contains-append_cases}
 use Rattle.std.proofs.lemmas.List.Sorted.{sum_by-IsPermutation, Contains-permutation}
 use Rattle.std.proofs.lemmas.List.Sums.{sum_by-append, sum_by-cons, length-filter}
-use Rattle.std.proofs.lemmas.Option.{slice_get_within}
+use Rattle.std.proofs.lemmas.Option.{slice_get_within, same_Some, none-some}
 use Rattle.std.proofs.lemmas.List.{nil_from_length}
-use Rattle.pfair_weight.specs.Options.{some_inj, none_some}
 use Rattle.pfair_order.specs.Rank.{rank, of_rank, first_by_rank}
 use Rattle.pfair_order.proofs.RankLemmas.{IsSplit, place_of, at_place, none_counted, rank_given, rank_rest, each_place}
 
@@ -40,8 +39,8 @@ take_all (x ∷ xs) zero h = absurd (omega arith)
 take_all (x ∷ xs) (suc m) h = ap (λ l. x ∷ l) (take_all xs m (omega arith))
 
 one_at_get : {A : Type 0} (xs : List A) (i : ℕ) (x : A) → slice_get xs i ≡ Some x → one_at xs i ≡ x ∷ []
-one_at_get [] i x e = absurd (none_some x e)
-one_at_get (y ∷ ys) zero x e = ap (λ z. z ∷ []) (some_inj y x e)
+one_at_get [] i x e = absurd (none-some x e)
+one_at_get (y ∷ ys) zero x e = ap (λ z. z ∷ []) (same_Some y x e)
 one_at_get (y ∷ ys) (suc i) x e = one_at_get ys i x e
 
 one_at_past : {A : Type 0} (xs : List A) (i : ℕ) → length xs ≤ i → one_at xs i ≡ []

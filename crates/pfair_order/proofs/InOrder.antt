@@ -10,7 +10,7 @@ use Rattle.std.specs.List.Sorted.{IsPermutation}
 use Rattle.std.proofs.lemmas.List.{take-append-drop}
 use Rattle.std.proofs.lemmas.List.Elements.{All-contains, All-from_recursion}
 use Rattle.std.proofs.lemmas.List.Sorted.{Contains-permutation, IsPermutation-refl, IsPermutation-sym, IsPermutation-cons, IsPermutation-trans, IsPermutation-middle}
-use Rattle.pfair_weight.specs.Options.{some_inj, none_some}
+use Rattle.std.proofs.lemmas.Option.{same_Some, none-some}
 use Rattle.pfair_order.specs.Rank.{first_by_rank, AreFirst, EachOnce}
 use Rattle.pfair_order.proofs.RankLemmas.{Rising, IsSplit, place_of, at_place, first_of_split, first_unique, first_of_permutation, less_of, is_less, is_eq_back, itself_not_before, apart_from_head, count_of_tail}
 use Rattle.pfair_order.proofs.ByRank.{by_rank_of_split}
@@ -25,13 +25,13 @@ in_order R [] = []
 in_order R (x ∷ xs) = put_in R x (in_order R xs)
 
 in_empty : {A : Type 0} (x : A) → Contains [] x → ⊥
-in_empty x c = none_some x (place_of [] x c).1
+in_empty x c = none-some x (place_of [] x c).1
 
 in_cons : {A : Type 0} (y : A) (ys : List A) (x : A) → Contains (y ∷ ys) x → (y ≡ x) ⊎ Contains ys x
 in_cons {A} y ys x c = at (place_of (y ∷ ys) x c).0 (place_of (y ∷ ys) x c).1
   where
     at : (i : ℕ) → slice_get (y ∷ ys) i ≡ Some x → (y ≡ x) ⊎ Contains ys x
-    at zero e = inl (some_inj y x e)
+    at zero e = inl (same_Some y x e)
     at (suc i) e = inr (at_place ys i x e)
 
 in_head : {A : Type 0} (y : A) (ys : List A) → Contains (y ∷ ys) y

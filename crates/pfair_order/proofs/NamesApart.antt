@@ -1,33 +1,31 @@
 -- Keys of different names stand once, and so do the names of the first.
-use Rattle.std.proofs.Common.{◌≡◌, ◌≢◌, ℕ, suc, ◌+◌, ◌<◌, ◌≤◌, inl, inr, true, false, cond, List, [], ◌∷◌, length, refl, sym, ap, ◌∙◌, arith, get_or, Some}
+use Rattle.std.proofs.Common.{◌≡◌, ◌≢◌, ℕ, ◌+◌, ◌<◌, ◌≤◌, inl, inr, true, false, cond, List, [], ◌∷◌, length, refl, sym, ap, ◌∙◌, arith, get_or, Some}
 use Rattle.std.specs.Prelude.{AllPairs}
 use Rattle.std.specs.List.{count_by, slice_get}
 use Rattle.std.specs.Ordering.{is_eq}
-use Rattle.std.proofs.lemmas.Bool.{cases_lt}
+use Rattle.std.proofs.lemmas.Bool.{cases_lt, true≢false, false_from_ne_true}
+use Rattle.std.specs.Cmp.Lexicographic.{bytes_decides}
 use Rattle.std.proofs.lemmas.List.Sums.{sum_by-cons}
-use Rattle.std.proofs.lemmas.Option.{slice_get_within, slice_get-get_or}
+use Rattle.std.proofs.lemmas.Option.{slice_get_within, slice_get-get_or, same_Some}
 use Rattle.std.specs.Cmp.{Equal-is}
-use Rattle.pfair_weight.specs.Options.{some_inj}
+use Rattle.pfair_weight.specs.Name.{name_eq, NamesApart}
+use Rattle.pfair_weight.proofs.NamesApart.{apart_head, apart_tail, pairs_from_apart, apart_from_pairs}
 use Rattle.pfair_order.specs.declared.Key.{Key}
 use Rattle.pfair_order.specs.Order.{pd2_cmp}
 use Rattle.pfair_order.specs.Rank.{rank, first_by_rank, AreFirst, EachOnce}
 use Rattle.pfair_order.proofs.KeyLaws.{keys_total, keys_exact}
-use Rattle.pfair_order.proofs.RankLemmas.{each_place, none_counted, place_of}
+use Rattle.pfair_order.proofs.RankLemmas.{each_place, at_each, none_counted, place_of}
 use Rattle.pfair_order.proofs.InOrder.{by_rank_first}
 
--- no two have one name
-abbrev NamesApart : List Key → Type 0
-NamesApart keys = AllPairs (λ k l. k.name ≢ l.name) keys
-
 -- the names at two places differ
-apart_at : (keys : List Key) → NamesApart keys → (i j : ℕ) (k l : Key) → slice_get keys i ≡ Some k → slice_get keys j ≡ Some l → i < j → k.name ≢ l.name
+apart_at : (keys : List Key) → AllPairs (λ k l. k.name ≢ l.name) keys → (i j : ℕ) (k l : Key) → slice_get keys i ≡ Some k → slice_get keys j ≡ Some l → i < j → k.name ≢ l.name
 apart_at keys names i j k l e f earlier same =
     let within : j < length keys = slice_get_within keys j l f in
-    let there : k ≡ get_or keys i k = some_inj k (get_or keys i k) (sym e ∙ slice_get-get_or keys i k (omega arith)) in
-    let there' : l ≡ get_or keys j k = some_inj l (get_or keys j k) (sym f ∙ slice_get-get_or keys j k within) in
+    let there : k ≡ get_or keys i k = same_Some k (get_or keys i k) (sym e ∙ slice_get-get_or keys i k (omega arith)) in
+    let there' : l ≡ get_or keys j k = same_Some l (get_or keys j k) (sym f ∙ slice_get-get_or keys j k within) in
     names i j k earlier within (ap (λ (x : Key). x.name) (sym there) ∙ same ∙ ap (λ (x : Key). x.name) there')
 
-same_place : (keys : List Key) → NamesApart keys → (i j : ℕ) (k l : Key) → slice_get keys i ≡ Some k → slice_get keys j ≡ Some l → k.name ≡ l.name → i ≡ j
+same_place : (keys : List Key) → AllPairs (λ k l. k.name ≢ l.name) keys → (i j : ℕ) (k l : Key) → slice_get keys i ≡ Some k → slice_get keys j ≡ Some l → k.name ≡ l.name → i ≡ j
 same_place keys names i j k l e f same =
     elim (cases_lt i j) [
       | inl less ↦ absurd (apart_at keys names i j k l e f less same)
@@ -37,42 +35,38 @@ same_place keys names i j k l e f same =
       ]
     ]
 
-apart_tail : (x : Key) (xs : List Key) → NamesApart (x ∷ xs) → NamesApart xs
-apart_tail x xs names i j d earlier within = names (suc i) (suc j) d (omega arith) (omega arith)
-
-pub once_from_names : (keys : List Key) → NamesApart keys → EachOnce pd2_cmp keys
-once_from_names [] names k = omega arith
-once_from_names (x ∷ xs) names k =
-    let rest : count_by (λ y. is_eq (pd2_cmp y k)) xs ≤ 1 = once_from_names xs (apart_tail x xs names) k in
+pub once_from_names : (keys : List Key) → NamesApart (λ (k : Key). k.name) keys → EachOnce pd2_cmp keys
+once_from_names [] apart k = omega arith
+once_from_names (x ∷ xs) apart k =
+    let rest : count_by (λ y. is_eq (pd2_cmp y k)) xs ≤ 1 = once_from_names xs (apart_tail (λ (k : Key). k.name) x xs apart) k in
     let sum : count_by (λ y. is_eq (pd2_cmp y k)) (x ∷ xs) ≡ cond (is_eq (pd2_cmp x k)) 1 0 + count_by (λ y. is_eq (pd2_cmp y k)) xs = sum_by-cons (λ y. cond (is_eq (pd2_cmp y k)) 1 0) x xs in
     let bound : cond (is_eq (pd2_cmp x k)) 1 0 + count_by (λ y. is_eq (pd2_cmp y k)) xs ≤ 1 =
     elim (is_eq (pd2_cmp x k)) as (λ b. is_eq (pd2_cmp x k) ≡ b → cond b 1 0 + count_by (λ y. is_eq (pd2_cmp y k)) xs ≤ 1) [
       | true ↦ λ t.
           let none : count_by (λ y. is_eq (pd2_cmp y k)) xs ≡ 0 =
           none_counted (λ y. is_eq (pd2_cmp y k)) xs (each_place (λ y. is_eq (pd2_cmp y k) ≡ false) xs (λ i y e.
-          elim (is_eq (pd2_cmp y k)) as (λ b. is_eq (pd2_cmp y k) ≡ b → b ≡ false) [
-            | true ↦ λ u. absurd (apart_at (x ∷ xs) names 0 (suc i) x y refl e (omega arith)
-                (ap (λ (z : Key). z.name) (keys_exact x k ((Equal-is (pd2_cmp x k)).0 t) ∙ sym (keys_exact y k ((Equal-is (pd2_cmp y k)).0 u)))))
-            | false ↦ λ _. refl
-          ] refl)) in
+          false_from_ne_true (is_eq (pd2_cmp y k)) (λ u.
+          let one : x ≡ y = keys_exact x k ((Equal-is (pd2_cmp x k)).0 t) ∙ sym (keys_exact y k ((Equal-is (pd2_cmp y k)).0 u)) in
+          true≢false (sym ((bytes_decides x.name y.name).1 (ap (λ (z : Key). z.name) one)) ∙ at_each (λ (z : Key). name_eq x.name z.name ≡ false) xs i y (apart_head (λ (k : Key). k.name) x xs apart) e)))) in
           omega arith
       | false ↦ λ _. omega arith
     ] refl in
     omega arith
 
 -- no two of the first have one name
-pub first_names : (m : ℕ) (keys : List Key) → NamesApart keys → NamesApart (first_by_rank pd2_cmp m keys)
-first_names m keys names i j d earlier within same =
+pub first_names : (m : ℕ) (keys : List Key) → NamesApart (λ (k : Key). k.name) keys → NamesApart (λ (k : Key). k.name) (first_by_rank pd2_cmp m keys)
+first_names m keys apart =
     let first : List Key = first_by_rank pd2_cmp m keys in
-    let a : AreFirst pd2_cmp m keys first = by_rank_first keys_total m keys (once_from_names keys names) in
+    apart_from_pairs (λ (k : Key). k.name) first (λ i j d earlier within same.
+    let a : AreFirst pd2_cmp m keys first = by_rank_first keys_total m keys (once_from_names keys apart) in
     let here = a.at_rank i (get_or first i d) (slice_get-get_or first i d (omega arith)) in
     let later = a.at_rank j (get_or first j d) (slice_get-get_or first j d within) in
     let from = place_of keys (get_or first i d) here.0 in
     let from' = place_of keys (get_or first j d) later.0 in
-    let place : from.0 ≡ from'.0 = same_place keys names from.0 from'.0 (get_or first i d) (get_or first j d) from.1 from'.1 same in
+    let place : from.0 ≡ from'.0 = same_place keys (pairs_from_apart (λ (k : Key). k.name) keys apart) from.0 from'.0 (get_or first i d) (get_or first j d) from.1 from'.1 same in
     let one : get_or first i d ≡ get_or first j d =
-    some_inj (get_or first i d) (get_or first j d) (sym from.1 ∙ ap (slice_get keys) place ∙ from'.1) in
+    same_Some (get_or first i d) (get_or first j d) (sym from.1 ∙ ap (slice_get keys) place ∙ from'.1) in
     let ranks : rank pd2_cmp keys (get_or first i d) ≡ rank pd2_cmp keys (get_or first j d) = ap (rank pd2_cmp keys) one in
     let low : rank pd2_cmp keys (get_or first i d) ≡ i = here.1 in
     let high : rank pd2_cmp keys (get_or first j d) ≡ j = later.1 in
-    omega arith
+    omega arith)

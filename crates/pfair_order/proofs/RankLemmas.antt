@@ -9,11 +9,10 @@ use Rattle.std.specs.List.Sorted.{IsPermutation, IsSortedBy}
 use Rattle.std.proofs.lemmas.List.Sorted.{sum_by-IsPermutation, Contains-permutation, IsPermutation-sym, IsPermutation-trans, IsPermutation-append_right, All-permutation, sorted_far, ranks_by}
 use Rattle.std.proofs.lemmas.List.Sums.{sum_by-append, sum_by-cons}
 use Rattle.std.proofs.lemmas.List.Elements.{Contains-append_left, Contains-append_cases, recursion_from_All, All-from_recursion, All-from_get_or}
-use Rattle.std.proofs.lemmas.Option.{slice_get_within, slice_get-get_or}
+use Rattle.std.proofs.lemmas.Option.{slice_get_within, slice_get-get_or, same_Some, none-some}
 use Rattle.std.specs.Prelude.{nat_le}
 use Rattle.std.specs.Cmp.{alike_right}
 use Rattle.std.proofs.lemmas.Bool.{leb-true, leb-false}
-use Rattle.pfair_weight.specs.Options.{some_inj, none_some}
 use Rattle.pfair_order.specs.Rank.{rank, AreFirst, EachOnce}
 
 -- an element of a list stands at some place, and the other way round
@@ -21,16 +20,16 @@ pub place_of : {A : Type 0} (xs : List A) (x : A) → Contains xs x → (i : ℕ
 place_of xs x (i, within, is) = (i, slice_get-get_or xs i x within ∙ ap Some is)
 
 pub at_place : {A : Type 0} (xs : List A) (i : ℕ) (x : A) → slice_get xs i ≡ Some x → Contains xs x
-at_place [] i x e = absurd (none_some x e)
-at_place (y ∷ ys) zero x e = (0, omega arith, some_inj y x e)
+at_place [] i x e = absurd (none-some x e)
+at_place (y ∷ ys) zero x e = (0, omega arith, same_Some y x e)
 at_place (y ∷ ys) (suc i) x e =
     let rest = at_place ys i x e in
     (suc rest.0, omega (arith, rest.1), rest.2)
 
 -- what holds of each element holds at each place
 pub at_each : {A : Type 0} (P : A → Type 0) (xs : List A) (i : ℕ) (x : A) → AllByRecursion P xs → slice_get xs i ≡ Some x → P x
-at_each P [] i x h e = absurd (none_some x e)
-at_each P (y ∷ ys) zero x h e = subst P (some_inj y x e) h.0
+at_each P [] i x h e = absurd (none-some x e)
+at_each P (y ∷ ys) zero x h e = subst P (same_Some y x e) h.0
 at_each P (y ∷ ys) (suc i) x h e = at_each P ys i x h.1 e
 
 -- what holds at each place holds of each element
@@ -52,10 +51,10 @@ all_counted p (x ∷ xs) h = count_cons p x xs (length xs) (all_counted p xs h.1
 -- lists with the same elements at the same places are one
 pub same_places : {A : Type 0} (xs ys : List A) → ((i : ℕ) (x : A) → slice_get xs i ≡ Some x → slice_get ys i ≡ Some x) → ((i : ℕ) (x : A) → slice_get ys i ≡ Some x → slice_get xs i ≡ Some x) → xs ≡ ys
 same_places [] [] f g = refl
-same_places [] (y ∷ ys) f g = absurd (none_some y (g 0 y refl))
-same_places (x ∷ xs) [] f g = absurd (none_some x (f 0 x refl))
+same_places [] (y ∷ ys) f g = absurd (none-some y (g 0 y refl))
+same_places (x ∷ xs) [] f g = absurd (none-some x (f 0 x refl))
 same_places (x ∷ xs) (y ∷ ys) f g =
-    ap (λ z. z ∷ xs) (sym (some_inj y x (f 0 x refl))) ∙ ap (λ l. y ∷ l) (same_places xs ys (λ i z e. f (suc i) z e) (λ i z e. g (suc i) z e))
+    ap (λ z. z ∷ xs) (sym (same_Some y x (f 0 x refl))) ∙ ap (λ l. y ∷ l) (same_places xs ys (λ i z e. f (suc i) z e) (λ i z e. g (suc i) z e))
 
 -- each key goes before all later ones
 abbrev pub Rising : {K : Type 0} → (K → K → Ordering) → List K → Type 0
@@ -82,9 +81,9 @@ module _ {K : Type 0} {R : K → K → Ordering} (o : IsTotalOrder R) where
 
   -- a key of a rising list has its place as its rank there
   pub rank_rising : (xs : List K) (i : ℕ) (k : K) → Rising R xs → slice_get xs i ≡ Some k → rank R xs k ≡ i
-  rank_rising [] i k h e = absurd (none_some k e)
+  rank_rising [] i k h e = absurd (none-some k e)
   rank_rising (x ∷ xs) zero k h e =
-      subst (λ v. rank R (x ∷ xs) v ≡ 0) (some_inj x k e) (count_cons (λ y. is_lt (R y x)) x xs 0 (none_counted (λ y. is_lt (R y x)) xs (none_back x xs h.0)) ∙ rw (itself_not_before x) refl)
+      subst (λ v. rank R (x ∷ xs) v ≡ 0) (same_Some x k e) (count_cons (λ y. is_lt (R y x)) x xs 0 (none_counted (λ y. is_lt (R y x)) xs (none_back x xs h.0)) ∙ rw (itself_not_before x) refl)
   rank_rising (x ∷ xs) (suc i) k h e =
       let before : R x k ≡ Less = at_each (λ y. R x y ≡ Less) xs i k h.0 e in
       let rest : rank R xs k ≡ i = rank_rising xs i k h.1 e in
@@ -124,7 +123,7 @@ module _ {K : Type 0} {R : K → K → Ordering} (o : IsTotalOrder R) where
       rw (rank_parts keys given rest k s.parts) (rw own (omega arith))
 
   no_rest : (rest : List K) (k : K) → rest ≡ [] → Contains rest k → ⊥
-  no_rest rest k e c = subst (λ l. Contains l k → ⊥) (sym e) (λ (d : Contains [] k). none_some k (place_of [] k d).1) c
+  no_rest rest k e c = subst (λ l. Contains l k → ⊥) (sym e) (λ (d : Contains [] k). none-some k (place_of [] k d).1) c
 
   -- what is given is the first m, where it is not more than m, and less than m only where nothing is left
   pub first_of_split : (m : ℕ) (keys given rest : List K) → IsSplit keys given rest → length given ≤ m → (length given < m → rest ≡ []) → AreFirst R m keys given

@@ -1,8 +1,9 @@
 //! Laws of the PD2 order, and of the first keys among some keys. Each function does nothing: its
 //! contract is the law.
 
-ghost use Rattle.std.specs.Prelude.{◌≡◌, ◌≢◌, ◌≤◌, ◌⊎◌, ◌↔◌, ℕ, List, length, true, AllPairs, Contains, IsPermutation};
+ghost use Rattle.std.specs.Prelude.{◌≡◌, ◌≤◌, ◌⊎◌, ◌↔◌, ℕ, List, length, true, AllPairs, Contains, IsPermutation};
 ghost use Rattle.std.specs.declared.cmp.Ordering.TheVariants.{Less, Equal};
+ghost use Rattle.pfair_weight.specs.Name.{NamesApart};
 ghost use Rattle.pfair_order.specs.declared.Key.{Key};
 ghost use Rattle.pfair_order.specs.Order.{pd2_cmp, GoesBefore};
 ghost use Rattle.pfair_order.specs.Rank.{first_by_rank, AreFirst, EachOnce};
@@ -50,7 +51,7 @@ pub fn first_keys_are_by_rank()
 /// Keys of different names stand once each.
 pub fn keys_of_different_names_stand_once()
     ensures { (keys : List Key) →
-        AllPairs (λ k l. k.name ≢ l.name) keys → EachOnce pd2_cmp keys }
+        NamesApart (λ k. k.name) keys → EachOnce pd2_cmp keys }
 {}
 
 /// The first m keys are at most m.
@@ -71,8 +72,8 @@ pub fn first_keys_rise()
 
 /// No two of the first m keys have one name, where no two of the keys have one.
 pub fn first_keys_have_different_names()
-    ensures { (m : ℕ) (keys : List Key) → AllPairs (λ k l. k.name ≢ l.name) keys →
-        AllPairs (λ k l. k.name ≢ l.name) (first_by_rank pd2_cmp m keys) }
+    ensures { (m : ℕ) (keys : List Key) → NamesApart (λ k. k.name) keys →
+        NamesApart (λ k. k.name) (first_by_rank pd2_cmp m keys) }
 {}
 
 /// Which keys are the first m does not depend on the order in which the keys are listed.
