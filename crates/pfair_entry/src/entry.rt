@@ -1,5 +1,5 @@
 //! The entries of a log.
-ghost use Rattle.std.specs.Prelude.{◌≡◌, ◌≤◌, IfOk, IfErr, OnOk};
+ghost use Rattle.std.specs.Prelude.{◌≡◌, IfOk, IfErr, OnOk};
 ghost use Rattle.pfair_entry.specs.Entry.{IsEntry, IsWithinLimits};
 ghost use Rattle.pfair_entry.specs.EntryFault.{IsFaultOf, IsLimitFaultOf, entry_fault_number};
 

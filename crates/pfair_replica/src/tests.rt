@@ -19,6 +19,14 @@ fn take(x: &mut Replica, processor: u8, number: u32, entry: Entry) -> Result<Tak
     x.take(processor, number, entry)
 }
 
+// Takes entries, each by its processor and its number.
+fn take_all(x: &mut Replica, entries: &[(u8, u32, Entry)]) -> Result<(), TakeFault> {
+    for (processor, number, entry) in entries {
+        take(x, *processor, *number, *entry)?;
+    }
+    Ok(())
+}
+
 // The merge of two replicas.
 fn merged(rt: &impl Abort, x: &Replica, y: &Replica) -> Result<Replica, MergeFault> {
     let mut now = x.copy()?;
@@ -36,31 +44,32 @@ fn departs(rt: &impl Abort, floor: u64, stamp: u64, name: TaskName) -> Entry {
     Entry::new(floor, Some((stamp, Announcement::Depart { name }))).expect(rt, "an entry")
 }
 
-#[test]
-fn a_gap_holds_the_mark_back(rt: HostRuntime) -> Result<(), Fail> {
-    let mut x = Replica::new(rt.alloc(), 1, 4)?;
-    take(&mut x, 0, 1, floor(&rt, 4))?;
-    take(&mut x, 0, 3, floor(&rt, 9))?;
-    assert_eq!(&rt; x.mark(0), 4);
-    assert_eq!(&rt; x.missing(0), Some(2));
-    take(&mut x, 0, 2, floor(&rt, 6))?;
-    assert_eq!(&rt; x.mark(0), 9);
-    assert_eq!(&rt; x.frontier(), 9);
-    assert_eq!(&rt; x.missing(0), Some(4));
+fn fills_a_gap(rt: &impl Abort, x: &mut Replica) -> Result<(), Fail> {
+    let held = [(0, 1, floor(rt, 4)), (0, 3, floor(rt, 9))];
+    take_all(x, held.as_slice())?;
+    assert_eq!(rt; x.mark(0), 4);
+    assert_eq!(rt; x.missing(0), Some(2));
+    take(x, 0, 2, floor(rt, 6))?;
+    assert_eq!(rt; x.mark(0), 9);
+    assert_eq!(rt; x.frontier(), 9);
+    assert_eq!(rt; x.missing(0), Some(4));
     Ok(())
 }
 
 #[test]
-fn a_fallen_floor_ends_the_beginning(rt: HostRuntime) -> Result<(), Fail> {
-    let mut x = Replica::new(rt.alloc(), 2, 2)?;
-    take(&mut x, 0, 1, floor(&rt, 5))?;
-    take(&mut x, 0, 2, floor(&rt, 4))?;
-    assert_eq!(&rt; x.mark(0), 5);
-    assert_eq!(&rt; x.frontier(), 0);
-    assert_eq!(&rt; x.missing(0), None);
+fn a_gap_holds_the_mark_back(rt: HostRuntime) -> Result<(), Fail> {
+    fills_a_gap(&rt, &mut Replica::new(rt.alloc(), 1, 4)?)
+}
+
+fn takes_a_fallen_floor(rt: &impl Abort, x: &mut Replica) -> Result<(), Fail> {
+    let held = [(0, 1, floor(rt, 5)), (0, 2, floor(rt, 4))];
+    take_all(x, held.as_slice())?;
+    assert_eq!(rt; x.mark(0), 5);
+    assert_eq!(rt; x.frontier(), 0);
+    assert_eq!(rt; x.missing(0), None);
     let faults = x.faults()?;
-    assert_eq!(&rt; faults.torn.len(), 0);
-    assert_eq!(&rt;
+    assert_eq!(rt; faults.torn.len(), 0);
+    assert_eq!(rt;
         faults.fallen.as_slice(),
         [EntryKey {
             processor: 0,
@@ -72,37 +81,48 @@ fn a_fallen_floor_ends_the_beginning(rt: HostRuntime) -> Result<(), Fail> {
 }
 
 #[test]
-fn two_contents_tear_a_key(rt: HostRuntime) -> Result<(), Fail> {
-    let mut x = Replica::new(rt.alloc(), 1, 4)?;
-    assert_eq!(&rt; take(&mut x, 0, 1, floor(&rt, 3)), Ok(Taken::New));
-    assert_eq!(&rt; take(&mut x, 0, 1, floor(&rt, 3)), Ok(Taken::Known));
-    assert_eq!(&rt; x.first_torn(), None);
-    assert_eq!(&rt; take(&mut x, 0, 2, floor(&rt, 5)), Ok(Taken::New));
-    assert_eq!(&rt; take(&mut x, 0, 2, floor(&rt, 6)), Ok(Taken::Torn));
-    assert_eq!(&rt; take(&mut x, 0, 2, floor(&rt, 5)), Ok(Taken::Torn));
-    assert_eq!(&rt; x.mark(0), 3);
+fn a_fallen_floor_ends_the_beginning(rt: HostRuntime) -> Result<(), Fail> {
+    takes_a_fallen_floor(&rt, &mut Replica::new(rt.alloc(), 2, 2)?)
+}
+
+fn tears_a_key(rt: &impl Abort, x: &mut Replica) -> Result<(), Fail> {
+    assert_eq!(rt; take(x, 0, 1, floor(rt, 3)), Ok(Taken::New));
+    assert_eq!(rt; take(x, 0, 1, floor(rt, 3)), Ok(Taken::Known));
+    assert_eq!(rt; x.first_torn(), None);
+    assert_eq!(rt; take(x, 0, 2, floor(rt, 5)), Ok(Taken::New));
+    assert_eq!(rt; take(x, 0, 2, floor(rt, 6)), Ok(Taken::Torn));
+    assert_eq!(rt; take(x, 0, 2, floor(rt, 5)), Ok(Taken::Torn));
+    assert_eq!(rt; x.mark(0), 3);
     let torn = EntryKey {
         processor: 0,
         number: 2,
     };
-    assert_eq!(&rt; x.first_torn(), Some(torn));
+    assert_eq!(rt; x.first_torn(), Some(torn));
     let faults = x.faults()?;
-    assert_eq!(&rt; faults.torn.as_slice(), [torn].as_slice());
-    assert_eq!(&rt; faults.fallen.len(), 0);
+    assert_eq!(rt; faults.torn.as_slice(), [torn].as_slice());
+    assert_eq!(rt; faults.fallen.len(), 0);
+    Ok(())
+}
+
+#[test]
+fn two_contents_tear_a_key(rt: HostRuntime) -> Result<(), Fail> {
+    tears_a_key(&rt, &mut Replica::new(rt.alloc(), 1, 4)?)
+}
+
+fn refuses_keys_out_of_range(rt: &impl Abort, x: &mut Replica) -> Result<(), Fail> {
+    let entry = floor(rt, 3);
+    assert_eq!(rt; take(x, 1, 1, entry), Err(TakeFault::NoSuchProcessor));
+    assert_eq!(rt; take(x, 1, 2, entry), Err(TakeFault::NoSuchProcessor));
+    assert_eq!(rt; take(x, 0, 0, entry), Err(TakeFault::NumberOutOfRange));
+    assert_eq!(rt; take(x, 0, 2, entry), Err(TakeFault::NumberOutOfRange));
+    assert_eq!(rt; x.processors(), 1);
+    assert_eq!(rt; x.capacity(), 1);
     Ok(())
 }
 
 #[test]
 fn keys_out_of_range_are_refused(rt: HostRuntime) -> Result<(), Fail> {
-    let mut x = Replica::new(rt.alloc(), 1, 1)?;
-    let entry = floor(&rt, 3);
-    assert_eq!(&rt; take(&mut x, 1, 1, entry), Err(TakeFault::NoSuchProcessor));
-    assert_eq!(&rt; take(&mut x, 1, 2, entry), Err(TakeFault::NoSuchProcessor));
-    assert_eq!(&rt; take(&mut x, 0, 0, entry), Err(TakeFault::NumberOutOfRange));
-    assert_eq!(&rt; take(&mut x, 0, 2, entry), Err(TakeFault::NumberOutOfRange));
-    assert_eq!(&rt; x.processors(), 1);
-    assert_eq!(&rt; x.capacity(), 1);
-    Ok(())
+    refuses_keys_out_of_range(&rt, &mut Replica::new(rt.alloc(), 1, 1)?)
 }
 
 #[test]
@@ -146,31 +166,36 @@ fn halves_merge_to_the_whole(rt: HostRuntime) -> Result<(), Fail> {
     Ok(())
 }
 
-#[test]
-fn an_agenda_has_what_is_said_by_slot(rt: HostRuntime) -> Result<(), Fail> {
-    let name = TaskName::from_bytes(b"a").expect(&rt, "a name");
-    let other = TaskName::from_bytes(b"b").expect(&rt, "a name");
-    let mut x = Replica::new(rt.alloc(), 2, 4)?;
-    take(&mut x, 0, 1, departs(&rt, 0, 3, name))?;
-    take(&mut x, 0, 2, departs(&rt, 2, 5, name))?;
-    // its floor fell
-    take(&mut x, 0, 3, departs(&rt, 1, 5, other))?;
-    take(&mut x, 1, 1, departs(&rt, 1, 3, other))?;
-    take(&mut x, 1, 2, departs(&rt, 3, 3, name))?;
-    // number 3 is missing
-    take(&mut x, 1, 4, departs(&rt, 3, 5, other))?;
+fn says_by_slot(rt: &impl Abort, alloc: Global, x: &mut Replica) -> Result<(), Fail> {
+    let name = TaskName::from_bytes(b"a").expect(rt, "a name");
+    let other = TaskName::from_bytes(b"b").expect(rt, "a name");
+    // the floor of (0, 3) fell, and (1, 3) is missing
+    let held = [
+        (0, 1, departs(rt, 0, 3, name)),
+        (0, 2, departs(rt, 2, 5, name)),
+        (0, 3, departs(rt, 1, 5, other)),
+        (1, 1, departs(rt, 1, 3, other)),
+        (1, 2, departs(rt, 3, 3, name)),
+        (1, 4, departs(rt, 3, 5, other)),
+    ];
+    take_all(x, held.as_slice())?;
     let agenda = x.agenda()?;
-    assert_eq!(&rt;
+    assert_eq!(rt;
         agenda.at(3),
         [said(0, 1, name), said(1, 1, other), said(1, 2, name)].as_slice()
     );
-    assert_eq!(&rt; agenda.at(5), [said(0, 2, name)].as_slice());
-    assert!(&rt; agenda.at(4).is_empty());
-    assert!(&rt; agenda.at(0).is_empty());
-    let mut behind = Agenda::new(rt.alloc());
+    assert_eq!(rt; agenda.at(5), [said(0, 2, name)].as_slice());
+    assert!(rt; agenda.at(4).is_empty());
+    assert!(rt; agenda.at(0).is_empty());
+    let mut behind = Agenda::new(alloc);
     x.note_said(1, 1, &mut behind)?;
-    assert_eq!(&rt; behind.at(3), [said(1, 2, name)].as_slice());
+    assert_eq!(rt; behind.at(3), [said(1, 2, name)].as_slice());
     Ok(())
+}
+
+#[test]
+fn an_agenda_has_what_is_said_by_slot(rt: HostRuntime) -> Result<(), Fail> {
+    says_by_slot(&rt, rt.alloc(), &mut Replica::new(rt.alloc(), 2, 4)?)
 }
 
 fn said(processor: u8, number: u32, name: TaskName) -> Said {
@@ -181,9 +206,12 @@ fn said(processor: u8, number: u32, name: TaskName) -> Said {
     }
 }
 
-// Adds a departure to an agenda.
-fn push(agenda: &mut Agenda, slot: u64, number: u32, name: TaskName) -> Result<(), AllocError> {
-    agenda.push(slot, 0, number, Announcement::Depart { name })
+// Adds departures to an agenda, each by its slot and its number.
+fn push_all(agenda: &mut Agenda, departures: &[(u64, u32, TaskName)]) -> Result<(), AllocError> {
+    for (slot, number, name) in departures {
+        agenda.push(*slot, 0, *number, Announcement::Depart { name: *name })?;
+    }
+    Ok(())
 }
 
 #[test]
@@ -192,9 +220,10 @@ fn an_agenda_grows_piece_by_piece(rt: HostRuntime) -> Result<(), Fail> {
     let other = TaskName::from_bytes(b"b").expect(&rt, "a name");
     let mut agenda = Agenda::new(rt.alloc());
     assert!(&rt; agenda.at(3).is_empty());
-    push(&mut agenda, 3, 2, name)?;
-    push(&mut agenda, 5, 1, name)?;
-    push(&mut agenda, 3, 1, other)?;
+    push_all(
+        &mut agenda,
+        [(3, 2, name), (5, 1, name), (3, 1, other)].as_slice(),
+    )?;
     assert_eq!(&rt;
         agenda.at(3),
         [said(0, 2, name), said(0, 1, other)].as_slice()
@@ -226,42 +255,54 @@ fn faults_have_their_texts(rt: HostRuntime) -> Result<(), Fail> {
     Ok(())
 }
 
-#[test]
-fn a_torn_number_takes_the_mark_back(rt: HostRuntime) -> Result<(), Fail> {
-    let mut x = Replica::new(rt.alloc(), 1, 4)?;
-    take(&mut x, 0, 1, floor(&rt, 2))?;
-    take(&mut x, 0, 2, floor(&rt, 3))?;
-    take(&mut x, 0, 3, floor(&rt, 5))?;
-    assert_eq!(&rt; x.mark(0), 5);
-    assert_eq!(&rt; take(&mut x, 0, 2, floor(&rt, 4)), Ok(Taken::Torn));
-    assert_eq!(&rt; x.mark(0), 2);
+fn tears_the_beginning(rt: &impl Abort, x: &mut Replica) -> Result<(), Fail> {
+    let held = [
+        (0, 1, floor(rt, 2)),
+        (0, 2, floor(rt, 3)),
+        (0, 3, floor(rt, 5)),
+    ];
+    take_all(x, held.as_slice())?;
+    assert_eq!(rt; x.mark(0), 5);
+    assert_eq!(rt; take(x, 0, 2, floor(rt, 4)), Ok(Taken::Torn));
+    assert_eq!(rt; x.mark(0), 2);
     let faults = x.faults()?;
     let torn = EntryKey {
         processor: 0,
         number: 2,
     };
-    assert_eq!(&rt; faults.torn.as_slice(), [torn].as_slice());
-    assert_eq!(&rt; faults.fallen.len(), 0);
+    assert_eq!(rt; faults.torn.as_slice(), [torn].as_slice());
+    assert_eq!(rt; faults.fallen.len(), 0);
     Ok(())
 }
 
 #[test]
-fn a_filled_gap_carries_the_mark_on(rt: HostRuntime) -> Result<(), Fail> {
-    let mut x = Replica::new(rt.alloc(), 1, 4)?;
-    take(&mut x, 0, 1, floor(&rt, 2))?;
-    take(&mut x, 0, 3, floor(&rt, 5))?;
-    take(&mut x, 0, 4, floor(&rt, 4))?;
-    assert_eq!(&rt; x.mark(0), 2);
-    take(&mut x, 0, 2, floor(&rt, 3))?;
-    assert_eq!(&rt; x.mark(0), 5);
+fn a_torn_number_takes_the_mark_back(rt: HostRuntime) -> Result<(), Fail> {
+    tears_the_beginning(&rt, &mut Replica::new(rt.alloc(), 1, 4)?)
+}
+
+fn carries_the_mark_on(rt: &impl Abort, x: &mut Replica) -> Result<(), Fail> {
+    let held = [
+        (0, 1, floor(rt, 2)),
+        (0, 3, floor(rt, 5)),
+        (0, 4, floor(rt, 4)),
+    ];
+    take_all(x, held.as_slice())?;
+    assert_eq!(rt; x.mark(0), 2);
+    take(x, 0, 2, floor(rt, 3))?;
+    assert_eq!(rt; x.mark(0), 5);
     let faults = x.faults()?;
     let fallen = EntryKey {
         processor: 0,
         number: 4,
     };
-    assert_eq!(&rt; faults.fallen.as_slice(), [fallen].as_slice());
-    assert_eq!(&rt; faults.torn.len(), 0);
+    assert_eq!(rt; faults.fallen.as_slice(), [fallen].as_slice());
+    assert_eq!(rt; faults.torn.len(), 0);
     Ok(())
+}
+
+#[test]
+fn a_filled_gap_carries_the_mark_on(rt: HostRuntime) -> Result<(), Fail> {
+    carries_the_mark_on(&rt, &mut Replica::new(rt.alloc(), 1, 4)?)
 }
 
 // Takes the entries 4096 to 2 of a log, last first, each with its number as floor.
@@ -312,26 +353,32 @@ fn key(processor: u8, number: u32) -> EntryKey {
     EntryKey { processor, number }
 }
 
-#[test]
-fn a_large_replica_has_faults(rt: HostRuntime) -> Result<(), Fail> {
-    let mut x = large(&rt, rt.alloc())?;
-    take(&mut x, 63, 1, floor(&rt, 1))?;
-    take(&mut x, 40, 4096, floor(&rt, 1))?;
-    take(&mut x, 62, 2, floor(&rt, 4999))?;
-    take(&mut x, 0, 2, floor(&rt, 0))?;
+fn has_two_torn_and_two_fallen(rt: &impl Abort, x: &mut Replica) -> Result<(), Fail> {
+    let more = [
+        (63, 1, floor(rt, 1)),
+        (40, 4096, floor(rt, 1)),
+        (62, 2, floor(rt, 4999)),
+        (0, 2, floor(rt, 0)),
+    ];
+    take_all(x, more.as_slice())?;
     let faults = x.faults()?;
-    assert_eq!(&rt;
+    assert_eq!(rt;
         faults.torn.as_slice(),
         [key(40, 4096), key(63, 1)].as_slice()
     );
-    assert_eq!(&rt;
+    assert_eq!(rt;
         faults.fallen.as_slice(),
         [key(0, 2), key(62, 2)].as_slice()
     );
-    assert_eq!(&rt; x.mark(40), 4095);
-    assert_eq!(&rt; x.mark(62), 5000);
-    assert_eq!(&rt; x.frontier(), 0);
+    assert_eq!(rt; x.mark(40), 4095);
+    assert_eq!(rt; x.mark(62), 5000);
+    assert_eq!(rt; x.frontier(), 0);
     Ok(())
+}
+
+#[test]
+fn a_large_replica_has_faults(rt: HostRuntime) -> Result<(), Fail> {
+    has_two_torn_and_two_fallen(&rt, &mut large(&rt, rt.alloc())?)
 }
 
 // A walk by a linear rule, and what it came through.
