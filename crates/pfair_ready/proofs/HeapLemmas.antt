@@ -1,5 +1,5 @@
 -- The slots of names, as the map of what they hold.
-use Rattle.std.proofs.Common.{◌≡◌, ℕ, zero, suc, ◌<◌, ◌≤◌, ◌⊎◌, inl, inr, Bool, true, false, cond, List, [], ◌∷◌, ◌++◌, length, refl, sym, ap, subst, ◌∙◌, arith, Option, Some, None, get_or}
+use Rattle.std.proofs.Common.{◌≡◌, ℕ, zero, suc, ◌<◌, ◌≤◌, ◌⊎◌, inl, inr, Bool, true, false, cond, List, [], ◌∷◌, ◌++◌, length, refl, sym, ap, subst, ◌∙◌, arith, Option, Some, None}
 use Rattle.std.specs.Prelude.{Result, Ok, Err, OnErr, Contains, is_some, slice_get, position, IfSome, IfNone, slice_index_or}
 use Rattle.std.specs.Ordering.{is_eq}
 use Rattle.std.specs.Cmp.{eq_by_cmp_equiv, tied_itself}
@@ -14,13 +14,13 @@ use Rattle.std.specs.declared.cmp.Reverse.{Reverse}
 use Rattle.std.specs.Cmp.Lexicographic.{bytes_decides}
 use Rattle.std.proofs.lemmas.List.Sorted.{Contains-permutation}
 use Rattle.std.proofs.lemmas.List.Elements.{Contains-append_right}
-use Rattle.std.proofs.lemmas.List.Quantifiers.{position-Some}
-use Rattle.std.proofs.lemmas.Option.{slice_get-get_or}
+use Rattle.std.proofs.lemmas.Option.{same_Some, none-some}
 use Rattle.indexmap.specs.IndexMap.{set_value_at}
 use Rattle.pfair_order.specs.declared.Key.{Key}
 use Rattle.pfair_order.proofs.RankLemmas.{place_of, at_place}
 use Rattle.std.specs.Cmp.{Equal-is}
-use Rattle.pfair_weight.specs.Options.{some_inj, none_some}
+use Rattle.std.proofs.lemmas.Bool.{true≢false}
+use Rattle.pfair_weight.specs.NameFacts.{name_at}
 use Rattle.pfair_ready.specs.Names.{NameValue, name_cmp, name_eq}
 use Rattle.pfair_ready.specs.declared.date.Date.{Date}
 use Rattle.pfair_ready.specs.Slots.{SlotList, with_slot, live, entry_of, in_slot, IsPlaced, Keeps, Moves, IsCovered, later_cmp}
@@ -53,9 +53,6 @@ module _ {X : Type 0} where
       get_found fs q ∙ h q ∙ ap (λ b. cond b None (found es q)) ((eq_by_cmp_equiv names_total).symm s q)
       ∙ sym (get-remove names_total (finmap.from_entries es) s q ∙ ap (cond (is_at (name_cmp q) s) None) (get_found es q)))
 
-pub true_false : true ≡ false → ⊥
-true_false e = cc
-
 Entries : Type 0
 Entries = List (NameValue × (ℕ × Key))
 
@@ -78,8 +75,8 @@ no_live [] q h = refl
 no_live (e ∷ es) q h = slot_other e.0 e.1 (live es) q (tied_names q e.0 ∙ h.0) ∙ no_live es q h.1
 
 key_holds : (Q : NameValue → Type 0) (es : SlotList) (p : ℕ) (n : NameValue) (u : Option (ℕ × Key)) → slice_get es p ≡ Some (n, u) → AllByRecursion Q (keys_of es) → Q n
-key_holds Q [] p n u at h = absurd (none_some (n, u) at)
-key_holds Q (e ∷ es) zero n u at h = subst (λ (x : NameValue × Option (ℕ × Key)). Q x.0) (some_inj e (n, u) at) h.0
+key_holds Q [] p n u at h = absurd (none-some (n, u) at)
+key_holds Q (e ∷ es) zero n u at h = subst (λ (x : NameValue × Option (ℕ × Key)). Q x.0) (same_Some e (n, u) at) h.0
 key_holds Q (e ∷ es) (suc p) n u at h = key_holds Q es p n u at h.1
 
 itself : (n : NameValue) → is_eq (name_cmp n n) ≡ true
@@ -88,9 +85,9 @@ itself n = ap is_eq (tied_itself names_total n)
 -- what the slot of a name has is held under the name
 pub live_at : (es : SlotList) (p : ℕ) (n : NameValue) (u : Option (ℕ × Key)) → slice_get es p ≡ Some (n, u) → IsDistinct name_eq (keys_of es) → entry_of (live es) n ≡ u
 unfolding IsDistinct
-live_at [] p n u at h = absurd (none_some (n, u) at)
+live_at [] p n u at h = absurd (none-some (n, u) at)
 live_at (e ∷ es) zero n u at h =
-    let is : e ≡ (n, u) = some_inj e (n, u) at in
+    let is : e ≡ (n, u) = same_Some e (n, u) at in
     let names : e.0 ≡ n = ap (λ (x : NameValue × Option (ℕ × Key)). x.0) is in
     slot_own e.0 e.1 (live es) n (subst (λ (x : NameValue). is_eq (name_cmp x e.0) ≡ true) names (itself e.0)) (subst (λ (x : NameValue). entry_of (live es) x ≡ None) names (no_live es e.0 h.0))
     ∙ ap (λ (x : NameValue × Option (ℕ × Key)). x.1) is
@@ -101,9 +98,9 @@ live_at (e ∷ es) (suc p) n u at h =
 -- another slot of one name
 pub live_set : (es : SlotList) (p : ℕ) (n : NameValue) (u w : Option (ℕ × Key)) → slice_get es p ≡ Some (n, u) → IsDistinct name_eq (keys_of es) → (q : NameValue) → entry_of (live (set_value_at es p w)) q ≡ cond (is_at (name_cmp n) q) w (entry_of (live es) q)
 unfolding IsDistinct
-live_set [] p n u w at h q = absurd (none_some (n, u) at)
+live_set [] p n u w at h q = absurd (none-some (n, u) at)
 live_set (e ∷ es) zero n u w at h q =
-    subst (λ (x : NameValue × Option (ℕ × Key)). entry_of (with_slot e.0 w (live es)) q ≡ cond (is_at (name_cmp x.0) q) w (entry_of (with_slot e.0 e.1 (live es)) q)) (some_inj e (n, u) at)
+    subst (λ (x : NameValue × Option (ℕ × Key)). entry_of (with_slot e.0 w (live es)) q ≡ cond (is_at (name_cmp x.0) q) w (entry_of (with_slot e.0 e.1 (live es)) q)) (same_Some e (n, u) at)
     (elim (is_eq (name_cmp e.0 q)) as (λ b. is_eq (name_cmp e.0 q) ≡ b → entry_of (with_slot e.0 w (live es)) q ≡ cond b w (entry_of (with_slot e.0 e.1 (live es)) q)) [
       | true ↦ λ t.
           let back : is_eq (name_cmp q e.0) ≡ true = (eq_by_cmp_equiv names_total).symm q e.0 ∙ t in
@@ -135,7 +132,7 @@ further : (e : NameValue × Option (ℕ × Key)) (es : SlotList) (q : NameValue)
 further e es q v s = record { place = suc s.place; name = s.name; at = s.at; is = s.is }
 
 pub stands : (es : SlotList) (q : NameValue) (v : ℕ × Key) → entry_of (live es) q ≡ Some v → Stands es q v
-stands [] q v h = absurd (none_some v h)
+stands [] q v h = absurd (none-some v h)
 stands (e ∷ es) q v h =
     elim e.1 as (λ o. e.1 ≡ o → entry_of (with_slot e.0 o (live es)) q ≡ Some v → Stands (e ∷ es) q v) [
       | None ↦ λ _ g. further e es q v (stands es q v g)
@@ -146,16 +143,16 @@ stands (e ∷ es) q v h =
     ] refl h
 
 pub entry_in : (o : Option (NameValue × Option (ℕ × Key))) (v : ℕ × Key) → in_slot o ≡ Some v → (n : NameValue) × (o ≡ Some (n, Some v))
-entry_in None v h = absurd (none_some v h)
+entry_in None v h = absurd (none-some v h)
 entry_in (Some e) v h = (e.0, ap (λ (o : Option (ℕ × Key)). Some (e.0, o)) h)
 
 in_entry : (x y : NameValue × Option (ℕ × Key)) → Some x ≡ Some y → (x.0 ≡ y.0) × (x.1 ≡ y.1)
-in_entry x y e = (ap (λ (z : NameValue × Option (ℕ × Key)). z.0) (some_inj x y e), ap (λ (z : NameValue × Option (ℕ × Key)). z.1) (some_inj x y e))
+in_entry x y e = (ap (λ (z : NameValue × Option (ℕ × Key)). z.0) (same_Some x y e), ap (λ (z : NameValue × Option (ℕ × Key)). z.1) (same_Some x y e))
 
 -- what stands in a slot after another was emptied
 pub set_none : (es : SlotList) (p q : ℕ) (n : NameValue) (v : ℕ × Key) → slice_get (set_value_at es p None) q ≡ Some (n, Some v) → (p ≡ q → ⊥) × (slice_get es q ≡ Some (n, Some v))
-set_none [] p q n v e = absurd (none_some (n, Some v) e)
-set_none (e0 ∷ es) zero zero n v e = absurd (none_some v (in_entry (e0.0, None) (n, Some v) e).1)
+set_none [] p q n v e = absurd (none-some (n, Some v) e)
+set_none (e0 ∷ es) zero zero n v e = absurd (none-some v (in_entry (e0.0, None) (n, Some v) e).1)
 set_none (e0 ∷ es) zero (suc q) n v e = (λ h. omega arith, e)
 set_none (e0 ∷ es) (suc p) zero n v e = (λ h. omega arith, e)
 set_none (e0 ∷ es) (suc p) (suc q) n v e = let r = set_none es p q n v e in ((λ h. r.0 (omega arith)), r.1)
@@ -167,11 +164,11 @@ pub record IsFilled (es : SlotList) (p q : ℕ) (w : ℕ × Key) (n : NameValue)
   pub named : (m : NameValue) (u : Option (ℕ × Key)) → slice_get es p ≡ Some (m, u) → m ≡ n
 
 pub set_some : (es : SlotList) (p q : ℕ) (w : ℕ × Key) (n : NameValue) (v : ℕ × Key) → slice_get (set_value_at es p (Some w)) q ≡ Some (n, Some v) → IsFilled es p q w n v ⊎ (slice_get es q ≡ Some (n, Some v))
-set_some [] p q w n v e = absurd (none_some (n, Some v) e)
+set_some [] p q w n v e = absurd (none-some (n, Some v) e)
 set_some (e0 ∷ es) zero zero w n v e =
     inl (record {
       place = refl;
-      is = some_inj w v (in_entry (e0.0, Some w) (n, Some v) e).1;
+      is = same_Some w v (in_entry (e0.0, Some w) (n, Some v) e).1;
       named = λ m u at. sym (in_entry (e0.0, e0.1) (m, u) at).0 ∙ (in_entry (e0.0, Some w) (n, Some v) e).0;
     })
 set_some (e0 ∷ es) zero (suc q) w n v e = inr e
@@ -188,18 +185,13 @@ keys_set (e ∷ es) (suc p) w = ap (λ (l : List NameValue). e.0 ∷ l) (keys_se
 
 -- the place that is found for a name
 key_entry : (es : SlotList) (i : ℕ) (k : NameValue) → slice_get (keys_of es) i ≡ Some k → (u : Option (ℕ × Key)) × (slice_get es i ≡ Some (k, u))
-key_entry [] i k e = absurd (none_some k e)
-key_entry (e0 ∷ es) zero k e = (e0.1, ap (λ (n : NameValue). Some (n, e0.1)) (some_inj e0.0 k e))
+key_entry [] i k e = absurd (none-some k e)
+key_entry (e0 ∷ es) zero k e = (e0.1, ap (λ (n : NameValue). Some (n, e0.1)) (same_Some e0.0 k e))
 key_entry (e0 ∷ es) (suc i) k e = key_entry es i k e
-
-key_at : (ks : List NameValue) (name : NameValue) (i : ℕ) → position (name_eq name) ks ≡ Some i → slice_get ks i ≡ Some name
-key_at ks name i e =
-    let f = position-Some (name_eq name) ks i name e in
-    slice_get-get_or ks i name f.0 ∙ ap Some (sym ((bytes_decides name (get_or ks i name)).0 f.1))
 
 pub placed : (es : SlotList) (name : NameValue) (i : ℕ) → position (name_eq name) (keys_of es) ≡ Some i → IsDistinct name_eq (keys_of es) → IsPlaced es i name
 placed es name i e h =
-    let there = key_entry es i name (key_at (keys_of es) name i e) in
+    let there = key_entry es i name (name_at (keys_of es) name i e) in
     record { at = there.1 ∙ ap (λ (o : Option (ℕ × Key)). Some (name, o)) (sym (live_at es i name there.0 there.1 h)); apart = h }
 
 -- or stands there as it is
@@ -212,7 +204,7 @@ pub not_placed : (es : SlotList) (q : NameValue) → lookup (name_eq q) es ≡ N
 not_placed [] q h = refl
 not_placed (e ∷ es) q h =
     elim (name_eq q e.0) as (λ b. name_eq q e.0 ≡ b → cond b (Some e.1) (lookup (name_eq q) es) ≡ None → entry_of (with_slot e.0 e.1 (live es)) q ≡ None) [
-      | true ↦ λ _ g. absurd (none_some e.1 (sym g))
+      | true ↦ λ _ g. absurd (none-some e.1 (sym g))
       | false ↦ λ t g. slot_other e.0 e.1 (live es) q (tied_names q e.0 ∙ t) ∙ not_placed es q g
     ] refl h
 
@@ -222,7 +214,7 @@ live_push [] n = refl
 live_push (e ∷ es) n = ap (with_slot e.0 e.1) (live_push es n)
 
 get_push : (es : SlotList) (n q : NameValue) (p : ℕ) (v : ℕ × Key) → slice_get (es ++ (n, None) ∷ []) p ≡ Some (q, Some v) → slice_get es p ≡ Some (q, Some v)
-get_push [] n q zero v e = absurd (none_some v (in_entry (n, None) (q, Some v) e).1)
+get_push [] n q zero v e = absurd (none-some v (in_entry (n, None) (q, Some v) e).1)
 get_push [] n q (suc p) v e = e
 get_push (e0 ∷ es) n q zero v e = e
 get_push (e0 ∷ es) n q (suc p) v e = get_push es n q p v e
@@ -292,7 +284,7 @@ covered_filled now place r k es es' dates dates' heap here e perm up c =
     })
 
 in_cons : {A : Type 0} (y : A) (xs : List A) (x : A) (i : ℕ) → slice_get (y ∷ xs) i ≡ Some x → (y ≡ x) ⊎ Contains xs x
-in_cons y xs x zero e = inl (some_inj y x e)
+in_cons y xs x zero e = inl (same_Some y x e)
 in_cons y xs x (suc i) e = inr (at_place xs i x e)
 
 -- an element is the top or stays
@@ -326,11 +318,6 @@ pushed_more item x xs ys p h = Contains-permutation (item ∷ xs) ys x p (Contai
 pub pushed_top : {A : Type 0} (item : A) (xs ys : List A) → IsPermutation (item ∷ xs) ys → Contains ys item
 pushed_top item xs ys p = Contains-permutation (item ∷ xs) ys item p (0, omega arith, refl)
 
-pub get_within : {A : Type 0} (xs : List A) (i : ℕ) (x : A) → slice_get xs i ≡ Some x → i < length xs
-get_within [] i x e = absurd (none_some x e)
-get_within (y ∷ xs) zero x e = omega arith
-get_within (y ∷ xs) (suc i) x e = let h = get_within xs i x e in omega arith
-
 same_head : {A : Type 0} (xs : List A) (x y : A) → 0 < length xs → x ≡ slice_index_or xs 0 x → y ≡ slice_index_or xs 0 y → x ≡ y
 same_head [] x y h e f = absurd (omega arith)
 same_head (z ∷ xs) x y h e f = e ∙ sym f
@@ -350,7 +337,7 @@ on_err (Err e) P h = h
 
 absent_of : {A B : Type 0} (o : Option A) (v : Option B) → o ≡ None → is_some o ≡ is_some v → v ≡ None
 absent_of o None e f = refl
-absent_of o (Some x) e f = absurd (true_false (sym f ∙ ap is_some e))
+absent_of o (Some x) e f = absurd (true≢false (sym f ∙ ap is_some e))
 
 pub absent : (es : SlotList) (name : NameValue) (o : Option ℕ) → o ≡ None → is_some o ≡ is_some (lookup (name_eq name) es) → lookup (name_eq name) es ≡ None
 absent es name o e f = absent_of o (lookup (name_eq name) es) e f

@@ -1,5 +1,5 @@
 mod HeapLemmas
 pub mod Names
 mod PlainListLemmas
-mod Released
+pub mod Released
 mod Taking

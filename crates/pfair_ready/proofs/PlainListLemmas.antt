@@ -1,7 +1,7 @@
 -- The list of waiting keys and the map that it holds.
-use Rattle.std.proofs.Common.{◌≡◌, ℕ, ◌+◌, ◌≤◌, Bool, true, false, cond, not, List, [], ◌∷◌, ◌++◌, map, refl, sym, ap, subst, ◌∙◌, arith, Option, Some, None}
-use Rattle.std.specs.Prelude.{nat_le, IsTrue}
-use Rattle.std.specs.List.{count_by, filter}
+use Rattle.std.proofs.Common.{◌≡◌, ℕ, Bool, true, false, cond, not, List, [], ◌∷◌, ◌++◌, map, refl, sym, ap, subst, ◌∙◌, Option, Some, None}
+use Rattle.std.specs.Prelude.{nat_le}
+use Rattle.std.specs.List.{AllByRecursion, filter}
 use Rattle.std.specs.declared.cmp.Ordering.TheVariants.{Less, Equal, Greater}
 use Rattle.std.specs.Ordering.{is_eq}
 use Rattle.std.specs.Cmp.{eq_by_cmp_equiv}
@@ -9,24 +9,26 @@ use Rattle.std.specs.FinMap as finmap
 use Rattle.std.specs.FinMap.{put, find, entries-insert, get-entries, get-from_entries, get-remove, get-retain_keys, from_entries_push, same_map}
 use Rattle.std.specs.List.Sorted.{IsPermutation}
 use Rattle.std.proofs.lemmas.List.Sorted.{IsPermutation-refl, IsPermutation-cons, IsPermutation-trans, IsPermutation-middle}
-use Rattle.std.proofs.lemmas.List.Sums.{sum_by-cons, sum_by_push}
 use Rattle.std.specs.List as list
 use Rattle.std.specs.Option.{option_map, is_some}
 use Rattle.pfair_order.specs.declared.Key.{Key}
-use Rattle.pfair_order.proofs.KeyLaws.{keys_total, keys_exact}
+use Rattle.pfair_order.proofs.KeyLaws.{keys_total}
 use Rattle.pfair_order.proofs.RankLemmas.{IsSplit, split_from_least, split_of_permutation}
 use Rattle.pfair_order.proofs.ByRank.{by_rank_of_split}
-use Rattle.pfair_order.specs.Rank.{EachOnce, first_by_rank}
+use Rattle.pfair_order.specs.Rank.{first_by_rank}
 use Rattle.itertools.specs.Extremes.{IsKLeast, by_cmp}
 use Rattle.pfair_order.specs.Order.{pd2_cmp}
+use Rattle.pfair_order.proofs.NamesApart.{once_from_names}
+use Rattle.pfair_weight.specs.Name.{NamesApart}
+use Rattle.pfair_weight.proofs.NamesApart.{apart_head, apart_tail, apart_filter, apart_map}
+use Rattle.std.specs.Cmp.Lexicographic.{bytes_decides, nat_list_eq_equiv}
 use Rattle.pfair_ready.specs.declared.plain.Waiting.{Waiting}
 use Rattle.pfair_ready.specs.Names.{NameValue, name_cmp, name_eq}
-use Rattle.pfair_ready.specs.Waiting.{Held, released}
-use Rattle.std.specs.Cmp.{Equal-is}
+use Rattle.pfair_ready.specs.Queue.{Queue, released}
 use Rattle.std.proofs.lemmas.List.{map-append, nil_from_length}
-use Rattle.pfair_weight.specs.Options.{none_some}
-use Rattle.pfair_ready.proofs.Names.{names_total, names_exact, same_name, equal_names, name_itself}
-use Rattle.pfair_ready.specs.PlainList.{held_of, first_named, EachNameOnce}
+use Rattle.std.proofs.lemmas.Option.{none-some}
+use Rattle.pfair_ready.proofs.Names.{names_total, names_exact, same_name}
+use Rattle.pfair_ready.specs.PlainList.{queue_of, first_named}
 
 module _ {X Y : Type 0} (q : X → Bool) (f : X → Y) where
   -- what is made of the values that pass
@@ -57,7 +59,7 @@ module _ {X Y : Type 0} (q : X → Bool) (f : X → Y) where
   chosen_put k v (e ∷ es) none =
       elim (name_cmp k e.0) as (λ r. name_cmp k e.0 ≡ r → IsPermutation (chosen ((k, v) ∷ e ∷ es)) (chosen (finmap.Entries.by_order r ((k, v) ∷ e ∷ es) ((e.0, v) ∷ es) (e ∷ put name_cmp k v es)))) [
         | Less ↦ λ _. IsPermutation-refl (chosen ((k, v) ∷ e ∷ es))
-        | Equal ↦ λ t. absurd (none_some e.1 (sym (ap (λ r. cond (is_eq r) (Some e.1) (find name_cmp k es)) (sym t) ∙ none)))
+        | Equal ↦ λ t. absurd (none-some e.1 (sym (ap (λ r. cond (is_eq r) (Some e.1) (find name_cmp k es)) (sym t) ∙ none)))
         | Greater ↦ λ t. IsPermutation-trans (chosen ((k, v) ∷ e ∷ es)) (chosen (e ∷ (k, v) ∷ es)) (chosen (e ∷ put name_cmp k v es)) (chosen_swap (k, v) e es) (chosen_cons e ((k, v) ∷ es) (put name_cmp k v es) (chosen_put k v es (ap (λ r. cond (is_eq r) (Some e.1) (find name_cmp k es)) (sym t) ∙ none)))
       ] refl
 
@@ -74,17 +76,17 @@ find_entry (w ∷ ws) q =
     ]
 
 -- what is held under a name
-pub get_held : (ws : List Waiting) (q : NameValue) → finmap.get (held_of ws) q ≡ first_named q ws
+pub get_held : (ws : List Waiting) (q : NameValue) → finmap.get (queue_of ws) q ≡ first_named q ws
 get_held ws q = get-from_entries names_total (map entry ws) q ∙ find_entry ws q
 
 -- whether something is held under a name, by a search of the list
-pub contained : (held : Held) (ws seen : List Waiting) (name : NameValue) (o : Option (ℕ × Key)) (b : Bool) → held_of ws ≡ held → seen ≡ ws → o ≡ first_named name seen → b ≡ is_some o → finmap.contains_key held name ≡ b
+pub contained : (held : Queue) (ws seen : List Waiting) (name : NameValue) (o : Option (ℕ × Key)) (b : Bool) → queue_of ws ≡ held → seen ≡ ws → o ≡ first_named name seen → b ≡ is_some o → finmap.contains_key held name ≡ b
 contained held ws seen name o b view same found is =
     ap (λ h. finmap.contains_key h name) (sym view) ∙ ap is_some (get_held ws name ∙ ap (first_named name) (sym same) ∙ sym found) ∙ sym is
 
 -- one more with a new name
-pub held_of_push : (ws : List Waiting) (w : Waiting) → first_named w.key.name ws ≡ None → held_of (ws ++ w ∷ []) ≡ finmap.insert (held_of ws) w.key.name (w.release, w.key)
-held_of_push ws w none =
+pub queue_of_push : (ws : List Waiting) (w : Waiting) → first_named w.key.name ws ≡ None → queue_of (ws ++ w ∷ []) ≡ finmap.insert (queue_of ws) w.key.name (w.release, w.key)
+queue_of_push ws w none =
     ap (λ es. finmap.from_entries {R = name_cmp} es) (map-append entry ws (w ∷ []))
     ∙ from_entries_push names_total names_exact (map entry ws) w.key.name (w.release, w.key) (find_entry ws w.key.name ∙ none)
 
@@ -97,7 +99,7 @@ named_filter p (w ∷ ws) q =
     let kept : List Waiting = filter (λ w. p w.key.name) ws in
     let rest : first_named q kept ≡ cond (p q) (first_named q ws) None = named_filter p ws q in
     elim (name_eq w.key.name q) as (λ b. name_eq w.key.name q ≡ b → first_named q (cond (p w.key.name) (w ∷ kept) kept) ≡ cond (p q) (option_map shown (cond b (Some w) (list.find (λ (w : Waiting). name_eq w.key.name q) ws))) None) [
-      | true ↦ λ t. ap (λ b. first_named q (cond b (w ∷ kept) kept)) (ap p (equal_names w.key.name q t))
+      | true ↦ λ t. ap (λ b. first_named q (cond b (w ∷ kept) kept)) (ap p ((bytes_decides w.key.name q).0 t))
           ∙ elim (p q) as (λ b. first_named q kept ≡ cond b (first_named q ws) None → first_named q (cond b (w ∷ kept) kept) ≡ cond b (Some (shown w)) None) [
             | true ↦ λ _. ap (λ b. option_map shown (cond b (Some w) (list.find (λ (w : Waiting). name_eq w.key.name q) kept))) t
             | false ↦ λ r. r
@@ -109,14 +111,14 @@ named_filter p (w ∷ ws) q =
     ] refl
 
 -- those whose names pass stay
-pub held_of_filter : (p : NameValue → Bool) (ws : List Waiting) → held_of (filter (λ w. p w.key.name) ws) ≡ finmap.retain_keys (held_of ws) p
-held_of_filter p ws =
+pub queue_of_filter : (p : NameValue → Bool) (ws : List Waiting) → queue_of (filter (λ w. p w.key.name) ws) ≡ finmap.retain_keys (queue_of ws) p
+queue_of_filter p ws =
     same_map names_total names_exact _ _ (λ q.
     get_held (filter (λ w. p w.key.name) ws) q ∙ named_filter p ws q ∙ ap (λ o. cond (p q) o None) (sym (get_held ws q))
-    ∙ sym (get-retain_keys (held_of ws) p q (λ x t. ap p (sym (names_exact q x t)))))
+    ∙ sym (get-retain_keys (queue_of ws) p q (λ x t. ap p (sym (names_exact q x t)))))
 
 -- to retain all names but one is to remove it
-pub retain_but : (m : Held) (name : NameValue) → finmap.retain_keys m (λ n. not (name_eq n name)) ≡ finmap.remove m name
+pub retain_but : (m : Queue) (name : NameValue) → finmap.retain_keys m (λ n. not (name_eq n name)) ≡ finmap.remove m name
 retain_but m name =
     same_map names_total names_exact _ _ (λ q.
     get-retain_keys m (λ n. not (name_eq n name)) q (λ x t. ap (λ n. not (name_eq n name)) (sym (names_exact q x t)))
@@ -124,64 +126,21 @@ retain_but m name =
     ∙ ap (λ b. cond b None (finmap.get m q)) (sym (same_name name q) ∙ (eq_by_cmp_equiv names_total).symm name q)
     ∙ sym (get-remove names_total m name q))
 
-count_cons : {A : Type 0} (p : A → Bool) (x : A) (xs : List A) → count_by p (x ∷ xs) ≡ cond (p x) 1 0 + count_by p xs
-count_cons p x xs = sum_by-cons (λ y. cond (p y) 1 0) x xs
+abbrev pub name_of : Waiting → NameValue
+name_of w = w.key.name
 
-count_filter : {A : Type 0} (p t : A → Bool) (xs : List A) → count_by p (filter t xs) ≤ count_by p xs
-count_filter p t [] = omega arith
-count_filter p t (x ∷ xs) =
-    let rest : count_by p (filter t xs) ≤ count_by p xs = count_filter p t xs in
-    rw (count_cons p x xs)
-    (elim (t x) as (λ b. count_by p (cond b (x ∷ filter t xs) (filter t xs)) ≤ cond (p x) 1 0 + count_by p xs) [
-      | true ↦ rw (count_cons p x (filter t xs)) (omega arith)
-      | false ↦ omega arith
-    ])
-
-pub EachNameOnce-filter : (t : Waiting → Bool) (ws : List Waiting) → EachNameOnce ws → EachNameOnce (filter t ws)
-EachNameOnce-filter t ws once name =
-    let less : count_by (λ w. name_eq w.key.name name) (filter t ws) ≤ count_by (λ w. name_eq w.key.name name) ws = count_filter (λ w. name_eq w.key.name name) t ws in
-    let one : count_by (λ w. name_eq w.key.name name) ws ≤ 1 = once name in
-    omega arith
-
--- a name that is not found does not stand in the list, and the other way round
-none_counted : (q : NameValue) (ws : List Waiting) → first_named q ws ≡ None → count_by (λ w. name_eq w.key.name q) ws ≡ 0
-none_counted q [] none = refl
-none_counted q (w ∷ ws) none =
-    count_cons (λ w. name_eq w.key.name q) w ws
-    ∙ elim (name_eq w.key.name q) as (λ b. option_map shown (cond b (Some w) (list.find (λ (w : Waiting). name_eq w.key.name q) ws)) ≡ None → cond b 1 0 + count_by (λ w. name_eq w.key.name q) ws ≡ 0) [
-      | true ↦ λ n. absurd (none_some (shown w) (sym n))
-      | false ↦ λ n. let rest : count_by (λ w. name_eq w.key.name q) ws ≡ 0 = none_counted q ws n in omega arith
+-- a name that is not found is no other's, and the other way round
+pub none_named : (q : NameValue) (ws : List Waiting) → first_named q ws ≡ None → AllByRecursion (λ w. name_eq w.key.name q ≡ false) ws
+none_named q [] none = tt
+none_named q (w ∷ ws) none =
+    elim (name_eq w.key.name q) as (λ b. option_map shown (cond b (Some w) (list.find (λ (w : Waiting). name_eq w.key.name q) ws)) ≡ None → (b ≡ false) × AllByRecursion (λ w. name_eq w.key.name q ≡ false) ws) [
+      | true ↦ λ n. absurd (none-some (shown w) (sym n))
+      | false ↦ λ n. (refl, none_named q ws n)
     ] none
 
-none_found : (q : NameValue) (ws : List Waiting) → count_by (λ w. name_eq w.key.name q) ws ≡ 0 → first_named q ws ≡ None
-none_found q [] nowhere = refl
-none_found q (w ∷ ws) nowhere =
-    let sum : cond (name_eq w.key.name q) 1 0 + count_by (λ w. name_eq w.key.name q) ws ≡ 0 = sym (count_cons (λ w. name_eq w.key.name q) w ws) ∙ nowhere in
-    elim (name_eq w.key.name q) as (λ b. cond b 1 0 + count_by (λ w. name_eq w.key.name q) ws ≡ 0 → option_map shown (cond b (Some w) (list.find (λ (w : Waiting). name_eq w.key.name q) ws)) ≡ None) [
-      | true ↦ λ n. absurd (let bad : 1 + count_by (λ w. name_eq w.key.name q) ws ≡ 0 = n in omega arith)
-      | false ↦ λ n. none_found q ws (omega arith)
-    ] sum
-
-pub EachNameOnce-push : (ws : List Waiting) (w : Waiting) → EachNameOnce ws → first_named w.key.name ws ≡ None → EachNameOnce (ws ++ w ∷ [])
-EachNameOnce-push ws w once none name =
-    rw (sum_by_push (λ (w : Waiting). cond (name_eq w.key.name name) 1 0) ws w)
-    (elim (name_eq w.key.name name) as (λ b. name_eq w.key.name name ≡ b → count_by (λ w. name_eq w.key.name name) ws + cond b 1 0 ≤ 1) [
-      | true ↦ λ t. let nowhere : count_by (λ w. name_eq w.key.name name) ws ≡ 0 = subst (λ q. count_by (λ w. name_eq w.key.name q) ws ≡ 0) (equal_names w.key.name name t) (none_counted w.key.name ws none) in omega arith
-      | false ↦ λ f. let one : count_by (λ w. name_eq w.key.name name) ws ≤ 1 = once name in omega arith
-    ] refl)
-
-once_tail : (w : Waiting) (ws : List Waiting) → EachNameOnce (w ∷ ws) → EachNameOnce ws
-once_tail w ws once name =
-    let e : count_by (λ w. name_eq w.key.name name) (w ∷ ws) ≡ cond (name_eq w.key.name name) 1 0 + count_by (λ w. name_eq w.key.name name) ws = count_cons (λ w. name_eq w.key.name name) w ws in
-    let one : count_by (λ w. name_eq w.key.name name) (w ∷ ws) ≤ 1 = once name in
-    omega arith
-
-head_new : (w : Waiting) (ws : List Waiting) → EachNameOnce (w ∷ ws) → first_named w.key.name ws ≡ None
-head_new w ws once =
-    let e : count_by (λ v. name_eq v.key.name w.key.name) (w ∷ ws) ≡ cond (name_eq w.key.name w.key.name) 1 0 + count_by (λ v. name_eq v.key.name w.key.name) ws = count_cons (λ v. name_eq v.key.name w.key.name) w ws in
-    let f : count_by (λ v. name_eq v.key.name w.key.name) (w ∷ ws) ≡ 1 + count_by (λ v. name_eq v.key.name w.key.name) ws = e ∙ ap (λ b. cond b 1 0 + count_by (λ v. name_eq v.key.name w.key.name) ws) (name_itself w.key.name w.key.name refl) in
-    let one : count_by (λ v. name_eq v.key.name w.key.name) (w ∷ ws) ≤ 1 = once w.key.name in
-    none_found w.key.name ws (omega arith)
+none_found : (q : NameValue) (ws : List Waiting) → AllByRecursion (λ w. name_eq q w.key.name ≡ false) ws → first_named q ws ≡ None
+none_found q [] other = refl
+none_found q (w ∷ ws) other = ap (λ b. option_map shown (cond b (Some w) (list.find (λ (w : Waiting). name_eq w.key.name q) ws))) (nat_list_eq_equiv.symm w.key.name q ∙ other.0) ∙ none_found q ws other.1
 
 abbrev pub released_of : ℕ → List Waiting → List Key
 released_of slot ws = map (λ w. w.key) (filter (λ w. nat_le w.release slot) ws)
@@ -190,53 +149,24 @@ empty_entries : finmap.entries (finmap.empty {X = ℕ × Key} {R = name_cmp}) �
 empty_entries = nil_from_length _ (sym (finmap.len-entries finmap.empty) ∙ finmap.len-empty name_cmp (ℕ × Key))
 
 -- the released keys of the list are those of what it holds, in another order
-pub released_held : (slot : ℕ) (ws : List Waiting) → EachNameOnce ws → IsPermutation (released_of slot ws) (released slot (held_of ws))
+pub released_held : (slot : ℕ) (ws : List Waiting) → NamesApart name_of ws → IsPermutation (released_of slot ws) (released slot (queue_of ws))
 released_held slot [] once = subst (λ es. IsPermutation [] (map (λ e. e.1) (filter (λ e. nat_le e.0 slot) (map (λ e. e.1) es)))) (sym empty_entries) (IsPermutation-refl [])
 released_held slot (w ∷ ws) once =
     let passes : ℕ × Key → Bool = λ e. nat_le e.0 slot in
-    let es : List (NameValue × (ℕ × Key)) = finmap.entries (held_of ws) in
-    let rest : IsPermutation (released_of slot ws) (chosen passes (λ e. e.1) es) = released_held slot ws (once_tail w ws once) in
-    let new : find name_cmp w.key.name es ≡ None = sym (get-entries (held_of ws) w.key.name) ∙ get_held ws w.key.name ∙ head_new w ws once in
+    let es : List (NameValue × (ℕ × Key)) = finmap.entries (queue_of ws) in
+    let rest : IsPermutation (released_of slot ws) (chosen passes (λ e. e.1) es) = released_held slot ws (apart_tail name_of w ws once) in
+    let new : find name_cmp w.key.name es ≡ None = sym (get-entries (queue_of ws) w.key.name) ∙ get_held ws w.key.name ∙ none_found w.key.name ws (apart_head name_of w ws once) in
     let more : IsPermutation (released_of slot (w ∷ ws)) (chosen passes (λ e. e.1) (entry w ∷ es)) =
     elim (nat_le w.release slot) as (λ b. IsPermutation (map (λ w. w.key) (cond b (w ∷ filter (λ w. nat_le w.release slot) ws) (filter (λ w. nat_le w.release slot) ws))) (map (λ e. e.1) (cond b ((w.release, w.key) ∷ filter passes (map (λ e. e.1) es)) (filter passes (map (λ e. e.1) es))))) [
       | true ↦ IsPermutation-cons w.key (released_of slot ws) (chosen passes (λ e. e.1) es) rest
       | false ↦ rest
     ] in
-    subst (λ l. IsPermutation (released_of slot (w ∷ ws)) (chosen passes (λ e. e.1) l)) (sym (entries-insert names_total (held_of ws) w.key.name (w.release, w.key)))
+    subst (λ l. IsPermutation (released_of slot (w ∷ ws)) (chosen passes (λ e. e.1) l)) (sym (entries-insert names_total (queue_of ws) w.key.name (w.release, w.key)))
     (IsPermutation-trans (released_of slot (w ∷ ws)) (chosen passes (λ e. e.1) (entry w ∷ es)) (chosen passes (λ e. e.1) (put name_cmp w.key.name (w.release, w.key) es)) more (chosen_put passes (λ e. e.1) w.key.name (w.release, w.key) es new))
 
--- keys that tie have one name
-tie_names : (k l : Key) → cond (is_eq (pd2_cmp k l)) 1 0 ≤ cond (name_eq k.name l.name) 1 0
-tie_names k l =
-    elim (is_eq (pd2_cmp k l)) as (λ b. is_eq (pd2_cmp k l) ≡ b → cond b 1 0 ≤ cond (name_eq k.name l.name) 1 0) [
-      | true ↦ λ t. rw (name_itself k.name l.name (ap (λ (k : Key). k.name) (keys_exact k l ((Equal-is (pd2_cmp k l)).0 t)))) (omega arith)
-      | false ↦ λ _. omega arith
-    ] refl
-
-count_released : (slot : ℕ) (k : Key) (ws : List Waiting) → count_by (λ x. is_eq (pd2_cmp x k)) (released_of slot ws) ≤ count_by (λ w. name_eq w.key.name k.name) ws
-count_released slot k [] = omega arith
-count_released slot k (w ∷ ws) =
-    let rest : count_by (λ x. is_eq (pd2_cmp x k)) (released_of slot ws) ≤ count_by (λ w. name_eq w.key.name k.name) ws = count_released slot k ws in
-    let one : cond (is_eq (pd2_cmp w.key k)) 1 0 ≤ cond (name_eq w.key.name k.name) 1 0 = tie_names w.key k in
-    rw (count_cons (λ w. name_eq w.key.name k.name) w ws)
-    (elim (nat_le w.release slot) as (λ b. count_by (λ x. is_eq (pd2_cmp x k)) (map (λ w. w.key) (cond b (w ∷ filter (λ w. nat_le w.release slot) ws) (filter (λ w. nat_le w.release slot) ws))) ≤ cond (name_eq w.key.name k.name) 1 0 + count_by (λ w. name_eq w.key.name k.name) ws) [
-      | true ↦ rw (count_cons (λ x. is_eq (pd2_cmp x k)) w.key (released_of slot ws)) (omega arith)
-      | false ↦ omega arith
-    ])
-
-pub released_once : (slot : ℕ) (ws : List Waiting) → EachNameOnce ws → EachOnce pd2_cmp (released_of slot ws)
-released_once slot ws once k =
-    let less : count_by (λ x. is_eq (pd2_cmp x k)) (released_of slot ws) ≤ count_by (λ w. name_eq w.key.name k.name) ws = count_released slot k ws in
-    let one : count_by (λ w. name_eq w.key.name k.name) ws ≤ 1 = once k.name in
-    omega arith
-
--- the least of the list's released keys are the first of what it holds
 -- the least of the list are the first by rank of what it holds
-pub first_from_least : (slot m : ℕ) (ws : List Waiting) (first : List Key) → EachNameOnce ws → IsKLeast (by_cmp pd2_cmp) m (released_of slot ws) first → first ≡ first_by_rank pd2_cmp m (released slot (held_of ws))
+pub first_from_least : (slot m : ℕ) (ws : List Waiting) (first : List Key) → NamesApart name_of ws → IsKLeast (by_cmp pd2_cmp) m (released_of slot ws) first → first ≡ first_by_rank pd2_cmp m (released slot (queue_of ws))
 first_from_least slot m ws first once least =
-    let split : IsSplit keys_total (released_of slot ws) first least.2 = split_from_least keys_total (released_of slot ws) first least.2 (released_once slot ws once) least.0 least.3 least.5 in
-    by_rank_of_split keys_total (released slot (held_of ws)) first least.2
-    (split_of_permutation keys_total (released_of slot ws) (released slot (held_of ws)) first least.2 (released_held slot ws once) split) m least.1 least.4
-
-pub true_not_false : (b : Bool) → IsTrue b → b ≡ false → ⊥
-true_not_false b t e = cc
+    let split : IsSplit keys_total (released_of slot ws) first least.2 = split_from_least keys_total (released_of slot ws) first least.2 (once_from_names (released_of slot ws) (apart_map name_of (λ (k : Key). k.name) (λ w. w.key) (λ _. refl) (filter (λ w. nat_le w.release slot) ws) (apart_filter name_of (λ w. nat_le w.release slot) ws once))) least.0 least.3 least.5 in
+    by_rank_of_split keys_total (released slot (queue_of ws)) first least.2
+    (split_of_permutation keys_total (released_of slot ws) (released slot (queue_of ws)) first least.2 (released_held slot ws once) split) m least.1 least.4

@@ -1,7 +1,7 @@
 -- How far `take_first` has come over the heap, and its steps.
 use Rattle.std.proofs.Common.{◌≡◌, ℕ, ◌+◌, ◌<◌, ◌≤◌, inl, inr, Bool, true, false, cond, List, [], ◌∷◌, ◌++◌, length, refl, sym, ap, subst, ◌∙◌, arith, Option, Some, None}
 use Rattle.std.proofs.Common.{length-append}
-use Rattle.std.specs.Prelude.{All, Contains, nat_le, ◌&&◌}
+use Rattle.std.specs.Prelude.{All, Contains, nat_le}
 use Rattle.std.specs.List.{AllByRecursion, slice_get}
 use Rattle.std.specs.declared.cmp.Ordering.TheVariants.{Less}
 use Rattle.std.specs.Ordering.{is_lt, is_eq}
@@ -23,9 +23,8 @@ use Rattle.pfair_order.proofs.RankLemmas.{IsSplit, less_of, split_more}
 use Rattle.pfair_order.proofs.ByRank.{by_rank_of_split}
 use Rattle.std.specs.Cmp.{Equal-is}
 use Rattle.pfair_order.proofs.InOrder.{each_trivial}
-use Rattle.pfair_weight.specs.Options.{none_some}
 use Rattle.pfair_ready.specs.Names.{NameValue, name_cmp, name_eq}
-use Rattle.pfair_ready.specs.Waiting.{released, without}
+use Rattle.pfair_ready.specs.Queue.{released, without}
 use Rattle.pfair_ready.specs.Heap.{is_due}
 use Rattle.pfair_ready.specs.declared.date.Date.{Date}
 use Rattle.pfair_ready.specs.Slots.{SlotList, live, entry_of, in_slot, later_cmp, reverse_cmp, Moves, IsCovered}
@@ -33,9 +32,11 @@ use Rattle.std.specs.List.{IsDistinct}
 use Rattle.std.specs.Ordering.{nat_cmp, ordering_then}
 use Rattle.std.specs.declared.cmp.Ordering.{Ordering}
 use Rattle.std.specs.declared.cmp.Ordering.TheVariants.{Equal, Greater}
+use Rattle.std.proofs.lemmas.Option.{none-some}
+use Rattle.std.proofs.lemmas.Bool.{true≢false, and_parts}
 use Rattle.indexmap.specs.IndexMap.{set_value_at}
 use Rattle.pfair_ready.proofs.Names.{names_total}
-use Rattle.pfair_ready.proofs.HeapLemmas.{true_false, get_found, one_taken, top_or_stays, live_at, live_set, stands, Stands, entry_in, set_none, keys_set}
+use Rattle.pfair_ready.proofs.HeapLemmas.{get_found, one_taken, top_or_stays, live_at, live_set, stands, Stands, entry_in, set_none, keys_set}
 use Rattle.pfair_ready.proofs.Released.{IsReleased, each_released, released_remove, without_none, without_push}
 
 pub record IsTaking (slot m room : ℕ) (start es : SlotList) (dates : List (Reverse Date)) (heap : List (Reverse (Key × ℕ))) (first : List Key) : Type 0 where
@@ -47,10 +48,6 @@ pub record IsTaking (slot m room : ℕ) (start es : SlotList) (dates : List (Rev
   pub later : All (λ e. slot < e.0.release) dates
   pub few : length first ≤ m
   pub counted : length first + length heap ≤ room
-
-both_true : (a b : Bool) → (a && b) ≡ true → (a ≡ true) × (b ≡ true)
-both_true true b e = (refl, e)
-both_true false b e = absurd (true_false (sym e))
 
 none_in_empty : {A : Type 0} (xs : List A) (x : A) → length xs ≡ 0 → Contains xs x → ⊥
 none_in_empty xs x e c = let within = c.1 in omega arith
@@ -64,14 +61,14 @@ no_elements [] h = refl
 no_elements (x ∷ xs) h = absurd h.0
 
 kept_entry : {A : Type 0} (b : Bool) (o : Option A) (x : A) → cond b None o ≡ Some x → (b ≡ false) × (o ≡ Some x)
-kept_entry true o x e = absurd (none_some x e)
+kept_entry true o x e = absurd (none-some x e)
 kept_entry false o x e = (refl, e)
 
 -- a key that is due is held, and released
 pub due_held : (k : Key) (slot : ℕ) (o : Option (ℕ × Key)) → is_due k slot o ≡ true → (r : ℕ) × (o ≡ Some (r, k)) × (nat_le r slot ≡ true)
-due_held k slot None e = absurd (true_false (sym e))
+due_held k slot None e = absurd (true≢false (sym e))
 due_held k slot (Some d) e =
-    let parts : (nat_le d.0 slot ≡ true) × (is_eq (pd2_cmp d.1 k) ≡ true) = both_true (nat_le d.0 slot) (is_eq (pd2_cmp d.1 k)) e in
+    let parts : (nat_le d.0 slot ≡ true) × (is_eq (pd2_cmp d.1 k) ≡ true) = and_parts (nat_le d.0 slot) (is_eq (pd2_cmp d.1 k)) e in
     (d.0, ap (λ (x : Key). Some (d.0, x)) (keys_exact d.1 k ((Equal-is (pd2_cmp d.1 k)).0 parts.1)), parts.0)
 
 held_due : (k : Key) (slot r : ℕ) → r ≤ slot → is_due k slot (Some (r, k)) ≡ true
@@ -149,7 +146,7 @@ module _ (slot m room : ℕ) (start es : SlotList) (dates : List (Reverse Date))
                 | inl same ↦
                     let due : is_due k slot (in_slot (slice_get es q)) ≡ true = ap (is_due k slot) at ∙ held_due k slot r both.0 in
                     let dead' : is_due k slot (in_slot (slice_get es q)) ≡ false = subst (λ (x : Reverse (Key × ℕ)). is_due x.0.0 slot (in_slot (slice_get es x.0.1)) ≡ false) same dead in
-                    absurd (true_false (sym due ∙ dead'))
+                    absurd (true≢false (sym due ∙ dead'))
                 | inr stays ↦ inr (both.0, stays)
               ]
             ];
@@ -165,7 +162,7 @@ module _ (slot m room : ℕ) (start es : SlotList) (dates : List (Reverse Date))
     other_name : (k : Key) (name : NameValue) → k.name ≡ name → is_at (name_cmp top.0.0.name) name ≡ false → top.0.0 ≡ k → ⊥
     other_name k name named apart same =
         let names : top.0.0.name ≡ name = ap (λ (x : Key). x.name) same ∙ named in
-        true_false (sym (ap is_eq (tied_itself names_total top.0.0.name)) ∙ ap (λ n. is_eq (name_cmp top.0.0.name n)) names ∙ apart)
+        true≢false (sym (ap is_eq (tied_itself names_total top.0.0.name)) ∙ ap (λ n. is_eq (name_cmp top.0.0.name n)) names ∙ apart)
 
     module _ (es' : SlotList) (cleared : es' ≡ set_value_at es top.0.1 None) (n : NameValue) (u : Option (ℕ × Key)) (stood : slice_get es top.0.1 ≡ Some (n, u)) (own : top.0.0.name ≡ n) where
       gone : (q : NameValue) → entry_of (live es') q ≡ cond (is_at (name_cmp top.0.0.name) q) None (entry_of (live es) q)

@@ -1,5 +1,5 @@
 pub mod Heap
 pub mod Names
 pub mod PlainList
-pub mod Waiting
+pub mod Queue
 pub mod Slots

@@ -4,7 +4,7 @@
 //! nothing. A name is looked for at most once for each key that is inserted; from then on the key
 //! goes by the place of its name.
 
-ghost use Rattle.std.specs.Prelude.{◌≡◌, ◌<◌, ◌≤◌, ℕ, OnOk, IfSome, IfNone, All, Contains, Some, false, slice_get};
+ghost use Rattle.std.specs.Prelude.{◌≡◌, ◌<◌, ℕ, OnOk, IfSome, IfNone, All, Contains, Some, false, slice_get};
 ghost use Rattle.std.specs.declared.cmp.Reverse.{Reverse};
 ghost use Rattle.std.specs.BinaryHeap.{heap_items, IsHeap};
 ghost use Rattle.pfair_order.specs.declared.Key.{Key};
@@ -52,7 +52,7 @@ pub struct HeapReady {
 }
 
 impl Model for HeapReady {
-    ghost use Rattle.pfair_ready.specs.Waiting.{Content, content_code};
+    ghost use Rattle.pfair_ready.specs.Queue.{Content, content_code};
 
     ghost Value = { Content };
 

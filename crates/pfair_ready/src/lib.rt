@@ -13,7 +13,7 @@ ghost use Rattle.std.specs.Prelude.{◌≡◌, ◌≤◌, ℕ, IsTrue, IfOk, OnE
 ghost use Rattle.std.specs.FinMap as finmap;
 ghost use Rattle.pfair_order.specs.Order.{pd2_cmp};
 ghost use Rattle.pfair_order.specs.Rank.{first_by_rank};
-ghost use Rattle.pfair_ready.specs.Waiting.{Held, released, without};
+ghost use Rattle.pfair_ready.specs.Queue.{Queue, released, without};
 
 mod date;
 mod guesses;
@@ -38,7 +38,7 @@ pub trait Ready: Drop {
     ghost now: { Self → ℕ };
 
     /// The release and the key under each name.
-    ghost held: { Self → Held };
+    ghost held: { Self → Queue };
 
     /// Holds nothing, at slot 0. It takes no memory; what is inserted later comes from `alloc`.
     fn new(alloc: Global) -> Self

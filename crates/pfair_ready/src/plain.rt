@@ -1,7 +1,7 @@
 //! A ready structure that is one list, searched as a whole. It is the plain one, to compare faster
 //! ones with.
 
-ghost use Rattle.std.specs.Prelude.{◌≡◌, ◌≤◌, IfOk, List, map, filter, nat_le, not};
+ghost use Rattle.std.specs.Prelude.{◌≡◌, IfOk, map, filter, nat_le, not};
 ghost use Rattle.std.specs.List.{list_any};
 ghost use Rattle.std.specs.Vec.Iter.{into_iter_items};
 ghost use Rattle.itertools.specs.Extremes.{IsKLeast, by_cmp};
@@ -37,17 +37,18 @@ pub struct PlainReady {
 }
 
 impl Model for PlainReady {
-    ghost use Rattle.pfair_ready.specs.Waiting.{Content, content_code};
+    ghost use Rattle.pfair_ready.specs.Queue.{Content, content_code};
 
     ghost Value = { Content };
 
     ghost coded = { content_code };
 
-    ghost use Rattle.pfair_ready.specs.PlainList.{held_of, EachNameOnce};
+    ghost use Rattle.pfair_weight.specs.Name.{NamesApart};
+    ghost use Rattle.pfair_ready.specs.PlainList.{queue_of};
 
-    ghost view = { λ a. record { now = a.now; held = held_of a.waiting.items } };
+    ghost view = { λ a. record { now = a.now; held = queue_of a.waiting.items } };
 
-    ghost invariant = { λ a. EachNameOnce a.waiting.items };
+    ghost invariant = { λ a. NamesApart (λ w. w.key.name) a.waiting.items };
 }
 
 impl Ready for PlainReady {

@@ -2,8 +2,9 @@ use Rattle.std.proofs.Common.{None, false, refl, sym, ap, ◌∙◌}
 use Rattle.std.specs.Prelude.{is_some}
 use Rattle.std.specs.FinMap as finmap
 use Rattle.std.specs.BinaryHeap.{heap_items}
+use Rattle.std.proofs.lemmas.Option.{slice_get_within}
 use Rattle.pfair_ready.specs.Slots.{live, in_slot}
-use Rattle.pfair_ready.proofs.HeapLemmas.{contained, one_taken, covered_emptied, filled, none_gone, get_within}
+use Rattle.pfair_ready.proofs.HeapLemmas.{contained, one_taken, covered_emptied, filled, none_gone}
 use Rattle.pfair_ready.proofs.heap.HeapReadyReady.remove.Goals as goal
 
 pub returns-in_default-clause-answer : goal.returns-in_default-clause-answer
@@ -16,7 +17,7 @@ returns-in_default-clause-content c =
     ∙ ap (λ v. finmap.remove v.held c.args.name.now) c.self.view_is
 
 pub put_at-requires : goal.put_at-requires
-put_at-requires c = get_within c.self.inside.slots.entries c.in-Some.place _ c.in-Some.ensures.some.at
+put_at-requires c = slice_get_within c.self.inside.slots.entries c.in-Some.place _ c.in-Some.ensures.some.at
 
 pub invariant_of-self : goal.invariant_of-self
 invariant_of-self c = covered_emptied c.self.inside.now c.in-Some.place c.self.inside.slots.entries c.put_at.new.slots.entries (heap_items c.self.inside.calendar) (heap_items c.self.inside.released) c.put_at.ensures c.self.invariant

@@ -5,7 +5,7 @@ use Rattle.pfair_order.specs.declared.Key.{Key}
 use Rattle.pfair_order.specs.Order.{pd2_cmp}
 use Rattle.pfair_order.specs.Rank.{first_by_rank}
 use Rattle.pfair_ready.specs.Slots.{SlotList}
-use Rattle.pfair_ready.specs.Waiting.{Content, released}
+use Rattle.pfair_ready.specs.Queue.{Content, released}
 use Rattle.pfair_ready.proofs.Taking.{IsTaking, taking_none, taking_dead, taking_live, first_taken, covered_moved}
 use Rattle.pfair_ready.proofs.heap.HeapReadyReady.take_first.Goals as goal
 use Rattle.pfair_ready.proofs.heap.HeapReadyReady.take_first.Goals.{else-turns-test, then-turns-test+in_default}

@@ -1,8 +1,10 @@
 use Rattle.std.proofs.Common.{◌≡◌, not, None, sym, ap, ◌∙◌}
 use Rattle.std.specs.FinMap as finmap
-use Rattle.pfair_ready.specs.PlainList.{held_of, first_named}
+use Rattle.std.proofs.lemmas.Bool.{true≢false}
+use Rattle.pfair_weight.proofs.NamesApart.{apart_push}
+use Rattle.pfair_ready.specs.PlainList.{queue_of, first_named}
 use Rattle.pfair_weight.specs.Options.{nothing}
-use Rattle.pfair_ready.proofs.PlainListLemmas.{contained, held_of_push, EachNameOnce-push, true_not_false}
+use Rattle.pfair_ready.proofs.PlainListLemmas.{name_of, none_named, contained, queue_of_push}
 use Rattle.pfair_ready.proofs.plain.PlainReadyReady.insert.Goals as goal
 
 pub returns-then-is_some-clause-answer : goal.returns-then-is_some-clause-answer
@@ -14,13 +16,13 @@ invariant_of-self c = rw c.in_err-push.ensures.items c.self.invariant
 
 pub returns-in_err-push-clause-there : goal.returns-in_err-push-clause-there
 returns-in_err-push-clause-there c there =
-    absurd (true_not_false _ there (contained _ _ _ c.args.key.name _ _ (ap (λ v. v.held) c.self.view_is) c.deref.ensures.value c.find_name.ensures c.is_some.ensures ∙ c.if-is_some.false))
+    absurd (true≢false (sym there ∙ contained _ _ _ c.args.key.name _ _ (ap (λ v. v.held) c.self.view_is) c.deref.ensures.value c.find_name.ensures c.is_some.ensures ∙ c.if-is_some.false))
 
 pub invariant_of-self-2 : goal.invariant_of-self-2
 invariant_of-self-2 c =
     let none : first_named c.args.key.name c.self.inside.waiting.items ≡ None =
     sym (c.find_name.ensures ∙ ap (first_named c.args.key.name) c.deref.ensures.value) ∙ nothing c.find_name.result (sym c.is_some.ensures ∙ c.if-is_some.false) in
-    rw c.in_ok-push.ensures.items (EachNameOnce-push c.self.inside.waiting.items _ c.self.invariant none)
+    rw c.in_ok-push.ensures.items (apart_push name_of c.self.inside.waiting.items _ (none_named c.args.key.name c.self.inside.waiting.items none) c.self.invariant)
 
 pub returns-clause-answer : goal.returns-clause-answer
 returns-clause-answer c =
@@ -28,11 +30,11 @@ returns-clause-answer c =
 
 pub returns-clause-there : goal.returns-clause-there
 returns-clause-there c there =
-    absurd (true_not_false _ there (contained _ _ _ c.args.key.name _ _ (ap (λ v. v.held) c.self.view_is) c.deref.ensures.value c.find_name.ensures c.is_some.ensures ∙ c.if-is_some.false))
+    absurd (true≢false (sym there ∙ contained _ _ _ c.args.key.name _ _ (ap (λ v. v.held) c.self.view_is) c.deref.ensures.value c.find_name.ensures c.is_some.ensures ∙ c.if-is_some.false))
 
 pub returns-clause-content : goal.returns-clause-content
 returns-clause-content c =
     let none : first_named c.args.key.name c.self.inside.waiting.items ≡ None =
     sym (c.find_name.ensures ∙ ap (first_named c.args.key.name) c.deref.ensures.value) ∙ nothing c.find_name.result (sym c.is_some.ensures ∙ c.if-is_some.false) in
-    ap held_of c.in_ok-push.ensures.items ∙ held_of_push c.self.inside.waiting.items _ none
+    ap queue_of c.in_ok-push.ensures.items ∙ queue_of_push c.self.inside.waiting.items _ none
     ∙ ap (λ v. finmap.insert v.held c.args.key.name (c.args.release, c.args.key)) c.self.view_is

@@ -1,4 +1,4 @@
--- What a ready structure holds: the release and the key of each name.
+-- The queue of a ready structure: the release and the key of each name.
 use Rattle.std.specs.Prelude.{ℕ, List, map, filter, nat_le, not, refl}
 use Rattle.std.specs.List.{list_any}
 use Rattle.pfair_ready.specs.Names.{name_cmp, name_eq}
@@ -7,27 +7,27 @@ use Rattle.std.specs.Coded.{Coded, code_by, coded×, coded_ℕ, coded_list}
 use Rattle.pfair_order.specs.declared.Key.{Key}
 use Rattle.pfair_order.specs.KeyCode.{key_code}
 
--- what is held: from names to the release and the key
-abbrev pub Held : Type 0
-Held = finmap.FinMap name_cmp (ℕ × Key)
+-- from names to the release and the key
+abbrev pub Queue : Type 0
+Queue = finmap.FinMap name_cmp (ℕ × Key)
 
 -- the keys that are released by the slot
-abbrev pub released : ℕ → Held → List Key
+abbrev pub released : ℕ → Queue → List Key
 released slot held = map (λ e. e.1) (filter (λ e. nat_le e.0 slot) (finmap.values held))
 
--- what stays held when what is held under the names of the keys goes
-abbrev pub without : List Key → Held → Held
+-- the queue when what it has under the names of the keys goes
+abbrev pub without : List Key → Queue → Queue
 without keys held = finmap.retain_keys held (λ name. not (list_any (λ k. name_eq name k.name) keys))
 
--- what a ready structure is: a slot, and what is held
+-- what a ready structure is: a slot, and its queue
 pub record Content : Type 0 where
   pub now : ℕ
-  pub held : Held
+  pub held : Queue
 
 -- such a content is stored as its slot and its entries
 abbrev pub content_code : Coded Content
 content_code =
-    code_by (ℕ × Held)
+    code_by (ℕ × Queue)
     (coded× coded_ℕ (finmap.code (coded_list coded_ℕ) (coded× coded_ℕ key_code)))
     (λ c. (c.now, c.held))
     (λ p. record { now = p.0; held = p.1 })

@@ -1,0 +1,6 @@
+use Rattle.pfair_weight.proofs.NamesApart.{apart_nil}
+use Rattle.pfair_ready.proofs.PlainListLemmas.{name_of}
+use Rattle.pfair_ready.proofs.plain.PlainReadyReady.new.Goals as goal
+
+pub invariant_of-result : goal.invariant_of-result
+invariant_of-result c = rw c.new.ensures.items (apart_nil name_of)
