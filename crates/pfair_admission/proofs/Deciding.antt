@@ -5,7 +5,8 @@ use Rattle.std.proofs.lemmas.List.Sums.{sum_by_push}
 use Rattle.std.proofs.Common.{inl, inr}
 use Rattle.std.proofs.lemmas.Bool.{cases_lt}
 use Rattle.std.proofs.lemmas.Bool.Decides.{nat_tests}
-use Rattle.pfair_weight.specs.Options.{some_inj, nothing}
+use Rattle.std.proofs.lemmas.Option.{same_Some}
+use Rattle.pfair_weight.specs.Options.{nothing}
 use Rattle.pfair_weight.specs.Share.{Share, units_of}
 use Rattle.pfair_weight.specs.declared.window.TheConstants.{MAX_OFFSET}
 use Rattle.pfair_entry.specs.declared.announcement.Announcement.TheVariants.{Arrive, Late}
@@ -77,7 +78,7 @@ pub room_of_named : (ms : List Member) (name : List ℕ) (m : Member) → EachHa
 room_of_named [] name m h found = absurd (cc)
 room_of_named (x ∷ ms) name m h found =
     (elim (is_named name x) as (λ b. cond b (Some x) (member_named ms name) ≡ Some m → last_offset m + LONGEST_DELAY ≤ MAX_OFFSET) [
-      | true ↦ λ e. subst (λ (l : Member). last_offset l + LONGEST_DELAY ≤ MAX_OFFSET) (some_inj x m e) h.0
+      | true ↦ λ e. subst (λ (l : Member). last_offset l + LONGEST_DELAY ≤ MAX_OFFSET) (same_Some x m e) h.0
       | false ↦ λ e. room_of_named ms name m h.1 e
     ]) found
 

@@ -1,14 +1,16 @@
 -- Members that are freed by a slot, and count as gone while they are still listed.
 use Rattle.std.proofs.Common.{◌≡◌, ℕ, ◌+◌, ◌<◌, ◌≤◌, Bool, true, false, cond, List, [], ◌∷◌, ◌++◌, map, Option, Result, Ok, Err, IfOk, OnOk, OnErr, Some, None, refl, sym, ap, subst, ◌∙◌, arith}
-use Rattle.std.specs.Prelude.{not, nat_le, is_some, if◌then◌else◌}
+use Rattle.std.specs.Prelude.{not, nat_le, if◌then◌else◌}
 use Rattle.std.specs.List.{AllByRecursion, IsDistinct}
+use Rattle.std.specs.Map.{values_of, remove_entry}
 use Rattle.std.specs.Option.{option_map}
 use Rattle.std.specs.Cmp.Lexicographic.{bytes_decides}
 use Rattle.std.proofs.lemmas.Bool.Decides.{nat_tests}
 use Rattle.std.proofs.lemmas.List.Elements.{filter-append}
 use Rattle.std.proofs.lemmas.List.Sums.{sum_by-cons}
+use Rattle.pfair_weight.specs.Name.{NamesApart}
 use Rattle.pfair_weight.specs.Share.{Share, units_of}
-use Rattle.pfair_weight.specs.Options.{some_inj, none_some}
+use Rattle.std.proofs.lemmas.Option.{same_Some, none-some}
 use Rattle.pfair_entry.specs.Same.{name_eq}
 use Rattle.pfair_entry.specs.declared.announcement.Announcement.{Announcement}
 use Rattle.pfair_entry.specs.declared.announcement.Announcement.TheVariants.{Depart, Late}
@@ -16,11 +18,12 @@ use Rattle.pfair_admission.specs.declared.decision.Decision.{Decision}
 use Rattle.pfair_admission.specs.declared.decision.Decision.TheVariants.{Admitted, Departing, Delayed, Refused}
 use Rattle.pfair_admission.specs.Member.{Member}
 use Rattle.pfair_admission.specs.Admission.{Machine, is_named, member_named, claimed, departure, late_release, change, newcomer, with_freeing, with_delay, effect, is_freed, present, decided}
-use Rattle.pfair_admission.specs.Removal.{cleared, units_named, NoneFreedBefore}
-use Rattle.pfair_admission.specs.Roster.{NamesApart}
+use Rattle.pfair_admission.specs.Registry.{EachUnderItsName}
+use Rattle.pfair_admission.specs.Removal.{units_named, NoneFreedBefore}
 use Rattle.pfair_admission.specs.Ledger.{counted, standing}
 use Rattle.pfair_admission.specs.Standing.{Standing}
 use Rattle.pfair_admission.proofs.Deciding.{claimed_arrived, claimed_late}
+use Rattle.pfair_admission.proofs.Registers.{Entries}
 use Rattle.pfair_admission.proofs.MemberLists.{present_all, none_freed_present, none_freed_change, claimed_change}
 
 -- who is gone is gone
@@ -52,11 +55,11 @@ is_same machine under_way t ms after e is = ap (seen machine under_way) (one_und
 abbrev NoneNamed : List ℕ → List Member → Type 0
 NoneNamed name ms = AllByRecursion (λ n. name_eq name n ≡ false) (map (λ (m : Member). m.name) ms)
 
-others : (name : List ℕ) (m : Member) (ms : List Member) → NamesApart (m ∷ ms) → is_named name m ≡ true → NoneNamed name ms
+others : (name : List ℕ) (m : Member) (ms : List Member) → NamesApart (λ m. m.name) (m ∷ ms) → is_named name m ≡ true → NoneNamed name ms
 unfolding IsDistinct
 others name m ms apart named = subst (λ (k : List ℕ). NoneNamed k ms) (sym ((bytes_decides name m.name).0 named)) apart.0
 
-rest_apart : (m : Member) (ms : List Member) → NamesApart (m ∷ ms) → NamesApart ms
+rest_apart : (m : Member) (ms : List Member) → NamesApart (λ m. m.name) (m ∷ ms) → NamesApart (λ m. m.name) ms
 unfolding IsDistinct
 rest_apart m ms apart = apart.1
 
@@ -82,7 +85,7 @@ unless_freed t None = None
 unless_freed t (Some m) = if is_freed t m.freed_at then None else Some m
 
 -- a member that is gone is not found
-pub found_present : (t : ℕ) (name : List ℕ) (ms : List Member) → NamesApart ms → member_named (present t ms) name ≡ unless_freed t (member_named ms name)
+pub found_present : (t : ℕ) (name : List ℕ) (ms : List Member) → NamesApart (λ m. m.name) ms → member_named (present t ms) name ≡ unless_freed t (member_named ms name)
 found_present t name [] apart = refl
 found_present t name (m ∷ ms) apart =
     (elim (is_named name m) as (λ b. is_named name m ≡ b → member_named (present t (m ∷ ms)) name ≡ unless_freed t (cond b (Some m) (member_named ms name))) [
@@ -104,33 +107,56 @@ pub record IsFound (t : ℕ) (o : Option Member) (m : Member) : Type 0 where
   pub stays : is_freed t m.freed_at ≡ false
 
 pub found_stays : (t : ℕ) (o : Option Member) (m : Member) → unless_freed t o ≡ Some m → IsFound t o m
-found_stays t None m e = absurd (none_some m e)
+found_stays t None m e = absurd (none-some m e)
 found_stays t (Some x) m e =
     (elim (is_freed t x.freed_at) as (λ g. is_freed t x.freed_at ≡ g → (if g then None else Some x) ≡ Some m → IsFound t (Some x) m) [
-      | true ↦ λ _ e. absurd (none_some m e)
-      | false ↦ λ stays e. record { found = e; stays = subst (λ (y : Member). is_freed t y.freed_at ≡ false) (some_inj x m e) stays }
+      | true ↦ λ _ e. absurd (none-some m e)
+      | false ↦ λ stays e. record { found = e; stays = subst (λ (y : Member). is_freed t y.freed_at ≡ false) (same_Some x m e) stays }
     ]) refl e
 
 -- ---- those that make way
 
-pub present_cleared : (t : ℕ) (name : List ℕ) (ms : List Member) → present t (cleared t name ms) ≡ present t ms
-present_cleared t name ms = elim (is_some (member_named ms name)) as (λ b. present t (if b then present t ms else ms) ≡ present t ms) [ true ↦ present_again t ms | false ↦ refl ]
+-- those that are freed by the slot are gone
+pub first_present : (first : Option ℕ) (t : ℕ) (ms : List Member) → NoneFreedBefore first ms → NoneFreedBefore first (present t ms)
+first_present first t [] h = tt
+first_present first t (m ∷ ms) h =
+    elim (is_freed t m.freed_at) as (λ b. NoneFreedBefore first (cond (not b) (m ∷ present t ms) (present t ms))) [
+      | true ↦ first_present first t ms h.1
+      | false ↦ (h.0, first_present first t ms h.1)
+    ]
 
-pub first_cleared : (first : Option ℕ) (t : ℕ) (name : List ℕ) (ms : List Member) → NoneFreedBefore first ms → NoneFreedBefore first (cleared t name ms)
-first_cleared first t name ms h = elim (is_some (member_named ms name)) as (λ b. NoneFreedBefore first (if b then present t ms else ms)) [ true ↦ first_present first t ms h | false ↦ h ]
-  where
-    first_present : (first : Option ℕ) (t : ℕ) (ms : List Member) → NoneFreedBefore first ms → NoneFreedBefore first (present t ms)
-    first_present first t [] h = tt
-    first_present first t (m ∷ ms) h =
-        elim (is_freed t m.freed_at) as (λ b. NoneFreedBefore first (cond (not b) (m ∷ present t ms) (present t ms))) [
-          | true ↦ first_present first t ms h.1
-          | false ↦ (h.0, first_present first t ms h.1)
-        ]
+-- the named one is gone
+pub first_removed : (first : Option ℕ) (name : List ℕ) (es : Entries) → NoneFreedBefore first (values_of es) → NoneFreedBefore first (values_of (remove_entry (name_eq name) es))
+first_removed first name [] h = tt
+first_removed first name (e ∷ es) h =
+    elim (name_eq name e.0) as (λ b. NoneFreedBefore first (values_of (cond b es (e ∷ remove_entry (name_eq name) es)))) [
+      | true ↦ h.1
+      | false ↦ (h.0, first_removed first name es h.1)
+    ]
+
+pub present_removed : (t : ℕ) (name : List ℕ) (es : Entries) → EachUnderItsName es → member_named (present t (values_of es)) name ≡ None → present t (values_of (remove_entry (name_eq name) es)) ≡ present t (values_of es)
+present_removed t name [] h gone = refl
+present_removed t name (e ∷ es) h gone =
+    let rest : Entries = remove_entry (name_eq name) es in
+    let kept : Bool → List Member → List Member = λ g l. cond (not g) (e.1 ∷ l) l in
+    ap (λ b. present t (values_of (cond b es (e ∷ rest)))) (ap (name_eq name) (sym h.0))
+    ∙ (elim (is_named name e.1) as (λ b. is_named name e.1 ≡ b → present t (values_of (cond b es (e ∷ rest))) ≡ kept (is_freed t e.1.freed_at) (present t (values_of es))) [
+      | true ↦ λ named.
+          elim (is_freed t e.1.freed_at) as (λ g. member_named (kept g (present t (values_of es))) name ≡ None → present t (values_of es) ≡ kept g (present t (values_of es))) [
+            | true ↦ λ _. refl
+            | false ↦ λ none. absurd (none-some e.1 (sym none ∙ ap (λ b. cond b (Some e.1) (member_named (present t (values_of es)) name)) named))
+          ] gone
+      | false ↦ λ other.
+          elim (is_freed t e.1.freed_at) as (λ g. member_named (kept g (present t (values_of es))) name ≡ None → kept g (present t (values_of rest)) ≡ kept g (present t (values_of es))) [
+            | true ↦ λ none. present_removed t name es h.1 none
+            | false ↦ λ none. ap (λ (l : List Member). e.1 ∷ l) (present_removed t name es h.1 (sym (ap (λ b. cond b (Some e.1) (member_named (present t (values_of es)) name)) other) ∙ none))
+          ] gone
+    ]) refl
 
 -- a newcomer comes after those that are left
-pub present_entered : (t : ℕ) (name : List ℕ) (w : Share) (early : Bool) (ms : List Member) → present t (cleared t name ms ++ newcomer t name w early ∷ []) ≡ present t ms ++ newcomer t name w early ∷ []
-present_entered t name w early ms =
-    filter-append (λ (m : Member). not (is_freed t m.freed_at)) (cleared t name ms) (newcomer t name w early ∷ []) ∙ ap (λ (l : List Member). l ++ newcomer t name w early ∷ []) (present_cleared t name ms)
+pub present_entered : (t : ℕ) (name : List ℕ) (w : Share) (early : Bool) (others ms : List Member) → present t others ≡ present t ms → present t (others ++ newcomer t name w early ∷ []) ≡ present t ms ++ newcomer t name w early ∷ []
+present_entered t name w early others ms left =
+    filter-append (λ (m : Member). not (is_freed t m.freed_at)) others (newcomer t name w early ∷ []) ∙ ap (λ (l : List Member). l ++ newcomer t name w early ∷ []) left
 
 -- ---- changes
 
@@ -147,12 +173,12 @@ present_changed t name f keeps (m ∷ ms) =
     ])
 
 -- a change of a member that is not gone
-present_change : (t : ℕ) (name : List ℕ) (f : Member → Member) (ms : List Member) (found : Member) → NamesApart ms → IsFound t (member_named ms name) found → present t (change name f ms) ≡ present t (change name f (present t ms))
+present_change : (t : ℕ) (name : List ℕ) (f : Member → Member) (ms : List Member) (found : Member) → NamesApart (λ m. m.name) ms → IsFound t (member_named ms name) found → present t (change name f ms) ≡ present t (change name f (present t ms))
 present_change t name f [] found apart is = refl
 present_change t name f (m ∷ ms) found apart is =
     (elim (is_named name m) as (λ b. is_named name m ≡ b → IsFound t (cond b (Some m) (member_named ms name)) found → present t (cond b (f m) m ∷ change name f ms) ≡ present t (change name f (present t (m ∷ ms)))) [
       | true ↦ λ named here.
-          let stays : is_freed t m.freed_at ≡ false = subst (λ (y : Member). is_freed t y.freed_at ≡ false) (sym (some_inj m found here.found)) here.stays in
+          let stays : is_freed t m.freed_at ≡ false = subst (λ (y : Member). is_freed t y.freed_at ≡ false) (sym (same_Some m found here.found)) here.stays in
           let none = others name m ms apart named in
           let first : List Member → List Member = λ l. cond (not (is_freed t (f m).freed_at)) (f m ∷ l) l in
           ap (λ (l : List Member). first (present t l)) (none_changed name f ms none) ∙ ap first (sym (present_again t ms))
@@ -177,13 +203,13 @@ leaver : (t slot : ℕ) (o : Option Member) → Departing slot ≡ departure t o
 leaver t slot None e = absurd (cc)
 leaver t slot (Some m) e = (m, refl)
 
-pub leaver_found : (t slot : ℕ) (name : List ℕ) (ms : List Member) → NamesApart ms → Departing slot ≡ departure t (member_named (present t ms) name) → (m : Member) × IsFound t (member_named ms name) m
+pub leaver_found : (t slot : ℕ) (name : List ℕ) (ms : List Member) → NamesApart (λ m. m.name) ms → Departing slot ≡ departure t (member_named (present t ms) name) → (m : Member) × IsFound t (member_named ms name) m
 leaver_found t slot name ms apart is =
     let who = leaver t slot (member_named (present t ms) name) is in
     (who.0, found_stays t (member_named ms name) who.0 (sym (found_present t name ms apart) ∙ who.1))
 
 -- what is left of the others is what is decided
-pub departed_present : (machine : Machine) (t : ℕ) (name : List ℕ) (ms : List Member) (d : Decision) → NamesApart ms → d ≡ departure t (member_named (present t ms) name)
+pub departed_present : (machine : Machine) (t : ℕ) (name : List ℕ) (ms : List Member) (d : Decision) → NamesApart (λ m. m.name) ms → d ≡ departure t (member_named (present t ms) name)
     → present t (effect t ms (Depart name) d) ≡ decided machine t (present t ms) (Depart name)
 departed_present machine t name ms d apart is = by d is ∙ ap (λ (e : Decision). present t (effect t (present t ms) (Depart name) e)) is
   where
@@ -196,15 +222,15 @@ departed_present machine t name ms d apart is = by d is ∙ ap (λ (e : Decision
 -- ---- what is claimed
 
 -- where the member is freed by the slot, its units are
-claimed_now : (frame t slot : ℕ) (name : List ℕ) (ms : List Member) (found : Member) → slot ≤ t → NamesApart ms → IsFound t (member_named ms name) found → claimed frame (present t (change name (with_freeing slot) ms)) + units_of found.weight frame ≡ claimed frame (present t ms)
-claimed_now frame t slot name [] found now apart is = absurd (none_some found is.found)
+claimed_now : (frame t slot : ℕ) (name : List ℕ) (ms : List Member) (found : Member) → slot ≤ t → NamesApart (λ m. m.name) ms → IsFound t (member_named ms name) found → claimed frame (present t (change name (with_freeing slot) ms)) + units_of found.weight frame ≡ claimed frame (present t ms)
+claimed_now frame t slot name [] found now apart is = absurd (none-some found is.found)
 claimed_now frame t slot name (m ∷ ms) found now apart is =
     let freed : nat_le slot t ≡ true = grind (arith, nat_tests) in
     let units : Member → ℕ = λ (m : Member). units_of m.weight frame in
     (elim (is_named name m) as (λ b. is_named name m ≡ b → IsFound t (cond b (Some m) (member_named ms name)) found
     → claimed frame (present t (cond b (with_freeing slot m) m ∷ change name (with_freeing slot) ms)) + units_of found.weight frame ≡ claimed frame (present t (m ∷ ms))) [
       | true ↦ λ named here.
-          let is_found : m ≡ found = some_inj m found here.found in
+          let is_found : m ≡ found = same_Some m found here.found in
           let stays : is_freed t m.freed_at ≡ false = subst (λ (y : Member). is_freed t y.freed_at ≡ false) (sym is_found) here.stays in
           let gone : present t (with_freeing slot m ∷ change name (with_freeing slot) ms) ≡ present t ms =
           ap (λ g. cond (not g) (with_freeing slot m ∷ present t (change name (with_freeing slot) ms)) (present t (change name (with_freeing slot) ms))) freed ∙ ap (present t) (none_changed name (with_freeing slot) ms (others name m ms apart named)) in
@@ -225,7 +251,7 @@ claimed_now frame t slot name (m ∷ ms) found now apart is =
     ]) refl is
 
 -- where it is freed later, none are
-claimed_later : (frame t slot : ℕ) (name : List ℕ) (ms : List Member) (found : Member) → t < slot → NamesApart ms → IsFound t (member_named ms name) found → claimed frame (present t (change name (with_freeing slot) ms)) ≡ claimed frame (present t ms)
+claimed_later : (frame t slot : ℕ) (name : List ℕ) (ms : List Member) (found : Member) → t < slot → NamesApart (λ m. m.name) ms → IsFound t (member_named ms name) found → claimed frame (present t (change name (with_freeing slot) ms)) ≡ claimed frame (present t ms)
 claimed_later frame t slot name ms found later apart is =
     let stays : nat_le slot t ≡ false = grind (arith, nat_tests) in
     ap (claimed frame) (present_change t name (with_freeing slot) ms found apart is
@@ -242,7 +268,7 @@ named_changed name f keeps (m ∷ ms) =
     ]) refl
 
 -- what a leaver leaves of the claim, with its units
-pub claimed_gone : (frame t slot : ℕ) (under_way : Option ℕ) (name : List ℕ) (ms after : List Member) → under_way ≡ Some t → slot ≤ t → NamesApart ms → Departing slot ≡ departure t (member_named (present t ms) name) → after ≡ change name (with_freeing slot) ms
+pub claimed_gone : (frame t slot : ℕ) (under_way : Option ℕ) (name : List ℕ) (ms after : List Member) → under_way ≡ Some t → slot ≤ t → NamesApart (λ m. m.name) ms → Departing slot ≡ departure t (member_named (present t ms) name) → after ≡ change name (with_freeing slot) ms
     → claimed frame (counted under_way after) + units_named frame (member_named after name) ≡ claimed frame (counted under_way ms)
 claimed_gone frame t slot under_way name ms after e now apart is changed =
     let who = leaver_found t slot name ms apart is in
@@ -254,17 +280,17 @@ claimed_gone frame t slot under_way name ms after e now apart is changed =
     omega (arith, units, left, all, sum)
 
 -- or of the claim that it holds until it is freed
-pub claimed_held : (frame t slot : ℕ) (under_way : Option ℕ) (name : List ℕ) (ms after : List Member) → under_way ≡ Some t → t < slot → NamesApart ms → Departing slot ≡ departure t (member_named (present t ms) name) → after ≡ change name (with_freeing slot) ms
+pub claimed_held : (frame t slot : ℕ) (under_way : Option ℕ) (name : List ℕ) (ms after : List Member) → under_way ≡ Some t → t < slot → NamesApart (λ m. m.name) ms → Departing slot ≡ departure t (member_named (present t ms) name) → after ≡ change name (with_freeing slot) ms
     → claimed frame (counted under_way ms) ≡ claimed frame (counted under_way after)
 claimed_held frame t slot under_way name ms after e later apart is changed =
     let who = leaver_found t slot name ms apart is in
     sym (ap (claimed frame) (one_under_way under_way t after e ∙ ap (present t) changed) ∙ claimed_later frame t slot name ms who.0 later apart who.1 ∙ ap (claimed frame) (sym (one_under_way under_way t ms e)))
 
 -- a newcomer adds its units
-pub claimed_entered : (frame t : ℕ) (under_way : Option ℕ) (name : List ℕ) (w : Share) (early : Bool) (ms after : List Member) → under_way ≡ Some t → after ≡ cleared t name ms ++ newcomer t name w early ∷ []
+pub claimed_entered : (frame t : ℕ) (under_way : Option ℕ) (name : List ℕ) (w : Share) (early : Bool) (others ms after : List Member) → under_way ≡ Some t → present t others ≡ present t ms → after ≡ others ++ newcomer t name w early ∷ []
     → claimed frame (counted under_way after) ≡ claimed frame (counted under_way ms) + units_of w frame
-claimed_entered frame t under_way name w early ms after e entered =
-    ap (claimed frame) (one_under_way under_way t after e ∙ ap (present t) entered ∙ present_entered t name w early ms) ∙ claimed_arrived frame t (present t ms) name w early
+claimed_entered frame t under_way name w early others ms after e left entered =
+    ap (claimed frame) (one_under_way under_way t after e ∙ ap (present t) entered ∙ present_entered t name w early others ms left) ∙ claimed_arrived frame t (present t ms) name w early
     ∙ ap (λ l. claimed frame l + units_of w frame) (sym (one_under_way under_way t ms e))
 
 -- ---- late releases

@@ -1,8 +1,7 @@
 -- What boundaries and quanta keep.
-use Rattle.std.proofs.Common.{◌≡◌, ◌≢◌, ℕ, zero, suc, ◌+◌, ◌-◌, ◌<◌, ◌≤◌, Bool, true, false, cond, List, [], ◌∷◌, ◌++◌, map, length, get_or, Some, None, refl, sym, ap, subst, ◌∙◌, arith}
+use Rattle.std.proofs.Common.{◌≡◌, ◌≢◌, ℕ, zero, suc, ◌+◌, ◌-◌, ◌<◌, ◌≤◌, Bool, true, false, cond, List, [], ◌∷◌, ◌++◌, length, get_or, refl, sym, ap, subst, ◌∙◌, arith}
 use Rattle.std.specs.Prelude.{not, nat_le, ◌==◌, ◌||◌, max, if◌then◌else◌}
-use Rattle.std.specs.List.{AllByRecursion, IsDistinct, sum_by, filter}
-use Rattle.std.specs.Cmp.Lexicographic.{nat_list_eq_equiv}
+use Rattle.std.specs.List.{AllByRecursion, sum_by, filter}
 use Rattle.std.proofs.lemmas.Bool.Decides.{nat_tests}
 use Rattle.std.proofs.lemmas.List.Sums.{sum_by_push}
 use Rattle.std.proofs.lemmas.List.Kept.{AllPairs-filter}
@@ -10,7 +9,6 @@ use Rattle.std.proofs.lemmas.List.Quantifiers.{all_pairs_push}
 use Rattle.std.proofs.Math.Bool.{or-true}
 use Rattle.pfair_weight.specs.Share.{Share}
 use Rattle.pfair_weight.specs.Window.{release_of, starts_job_of}
-use Rattle.pfair_entry.specs.Same.{name_eq}
 use Rattle.pfair_entry.specs.declared.announcement.Announcement.{Announcement}
 use Rattle.pfair_entry.specs.declared.announcement.Announcement.TheVariants.{Arrive, Depart, Late}
 use Rattle.pfair_admission.specs.declared.decision.Decision.{Decision}
@@ -18,93 +16,11 @@ use Rattle.pfair_admission.specs.declared.decision.Decision.TheVariants.{Admitte
 use Rattle.pfair_admission.specs.declared.delay.Delay.{Delay}
 use Rattle.pfair_admission.specs.declared.refusal.Refusal.{Refusal}
 use Rattle.pfair_admission.specs.Member.{Member, theta, busy_until, freeing_slot, is_delayed_at, eligible_from}
-use Rattle.pfair_admission.specs.Admission.{Machine, is_named, member_named, arrival, newcomer, change, with_freeing, with_delay, with_quantum, effect, is_freed, present, decision, decided, all_decided, all_decisions, boundary, boundary_decisions, ran}
+use Rattle.pfair_admission.specs.Admission.{Machine, is_named, arrival, newcomer, change, with_freeing, with_delay, with_quantum, effect, is_freed, present, decision, decided, all_decided, all_decisions, boundary, boundary_decisions, ran}
 use Rattle.pfair_admission.specs.Removal.{NoneFreed}
-use Rattle.pfair_admission.specs.Roster.{NamesApart}
 use Rattle.pfair_admission.specs.Laws.{HaveRoom, JoinedInOrder}
 use Rattle.pfair_admission.proofs.MemberLists.{present_all, claimed_change, claimed_present}
-use Rattle.pfair_admission.proofs.Deciding.{admitted_new, admitted_room, claimed_arrived}
-
--- ---- names
-
-abbrev names : List Member → List (List ℕ)
-names ms = map (λ (m : Member). m.name) ms
-
--- a change that keeps the name keeps all names
-names_change : (name : List ℕ) (f : Member → Member) → ((m : Member) → (f m).name ≡ m.name) → (ms : List Member) → names (change name f ms) ≡ names ms
-names_change name f keeps [] = refl
-names_change name f keeps (m ∷ ms) =
-    let one : (cond (is_named name m) (f m) m).name ≡ m.name = elim (is_named name m) as (λ b. (cond b (f m) m).name ≡ m.name) [ true ↦ keeps m | false ↦ refl ] in
-    λ i. one i ∷ names_change name f keeps ms i
-
-apart_change : (name : List ℕ) (f : Member → Member) → ((m : Member) → (f m).name ≡ m.name) → (ms : List Member) → NamesApart ms → NamesApart (change name f ms)
-apart_change name f keeps ms h = subst (λ (ns : List (List ℕ)). IsDistinct name_eq ns) (sym (names_change name f keeps ms)) h
-
-others_filter : (p : Member → Bool) (n : List ℕ) (ms : List Member) → AllByRecursion (λ k. name_eq n k ≡ false) (names ms) → AllByRecursion (λ k. name_eq n k ≡ false) (names (filter p ms))
-others_filter p n [] h = tt
-others_filter p n (m ∷ ms) h =
-    elim (p m) as (λ b. AllByRecursion (λ k. name_eq n k ≡ false) (names (cond b (m ∷ filter p ms) (filter p ms)))) [
-      | true ↦ (h.0, others_filter p n ms h.1)
-      | false ↦ others_filter p n ms h.1
-    ]
-
-apart_filter : (p : Member → Bool) (ms : List Member) → NamesApart ms → NamesApart (filter p ms)
-unfolding IsDistinct
-apart_filter p [] h = tt
-apart_filter p (m ∷ ms) h =
-    elim (p m) as (λ b. NamesApart (cond b (m ∷ filter p ms) (filter p ms))) [
-      | true ↦ (others_filter p m.name ms h.0, apart_filter p ms h.1)
-      | false ↦ apart_filter p ms h.1
-    ]
-
-others_push : (n : List ℕ) (ms : List Member) (m : Member) → AllByRecursion (λ k. name_eq n k ≡ false) (names ms) → name_eq n m.name ≡ false → AllByRecursion (λ k. name_eq n k ≡ false) (names (ms ++ m ∷ []))
-others_push n [] m h other = (other, tt)
-others_push n (x ∷ ms) m h other = (h.0, others_push n ms m h.1 other)
-
-apart_push : (ms : List Member) (m : Member) → member_named ms m.name ≡ None → NamesApart ms → NamesApart (ms ++ m ∷ [])
-unfolding IsDistinct
-apart_push [] m none h = (tt, tt)
-apart_push (x ∷ ms) m none h =
-    (elim (is_named m.name x) as (λ b. is_named m.name x ≡ b → cond b (Some x) (member_named ms m.name) ≡ None → NamesApart (x ∷ (ms ++ m ∷ []))) [
-      | true ↦ λ _ e. absurd (cc)
-      | false ↦ λ other e. (others_push x.name ms m h.0 (nat_list_eq_equiv.symm x.name m.name ∙ other), apart_push ms m e h.1)
-    ]) refl none
-
-apart_arrives : (machine : Machine) (t : ℕ) (ms : List Member) (name : List ℕ) (w : Share) (early : Bool) (d : Decision) → d ≡ arrival machine ms name w → NamesApart ms → NamesApart (effect t ms (Arrive name w early) d)
-apart_arrives machine t ms name w early Admitted is h = apart_push ms (newcomer t name w early) (admitted_new machine ms name w is) h
-apart_arrives machine t ms name w early (Departing slot) is h = h
-apart_arrives machine t ms name w early Delayed is h = h
-apart_arrives machine t ms name w early (Refused r) is h = h
-
-apart_departs : (t : ℕ) (ms : List Member) (name : List ℕ) (d : Decision) → NamesApart ms → NamesApart (effect t ms (Depart name) d)
-apart_departs t ms name (Departing slot) h = apart_change name (with_freeing slot) (λ _. refl) ms h
-apart_departs t ms name Admitted h = h
-apart_departs t ms name Delayed h = h
-apart_departs t ms name (Refused r) h = h
-
-apart_late : (t : ℕ) (ms : List Member) (name : List ℕ) (index by : ℕ) (d : Decision) → NamesApart ms → NamesApart (effect t ms (Late name index by) d)
-apart_late t ms name index by Delayed h = apart_change name (with_delay index by) (λ _. refl) ms h
-apart_late t ms name index by Admitted h = h
-apart_late t ms name index by (Departing slot) h = h
-apart_late t ms name index by (Refused r) h = h
-
-apart_present : (t : ℕ) (ms : List Member) → NamesApart ms → NamesApart (present t ms)
-apart_present t ms h = apart_filter (λ (m : Member). not (is_freed t m.freed_at)) ms h
-
-apart_decided : (machine : Machine) (t : ℕ) (ms : List Member) (a : Announcement) → NamesApart ms → NamesApart (decided machine t ms a)
-apart_decided machine t ms (Arrive name w early) h = apart_present t (effect t ms (Arrive name w early) (arrival machine ms name w)) (apart_arrives machine t ms name w early (arrival machine ms name w) refl h)
-apart_decided machine t ms (Depart name) h = apart_present t (effect t ms (Depart name) (decision machine t ms (Depart name))) (apart_departs t ms name (decision machine t ms (Depart name)) h)
-apart_decided machine t ms (Late name index by) h = apart_present t (effect t ms (Late name index by) (decision machine t ms (Late name index by))) (apart_late t ms name index by (decision machine t ms (Late name index by)) h)
-
-apart_all : (machine : Machine) (t : ℕ) (ms : List Member) (announced : List Announcement) → NamesApart ms → NamesApart (all_decided machine t ms announced)
-apart_all machine t ms [] h = h
-apart_all machine t ms (a ∷ more) h = apart_all machine t (decided machine t ms a) more (apart_decided machine t ms a h)
-
-pub apart_boundary : (machine : Machine) (t : ℕ) (ms : List Member) (announced : List Announcement) → NamesApart ms → NamesApart (boundary machine t ms announced)
-apart_boundary machine t ms announced h = apart_all machine t (present t ms) announced (apart_present t ms h)
-
-pub apart_ran : (name : List ℕ) (ms : List Member) → NamesApart ms → NamesApart (ran name ms)
-apart_ran name ms h = apart_change name with_quantum (λ _. refl) ms h
+use Rattle.pfair_admission.proofs.Deciding.{admitted_room, claimed_arrived}
 
 -- ---- room
 

@@ -5,5 +5,6 @@ mod Delays
 mod Gone
 mod Keeping
 mod MemberLists
+pub mod NamesKept
 mod Registers
 mod Sums

@@ -3,15 +3,15 @@ use Rattle.std.proofs.Common.{◌≡◌, ℕ, zero, suc, Bool, true, false, cond
 use Rattle.std.specs.Prelude.{slice_get}
 use Rattle.std.specs.List.{AllByRecursion, IsDistinct, filter}
 use Rattle.std.specs.Option.{option_map, is_some}
-use Rattle.std.specs.Map.{keys_of, values_of, lookup}
+use Rattle.std.specs.Map.{keys_of, values_of, lookup, remove_entry}
 use Rattle.std.specs.Cmp.Lexicographic.{bytes_decides, nat_list_eq_equiv}
 use Rattle.indexmap.specs.IndexMap.{set_value_at}
-use Rattle.pfair_weight.specs.Options.{some_inj, none_some}
+use Rattle.pfair_weight.specs.Name.{NamesApart}
+use Rattle.std.proofs.lemmas.Option.{same_Some, none-some}
 use Rattle.pfair_entry.specs.Same.{name_eq}
 use Rattle.pfair_admission.specs.Member.{Member}
 use Rattle.pfair_admission.specs.Admission.{is_named, member_named, change}
 use Rattle.pfair_admission.specs.Registry.{EachUnderItsName}
-use Rattle.pfair_admission.specs.Roster.{NamesApart}
 
 abbrev pub Entries : Type 0
 Entries = List (List ℕ × Member)
@@ -44,10 +44,10 @@ entry_at_place (e ∷ es) (suc i) h = entry_at_place es i h.1
 
 -- who is found by a name has it
 found_named : (ms : List Member) (name : List ℕ) (m : Member) → member_named ms name ≡ Some m → m.name ≡ name
-found_named [] name m e = absurd (none_some m e)
+found_named [] name m e = absurd (none-some m e)
 found_named (x ∷ ms) name m e =
     (elim (is_named name x) as (λ b. is_named name x ≡ b → cond b (Some x) (member_named ms name) ≡ Some m → m.name ≡ name) [
-      | true ↦ λ named e. ap (λ (l : Member). l.name) (sym (some_inj x m e)) ∙ sym ((bytes_decides name x.name).0 named)
+      | true ↦ λ named e. ap (λ (l : Member). l.name) (sym (same_Some x m e)) ∙ sym ((bytes_decides name x.name).0 named)
       | false ↦ λ _ e. found_named ms name m e
     ]) refl e
 
@@ -59,7 +59,7 @@ found_entry es ms name i m h found at =
 -- a value that is written back where it was
 pub same_value : (es : Entries) (i : ℕ) (m : Member) → slice_get (values_of es) i ≡ Some m → set_value_at es i m ≡ es
 same_value [] i m e = refl
-same_value (e' ∷ es) zero m e = ap (λ (l : Member). (e'.0, l) ∷ es) (sym (some_inj e'.1 m e))
+same_value (e' ∷ es) zero m e = ap (λ (l : Member). (e'.0, l) ∷ es) (sym (same_Some e'.1 m e))
 same_value (e' ∷ es) (suc i) m e = ap (λ (l : Entries). e' ∷ l) (same_value es i m e)
 
 -- no other name's member changes
@@ -70,16 +70,16 @@ others_stay name f (e ∷ es) h apart =
     ap (λ b. cond b (f e.1) e.1 ∷ change name f (values_of es)) other ∙ ap (λ (l : List Member). e.1 ∷ l) (others_stay name f es h.1 apart.1)
 
 apart_at : (k : List ℕ) (es : Entries) (i : ℕ) (name : List ℕ) (m : Member) → AllByRecursion (λ n. name_eq k n ≡ false) (keys_of es) → slice_get es i ≡ Some (name, m) → name_eq k name ≡ false
-apart_at k [] i name m apart e = absurd (none_some (name, m) e)
-apart_at k (e' ∷ es) zero name m apart e = subst (λ n. name_eq k n ≡ false) (ap (λ (p : List ℕ × Member). p.0) (some_inj e' (name, m) e)) apart.0
+apart_at k [] i name m apart e = absurd (none-some (name, m) e)
+apart_at k (e' ∷ es) zero name m apart e = subst (λ n. name_eq k n ≡ false) (ap (λ (p : List ℕ × Member). p.0) (same_Some e' (name, m) e)) apart.0
 apart_at k (e' ∷ es) (suc i) name m apart e = apart_at k es i name m apart.1 e
 
 -- to write a member at its place is to change the member of its name
 pub written : (es : Entries) (i : ℕ) (name : List ℕ) (m : Member) (f : Member → Member) → EachUnderItsName es → IsDistinct name_eq (keys_of es) → slice_get es i ≡ Some (name, m) → values_of (set_value_at es i (f m)) ≡ change name f (values_of es)
 unfolding IsDistinct
-written [] i name m f h unique e = absurd (none_some (name, m) e)
+written [] i name m f h unique e = absurd (none-some (name, m) e)
 written (e' ∷ es) zero name m f h unique e =
-    let is : e' ≡ (name, m) = some_inj e' (name, m) e in
+    let is : e' ≡ (name, m) = same_Some e' (name, m) e in
     let key : e'.0 ≡ name = ap (λ (p : List ℕ × Member). p.0) is in
     let apart : AllByRecursion (λ n. name_eq name n ≡ false) (keys_of es) = subst (λ (k : List ℕ). AllByRecursion (λ n. name_eq k n ≡ false) (keys_of es)) key unique.0 in
     let named : name_eq name e'.1.name ≡ true = (bytes_decides name e'.1.name).1 (sym (h.0 ∙ key)) in
@@ -101,7 +101,7 @@ unique_written es i m unique = subst (λ (ks : List (List ℕ)). IsDistinct name
 
 pub named_written : (es : Entries) (i : ℕ) (m n : Member) → slice_get (values_of es) i ≡ Some m → n.name ≡ m.name → EachUnderItsName es → EachUnderItsName (set_value_at es i n)
 named_written [] i m n e same h = tt
-named_written (e' ∷ es) zero m n e same h = (same ∙ sym (ap (λ (l : Member). l.name) (some_inj e'.1 m e)) ∙ h.0, h.1)
+named_written (e' ∷ es) zero m n e same h = (same ∙ sym (ap (λ (l : Member). l.name) (same_Some e'.1 m e)) ∙ h.0, h.1)
 named_written (e' ∷ es) (suc i) m n e same h = (h.0, named_written es i m n e same h.1)
 
 -- those that go
@@ -121,6 +121,15 @@ named_filter p (e ∷ es) h =
       | false ↦ named_filter p es h.1
     ]
 
+-- the named one goes
+pub named_removed : (name : List ℕ) (es : Entries) → EachUnderItsName es → EachUnderItsName (remove_entry (name_eq name) es)
+named_removed name [] h = tt
+named_removed name (e ∷ es) h =
+    elim (name_eq name e.0) as (λ b. EachUnderItsName (cond b es (e ∷ remove_entry (name_eq name) es))) [
+      | true ↦ h.1
+      | false ↦ (h.0, named_removed name es h.1)
+    ]
+
 -- the member at the place that is found is the named one
 pub found_member : (es : Entries) (name : List ℕ) (i : ℕ) (m : Member) → EachUnderItsName es → slice_get (values_of es) i ≡ lookup (name_eq name) es → slice_get (values_of es) i ≡ Some m → member_named (values_of es) name ≡ Some m
 found_member es name i m h at is = sym (found_by_name name es h) ∙ sym at ∙ is
@@ -136,7 +145,7 @@ pub no_member : (es : Entries) (name : List ℕ) (place : Option ℕ) → EachUn
 no_member es name place h none same = sym (found_by_name name es h) ∙ none_there place (lookup (name_eq name) es) none same
 
 -- the names are apart, since the keys are
-pub names_apart : (es : Entries) → EachUnderItsName es → IsDistinct name_eq (keys_of es) → NamesApart (values_of es)
+pub names_apart : (es : Entries) → EachUnderItsName es → IsDistinct name_eq (keys_of es) → NamesApart (λ m. m.name) (values_of es)
 names_apart es h unique = subst (λ (ks : List (List ℕ)). IsDistinct name_eq ks) (sym (names_are_keys es h)) unique
 
 pub length_values : (es : Entries) → length (values_of es) ≡ length es
@@ -145,5 +154,5 @@ length_values (e ∷ es) = ap suc (length_values es)
 
 pub item_at : (ms : List Member) (i : ℕ) (m : Member) → slice_get ms i ≡ Some m → get_or ms i m ≡ m
 item_at [] i m e = refl
-item_at (x ∷ ms) zero m e = some_inj x m e
+item_at (x ∷ ms) zero m e = same_Some x m e
 item_at (x ∷ ms) (suc i) m e = item_at ms i m e

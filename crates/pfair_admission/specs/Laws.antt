@@ -1,6 +1,7 @@
 -- The laws of members, over every machine, slot and list of members.
 use Rattle.std.specs.Prelude.{ℕ, ◌≡◌, ◌≢◌, ◌+◌, ◌-◌, ◌*◌, ◌<◌, ◌≤◌, true, false, List, length, AllPairs}
 use Rattle.std.specs.List.{AllByRecursion}
+use Rattle.pfair_weight.specs.Name.{NamesApart}
 use Rattle.pfair_weight.specs.Window.{release_of, starts_job_of}
 use Rattle.pfair_entry.specs.declared.announcement.Announcement.{Announcement}
 use Rattle.pfair_admission.specs.declared.decision.Decision.TheVariants.{Refused}
@@ -8,12 +9,11 @@ use Rattle.pfair_admission.specs.declared.refusal.Refusal.{Refusal}
 use Rattle.pfair_admission.specs.Member.{Member, theta, busy_until, freeing_slot, is_delayed_at, eligible_from}
 use Rattle.pfair_admission.specs.Admission.{Machine, claimed, with_delay, decision, decided, boundary, boundary_decisions, ran}
 use Rattle.pfair_admission.specs.Removal.{NoneFreed}
-use Rattle.pfair_admission.specs.Roster.{NamesApart}
 
 -- a name stands once among the members
 pub record NamesStayApart : Type 0 where
-  pub boundaries : (machine : Machine) (t : ℕ) (members : List Member) (announced : List Announcement) → NamesApart members → NamesApart (boundary machine t members announced)
-  pub quanta : (name : List ℕ) (members : List Member) → NamesApart members → NamesApart (ran name members)
+  pub boundaries : (machine : Machine) (t : ℕ) (members : List Member) (announced : List Announcement) → NamesApart (λ m. m.name) members → NamesApart (λ m. m.name) (boundary machine t members announced)
+  pub quanta : (name : List ℕ) (members : List Member) → NamesApart (λ m. m.name) members → NamesApart (λ m. m.name) (ran name members)
 
 -- the members' weights add to no more than the processors
 abbrev pub HaveRoom : Machine → List Member → Type 0

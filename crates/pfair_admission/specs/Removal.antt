@@ -1,5 +1,5 @@
 -- Members that go, and when the first of them goes.
-use Rattle.std.specs.Prelude.{ℕ, min, false, ◌≡◌, ◌≤◌, ◌<◌, List, length, slice_get, Option, Some, None, is_some, if◌then◌else◌, IfSome, Any, ⊤}
+use Rattle.std.specs.Prelude.{ℕ, min, false, ◌≡◌, ◌≤◌, ◌<◌, List, length, slice_get, Option, Some, None, IfSome, Any, ⊤}
 use Rattle.std.specs.List.{AllByRecursion}
 use Rattle.pfair_weight.specs.Share.{units_of}
 use Rattle.pfair_admission.specs.Member.{Member}
@@ -9,10 +9,6 @@ use Rattle.pfair_admission.specs.Admission.{member_named, is_freed, present}
 pub record StandsAt (members : List Member) (t : ℕ) (name : List ℕ) (place : ℕ) : Type 0 where
   pub within : place < length members
   pub there : slice_get members place ≡ member_named (present t members) name
-
--- where some member has the name, those that are freed by slot t are gone
-abbrev pub cleared : ℕ → List ℕ → List Member → List Member
-cleared t name members = if is_some (member_named members name) then present t members else members
 
 -- the units of the named member
 abbrev pub units_named : ℕ → Option Member → ℕ
@@ -38,6 +34,12 @@ NoneFreedBefore first members = AllByRecursion (λ m. IsNotBefore first m.freed_
 -- some member is freed at the slot, where there is one
 abbrev pub SomeFreedAt : Option ℕ → List Member → Type 0
 SomeFreedAt slot members = IfSome slot (λ s. Any (λ m. m.freed_at ≡ Some s) members)
+
+-- the name is free, and some of those that are freed by slot t are gone
+pub record MakesWay (t : ℕ) (name : List ℕ) (old new : List Member) : Type 0 where
+  pub free : member_named new name ≡ None
+  pub present : present t new ≡ present t old
+  pub first : (first : Option ℕ) → NoneFreedBefore first old → NoneFreedBefore first new
 
 -- who is freed at slot t is gone
 abbrev pub NoneFreed : ℕ → List Member → Type 0

@@ -1,8 +1,7 @@
 -- What a contract sees of the members.
-use Rattle.std.specs.Prelude.{ℕ, ◌≡◌, ◌+◌, ◌*◌, ◌≤◌, List, Option, map, take}
-use Rattle.std.specs.List.{AllByRecursion, IsDistinct}
+use Rattle.std.specs.Prelude.{ℕ, ◌≡◌, ◌+◌, ◌*◌, ◌≤◌, List, Option, take}
+use Rattle.std.specs.List.{AllByRecursion}
 use Rattle.pfair_weight.specs.declared.window.TheConstants.{MAX_OFFSET}
-use Rattle.pfair_entry.specs.Same.{name_eq}
 use Rattle.pfair_entry.specs.declared.announcement.Announcement.{Announcement}
 use Rattle.pfair_entry.specs.declared.entry.TheConstants.Entry.{LAST_SLOT, LONGEST_DELAY}
 use Rattle.pfair_admission.specs.Member.{Member, last_offset}
@@ -17,10 +16,6 @@ pub record Roster : Type 0 where
 -- what the frees and some beginning of the announcements leave
 abbrev pub LeavesBeginning : Machine → ℕ → List Member → List Announcement → List Member → Type 0
 LeavesBeginning machine t members announced after = (k : ℕ) × (after ≡ all_decided machine t (present t members) (take k announced))
-
--- no two members have one name
-abbrev pub NamesApart : List Member → Type 0
-NamesApart members = IsDistinct name_eq (map (λ m. m.name) members)
 
 -- after so many announcements no member's offsets are past what as many of the longest delays make of the last slot
 abbrev pub EachBounded : ℕ → List Member → Type 0

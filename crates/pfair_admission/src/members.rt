@@ -75,8 +75,9 @@ impl Members {
     /// until then, and none where neither is so. Then each announcement costs a look-up of its
     /// name, and
     ///
-    /// - an arrival: two more where it is admitted, and a pass over all members where its name is
-    ///   held for one that is freed at this very slot; all such go in that pass;
+    /// - an arrival: two more where it is admitted, and a pass over the members behind it where its
+    ///   name is held for one that is freed at this very slot; where there are several such, all go
+    ///   in one pass over all members;
     /// - a departure: a pass over the accepted delays of the member where it ran, and a second
     ///   look-up where it is freed at its very stamp;
     /// - a late release: a number of steps that grows with the logarithm of the number of later

@@ -1,12 +1,12 @@
 //! The members by name, in the order of their admission.
 ghost use Rattle.std.specs.Prelude.{◌≡◌, ◌≤◌, ◌<◌, ◌+◌, ◌++◌, ◌∷◌, [], ◌^◌, OnOk, OnErr, IfOk, IfSome, None, Some, is_some, not, map, length, slice_get, if◌then◌else◌};
 ghost use Rattle.std.specs.Option.{ForSome, option_copied, option_map};
+ghost use Rattle.pfair_weight.specs.Name.{NamesApart};
 ghost use Rattle.pfair_entry.specs.declared.announcement.Announcement.TheVariants.{Arrive, Depart, Late};
 ghost use Rattle.pfair_admission.specs.Member.{last_offset};
 ghost use Rattle.pfair_admission.specs.Admission.{member_named, departure, late_release, effect, present, claimed, running, ran, quantum_of, is_freed};
-ghost use Rattle.pfair_admission.specs.Removal.{cleared, earlier_of, units_named, NoneFreedBefore, SomeFreedAt, StandsAt};
+ghost use Rattle.pfair_admission.specs.Removal.{MakesWay, earlier_of, units_named, NoneFreedBefore, SomeFreedAt, StandsAt};
 ghost use Rattle.pfair_weight.specs.Share.{units_of};
-ghost use Rattle.pfair_admission.specs.Roster.{NamesApart};
 
 use crate::decision::Decision;
 use crate::incarnation::{Incarnation, has_come};
@@ -89,20 +89,30 @@ impl Registry {
         Some(place)
     }
 
-    /// Where a member that is freed by `slot` has the name, all such members go.
-    pub(crate) fn make_way(&mut self, slot: u64, name: &TaskName)
-        ensures { self.new ≡ cleared slot name.now self.old }
+    /// Where a member that is freed by `slot` has the name, it goes. So many are `gone`, and the
+    /// answer is how many of them are left; nothing but the cost rests on these two: a single one
+    /// is taken out, at a pass over the members behind it, and several go all at once.
+    pub(crate) fn make_way(&mut self, slot: u64, name: &TaskName, gone: usize) -> usize
+        requires { member_named (present slot self.old) name.now ≡ None }
+        ensures way { MakesWay slot name.now self.old self.new }
+        ensures left { result ≡ (if is_some (member_named self.old name.now) then 0 else gone) }
     {
-        if self.members.contains_key(name) {
-            self.keep_present(slot);
+        if !self.members.contains_key(name) {
+            return gone;
         }
+        if gone > 1 {
+            self.keep_present(slot);
+        } else {
+            let _ = self.members.shift_remove(name);
+        }
+        0
     }
 
     /// A member departs, if that isn't refused. Who is freed by `slot` is gone.
     pub(crate) fn depart(&mut self, slot: u64, name: &TaskName) -> Decision
         ensures decision { result ≡ departure slot (member_named (present slot self.old) name.now) }
         ensures members { self.new ≡ effect slot self.old (Depart name.now) result }
-        ensures apart { NamesApart self.old }
+        ensures apart { NamesApart (λ m. m.name) self.old }
     {
         let Some(place) = self.place_of(slot, name) else {
             return Decision::Refused(Refusal::NoSuchTask);

@@ -1,5 +1,5 @@
 //! Worked boundaries.
-ghost use Rattle.std.specs.Prelude.{◌≤◌, ◌<◌};
+ghost use Rattle.std.specs.Prelude.{◌≤◌, ◌<◌, IfOk};
 ghost use Rattle.std.specs.List.{AllByRecursion};
 ghost use Rattle.pfair_entry.specs.Entry.{IsWithinLimits};
 
@@ -10,6 +10,8 @@ use std::alloc::{AllocError, Global};
 use std::process::Abort;
 
 const FREED_AT_ONCE: Decision = Decision::Departing { freed_at: 0 };
+
+const TOO_LATE: Decision = Decision::Refused(Refusal::AlreadyReleased);
 
 fn name(rt: &impl Abort, text: &str) -> TaskName {
     TaskName::from_bytes(text.as_bytes()).expect(rt, "a name")
@@ -108,8 +110,7 @@ fn runs(members: &mut Members, name: &TaskName) -> Option<u64> {
     if has_more { members.ran(name) } else { None }
 }
 
-fn refuses_arrivals_in_order(rt: &impl Abort, alloc: Global) -> Result<(), AllocError> {
-    let mut members = Members::new(alloc, 1, 12);
+fn refuses_arrivals_in_order(rt: &impl Abort, members: &mut Members) -> Result<(), AllocError> {
     let announced = [
         arrives(rt, "a", 1, 5, false),
         arrives(rt, "a", 12, 12, false),
@@ -124,43 +125,37 @@ fn refuses_arrivals_in_order(rt: &impl Abort, alloc: Global) -> Result<(), Alloc
         Decision::Refused(Refusal::PeriodOutsideFrame),
         Decision::Refused(Refusal::NoRoom),
     ];
-    decides(
-        rt,
-        &mut members,
-        0,
-        announced.as_slice(),
-        expected.as_slice(),
-    )
+    decides(rt, members, 0, announced.as_slice(), expected.as_slice())
 }
 
-fn holds_the_weight_of_a_leaver(rt: &impl Abort, alloc: Global) -> Result<(), AllocError> {
-    let (a, mut members) = (name(rt, "a"), Members::new(alloc, 1, 2));
+fn holds_the_weight_of_a_leaver(rt: &impl Abort, members: &mut Members) -> Result<(), AllocError> {
+    let a = name(rt, "a");
     decides_one(
         rt,
-        &mut members,
+        members,
         0,
         arrives(rt, "a", 1, 2, false),
         Decision::Admitted,
     )?;
-    assert_eq!(rt; runs(&mut members, &a), Some(1));
+    assert_eq!(rt; runs(members, &a), Some(1));
     decides_one(
         rt,
-        &mut members,
+        members,
         1,
         departs(rt, "a"),
         Decision::Departing { freed_at: 3 },
     )?;
-    assert_eq!(rt; runs(&mut members, &a), None);
+    assert_eq!(rt; runs(members, &a), None);
     decides_one(
         rt,
-        &mut members,
+        members,
         2,
         arrives(rt, "b", 1, 1, false),
         Decision::Refused(Refusal::NoRoom),
     )?;
     decides_one(
         rt,
-        &mut members,
+        members,
         3,
         arrives(rt, "b", 1, 1, false),
         Decision::Admitted,
@@ -172,33 +167,26 @@ fn holds_the_weight_of_a_leaver(rt: &impl Abort, alloc: Global) -> Result<(), Al
     Ok(())
 }
 
-fn frees_at_the_stamp(rt: &impl Abort, alloc: Global) -> Result<(), AllocError> {
-    let mut members = Members::new(alloc, 1, 1);
+fn frees_at_the_stamp(rt: &impl Abort, members: &mut Members) -> Result<(), AllocError> {
     let announced = [
         arrives(rt, "a", 1, 1, false),
         departs(rt, "a"),
         arrives(rt, "a", 1, 1, false),
     ];
     let expected = [Decision::Admitted, FREED_AT_ONCE, Decision::Admitted];
-    decides(
-        rt,
-        &mut members,
-        0,
-        announced.as_slice(),
-        expected.as_slice(),
-    )
+    decides(rt, members, 0, announced.as_slice(), expected.as_slice())
 }
 
-fn refuses_what_departs(rt: &impl Abort, alloc: Global) -> Result<(), AllocError> {
-    let (a, mut members) = (name(rt, "a"), Members::new(alloc, 1, 5));
+fn refuses_what_departs(rt: &impl Abort, members: &mut Members) -> Result<(), AllocError> {
+    let a = name(rt, "a");
     decides_one(
         rt,
-        &mut members,
+        members,
         0,
         arrives(rt, "a", 2, 5, false),
         Decision::Admitted,
     )?;
-    assert_eq!(rt; runs(&mut members, &a), Some(1));
+    assert_eq!(rt; runs(members, &a), Some(1));
     let announced = [
         departs(rt, "a"),
         departs(rt, "a"),
@@ -213,23 +201,17 @@ fn refuses_what_departs(rt: &impl Abort, alloc: Global) -> Result<(), AllocError
         Decision::Refused(Refusal::AlreadyDeparting),
         Decision::Refused(Refusal::NameTaken),
     ];
-    decides(
-        rt,
-        &mut members,
-        1,
-        announced.as_slice(),
-        expected.as_slice(),
-    )?;
+    decides(rt, members, 1, announced.as_slice(), expected.as_slice())?;
     decides_one(
         rt,
-        &mut members,
+        members,
         3,
         arrives(rt, "b", 1, 1, false),
         Decision::Refused(Refusal::NoRoom),
     )?;
     decides_one(
         rt,
-        &mut members,
+        members,
         4,
         arrives(rt, "b", 1, 1, false),
         Decision::Admitted,
@@ -237,76 +219,63 @@ fn refuses_what_departs(rt: &impl Abort, alloc: Global) -> Result<(), AllocError
     Ok(())
 }
 
-fn delays_what_is_not_released(rt: &impl Abort, alloc: Global) -> Result<(), AllocError> {
+// Subtask 2 of a task that ran once is put off in this slot, or it is too late for that.
+fn delays_what_is_not_released(
+    rt: &impl Abort,
+    members: &mut Members,
+    slot: u64,
+    expected: Decision,
+) -> Result<(), AllocError> {
     let a = name(rt, "a");
-    for (slot, expected) in [
-        (2, Decision::Delayed),
-        (3, Decision::Refused(Refusal::AlreadyReleased)),
-    ] {
-        let mut members = Members::new(alloc, 1, 2);
-        decides_one(
-            rt,
-            &mut members,
-            0,
-            arrives(rt, "a", 1, 2, false),
-            Decision::Admitted,
-        )?;
-        assert_eq!(rt; runs(&mut members, &a), Some(1));
-        decides_one(rt, &mut members, slot, is_late(rt, "a", 2, 3), expected)?;
-        let member = members.get(&a).expect(rt, "a member");
-        let (begins, key) = member.next_subtask();
-        assert_eq!(rt;
-            (member.next(), begins, key.d, key.b, key.name),
-            {
-                if slot == 2 {
-                    (2, 5, 7, 0, a)
-                } else {
-                    (2, 2, 4, 0, a)
-                }
-            }
-        );
-        assert_eq!(rt; member.theta(1), 0);
-    }
+    decides_one(
+        rt,
+        members,
+        0,
+        arrives(rt, "a", 1, 2, false),
+        Decision::Admitted,
+    )?;
+    assert_eq!(rt; runs(members, &a), Some(1));
+    decides_one(rt, members, slot, is_late(rt, "a", 2, 3), expected)?;
+    let (begins_at, deadline) = if expected == Decision::Delayed {
+        (5, 7)
+    } else {
+        (2, 4)
+    };
+    is_next(rt, members, &a, 2, begins_at, deadline);
+    let member = members.get(&a).expect(rt, "a member");
+    let (_begins, key) = member.next_subtask();
+    assert_eq!(rt; (key.b, member.theta(1)), (0, 0));
     Ok(())
 }
 
-fn releases_early_within_a_job(rt: &impl Abort, alloc: Global) -> Result<(), AllocError> {
-    let (a, mut members) = (name(rt, "a"), Members::new(alloc, 1, 4));
+fn releases_early_within_a_job(rt: &impl Abort, members: &mut Members) -> Result<(), AllocError> {
+    let a = name(rt, "a");
     decides_one(
         rt,
-        &mut members,
+        members,
         0,
         arrives(rt, "a", 2, 4, true),
         Decision::Admitted,
     )?;
-    assert_eq!(rt; runs(&mut members, &a), Some(1));
+    assert_eq!(rt; runs(members, &a), Some(1));
     assert_eq!(rt; members.get(&a).expect(rt, "a member").eligible(2), 0);
-    decides_one(
-        rt,
-        &mut members,
-        1,
-        is_late(rt, "a", 2, 3),
-        Decision::Delayed,
-    )?;
+    decides_one(rt, members, 1, is_late(rt, "a", 2, 3), Decision::Delayed)?;
     assert_eq!(rt; members.get(&a).expect(rt, "a member").eligible(2), 5);
+    Ok(())
+}
 
-    let mut members = Members::new(alloc, 1, 4);
+fn ran_early_and_is_not_delayed(rt: &impl Abort, members: &mut Members) -> Result<(), AllocError> {
+    let a = name(rt, "a");
     decides_one(
         rt,
-        &mut members,
+        members,
         0,
         arrives(rt, "a", 2, 4, true),
         Decision::Admitted,
     )?;
-    assert_eq!(rt; runs(&mut members, &a), Some(1));
-    assert_eq!(rt; runs(&mut members, &a), Some(2));
-    decides_one(
-        rt,
-        &mut members,
-        2,
-        is_late(rt, "a", 2, 3),
-        Decision::Refused(Refusal::AlreadyReleased),
-    )?;
+    assert_eq!(rt; runs(members, &a), Some(1));
+    assert_eq!(rt; runs(members, &a), Some(2));
+    decides_one(rt, members, 2, is_late(rt, "a", 2, 3), TOO_LATE)?;
     let member = members.get(&a).expect(rt, "a member");
     assert_eq!(rt;
         (member.next(), member.eligible(3), member.early()),
@@ -333,32 +302,20 @@ fn is_next(
     assert!(rt; key.name == *name);
 }
 
-fn adds_up_delays(rt: &impl Abort, alloc: Global) -> Result<(), AllocError> {
-    let (a, mut members) = (name(rt, "a"), Members::new(alloc, 1, 2));
+fn adds_up_delays(rt: &impl Abort, members: &mut Members) -> Result<(), AllocError> {
+    let a = name(rt, "a");
     let announced = [
         arrives(rt, "a", 1, 2, false),
         is_late(rt, "a", 3, 1),
         is_late(rt, "a", 2, 2),
     ];
     let expected = [Decision::Admitted, Decision::Delayed, Decision::Delayed];
-    decides(
-        rt,
-        &mut members,
-        0,
-        announced.as_slice(),
-        expected.as_slice(),
-    )?;
-    is_next(rt, &members, &a, 1, 0, 2);
-    assert_eq!(rt; runs(&mut members, &a), Some(1));
-    is_next(rt, &members, &a, 2, 4, 6);
-    decides_one(
-        rt,
-        &mut members,
-        1,
-        is_late(rt, "a", 3, 4),
-        Decision::Delayed,
-    )?;
-    is_next(rt, &members, &a, 2, 4, 6);
+    decides(rt, members, 0, announced.as_slice(), expected.as_slice())?;
+    is_next(rt, members, &a, 1, 0, 2);
+    assert_eq!(rt; runs(members, &a), Some(1));
+    is_next(rt, members, &a, 2, 4, 6);
+    decides_one(rt, members, 1, is_late(rt, "a", 3, 4), Decision::Delayed)?;
+    is_next(rt, members, &a, 2, 4, 6);
     let member = members.get(&a).expect(rt, "a member");
     for (index, theta, eligible) in [(1, 0, 0), (2, 2, 4), (3, 7, 11)] {
         assert_eq!(rt;
@@ -366,18 +323,12 @@ fn adds_up_delays(rt: &impl Abort, alloc: Global) -> Result<(), AllocError> {
             (theta, eligible)
         );
     }
-    assert_eq!(rt; runs(&mut members, &a), Some(2));
-    is_next(rt, &members, &a, 3, 11, 13);
-    decides_one(
-        rt,
-        &mut members,
-        2,
-        is_late(rt, "a", 3, 5),
-        Decision::Delayed,
-    )?;
-    is_next(rt, &members, &a, 3, 16, 18);
-    assert_eq!(rt; runs(&mut members, &a), Some(3));
-    is_next(rt, &members, &a, 4, 18, 20);
+    assert_eq!(rt; runs(members, &a), Some(2));
+    is_next(rt, members, &a, 3, 11, 13);
+    decides_one(rt, members, 2, is_late(rt, "a", 3, 5), Decision::Delayed)?;
+    is_next(rt, members, &a, 3, 16, 18);
+    assert_eq!(rt; runs(members, &a), Some(3));
+    is_next(rt, members, &a, 4, 18, 20);
     Ok(())
 }
 
@@ -385,51 +336,38 @@ fn adds_up_delays(rt: &impl Abort, alloc: Global) -> Result<(), AllocError> {
 // 10; without its delays it would be in slot 4.
 fn weighs_a_late_release_by_its_own_offset(
     rt: &impl Abort,
-    alloc: Global,
+    members: &mut Members,
 ) -> Result<(), AllocError> {
-    let (a, mut members) = (name(rt, "a"), Members::new(alloc, 1, 2));
+    let a = name(rt, "a");
     let announced = [arrives(rt, "a", 1, 2, false), is_late(rt, "a", 3, 4)];
     let expected = [Decision::Admitted, Decision::Delayed];
-    decides(
-        rt,
-        &mut members,
-        0,
-        announced.as_slice(),
-        expected.as_slice(),
-    )?;
+    decides(rt, members, 0, announced.as_slice(), expected.as_slice())?;
     for (slot, expected) in [
         (6, Decision::Delayed),
         (9, Decision::Delayed),
-        (11, Decision::Refused(Refusal::AlreadyReleased)),
+        (11, TOO_LATE),
     ] {
-        decides_one(rt, &mut members, slot, is_late(rt, "a", 3, 1), expected)?;
+        decides_one(rt, members, slot, is_late(rt, "a", 3, 1), expected)?;
     }
     let member = members.get(&a).expect(rt, "a member");
     assert_eq!(rt; (member.theta(3), member.eligible(3)), (6, 10));
-    is_next(rt, &members, &a, 1, 0, 2);
+    is_next(rt, members, &a, 1, 0, 2);
     Ok(())
 }
 
-fn waits_for_its_own_delay_alone(rt: &impl Abort, alloc: Global) -> Result<(), AllocError> {
-    let (a, mut members) = (name(rt, "a"), Members::new(alloc, 1, 4));
+fn waits_for_its_own_delay_alone(rt: &impl Abort, members: &mut Members) -> Result<(), AllocError> {
+    let a = name(rt, "a");
     let announced = [arrives(rt, "a", 3, 4, true), is_late(rt, "a", 2, 3)];
     let expected = [Decision::Admitted, Decision::Delayed];
-    decides(
-        rt,
-        &mut members,
-        0,
-        announced.as_slice(),
-        expected.as_slice(),
-    )?;
+    decides(rt, members, 0, announced.as_slice(), expected.as_slice())?;
     for (index, begins_at, deadline) in [(1, 0, 2), (2, 4, 6), (3, 0, 7), (4, 7, 9)] {
-        is_next(rt, &members, &a, index, begins_at, deadline);
-        assert_eq!(rt; runs(&mut members, &a), Some(index));
+        is_next(rt, members, &a, index, begins_at, deadline);
+        assert_eq!(rt; runs(members, &a), Some(index));
     }
     Ok(())
 }
 
-fn keeps_the_order_of_admission(rt: &impl Abort, alloc: Global) -> Result<(), AllocError> {
-    let mut members = Members::new(alloc, 1, 4);
+fn keeps_the_order_of_admission(rt: &impl Abort, members: &mut Members) -> Result<(), AllocError> {
     assert!(rt; members.is_empty());
     let announced = [
         arrives(rt, "a", 1, 4, false),
@@ -439,7 +377,7 @@ fn keeps_the_order_of_admission(rt: &impl Abort, alloc: Global) -> Result<(), Al
     ];
     decides(
         rt,
-        &mut members,
+        members,
         0,
         announced.as_slice(),
         [
@@ -452,7 +390,7 @@ fn keeps_the_order_of_admission(rt: &impl Abort, alloc: Global) -> Result<(), Al
     )?;
     decides_one(
         rt,
-        &mut members,
+        members,
         1,
         arrives(rt, "a", 1, 4, true),
         Decision::Admitted,
@@ -468,8 +406,7 @@ fn keeps_the_order_of_admission(rt: &impl Abort, alloc: Global) -> Result<(), Al
     Ok(())
 }
 
-fn rejoins_at_one_boundary(rt: &impl Abort, alloc: Global) -> Result<(), AllocError> {
-    let mut members = Members::new(alloc, 1, 4);
+fn rejoins_at_one_boundary(rt: &impl Abort, members: &mut Members) -> Result<(), AllocError> {
     let announced = [
         arrives(rt, "a", 1, 4, false),
         arrives(rt, "b", 1, 4, false),
@@ -483,6 +420,8 @@ fn rejoins_at_one_boundary(rt: &impl Abort, alloc: Global) -> Result<(), AllocEr
         arrives(rt, "b", 2, 4, true),
         arrives(rt, "e", 2, 4, false),
         arrives(rt, "e", 1, 4, false),
+        departs(rt, "d"),
+        arrives(rt, "d", 1, 4, false),
     ];
     let expected = [
         Decision::Admitted,
@@ -497,15 +436,11 @@ fn rejoins_at_one_boundary(rt: &impl Abort, alloc: Global) -> Result<(), AllocEr
         Decision::Admitted,
         Decision::Refused(Refusal::NoRoom),
         Decision::Admitted,
+        FREED_AT_ONCE,
+        Decision::Admitted,
     ];
-    decides(
-        rt,
-        &mut members,
-        0,
-        announced.as_slice(),
-        expected.as_slice(),
-    )?;
-    stand_in_order(rt, &members, [("d", 1), ("b", 2), ("e", 1)].as_slice());
+    decides(rt, members, 0, announced.as_slice(), expected.as_slice())?;
+    stand_in_order(rt, members, [("b", 2), ("e", 1), ("d", 1)].as_slice());
     Ok(())
 }
 
@@ -543,78 +478,144 @@ fn arrives_light(rt: &impl Abort, place: u8) -> Said
     })
 }
 
-fn admits_as_many_as_fit(rt: &impl Abort, alloc: Global) -> Result<(), AllocError> {
-    let mut members = Members::new(alloc, 1, 199);
-    let mut announced = Vec::with_capacity(alloc, 200)?;
-    let mut expected = Vec::with_capacity(alloc, 200)?;
+fn light_arrivals(rt: &impl Abort, alloc: Global) -> Result<Vec<Said>, AllocError>
+    ensures { IfOk result (λ all. AllByRecursion (λ a. IsWithinLimits a.announcement) all.items) }
+{
+    let mut announced = Vec::new(alloc);
     for place in 0..200_u8 {
         announced.push(arrives_light(rt, place))?;
-        expected.push(if place < 199 {
-            Decision::Admitted
-        } else {
-            Decision::Refused(Refusal::NoRoom)
-        })?;
     }
-    decides(rt, &mut members, 0, &announced, &expected)?;
+    Ok(announced)
+}
+
+// All are admitted but the last one, for which there is no room.
+fn all_but_the_last(alloc: Global) -> Result<Vec<Decision>, AllocError> {
+    let mut expected = Vec::new(alloc);
+    for _ in 0..199 {
+        expected.push(Decision::Admitted)?;
+    }
+    expected.push(Decision::Refused(Refusal::NoRoom))?;
+    Ok(expected)
+}
+
+fn admits_as_many_as_fit(
+    rt: &impl Abort,
+    members: &mut Members,
+    announced: &[Said],
+    expected: &[Decision],
+) -> Result<(), AllocError>
+    requires { AllByRecursion (λ a. IsWithinLimits a.announcement) announced.now }
+{
+    decides(rt, members, 0, announced, expected)?;
     assert_eq!(rt; (members.len(), members.heard()), (199, 200));
     let (last, _member) = members.at(198).expect(rt, "a member");
     assert!(rt; last.as_bytes() == b"t198".as_slice());
     Ok(())
 }
 
-fn decides_four_at_once(rt: &impl Abort, alloc: Global) -> Result<(), AllocError> {
-    let mut members = Members::new(alloc, 1, 3);
+fn decides_four_at_once(rt: &impl Abort, members: &mut Members) -> Result<(), AllocError> {
     let announced = [
         arrives(rt, "a", 1, 3, false),
         arrives(rt, "b", 1, 3, false),
         is_late(rt, "b", 2, 5),
         departs(rt, "a"),
     ];
-    let all = members.boundary(7, announced.as_slice())?;
-    let offset = members.get(&name(rt, "b")).map(|b| b.theta(2));
-    assert_eq!(rt; (members.len(), offset), (1, Some(12)));
-    assert_eq!(rt; (members.heard(), members.last_slot()), (4, Some(7)));
     let expected = [
         Decision::Admitted,
         Decision::Admitted,
         Decision::Delayed,
         Decision::Departing { freed_at: 7 },
     ];
-    assert_eq!(rt; all.as_slice(), expected.as_slice());
+    decides(rt, members, 7, announced.as_slice(), expected.as_slice())?;
+    let offset = members.get(&name(rt, "b")).map(|b| b.theta(2));
+    assert_eq!(rt; (members.len(), offset), (1, Some(12)));
+    assert_eq!(rt; (members.heard(), members.last_slot()), (4, Some(7)));
     Ok(())
 }
 
-#[test]
-fn decides_the_rows(rt: HostRuntime) -> Result<(), AllocError> {
-    refuses_arrivals_in_order(&rt, rt.alloc())?;
-    admits_as_many_as_fit(&rt, rt.alloc())?;
-    holds_the_weight_of_a_leaver(&rt, rt.alloc())?;
-    frees_at_the_stamp(&rt, rt.alloc())?;
-    refuses_what_departs(&rt, rt.alloc())?;
-    Ok(())
+// No member, on one processor.
+fn nobody(alloc: Global, frame: u64) -> Members
+    requires some_slot { 1 ≤ frame }
+    requires short_frame { frame ≤ Members.MAX_FRAME }
+{
+    Members::new(alloc, 1, frame)
 }
 
 #[test]
-fn delays_and_releases_early(rt: HostRuntime) -> Result<(), AllocError> {
-    delays_what_is_not_released(&rt, rt.alloc())?;
-    releases_early_within_a_job(&rt, rt.alloc())?;
-    adds_up_delays(&rt, rt.alloc())?;
-    weighs_a_late_release_by_its_own_offset(&rt, rt.alloc())?;
-    waits_for_its_own_delay_alone(&rt, rt.alloc())?;
-    Ok(())
+fn an_arrival_is_refused_by_the_first_cause(rt: HostRuntime) -> Result<(), AllocError> {
+    refuses_arrivals_in_order(&rt, &mut nobody(rt.alloc(), 12))
 }
 
 #[test]
-fn keeps_order(rt: HostRuntime) -> Result<(), AllocError> {
-    keeps_the_order_of_admission(&rt, rt.alloc())?;
-    rejoins_at_one_boundary(&rt, rt.alloc())?;
-    Ok(())
+fn a_leaver_holds_its_weight(rt: HostRuntime) -> Result<(), AllocError> {
+    holds_the_weight_of_a_leaver(&rt, &mut nobody(rt.alloc(), 2))
+}
+
+#[test]
+fn who_never_ran_is_freed_at_the_stamp(rt: HostRuntime) -> Result<(), AllocError> {
+    frees_at_the_stamp(&rt, &mut nobody(rt.alloc(), 1))
+}
+
+#[test]
+fn what_departs_is_refused_changes(rt: HostRuntime) -> Result<(), AllocError> {
+    refuses_what_departs(&rt, &mut nobody(rt.alloc(), 5))
+}
+
+#[test]
+fn a_subtask_is_put_off_before_its_release(rt: HostRuntime) -> Result<(), AllocError> {
+    delays_what_is_not_released(&rt, &mut nobody(rt.alloc(), 2), 2, Decision::Delayed)
+}
+
+#[test]
+fn a_subtask_is_not_put_off_after_its_release(rt: HostRuntime) -> Result<(), AllocError> {
+    delays_what_is_not_released(&rt, &mut nobody(rt.alloc(), 2), 3, TOO_LATE)
+}
+
+#[test]
+fn an_early_subtask_waits_for_its_own_delay(rt: HostRuntime) -> Result<(), AllocError> {
+    releases_early_within_a_job(&rt, &mut nobody(rt.alloc(), 4))
+}
+
+#[test]
+fn a_subtask_that_ran_early_is_not_put_off(rt: HostRuntime) -> Result<(), AllocError> {
+    ran_early_and_is_not_delayed(&rt, &mut nobody(rt.alloc(), 4))
+}
+
+#[test]
+fn delays_add_up(rt: HostRuntime) -> Result<(), AllocError> {
+    adds_up_delays(&rt, &mut nobody(rt.alloc(), 2))
+}
+
+#[test]
+fn a_late_release_is_weighed_by_its_own_offset(rt: HostRuntime) -> Result<(), AllocError> {
+    weighs_a_late_release_by_its_own_offset(&rt, &mut nobody(rt.alloc(), 2))
+}
+
+#[test]
+fn an_early_subtask_waits_for_no_other_delay(rt: HostRuntime) -> Result<(), AllocError> {
+    waits_for_its_own_delay_alone(&rt, &mut nobody(rt.alloc(), 4))
+}
+
+#[test]
+fn members_stand_in_the_order_of_admission(rt: HostRuntime) -> Result<(), AllocError> {
+    keeps_the_order_of_admission(&rt, &mut nobody(rt.alloc(), 4))
+}
+
+#[test]
+fn a_name_joins_again_at_the_boundary_that_freed_it(rt: HostRuntime) -> Result<(), AllocError> {
+    rejoins_at_one_boundary(&rt, &mut nobody(rt.alloc(), 4))
 }
 
 #[test]
 fn joins_delays_and_departs_at_one_boundary(rt: HostRuntime) -> Result<(), AllocError> {
-    decides_four_at_once(&rt, rt.alloc())?;
-    Ok(())
+    decides_four_at_once(&rt, &mut nobody(rt.alloc(), 3))
+}
+
+#[test]
+fn has_room_for_199_of_199(rt: HostRuntime) -> Result<(), AllocError> {
+    let announced = light_arrivals(&rt, rt.alloc())?;
+    let expected = all_but_the_last(rt.alloc())?;
+    admits_as_many_as_fit(&rt, &mut nobody(rt.alloc(), 199), &announced, &expected)
 }
 
 #[test]

@@ -1,4 +1,4 @@
-use Rattle.pfair_admission.proofs.Keeping.{apart_boundary, apart_ran}
+use Rattle.pfair_admission.proofs.NamesKept.{apart_boundary, apart_ran}
 use Rattle.pfair_admission.proofs.laws.names_stay_apart.Goals as goal
 
 pub returns : goal.returns

@@ -1,8 +1,9 @@
 use Rattle.std.proofs.Common.{◌≡◌, Some, sym, ap, subst, ◌∙◌}
 use Rattle.std.specs.Prelude.{slice_get}
+use Rattle.pfair_weight.specs.Name.{NamesApart}
 use Rattle.pfair_entry.specs.declared.announcement.Announcement.TheVariants.{Depart}
+use Rattle.pfair_admission.specs.Member.{Member}
 use Rattle.pfair_admission.specs.Admission.{member_named, departure, effect, present}
-use Rattle.pfair_admission.specs.Roster.{NamesApart}
 use Rattle.pfair_admission.proofs.Registers.{found_entry, none_there, unique_written, named_written, names_apart}
 use Rattle.pfair_admission.proofs.Changes.{departed, departed_name}
 use Rattle.pfair_admission.proofs.registry.Registry.depart.Goals as goal
@@ -33,7 +34,7 @@ returns-clause-members c =
     ∙ ap (λ ms. effect c.args.slot ms (Depart c.args.name.now) c.depart.result) c.self.view_is
 
 pub returns-in_default-clause-apart : goal.returns-in_default-clause-apart
-returns-in_default-clause-apart c = subst NamesApart c.self.view_is (names_apart c.self.inside.members.entries c.self.invariant.named c.self.invariant.unique)
+returns-in_default-clause-apart c = subst (NamesApart (λ (m : Member). m.name)) c.self.view_is (names_apart c.self.inside.members.entries c.self.invariant.named c.self.invariant.unique)
 
 pub returns-clause-apart : goal.returns-clause-apart
-returns-clause-apart c = subst NamesApart c.self.view_is (names_apart c.self.inside.members.entries c.self.invariant.named c.self.invariant.unique)
+returns-clause-apart c = subst (NamesApart (λ (m : Member). m.name)) c.self.view_is (names_apart c.self.inside.members.entries c.self.invariant.named c.self.invariant.unique)

@@ -1,7 +1,7 @@
 use Rattle.std.proofs.Common.{◌≡◌, Some, sym, ap, ◌∙◌}
 use Rattle.std.specs.Option.{option_map}
 use Rattle.pfair_admission.specs.Admission.{member_named, running, quantum_of}
-use Rattle.pfair_weight.specs.Options.{none_some}
+use Rattle.std.proofs.lemmas.Option.{none-some}
 use Rattle.pfair_admission.proofs.Registers.{found_entry, found_member, no_member, unique_written, named_written}
 use Rattle.pfair_admission.proofs.Changes.{ran_written, ran_name}
 use Rattle.pfair_admission.proofs.registry.Registry.run_on.Goals as goal
@@ -15,7 +15,7 @@ found c =
 
 pub returns-in_err-place-clause-quantum : goal.returns-in_err-place-clause-quantum
 returns-in_err-place-clause-quantum c =
-    let none = no_member c.self.inside.members.entries c.args.name.now c.get_index_of.result c.self.invariant.named (λ i some. none_some i (sym c.in_err-place.was ∙ some)) c.get_index_of.ensures.found in
+    let none = no_member c.self.inside.members.entries c.args.name.now c.get_index_of.result c.self.invariant.named (λ i some. none-some i (sym c.in_err-place.was ∙ some)) c.get_index_of.ensures.found in
     c.from_residual.ensures
     ∙ sym (ap (λ ms. option_map quantum_of (running (member_named ms c.args.name.now))) (sym c.self.view_is) ∙ ap (λ o. option_map quantum_of (running o)) none)
 

@@ -1,6 +1,6 @@
 use Rattle.std.specs.List.{AllByRecursion}
 use Rattle.pfair_entry.specs.Entry.{IsWithinLimits}
-use Rattle.pfair_admission.proofs.tests.admits_as_many_as_fit.Given as goal
+use Rattle.pfair_admission.proofs.tests.light_arrivals.Given as goal
 
 abbrev pub invariant-loop-place : goal.invariant-loop-place
 invariant-loop-place g l = AllByRecursion (λ a. IsWithinLimits a.announcement) l.announced.items
