@@ -6,7 +6,7 @@ use Rattle.pfair_lattice.specs.HeldLaws.{join_second}
 use Rattle.pfair_entry.specs.Same.{entry_eq}
 use Rattle.pfair_entry.specs.Exact.{entry_exact}
 use Rattle.pfair_replica.specs.Replica.{Replica, IsReplica, Untorn, Agree}
-use Rattle.pfair_ready.specs.Waiting.{Held}
+use Rattle.pfair_ready.specs.Queue.{Queue}
 use Rattle.pfair_admission.specs.Roster.{Roster}
 use Rattle.pfair_table.specs.declared.pick.Decided.{Decided}
 use Rattle.pfair_table.specs.Table.{Settings, Table, table, decisions}
@@ -50,7 +50,7 @@ plans_alike s x y a b tx ty dx dy p q of_x of_y agree t lx ly =
       decided_there s y b ty dy q of_y wy t ly ∙ ap Some (sym same.1),
     )
 
-pub kept_alike : (s r : Settings) (x y : Replica) (tx ty : List Table) (dx dy : List (List Decided)) (bx by : Bool) (mx my : Roster) (nx ny : ℕ) (hx hy : Held)
+pub kept_alike : (s r : Settings) (x y : Replica) (tx ty : List Table) (dx dy : List (List Decided)) (bx by : Bool) (mx my : Roster) (nx ny : ℕ) (hx hy : Queue)
     → IsKept s x tx dx bx mx nx hx → IsKept r y ty dy by my ny hy → IsReplica x → IsReplica y → s ≡ r → Agree x y → (t : ℕ) → t < length tx → t < length ty
     → (slice_get tx t ≡ Some (table s x t)) × (slice_get ty t ≡ Some (table s x t)) × (slice_get dx t ≡ Some (decisions s x t)) × (slice_get dy t ≡ Some (decisions s x t))
 kept_alike s r x y tx ty dx dy bx by mx my nx ny hx hy kx ky sound_x sound_y same agree t lx ly =
@@ -58,7 +58,7 @@ kept_alike s r x y tx ty dx dy bx by mx my nx ny hx hy kx ky sound_x sound_y sam
     plans_alike s x y kx.of k.of tx ty dx dy kx.plan k.plan (record { replica = sound_x; processors = kx.processors }) (record { replica = sound_y; processors = k.processors }) agree t lx ly
 
 -- the places of a slot that both have planned: up to it both have the same tables
-pub placed_alike : (s r : Settings) (x y : Replica) (tx ty : List Table) (dx dy : List (List Decided)) (bx by : Bool) (mx my : Roster) (nx ny : ℕ) (hx hy : Held)
+pub placed_alike : (s r : Settings) (x y : Replica) (tx ty : List Table) (dx dy : List (List Decided)) (bx by : Bool) (mx my : Roster) (nx ny : ℕ) (hx hy : Queue)
     → IsKept s x tx dx bx mx nx hx → IsKept r y ty dy by my ny hy → IsReplica x → IsReplica y → s ≡ r → Agree x y → (t : ℕ) → t < length tx → t < length ty
     → slice_get (places_of tx) t ≡ slice_get (places_of ty) t
 placed_alike s r x y tx ty dx dy bx by mx my nx ny hx hy kx ky sound_x sound_y same agree t lx ly =

@@ -1,7 +1,7 @@
 -- Rows found by their buckets.
-use Rattle.std.proofs.Common.{ℕ, zero, suc, ◌+◌, ◌≤◌, ◌<◌, ◌≡◌, true, refl, sym, ap, ◌∙◌, subst, arith, ⊎_elim, List, [], ◌∷◌, length, Some, None}
+use Rattle.std.proofs.Common.{ℕ, zero, suc, ◌+◌, ◌≤◌, ◌<◌, ◌≡◌, true, false, refl, sym, ap, ◌∙◌, subst, arith, ⊎_elim, List, [], ◌∷◌, length, Some, None}
 use Rattle.std.specs.Prelude.{◌≢◌, slice_get, slice_index, set, replicate, if◌then◌else◌}
-use Rattle.std.specs.List.{AllByRecursion}
+use Rattle.pfair_order.proofs.RankLemmas.{at_each}
 use Rattle.std.proofs.lemmas.Bool.{cases_eq, false_from_ne_true}
 use Rattle.std.proofs.lemmas.List.{length-set, length-replicate, get_or-set_same, get_or-set_other}
 use Rattle.pfair_ready.specs.Names.{NameValue as Name}
@@ -9,7 +9,9 @@ use Rattle.pfair_entry.specs.Same.{name_eq}
 use Rattle.pfair_entry.specs.Exact.{name_exact, name_itself}
 use Rattle.pfair_table.specs.declared.pick.Pick.{Pick}
 use Rattle.pfair_table.specs.Table.{Table}
-use Rattle.pfair_table.specs.Laws.{EachNameOnce}
+use Rattle.std.specs.Cmp.Lexicographic.{nat_list_eq_equiv}
+use Rattle.pfair_weight.specs.Name.{NamesApart}
+use Rattle.pfair_weight.proofs.NamesApart.{apart_head, apart_tail}
 use Rattle.pfair_table.specs.Places.{place_of}
 use Rattle.pfair_table.specs.Buckets.{bucket, AreBucketsOf}
 
@@ -24,13 +26,8 @@ no_place (p ∷ rows) (k ∷ places) name none =
 pub none_by_bucket : (rows : Table) (ends places : List ℕ) (name : Name) → AreBucketsOf rows ends → slice_index ends (bucket name) ≡ 0 → None ≡ place_of rows places name
 none_by_bucket rows ends places name of none = sym (no_place rows places name (λ r p h e. of.found r p h (ap (λ n. slice_index ends (bucket n)) (sym e) ∙ none)))
 
-unlike_at : (rows : Table) (name : Name) (r : ℕ) (p : Pick) → AllByRecursion (λ q. name ≢ q.name) rows → slice_get rows r ≡ Some p → name ≢ p.name
-unlike_at [] name r p all h = absurd (cc)
-unlike_at (q ∷ rows) name zero p all h = (let one : q ≡ p = cc in λ e. all.0 (e ∙ ap (λ (x : Pick). x.name) (sym one)))
-unlike_at (q ∷ rows) name (suc r) p all h = unlike_at rows name r p all.1 h
-
 -- the place of the one row that names a task
-pub place_by_row : (rows : Table) (places : List ℕ) (name : Name) (r : ℕ) (p : Pick) → EachNameOnce rows → slice_get rows r ≡ Some p → p.name ≡ name → slice_get places r ≡ place_of rows places name
+pub place_by_row : (rows : Table) (places : List ℕ) (name : Name) (r : ℕ) (p : Pick) → NamesApart (λ (p : Pick). p.name) rows → slice_get rows r ≡ Some p → p.name ≡ name → slice_get places r ≡ place_of rows places name
 place_by_row [] places name r p once h same = absurd (cc)
 place_by_row (q ∷ rows) [] name r p once h same = refl
 place_by_row (q ∷ rows) (k ∷ places) name zero p once h same =
@@ -38,9 +35,9 @@ place_by_row (q ∷ rows) (k ∷ places) name zero p once h same =
     let named : name ≡ q.name = sym (ap (λ (x : Pick). x.name) one ∙ same) in
     sym (ap (λ b. if b then Some k else place_of rows places name) (subst (λ n. name_eq name n ≡ true) named (name_itself name)))
 place_by_row (q ∷ rows) (k ∷ places) name (suc r) p once h same =
-    let unlike = unlike_at rows q.name r p once.0 h in
-    place_by_row rows places name r p once.1 h same
-    ∙ sym (ap (λ b. if b then Some k else place_of rows places name) (false_from_ne_true (name_eq name q.name) (λ e. unlike (sym (name_exact name q.name e) ∙ sym same))))
+    let unlike : name_eq q.name p.name ≡ false = at_each (λ (x : Pick). name_eq q.name x.name ≡ false) rows r p (apart_head (λ (p : Pick). p.name) q rows once) h in
+    place_by_row rows places name r p (apart_tail (λ (p : Pick). p.name) q rows once) h same
+    ∙ sym (ap (λ b. if b then Some k else place_of rows places name) (ap (λ n. name_eq n q.name) (sym same) ∙ nat_list_eq_equiv.symm p.name q.name ∙ unlike))
 
 -- ---- the rows entered so far
 

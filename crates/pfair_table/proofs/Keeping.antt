@@ -11,8 +11,10 @@ use Rattle.pfair_lattice.specs.declared.flat.Flat.TheVariants.{One, Torn}
 use Rattle.pfair_ready.specs.Names.{name_cmp}
 use Rattle.pfair_admission.specs.Member.{Member}
 use Rattle.pfair_admission.specs.Admission.{member_named}
-use Rattle.pfair_table.specs.Queue.{queued, Named}
-use Rattle.pfair_ready.specs.Waiting.{Held}
+use Rattle.pfair_weight.specs.Name.{NamesApart}
+use Rattle.pfair_weight.proofs.NamesApart.{apart_nil}
+use Rattle.pfair_table.specs.Queue.{queued}
+use Rattle.pfair_ready.specs.Queue.{Queue}
 use Rattle.pfair_admission.specs.Roster.{Roster}
 use Rattle.pfair_table.specs.declared.pick.Decided.{Decided}
 use Rattle.pfair_table.specs.Table.{Settings, Table, history, table, decisions, plan}
@@ -26,7 +28,7 @@ pub tables_listed : (s : Settings) (x : Replica) (n : ℕ) → (history s x n).t
 tables_listed s x zero = refl
 tables_listed s x (suc n) = ap (λ (ts : List Table). ts ++ table s x n ∷ []) (tables_listed s x n) ∙ sym (map-append (table s x) (numbers_below n) (n ∷ []))
 
-module _ (s : Settings) (held : Replica) (tables : List Table) (decided : List (List Decided)) (spent : Bool) (roster : Roster) (now : ℕ) (waiting : Held) (kept : IsKept s held tables decided spent roster now waiting) (sound : IsReplica held) (test : has_torn held ≡ false) where
+module _ (s : Settings) (held : Replica) (tables : List Table) (decided : List (List Decided)) (spent : Bool) (roster : Roster) (now : ℕ) (waiting : Queue) (kept : IsKept s held tables decided spent roster now waiting) (sound : IsReplica held) (test : has_torn held ≡ false) where
   pub is_of_held : IsOf s held
   is_of_held = record { replica = sound; processors = kept.processors }
 
@@ -54,7 +56,7 @@ module _ (s : Settings) (held : Replica) (tables : List Table) (decided : List (
   decided_whole le = plan_now.decided_are ∙ ap (λ (n : ℕ). map (decisions s held) (numbers_below n)) (as_many le)
 
   -- one more slot
-  pub kept_next : (more : List Table) (more_decided : List (List Decided)) (spent2 : Bool) (roster2 : Roster) (now2 : ℕ) (waiting2 : Held) → length tables < frontier held → length tables < s.slots
+  pub kept_next : (more : List Table) (more_decided : List (List Decided)) (spent2 : Bool) (roster2 : Roster) (now2 : ℕ) (waiting2 : Queue) → length tables < frontier held → length tables < s.slots
       → more ≡ tables ++ table s held (length tables) ∷ [] → more_decided ≡ decided ++ decisions s held (length tables) ∷ []
       → IsInStep s held (length more) roster2 now2 waiting2 → IsKept s held more more_decided spent2 roster2 now2 waiting2
   kept_next more more_decided spent2 roster2 now2 waiting2 early wanted tables_are decided_are step = record {
@@ -68,7 +70,7 @@ module _ (s : Settings) (held : Replica) (tables : List Table) (decided : List (
   }
 
   -- members and ready structure made anew
-  pub kept_anew : (spent2 : Bool) (roster2 : Roster) (now2 : ℕ) (waiting2 : Held) → IsInStep s held (length tables) roster2 now2 waiting2 → IsKept s held tables decided spent2 roster2 now2 waiting2
+  pub kept_anew : (spent2 : Bool) (roster2 : Roster) (now2 : ℕ) (waiting2 : Queue) → IsInStep s held (length tables) roster2 now2 waiting2 → IsKept s held tables decided spent2 roster2 now2 waiting2
   kept_anew spent2 roster2 now2 waiting2 step = record {
     processors = kept.processors;
     capacity = kept.capacity;
@@ -79,7 +81,7 @@ module _ (s : Settings) (held : Replica) (tables : List Table) (decided : List (
   }
 
 -- a new dispatcher's members and ready structure are in step
-pub start_step : (s : Settings) (x : Replica) (roster : Roster) (now : ℕ) (waiting : Held) → roster ≡ record { machine = record { processors = s.processors; frame = s.frame }; members = []; heard = 0; last_slot = None } → now ≡ 0 → waiting ≡ finmap.empty → IsInStep s x 0 roster now waiting
+pub start_step : (s : Settings) (x : Replica) (roster : Roster) (now : ℕ) (waiting : Queue) → roster ≡ record { machine = record { processors = s.processors; frame = s.frame }; members = []; heard = 0; last_slot = None } → now ≡ 0 → waiting ≡ finmap.empty → IsInStep s x 0 roster now waiting
 start_step s x roster now waiting e now_is waiting_is =
     let ms = ap (λ (r : Roster). r.members) e in
     record {
@@ -87,8 +89,8 @@ start_step s x roster now waiting e now_is waiting_is =
       members_are = ms;
       heard_is = ap (λ (r : Roster). r.heard) e;
       steady = record {
-        named = subst Named (sym ms) tt;
-        queue = λ name. ap (λ (h : Held). finmap.get h name) waiting_is ∙ get-empty name_cmp name ∙ sym (ap (λ (l : List Member). queued (member_named l name)) ms);
+        named = subst (NamesApart (λ (m : Member). m.name)) (sym ms) (apart_nil (λ (m : Member). m.name));
+        queue = λ name. ap (λ (h : Queue). finmap.get h name) waiting_is ∙ get-empty name_cmp name ∙ sym (ap (λ (l : List Member). queued (member_named l name)) ms);
         by_now = omega (arith, now_is);
         order = subst (λ (o : Option ℕ). ForSome o (λ last. last ≤ 0)) (sym (ap (λ (r : Roster). r.last_slot) e)) (λ y h. absurd (none-some y h));
         few = subst (AllByRecursion (λ m. m.next ≤ 0 + 1)) (sym ms) tt;
@@ -96,7 +98,7 @@ start_step s x roster now waiting e now_is waiting_is =
     }
 
 -- nothing planned of a replica that holds nothing
-pub start_kept : (s : Settings) (x : Replica) (roster : Roster) (now : ℕ) (waiting : Held) → x ≡ empty_replica s.processors x.capacity → x.capacity ≤ 4096 → IsInStep s x 0 roster now waiting → IsKept s x [] [] false roster now waiting
+pub start_kept : (s : Settings) (x : Replica) (roster : Roster) (now : ℕ) (waiting : Queue) → x ≡ empty_replica s.processors x.capacity → x.capacity ≤ 4096 → IsInStep s x 0 roster now waiting → IsKept s x [] [] false roster now waiting
 start_kept s x roster now waiting e few step =
     let none : (k n : ℕ) → x.at k n ≡ None = λ k n. ap (λ (r : Replica). r.at k n) e in
     let many : x.processors ≡ s.processors = ap (λ (r : Replica). r.processors) e in

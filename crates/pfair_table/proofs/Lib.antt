@@ -1,12 +1,11 @@
-mod Apart
-mod Firsts
+mod FirstByRank
 mod Members
 mod TableLaws
 mod Runs
-mod Counts
-mod Queues
-mod Quanta
-mod First
+mod NextIndexes
+mod QueueKept
+mod GivingQuanta
+mod FirstSubtasks
 mod Slots
 mod Steps
 mod Keeping

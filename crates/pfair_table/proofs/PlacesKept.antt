@@ -6,10 +6,11 @@ use Rattle.std.proofs.lemmas.Bool.{true≢false}
 use Rattle.std.proofs.lemmas.List.{length-map}
 use Rattle.pfair_ready.specs.Names.{NameValue as Name}
 use Rattle.pfair_entry.specs.Same.{name_eq}
-use Rattle.pfair_entry.specs.Exact.{name_exact}
+use Rattle.pfair_entry.specs.Exact.{name_exact, name_itself}
 use Rattle.pfair_table.specs.Table.{Table, names_task}
 use Rattle.pfair_table.specs.declared.pick.Pick.{Pick}
-use Rattle.pfair_table.specs.Laws.{EachNameOnce}
+use Rattle.pfair_weight.specs.Name.{NamesApart}
+use Rattle.pfair_weight.proofs.NamesApart.{apart_head, apart_tail}
 use Rattle.pfair_table.specs.Places.{place_of, kept_places, all_kept, free_place, filled, places_after, places_from}
 use Rattle.pfair_table.specs.PlaceLaws.{IsFit, AllDiffer, ArePlacesOf, PlacesAreKept, PlacesFollowTables}
 use Rattle.pfair_replica.specs.Among.{Among, all_among, among_all}
@@ -143,15 +144,16 @@ kept_from before old (p ∷ picks) k h = by (place_of before old p.name) refl h 
 pub kept_among : (before : Table) (old : List ℕ) (now : Table) (k : ℕ) → Among (all_kept (kept_places before old now)) k → Among old k
 kept_among before old now k h = let t = kept_from before old now k h in place_among before old t.0.name k t.2
 
-kept_differ : (before : Table) (old : List ℕ) → Differ old → (now : Table) → EachNameOnce now → Differ (all_kept (kept_places before old now))
+kept_differ : (before : Table) (old : List ℕ) → Differ old → (now : Table) → NamesApart (λ (p : Pick). p.name) now → Differ (all_kept (kept_places before old now))
 kept_differ before old differ [] once = tt
-kept_differ before old differ (p ∷ picks) once = by (place_of before old p.name) refl (kept_differ before old differ picks once.1)
+kept_differ before old differ (p ∷ picks) once = by (place_of before old p.name) refl (kept_differ before old differ picks (apart_tail (λ (p : Pick). p.name) p picks once))
   where
     by : (o : Option ℕ) → place_of before old p.name ≡ o → Differ (all_kept (kept_places before old picks)) → Differ (all_kept (o ∷ kept_places before old picks))
     by None e more = more
     by (Some k) e more = (
       λ j h same. (let t = kept_from before old picks j h in
-          among_all (λ (r : Pick). p.name ≢ r.name) picks once.0 t.0 t.1 (place_once before old differ p.name t.0.name k e (t.2 ∙ ap (λ n. Some n) (sym same)))),
+          let one : p.name ≡ t.0.name = place_once before old differ p.name t.0.name k e (t.2 ∙ ap (λ n. Some n) (sym same)) in
+          true≢false (sym (subst (λ n. name_eq p.name n ≡ true) one (name_itself p.name)) ∙ among_all (λ (r : Pick). name_eq p.name r.name ≡ false) picks (apart_head (λ (p : Pick). p.name) p picks once) t.0 t.1)),
       more,
     )
 

@@ -3,7 +3,9 @@ use Rattle.std.proofs.Common.{ℕ, zero, suc, ◌-◌, ◌<◌, ◌≤◌, ◌�
 use Rattle.std.specs.Prelude.{slice_get}
 use Rattle.std.specs.List.{AllByRecursion}
 use Rattle.pfair_replica.specs.Replica.{Replica, numbers_below}
+use Rattle.pfair_weight.proofs.NamesApart.{apart_nil}
 use Rattle.pfair_table.specs.declared.pick.Decided.{Decided}
+use Rattle.pfair_table.specs.declared.pick.Pick.{Pick}
 use Rattle.pfair_table.specs.Table.{Settings, Table, table}
 use Rattle.pfair_table.specs.Places.{places_after, places_from, places_of}
 use Rattle.pfair_table.specs.PlaceLaws.{IsFit}
@@ -61,7 +63,7 @@ fit_plan s held of tables decided plan =
     subst (IsFit s.processors) (sym t.2) (o.0, o.2))))
 
 pub last_fit : (m : ℕ) (tables : List Table) → AllByRecursion (IsFit m) tables → IsFit m (last_or [] tables)
-last_fit m tables fit = last_all (IsFit m) [] tables (omega arith, tt) fit
+last_fit m tables fit = last_all (IsFit m) [] tables (omega arith, apart_nil (λ (p : Pick). p.name)) fit
 
 pub fit_wider : (m n : ℕ) → m ≤ n → (tables : List Table) → AllByRecursion (IsFit m) tables → AllByRecursion (IsFit n) tables
 fit_wider m n le [] fit = tt

@@ -9,9 +9,11 @@ use Rattle.pfair_entry.specs.declared.announcement.Announcement.{Announcement}
 use Rattle.pfair_entry.specs.declared.announcement.Announcement.TheVariants.{Arrive, Depart, Late}
 use Rattle.pfair_entry.specs.declared.said.Said.{Said}
 use Rattle.pfair_table.specs.Ranks.{first_by_rank}
-use Rattle.pfair_ready.specs.Waiting.{Held}
-use Rattle.pfair_table.proofs.Apart.{apart_map, apart_filter}
-use Rattle.pfair_table.proofs.Firsts.{apart_first}
+use Rattle.pfair_ready.specs.Queue.{Queue}
+use Rattle.pfair_weight.specs.Name.{NamesApart}
+use Rattle.pfair_weight.proofs.NamesApart.{apart_map, apart_filter}
+use Rattle.pfair_order.proofs.NamesApart.{first_names}
+use Rattle.std.proofs.SliceLists.{all_by_recursion_push}
 use Rattle.pfair_admission.specs.Admission.{Machine, is_named, newcomer, change, effect, decision, present, is_freed, decided, all_decided, boundary, announcements, ran, with_quantum}
 use Rattle.pfair_admission.specs.Member.{Member, next_key}
 use Rattle.pfair_admission.specs.declared.decision.Decision.{Decision}
@@ -19,12 +21,10 @@ use Rattle.pfair_admission.specs.declared.decision.Decision.TheVariants.{Admitte
 use Rattle.pfair_admission.specs.Roster.{Roster}
 use Rattle.pfair_table.specs.declared.pick.Pick.{Pick}
 use Rattle.pfair_table.specs.Table.{Table, eligible, is_eligible, pick, all_ran, names_task}
-use Rattle.pfair_table.specs.Laws.{EachNameOnce}
-use Rattle.pfair_table.specs.Queue.{IsQueue, IsSteady, Named}
-use Rattle.pfair_table.proofs.Members.{named_boundary, named_change}
+use Rattle.pfair_table.specs.Queue.{IsQueue, IsSteady}
+use Rattle.pfair_admission.proofs.NamesKept.{apart_boundary, apart_ran}
 use Rattle.std.proofs.lemmas.Option.{same_Some}
-use Rattle.pfair_table.proofs.TableLaws.{once}
-use Rattle.pfair_table.proofs.Counts.{each_filter, each_map, each_push, all_ran_is, after_table}
+use Rattle.pfair_table.proofs.NextIndexes.{each_filter, each_map, all_ran_is, after_table}
 
 -- ---- next indexes
 
@@ -36,7 +36,7 @@ few_change n name f keeps members all = each_map (λ m. m.next ≤ n) (λ m. m.n
     by m h false = h
 
 few_effect : (n t : ℕ) → 1 ≤ n → (members : List Member) (a : Announcement) (d : Decision) → AllByRecursion (λ m. m.next ≤ n) members → AllByRecursion (λ m. m.next ≤ n) (effect t members a d)
-few_effect n t le members (Arrive name w early) Admitted all = each_push (λ m. m.next ≤ n) members (newcomer t name w early) all le
+few_effect n t le members (Arrive name w early) Admitted all = all_by_recursion_push (λ m. m.next ≤ n) members (newcomer t name w early) all le
 few_effect n t le members (Arrive name w early) (Departing slot) all = all
 few_effect n t le members (Arrive name w early) Delayed all = all
 few_effect n t le members (Arrive name w early) (Refused why) all = all
@@ -63,7 +63,7 @@ pub fewer : (n k : ℕ) → n ≤ k → (members : List Member) → AllByRecursi
 fewer n k le [] all = tt
 fewer n k le (m ∷ members) all = (let h = all.0 in omega (arith, le, h), fewer n k le members all.1)
 
-few_ran : (n : ℕ) (picks : Table) → EachNameOnce picks → (members : List Member) → AllByRecursion (λ m. m.next ≤ n) members → AllByRecursion (λ m. m.next ≤ n + 1) (all_ran picks members)
+few_ran : (n : ℕ) (picks : Table) → NamesApart (λ (p : Pick). p.name) picks → (members : List Member) → AllByRecursion (λ m. m.next ≤ n) members → AllByRecursion (λ m. m.next ≤ n + 1) (all_ran picks members)
 few_ran n picks differ members all =
     subst (AllByRecursion (λ m. m.next ≤ n + 1)) (sym (all_ran_is picks differ members))
     (each_map (λ m. m.next ≤ n) (λ m. m.next ≤ n + 1) (after_table picks) (λ m h. by m h (names_task m.name picks)) members all)
@@ -72,34 +72,33 @@ few_ran n picks differ members all =
     by m h true = omega (arith, h)
     by m h false = omega (arith, h)
 
-named_ran : (picks : Table) (members : List Member) → Named members → Named (all_ran picks members)
+named_ran : (picks : Table) (members : List Member) → NamesApart (λ (m : Member). m.name) members → NamesApart (λ (m : Member). m.name) (all_ran picks members)
 named_ran [] members a = a
-named_ran (p ∷ picks) members a = named_ran picks (ran p.name members) (named_change p.name with_quantum (λ m. refl) members a)
+named_ran (p ∷ picks) members a = named_ran picks (ran p.name members) (apart_ran p.name members a)
 
 -- the rows of a slot have each name once
-pub rows_once : (m n : ℕ) (members : List Member) → Named members → EachNameOnce (map (pick members) (first_by_rank m (eligible n members)))
+pub rows_once : (m n : ℕ) (members : List Member) → NamesApart (λ (m : Member). m.name) members → NamesApart (λ (p : Pick). p.name) (map (pick members) (first_by_rank m (eligible n members)))
 rows_once m n members named =
-    once (map (pick members) (first_by_rank m (eligible n members)))
-    (apart_map (λ (k : Key). k.name) (λ (p : Pick). p.name) (pick members) (λ k. refl) (first_by_rank m (eligible n members))
-    (apart_first (eligible n members) (apart_map (λ (m : Member). m.name) (λ (k : Key). k.name) next_key (λ m. refl) (filter (is_eligible n) members) (apart_filter (λ (m : Member). m.name) (is_eligible n) members named)) m))
+    apart_map (λ (k : Key). k.name) (λ (p : Pick). p.name) (pick members) (λ k. refl) (first_by_rank m (eligible n members))
+    (first_names m (eligible n members) (apart_map (λ (m : Member). m.name) (λ (k : Key). k.name) next_key (λ m. refl) (filter (is_eligible n) members) (apart_filter (λ (m : Member). m.name) (is_eligible n) members named)))
 
 pub some_slot : (slot : ℕ) → ForSome (Some slot) (λ last. last ≤ slot + 1)
 some_slot slot x e = (let s = same_Some slot x e in omega (arith, s))
 
 -- after the quanta of a slot all is steady for the next
-pub steady_next : (slot now now2 : ℕ) (before after : Roster) (waiting waiting2 : Held) (heard : List Said) (m : ℕ) (rows : Table)
+pub steady_next : (slot now now2 : ℕ) (before after : Roster) (waiting waiting2 : Queue) (heard : List Said) (m : ℕ) (rows : Table)
     → IsSteady slot before now waiting
     → let world = boundary before.machine slot before.members (announcements heard) in
     rows ≡ map (pick world) (first_by_rank m (eligible slot world)) → after.members ≡ all_ran rows world → after.last_slot ≡ Some slot → now2 ≡ slot → IsQueue after.members waiting2
     → IsSteady (slot + 1) after now2 waiting2
 steady_next slot now now2 before after waiting waiting2 heard m rows steady rows_are ran_are last_is now_is queue =
     let world = boundary before.machine slot before.members (announcements heard) in
-    let named = named_boundary before.machine slot before.members (announcements heard) steady.named in
+    let named = apart_boundary before.machine slot before.members (announcements heard) steady.named in
     record {
-      named = subst Named (sym ran_are) (named_ran rows world named);
+      named = subst (NamesApart (λ (m : Member). m.name)) (sym ran_are) (named_ran rows world named);
       queue = queue;
       by_now = omega (arith, now_is);
       order = subst (λ o. ForSome o (λ last. last ≤ slot + 1)) (sym last_is) (some_slot slot);
-      few = subst (AllByRecursion (λ m. m.next ≤ slot + 1 + 1)) (sym ran_are) (few_ran (slot + 1) rows (subst EachNameOnce (sym rows_are) (rows_once m slot world named)) world
+      few = subst (AllByRecursion (λ m. m.next ≤ slot + 1 + 1)) (sym ran_are) (few_ran (slot + 1) rows (subst (NamesApart (λ (p : Pick). p.name)) (sym rows_are) (rows_once m slot world named)) world
           (few_boundary (slot + 1) before.machine slot (omega arith) (announcements heard) before.members steady.few));
     }

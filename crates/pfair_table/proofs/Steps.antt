@@ -12,7 +12,7 @@ use Rattle.pfair_replica.specs.Replica.{said_by, said_in, sound_beginning, Repli
 use Rattle.pfair_replica.proofs.Marks.{same_said, below_agree, frontier_le}
 use Rattle.pfair_replica.proofs.SoundEntries.{read_by_number}
 use Rattle.pfair_table.specs.Ranks.{first_by_rank}
-use Rattle.pfair_ready.specs.Waiting.{Held}
+use Rattle.pfair_ready.specs.Queue.{Queue}
 use Rattle.pfair_admission.specs.Admission.{boundary, announcements}
 use Rattle.pfair_admission.specs.Roster.{Roster}
 use Rattle.pfair_table.specs.declared.pick.Decided.{Decided}
@@ -22,22 +22,22 @@ use Rattle.pfair_table.specs.Queue.{IsSteady}
 use Rattle.pfair_table.specs.Refinement.{IsPlanOf, IsInStep, IsKept, heard_before}
 use Rattle.pfair_replica.specs.Among.{map_same, among_below}
 use Rattle.pfair_table.proofs.TableLaws.{same_history, one_table}
-use Rattle.pfair_table.proofs.Counts.{runs_are_counted}
+use Rattle.pfair_table.proofs.NextIndexes.{runs_are_counted}
 use Rattle.pfair_table.proofs.Runs.{below_all, length_numbers}
 
 -- ---- the members that the boundary leaves are the definition's
 
-pub world_is : (s : Settings) (x : Replica) (n : ℕ) (before : Roster) (now : ℕ) (waiting : Held) → IsInStep s x n before now waiting → boundary before.machine n before.members (announcements (said x n)) ≡ world s x n
+pub world_is : (s : Settings) (x : Replica) (n : ℕ) (before : Roster) (now : ℕ) (waiting : Queue) → IsInStep s x n before now waiting → boundary before.machine n before.members (announcements (said x n)) ≡ world s x n
 world_is s x n before now waiting step = let m = step.machine_is in let ms = step.members_are in λ i. boundary (m i) n (ms i) (announcements (said x n))
 
-pub rows_are : (s : Settings) (x : Replica) (n : ℕ) (before : Roster) (now : ℕ) (waiting : Held) → IsInStep s x n before now waiting → (processors : ℕ) → processors ≡ s.processors → (rows : Table)
+pub rows_are : (s : Settings) (x : Replica) (n : ℕ) (before : Roster) (now : ℕ) (waiting : Queue) → IsInStep s x n before now waiting → (processors : ℕ) → processors ≡ s.processors → (rows : Table)
     → (let w = boundary before.machine n before.members (announcements (said x n)) in rows ≡ map (pick w) (first_by_rank processors (eligible n w))) → rows ≡ table s x n
 rows_are s x n before now waiting step processors many rows is =
     let w = world_is s x n before now waiting step in
     is ∙ (λ i. map (pick (w i)) (first_by_rank (many i) (eligible n (w i))))
 
 -- One slot on.
-step_next : (s : Settings) (x : Replica) (n : ℕ) (before after : Roster) (now now2 : ℕ) (waiting waiting2 : Held) (rows : Table) → IsInStep s x n before now waiting
+step_next : (s : Settings) (x : Replica) (n : ℕ) (before after : Roster) (now now2 : ℕ) (waiting waiting2 : Queue) (rows : Table) → IsInStep s x n before now waiting
     → rows ≡ table s x n → after.machine ≡ before.machine → after.members ≡ all_ran rows (boundary before.machine n before.members (announcements (said x n)))
     → after.heard ≡ before.heard + length (said x n) → IsSteady (n + 1) after now2 waiting2 → IsInStep s x (n + 1) after now2 waiting2
 step_next s x n before after now now2 waiting waiting2 rows step rows_is machine_is ran_is heard_is steady =
@@ -51,7 +51,7 @@ step_next s x n before after now now2 waiting waiting2 rows step rows_is machine
     }
 
 -- so what a slot's plan leaves is in step
-pub step_after : (s : Settings) (x : Replica) (n : ℕ) (before after : Roster) (now now2 : ℕ) (waiting waiting2 : Held) (heard : List Said) (processors : ℕ) (r : Result SlotPlan AllocError)
+pub step_after : (s : Settings) (x : Replica) (n : ℕ) (before after : Roster) (now now2 : ℕ) (waiting waiting2 : Queue) (heard : List Said) (processors : ℕ) (r : Result SlotPlan AllocError)
     → IsInStep s x n before now waiting → heard ≡ said x n → processors ≡ s.processors
     → IfOk r (λ p. let w = boundary before.machine n before.members (announcements heard) in p.table.items ≡ map (pick w) (first_by_rank processors (eligible n w)))
     → IfOk r (λ p. after.members ≡ all_ran p.table.items (boundary before.machine n before.members (announcements heard)))
@@ -103,7 +103,7 @@ module _ (s : Settings) (held of : Replica) (tables : List Table) (decided : Lis
       }
 
   -- and members and ready structure are in step with it too.
-  pub step_of_held : (roster : Roster) (now : ℕ) (waiting : Held) → IsInStep s of (length tables) roster now waiting → IsInStep s held (length tables) roster now waiting
+  pub step_of_held : (roster : Roster) (now : ℕ) (waiting : Queue) → IsInStep s of (length tables) roster now waiting → IsInStep s held (length tables) roster now waiting
   step_of_held roster now waiting step = record {
     machine_is = step.machine_is;
     members_are = step.members_are ∙ ap (λ h. counted h.tables h.members) past;
@@ -129,7 +129,7 @@ plan_next_slot s x tables decided plan early wanted =
 
 -- ---- what is held grows
 
-pub kept_above : (s : Settings) (held more : Replica) (tables : List Table) (decided : List (List Decided)) (spent : Bool) (roster : Roster) (now : ℕ) (waiting : Held)
+pub kept_above : (s : Settings) (held more : Replica) (tables : List Table) (decided : List (List Decided)) (spent : Bool) (roster : Roster) (now : ℕ) (waiting : Queue)
     → IsKept s held tables decided spent roster now waiting → Below held more → more.processors ≡ held.processors → more.capacity ≡ held.capacity → IsKept s more tables decided spent roster now waiting
 kept_above s held more tables decided spent roster now waiting kept above same_p same_c = record {
   processors = same_p ∙ kept.processors;

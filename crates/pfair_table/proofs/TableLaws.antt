@@ -1,19 +1,20 @@
 -- The proofs of the laws of tables and plans.
 use Rattle.std.proofs.Common.{ℕ, zero, suc, ◌<◌, ◌≤◌, ◌≡◌, refl, sym, ap, ◌∙◌, arith, inl, inr, List, [], ◌∷◌, ◌++◌, min}
-use Rattle.std.specs.Prelude.{◌≢◌, map, filter}
+use Rattle.std.specs.Prelude.{map, filter}
 use Rattle.std.proofs.lemmas.List.{length-map, map-append, append_assoc, append-nil}
 use Rattle.std.proofs.lemmas.Bool.{cases_order}
 use Rattle.pfair_order.specs.declared.Key.{Key}
-use Rattle.pfair_replica.specs.Among.{all_among, among_below, map_same}
-use Rattle.pfair_table.specs.Lists.{Apart}
-use Rattle.pfair_table.proofs.Apart.{apart_filter, apart_map}
-use Rattle.pfair_table.proofs.Firsts.{length_first, rising_first, apart_first}
+use Rattle.pfair_replica.specs.Among.{among_below, map_same}
+use Rattle.pfair_weight.specs.Name.{NamesApart}
+use Rattle.pfair_weight.proofs.NamesApart.{apart_filter, apart_map}
+use Rattle.pfair_order.proofs.NamesApart.{first_names}
+use Rattle.pfair_table.proofs.FirstByRank.{length_first, rising_first}
 use Rattle.pfair_replica.specs.Replica.{Replica, said, frontier, numbers_below}
 use Rattle.pfair_replica.proofs.Marks.{same_said, mark_le, frontier_le, below_agree}
 use Rattle.pfair_admission.specs.Member.{next_key}
-use Rattle.pfair_table.specs.Table.{Settings, Table, eligible, is_eligible, chosen, pick, table_of, members_at, slot_after, decided_at, history, world, table}
+use Rattle.pfair_table.specs.Table.{Settings, eligible, is_eligible, chosen, pick, table_of, members_at, slot_after, decided_at, history, world, table}
 use Rattle.pfair_table.specs.declared.pick.Pick.{Pick}
-use Rattle.pfair_table.specs.Laws.{IsPrefixOf, EachNameOnce, OneTable, PlansGoOn, OnePlan, TablesAreOrdered}
+use Rattle.pfair_table.specs.Laws.{IsPrefixOf, OneTable, PlansGoOn, OnePlan, TablesAreOrdered}
 use Rattle.pfair_table.proofs.Members.{label, named_world}
 
 -- ---- one table
@@ -70,12 +71,8 @@ one_plan s x y ox oy agree =
 
 -- ---- tables are ordered
 
-keys_apart : (s : Settings) (x : Replica) (t : ℕ) → Apart (λ (k : Key). k.name) (eligible t (world s x t))
+keys_apart : (s : Settings) (x : Replica) (t : ℕ) → NamesApart (λ (k : Key). k.name) (eligible t (world s x t))
 keys_apart s x t = apart_map label (λ (k : Key). k.name) next_key (λ m. refl) (filter (is_eligible t) (world s x t)) (apart_filter label (is_eligible t) (world s x t) (named_world s x t))
-
-pub once : (picks : Table) → Apart (λ (p : Pick). p.name) picks → EachNameOnce picks
-once [] a = tt
-once (p ∷ picks) a = (all_among (λ (r : Pick). p.name ≢ r.name) picks a.0, once picks a.1)
 
 pub tables_are_ordered : TablesAreOrdered
 tables_are_ordered s x t =
@@ -86,5 +83,5 @@ tables_are_ordered s x t =
     let same = length-map (chosen s t members) (pick members) in (
       omega (arith, few, same),
       rising_first keys apart s.processors,
-      once (map (pick members) (chosen s t members)) (apart_map (λ (k : Key). k.name) (λ (p : Pick). p.name) (pick members) (λ k. refl) (chosen s t members) (apart_first keys apart s.processors)),
+      apart_map (λ (k : Key). k.name) (λ (p : Pick). p.name) (pick members) (λ k. refl) (chosen s t members) (first_names s.processors keys apart),
     )

@@ -1,11 +1,12 @@
 -- What holds of tables, marks and plans, whatever the replicas are.
-use Rattle.std.specs.Prelude.{ℕ, suc, ◌≡◌, ◌≢◌, ◌≤◌, ◌<◌, ◌⊎◌, List, [], ◌∷◌, ◌++◌, length, ⊤, Some, slice_get, AllPairs}
+use Rattle.std.specs.Prelude.{ℕ, suc, ◌≡◌, ◌≤◌, ◌<◌, ◌⊎◌, List, ◌++◌, length, Some, slice_get, AllPairs}
 use Rattle.std.specs.List.{AllByRecursion}
+use Rattle.pfair_weight.specs.Name.{NamesApart}
 use Rattle.pfair_order.specs.Order.{GoesBefore}
 use Rattle.pfair_replica.specs.Replica.{Replica, IsReplica, Below, Untorn, Agree, mark, frontier}
 use Rattle.pfair_table.specs.declared.event.Event.{Event}
 use Rattle.pfair_table.specs.Events.{IsEvent, run_of}
-use Rattle.pfair_table.specs.Table.{Settings, Table, world, chosen, table, decisions, plan, history, counted, all_ran}
+use Rattle.pfair_table.specs.Table.{Settings, world, chosen, table, decisions, plan, history, counted, all_ran}
 
 -- a replica of the processors of these settings
 pub record IsOf (s : Settings) (x : Replica) : Type 0 where
@@ -15,11 +16,6 @@ pub record IsOf (s : Settings) (x : Replica) : Type 0 where
 -- ys begins with xs
 abbrev pub IsPrefixOf : {A : Type 0} → List A → List A → Type 0
 IsPrefixOf {A} xs ys = (rest : List A) × (xs ++ rest ≡ ys)
-
--- each name once
-abbrev pub EachNameOnce : Table → Type 0
-EachNameOnce [] = ⊤
-EachNameOnce (p ∷ picks) = AllByRecursion (λ r. p.name ≢ r.name) picks × EachNameOnce picks
 
 -- Replicas that agree give every slot below both frontiers one table and the same decisions.
 abbrev pub OneTable : Type 0
@@ -44,7 +40,7 @@ OnePlan =
 abbrev pub TablesAreOrdered : Type 0
 TablesAreOrdered =
     (s : Settings) (x : Replica) (t : ℕ)
-    → (length (table s x t) ≤ s.processors) × AllPairs GoesBefore (chosen s t (world s x t)) × EachNameOnce (table s x t)
+    → (length (table s x t) ≤ s.processors) × AllPairs GoesBefore (chosen s t (world s x t)) × NamesApart (λ p. p.name) (table s x t)
 
 -- To add one for each row of a table is to count by the tables anew.
 abbrev pub RunsAreCounted : Type 0

@@ -1,19 +1,19 @@
 -- What holds of the places of tables.
 use Rattle.std.specs.Prelude.{ℕ, suc, ◌≡◌, ◌≢◌, ◌≤◌, ◌<◌, IsTrue, List, [], ◌∷◌, length, ⊤, Some, slice_get}
 use Rattle.std.specs.List.{AllByRecursion}
+use Rattle.pfair_weight.specs.Name.{NamesApart}
 use Rattle.pfair_ready.specs.Names.{NameValue as Name}
 use Rattle.pfair_replica.specs.Replica.{Agree}
 use Rattle.pfair_replica.specs.HeldRows.{replica_of}
 use Rattle.pfair_table.specs.declared.event.Event.{Event}
 use Rattle.pfair_table.specs.Events.{IsEvent, run_of}
 use Rattle.pfair_table.specs.Table.{Settings, Table, names_task}
-use Rattle.pfair_table.specs.Laws.{EachNameOnce}
 use Rattle.pfair_table.specs.Places.{place_of, places_of}
 use Rattle.pfair_table.specs.Refinement.{Dispatch}
 
 -- no more rows than that, and each name once
 abbrev pub IsFit : ℕ → Table → Type 0
-IsFit processors rows = (length rows ≤ processors) × EachNameOnce rows
+IsFit processors rows = (length rows ≤ processors) × NamesApart (λ p. p.name) rows
 
 -- no two are equal
 abbrev pub AllDiffer : List ℕ → Type 0

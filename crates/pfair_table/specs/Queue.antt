@@ -6,10 +6,10 @@ use Rattle.pfair_entry.specs.Same.{name_eq}
 use Rattle.pfair_entry.specs.Names.{name_of}
 use Rattle.pfair_entry.specs.declared.said.Said.{Said}
 use Rattle.std.specs.FinMap as finmap
+use Rattle.pfair_weight.specs.Name.{NamesApart}
 use Rattle.pfair_ready.specs.Names.{NameValue as Name}
 use Rattle.pfair_order.specs.declared.Key.{Key}
-use Rattle.pfair_table.specs.Lists.{Apart}
-use Rattle.pfair_ready.specs.Waiting.{Held}
+use Rattle.pfair_ready.specs.Queue.{Queue}
 use Rattle.pfair_admission.specs.Member.{Member, is_departing, eligible_from, next_key}
 use Rattle.pfair_admission.specs.Admission.{member_named}
 use Rattle.pfair_admission.specs.Roster.{Roster}
@@ -19,16 +19,12 @@ abbrev pub queued : Option Member → Option (ℕ × Key)
 queued None = None
 queued (Some m) = if is_departing m then None else Some (eligible_from m m.next, next_key m)
 
-abbrev pub IsQueue : List Member → Held → Type 0
+abbrev pub IsQueue : List Member → Queue → Type 0
 IsQueue members waiting = (name : Name) → finmap.get waiting name ≡ queued (member_named members name)
 
--- no two members have one name
-abbrev pub Named : List Member → Type 0
-Named members = Apart (λ m. m.name) members
-
 -- members and a ready structure before the boundary of a slot
-pub record IsSteady (slot : ℕ) (roster : Roster) (now : ℕ) (waiting : Held) : Type 0 where
-  pub named : Named roster.members
+pub record IsSteady (slot : ℕ) (roster : Roster) (now : ℕ) (waiting : Queue) : Type 0 where
+  pub named : NamesApart (λ m. m.name) roster.members
   pub queue : IsQueue roster.members waiting
   pub by_now : now ≤ slot
   pub order : ForSome roster.last_slot (λ last. last ≤ slot)
@@ -38,24 +34,24 @@ pub record IsSteady (slot : ℕ) (roster : Roster) (now : ℕ) (waiting : Held) 
 
 -- some announcement is about the task
 abbrev pub is_said : Name → List Said → Bool
-is_said name heard = list_any (λ a. name_eq name (name_of a.announcement)) heard
+is_said name announced = list_any (λ a. name_eq name (name_of a.announcement)) announced
 
 -- some key is of the task
 abbrev pub has_key_of : Name → List Key → Bool
 has_key_of name keys = list_any (λ k. name_eq name k.name) keys
 
 -- what is held of every name that nothing was said about
-abbrev pub IsQueueBut : List Said → List Member → Held → Type 0
-IsQueueBut heard members waiting =
-    (name : Name) → is_said name heard ≡ false → finmap.get waiting name ≡ queued (member_named members name)
+abbrev pub IsQueueBut : List Said → List Member → Queue → Type 0
+IsQueueBut announced members waiting =
+    (name : Name) → is_said name announced ≡ false → finmap.get waiting name ≡ queued (member_named members name)
 
 -- the same without the keys that were taken out
-abbrev pub IsQueueWithout : List Key → List Member → Held → Type 0
+abbrev pub IsQueueWithout : List Key → List Member → Queue → Type 0
 IsQueueWithout keys members waiting =
     (name : Name) → finmap.get waiting name ≡ (if has_key_of name keys then None else queued (member_named members name))
 
 -- only the named task's entry is anew
-abbrev pub IsToldOf : Name → List Member → (before after : Held) → Type 0
+abbrev pub IsToldOf : Name → List Member → (before after : Queue) → Type 0
 IsToldOf told members before after =
     (name : Name) → finmap.get after name ≡ (if name_eq name told then queued (member_named members told) else finmap.get before name)
 

@@ -2,7 +2,7 @@
 use Rattle.std.specs.Prelude.{ℕ, zero, suc, ◌+◌, ◌≡◌, ◌≤◌, ◌<◌, Bool, true, false, IsTrue, List, length, map, min, Some, slice_get}
 use Rattle.pfair_replica.specs.HeldRows.{HeldRows, replica_of}
 use Rattle.pfair_replica.specs.Replica.{Replica, Below, Untorn, Agree, frontier, has_torn, torn_keys, said, numbers_below}
-use Rattle.pfair_ready.specs.Waiting.{Held}
+use Rattle.pfair_ready.specs.Queue.{Queue}
 use Rattle.pfair_admission.specs.Roster.{Roster}
 use Rattle.pfair_table.specs.declared.pick.Decided.{Decided}
 use Rattle.pfair_table.specs.declared.answer.Step.{Step}
@@ -81,14 +81,14 @@ heard_before x zero = 0
 heard_before x (suc n) = heard_before x n + length (said x n)
 
 -- The members are those of the definition after n slots, counted by the tables so far; and the ready structure waits for slot n.
-pub record IsInStep (s : Settings) (of : Replica) (n : ℕ) (roster : Roster) (now : ℕ) (waiting : Held) : Type 0 where
+pub record IsInStep (s : Settings) (of : Replica) (n : ℕ) (roster : Roster) (now : ℕ) (waiting : Queue) : Type 0 where
   pub machine_is : roster.machine ≡ machine s
   pub members_are : roster.members ≡ counted (history s of n).tables (history s of n).members
   pub heard_is : roster.heard ≡ heard_before of n
   pub steady : IsSteady n roster now waiting
 
 -- All of this for one replica; where memory was wanting, members and ready structure say nothing.
-pub record IsKept (s : Settings) (held : Replica) (tables : List Table) (decided : List (List Decided)) (spent : Bool) (roster : Roster) (now : ℕ) (waiting : Held) : Type 0 where
+pub record IsKept (s : Settings) (held : Replica) (tables : List Table) (decided : List (List Decided)) (spent : Bool) (roster : Roster) (now : ℕ) (waiting : Queue) : Type 0 where
   pub processors : held.processors ≡ s.processors
   pub capacity : held.capacity ≤ 4096
   pub of : Replica

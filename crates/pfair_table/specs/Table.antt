@@ -68,7 +68,7 @@ pub record History : Type 0 where
 
 -- the members after the boundary of slot t, where this was said
 abbrev pub members_at : Settings → ℕ → List Said → History → List Member
-members_at s t heard h = boundary (machine s) t (counted h.tables h.members) (announcements heard)
+members_at s t announced h = boundary (machine s) t (counted h.tables h.members) (announcements announced)
 
 -- the keys of slot t's quanta: the first eligible subtasks in PD2 order, as many as there are processors
 abbrev pub chosen : Settings → ℕ → List Member → List Key
@@ -78,8 +78,8 @@ abbrev pub table_of : Settings → ℕ → List Member → Table
 table_of s t members = map (pick members) (chosen s t members)
 
 abbrev pub slot_after : Settings → ℕ → List Said → History → History
-slot_after s t heard h =
-    let members = members_at s t heard h in
+slot_after s t announced h =
+    let members = members_at s t announced h in
     record { members = members; tables = h.tables ++ table_of s t members ∷ [] }
 
 -- the slots before t
@@ -104,11 +104,11 @@ with_decision p = record { processor = p.0.processor; number = p.0.number; annou
 
 -- what was said, each with its decision
 abbrev pub with_decisions : List Said → List Decision → List Decided
-with_decisions heard ds = map with_decision (zip heard ds)
+with_decisions announced ds = map with_decision (zip announced ds)
 
 abbrev pub decided_at : Settings → ℕ → List Said → History → List Decided
-decided_at s t heard h =
-    with_decisions heard (boundary_decisions (machine s) t (counted h.tables h.members) (announcements heard))
+decided_at s t announced h =
+    with_decisions announced (boundary_decisions (machine s) t (counted h.tables h.members) (announcements announced))
 
 -- what is decided at the boundary of slot t, in order
 abbrev pub decisions : Settings → Replica → ℕ → List Decided

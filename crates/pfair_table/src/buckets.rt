@@ -1,8 +1,8 @@
 //! Where a task stands in a table, found without going through its rows.
 
 ghost use Rattle.std.specs.Prelude.{◌≡◌, ◌≤◌, ◌<◌, length, slice_get};
+ghost use Rattle.pfair_weight.specs.Name.{NamesApart};
 ghost use Rattle.pfair_table.specs.Buckets.{bucket, AreBucketsOf};
-ghost use Rattle.pfair_table.specs.Laws.{EachNameOnce};
 ghost use Rattle.pfair_table.specs.Places.{place_of};
 
 use crate::pick::Pick;
@@ -33,7 +33,7 @@ impl Buckets {
     /// two tasks of the table fall into its bucket.
     pub(crate) fn place(&self, table: &[Pick], places: &[u8], name: &TaskName) -> Option<u8>
         requires of { AreBucketsOf table.now self.now.ends }
-        requires once { EachNameOnce table.now }
+        requires once { NamesApart (λ p. p.name) table.now }
         ensures { result ≡ place_of table.now places.now name.now }
     {
         let end = self.ends[bucket_of(name) as usize];

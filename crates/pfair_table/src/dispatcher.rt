@@ -1,6 +1,6 @@
 //! The dispatcher.
 
-ghost use Rattle.std.specs.Prelude.{◌≡◌, ◌≤◌, ◌<◌, ◌+◌, ◌++◌, ◌∷◌, [], true, false, IfOk, IfErr, OnOk, OnErr, Err, length, slice_get};
+ghost use Rattle.std.specs.Prelude.{◌≡◌, ◌≤◌, ◌<◌, ◌++◌, ◌∷◌, [], true, false, IfOk, IfErr, OnOk, OnErr, Err, length, slice_get};
 ghost use Rattle.std.specs.Option.{option_map};
 ghost use Rattle.pfair_replica.specs.Replica.{Untorn, has_torn};
 ghost use Rattle.pfair_replica.specs.Offered.{taken, absorbed};
@@ -9,7 +9,6 @@ ghost use Rattle.pfair_replica.specs.Faults.{IsKeyOf, IsTakenAs, IsTakeFaultOf, 
 ghost use Rattle.pfair_table.specs.declared.event.Event.TheVariants.{Plan as PlanEvent};
 ghost use Rattle.pfair_table.specs.Events.{start, happens};
 ghost use Rattle.pfair_table.specs.Laws.{IsOf};
-ghost use Rattle.pfair_table.specs.Limits.{IsSettings};
 ghost use Rattle.pfair_table.specs.Table.{table, decisions};
 ghost use Rattle.std.specs.List.{AllByRecursion};
 ghost use Rattle.pfair_table.specs.Planned.{as_tables, as_places};
@@ -22,11 +21,9 @@ use crate::answer::{PlanFault, Step};
 use crate::pick::{Decided, Pick};
 use crate::places::next_places;
 use crate::planned::{Planned, Schedule};
-use crate::readings::Readings;
+use crate::planner::Planner;
 use crate::script::Script;
 use crate::settings::Settings;
-use crate::slot::{SlotPlan, plan_slot};
-use pfair_admission::Members;
 use pfair_entry::Entry;
 use pfair_ready::Ready;
 use pfair_replica::{MergeFault, Replica, TakeFault, Taken};
@@ -39,12 +36,9 @@ use std::marker::Model;
 /// tables, in whatever order, with whatever losses and repeats they come.
 #[derive(Drop)]
 pub struct Dispatcher<R: Ready> {
-    alloc: Global,
     settings: Settings,
     replica: Replica,
-    readings: Readings,
-    members: Members,
-    ready: R,
+    planner: Planner<R>,
     planned: Planned,
     spent: bool,
 }
@@ -58,7 +52,7 @@ impl<R: Ready> Model for Dispatcher<R> {
 
     ghost view = { λ a. record { settings = a.settings; held = a.replica; tables = a.planned.tables; decided = a.planned.decided; spent = a.spent } };
 
-    ghost invariant = { λ a. IsKept a.settings (replica_of a.replica) a.planned.tables a.planned.decided a.spent a.members (R.now a.ready) (R.held a.ready) × AreReadingsOf (replica_of a.replica) a.readings.by_processor.items };
+    ghost invariant = { λ a. IsKept a.settings (replica_of a.replica) a.planned.tables a.planned.decided a.spent a.planner.members (R.now a.planner.ready) (R.held a.planner.ready) × AreReadingsOf (replica_of a.replica) a.planner.readings.by_processor.items };
 }
 
 impl<R: Ready> Dispatcher<R> {
@@ -74,15 +68,11 @@ impl<R: Ready> Dispatcher<R> {
         ensures spent { IfOk result (λ d. d.spent ≡ false) }
     {
         let replica = Replica::new(alloc, settings.processors(), capacity)?;
-        let readings = Readings::new(alloc, settings.processors())?;
-        let members = Members::new(alloc, settings.processors(), settings.frame());
+        let planner = Planner::new(alloc, settings)?;
         Ok(Dispatcher {
-            alloc,
             settings,
             replica,
-            readings,
-            members,
-            ready: R::new(alloc),
+            planner,
             planned: Planned::new(alloc),
             spent: false,
         })
@@ -239,12 +229,9 @@ impl<R: Ready> Dispatcher<R> {
             return Ok(Step::Waiting { frontier });
         }
         match plan_onto(
-            self.alloc,
             self.settings,
             &self.replica,
-            &mut self.readings,
-            &mut self.members,
-            &mut self.ready,
+            &mut self.planner,
             &mut self.planned,
         ) {
             Ok(()) => Ok(Step::Planned { slot }),
@@ -270,16 +257,9 @@ impl<R: Ready> Dispatcher<R> {
         if let Some(torn) = self.replica.first_torn() {
             return Err(PlanFault::Torn(torn));
         }
-        match plan_again::<R>(
-            self.alloc,
-            self.settings,
-            &self.replica,
-            &mut self.readings,
-            self.planned.len() as u64,
-        ) {
-            Ok((members, ready)) => {
-                self.members = members;
-                self.ready = ready;
+        let slots = self.planned.len() as u64;
+        match self.planner.plan_again(self.settings, &self.replica, slots) {
+            Ok(()) => {
                 self.spent = false;
                 Ok(())
             }
@@ -293,119 +273,27 @@ impl<R: Ready> Dispatcher<R> {
 
 // Plans slot n of the replica, and puts it behind the n slots before it.
 fn plan_onto<R: Ready>(
-    alloc: Global,
     settings: Settings,
     replica: &Replica,
-    readings: &mut Readings,
-    members: &mut Members,
-    ready: &mut R,
+    planner: &mut Planner<R>,
     planned: &mut Planned,
 ) -> Result<(), AllocError>
     requires of { IsOf settings (replica_of replica.now) }
     requires untorn { Untorn (replica_of replica.now) }
     requires room { replica.now.capacity ≤ Script.LONGEST_LOG }
     requires slots { length planned.old.tables < settings.slots }
-    requires readings { AreReadingsOf (replica_of replica.now) readings.old.by_processor.items }
+    requires readings { AreReadingsOf (replica_of replica.now) planner.old.readings.by_processor.items }
     requires fit { AllByRecursion (IsFit settings.processors) planned.old.tables }
-    requires step { IsInStep settings (replica_of replica.now) (length planned.old.tables) members.old (R.now ready.old) (R.held ready.old) }
+    requires step { IsInStep settings (replica_of replica.now) (length planned.old.tables) planner.old.members (R.now planner.old.ready) (R.held planner.old.ready) }
     ensures tables { OnOk result (planned.new.tables ≡ planned.old.tables ++ table settings (replica_of replica.now) (length planned.old.tables) ∷ []) }
     ensures decided { OnOk result (planned.new.decided ≡ planned.old.decided ++ decisions settings (replica_of replica.now) (length planned.old.tables) ∷ []) }
-    ensures step { OnOk result (IsInStep settings (replica_of replica.now) (length planned.new.tables) members.new (R.now ready.new) (R.held ready.new)) }
+    ensures step { OnOk result (IsInStep settings (replica_of replica.now) (length planned.new.tables) planner.new.members (R.now planner.new.ready) (R.held planner.new.ready)) }
     ensures err { OnErr result (planned.new ≡ planned.old) }
-    ensures readings { AreReadingsOf (replica_of replica.now) readings.new.by_processor.items }
+    ensures readings { AreReadingsOf (replica_of replica.now) planner.new.readings.by_processor.items }
 {
     let slot = planned.len() as u64;
-    let next = plan_in_step(alloc, settings, replica, readings, members, ready, slot)?;
-    let places = next_places(alloc, planned, &next.table)?;
+    let next = planner.plan(settings, replica, slot)?;
+    let places = next_places(planner.alloc, planned, &next.table)?;
     planned.push(next.table, places, next.decided)?;
     Ok(())
-}
-
-// The members and the ready structure after so many slots.
-fn plan_again<R: Ready>(
-    alloc: Global,
-    settings: Settings,
-    replica: &Replica,
-    readings: &mut Readings,
-    slots: u64,
-) -> Result<(Members, R), AllocError>
-    requires of { IsOf settings (replica_of replica.now) }
-    requires untorn { Untorn (replica_of replica.now) }
-    requires room { replica.now.capacity ≤ Script.LONGEST_LOG }
-    requires readings { AreReadingsOf (replica_of replica.now) readings.old.by_processor.items }
-    requires slots { slots ≤ settings.slots }
-    ensures step { IfOk result (λ made. IsInStep settings (replica_of replica.now) slots made.0 (R.now made.1) (R.held made.1)) }
-    ensures readings { AreReadingsOf (replica_of replica.now) readings.new.by_processor.items }
-{
-    let mut members = Members::new(alloc, settings.processors(), settings.frame());
-    let mut ready = R::new(alloc);
-    plan_over(
-        alloc,
-        settings,
-        replica,
-        readings,
-        &mut members,
-        &mut ready,
-        slots,
-    )?;
-    Ok((members, ready))
-}
-
-// Plans so many slots, from the first one on, of which the tables aren't wanted.
-fn plan_over<R: Ready>(
-    alloc: Global,
-    settings: Settings,
-    replica: &Replica,
-    readings: &mut Readings,
-    members: &mut Members,
-    ready: &mut R,
-    slots: u64,
-) -> Result<(), AllocError>
-    requires of { IsOf settings (replica_of replica.now) }
-    requires untorn { Untorn (replica_of replica.now) }
-    requires room { replica.now.capacity ≤ Script.LONGEST_LOG }
-    requires readings { AreReadingsOf (replica_of replica.now) readings.old.by_processor.items }
-    requires slots { slots ≤ settings.slots }
-    requires step { IsInStep settings (replica_of replica.now) 0 members.old (R.now ready.old) (R.held ready.old) }
-    ensures step { OnOk result (IsInStep settings (replica_of replica.now) slots members.new (R.now ready.new) (R.held ready.new)) }
-    ensures readings { AreReadingsOf (replica_of replica.now) readings.new.by_processor.items }
-{
-    for slot in 0..slots {
-        plan_in_step(alloc, settings, replica, readings, members, ready, slot)?;
-    }
-    Ok(())
-}
-
-// Plans slot n of the replica, on members and a ready structure that are in step with the n slots
-// before it.
-fn plan_in_step<R: Ready>(
-    alloc: Global,
-    settings: Settings,
-    replica: &Replica,
-    readings: &mut Readings,
-    members: &mut Members,
-    ready: &mut R,
-    slot: u64,
-) -> Result<SlotPlan, AllocError>
-    requires of { IsOf settings (replica_of replica.now) }
-    requires untorn { Untorn (replica_of replica.now) }
-    requires room { replica.now.capacity ≤ Script.LONGEST_LOG }
-    requires slot { slot < settings.slots }
-    requires readings { AreReadingsOf (replica_of replica.now) readings.old.by_processor.items }
-    requires step { IsInStep settings (replica_of replica.now) slot members.old (R.now ready.old) (R.held ready.old) }
-    ensures table { IfOk result (λ next. next.table.items ≡ table settings (replica_of replica.now) slot) }
-    ensures decided { IfOk result (λ next. next.decided.items ≡ decisions settings (replica_of replica.now) slot) }
-    ensures step { OnOk result (IsInStep settings (replica_of replica.now) (slot + 1) members.new (R.now ready.new) (R.held ready.new)) }
-    ensures limits { OnOk result (IsSettings settings) }
-    ensures readings { AreReadingsOf (replica_of replica.now) readings.new.by_processor.items }
-{
-    let announced = readings.heard(replica, slot)?;
-    plan_slot(
-        alloc,
-        &announced,
-        members,
-        ready,
-        settings.processors(),
-        slot,
-    )
 }

@@ -15,6 +15,7 @@ pub mod laws;
 mod pick;
 mod places;
 mod planned;
+mod planner;
 mod readings;
 mod run;
 mod script;

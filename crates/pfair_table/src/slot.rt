@@ -1,16 +1,16 @@
 //! One slot: the boundary, the ready structure, and the quanta.
 
-ghost use Rattle.std.specs.Prelude.{◌≡◌, ◌≤◌, ◌<◌, ◌+◌, Some, None, IfOk, OnOk, map, length};
+ghost use Rattle.std.specs.Prelude.{◌≡◌, ◌≤◌, ◌<◌, ◌+◌, Some, IfOk, OnOk, map, length};
 ghost use Rattle.std.specs.Option.{ForSome};
 ghost use Rattle.std.specs.List.{AllByRecursion};
+ghost use Rattle.pfair_weight.specs.Name.{NamesApart};
 ghost use Rattle.pfair_order.specs.declared.Key.{Key};
 ghost use Rattle.pfair_replica.specs.Among.{Among};
-ghost use Rattle.pfair_table.specs.Lists.{Apart};
 ghost use Rattle.pfair_table.specs.Ranks.{first_by_rank};
 ghost use Rattle.pfair_admission.specs.Admission.{boundary, boundary_decisions, announcements};
 ghost use Rattle.pfair_entry.specs.Entry.{IsWithinLimits};
 ghost use Rattle.pfair_table.specs.Table.{with_decisions, eligible, pick, all_ran};
-ghost use Rattle.pfair_table.specs.Queue.{IsQueue, IsQueueBut, IsQueueWithout, IsToldOf, IsSteady, MayRun, Named};
+ghost use Rattle.pfair_table.specs.Queue.{IsQueue, IsQueueBut, IsQueueWithout, IsToldOf, IsSteady, MayRun};
 
 use crate::pick::{Decided, Pick};
 use pfair_admission::Members;
@@ -98,7 +98,7 @@ pub(crate) fn run_each<R: Ready>(
     members: &mut Members,
     first: &[Key],
 ) -> Result<Vec<Pick>, AllocError>
-    requires apart { Apart (λ (k : Key). k.name) first.now }
+    requires apart { NamesApart (λ k. k.name) first.now }
     requires running { (k : Key) → Among first.now k → MayRun members.old.members k }
     requires queue { IsQueueWithout first.now members.old.members (R.held ready.old) }
     ensures table { IfOk result (λ table. table.items ≡ map (pick members.old.members) first.now) }
@@ -129,7 +129,7 @@ pub(crate) fn give_quanta<R: Ready>(
     slot: u64,
 ) -> Result<Vec<Pick>, AllocError>
     requires time { R.now ready.old ≤ slot }
-    requires named { Named members.old.members }
+    requires named { NamesApart (λ m. m.name) members.old.members }
     requires queue { IsQueue members.old.members (R.held ready.old) }
     requires few { AllByRecursion (λ m. m.next ≤ Entry.LAST_INDEX) members.old.members }
     ensures table { IfOk result (λ table. table.items ≡ map (pick members.old.members) (first_by_rank processors (eligible slot members.old.members))) }

@@ -4,7 +4,7 @@ use Rattle.pfair_table.specs.declared.event.Event.{Event}
 use Rattle.pfair_table.specs.Table.{Settings}
 use Rattle.pfair_table.specs.Events.{IsEvent, Course, happens, run}
 use Rattle.pfair_table.specs.Refinement.{course_of}
-use Rattle.pfair_table.proofs.Queues.{drop_item}
+use Rattle.pfair_table.proofs.QueueKept.{drop_item}
 use Rattle.pfair_table.proofs.run.happen_all.Goals as goal
 
 pub loop-event-preserved : goal.loop-event-preserved

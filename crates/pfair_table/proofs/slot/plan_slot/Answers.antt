@@ -1,15 +1,16 @@
 use Rattle.std.proofs.Common.{◌≡◌, ◌≤◌, ◌+◌, ◌∙◌, sym, ap, subst, arith, map, List}
 use Rattle.std.specs.List.{AllByRecursion}
+use Rattle.pfair_weight.specs.Name.{NamesApart}
 use Rattle.pfair_entry.specs.declared.said.Said.{Said}
 use Rattle.pfair_table.specs.Ranks.{first_by_rank}
 use Rattle.pfair_admission.specs.Member.{Member}
 use Rattle.pfair_admission.specs.Admission.{boundary, announcements, member_named}
 use Rattle.pfair_admission.specs.Roster.{Roster}
 use Rattle.pfair_table.specs.Table.{Table, eligible, pick, all_ran}
-use Rattle.pfair_table.specs.Queue.{queued, Named}
-use Rattle.pfair_table.proofs.Members.{named_boundary}
+use Rattle.pfair_table.specs.Queue.{queued}
+use Rattle.pfair_admission.proofs.NamesKept.{apart_boundary}
 use Rattle.pfair_table.proofs.Slots.{steady_next, few_boundary, fewer}
-use Rattle.pfair_table.proofs.Queues.{queue_after_boundary}
+use Rattle.pfair_table.proofs.QueueKept.{queue_after_boundary}
 use Rattle.pfair_table.proofs.slot.plan_slot.Goals as goal
 
 pub tell_ready-requires : goal.tell_ready-requires
@@ -25,7 +26,7 @@ give_quanta-requires-clause-named g c =
     let announced : List Said = c.args.announced.now in
     let old : Roster = c.args.members.now in
     let members_are : c.decide_all.new.members.members ≡ boundary old.machine c.args.slot old.members (announcements announced) = ap (λ (r : Roster). r.members) c.in_ok-decided.ensures.members in
-    subst Named (sym members_are) (named_boundary old.machine c.args.slot old.members (announcements announced) c.requires.steady.named)
+    subst (NamesApart (λ (m : Member). m.name)) (sym members_are) (apart_boundary old.machine c.args.slot old.members (announcements announced) c.requires.steady.named)
 
 pub give_quanta-requires-clause-few : goal.give_quanta-requires-clause-few
 give_quanta-requires-clause-few g c =

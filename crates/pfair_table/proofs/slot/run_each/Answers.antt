@@ -4,7 +4,7 @@ use Rattle.std.proofs.lemmas.Option.{none-some, same_Some}
 use Rattle.pfair_admission.specs.declared.quantum.Quantum.{Quantum}
 use Rattle.pfair_admission.specs.Admission.{ran, quantum_of}
 use Rattle.pfair_table.specs.Queue.{MayRun}
-use Rattle.pfair_table.proofs.Quanta.{key_among, may_run, runs_next, told_on, run_turn}
+use Rattle.pfair_table.proofs.GivingQuanta.{key_among, may_run, runs_next, told_on, run_turn}
 use Rattle.pfair_table.proofs.slot.run_each.Goals as goal
 
 pub ran_on-requires : goal.ran_on-requires

@@ -2,7 +2,7 @@ use Rattle.std.proofs.Common.{◌≡◌, sym, ap, ◌∙◌, None}
 use Rattle.std.specs.Option.{option_copied}
 use Rattle.pfair_admission.specs.Admission.{member_named}
 use Rattle.pfair_table.specs.Queue.{queued}
-use Rattle.pfair_table.proofs.Queues.{told_gone, told_next, queued_departing}
+use Rattle.pfair_table.proofs.QueueKept.{told_gone, told_next, queued_departing}
 use Rattle.pfair_table.proofs.slot.tell_of.Goals as goal
 
 pub returns-in_default-clause-told : goal.returns-in_default-clause-told

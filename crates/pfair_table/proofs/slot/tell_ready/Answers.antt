@@ -1,6 +1,6 @@
 use Rattle.std.proofs.Common.{◌∙◌, subst, arith}
 use Rattle.pfair_table.specs.Queue.{IsToldOf}
-use Rattle.pfair_table.proofs.Queues.{told_turn}
+use Rattle.pfair_table.proofs.QueueKept.{told_turn}
 use Rattle.pfair_table.proofs.slot.tell_ready.Goals as goal
 
 pub loop-said-preserved : goal.loop-said-preserved

@@ -10,19 +10,19 @@ use Rattle.pfair_table.proofs.dispatcher.Dispatcher.plan_next.Goals as goal
 pub plan_onto-requires-clause-of : goal.plan_onto-requires-clause-of
 plan_onto-requires-clause-of g c =
     let test : has_torn (replica_of c.self.inside.replica) ≡ false = sym c.first_torn.ensures.some ∙ ap is_some c.in_default.is in
-    is_of_held c.self.inside.settings (replica_of c.self.inside.replica) c.self.inside.planned.tables c.self.inside.planned.decided c.self.inside.spent c.self.inside.members (g.R.Ready.now c.self.inside.ready) (g.R.Ready.held c.self.inside.ready)
+    is_of_held c.self.inside.settings (replica_of c.self.inside.replica) c.self.inside.planned.tables c.self.inside.planned.decided c.self.inside.spent c.self.inside.planner.members (g.R.Ready.now c.self.inside.planner.ready) (g.R.Ready.held c.self.inside.planner.ready)
     c.self.invariant.0 c.first_torn.ensures.replica test
 
 pub plan_onto-requires-clause-untorn : goal.plan_onto-requires-clause-untorn
 plan_onto-requires-clause-untorn g c =
     let test : has_torn (replica_of c.self.inside.replica) ≡ false = sym c.first_torn.ensures.some ∙ ap is_some c.in_default.is in
-    whole_held c.self.inside.settings (replica_of c.self.inside.replica) c.self.inside.planned.tables c.self.inside.planned.decided c.self.inside.spent c.self.inside.members (g.R.Ready.now c.self.inside.ready) (g.R.Ready.held c.self.inside.ready)
+    whole_held c.self.inside.settings (replica_of c.self.inside.replica) c.self.inside.planned.tables c.self.inside.planned.decided c.self.inside.spent c.self.inside.planner.members (g.R.Ready.now c.self.inside.planner.ready) (g.R.Ready.held c.self.inside.planner.ready)
     c.self.invariant.0 c.first_torn.ensures.replica test
 
 pub plan_onto-requires-clause-step : goal.plan_onto-requires-clause-step
 plan_onto-requires-clause-step g c =
     let test : has_torn (replica_of c.self.inside.replica) ≡ false = sym c.first_torn.ensures.some ∙ ap is_some c.in_default.is in
-    step_now c.self.inside.settings (replica_of c.self.inside.replica) c.self.inside.planned.tables c.self.inside.planned.decided c.self.inside.spent c.self.inside.members (g.R.Ready.now c.self.inside.ready) (g.R.Ready.held c.self.inside.ready)
+    step_now c.self.inside.settings (replica_of c.self.inside.replica) c.self.inside.planned.tables c.self.inside.planned.decided c.self.inside.spent c.self.inside.planner.members (g.R.Ready.now c.self.inside.planner.ready) (g.R.Ready.held c.self.inside.planner.ready)
     c.self.invariant.0 c.first_torn.ensures.replica test c.if-self.false
 
 pub plan_onto-requires-clause-fit : goal.plan_onto-requires-clause-fit
@@ -35,8 +35,8 @@ invariant_of-self g c =
     let test : has_torn (replica_of c.self.inside.replica) ≡ false = sym c.first_torn.ensures.some ∙ ap is_some c.in_default.is in
     let early : length c.self.inside.planned.tables < frontier (replica_of c.self.inside.replica) = omega (arith, c.len-slot.ensures, c.frontier-frontier.ensures.value, c.if-slot-frontier.false) in
     let wanted : length c.self.inside.planned.tables < c.self.inside.settings.slots = omega (arith, c.len-slot.ensures, c.slots.ensures.value, c.if-slot-slots.false) in (
-      kept_next c.self.inside.settings (replica_of c.self.inside.replica) c.self.inside.planned.tables c.self.inside.planned.decided c.self.inside.spent c.self.inside.members (g.R.Ready.now c.self.inside.ready) (g.R.Ready.held c.self.inside.ready)
-          c.self.invariant.0 c.first_torn.ensures.replica test c.plan_onto.new.planned.tables c.plan_onto.new.planned.decided c.self.inside.spent c.plan_onto.new.members (g.R.Ready.now c.plan_onto.new.ready) (g.R.Ready.held c.plan_onto.new.ready)
+      kept_next c.self.inside.settings (replica_of c.self.inside.replica) c.self.inside.planned.tables c.self.inside.planned.decided c.self.inside.spent c.self.inside.planner.members (g.R.Ready.now c.self.inside.planner.ready) (g.R.Ready.held c.self.inside.planner.ready)
+          c.self.invariant.0 c.first_torn.ensures.replica test c.plan_onto.new.planned.tables c.plan_onto.new.planned.decided c.self.inside.spent c.plan_onto.new.planner.members (g.R.Ready.now c.plan_onto.new.planner.ready) (g.R.Ready.held c.plan_onto.new.planner.ready)
           early wanted c.in-Ok.ensures.tables c.in-Ok.ensures.decided c.in-Ok.ensures.step,
       c.plan_onto.ensures.readings,
     )
@@ -46,9 +46,9 @@ returns-then-slot-slots-clause-settled g c =
     let test : has_torn (replica_of c.self.inside.replica) ≡ false = sym c.first_torn.ensures.some ∙ ap is_some c.in_default.is in
     let enough : min (frontier (replica_of c.self.inside.replica)) c.self.inside.settings.slots ≤ length c.self.inside.planned.tables = omega (arith, c.len-slot.ensures, c.slots.ensures.value, c.if-slot-slots.true) in
     let whole : IsWholePlan (record { settings = c.self.inside.settings; held = c.self.inside.replica; tables = c.self.inside.planned.tables; decided = c.self.inside.planned.decided; spent = c.self.inside.spent }) = record {
-      tables_are = tables_whole c.self.inside.settings (replica_of c.self.inside.replica) c.self.inside.planned.tables c.self.inside.planned.decided c.self.inside.spent c.self.inside.members (g.R.Ready.now c.self.inside.ready) (g.R.Ready.held c.self.inside.ready)
+      tables_are = tables_whole c.self.inside.settings (replica_of c.self.inside.replica) c.self.inside.planned.tables c.self.inside.planned.decided c.self.inside.spent c.self.inside.planner.members (g.R.Ready.now c.self.inside.planner.ready) (g.R.Ready.held c.self.inside.planner.ready)
           c.self.invariant.0 c.first_torn.ensures.replica test enough;
-      decided_are = decided_whole c.self.inside.settings (replica_of c.self.inside.replica) c.self.inside.planned.tables c.self.inside.planned.decided c.self.inside.spent c.self.inside.members (g.R.Ready.now c.self.inside.ready) (g.R.Ready.held c.self.inside.ready)
+      decided_are = decided_whole c.self.inside.settings (replica_of c.self.inside.replica) c.self.inside.planned.tables c.self.inside.planned.decided c.self.inside.spent c.self.inside.planner.members (g.R.Ready.now c.self.inside.planner.ready) (g.R.Ready.held c.self.inside.planner.ready)
           c.self.invariant.0 c.first_torn.ensures.replica test enough;
     } in
     λ last. subst IsWholePlan c.self.view_is whole
@@ -58,9 +58,9 @@ returns-then-slot-frontier-clause-settled g c =
     let test : has_torn (replica_of c.self.inside.replica) ≡ false = sym c.first_torn.ensures.some ∙ ap is_some c.in_default.is in
     let enough : min (frontier (replica_of c.self.inside.replica)) c.self.inside.settings.slots ≤ length c.self.inside.planned.tables = omega (arith, c.len-slot.ensures, c.frontier-frontier.ensures.value, c.if-slot-frontier.true) in
     let whole : IsWholePlan (record { settings = c.self.inside.settings; held = c.self.inside.replica; tables = c.self.inside.planned.tables; decided = c.self.inside.planned.decided; spent = c.self.inside.spent }) = record {
-      tables_are = tables_whole c.self.inside.settings (replica_of c.self.inside.replica) c.self.inside.planned.tables c.self.inside.planned.decided c.self.inside.spent c.self.inside.members (g.R.Ready.now c.self.inside.ready) (g.R.Ready.held c.self.inside.ready)
+      tables_are = tables_whole c.self.inside.settings (replica_of c.self.inside.replica) c.self.inside.planned.tables c.self.inside.planned.decided c.self.inside.spent c.self.inside.planner.members (g.R.Ready.now c.self.inside.planner.ready) (g.R.Ready.held c.self.inside.planner.ready)
           c.self.invariant.0 c.first_torn.ensures.replica test enough;
-      decided_are = decided_whole c.self.inside.settings (replica_of c.self.inside.replica) c.self.inside.planned.tables c.self.inside.planned.decided c.self.inside.spent c.self.inside.members (g.R.Ready.now c.self.inside.ready) (g.R.Ready.held c.self.inside.ready)
+      decided_are = decided_whole c.self.inside.settings (replica_of c.self.inside.replica) c.self.inside.planned.tables c.self.inside.planned.decided c.self.inside.spent c.self.inside.planner.members (g.R.Ready.now c.self.inside.planner.ready) (g.R.Ready.held c.self.inside.planner.ready)
           c.self.invariant.0 c.first_torn.ensures.replica test enough;
     } in
     λ last. subst IsWholePlan c.self.view_is whole

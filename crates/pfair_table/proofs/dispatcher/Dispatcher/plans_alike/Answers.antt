@@ -11,8 +11,8 @@ returns-clause-planned g c =
     let there : Dispatch = record { settings = c.other.inside.settings; held = c.other.inside.replica; tables = c.other.inside.planned.tables; decided = c.other.inside.planned.decided; spent = c.other.inside.spent } in
     let alike : HavePlannedAlike here there =
     kept_alike c.self.inside.settings c.other.inside.settings (replica_of c.self.inside.replica) (replica_of c.other.inside.replica) c.self.inside.planned.tables c.other.inside.planned.tables
-    c.self.inside.planned.decided c.other.inside.planned.decided c.self.inside.spent c.other.inside.spent c.self.inside.members c.other.inside.members
-    (g.R.Ready.now c.self.inside.ready) (g.Q.Ready.now c.other.inside.ready) (g.R.Ready.held c.self.inside.ready) (g.Q.Ready.held c.other.inside.ready)
+    c.self.inside.planned.decided c.other.inside.planned.decided c.self.inside.spent c.other.inside.spent c.self.inside.planner.members c.other.inside.planner.members
+    (g.R.Ready.now c.self.inside.planner.ready) (g.Q.Ready.now c.other.inside.planner.ready) (g.R.Ready.held c.self.inside.planner.ready) (g.Q.Ready.held c.other.inside.planner.ready)
     c.self.invariant.0 c.other.invariant.0 c.processors.ensures.rows.entries c.processors-2.ensures.rows.entries in
     subst (λ (d : Dispatch). HavePlannedAlike d c.args.other.now) c.self.view_is (subst (λ (d : Dispatch). HavePlannedAlike here d) c.other.view_is alike)
 
@@ -22,7 +22,7 @@ returns-clause-placed g c =
     let there : Dispatch = record { settings = c.other.inside.settings; held = c.other.inside.replica; tables = c.other.inside.planned.tables; decided = c.other.inside.planned.decided; spent = c.other.inside.spent } in
     let alike : HavePlacedAlike here there =
     placed_alike c.self.inside.settings c.other.inside.settings (replica_of c.self.inside.replica) (replica_of c.other.inside.replica) c.self.inside.planned.tables c.other.inside.planned.tables
-    c.self.inside.planned.decided c.other.inside.planned.decided c.self.inside.spent c.other.inside.spent c.self.inside.members c.other.inside.members
-    (g.R.Ready.now c.self.inside.ready) (g.Q.Ready.now c.other.inside.ready) (g.R.Ready.held c.self.inside.ready) (g.Q.Ready.held c.other.inside.ready)
+    c.self.inside.planned.decided c.other.inside.planned.decided c.self.inside.spent c.other.inside.spent c.self.inside.planner.members c.other.inside.planner.members
+    (g.R.Ready.now c.self.inside.planner.ready) (g.Q.Ready.now c.other.inside.planner.ready) (g.R.Ready.held c.self.inside.planner.ready) (g.Q.Ready.held c.other.inside.planner.ready)
     c.self.invariant.0 c.other.invariant.0 c.processors.ensures.rows.entries c.processors-2.ensures.rows.entries in
     subst (λ (d : Dispatch). HavePlacedAlike d c.args.other.now) c.self.view_is (subst (λ (d : Dispatch). HavePlacedAlike here d) c.other.view_is alike)

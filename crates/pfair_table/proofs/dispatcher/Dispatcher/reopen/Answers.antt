@@ -9,21 +9,21 @@ use Rattle.pfair_table.proofs.dispatcher.Dispatcher.reopen.Goals as goal
 pub plan_again-requires-clause-of : goal.plan_again-requires-clause-of
 plan_again-requires-clause-of g c =
     let test : has_torn (replica_of c.self.inside.replica) ≡ false = sym c.first_torn.ensures.some ∙ ap is_some c.in_default.is in
-    is_of_held c.self.inside.settings (replica_of c.self.inside.replica) c.self.inside.planned.tables c.self.inside.planned.decided c.self.inside.spent c.self.inside.members (g.R.Ready.now c.self.inside.ready) (g.R.Ready.held c.self.inside.ready)
+    is_of_held c.self.inside.settings (replica_of c.self.inside.replica) c.self.inside.planned.tables c.self.inside.planned.decided c.self.inside.spent c.self.inside.planner.members (g.R.Ready.now c.self.inside.planner.ready) (g.R.Ready.held c.self.inside.planner.ready)
     c.self.invariant.0 c.first_torn.ensures.replica test
 
 pub plan_again-requires-clause-untorn : goal.plan_again-requires-clause-untorn
 plan_again-requires-clause-untorn g c =
     let test : has_torn (replica_of c.self.inside.replica) ≡ false = sym c.first_torn.ensures.some ∙ ap is_some c.in_default.is in
-    whole_held c.self.inside.settings (replica_of c.self.inside.replica) c.self.inside.planned.tables c.self.inside.planned.decided c.self.inside.spent c.self.inside.members (g.R.Ready.now c.self.inside.ready) (g.R.Ready.held c.self.inside.ready)
+    whole_held c.self.inside.settings (replica_of c.self.inside.replica) c.self.inside.planned.tables c.self.inside.planned.decided c.self.inside.spent c.self.inside.planner.members (g.R.Ready.now c.self.inside.planner.ready) (g.R.Ready.held c.self.inside.planner.ready)
     c.self.invariant.0 c.first_torn.ensures.replica test
 
 pub invariant_of-self : goal.invariant_of-self
 invariant_of-self g c =
     let test : has_torn (replica_of c.self.inside.replica) ≡ false = sym c.first_torn.ensures.some ∙ ap is_some c.in_default.is in
-    let long : c.len.result ≡ length c.self.inside.planned.tables = omega (arith, c.len.ensures) in (
-      kept_anew c.self.inside.settings (replica_of c.self.inside.replica) c.self.inside.planned.tables c.self.inside.planned.decided c.self.inside.spent c.self.inside.members (g.R.Ready.now c.self.inside.ready) (g.R.Ready.held c.self.inside.ready)
-          c.self.invariant.0 c.first_torn.ensures.replica test false c.in-Ok.members (g.R.Ready.now c.in-Ok.ready) (g.R.Ready.held c.in-Ok.ready)
-          (subst (λ n. IsInStep c.self.inside.settings (replica_of c.self.inside.replica) n c.in-Ok.members (g.R.Ready.now c.in-Ok.ready) (g.R.Ready.held c.in-Ok.ready)) long c.in-Ok.ensures.step),
+    let long : c.len-slots.result ≡ length c.self.inside.planned.tables = omega (arith, c.len-slots.ensures) in (
+      kept_anew c.self.inside.settings (replica_of c.self.inside.replica) c.self.inside.planned.tables c.self.inside.planned.decided c.self.inside.spent c.self.inside.planner.members (g.R.Ready.now c.self.inside.planner.ready) (g.R.Ready.held c.self.inside.planner.ready)
+          c.self.invariant.0 c.first_torn.ensures.replica test false c.plan_again.new.self.members (g.R.Ready.now c.plan_again.new.self.ready) (g.R.Ready.held c.plan_again.new.self.ready)
+          (subst (λ n. IsInStep c.self.inside.settings (replica_of c.self.inside.replica) n c.plan_again.new.self.members (g.R.Ready.now c.plan_again.new.self.ready) (g.R.Ready.held c.plan_again.new.self.ready)) long c.in-Ok.ensures.step),
       c.plan_again.ensures.readings,
     )

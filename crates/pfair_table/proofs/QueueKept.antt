@@ -1,14 +1,17 @@
 -- The queue of the members' next subtasks, through boundaries and quanta.
-use Rattle.std.proofs.Common.{ℕ, zero, suc, ◌+◌, ◌<◌, ◌≡◌, refl, sym, ap, ◌∙◌, subst, arith, inl, inr, Bool, true, false, cond, List, [], ◌∷◌, ◌++◌, length, get_or, drop, Option, Some, None}
+use Rattle.std.proofs.Common.{ℕ, ◌+◌, ◌<◌, ◌≡◌, refl, sym, ap, ◌∙◌, subst, Bool, true, false, cond, List, [], ◌∷◌, ◌++◌, length, get_or, drop, Option, Some, None}
 use Rattle.std.specs.Prelude.{◌||◌, find, not, is_some, if◌then◌else◌}
-use Rattle.std.specs.Ordering.{is_eq, eq_by_cmp}
-use Rattle.std.specs.Cmp.{Equal-is, tied_itself, both_ways}
+use Rattle.std.specs.Ordering.{eq_by_cmp}
 use Rattle.std.proofs.lemmas.Cmp.{nat_list_cmp_total}
 use Rattle.std.specs.FinMap as finmap
 use Rattle.std.specs.FinMap.{get-insert, get-remove, same_map}
-use Rattle.pfair_ready.proofs.Names.{names_exact}
-use Rattle.std.proofs.lemmas.Bool.{true≢false, false_from_ne_true, or_parts}
-use Rattle.std.proofs.lemmas.Map.Lookups.{exact_bytes}
+use Rattle.pfair_ready.proofs.Names.{names_exact, tied_names}
+use Rattle.std.proofs.lemmas.Bool.{true≢false, or_parts}
+use Rattle.std.proofs.lemmas.List.{drop_more}
+use Rattle.std.proofs.lemmas.List.Recursion.{found_push_other}
+use Rattle.pfair_weight.specs.Name.{NamesApart}
+use Rattle.pfair_weight.proofs.NamesApart.{apart_head, apart_tail}
+use Rattle.std.specs.List.{AllByRecursion}
 use Rattle.pfair_ready.specs.Names.{NameValue as Name}
 use Rattle.pfair_order.specs.declared.Key.{Key}
 use Rattle.pfair_ready.specs.Names.{name_cmp}
@@ -18,34 +21,23 @@ use Rattle.pfair_entry.specs.declared.said.Said.{Said}
 use Rattle.pfair_entry.specs.declared.announcement.Announcement.{Announcement}
 use Rattle.pfair_entry.specs.declared.announcement.Announcement.TheVariants.{Arrive, Depart, Late}
 use Rattle.pfair_entry.specs.Exact.{name_exact, name_itself}
-use Rattle.pfair_replica.specs.Among.{Among}
 use Rattle.std.proofs.lemmas.Option.{none-some, same_Some}
-use Rattle.pfair_ready.specs.Waiting.{Held}
+use Rattle.pfair_ready.specs.Queue.{Queue}
 use Rattle.pfair_admission.specs.Admission.{Machine, is_named, member_named, newcomer, change, effect, decision, present, is_freed, all_decided, boundary, announcements}
 use Rattle.pfair_admission.specs.Member.{Member, is_departing, eligible_from, next_key}
 use Rattle.pfair_admission.specs.declared.decision.Decision.{Decision}
 use Rattle.pfair_admission.specs.declared.decision.Decision.TheVariants.{Admitted, Departing, Delayed, Refused}
-use Rattle.pfair_table.specs.Queue.{queued, IsQueue, IsQueueBut, IsToldOf, Named, is_said}
-use Rattle.pfair_table.proofs.Members.{named_present, named_effect}
-
--- ---- names
-
--- the order of names ties where they are one
-pub same_name : (a b : Name) → eq_by_cmp name_cmp a b ≡ name_eq a b
-same_name a b =
-    both_ways (eq_by_cmp name_cmp a b) (name_eq a b)
-    (λ e. subst (λ c. name_eq a c ≡ true) (exact_bytes a b ((Equal-is (name_cmp a b)).0 e)) (name_itself a))
-    (λ e. subst (λ c. eq_by_cmp name_cmp a c ≡ true) (name_exact a b e) (ap is_eq (tied_itself nat_list_cmp_total a)))
+use Rattle.pfair_table.specs.Queue.{queued, IsQueue, IsQueueBut, IsToldOf, is_said}
+use Rattle.pfair_admission.proofs.NamesKept.{apart_present, apart_effect}
 
 -- ---- what is found
 
-none_found : {A : Type 0} (p : A → Bool) (xs : List A) → ((x : A) → Among xs x → p x ≡ false) → find p xs ≡ None
-none_found p [] f = refl
-none_found p (x ∷ xs) f = ap (λ b. cond b (Some x) (find p xs)) (f x (inl refl)) ∙ none_found p xs (λ y h. f y (inr h))
+none_found : {A : Type 0} (p : A → Bool) (xs : List A) → AllByRecursion (λ x. p x ≡ false) xs → find p xs ≡ None
+none_found p [] h = refl
+none_found p (x ∷ xs) h = ap (λ b. cond b (Some x) (find p xs)) h.0 ∙ none_found p xs h.1
 
 find_push : {A : Type 0} (p : A → Bool) (xs : List A) (y : A) → p y ≡ false → find p (xs ++ y ∷ []) ≡ find p xs
-find_push p [] y e = ap (λ b. cond b (Some y) None) e
-find_push p (x ∷ xs) y e = ap (λ o. cond (p x) (Some x) o) (find_push p xs y e)
+find_push p = found_push_other (find p) p (λ x. Some x) None refl (λ x xs. refl)
 
 -- to change the member of one name changes no other
 pub found_other : (name other : Name) (f : Member → Member) → ((m : Member) → (f m).name ≡ m.name) → name_eq name other ≡ false → (members : List Member) → member_named (change other f members) name ≡ member_named members name
@@ -75,9 +67,9 @@ freed_departs : (t : ℕ) (o : Option ℕ) → not (is_freed t o) ≡ false → 
 freed_departs t None e = absurd (true≢false e)
 freed_departs t (Some slot) e = refl
 
-quiet_present : (t : ℕ) (name : Name) (members : List Member) → Named members → queued (member_named (present t members) name) ≡ queued (member_named members name)
+quiet_present : (t : ℕ) (name : Name) (members : List Member) → NamesApart (λ (m : Member). m.name) members → queued (member_named (present t members) name) ≡ queued (member_named members name)
 quiet_present t name [] a = refl
-quiet_present t name (m ∷ members) a = by (not (is_freed t m.freed_at)) (name_eq name m.name) refl refl (quiet_present t name members a.1)
+quiet_present t name (m ∷ members) a = by (not (is_freed t m.freed_at)) (name_eq name m.name) refl refl (quiet_present t name members (apart_tail (λ (m : Member). m.name) m members a))
   where
     by : (b c : Bool) → not (is_freed t m.freed_at) ≡ b → name_eq name m.name ≡ c → queued (member_named (present t members) name) ≡ queued (member_named members name)
         → queued (find (is_named name) (cond b (m ∷ present t members) (present t members))) ≡ queued (cond c (Some m) (member_named members name))
@@ -85,7 +77,7 @@ quiet_present t name (m ∷ members) a = by (not (is_freed t m.freed_at)) (name_
     by true false p q more = ap (λ d. queued (cond d (Some m) (member_named (present t members) name))) q ∙ more
     by false true p q more =
         more
-        ∙ ap queued (none_found (is_named name) members (λ x h. false_from_ne_true (name_eq name x.name) (λ e. a.0 x h (sym (name_exact name m.name q) ∙ name_exact name x.name e))))
+        ∙ ap queued (none_found (is_named name) members (subst (λ (n : Name). AllByRecursion (λ x. name_eq n x.name ≡ false) members) (sym (name_exact name m.name q)) (apart_head (λ (m : Member). m.name) m members a)))
         ∙ sym (ap (λ d. if d then None else Some (eligible_from m m.next, next_key m)) (freed_departs t m.freed_at p))
     by false false p q more = more
 
@@ -103,38 +95,38 @@ quiet_effect t name members (Late other index by) (Departing slot) e = refl
 quiet_effect t name members (Late other index by) Delayed e = found_other name other (λ m. record m { delays = m.delays ++ record { index = index; by = by } ∷ [] }) (λ m. refl) e members
 quiet_effect t name members (Late other index by) (Refused why) e = refl
 
-quiet_decided : (mc : Machine) (t : ℕ) (name : Name) (heard : List Said) (members : List Member) → Named members → is_said name heard ≡ false → queued (member_named (all_decided mc t members (announcements heard)) name) ≡ queued (member_named members name)
+quiet_decided : (mc : Machine) (t : ℕ) (name : Name) (heard : List Said) (members : List Member) → NamesApart (λ (m : Member). m.name) members → is_said name heard ≡ false → queued (member_named (all_decided mc t members (announcements heard)) name) ≡ queued (member_named members name)
 quiet_decided mc t name [] members a e = refl
 quiet_decided mc t name (said ∷ heard) members a e =
     let parts = or_parts (name_eq name (name_of said.announcement)) (is_said name heard) e in
     let changed = effect t members said.announcement (decision mc t members said.announcement) in
-    let named = named_effect mc t members said.announcement a in
-    quiet_decided mc t name heard (present t changed) (named_present t changed named) parts.1
+    let named = apart_effect mc t members said.announcement a in
+    quiet_decided mc t name heard (present t changed) (apart_present t changed named) parts.1
     ∙ quiet_present t name changed named
     ∙ ap queued (quiet_effect t name members said.announcement (decision mc t members said.announcement) parts.0)
 
 -- So a queue of the members before a boundary is one of the members after it, but for the names that something was said about.
-pub queue_after_boundary : (mc : Machine) (t : ℕ) (heard : List Said) (members : List Member) (waiting : Held) → Named members → IsQueue members waiting → IsQueueBut heard (boundary mc t members (announcements heard)) waiting
+pub queue_after_boundary : (mc : Machine) (t : ℕ) (heard : List Said) (members : List Member) (waiting : Queue) → NamesApart (λ (m : Member). m.name) members → IsQueue members waiting → IsQueueBut heard (boundary mc t members (announcements heard)) waiting
 queue_after_boundary mc t heard members waiting named queue name e =
-    queue name ∙ sym (quiet_decided mc t name heard (present t members) (named_present t members named) e ∙ quiet_present t name members named)
+    queue name ∙ sym (quiet_decided mc t name heard (present t members) (apart_present t members named) e ∙ quiet_present t name members named)
 
 -- ---- one task's entry anew
 
 -- it is taken out
-pub told_out : (told : Name) (members : List Member) (before : Held) → queued (member_named members told) ≡ None → IsToldOf told members before (finmap.remove before told)
+pub told_out : (told : Name) (members : List Member) (before : Queue) → queued (member_named members told) ≡ None → IsToldOf told members before (finmap.remove before told)
 told_out told members before none name =
-    get-remove nat_list_cmp_total before told name ∙ ap (λ b. cond b None (finmap.get before name)) (same_name name told)
+    get-remove nat_list_cmp_total before told name ∙ ap (λ b. cond b None (finmap.get before name)) (tied_names name told)
     ∙ ap (λ o. cond (name_eq name told) o (finmap.get before name)) (sym none)
 
 -- and another is put in
-pub told_in : (told : Name) (members : List Member) (before : Held) (e : ℕ × Key) (named : Name) → named ≡ told → queued (member_named members told) ≡ Some e → IsToldOf told members before (finmap.insert (finmap.remove before told) named e)
+pub told_in : (told : Name) (members : List Member) (before : Queue) (e : ℕ × Key) (named : Name) → named ≡ told → queued (member_named members told) ≡ Some e → IsToldOf told members before (finmap.insert (finmap.remove before told) named e)
 told_in told members before e named same some name = by (name_eq name told) refl
   where
     turned : finmap.get (finmap.insert (finmap.remove before told) named e) name ≡ cond (name_eq name told) (Some e) (cond (name_eq name told) None (finmap.get before name))
     turned =
         get-insert nat_list_cmp_total (finmap.remove before told) named e name
-        ∙ ap (λ b. cond b (Some e) (finmap.get (finmap.remove before told) name)) (ap (eq_by_cmp name_cmp name) same ∙ same_name name told)
-        ∙ ap (cond (name_eq name told) (Some e)) (get-remove nat_list_cmp_total before told name ∙ ap (λ b. cond b None (finmap.get before name)) (same_name name told))
+        ∙ ap (λ b. cond b (Some e) (finmap.get (finmap.remove before told) name)) (ap (eq_by_cmp name_cmp name) same ∙ tied_names name told)
+        ∙ ap (cond (name_eq name told) (Some e)) (get-remove nat_list_cmp_total before told name ∙ ap (λ b. cond b None (finmap.get before name)) (tied_names name told))
 
     by : (b : Bool) → name_eq name told ≡ b → finmap.get (finmap.insert (finmap.remove before told) named e) name ≡ (if b then queued (member_named members told) else finmap.get before name)
     by true q = turned ∙ ap (λ b. cond b (Some e) (cond b None (finmap.get before name))) q ∙ sym some
@@ -150,18 +142,18 @@ found_named (x ∷ members) name m e = by (name_eq name x.name) refl e (found_na
     by false q e more = more e
 
 -- what is absent need not go
-pub absent_removed : (held : Held) (name : Name) → finmap.get held name ≡ None → held ≡ finmap.remove held name
+pub absent_removed : (held : Queue) (name : Name) → finmap.get held name ≡ None → held ≡ finmap.remove held name
 absent_removed held name none =
     same_map nat_list_cmp_total names_exact _ _ (λ q.
     at q (eq_by_cmp name_cmp q name) refl
     ∙ sym (get-remove nat_list_cmp_total held name q))
   where
     at : (q : Name) (b : Bool) → eq_by_cmp name_cmp q name ≡ b → finmap.get held q ≡ cond b None (finmap.get held q)
-    at q true e = ap (finmap.get held) (name_exact q name (sym (same_name q name) ∙ e)) ∙ none
+    at q true e = ap (finmap.get held) (name_exact q name (sym (tied_names q name) ∙ e)) ∙ none
     at q false e = refl
 
 -- where there is no such member, or it is departing
-pub told_gone : (told : Name) (members : List Member) (before after : Held) → queued (member_named members told) ≡ None → after ≡ finmap.remove before told → IsToldOf told members before after
+pub told_gone : (told : Name) (members : List Member) (before after : Queue) → queued (member_named members told) ≡ None → after ≡ finmap.remove before told → IsToldOf told members before after
 told_gone told members before after none is = subst (IsToldOf told members before) (sym is) (told_out told members before none)
 
 queued_running : (o : Option Member) (m : Member) → o ≡ Some m → is_departing m ≡ false → queued o ≡ Some (eligible_from m m.next, next_key m)
@@ -171,7 +163,7 @@ pub queued_departing : (o : Option Member) (m : Member) → o ≡ Some m → is_
 queued_departing o m found goes = ap queued found ∙ ap (λ d. if d then None else Some (eligible_from m m.next, next_key m)) goes
 
 -- where there is one, its next subtask is put in
-pub told_next : (told : Name) (members : List Member) (m : Member) (before middle after : Held) (new : Bool) (from : ℕ) (key : Key)
+pub told_next : (told : Name) (members : List Member) (m : Member) (before middle after : Queue) (new : Bool) (from : ℕ) (key : Key)
     → member_named members told ≡ Some m → is_departing m ≡ false → from ≡ eligible_from m m.next → key ≡ next_key m
     → middle ≡ finmap.remove before told → new ≡ not (finmap.contains_key middle key.name)
     → after ≡ (if new then finmap.insert middle key.name (from, key) else middle) → IsToldOf told members before after
@@ -186,10 +178,10 @@ told_next told members m before middle after new from key found stays from_is ke
     none : finmap.get middle key.name ≡ None
     none =
         ap (λ h. finmap.get h key.name) out ∙ get-remove nat_list_cmp_total before told key.name
-        ∙ ap (λ b. cond b None (finmap.get before key.name)) (same_name key.name told ∙ ap (λ n. name_eq n told) named ∙ name_itself told)
+        ∙ ap (λ b. cond b None (finmap.get before key.name)) (tied_names key.name told ∙ ap (λ n. name_eq n told) named ∙ name_itself told)
 
 -- what was told of one name was one less to tell
-pub told_one : (said : Said) (heard : List Said) (members : List Member) (before after : Held) → IsQueueBut (said ∷ heard) members before → IsToldOf (name_of said.announcement) members before after → IsQueueBut heard members after
+pub told_one : (said : Said) (heard : List Said) (members : List Member) (before after : Queue) → IsQueueBut (said ∷ heard) members before → IsToldOf (name_of said.announcement) members before after → IsQueueBut heard members after
 told_one said heard members before after queue told name e = by (name_eq name (name_of said.announcement)) refl (told name)
   where
     by : (b : Bool) → name_eq name (name_of said.announcement) ≡ b → finmap.get after name ≡ (if b then queued (member_named members (name_of said.announcement)) else finmap.get before name) → finmap.get after name ≡ queued (member_named members name)
@@ -198,15 +190,10 @@ told_one said heard members before after queue told name e = by (name_eq name (n
 
 -- the item at a place of a list, and what is left from it on
 pub drop_item : {A : Type 0} (xs : List A) (i : ℕ) (x : A) → i < length xs → x ≡ get_or xs i x → drop i xs ≡ x ∷ drop (i + 1) xs
-drop_item {A} xs i x l e = at xs i l e ∙ ap (λ n. x ∷ drop n xs) (let n : suc i ≡ i + 1 = omega arith in n)
-  where
-    at : (xs : List A) (i : ℕ) → i < length xs → x ≡ get_or xs i x → drop i xs ≡ x ∷ drop (suc i) xs
-    at [] i l e = absurd (omega (arith, l))
-    at (y ∷ ys) zero l e = λ j. sym e j ∷ ys
-    at (y ∷ ys) (suc i) l e = at ys i (omega (arith, l)) e
+drop_item xs i x l e = drop_more xs i x l ∙ ap (λ y. y ∷ drop (i + 1) xs) (sym e)
 
 -- one turn of the loop over what was said
-pub told_turn : (heard : List Said) (i : ℕ) (said : Said) (members : List Member) (before after : Held) → i < length heard → said ≡ get_or heard i said
+pub told_turn : (heard : List Said) (i : ℕ) (said : Said) (members : List Member) (before after : Queue) → i < length heard → said ≡ get_or heard i said
     → IsQueueBut (drop i heard) members before → IsToldOf (name_of said.announcement) members before after → IsQueueBut (drop (i + 1) heard) members after
 told_turn heard i said members before after l e queue told =
     told_one said (drop (i + 1) heard) members before after (subst (λ (rest : List Said). IsQueueBut rest members before) (drop_item heard i said l e) queue) told

@@ -5,7 +5,7 @@ use Rattle.pfair_replica.specs.Replica.{Replica}
 use Rattle.pfair_table.specs.Refinement.{heard_before}
 use Rattle.pfair_table.proofs.Within.{AreWithinLimits, said_within}
 use Rattle.pfair_table.proofs.Steps.{step_after, heard_fits}
-use Rattle.pfair_table.proofs.dispatcher.plan_in_step.Goals as goal
+use Rattle.pfair_table.proofs.planner.Planner.plan.Goals as goal
 
 pub plan_slot-requires-clause-heard : goal.plan_slot-requires-clause-heard
 plan_slot-requires-clause-heard g c =
@@ -14,7 +14,7 @@ plan_slot-requires-clause-heard g c =
     let limit = c.processors.ensures.limits.processors.1 in
     let so_far = c.requires.step.heard_is in
     let fits : heard_before x (suc c.args.slot) ≤ 262144 = heard_fits x (suc c.args.slot) (omega (arith, many, limit)) c.requires.room in
-    subst (λ (h : List Said). c.args.members.now.heard + length h ≤ 262144) (sym (c.deref.ensures.value ∙ c.in_ok-announced.ensures.heard)) (omega (arith, fits, so_far))
+    subst (λ (h : List Said). c.args.self.now.members.heard + length h ≤ 262144) (sym (c.deref.ensures.value ∙ c.in_ok-announced.ensures.heard)) (omega (arith, fits, so_far))
 
 pub plan_slot-requires-clause-limits : goal.plan_slot-requires-clause-limits
 plan_slot-requires-clause-limits g c =
@@ -22,6 +22,6 @@ plan_slot-requires-clause-limits g c =
 
 pub returns-clause-step : goal.returns-clause-step
 returns-clause-step g c =
-    step_after c.args.settings (replica_of c.args.replica.now) c.args.slot c.args.members.now c.plan_slot.new.members (g.R.Ready.now c.args.ready.now) (g.R.Ready.now c.plan_slot.new.ready) (g.R.Ready.held c.args.ready.now) (g.R.Ready.held c.plan_slot.new.ready)
+    step_after c.args.settings (replica_of c.args.replica.now) c.args.slot c.args.self.now.members c.plan_slot.new.members (g.R.Ready.now c.args.self.now.ready) (g.R.Ready.now c.plan_slot.new.ready) (g.R.Ready.held c.args.self.now.ready) (g.R.Ready.held c.plan_slot.new.ready)
     c.deref.result.now c.processors.result c.plan_slot.result c.requires.step (c.deref.ensures.value ∙ c.in_ok-announced.ensures.heard) c.processors.ensures.value
     c.plan_slot.ensures.table c.plan_slot.ensures.members c.plan_slot.ensures.machine c.plan_slot.ensures.heard c.plan_slot.ensures.steady

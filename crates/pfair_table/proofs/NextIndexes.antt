@@ -1,16 +1,18 @@
 -- The next index of a member is one more than its quanta in the tables; and adding one for each row keeps it so.
-use Rattle.std.proofs.Common.{ℕ, zero, suc, ◌+◌, ◌≤◌, ◌≡◌, refl, sym, ap, ◌∙◌, subst, arith, Bool, true, false, cond, List, [], ◌∷◌, ◌++◌, length, drop, Some}
-use Rattle.std.specs.Prelude.{◌≢◌, ◌||◌, map, filter, count_by, not, if◌then◌else◌}
+use Rattle.std.proofs.Common.{ℕ, zero, suc, ◌+◌, ◌≤◌, ◌≡◌, refl, sym, ap, ◌∙◌, arith, Bool, true, false, cond, List, [], ◌∷◌, ◌++◌, length, drop, Some}
+use Rattle.std.specs.Prelude.{◌||◌, map, filter, count_by, not, if◌then◌else◌}
 use Rattle.std.specs.List.{AllByRecursion}
-use Rattle.std.proofs.lemmas.List.{length-append}
+use Rattle.std.proofs.SliceLists.{all_by_recursion_push}
+use Rattle.std.proofs.lemmas.List.{length-append, drop_all, drop-append-le, map-id}
+use Rattle.std.proofs.lemmas.List.Elements.{All-filter, All-from_recursion, recursion_from_All}
+use Rattle.std.specs.Cmp.Lexicographic.{nat_list_eq_equiv}
 use Rattle.std.proofs.lemmas.List.Sums.{sum_by_push}
-use Rattle.std.proofs.lemmas.Bool.{true≢false, false_from_ne_true}
 use Rattle.pfair_ready.specs.Names.{NameValue as Name}
 use Rattle.pfair_weight.specs.Share.{Share}
 use Rattle.pfair_entry.specs.Same.{name_eq}
 use Rattle.pfair_entry.specs.declared.announcement.Announcement.{Announcement}
 use Rattle.pfair_entry.specs.declared.announcement.Announcement.TheVariants.{Arrive, Depart, Late}
-use Rattle.pfair_entry.specs.Exact.{name_exact, name_itself}
+use Rattle.pfair_entry.specs.Exact.{name_exact}
 use Rattle.pfair_replica.specs.Replica.{Replica, said}
 use Rattle.pfair_entry.specs.declared.said.Said.{Said}
 use Rattle.pfair_admission.specs.Admission.{Machine, is_named, decision, newcomer, change, effect, present, is_freed, decided, all_decided, ran, with_quantum}
@@ -20,47 +22,28 @@ use Rattle.pfair_admission.specs.declared.decision.Decision.TheVariants.{Admitte
 use Rattle.pfair_admission.specs.Admission.{announcements}
 use Rattle.pfair_table.specs.Table.{Settings, Table, History, machine, names_task, quanta, next_index, counted, counted_one, members_at, history, world, table, all_ran}
 use Rattle.pfair_table.specs.declared.pick.Pick.{Pick}
-use Rattle.pfair_table.specs.Laws.{EachNameOnce, RunsAreCounted}
+use Rattle.pfair_weight.specs.Name.{NamesApart}
+use Rattle.pfair_weight.proofs.NamesApart.{apart_head, apart_tail}
+use Rattle.pfair_table.specs.Laws.{RunsAreCounted}
 use Rattle.pfair_table.proofs.TableLaws.{tables_are_ordered}
 
 -- ---- what holds of each member
 
 pub each_filter : {A : Type 0} (P : A → Type 0) (p : A → Bool) (xs : List A) → AllByRecursion P xs → AllByRecursion P (filter p xs)
-each_filter P p [] all = tt
-each_filter P p (x ∷ xs) all = by (p x) (each_filter P p xs all.1)
-  where
-    by : (b : Bool) → AllByRecursion P (filter p xs) → AllByRecursion P (cond b (x ∷ filter p xs) (filter p xs))
-    by true more = (all.0, more)
-    by false more = more
+each_filter P p xs all = recursion_from_All P (filter p xs) (All-filter p P xs (All-from_recursion P xs all))
 
 pub each_map : {A B : Type 0} (P : A → Type 0) (Q : B → Type 0) (f : A → B) → ((x : A) → P x → Q (f x)) → (xs : List A) → AllByRecursion P xs → AllByRecursion Q (map f xs)
 each_map P Q f h [] all = tt
 each_map P Q f h (x ∷ xs) all = (h x all.0, each_map P Q f h xs all.1)
-
-pub each_push : {A : Type 0} (P : A → Type 0) (xs : List A) (y : A) → AllByRecursion P xs → P y → AllByRecursion P (xs ++ y ∷ [])
-each_push P [] y all h = (h, tt)
-each_push P (x ∷ xs) y all h = (all.0, each_push P xs y all.1 h)
 
 -- it joined by slot t, and its next index is that of the tables
 pub record IsCounted (t : ℕ) (tables : List Table) (m : Member) : Type 0 where
   pub by_now : m.joined ≤ t
   pub next_is : m.next ≡ next_index tables m
 
-drop_all : {A : Type 0} (n : ℕ) (xs : List A) → length xs ≡ n → drop n xs ≡ []
-drop_all zero [] e = refl
-drop_all zero (x ∷ xs) e = absurd (omega (arith, e))
-drop_all (suc n) [] e = refl
-drop_all (suc n) (x ∷ xs) e = drop_all n xs (omega (arith, e))
-
-drop_push : {A : Type 0} (n : ℕ) (xs : List A) (y : A) → n ≤ length xs → drop n (xs ++ y ∷ []) ≡ drop n xs ++ y ∷ []
-drop_push zero [] y h = refl
-drop_push zero (x ∷ xs) y h = refl
-drop_push (suc n) [] y h = absurd (omega (arith, h))
-drop_push (suc n) (x ∷ xs) y h = drop_push n xs y (omega (arith, h))
-
 -- who joins at t has had no quantum
 new_counted : (t : ℕ) (tables : List Table) (name : Name) (w : Share) (early : Bool) → length tables ≡ t → IsCounted t tables (newcomer t name w early)
-new_counted t tables name w early e = record { by_now = omega arith; next_is = sym (ap (λ ts. 1 + count_by (names_task name) ts) (drop_all t tables e)) }
+new_counted t tables name w early e = record { by_now = omega arith; next_is = sym (ap (λ ts. 1 + count_by (names_task name) ts) (drop_all t tables (omega (arith, e)))) }
 
 counted_change : (t : ℕ) (tables : List Table) (name : Name) (f : Member → Member) → ((m : Member) → IsCounted t tables m → IsCounted t tables (f m)) → (members : List Member) → AllByRecursion (IsCounted t tables) members → AllByRecursion (IsCounted t tables) (change name f members)
 counted_change t tables name f keeps members all = each_map (IsCounted t tables) (IsCounted t tables) (λ m. if is_named name m then f m else m) (λ m h. by m h (is_named name m)) members all
@@ -70,7 +53,7 @@ counted_change t tables name f keeps members all = each_map (IsCounted t tables)
     by m h false = h
 
 counted_effect : (t : ℕ) (tables : List Table) → length tables ≡ t → (members : List Member) (a : Announcement) (d : Decision) → AllByRecursion (IsCounted t tables) members → AllByRecursion (IsCounted t tables) (effect t members a d)
-counted_effect t tables e members (Arrive name w early) Admitted all = each_push (IsCounted t tables) members (newcomer t name w early) all (new_counted t tables name w early e)
+counted_effect t tables e members (Arrive name w early) Admitted all = all_by_recursion_push (IsCounted t tables) members (newcomer t name w early) all (new_counted t tables name w early e)
 counted_effect t tables e members (Arrive name w early) (Departing slot) all = all
 counted_effect t tables e members (Arrive name w early) Delayed all = all
 counted_effect t tables e members (Arrive name w early) (Refused why) all = all
@@ -122,42 +105,32 @@ map_map : {A B C : Type 0} (f : A → B) (g : B → C) (h : A → C) → ((x : A
 map_map f g h e [] = refl
 map_map f g h e (x ∷ xs) = λ i. e x i ∷ map_map f g h e xs i
 
-pub name_turned : (a b : Name) → name_eq a b ≡ true → name_eq b a ≡ true
-name_turned a b e = subst (λ c. name_eq c a ≡ true) (name_exact a b e) (name_itself a)
-
-pub name_unlike : (a b : Name) → name_eq a b ≡ false → name_eq b a ≡ false
-name_unlike a b e = false_from_ne_true (name_eq b a) (λ h. true≢false (sym (name_turned b a h) ∙ e))
-
-not_named : (name : Name) (picks : Table) → AllByRecursion (λ r. name ≢ r.name) picks → names_task name picks ≡ false
+not_named : (name : Name) (picks : Table) → AllByRecursion (λ r. name_eq name r.name ≡ false) picks → names_task name picks ≡ false
 not_named name [] all = refl
-not_named name (p ∷ picks) all = ap (λ b. b || names_task name picks) (false_from_ne_true (name_eq name p.name) (λ h. all.0 (name_exact name p.name h))) ∙ not_named name picks all.1
+not_named name (p ∷ picks) all = ap (λ b. b || names_task name picks) all.0 ∙ not_named name picks all.1
 
 -- one row and the others
-one_row : (p : Pick) (picks : Table) → AllByRecursion (λ r. p.name ≢ r.name) picks → (m : Member) → after_table picks (if is_named p.name m then with_quantum m else m) ≡ after_table (p ∷ picks) m
+one_row : (p : Pick) (picks : Table) → AllByRecursion (λ r. name_eq p.name r.name ≡ false) picks → (m : Member) → after_table picks (if is_named p.name m then with_quantum m else m) ≡ after_table (p ∷ picks) m
 one_row p picks apart m = by (is_named p.name m) refl
   where
     by : (b : Bool) → name_eq p.name m.name ≡ b → after_table picks (if b then with_quantum m else m) ≡ (if name_eq m.name p.name || names_task m.name picks then with_quantum m else m)
     by true e =
         ap (λ b. if b then with_quantum (with_quantum m) else with_quantum m) (ap (λ n. names_task n picks) (sym (name_exact p.name m.name e)) ∙ not_named p.name picks apart)
-        ∙ ap (λ b. if b || names_task m.name picks then with_quantum m else m) (sym (name_turned p.name m.name e))
-    by false e = ap (λ b. if b || names_task m.name picks then with_quantum m else m) (sym (name_unlike p.name m.name e))
+        ∙ ap (λ b. if b || names_task m.name picks then with_quantum m else m) (sym (nat_list_eq_equiv.symm m.name p.name ∙ e))
+    by false e = ap (λ b. if b || names_task m.name picks then with_quantum m else m) (sym (nat_list_eq_equiv.symm m.name p.name ∙ e))
 
-pub map_itself : {A : Type 0} (xs : List A) → map (λ x. x) xs ≡ xs
-map_itself [] = refl
-map_itself (x ∷ xs) = ap (λ ys. x ∷ ys) (map_itself xs)
-
-pub all_ran_is : (picks : Table) → EachNameOnce picks → (members : List Member) → all_ran picks members ≡ map (after_table picks) members
-all_ran_is [] apart members = sym (map_itself members)
+pub all_ran_is : (picks : Table) → NamesApart (λ (p : Pick). p.name) picks → (members : List Member) → all_ran picks members ≡ map (after_table picks) members
+all_ran_is [] apart members = sym (map-id members)
 all_ran_is (p ∷ picks) apart members =
-    all_ran_is picks apart.1 (ran p.name members)
-    ∙ map_map (λ m. if is_named p.name m then with_quantum m else m) (after_table picks) (after_table (p ∷ picks)) (one_row p picks apart.0) members
+    all_ran_is picks (apart_tail (λ (p : Pick). p.name) p picks apart) (ran p.name members)
+    ∙ map_map (λ m. if is_named p.name m then with_quantum m else m) (after_table picks) (after_table (p ∷ picks)) (one_row p picks (apart_head (λ (p : Pick). p.name) p picks apart)) members
 
 -- a member, counted by one more table
 one_more : (t : ℕ) (tables : List Table) (table : Table) → length tables ≡ t → (m : Member) → IsCounted t tables m → after_table table m ≡ counted_one (tables ++ table ∷ []) m
 one_more t tables table e m h =
     let le = h.by_now in
     let more : next_index (tables ++ table ∷ []) m ≡ 1 + (quanta tables m + cond (names_task m.name table) 1 0) =
-    ap (λ ts. 1 + count_by (names_task m.name) ts) (drop_push m.joined tables table (omega (arith, e, le)))
+    ap (λ ts. 1 + count_by (names_task m.name) ts) (drop-append-le m.joined tables (table ∷ []) (omega (arith, e, le)))
     ∙ ap (λ n. 1 + n) (sum_by_push (λ ts. cond (names_task m.name ts) 1 0) (drop m.joined tables) table) in
     by (names_task m.name table) (next_index (tables ++ table ∷ []) m) more
   where

@@ -1,18 +1,21 @@
 -- The loop over the keys that have a quantum.
-use Rattle.std.proofs.Common.{ℕ, ◌+◌, ◌≤◌, ◌<◌, ◌≡◌, refl, sym, ap, ◌∙◌, subst, inl, inr, Bool, true, false, List, [], ◌∷◌, ◌++◌, length, get_or, drop, take, Option, Some, None}
-use Rattle.std.specs.Prelude.{◌≢◌, ◌||◌, not, map, if◌then◌else◌}
+use Rattle.std.proofs.Common.{ℕ, ◌+◌, ◌≤◌, ◌<◌, ◌≡◌, refl, sym, ap, ◌∙◌, subst, inl, Bool, true, false, List, [], ◌∷◌, ◌++◌, length, get_or, drop, take, Option, Some, None}
+use Rattle.std.specs.Prelude.{◌||◌, not, map, if◌then◌else◌}
 use Rattle.std.specs.Option.{ForSome, option_map}
 use Rattle.std.specs.FinMap as finmap
 use Rattle.std.proofs.lemmas.List.{map-append, take_more, take-append-drop}
 use Rattle.std.proofs.lemmas.Option.{same_Some}
-use Rattle.std.proofs.lemmas.Bool.{false_from_ne_true, or_parts}
+use Rattle.std.proofs.lemmas.Bool.{or_parts}
 use Rattle.pfair_ready.specs.Names.{NameValue as Name}
 use Rattle.pfair_order.specs.declared.Key.{Key}
 use Rattle.pfair_entry.specs.Same.{name_eq}
 use Rattle.pfair_entry.specs.Exact.{name_exact, name_itself}
-use Rattle.pfair_replica.specs.Among.{Among, among_right}
-use Rattle.pfair_table.specs.Lists.{Apart}
-use Rattle.pfair_ready.specs.Waiting.{Held}
+use Rattle.pfair_replica.specs.Among.{Among, among_right, among_all}
+use Rattle.std.specs.List.{AllByRecursion}
+use Rattle.std.specs.Cmp.Lexicographic.{nat_list_eq_equiv}
+use Rattle.pfair_weight.specs.Name.{NamesApart}
+use Rattle.pfair_weight.proofs.NamesApart.{apart_head, apart_tail}
+use Rattle.pfair_ready.specs.Queue.{Queue}
 use Rattle.pfair_admission.specs.Member.{Member}
 use Rattle.pfair_admission.specs.Admission.{member_named, ran, with_quantum, quantum_of}
 use Rattle.pfair_admission.specs.declared.quantum.Quantum.{Quantum}
@@ -21,10 +24,10 @@ use Rattle.pfair_admission.specs.Admission.{running}
 use Rattle.pfair_table.specs.declared.pick.Pick.{Pick}
 use Rattle.pfair_table.specs.Table.{Table, names_task, pick, index_of, all_ran}
 use Rattle.pfair_table.specs.Queue.{queued, IsQueueWithout, IsToldOf, MayRun, has_key_of}
-use Rattle.pfair_table.proofs.Queues.{found_other, found_changed, absent_removed, told_next, drop_item}
+use Rattle.pfair_table.proofs.QueueKept.{found_other, found_changed, absent_removed, told_next, drop_item}
 
 -- the quanta of so many keys are given: the rows, the members, and what waits
-pub record RunSoFar (start : Roster) (first : List Key) (i : ℕ) (roster : Roster) (table : Table) (waiting : Held) : Type 0 where
+pub record RunSoFar (start : Roster) (first : List Key) (i : ℕ) (roster : Roster) (table : Table) (waiting : Queue) : Type 0 where
   pub rows : table ≡ map (pick start.members) (take i first)
   pub ran_are : roster ≡ record start { members = all_ran (map (pick start.members) (take i first)) start.members }
   pub queue : IsQueueWithout (drop i first) roster.members waiting
@@ -35,19 +38,19 @@ take_item : {A : Type 0} (xs : List A) (i : ℕ) (x : A) → i < length xs → x
 take_item xs i x l e = take_more xs i x l ∙ ap (λ y. take i xs ++ y ∷ []) (sym e)
 
 -- around one key the others have other names
-apart_before : (xs : List Key) (k : Key) (ys : List Key) → Apart (λ (k : Key). k.name) (xs ++ k ∷ ys) → has_key_of k.name xs ≡ false
+apart_before : (xs : List Key) (k : Key) (ys : List Key) → NamesApart (λ (k : Key). k.name) (xs ++ k ∷ ys) → has_key_of k.name xs ≡ false
 apart_before [] k ys a = refl
 apart_before (x ∷ xs) k ys a =
-    ap (λ b. b || has_key_of k.name xs) (false_from_ne_true (name_eq k.name x.name) (λ e. a.0 k (among_right xs (k ∷ ys) k (inl refl)) (sym (name_exact k.name x.name e))))
-    ∙ apart_before xs k ys a.1
+    ap (λ b. b || has_key_of k.name xs) (nat_list_eq_equiv.symm k.name x.name ∙ among_all (λ (y : Key). name_eq x.name y.name ≡ false) (xs ++ k ∷ ys) (apart_head (λ (k : Key). k.name) x (xs ++ k ∷ ys) a) k (among_right xs (k ∷ ys) k (inl refl)))
+    ∙ apart_before xs k ys (apart_tail (λ (k : Key). k.name) x (xs ++ k ∷ ys) a)
 
-no_key : (ys : List Key) (name : Name) → ((y : Key) → Among ys y → name ≢ y.name) → has_key_of name ys ≡ false
-no_key [] name f = refl
-no_key (y ∷ ys) name f = ap (λ b. b || has_key_of name ys) (false_from_ne_true (name_eq name y.name) (λ e. f y (inl refl) (name_exact name y.name e))) ∙ no_key ys name (λ z h. f z (inr h))
+no_key : (ys : List Key) (name : Name) → AllByRecursion (λ y. name_eq name y.name ≡ false) ys → has_key_of name ys ≡ false
+no_key [] name other = refl
+no_key (y ∷ ys) name other = ap (λ b. b || has_key_of name ys) other.0 ∙ no_key ys name other.1
 
-apart_after : (xs : List Key) (k : Key) (ys : List Key) → Apart (λ (k : Key). k.name) (xs ++ k ∷ ys) → has_key_of k.name ys ≡ false
-apart_after [] k ys a = no_key ys k.name (λ y h. a.0 y h)
-apart_after (x ∷ xs) k ys a = apart_after xs k ys a.1
+apart_after : (xs : List Key) (k : Key) (ys : List Key) → NamesApart (λ (k : Key). k.name) (xs ++ k ∷ ys) → has_key_of k.name ys ≡ false
+apart_after [] k ys a = no_key ys k.name (apart_head (λ (k : Key). k.name) k ys a)
+apart_after (x ∷ xs) k ys a = apart_after xs k ys (apart_tail (λ (k : Key). k.name) x (xs ++ k ∷ ys) a)
 
 rows_named : (members : List Member) (name : Name) (keys : List Key) → names_task name (map (pick members) keys) ≡ has_key_of name keys
 rows_named members name [] = refl
@@ -65,42 +68,42 @@ all_ran_push : (picks : Table) (p : Pick) (members : List Member) → all_ran (p
 all_ran_push [] p members = refl
 all_ran_push (q ∷ picks) p members = all_ran_push picks p (ran q.name members)
 
-module _ (start : Roster) (first : List Key) (apart : Apart (λ (k : Key). k.name) first) (i : ℕ) (key : Key) (inside : i < length first) (item : key ≡ get_or first i key) where
+module _ (start : Roster) (first : List Key) (apart : NamesApart (λ (k : Key). k.name) first) (i : ℕ) (key : Key) (inside : i < length first) (item : key ≡ get_or first i key) where
   split : take i first ++ key ∷ drop (i + 1) first ≡ first
   split = ap (λ ys. take i first ++ ys) (sym (drop_item first i key inside item)) ∙ take-append-drop i first
 
-  split_apart : Apart (λ (k : Key). k.name) (take i first ++ key ∷ drop (i + 1) first)
-  split_apart = subst (Apart (λ (k : Key). k.name)) (sym split) apart
+  split_apart : NamesApart (λ (k : Key). k.name) (take i first ++ key ∷ drop (i + 1) first)
+  split_apart = subst (NamesApart (λ (k : Key). k.name)) (sym split) apart
 
   pub key_among : Among first key
   key_among = subst (λ xs. Among xs key) split (among_right (take i first) (key ∷ drop (i + 1) first) key (inl refl))
 
   -- its member is as it was at the start
-  pub still_found : (roster : Roster) (table : Table) (waiting : Held) → RunSoFar start first i roster table waiting → member_named roster.members key.name ≡ member_named start.members key.name
+  pub still_found : (roster : Roster) (table : Table) (waiting : Queue) → RunSoFar start first i roster table waiting → member_named roster.members key.name ≡ member_named start.members key.name
   still_found roster table waiting so =
       ap (λ (r : Roster). member_named r.members key.name) so.ran_are
       ∙ found_after key.name (map (pick start.members) (take i first)) start.members
       (rows_named start.members key.name (take i first) ∙ apart_before (take i first) key (drop (i + 1) first) split_apart)
 
   -- so it may run
-  pub may_run : (roster : Roster) (table : Table) (waiting : Held) → RunSoFar start first i roster table waiting → MayRun start.members key → ForSome (member_named roster.members key.name) (λ m. m.next ≤ 1000000)
+  pub may_run : (roster : Roster) (table : Table) (waiting : Queue) → RunSoFar start first i roster table waiting → MayRun start.members key → ForSome (member_named roster.members key.name) (λ m. m.next ≤ 1000000)
   may_run roster table waiting so may x e = subst (λ (m : Member). m.next ≤ 1000000) (same_Some may.0 x (sym (still_found roster table waiting so ∙ may.1) ∙ e)) may.3
 
   -- and its quantum is that of its next subtask
-  pub runs_next : (roster : Roster) (table : Table) (waiting : Held) → RunSoFar start first i roster table waiting → (may : MayRun start.members key) → option_map quantum_of (running (member_named roster.members key.name)) ≡ Some (quantum_of may.0)
+  pub runs_next : (roster : Roster) (table : Table) (waiting : Queue) → RunSoFar start first i roster table waiting → (may : MayRun start.members key) → option_map quantum_of (running (member_named roster.members key.name)) ≡ Some (quantum_of may.0)
   runs_next roster table waiting so may =
       ap (λ o. option_map quantum_of (running o)) (still_found roster table waiting so ∙ may.1)
       ∙ ap (λ b. option_map quantum_of (if b then None else Some may.0)) may.2
 
   -- nothing waits under its name
-  not_waiting : (roster : Roster) (table : Table) (waiting : Held) → RunSoFar start first i roster table waiting → finmap.get waiting key.name ≡ None
+  not_waiting : (roster : Roster) (table : Table) (waiting : Queue) → RunSoFar start first i roster table waiting → finmap.get waiting key.name ≡ None
   not_waiting roster table waiting so =
       so.queue key.name
       ∙ ap (λ (ks : List Key). if has_key_of key.name ks then None else queued (member_named roster.members key.name)) (drop_item first i key inside item)
       ∙ ap (λ b. if b || has_key_of key.name (drop (i + 1) first) then None else queued (member_named roster.members key.name)) (name_itself key.name)
 
   -- so what waits under it then is the subtask after that
-  pub told_on : (roster after : Roster) (table : Table) (waiting anew : Held) (quantum : Quantum) (new : Bool) → RunSoFar start first i roster table waiting → (may : MayRun start.members key)
+  pub told_on : (roster after : Roster) (table : Table) (waiting anew : Queue) (quantum : Quantum) (new : Bool) → RunSoFar start first i roster table waiting → (may : MayRun start.members key)
       → quantum ≡ quantum_of may.0 → after ≡ record roster { members = ran key.name roster.members } → new ≡ not (finmap.contains_key waiting quantum.next_key.name)
       → anew ≡ (if new then finmap.insert waiting quantum.next_key.name (quantum.next_from, quantum.next_key) else waiting) → IsToldOf key.name after.members waiting anew
   told_on roster after table waiting anew quantum new so may is after_is fresh in_ =
@@ -110,7 +113,7 @@ module _ (start : Roster) (first : List Key) (apart : Apart (λ (k : Key). k.nam
       (absent_removed waiting key.name (not_waiting roster table waiting so)) fresh in_
 
   -- one turn
-  pub run_turn : (roster after : Roster) (table rows : Table) (waiting anew : Held) (index : ℕ) → RunSoFar start first i roster table waiting → (may : MayRun start.members key)
+  pub run_turn : (roster after : Roster) (table rows : Table) (waiting anew : Queue) (index : ℕ) → RunSoFar start first i roster table waiting → (may : MayRun start.members key)
       → index ≡ may.0.next → after ≡ record roster { members = ran key.name roster.members } → rows ≡ table ++ record { name = key.name; index = index } ∷ []
       → IsToldOf key.name after.members waiting anew → RunSoFar start first (i + 1) after rows anew
   run_turn roster after table rows waiting anew index so may index_is after_is rows_are told = record {

@@ -5,30 +5,32 @@ use Rattle.std.specs.List.{AllByRecursion}
 use Rattle.std.specs.declared.cmp.Ordering.{Ordering}
 use Rattle.std.specs.declared.cmp.Ordering.TheVariants.{Less, Equal, Greater}
 use Rattle.std.specs.Ordering.{is_eq, is_lt, eq_by_cmp, ordering_reverse}
-use Rattle.std.specs.Cmp.{tied_itself}
 use Rattle.std.proofs.lemmas.Cmp.{nat_list_cmp_total}
-use Rattle.std.proofs.lemmas.Map.Lookups.{exact_bytes}
 use Rattle.std.specs.FinMap as finmap
-use Rattle.std.specs.FinMap.{get-retain_keys, get-entries, entries_sorted, entries}
+use Rattle.std.specs.FinMap.{get-entries, entries_sorted, entries}
 use Rattle.std.specs.FinMap.Entries as listed
-use Rattle.std.proofs.lemmas.Bool.{true≢false, false_from_ne_true, and_parts, and_from, not-true}
+use Rattle.std.proofs.lemmas.Bool.{true≢false, and_parts, and_from, not-true}
 use Rattle.pfair_ready.specs.Names.{NameValue as Name}
 use Rattle.pfair_order.specs.declared.Key.{Key}
 use Rattle.pfair_ready.specs.Names.{name_cmp}
+use Rattle.pfair_ready.proofs.Names.{tied_names}
 use Rattle.pfair_entry.specs.Same.{name_eq}
-use Rattle.pfair_entry.specs.Exact.{name_exact, name_itself}
-use Rattle.pfair_replica.specs.Among.{Among, among_filter, filter_among, among_map, map_among, among_all}
+use Rattle.pfair_entry.specs.Exact.{name_itself}
+use Rattle.pfair_replica.specs.Among.{Among, among_filter, filter_among, among_map, map_among, among_all, all_among}
 use Rattle.std.proofs.lemmas.Option.{none-some, same_Some}
-use Rattle.pfair_table.specs.Lists.{Apart}
+use Rattle.std.specs.Cmp.Lexicographic.{nat_list_eq_equiv}
+use Rattle.pfair_weight.specs.Name.{NamesApart}
+use Rattle.pfair_weight.proofs.NamesApart.{apart_nil, apart_cons, apart_head, apart_tail, apart_filter, apart_map}
+use Rattle.pfair_order.proofs.NamesApart.{first_names}
+use Rattle.pfair_ready.proofs.Released.{each_found, get_without}
 use Rattle.pfair_table.specs.Ranks.{first_by_rank}
-use Rattle.pfair_ready.specs.Waiting.{Held, released, without}
-use Rattle.pfair_table.proofs.Apart.{apart_filter, apart_map}
-use Rattle.pfair_table.proofs.Firsts.{among_first, apart_first, first_same}
+use Rattle.pfair_ready.specs.Queue.{Queue, released, without}
+use Rattle.pfair_table.proofs.FirstByRank.{among_first, first_same}
 use Rattle.pfair_admission.specs.Member.{Member, is_departing, eligible_from, next_key}
 use Rattle.pfair_admission.specs.Admission.{member_named}
 use Rattle.pfair_table.specs.Table.{eligible, is_eligible}
-use Rattle.pfair_table.specs.Queue.{queued, IsQueue, IsQueueWithout, MayRun, Named, has_key_of}
-use Rattle.pfair_table.proofs.Queues.{found_named}
+use Rattle.pfair_table.specs.Queue.{queued, IsQueue, IsQueueWithout, MayRun, has_key_of}
+use Rattle.pfair_table.proofs.QueueKept.{found_named}
 
 -- ---- members by name
 
@@ -40,12 +42,12 @@ found_among (x ∷ members) name m e = by (name_eq name x.name) e (found_among m
     by true e more = inl (sym (same_Some x m e))
     by false e more = inr (more e)
 
-found_own : (members : List Member) → Named members → (m : Member) → Among members m → member_named members m.name ≡ Some m
+found_own : (members : List Member) → NamesApart (λ (m : Member). m.name) members → (m : Member) → Among members m → member_named members m.name ≡ Some m
 found_own [] a m h = absurd h
 found_own (x ∷ members) a m (inl e) = ap (λ b. cond b (Some x) (member_named members m.name)) (ap (λ (y : Member). name_eq m.name y.name) (sym e) ∙ name_itself m.name) ∙ ap Some (sym e)
 found_own (x ∷ members) a m (inr h) =
-    ap (λ b. cond b (Some x) (member_named members m.name)) (false_from_ne_true (name_eq m.name x.name) (λ e. a.0 m h (sym (name_exact m.name x.name e))))
-    ∙ found_own members a.1 m h
+    ap (λ b. cond b (Some x) (member_named members m.name)) (nat_list_eq_equiv.symm m.name x.name ∙ among_all (λ (y : Member). name_eq x.name y.name ≡ false) members (apart_head (λ (m : Member). m.name) x members a) m h)
+    ∙ found_own members (apart_tail (λ (m : Member). m.name) x members a) m h
 
 -- ---- what is queued
 
@@ -89,13 +91,6 @@ not_tied a b h = ap is_eq (nat_list_cmp_total.antisymm b a) ∙ less (name_cmp a
     less Equal e = absurd (true≢false (sym e))
     less Greater e = absurd (true≢false (sym e))
 
-entry_found : (es : List Named_entry) → IsTrue (listed.is_sorted name_cmp es) → (e : Named_entry) → Among es e → listed.find name_cmp e.0 es ≡ Some e.1
-entry_found [] s e h = absurd h
-entry_found (d ∷ es) s e (inl i) =
-    ap (λ b. cond b (Some d.1) (listed.find name_cmp e.0 es)) (ap (λ (f : Named_entry). eq_by_cmp name_cmp e.0 f.0) (sym i) ∙ ap is_eq (tied_itself nat_list_cmp_total e.0)) ∙ ap (λ (f : Named_entry). Some f.1) (sym i)
-entry_found (d ∷ es) s e (inr h) =
-    ap (λ b. cond b (Some d.1) (listed.find name_cmp e.0 es)) (not_tied d.0 e.0 (below_each d.0 es (and_parts _ _ s).0 e h)) ∙ entry_found es (and_parts _ _ s).1 e h
-
 entry_among : (es : List Named_entry) (name : Name) (v : ℕ × Key) → listed.find name_cmp name es ≡ Some v → Among (map (λ (e : Named_entry). e.1) es) v
 entry_among [] name v e = absurd (none-some v e)
 entry_among (d ∷ es) name v e = by (eq_by_cmp name_cmp name d.0) e (entry_among es name v)
@@ -105,29 +100,30 @@ entry_among (d ∷ es) name v e = by (eq_by_cmp name_cmp name d.0) e (entry_amon
     by false e more = inr (more e)
 
 -- where each entry's key has the entry's name, no two keys have one name
-entries_apart : (es : List Named_entry) → IsTrue (listed.is_sorted name_cmp es) → ((e : Named_entry) → Among es e → e.1.1.name ≡ e.0) → Apart (λ (e : Named_entry). e.1.1.name) es
-entries_apart [] s own = tt
-entries_apart (d ∷ es) s own = (
-  λ e h same. true≢false (sym (ap is_eq (ap (name_cmp e.0) (sym (own d (inl refl)) ∙ same ∙ own e (inr h)) ∙ tied_itself nat_list_cmp_total e.0)) ∙ not_tied d.0 e.0 (below_each d.0 es (and_parts _ _ s).0 e h)),
-  entries_apart es (and_parts _ _ s).1 (λ e h. own e (inr h)),
-)
+entries_apart : (es : List Named_entry) → IsTrue (listed.is_sorted name_cmp es) → ((e : Named_entry) → Among es e → e.1.1.name ≡ e.0) → NamesApart (λ (e : Named_entry). e.1.1.name) es
+entries_apart [] s own = apart_nil (λ (e : Named_entry). e.1.1.name)
+entries_apart (d ∷ es) s own =
+    apart_cons (λ (e : Named_entry). e.1.1.name) d es
+    (all_among (λ (e : Named_entry). name_eq d.1.1.name e.1.1.name ≡ false) es (λ e h.
+    rw (own d (inl refl), own e (inr h)) (nat_list_eq_equiv.symm d.0 e.0 ∙ sym (tied_names e.0 d.0) ∙ not_tied d.0 e.0 (below_each d.0 es (and_parts _ _ s).0 e h))))
+    (entries_apart es (and_parts _ _ s).1 (λ e h. own e (inr h)))
 
 -- ---- the two lists
 
-module _ (n : ℕ) (members : List Member) (waiting : Held) (named : Named members) (queue : IsQueue members waiting) where
+module _ (n : ℕ) (members : List Member) (waiting : Queue) (named : NamesApart (λ (m : Member). m.name) members) (queue : IsQueue members waiting) where
   held_is : (e : Named_entry) → Among (entries waiting) e → IsQueued (member_named members e.0) e.1.0 e.1.1
-  held_is e h = queued_is (member_named members e.0) e.1.0 e.1.1 (sym (queue e.0) ∙ get-entries waiting e.0 ∙ entry_found (entries waiting) (is_true _ (entries_sorted waiting)) e h)
+  held_is e h = queued_is (member_named members e.0) e.1.0 e.1.1 (sym (queue e.0) ∙ get-entries waiting e.0 ∙ among_all (λ (f : Named_entry). listed.find name_cmp f.0 (entries waiting) ≡ Some f.1) (entries waiting) (each_found (entries waiting) (entries_sorted waiting)) e h)
 
   own_name : (e : Named_entry) → Among (entries waiting) e → e.1.1.name ≡ e.0
   own_name e h = let q = held_is e h in ap (λ (k : Key). k.name) q.key_is ∙ found_named members e.0 q.m q.found
 
-  released_apart : Apart (λ (k : Key). k.name) (released n waiting)
+  released_apart : NamesApart (λ (k : Key). k.name) (released n waiting)
   released_apart =
       apart_map (λ (e : ℕ × Key). e.1.name) (λ (k : Key). k.name) (λ (e : ℕ × Key). e.1) (λ e. refl) (filter (λ (e : ℕ × Key). nat_le e.0 n) (finmap.values waiting))
       (apart_filter (λ (e : ℕ × Key). e.1.name) (λ (e : ℕ × Key). nat_le e.0 n) (finmap.values waiting)
       (apart_map (λ (e : Named_entry). e.1.1.name) (λ (e : ℕ × Key). e.1.name) (λ (e : Named_entry). e.1) (λ e. refl) (entries waiting) (entries_apart (entries waiting) (is_true _ (entries_sorted waiting)) own_name)))
 
-  pub eligible_apart : Apart (λ (k : Key). k.name) (eligible n members)
+  pub eligible_apart : NamesApart (λ (k : Key). k.name) (eligible n members)
   eligible_apart = apart_map (λ (m : Member). m.name) (λ (k : Key). k.name) next_key (λ m. refl) (filter (is_eligible n) members) (apart_filter (λ (m : Member). m.name) (is_eligible n) members named)
 
   released_eligible : (k : Key) → Among (released n waiting) k → Among (eligible n members) k
@@ -162,8 +158,8 @@ module _ (n : ℕ) (members : List Member) (waiting : Held) (named : Named membe
   pub first_of_queue : (m : ℕ) → first_by_rank m (released n waiting) ≡ first_by_rank m (eligible n members)
   first_of_queue m = first_same m (released n waiting) (eligible n members) released_apart eligible_apart released_eligible eligible_released
 
-  pub first_apart : (m : ℕ) (first : List Key) → first ≡ first_by_rank m (released n waiting) → Apart (λ (k : Key). k.name) first
-  first_apart m first is = subst (Apart (λ (k : Key). k.name)) (sym (is ∙ first_of_queue m)) (apart_first (eligible n members) eligible_apart m)
+  pub first_apart : (m : ℕ) (first : List Key) → first ≡ first_by_rank m (released n waiting) → NamesApart (λ (k : Key). k.name) first
+  first_apart m first is = subst (NamesApart (λ (k : Key). k.name)) (sym (is ∙ first_of_queue m)) (first_names m (eligible n members) eligible_apart)
 
   pub first_may_run : (m : ℕ) (first : List Key) → first ≡ first_by_rank m (released n waiting) → AllByRecursion (λ m. m.next ≤ 1000000) members → (k : Key) → Among first k → MayRun members k
   first_may_run m first is few k h =
@@ -177,11 +173,8 @@ turned : {A : Type 0} (b : Bool) (x : Option A) → cond (not b) x None ≡ (if 
 turned true x = refl
 turned false x = refl
 
-tied_same : (keys : List Key) (a b : Name) → name_cmp a b ≡ Equal → not (has_key_of b keys) ≡ not (has_key_of a keys)
-tied_same keys a b e = ap (λ (n : Name). not (has_key_of n keys)) (sym (exact_bytes a b e))
-
-pub queue_without : (first : List Key) (members : List Member) (waiting : Held) → IsQueue members waiting → IsQueueWithout first members (without first waiting)
+pub queue_without : (first : List Key) (members : List Member) (waiting : Queue) → IsQueue members waiting → IsQueueWithout first members (without first waiting)
 queue_without first members waiting queue name =
-    get-retain_keys waiting (λ other. not (has_key_of other first)) name (λ other e. tied_same first name other e)
+    get_without first waiting name
     ∙ turned (has_key_of name first) (finmap.get waiting name)
     ∙ ap (λ o. if has_key_of name first then None else o) (queue name)

@@ -1,0 +1,10 @@
+use Rattle.pfair_replica.specs.HeldRows.{replica_of}
+use Rattle.pfair_table.specs.Readings.{AreReadingsOf}
+use Rattle.pfair_table.specs.Refinement.{IsInStep}
+use Rattle.pfair_table.proofs.planner.Planner.plan_again.Given as goal
+
+abbrev pub invariant-loop-slot : goal.invariant-loop-slot
+invariant-loop-slot g l = record {
+  step : IsInStep l.settings (replica_of l.replica) l.slot l.self.members (g.R.Ready.now l.self.ready) (g.R.Ready.held l.self.ready);
+  readings : AreReadingsOf (replica_of l.replica) l.self.readings.by_processor.items;
+}
