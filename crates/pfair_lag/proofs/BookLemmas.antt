@@ -1,6 +1,6 @@
 -- The accounts of a book, and the book that they show.
 use Rattle.std.proofs.Common.{◌≡◌, ℕ, zero, suc, ◌+◌, ◌-◌, ◌<◌, ◌≤◌, Bool, true, false, cond, not, ◌||◌, List, [], ◌∷◌, ◌++◌, map, length, take, get_or, Option, Some, None, refl, sym, ap, subst, ◌∙◌, arith}
-use Rattle.std.specs.Prelude.{IsTrue, nat_lt, slice_get, position, filter, is_some}
+use Rattle.std.specs.Prelude.{nat_lt, slice_get, position, filter, is_some}
 use Rattle.std.specs.List.{AllByRecursion, IsDistinct}
 use Rattle.std.specs.Option.{option_map}
 use Rattle.std.specs.Map.{keys_of, values_of, lookup, remove_entry}
@@ -8,12 +8,14 @@ use Rattle.std.specs.Cmp.Lexicographic.{bytes_decides, nat_list_eq_equiv}
 use Rattle.std.proofs.lemmas.Bool.Decides.{nat_tests}
 use Rattle.std.proofs.lemmas.List.{take_more, map_push}
 use Rattle.std.proofs.lemmas.List.Folds.{list_any-append}
-use Rattle.std.proofs.lemmas.Option.{none-some, same_Some, slice_get-get_or}
-use Rattle.std.proofs.lemmas.List.Quantifiers.{position-Some}
+use Rattle.std.proofs.lemmas.Option.{none-some, same_Some}
+use Rattle.std.proofs.SliceLists.{all_by_recursion_push}
+use Rattle.pfair_weight.specs.Options.{nothing}
 use Rattle.indexmap.specs.IndexMap.{set_value_at}
 use Rattle.pfair_weight.specs.Share.{Share}
 use Rattle.pfair_lag.specs.declared.book.Account.{Account}
-use Rattle.pfair_weight.specs.Name.{NameValue, name_eq}
+use Rattle.pfair_weight.specs.Name.{NameValue, name_eq, NamesApart}
+use Rattle.pfair_weight.specs.NameFacts.{name_at}
 use Rattle.pfair_lag.specs.Book.{Tally, Book, tally_of, has_run, entered_with, left, slot_more, recorded}
 use Rattle.pfair_lag.specs.Accounts.{tally_shown, entered_shown, IsSound, IsKept, EachFits, counted_at, with_quantum, with_quanta}
 
@@ -23,13 +25,6 @@ Accounts = List (NameValue × Account)
 -- the book that accounts show at a time
 abbrev pub book_shown : ℕ → Accounts → Book
 book_shown time es = record { time = time; entered = entered_shown time es }
-
-pub true_not_false : (b : Bool) → IsTrue b → b ≡ false → ⊥
-true_not_false b t e = cc
-
-pub nothing : {A : Type 0} (o : Option A) → is_some o ≡ false → o ≡ None
-nothing None e = refl
-nothing (Some x) e = cc
 
 pub is_some-map : {A B : Type 0} (f : A → B) (o : Option A) → is_some (option_map f o) ≡ is_some o
 is_some-map f None = refl
@@ -86,16 +81,12 @@ entered_new time es es' name weight book is none added =
     more ∙ ap (λ (b : Book). record b { entered = b.entered ++ (name, record { weight = weight; slots = 0; ran = 0 }) ∷ [] }) is
     ∙ sym (ap (λ b. cond b book (record book { entered = book.entered ++ (name, record { weight = weight; slots = 0; ran = 0 }) ∷ [] })) none)
 
-all_push : {A : Type 0} (P : A → Type 0) (xs : List A) (x : A) → AllByRecursion P xs → P x → AllByRecursion P (xs ++ x ∷ [])
-all_push P [] x h p = (p, tt)
-all_push P (y ∷ ys) x h p = (h.0, all_push P ys x h.1 p)
-
 pub kept_new : (time : ℕ) (es es' : Accounts) (name : NameValue) (weight : Share) → IsKept time es → IsDistinct name_eq (keys_of es') → es' ≡ es ++ (name, account_new time weight) ∷ [] → IsKept time es'
 kept_new time es es' name weight kept unique added = record {
   short = kept.short;
   unique = unique;
   each = subst (AllByRecursion (λ (e : NameValue × Account). IsSound time e.1)) (sym added)
-      (all_push (λ (e : NameValue × Account). IsSound time e.1) es (name, account_new time weight) kept.each (record { counted = omega arith; past = omega arith }));
+      (all_by_recursion_push (λ (e : NameValue × Account). IsSound time e.1) es (name, account_new time weight) kept.each (record { counted = omega arith; past = omega arith }));
 }
 
 -- ---- leaving
@@ -154,11 +145,6 @@ fits_at [] i a h e = absurd (none-some a e)
 fits_at (x ∷ es) zero a h e = subst (λ (a : Account). a.ran ≤ a.last) (same_Some x.1 a e) h.0
 fits_at (x ∷ es) (suc i) a h e = fits_at es i a h.1 e
 
-key_at : (ks : List NameValue) (name : NameValue) (i : ℕ) → position (name_eq name) ks ≡ Some i → slice_get ks i ≡ Some name
-key_at ks name i e =
-    let f = position-Some (name_eq name) ks i name e in
-    slice_get-get_or ks i name f.0 ∙ ap Some (sym ((bytes_decides name (get_or ks i name)).0 f.1))
-
 entry_at : {K V : Type 0} (es : List (K × V)) (i : ℕ) (k : K) (v : V) → slice_get (keys_of es) i ≡ Some k → slice_get (values_of es) i ≡ Some v → slice_get es i ≡ Some (k, v)
 entry_at [] i k v e f = absurd (none-some k e)
 entry_at (e' ∷ es) zero k v e f = λ j. Some (same_Some e'.0 k e j, same_Some e'.1 v f j)
@@ -194,7 +180,7 @@ written (x ∷ es) (suc i) name a f unique e =
 
 pub quantum_written : (time : ℕ) (es : Accounts) (name : NameValue) (i : ℕ) (a b : Account) → IsDistinct name_eq (keys_of es) → position (name_eq name) (keys_of es) ≡ Some i → slice_get (values_of es) i ≡ Some a → b ≡ counted_at time a → set_value_at es i b ≡ with_quantum time name es
 quantum_written time es name i a b unique at there is =
-    ap (set_value_at es i) is ∙ written es i name a (counted_at time) unique (entry_at es i name a (key_at (keys_of es) name i at) there)
+    ap (set_value_at es i) is ∙ written es i name a (counted_at time) unique (entry_at es i name a (name_at (keys_of es) name i at) there)
 
 -- a stranger changes nothing
 stranger : (name : NameValue) (f : Account → Account) (es : Accounts) → lookup (name_eq name) es ≡ None → changed name f es ≡ es
@@ -337,7 +323,7 @@ keys_shown : (time : ℕ) (es : Accounts) → map (λ (e : NameValue × Tally). 
 keys_shown time [] = refl
 keys_shown time (e ∷ es) = ap (λ (l : List NameValue). e.0 ∷ l) (keys_shown time es)
 
-pub names_apart : (time : ℕ) (es : Accounts) (book : Book) → book_shown time es ≡ book → IsKept time es → IsDistinct name_eq (map (λ (e : NameValue × Tally). e.0) book.entered)
+pub names_apart : (time : ℕ) (es : Accounts) (book : Book) → book_shown time es ≡ book → IsKept time es → NamesApart (λ (e : NameValue × Tally). e.0) book.entered
 names_apart time es book is kept = subst (λ (ks : List NameValue). IsDistinct name_eq ks) (sym (keys_shown time es) ∙ ap (λ (b : Book). map (λ (e : NameValue × Tally). e.0) b.entered) is) kept.unique
 
 length_entered : (time : ℕ) (es : Accounts) → length (entered_shown time es) ≡ length es

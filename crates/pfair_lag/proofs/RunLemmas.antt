@@ -4,6 +4,7 @@ use Rattle.std.specs.Prelude.{filter, is_some, count_by}
 use Rattle.std.specs.Option.{option_map}
 use Rattle.std.specs.Map.{lookup}
 use Rattle.std.specs.Cmp.Lexicographic.{bytes_decides}
+use Rattle.std.proofs.lemmas.Bool.{true≢false}
 use Rattle.std.proofs.lemmas.List.Sums.{sum_by-cons}
 use Rattle.pfair_weight.specs.Share.{Share}
 use Rattle.pfair_weight.specs.Name.{NameValue, name_eq}
@@ -13,9 +14,6 @@ use Rattle.pfair_lag.proofs.BookLemmas.{is_some-map}
 
 abbrev Entries : Type 0
 Entries = List (NameValue × Tally)
-
-same_name : (a b : NameValue) → name_eq a b ≡ true → a ≡ b
-same_name a b e = (bytes_decides a b).0 e
 
 -- ---- entering
 
@@ -41,7 +39,7 @@ there_already : (name other : NameValue) (book : Book) (t : Tally) → is_some (
 there_already name other book t there =
     elim (name_eq name other) as (λ b. name_eq name other ≡ b → tally_of name book ≡ cond (b && not (is_some (tally_of name book))) (Some t) (tally_of name book)) [
       | true ↦ λ e.
-          let here : is_some (tally_of name book) ≡ true = ap (λ n. is_some (tally_of n book)) (same_name name other e) ∙ there in
+          let here : is_some (tally_of name book) ≡ true = ap (λ n. is_some (tally_of n book)) ((bytes_decides name other).0 e) ∙ there in
           ap (λ b. cond (not b) (Some t) (tally_of name book)) (sym here)
       | false ↦ λ _. refl
     ] refl
@@ -64,22 +62,19 @@ found_left name other (e ∷ es) =
       | true ↦ λ gone. later ∙ elim (name_eq name other) as (λ b. name_eq name other ≡ b → cond b None (lookup (name_eq name) es) ≡ cond b None (cond (name_eq name e.0) (Some e.1) (lookup (name_eq name) es))) [
         | true ↦ λ _. refl
         | false ↦ λ apart.
-            let differs : name_eq name e.0 ≡ false = ap (name_eq name) (sym (same_name other e.0 gone)) ∙ apart in
+            let differs : name_eq name e.0 ≡ false = ap (name_eq name) (sym ((bytes_decides other e.0).0 gone)) ∙ apart in
             ap (λ b. cond b (Some e.1) (lookup (name_eq name) es)) (sym differs)
       ] refl
       | false ↦ λ stays. elim (name_eq name e.0) as (λ b. name_eq name e.0 ≡ b → cond b (Some e.1) (lookup (name_eq name) rest) ≡ cond (name_eq name other) None (cond b (Some e.1) (lookup (name_eq name) es))) [
         | true ↦ λ here.
-            let is : name ≡ e.0 = same_name name e.0 here in
+            let is : name ≡ e.0 = (bytes_decides name e.0).0 here in
             elim (name_eq name other) as (λ b. name_eq name other ≡ b → Some e.1 ≡ cond b None (Some e.1)) [
-              | true ↦ λ e'. absurd (true_false (sym ((bytes_decides other e.0).1 (sym (same_name name other e') ∙ is)) ∙ stays))
+              | true ↦ λ e'. absurd (true≢false (sym ((bytes_decides other e.0).1 (sym ((bytes_decides name other).0 e') ∙ is)) ∙ stays))
               | false ↦ λ _. refl
             ] refl
         | false ↦ λ _. later
       ] refl
     ] refl
-  where
-    true_false : true ≡ false → ⊥
-    true_false h = cc
 
 -- ---- a slot
 
@@ -87,7 +82,7 @@ found_recorded : (names : List NameValue) (name : NameValue) (es : Entries) → 
 found_recorded names name [] = refl
 found_recorded names name (e ∷ es) =
     elim (name_eq name e.0) as (λ b. name_eq name e.0 ≡ b → cond b (Some (slot_more names e.0 e.1)) (lookup (name_eq name) (map (λ (e : NameValue × Tally). (e.0, slot_more names e.0 e.1)) es)) ≡ option_map (slot_more names name) (cond b (Some e.1) (lookup (name_eq name) es))) [
-      | true ↦ λ is. ap (λ n. Some (slot_more names n e.1)) (sym (same_name name e.0 is))
+      | true ↦ λ is. ap (λ n. Some (slot_more names n e.1)) (sym ((bytes_decides name e.0).0 is))
       | false ↦ λ _. found_recorded names name es
     ] refl
 

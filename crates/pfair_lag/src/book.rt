@@ -1,11 +1,8 @@
 //! A book of the lags of tasks that come and go, as slots pass.
 
-ghost use Rattle.std.specs.Prelude.{◌≡◌, ◌≤◌, ◌<◌, ◌↔◌, length, IsTrue, IfOk, OnErr, false, not, is_some, map, slice_get, nat_eq};
-ghost use Rattle.std.specs.List.{IsDistinct};
+ghost use Rattle.std.specs.Prelude.{◌≡◌, ◌≤◌, ◌<◌, ◌↔◌, length, IsTrue, IfOk, OnErr, false, not, is_some, map, slice_get};
 ghost use Rattle.std.specs.Option.{option_map};
-ghost use Rattle.indexmap.specs.IndexMap.{IsUnique};
-ghost use Rattle.pfair_weight.specs.Share.{IsWeight};
-ghost use Rattle.pfair_weight.specs.Name.{name_eq};
+ghost use Rattle.pfair_weight.specs.Name.{NamesApart};
 ghost use Rattle.pfair_lag.specs.Book.{empty_book, tally_of, lag_of, entered_with, left, recorded};
 ghost use Rattle.pfair_lag.specs.Accounts.{tally_shown, IsSound, EachFits, counted_at, with_quantum, with_quanta};
 
@@ -175,7 +172,7 @@ impl LagBook {
     /// The name at a place, counted from 0, in order of entering. No name stands at two places.
     pub fn name_at(&self, place: usize) -> Option<&TaskName>
         ensures name { option_map (λ n. n.now) result ≡ option_map (λ e. e.0) (slice_get self.now.entered place) }
-        ensures apart { IsDistinct name_eq (map (λ e. e.0) self.now.entered) }
+        ensures apart { NamesApart (λ e. e.0) self.now.entered }
     {
         let (name, _) = self.accounts.get_index(place)?;
         Some(name)

@@ -1,9 +1,11 @@
 use Rattle.std.proofs.Common.{◌≡◌, not, sym, ap, ◌∙◌}
 use Rattle.std.specs.Prelude.{is_some}
+use Rattle.std.proofs.lemmas.Bool.{true≢false}
+use Rattle.pfair_weight.specs.Options.{nothing}
 use Rattle.indexmap.proofs.CallerLemmas.{insert_entry-new}
 use Rattle.pfair_weight.specs.Name.{name_eq}
 use Rattle.pfair_lag.specs.Book.{tally_of}
-use Rattle.pfair_lag.proofs.BookLemmas.{contained, nothing, true_not_false, account_new, entered_there, entered_new, kept_new}
+use Rattle.pfair_lag.proofs.BookLemmas.{contained, account_new, entered_there, entered_new, kept_new}
 use Rattle.pfair_lag.proofs.book.LagBook.enter.Goals as goal
 use Rattle.pfair_lag.proofs.book.LagBook.enter.Goals.{After-contains_key}
 
@@ -17,13 +19,13 @@ pub returns-then-contains_key-clause-book : goal.returns-then-contains_key-claus
 returns-then-contains_key-clause-book c = entered_there c.args.name c.args.weight c.args.self.now (there ((goal.at.returns-then-contains_key-clause-book c).After-contains_key) ∙ c.if-contains_key.true)
 
 pub returns-in_err-insert-clause-there : goal.returns-in_err-insert-clause-there
-returns-in_err-insert-clause-there c known = absurd (true_not_false _ known (there ((goal.at.returns-in_err-insert-clause-there c).After-contains_key) ∙ c.if-contains_key.false))
+returns-in_err-insert-clause-there c known = absurd (true≢false (sym known ∙ there ((goal.at.returns-in_err-insert-clause-there c).After-contains_key) ∙ c.if-contains_key.false))
 
 pub returns-clause-answer : goal.returns-clause-answer
 returns-clause-answer c = ap not (sym (there ((goal.at.returns-clause-answer c).After-contains_key) ∙ c.if-contains_key.false))
 
 pub returns-clause-there : goal.returns-clause-there
-returns-clause-there c known = absurd (true_not_false _ known (there ((goal.at.returns-clause-there c).After-contains_key) ∙ c.if-contains_key.false))
+returns-clause-there c known = absurd (true≢false (sym known ∙ there ((goal.at.returns-clause-there c).After-contains_key) ∙ c.if-contains_key.false))
 
 pub invariant_of-self-2 : goal.invariant_of-self-2
 invariant_of-self-2 c =
