@@ -98,6 +98,10 @@ place_within m c k n key =
     let within : k * c + (n - 1) < c * m = mul-add-lt k c (n - 1) m key.row (omega arith) in
     omega (arith, mul_comm m c)
 
+-- a key's cell stands at the same place among those of the same desk
+pub place_there : (d e : DeskView) (k n p : ℕ) → d ≡ e → p ≡ place_of e.replica.capacity k n → p ≡ place_of d.replica.capacity k n
+place_there d e k n p same at = at ∙ sym (ap (λ (x : DeskView). place_of x.replica.capacity k n) same)
+
 -- the same for the values that a body has
 pub in_order_after : (processor next : ℕ) (x : Replica) (w : Knowledge) (k n p : ℕ) (e : Logged) (y : Replica) (v : Knowledge) → IsInOrder processor next x w → IsKey x.processors x.capacity k n
     → p ≡ place_of x.capacity k n → v ≡ knowing w p e → IfSome (slice_index_or w.known p None) (λ z. z ≡ e) → y ≡ with_entry x k n e → IsInOrder processor next y v

@@ -6,7 +6,7 @@ ghost use Rattle.pfair_entry.specs.Entry.{Logged};
 ghost use Rattle.pfair_replica.specs.HeldRows.{IsShape, IsHeldRows, held, replica_of};
 ghost use Rattle.pfair_replica.specs.Faults.{HoldsMore};
 ghost use Rattle.pfair_replica.specs.Replica.{Untorn};
-ghost use Rattle.pfair_board.specs.Boards.{BoardFrame, IsKey};
+ghost use Rattle.pfair_board.specs.Boards.{BoardFrame, IsKey, place_of};
 ghost use Rattle.pfair_board.specs.Desks.{DeskView, state_of, IsDeskOf, OfOneBoard, IsPartlyMet, GrownDesk, Keeps, fresh_desk, learned, numbered, met};
 ghost use Rattle.pfair_board.specs.Faults.{IsLookFaultOf, IsPublishFaultOf};
 ghost use Rattle.pfair_board.specs.Gained.{LacksSome, gained, gained_in_row, NoGapInRow, SameDesk};
@@ -130,7 +130,7 @@ impl Desk {
         if number == 0 || number > self.replica.capacity() {
             return Err(LookFault::NumberOutOfRange);
         }
-        let place = processor as usize * self.replica.capacity() as usize + (number as usize - 1);
+        let place = self.place(processor, number);
         match self.notes.read(board.cell(place), place) {
             None => Ok(None),
             Some(entry) => match self.replica.take(processor, number, entry) {
@@ -163,19 +163,41 @@ impl Desk {
             return Err(PublishFault::RowFull);
         }
         let number = self.next_number;
-        let place = self.processor as usize * self.replica.capacity() as usize
-            + (number as usize - 1);
-        let Ok(standing) = self.notes.set(self.alloc, board.cell(place), place, entry) else {
-            return Err(PublishFault::Memory);
-        };
+        match self.put(board, entry) {
+            Ok(standing) if standing == entry => Ok(number),
+            Ok(standing) => Err(PublishFault::Taken { standing }),
+            Err(_) => Err(PublishFault::Memory),
+        }
+    }
+
+    // Sets the cell of the next number where it is empty, takes what stands there then, and goes
+    // on to the number after it.
+    fn put(&mut self, board: &Board, entry: Entry) -> Result<Entry, AllocError>
+        requires own { IsDeskOf self.old board.now }
+        requires room { self.old.next_number ≤ self.old.replica.capacity }
+        ensures ok { IfOk result (λ e. state_of self.new ≡ numbered (state_of self.old) e) }
+        ensures held_now { IfOk result (λ e. held self.new.replica self.old.processor self.old.next_number ≡ Some (One e)) }
+        ensures memory { OnErr result ((held self.old.replica self.old.processor self.old.next_number ≡ None) × (self.new ≡ self.old)) }
+        ensures kept { GrownDesk self.old self.new }
+        ensures own { IsDeskOf self.new board.now }
+    {
+        let number = self.next_number;
+        let place = self.place(self.processor, number);
+        let standing = self.notes.set(self.alloc, board.cell(place), place, entry)?;
         let Ok(_) = self.replica.take(self.processor, number, standing) else {
-            return Err(PublishFault::Memory);
+            return Err(AllocError);
         };
         self.next_number = number + 1;
-        if standing == entry {
-            return Ok(number);
-        }
-        Err(PublishFault::Taken { standing })
+        Ok(standing)
+    }
+
+    // Where the cell of a key stands among those of all keys.
+    fn place(&self, processor: u8, number: u32) -> usize
+        requires { IsKey self.now.replica.processors self.now.replica.capacity processor number }
+        ensures value { result ≡ place_of self.now.replica.capacity processor number }
+        ensures within { result < length self.now.cells }
+    {
+        processor as usize * self.replica.capacity() as usize + (number as usize - 1)
     }
 
     /// Joins in what another desk of the same board holds. Afterwards the desk holds what either
@@ -236,7 +258,7 @@ impl Desk {
         requires own { IsDeskOf self.old board.now }
         requires row { processor < self.old.replica.processors }
         ensures count { IfOk result (λ c. c ≡ gained_in_row (replica_of self.old.replica) (replica_of self.new.replica) processor self.new.replica.capacity) }
-        ensures few { IfOk result (λ c. c ≤ 4096) }
+        ensures few { IfOk result (λ c. c ≤ self.new.replica.capacity) }
         ensures no_gap { NoGapInRow (replica_of self.old.replica) (replica_of self.new.replica) processor }
         ensures lacking { OnErr result (LacksSome self.new.replica) }
         ensures same { SameDesk self.old self.new }

@@ -1,10 +1,10 @@
 //! Dispatchers in threads of their own.
-ghost use Rattle.std.specs.Prelude.{◌≡◌, ◌≤◌, ◌+◌, ◌↔◌, ℕ, length, IfOk, IfErr, IsTrue, Some, slice_get, vec_len};
+ghost use Rattle.std.specs.Prelude.{◌≡◌, ◌≤◌, ◌↔◌, ℕ, IfOk, IfErr, OnOk, IsTrue, Some, slice_get, vec_len};
 ghost use Rattle.pfair_replica.specs.HeldRows.{replica_of};
 ghost use Rattle.pfair_replica.specs.Replica.{frontier};
 ghost use Rattle.pfair_table.specs.Script.{capacity_of, replica_of_logs};
 ghost use Rattle.pfair_board.specs.Desks.{IsDeskOf};
-ghost use Rattle.pfair_board.specs.Works.{IsWorkOf, AreWorks, AreFirstDesks};
+ghost use Rattle.pfair_board.specs.Works.{IsWorkOf, AreWorks, AreWorkplaces};
 ghost use Rattle.pfair_board.specs.Finish.{IsFinished, IsGood};
 ghost use Rattle.pfair_board.specs.FirstFault.{SomeEndsIn, Holds, AllHold, IsFirstFault};
 ghost use Rattle.pfair_board.specs.RunFaults.{IsRunFaultOf};
@@ -13,11 +13,10 @@ ghost use Rattle.pfair_board.specs.declared.worked.Worked.{Worked};
 use crate::board::Board;
 use crate::desk::Desk;
 use crate::gate::Gate;
-use crate::hints::Hints;
 use crate::run::{Run, RunFault};
 use crate::worked::Worked;
 use crate::worker::run_worker;
-use pfair_entry::Entry;
+use crate::workplace::Workplace;
 use pfair_ready::Ready;
 use pfair_replica::Replica;
 use pfair_replica::laws::least_join;
@@ -65,17 +64,46 @@ pub fn run_dispatchers<P: Threads + Wait + Sync, R: Ready + Send, G: Gate + Sync
     ensures finished { IfOk result (λ f. IsFinished script.now f.board f.desks.items f.runs.items) }
     ensures fault { IfErr result (IsRunFaultOf G.may_give_up script.now) }
 {
-    least_join();
-    let settings = script.settings();
-    let whole = take_script::<R>(alloc, script)?.into_replica();
-    let board = Board::new(alloc, settings.processors(), script.capacity())?;
-    let desks = board.desks()?;
-    let hints = Hints::all(alloc, settings.processors())?;
-    let works = run_all::<P, R, G>(rt, alloc, script, &board, desks, hints, gate)?;
-    if let Some(fault) = first_fault(works.as_slice(), &whole, settings.slots()) {
-        return Err(fault);
-    }
+    let board = Board::new(alloc, script.settings().processors(), script.capacity())?;
+    let works = run_on::<P, R, G>(rt, alloc, script, &board, gate)?;
     Ok(hand_back(alloc, script, board, works)?)
+}
+
+// Runs a dispatcher for each row of a board, and answers the first fault where there is one.
+fn run_on<P: Threads + Wait + Sync, R: Ready + Send, G: Gate + Sync>(
+    rt: &P,
+    alloc: Global,
+    script: &Script,
+    board: &Board,
+    gate: &G,
+) -> Result<Vec<Worked>, RunFault>
+    requires processors { board.now.processors ≡ script.now.settings.processors }
+    requires capacity { board.now.capacity ≡ capacity_of script.now.logs }
+    ensures count { IfOk result (λ works. vec_len works ≡ script.now.settings.processors) }
+    ensures good { IfOk result (λ works. (k : ℕ) (w : Worked) → slice_get works.items k ≡ Some w → IsGood script.now board.now k w) }
+    ensures far_enough { OnOk result (script.now.settings.slots ≤ frontier (replica_of_logs script.now.logs)) }
+    ensures fault { IfErr result (IsRunFaultOf G.may_give_up script.now) }
+{
+    least_join();
+    // what every script keeps comes with the contract of its reader
+    let _settings = script.settings();
+    let works = run_all::<P, R, G>(rt, alloc, script, board, gate)?;
+    match fault_of::<R>(alloc, script, works.as_slice())? {
+        Some(fault) => Err(fault),
+        None => Ok(works),
+    }
+}
+
+// The first of a run's faults, where it has one, by what the script's replica is.
+fn fault_of<R: Ready>(
+    alloc: Global,
+    script: &Script,
+    works: &[Worked],
+) -> Result<Option<RunFault>, AllocError>
+    ensures { IfOk result (λ fault. IsFirstFault works.now (replica_of_logs script.now.logs) script.now.settings.slots fault) }
+{
+    let whole = take_script::<R>(alloc, script)?.into_replica();
+    Ok(first_fault(works, &whole, script.settings().slots()))
 }
 
 // Whose thread it is: the row's processor, on this board, under these settings.
@@ -95,19 +123,24 @@ impl<G: Gate> Promise<Worked> for RowOf<G> {
 fn work<P: Wait, R: Ready, G: Gate>(
     rt: &P,
     alloc: Global,
-    settings: Settings,
-    mut desk: Desk,
+    script: &Script,
     board: &Board,
-    log: &[Entry],
-    hints: Hints,
+    workplace: Workplace<R>,
     gate: &G,
-    _of: PhantomData<R>,
 ) -> Worked
-    requires own { IsDeskOf desk board.now }
-    requires room { desk.next_number + length log.now ≤ board.now.capacity + 1 }
-    requires processors { settings.processors ≡ board.now.processors }
-    ensures { IsWorkOf G.may_give_up board.now settings desk.processor result }
+    requires own { IsDeskOf workplace.desk board.now }
+    requires first { workplace.desk.next_number ≡ 1 }
+    requires processors { board.now.processors ≡ script.now.settings.processors }
+    requires capacity { board.now.capacity ≡ capacity_of script.now.logs }
+    ensures { IsWorkOf G.may_give_up board.now script.now.settings workplace.desk.processor result }
 {
+    let Workplace {
+        mut desk,
+        hints,
+        ..
+    } = workplace;
+    let settings = script.settings();
+    let log = script.log(desk.processor());
     let run = run_worker::<P, R, G>(rt, alloc, settings, &mut desk, board, log, hints, gate);
     Worked {
         settings,
@@ -122,55 +155,44 @@ fn run_all<P: Threads + Wait + Sync, R: Ready + Send, G: Gate + Sync>(
     alloc: Global,
     script: &Script,
     board: &Board,
-    desks: Vec<Desk>,
-    hints: Vec<Hints>,
     gate: &G,
 ) -> Result<Vec<Worked>, AllocError>
     requires processors { board.now.processors ≡ script.now.settings.processors }
-    requires desks { AreFirstDesks board.now desks.items }
     requires capacity { board.now.capacity ≡ capacity_of script.now.logs }
-    requires hints { vec_len hints ≡ vec_len desks }
     ensures { IfOk result (λ works. AreWorks G.may_give_up board.now script.now.settings works.items) }
 {
     let settings = script.settings();
+    let workplaces = Workplace::<R>::all(alloc, board)?;
     thread::scope(
         thread::scope_env(),
         rt,
         move |scope| -> Result<Vec<Worked>, AllocError>
-            requires { (settings ≡ script.now.settings) × (board.now.processors ≡ script.now.settings.processors) × AreFirstDesks board.now desks.items × (board.now.capacity ≡ capacity_of script.now.logs) × (vec_len hints ≡ vec_len desks) }
+            requires { (settings ≡ script.now.settings) × (board.now.processors ≡ script.now.settings.processors) × (board.now.capacity ≡ capacity_of script.now.logs) × AreWorkplaces board.now workplaces.items }
             ensures { IfOk result (λ works. AreWorks G.may_give_up board.entry.now settings works.items) }
         {
-            let mut hints = hints.into_iter();
             let mut threads = Vec::new(alloc);
-            for desk in desks {
-                let processor = desk.processor();
-                let log = script.log(processor);
-                let Some(own) = hints.next() else {
-                    unreachable!()
-                };
+            for workplace in workplaces {
                 let row: RowOf<G> = RowOf {
                     board: Snapshot::of(board),
                     of: PhantomData,
                     settings,
-                    processor,
+                    processor: workplace.desk.processor(),
                 };
-                let of: PhantomData<R> = PhantomData;
                 let started = scope.spawn_with(
                     row,
                     move || -> Worked
-                        requires { IsDeskOf desk board.now × (desk.next_number + length log.now ≤ board.now.capacity + 1) × (settings.processors ≡ board.now.processors) }
-                        ensures { IsWorkOf G.may_give_up board.entry.now settings desk.processor result }
-                    { work::<P, R, G>(rt, alloc, settings, desk, board, log, own, gate, of) },
+                        requires { IsDeskOf workplace.desk board.now × (workplace.desk.next_number ≡ 1) × (board.now.processors ≡ script.now.settings.processors) × (board.now.capacity ≡ capacity_of script.now.logs) }
+                        ensures { IsWorkOf G.may_give_up board.entry.now script.entry.now.settings workplace.desk.processor result }
+                    { work(rt, alloc, script, board, workplace, gate) },
                 )?;
                 threads.push(started)?;
             }
-            drop(hints);
             Ok(thread::join_promised(rt, threads)?)
         },
     )
 }
 
-// The first of a run's faults, where it has one.
+// The first of these works' faults, where they have one.
 fn first_fault(works: &[Worked], whole: &Replica, slots: u64) -> Option<RunFault>
     ensures { IsFirstFault works.now (replica_of whole.now) slots result }
 {

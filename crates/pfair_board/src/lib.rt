@@ -19,6 +19,7 @@ mod notes;
 mod run;
 mod worked;
 mod worker;
+mod workplace;
 
 pub use board::Board;
 pub use desk::Desk;

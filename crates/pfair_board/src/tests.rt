@@ -23,24 +23,51 @@ pub(crate) fn row(board: &Board, processor: u8) -> Result<Desk, AllocError>
     Ok(desks.swap_remove(processor as usize))
 }
 
+// A desk of the first row publishes, one of the second looks, and they meet.
+fn publish_look_and_meet(
+    rt: &impl Abort,
+    board: &Board,
+    writer: &mut Desk,
+    reader: &mut Desk,
+) -> Result<(), Fail>
+    requires writer { IsDeskOf writer.old board.now }
+    requires reader { IsDeskOf reader.old board.now }
+{
+    let entry = floor(rt, 3);
+    assert!(rt; writer.publish(board, entry) == Ok(1));
+    assert!(rt; reader.look(board, 0, 1) == Ok(Some(entry)));
+    assert!(rt; reader.look(board, 1, 1) == Ok(None));
+    writer.meet(reader)?;
+    assert!(rt; writer.replica().first_torn().is_none());
+    assert!(rt; writer.publish(board, entry) == Err(PublishFault::RowFull));
+    assert!(rt; reader.look(board, 2, 1) == Err(LookFault::NoSuchProcessor));
+    assert!(rt; reader.look(board, 0, 2) == Err(LookFault::NumberOutOfRange));
+    assert!(rt; reader.processor() == 1 && reader.next_number() == 1);
+    Ok(())
+}
+
 #[test]
 fn one_desk_reads_what_another_published(rt: HostRuntime) -> Result<(), Fail> {
     let board = Board::new(rt.alloc(), 2, 1)?;
     let mut writer = row(&board, 0)?;
     let mut reader = row(&board, 1)?;
-    let mut fresh = row(&board, 1)?;
-    let entry = floor(&rt, 3);
-    assert!(&rt; writer.publish(&board, entry) == Ok(1));
-    assert!(&rt; reader.look(&board, 0, 1) == Ok(Some(entry)));
-    assert!(&rt; reader.look(&board, 1, 1) == Ok(None));
-    assert!(&rt; fresh.refresh(&board)? == 1);
-    writer.meet(&reader)?;
-    assert!(&rt; writer.replica().first_torn().is_none());
-    assert!(&rt; writer.publish(&board, entry) == Err(PublishFault::RowFull));
-    assert!(&rt; reader.look(&board, 2, 1) == Err(LookFault::NoSuchProcessor));
-    assert!(&rt; reader.look(&board, 0, 2) == Err(LookFault::NumberOutOfRange));
-    assert!(&rt; reader.processor() == 1 && reader.next_number() == 1);
+    publish_look_and_meet(&rt, &board, &mut writer, &mut reader)
+}
+
+// A desk that looked at nothing finds what was published.
+fn refresh_finds_one(rt: &impl Abort, board: &Board, fresh: &mut Desk) -> Result<(), Fail>
+    requires { IsDeskOf fresh.old board.now }
+{
+    assert!(rt; fresh.refresh(board)? == 1);
     Ok(())
+}
+
+#[test]
+fn a_fresh_desk_finds_what_was_published(rt: HostRuntime) -> Result<(), Fail> {
+    let board = Board::new(rt.alloc(), 2, 1)?;
+    let mut writer = row(&board, 0)?;
+    assert!(&rt; writer.publish(&board, floor(&rt, 3)) == Ok(1));
+    refresh_finds_one(&rt, &board, &mut row(&board, 1)?)
 }
 
 #[test]
@@ -78,20 +105,33 @@ fn a_publish_after_want_of_memory(rt: HostRuntime) -> Result<(), Fail> {
     Ok(())
 }
 
+// A desk of the first row publishes two entries, and one of the second looks at the later one.
+fn look_past_a_gap(
+    rt: &impl Abort,
+    board: &Board,
+    writer: &mut Desk,
+    reader: &mut Desk,
+) -> Result<(), Fail>
+    requires writer { IsDeskOf writer.old board.now }
+    requires reader { IsDeskOf reader.old board.now }
+{
+    let entry = floor(rt, 4);
+    assert!(rt; writer.publish(board, floor(rt, 3)) == Ok(1));
+    assert!(rt; writer.publish(board, entry) == Ok(2));
+    assert!(rt; reader.look(board, 0, 2) == Ok(Some(entry)));
+    assert!(rt; reader.refresh(board)? == 1);
+    assert!(rt; reader.refresh(board)? == 0);
+    assert!(rt; reader.replica().missing(0).is_none());
+    assert!(rt; reader.replica().missing(1) == Some(1));
+    Ok(())
+}
+
 #[test]
 fn a_refresh_fills_the_gap(rt: HostRuntime) -> Result<(), Fail> {
     let board = Board::new(rt.alloc(), 2, 2)?;
     let mut writer = row(&board, 0)?;
     let mut reader = row(&board, 1)?;
-    let entry = floor(&rt, 4);
-    assert!(&rt; writer.publish(&board, floor(&rt, 3)) == Ok(1));
-    assert!(&rt; writer.publish(&board, entry) == Ok(2));
-    assert!(&rt; reader.look(&board, 0, 2) == Ok(Some(entry)));
-    assert!(&rt; reader.refresh(&board)? == 1);
-    assert!(&rt; reader.refresh(&board)? == 0);
-    assert!(&rt; reader.replica().missing(0).is_none());
-    assert!(&rt; reader.replica().missing(1) == Some(1));
-    Ok(())
+    look_past_a_gap(&rt, &board, &mut writer, &mut reader)
 }
 
 // Publishes a hundred entries, and refreshes after each. Answers whether all went well.

@@ -355,28 +355,42 @@ fn publish_all(board: &Board, desk: &mut Desk, log: &[Entry]) -> bool
     true
 }
 
+// The sample's first log stands on the board.
+fn publish_first_log(rt: &impl Abort, board: &Board) -> Result<(), Fail>
+    requires { 0 < board.now.processors }
+{
+    let mut first = row(board, 0)?;
+    assert!(rt; publish_all(board, &mut first, &first_log(rt)));
+    Ok(())
+}
+
+// A worker that no other one tells of anything works out the sample's tables.
+fn works_without_hints<P: Wait + Abort>(
+    rt: &P,
+    alloc: Global,
+    board: &Board,
+    second: &mut Desk,
+) -> Result<(), Fail>
+    requires own { IsDeskOf second.old board.now }
+    requires first { second.old.next_number ≡ 1 }
+    requires capacity { board.now.capacity ≡ 5 }
+    requires processors { board.now.processors ≡ 2 }
+{
+    let hints = Hints::all(alloc, 1)?.pop().expect(rt, "hints");
+    let settings = Settings::new(2, 6, 6).expect(rt, "settings");
+    let log = second_log(rt);
+    let run = run_worker::<_, HeapReady, _>(
+        rt, alloc, settings, second, board, &log, hints, &OpenGate,
+    )?;
+    assert!(rt; is_sample(&run));
+    Ok(())
+}
+
 #[test]
 fn a_worker_without_hints_reads_the_board(rt: HostRuntime) -> Result<(), Fail> {
-    let alloc = rt.alloc();
-    let board = Board::new(alloc, 2, 5)?;
-    let mut first = row(&board, 0)?;
-    assert!(&rt; publish_all(&board, &mut first, &first_log(&rt)));
-    let mut second = row(&board, 1)?;
-    let hints = Hints::all(alloc, 1)?.pop().expect(&rt, "hints");
-    let settings = Settings::new(2, 6, 6).expect(&rt, "settings");
-    let log = second_log(&rt);
-    let run = run_worker::<_, HeapReady, _>(
-        &rt,
-        alloc,
-        settings,
-        &mut second,
-        &board,
-        &log,
-        hints,
-        &OpenGate,
-    )?;
-    assert!(&rt; is_sample(&run));
-    Ok(())
+    let board = Board::new(rt.alloc(), 2, 5)?;
+    publish_first_log(&rt, &board)?;
+    works_without_hints(&rt, rt.alloc(), &board, &mut row(&board, 1)?)
 }
 
 #[test]
@@ -496,14 +510,27 @@ fn hints_are_planned_before_the_last_refresh(rt: HostRuntime) -> Result<(), Fail
     Ok(())
 }
 
+// A desk of the second row publishes, and one of the first finds it.
+fn refresh_past_an_empty_cell(
+    rt: &impl Abort,
+    board: &Board,
+    writer: &mut Desk,
+    reader: &mut Desk,
+) -> Result<(), Fail>
+    requires writer { IsDeskOf writer.old board.now }
+    requires reader { IsDeskOf reader.old board.now }
+{
+    assert!(rt; writer.publish(board, entry(rt, 3, None)) == Ok(1));
+    assert!(rt; reader.refresh(board)? == 1);
+    Ok(())
+}
+
 #[test]
 fn a_refresh_goes_on_past_an_empty_cell(rt: HostRuntime) -> Result<(), Fail> {
     let board = Board::new(rt.alloc(), 2, 2)?;
     let mut writer = row(&board, 1)?;
     let mut reader = row(&board, 0)?;
-    assert!(&rt; writer.publish(&board, entry(&rt, 3, None)) == Ok(1));
-    assert!(&rt; reader.refresh(&board)? == 1);
-    Ok(())
+    refresh_past_an_empty_cell(&rt, &board, &mut writer, &mut reader)
 }
 
 #[test]
@@ -578,29 +605,45 @@ fn two_workers_on_one_board(rt: HostRuntime) -> Result<(), Fail> {
     Ok(())
 }
 
+// A row's first cell holds an entry.
+fn publish_one(rt: &impl Abort, board: &Board, standing: Entry) -> Result<(), Fail>
+    requires { 0 < board.now.processors }
+{
+    let mut first = row(board, 0)?;
+    assert!(rt; first.publish(board, standing) == Ok(1));
+    Ok(())
+}
+
+// A worker whose log has another entry there goes astray, and its desk holds what stands.
+fn goes_astray<P: Wait + Abort>(
+    rt: &P,
+    alloc: Global,
+    board: &Board,
+    desk: &mut Desk,
+    standing: Entry,
+) -> Result<(), Fail>
+    requires own { IsDeskOf desk.old board.now }
+    requires first { desk.old.next_number ≡ 1 }
+    requires capacity { board.now.capacity ≡ 1 }
+    requires processors { board.now.processors ≡ 1 }
+{
+    let hints = Hints::all(alloc, 1)?.pop().expect(rt, "hints");
+    let settings = Settings::new(1, 1, 1).expect(rt, "settings");
+    let log = [entry(rt, 2, None)];
+    let run = run_worker::<_, HeapReady, _>(
+        rt, alloc, settings, desk, board, &log, hints, &OpenGate,
+    );
+    assert!(rt; matches!(run, Err(RunFault::Astray)));
+    assert!(rt; desk.replica().get(0, 1) == Some(Flat::One(standing)));
+    Ok(())
+}
+
 #[test]
 fn another_pen_leads_astray(rt: HostRuntime) -> Result<(), Fail> {
     let board = Board::new(rt.alloc(), 1, 1)?;
-    let mut first = row(&board, 0)?;
     let standing = entry(&rt, 1, None);
-    assert!(&rt; first.publish(&board, standing) == Ok(1));
-    let mut desk = row(&board, 0)?;
-    let hints = Hints::all(rt.alloc(), 1)?.pop().expect(&rt, "hints");
-    let settings = Settings::new(1, 1, 1).expect(&rt, "settings");
-    let log = [entry(&rt, 2, None)];
-    let run = run_worker::<_, HeapReady, _>(
-        &rt,
-        rt.alloc(),
-        settings,
-        &mut desk,
-        &board,
-        &log,
-        hints,
-        &OpenGate,
-    );
-    assert!(&rt; matches!(run, Err(RunFault::Astray)));
-    assert!(&rt; desk.replica().get(0, 1) == Some(Flat::One(standing)));
-    Ok(())
+    publish_one(&rt, &board, standing)?;
+    goes_astray(&rt, rt.alloc(), &board, &mut row(&board, 0)?, standing)
 }
 
 // A script of 8 processors, 60 tasks and 200 slots.
@@ -647,19 +690,40 @@ fn are_those_of(run: &Run, dispatcher: &Dispatcher<PlainReady>) -> bool {
     true
 }
 
+// Asserts that a run of a script, in threads, plans what this dispatcher has planned.
+fn runs_as<P: Threads + Wait + Abort + Sync>(
+    rt: &P,
+    alloc: Global,
+    script: &Script,
+    known: &Dispatcher<PlainReady>,
+) -> Result<(), Fail> {
+    let finished = run_dispatchers::<P, HeapReady, OpenGate>(rt, alloc, script, &OpenGate)?;
+    assert!(rt; finished.runs.len() == 8);
+    for run in &finished.runs {
+        assert!(rt; are_those_of(run, known));
+    }
+    Ok(())
+}
+
+// Asserts that ten runs of a script, in threads, plan what one dispatcher has planned.
+fn ten_runs_as<P: Threads + Wait + Abort + Sync>(
+    rt: &P,
+    alloc: Global,
+    script: &Script,
+    known: &Dispatcher<PlainReady>,
+) -> Result<(), Fail> {
+    assert!(rt; known.next_slot() == 200);
+    for _ in 0..10 {
+        runs_as(rt, alloc, script, known)?;
+    }
+    Ok(())
+}
+
 // Asserts that ten runs of the busy script, in threads, plan what one dispatcher plans.
 fn ten_runs<P: Threads + Wait + Abort + Sync>(rt: &P, alloc: Global) -> Result<(), Fail> {
     let script = busy(rt, alloc)?;
     let known = run_script::<PlainReady>(alloc, &script)?;
-    assert!(rt; known.next_slot() == 200);
-    for _ in 0..10 {
-        let finished = run_dispatchers::<P, HeapReady, OpenGate>(rt, alloc, &script, &OpenGate)?;
-        assert!(rt; finished.runs.len() == 8);
-        for run in &finished.runs {
-            assert!(rt; are_those_of(run, &known));
-        }
-    }
-    Ok(())
+    ten_runs_as(rt, alloc, &script, &known)
 }
 
 #[test]

@@ -67,16 +67,34 @@ pub fn run_worker<P: Wait, R: Ready, G: Gate>(
     ensures fault { IfErr result (IsWorkerFault G.may_give_up desk.new desk.old.next_number log.now) }
     ensures own { IsDeskOf desk.new board.now }
 {
+    let receiver = tell(rt, desk, board, log, hints)?;
+    let mut dispatcher = Dispatcher::<R>::new(alloc, settings, board.capacity())?;
+    // the dispatcher is taken apart on both ways out, and so given back in one place
+    let planned = plan_all(rt, &mut dispatcher, desk, board, &receiver, gate);
+    let Schedule { tables, places } = dispatcher.into_schedule();
+    planned?;
+    Ok(Run { tables, places })
+}
+
+// Publishes a log and tells the other workers of it. Once all have, no hint can come any more.
+fn tell<P: Wait>(
+    rt: &P,
+    desk: &mut Desk,
+    board: &Board,
+    log: &[Entry],
+    hints: Hints,
+) -> Result<Receiver<Hint, Global>, RunFault>
+    requires own { IsDeskOf desk.old board.now }
+    requires room { desk.old.next_number + length log.now ≤ board.now.capacity + 1 }
+    ensures grown { GrownDesk desk.old desk.new }
+    ensures log { OnOk result (HoldsLog desk.new desk.old.next_number log.now) }
+    ensures next { OnOk result (desk.new.next_number ≡ desk.old.next_number + length log.now) }
+    ensures fault { IfErr result (IsWorkerFault false desk.new desk.old.next_number log.now) }
+    ensures own { IsDeskOf desk.new board.now }
+{
     let Hints { receiver, senders } = hints;
     publish_log(rt, desk, board, log, &senders)?;
-    drop(senders);
-    let mut dispatcher = Dispatcher::<R>::new(alloc, settings, board.capacity())?;
-    catch_up(rt, &mut dispatcher, desk, gate)?;
-    heed_all(rt, &mut dispatcher, desk, board, &receiver, gate)?;
-    desk.refresh(board)?;
-    catch_up(rt, &mut dispatcher, desk, gate)?;
-    let Schedule { tables, places } = dispatcher.into_schedule();
-    Ok(Run { tables, places })
+    Ok(receiver)
 }
 
 // Publishes each entry of a log, and sends a hint of it to each other worker.
@@ -127,6 +145,29 @@ fn send_hint<P: Wait>(
         }
     }
     Ok(())
+}
+
+// Plans what the desk holds, what hints point to while they come, and what a refresh finds then.
+fn plan_all<P: Wait, R: Ready, G: Gate>(
+    rt: &P,
+    dispatcher: &mut Dispatcher<R>,
+    desk: &mut Desk,
+    board: &Board,
+    receiver: &Receiver<Hint, Global>,
+    gate: &G,
+) -> Result<(), RunFault>
+    requires own { IsDeskOf desk.old board.now }
+    requires behind { IsBehind dispatcher.old desk.old }
+    ensures grown { GrownDesk desk.old desk.new }
+    ensures next { desk.new.next_number ≡ desk.old.next_number }
+    ensures own { IsDeskOf desk.new board.now }
+    ensures plan { OnOk result (dispatcher.new.tables ≡ plan dispatcher.old.settings (replica_of desk.new.replica)) }
+    ensures fault { IfErr result (IsPlanningFault G.may_give_up) }
+{
+    catch_up(rt, dispatcher, desk, gate)?;
+    heed_all(rt, dispatcher, desk, board, receiver, gate)?;
+    desk.refresh(board)?;
+    catch_up(rt, dispatcher, desk, gate)
 }
 
 // Takes the entry that each hint points to, and plans what is settled where no further hint waits,

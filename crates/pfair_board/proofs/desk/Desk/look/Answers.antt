@@ -1,9 +1,9 @@
-use Rattle.std.proofs.Common.{◌≡◌, ◌*◌, ◌+◌, ◌-◌, ap, sym, ◌∙◌, subst, refl, Some, arith}
+use Rattle.std.proofs.Common.{◌≡◌, ap, sym, ◌∙◌, subst, refl, Some, arith}
 use Rattle.pfair_lattice.specs.declared.flat.Flat.TheVariants.{One}
 use Rattle.pfair_replica.specs.HeldRows.{held, replica_of}
-use Rattle.pfair_board.specs.Boards.{IsKey, place_of}
+use Rattle.pfair_board.specs.Boards.{IsKey}
 use Rattle.pfair_board.specs.Knowledge.{Knowledge}
-use Rattle.pfair_board.proofs.NotedLemmas.{in_order_after, in_order_only, keeps_after, now_one}
+use Rattle.pfair_board.proofs.NotedLemmas.{in_order_after, in_order_only, keeps_after, now_one, place_there}
 use Rattle.pfair_board.proofs.desk.Desk.look.Goals.{in-Ok, in-Err}
 use Rattle.pfair_board.proofs.desk.Desk.look.Goals as goal
 
@@ -11,7 +11,7 @@ pub invariant_of-self-in-Some : goal.invariant_of-self-in-Some
 invariant_of-self-in-Some c =
     let x = replica_of c.self.inside.replica in
     let key : IsKey c.self.inside.replica.processors c.self.inside.replica.capacity c.args.processor c.args.number = record { row = omega arith; first = omega arith; last = omega arith } in
-    let at : c.args.processor * c.capacity-2.result + (c.args.number - 1) ≡ place_of c.self.inside.replica.capacity c.args.processor c.args.number = ap (λ z. c.args.processor * z + (c.args.number - 1)) c.capacity-2.ensures.value in
+    let at = place_there _ c.args.self.now c.args.processor c.args.number _ c.self.view_is c.place-place.ensures.value in
     elim c.match-take.branch [
       | in-Ok w ↦ in_order_after c.self.inside.processor c.self.inside.next_number x c.self.inside.notes c.args.processor c.args.number _ c.in-Some.entry (replica_of c.take.new.self) c.read.new.self c.self.invariant key at c.in-Some.ensures.some c.in-Some.ensures.same w.in-Ok.ensures.taken
       | in-Err w ↦ in_order_only c.self.inside.processor c.self.inside.next_number x c.self.inside.notes c.args.processor c.args.number _ c.in-Some.entry (replica_of c.take.new.self) c.read.new.self c.self.invariant key at c.in-Some.ensures.some c.in-Some.ensures.same (ap replica_of w.in-Err.ensures.unchanged)
@@ -19,7 +19,7 @@ invariant_of-self-in-Some c =
 
 pub returns-after-take-clause-kept : goal.returns-after-take-clause-kept
 returns-after-take-clause-kept c =
-    let at : c.args.processor * c.capacity-2.result + (c.args.number - 1) ≡ place_of c.self.inside.replica.capacity c.args.processor c.args.number = ap (λ z. c.args.processor * z + (c.args.number - 1)) c.capacity-2.ensures.value in
+    let at = place_there _ c.args.self.now c.args.processor c.args.number _ c.self.view_is c.place-place.ensures.value in
     rw (← c.self.view_is) (record {
       processor = refl;
       cells = ap (λ (w : Knowledge). w.cells) c.in-Some.ensures.some;
@@ -33,7 +33,7 @@ returns-after-take-clause-kept c =
 
 pub returns-after-take-clause-held_now : goal.returns-after-take-clause-held_now
 returns-after-take-clause-held_now c =
-    let at : c.args.processor * c.capacity-2.result + (c.args.number - 1) ≡ place_of c.self.inside.replica.capacity c.args.processor c.args.number = ap (λ z. c.args.processor * z + (c.args.number - 1)) c.capacity-2.ensures.value in
+    let at = place_there _ c.args.self.now c.args.processor c.args.number _ c.self.view_is c.place-place.ensures.value in
     elim c.match-take.branch [
       | in-Ok w ↦ λ e is.
           (let both = sym w.result-is ∙ is in

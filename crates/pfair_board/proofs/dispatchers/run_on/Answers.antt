@@ -1,0 +1,36 @@
+use Rattle.std.proofs.Common.{◌≡◌, ◌∙◌, sym, subst, refl, slice_get, Some, length}
+use Rattle.pfair_replica.specs.HeldRows.{replica_of}
+use Rattle.pfair_table.specs.Script.{capacity_of, replica_of_logs}
+use Rattle.pfair_board.specs.FirstFault.{IsFirstFault}
+use Rattle.pfair_board.proofs.FirstFaults.{run_fault}
+use Rattle.pfair_board.proofs.Planning.{same_replica}
+use Rattle.pfair_board.proofs.dispatchers.run_on.Goals as goal
+
+pub returns-in-Some-clause-fault : goal.returns-in-Some-clause-fault
+returns-in-Some-clause-fault g c =
+    let script = c.args.script.now in
+    let works = c.in_ok-works.works.items in
+    let whole = replica_of_logs script.logs in
+    let first : IsFirstFault works whole script.settings.slots (Some c.in-Some.fault)
+    = subst (λ ws. IsFirstFault ws whole script.settings.slots (Some c.in-Some.fault)) c.as_slice.ensures.value
+    (subst (IsFirstFault c.as_slice.result.now whole script.settings.slots) c.in-Some.is c.in_ok-fault.ensures) in
+    run_fault _ script _ _ works whole script.settings.slots c.in-Some.fault c.in_ok-works.ensures refl refl first
+
+pub returns-in-None-clause-good : goal.returns-in-None-clause-good
+returns-in-None-clause-good g c = λ k w at.
+    let script = c.args.script.now in
+    let work = c.in_ok-works.ensures.each k w at in
+    let there : slice_get c.as_slice.result.now k ≡ Some w = rw c.as_slice.ensures.value at in
+    let none = subst (IsFirstFault c.as_slice.result.now (replica_of_logs script.logs) script.settings.slots) c.in-None.is c.in_ok-fault.ensures in
+    let held = none.0 k w there in
+    let rows : w.desk.replica.processors ≡ length script.logs = work.desk.processors ∙ c.requires.processors ∙ sym c.settings-settings.ensures.run.one_each in
+    let row : w.desk.replica.capacity ≡ capacity_of script.logs = work.desk.capacity ∙ c.requires.capacity in
+    record {
+      desk = record {
+        own = work.desk;
+        processor = work.processor;
+        replica = same_replica c.least_join.ensures (replica_of w.desk.replica) (replica_of_logs script.logs) rows row held.1 held.2;
+      };
+      settings = work.settings;
+      run = held.0;
+    }
