@@ -1,14 +1,21 @@
 -- What is known of the text of a dispatcher that ran a file's script is known of the output of the file.
-use Rattle.std.proofs.Common.{ℕ, List, Option, None, Some, Result, Ok, Err, OnOk, OnErr, ◌≡◌, ◌≤◌, ◌⊎◌, inl, inr, refl, sym, ap, ◌∙◌, subst, map}
-use Rattle.std.specs.Prelude.{IfSome, IfErr, IsErrAnd, min}
+use Rattle.std.proofs.Common.{ℕ, List, [], ◌∷◌, Option, None, Some, Result, Ok, Err, Bool, ◌≡◌, ◌<◌, ◌≤◌, inl, inr, refl, sym, ap, ◌∙◌, subst, arith, map, length, slice_get, slice_index_or}
+use Rattle.std.specs.Prelude.{IfErr, IfSome, IsErrAnd, min}
+use Rattle.std.specs.Io.KnownBytes.{Appends, Keeps}
+use Rattle.pfair_command.specs.Schedules.{IsScheduleOf}
+use Rattle.pfair_command.specs.declared.fault.ScheduleFault.TheVariants as schedule
 use Rattle.pfair.specs.declared.fault.ProgramFault.{ProgramFault}
-use Rattle.pfair.specs.declared.fault.ProgramFault.TheVariants.{FileTooLong, ReadFailed, Memory, WriteFailed}
+use Rattle.pfair.specs.declared.fault.ProgramFault.TheVariants.{Memory, WriteFailed}
+use Rattle.pfair.specs.Faults.{of_run}
 use Rattle.pfair_replica.specs.Replica.{Replica, frontier, numbers_below}
 use Rattle.pfair_replica.specs.HeldRows.{replica_of}
 use Rattle.pfair_table.specs.Table.{Settings, decisions}
 use Rattle.pfair_table.specs.declared.pick.Decided.{Decided}
 use Rattle.pfair_table.specs.Script.{LoggedRun}
 use Rattle.pfair_table.specs.ScriptRun.{IsRunOf}
+use Rattle.pfair_board.specs.declared.run.RunFault.{RunFault}
+use Rattle.pfair_board.specs.declared.run.RunFault.TheVariants as run
+use Rattle.pfair_board.specs.RunFaults.{IsRunFaultOf}
 use Rattle.pfair_table.specs.Refinement.{Dispatch}
 use Rattle.pfair_board.specs.declared.run.Run.{Run}
 use Rattle.pfair_table.specs.Planned.{as_places, as_tables}
@@ -16,12 +23,13 @@ use Rattle.pfair_output.specs.Replay.{placed_replay_text, placed_text, replay_te
 use Rattle.pfair_output.specs.Decisions.{decisions_text}
 use Rattle.pfair_output.specs.Lags.{lags_text}
 use Rattle.pfair_file.specs.Documents.{script_of_file}
-use Rattle.pfair_text.specs.Input.{HasTaken, TakesOneFile}
-use Rattle.pfair.specs.Runs.{IsOutputOf, IsRefusalOf, IsWholeRun, replay_of_run, placed_replay_of_run, decisions_of_run, lags_of_run}
+use Rattle.pfair_text.specs.Input.{HasTaken}
+use Rattle.pfair_text.specs.Output.{TakesPrefix}
+use Rattle.pfair.specs.Runs.{IsCommandOf, IsFaultOfReplay, IsOutputOf, IsRefusalOf, IsWholeRun, replay_of_run, placed_replay_of_run, decisions_of_run, lags_of_run}
 
 -- the bytes are known to hold a script that the dispatcher has run
 abbrev pub HasRun : Option (List ℕ) → Dispatch → Type 0
-HasRun o d = IfSome o (λ bytes. (run : LoggedRun) × (script_of_file bytes ≡ Ok run) × IsRunOf run d)
+HasRun o d = IfSome o (λ bytes. IsScheduleOf bytes d)
 
 -- the text of a dispatcher is that of each script that it has run
 abbrev pub IsTextOf : (LoggedRun → List ℕ) → Dispatch → List ℕ → Type 0
@@ -45,15 +53,6 @@ decisions_made d run is = ap decisions_text is.whole.decided_are ∙ both (λ s 
 pub lags_made : (d : Dispatch) → IsTextOf lags_of_run d (lags_text d.settings (replica_of d.held))
 lags_made d run is = both lags_text is.settings_are is.held_is
 
--- what holds at the end of a call gives what follows from it
-pub on_ok : {T E : Type 0} {A B : Type 0} → (r : Result T E) → (A → B) → OnOk r A → OnOk r B
-on_ok (Ok x) f a = f a
-on_ok (Err e) f a = tt
-
-pub on_err : {T E : Type 0} {A B : Type 0} → (r : Result T E) → (e : E) → (A → B) → OnErr r A → r ≡ Err e → B
-on_err (Ok x) e f a same = cc same
-on_err (Err x) e f a same = f a
-
 -- the bytes are known to hold a script of which this is a dispatcher's run
 abbrev pub HasWholeRun : Option (List ℕ) → Run → Type 0
 HasWholeRun o made = IfSome o (λ bytes. (run : LoggedRun) × (script_of_file bytes ≡ Ok run) × IsWholeRun run made)
@@ -70,38 +69,67 @@ tables_made made run is = ap replay_text is.tables
 pub places_made : (made : Run) (run : LoggedRun) → IsWholeRun run made → placed_text (as_tables made.tables) (as_places made.places) ≡ placed_replay_of_run run
 places_made made run is = ap (placed_text (as_tables made.tables)) is.places ∙ ap placed_replay_text is.tables
 
--- a failed write refuses nothing
-pub no_refusal : {T : Type 0} → (r : Result T ProgramFault) → (o : Option (List ℕ)) → IfErr r (λ e. e ≡ WriteFailed) → IfErr r (λ e. IfSome o (λ bytes. IsRefusalOf bytes e))
-no_refusal (Ok x) o is = tt
-no_refusal (Err e) None is = tt
-no_refusal (Err e) (Some bytes) is = subst (IsRefusalOf bytes) (sym is) tt
+-- the first of a list that isn't empty
+pub first_is : {A : Type 0} (xs : List A) (x : A) → 0 < length xs → x ≡ slice_index_or xs 0 x → slice_get xs 0 ≡ Some x
+first_is [] x some same = absurd (omega (arith, some))
+first_is (y ∷ ys) x some same = ap Some (sym same)
 
--- nor does want of memory
-pub memory_refuses_nothing : {T : Type 0} → (r : Result T ProgramFault) → (o : Option (List ℕ)) → IsErrAnd r (λ e. e ≡ Memory) → IfErr r (λ e. IfSome o (λ bytes. IsRefusalOf bytes e))
-memory_refuses_nothing (Ok x) o is = tt
-memory_refuses_nothing (Err e) None is = tt
-memory_refuses_nothing (Err e) (Some bytes) is = subst (IsRefusalOf bytes) (sym is) tt
+-- a script that was read and run is one of the bytes that were read
+pub is_whole : (o : Option (List ℕ)) (script : LoggedRun) (made : Run) → IfSome o (λ bytes. script_of_file bytes ≡ Ok script) → IsWholeRun script made → HasWholeRun o made
+is_whole None script made read is = tt
+is_whole (Some bytes) script made read is = (script, read, is)
 
--- no more was taken than a file may have, and then the writer failed or memory was wanting, or nothing did
-pub taken_then : {T : Type 0} → (r : Result T ProgramFault) → (given left : Option (List ℕ)) → HasTaken given left (λ n. n ≤ 67108864) → HasTaken given left (λ n. n ≤ 67108865)
-    → IfErr r (λ e. (e ≡ WriteFailed) ⊎ (e ≡ Memory)) → TakesOneFile FileTooLong ReadFailed Memory r given left
-taken_then (Ok x) given left few most why = record { long = λ is. cc is; unread = λ is. few; within = few; within_fault = tt; most = most }
-taken_then (Err e) given left few most why = record {
-  long = λ is. elim why [ inl failed ↦ cc (is, failed) | inr wanting ↦ cc (is, wanting) ];
-  unread = λ is. few;
-  within = tt;
-  within_fault = λ short known. few;
-  most = most;
-}
+-- what holds of the only fault holds of a fault
+pub err_is : {T : Type 0} (P : ProgramFault → Type 0) (r : Result T ProgramFault) (own : ProgramFault) → IsErrAnd r (λ e. e ≡ own) → P own → IfErr r P
+err_is P (Ok x) own is p = tt
+err_is P (Err e) own is p = subst P (sym is) p
 
--- a failed write, or want of memory
-abbrev pub EndsSo : {T : Type 0} → Result T ProgramFault → Type 0
-EndsSo r = IfErr r (λ e. (e ≡ WriteFailed) ⊎ (e ≡ Memory))
+-- a run that isn't finished is a fault of a replay
+pub fault_of_replay : (may_give_up : Bool) (script : LoggedRun) (fault : RunFault) → IsRunFaultOf may_give_up script fault → IsFaultOfReplay may_give_up (of_run fault)
+fault_of_replay may_give_up script run.Memory is = (schedule.Memory, refl)
+fault_of_replay may_give_up script run.GateGaveUp is = is
+fault_of_replay may_give_up script run.Astray is = tt
+fault_of_replay may_give_up script (run.Stalled slot) is = (schedule.Stalled slot, refl)
 
-pub ends_by_writing : {T : Type 0} → (r : Result T ProgramFault) → IfErr r (λ e. e ≡ WriteFailed) → EndsSo r
-ends_by_writing (Ok x) is = tt
-ends_by_writing (Err e) is = inl is
+-- a fault that isn't of the file refuses no bytes
+refuses_nothing : (own e : ProgramFault) (given : Option (List ℕ)) → ((bytes : List ℕ) → IsRefusalOf bytes own) → e ≡ own → IfSome given (λ bytes. IsRefusalOf bytes e)
+refuses_nothing own e None always is = tt
+refuses_nothing own e (Some bytes) always is = subst (IsRefusalOf bytes) (sym is) (always bytes)
 
-pub ends_by_memory : {T : Type 0} → (r : Result T ProgramFault) → IsErrAnd r (λ e. e ≡ Memory) → EndsSo r
-ends_by_memory (Ok x) is = tt
-ends_by_memory (Err e) is = inr is
+-- How a command ends that has taken no more than a file may have: well,
+module _ {T : Type 0} (text : LoggedRun → List ℕ) (IsFault : ProgramFault → Type 0) (given left before after : Option (List ℕ))
+    (few : HasTaken given left (λ n. n ≤ 67108864)) (most : HasTaken given left (λ n. n ≤ 67108865)) where
+  pub ends_well : (x : T) → IfSome given (λ bytes. IsOutputOf text bytes (Appends before after)) → IsCommandOf text IsFault (Ok x) given left before after
+  ends_well x made = record {
+    ok = made;
+    refused = tt;
+    taken = record { long = λ is. cc is; unread = λ is. few; within = few; within_fault = tt; most = most };
+    nothing = tt;
+    cut = λ is. cc is;
+    only = tt;
+  }
+
+  -- by its writer,
+  pub ends_cut : (r : Result T ProgramFault) → IsErrAnd r (λ e. e ≡ WriteFailed) → IfSome given (λ bytes. IsOutputOf text bytes (TakesPrefix before after))
+      → IsCommandOf text IsFault r given left before after
+  ends_cut (Ok x) is made = absurd is
+  ends_cut (Err e) is made = record {
+    ok = tt;
+    refused = refuses_nothing WriteFailed e given (λ bytes. tt) is;
+    taken = record { long = λ same. cc (same, is); unread = λ same. few; within = tt; within_fault = λ short known. few; most = most };
+    nothing = λ other. absurd (other is);
+    cut = λ same. made;
+    only = inr is;
+  }
+
+  -- or by want of memory
+  pub ends_wanting : (r : Result T ProgramFault) → IsErrAnd r (λ e. e ≡ Memory) → Keeps before after → IsFault Memory → IsCommandOf text IsFault r given left before after
+  ends_wanting (Ok x) is kept wanting = absurd is
+  ends_wanting (Err e) is kept wanting = record {
+    ok = tt;
+    refused = refuses_nothing Memory e given (λ bytes. tt) is;
+    taken = record { long = λ same. cc (same, is); unread = λ same. few; within = tt; within_fault = λ short known. few; most = most };
+    nothing = λ other. kept;
+    cut = λ same. cc (same, is);
+    only = inl (subst IsFault (sym is) wanting);
+  }

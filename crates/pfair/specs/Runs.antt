@@ -12,8 +12,12 @@ use Rattle.pfair_output.specs.Replay.{placed_replay_text, replay_text}
 use Rattle.pfair_output.specs.Decisions.{decisions_text}
 use Rattle.pfair_output.specs.Lags.{lags_text}
 use Rattle.pfair_file.specs.Documents.{script_of_file}
+use Rattle.pfair_command.specs.Schedules as schedules
+use Rattle.pfair_command.specs.declared.fault.ScheduleFault.{ScheduleFault}
+use Rattle.pfair_command.specs.declared.fault.ScheduleFault.TheVariants.{FileTooLong, ReadFailed}
 use Rattle.pfair.specs.declared.fault.ProgramFault.{ProgramFault}
-use Rattle.pfair.specs.declared.fault.ProgramFault.TheVariants.{Stalled, GateGaveUp, Astray, File, FileTooLong, ReadFailed, WriteFailed, Memory}
+use Rattle.pfair.specs.declared.fault.ProgramFault.TheVariants.{Schedule, GateGaveUp, Astray, WriteFailed, Memory}
+use Rattle.pfair.specs.Faults.{of_schedule}
 
 -- the replica of all that a script says
 abbrev pub replica_of_run : LoggedRun → Replica
@@ -39,32 +43,14 @@ lags_of_run run = lags_text run.settings (replica_of_run run)
 abbrev pub IsOutputOf : (LoggedRun → List ℕ) → List ℕ → (List ℕ → Type 0) → Type 0
 IsOutputOf text bytes P = (run : LoggedRun) × (script_of_file bytes ≡ Ok run) × (run.settings.slots ≤ frontier (replica_of_run run)) × P (text run)
 
--- the bytes are those of a script whose logs settle only the slots below this one, which is one of its slots
-abbrev pub IsStalledAt : List ℕ → ℕ → Type 0
-IsStalledAt bytes slot = (run : LoggedRun) × (script_of_file bytes ≡ Ok run) × (slot ≡ frontier (replica_of_run run)) × (slot < run.settings.slots)
-
 -- what a fault says of the bytes that were read
 abbrev pub IsRefusalOf : List ℕ → ProgramFault → Type 0
-IsRefusalOf bytes (File fault) = script_of_file bytes ≡ Err fault
-IsRefusalOf bytes (Stalled slot) = IsStalledAt bytes slot
+IsRefusalOf bytes (Schedule fault) = schedules.IsRefusalOf bytes fault
 IsRefusalOf bytes _ = Unit {0}
 
--- the faults that a command over a task file may end with before it writes
+-- the faults that a command over a task file may end with before it writes: why the file has no schedule
 abbrev pub IsFaultOfRun : ProgramFault → Type 0
-IsFaultOfRun (File fault) = Unit {0}
-IsFaultOfRun (Stalled slot) = Unit {0}
-IsFaultOfRun FileTooLong = Unit {0}
-IsFaultOfRun ReadFailed = Unit {0}
-IsFaultOfRun Memory = Unit {0}
-IsFaultOfRun _ = ⊥
-
--- why the dispatchers of a script give no tables; the gate gives up only where its type may
-abbrev pub IsRunRefusal : Bool → LoggedRun → ProgramFault → Type 0
-IsRunRefusal may_give_up run (Stalled slot) = (slot ≡ frontier (replica_of_run run)) × (slot < run.settings.slots)
-IsRunRefusal may_give_up run GateGaveUp = may_give_up ≡ true
-IsRunRefusal may_give_up run Astray = Unit {0}
-IsRunRefusal may_give_up run Memory = Unit {0}
-IsRunRefusal may_give_up run _ = ⊥
+IsFaultOfRun fault = (cause : ScheduleFault) × (fault ≡ of_schedule cause)
 
 -- the faults that a replay may end with before it writes
 abbrev pub IsFaultOfReplay : Bool → ProgramFault → Type 0
@@ -84,7 +70,7 @@ pub record IsWholeRun (run : LoggedRun) (made : Run) : Type 0 where
 pub record IsCommandOf {T : Type 0} (text : LoggedRun → List ℕ) (IsFault : ProgramFault → Type 0) (result : Result T ProgramFault) (given left before after : Option (List ℕ)) : Type 0 where
   pub ok : OnOk result (IfSome given (λ bytes. IsOutputOf text bytes (Appends before after)))
   pub refused : IfErr result (λ e. IfSome given (λ bytes. IsRefusalOf bytes e))
-  pub taken : TakesOneFile FileTooLong ReadFailed Memory result given left
+  pub taken : TakesOneFile (Schedule FileTooLong) (Schedule ReadFailed) Memory result given left
   pub nothing : IfErr result (λ e. e ≢ WriteFailed → Keeps before after)
   pub cut : IsErrOf result WriteFailed → IfSome given (λ bytes. IsOutputOf text bytes (TakesPrefix before after))
   pub only : IfErr result (λ e. IsFault e ⊎ (e ≡ WriteFailed))

@@ -1,18 +1,17 @@
 //! The run of a script's dispatchers, each in a thread of its own.
 
-ghost use Rattle.std.specs.Prelude.{◌≡◌, ◌≤◌, Ok, IfErr, IfOk, IfSome, IsErrOf, ◌≢◌, OnOk};
+ghost use Rattle.std.specs.Prelude.{◌≡◌, Ok, IfErr, IfOk, IfSome};
 ghost use Rattle.pfair_text.specs.Input.{TakesOneFile};
 ghost use Rattle.pfair_table.specs.Script.{LoggedRun};
-ghost use Rattle.pfair_board.specs.Finish.{IsFinished};
 ghost use Rattle.pfair_file.specs.Documents.{script_of_file};
-ghost use Rattle.pfair.specs.Runs.{IsFaultOfReplay, IsRefusalOf, IsRunRefusal, IsWholeRun};
-ghost use Rattle.pfair.specs.declared.fault.ProgramFault.TheVariants.{FileTooLong, ReadFailed, Memory};
+ghost use Rattle.pfair.specs.Runs.{IsFaultOfReplay, IsRefusalOf, IsWholeRun};
+ghost use Rattle.pfair_command.specs.declared.fault.ScheduleFault.TheVariants.{FileTooLong, ReadFailed};
+ghost use Rattle.pfair.specs.declared.fault.ProgramFault.TheVariants.{Memory, Schedule};
 
 use crate::fault::ProgramFault;
-use crate::schedule::read_script;
-use pfair_board::{Finished, Gate, Run, run_dispatchers};
+use pfair_board::{Gate, Run, run_dispatchers};
+use pfair_command::read_script;
 use pfair_ready::HeapReady;
-use pfair_table::Script;
 use std::alloc::Global;
 use std::io::Read;
 use std::sync::Wait;
@@ -27,25 +26,12 @@ pub(crate) fn first_run<P: Threads + Wait + Sync, R: Read, G: Gate + Sync>(
 ) -> Result<Run, ProgramFault>
     ensures ok { IfOk result (λ first. IfSome (R.remaining reader.old) (λ bytes. (run : LoggedRun) × (script_of_file bytes ≡ Ok run) × IsWholeRun run first)) }
     ensures refused { IfErr result (λ e. IfSome (R.remaining reader.old) (λ bytes. IsRefusalOf bytes e)) }
-    ensures taken { TakesOneFile FileTooLong ReadFailed Memory result (R.remaining reader.old) (R.remaining reader.new) }
+    ensures taken { TakesOneFile (Schedule FileTooLong) (Schedule ReadFailed) Memory result (R.remaining reader.old) (R.remaining reader.new) }
     ensures only { IfErr result (IsFaultOfReplay G.may_give_up) }
 {
     let script = read_script(alloc, reader)?;
     // settings have a processor, so that there is a run
     let _processors = script.settings().processors();
-    let mut finished = finish(rt, alloc, &script, gate)?;
+    let mut finished = run_dispatchers::<P, HeapReady, G>(rt, alloc, &script, gate)?;
     Ok(finished.runs.swap_remove(0))
-}
-
-// The runs of a script's dispatchers.
-fn finish<P: Threads + Wait + Sync, G: Gate + Sync>(
-    rt: &P,
-    alloc: Global,
-    script: &Script,
-    gate: &G,
-) -> Result<Finished, ProgramFault>
-    ensures ok { IfOk result (λ f. IsFinished script.now f.board f.desks.items f.runs.items) }
-    ensures fault { IfErr result (IsRunRefusal G.may_give_up script.now) }
-{
-    Ok(run_dispatchers::<P, HeapReady, G>(rt, alloc, script, gate)?)
 }

@@ -2,6 +2,7 @@
 
 use crate::fault::{ProgramFault, write_fault};
 use pfair_board::{LookFault, PublishFault};
+use pfair_command::ScheduleFault;
 use pfair_entry::{Entry, EntryFault, NoteFault};
 use pfair_file::{EntryCause, Field, FileFault};
 use pfair_replica::{EntryKey, MergeFault, TakeFault};
@@ -31,9 +32,14 @@ impl Write for CountingWriter {
     }
 }
 
+// A fault of a file.
+fn of_file(fault: FileFault) -> ProgramFault {
+    ProgramFault::Schedule(ScheduleFault::File(fault))
+}
+
 // A table's fault, with the greatest processor and number that its type can hold.
 fn refused(cause: EntryCause) -> ProgramFault {
-    ProgramFault::File(FileFault::Entry {
+    of_file(FileFault::Entry {
         processor: u8::MAX,
         number: u32::MAX,
         cause,
@@ -44,9 +50,9 @@ fn refused(cause: EntryCause) -> ProgramFault {
 fn misplaced() -> [ProgramFault; 3] {
     let (place, field) = (u64::MAX, Field::Processors);
     [
-        ProgramFault::File(FileFault::Missing { place, field }),
-        ProgramFault::File(FileFault::WrongKind { place, field }),
-        ProgramFault::File(FileFault::Range { place, field }),
+        of_file(FileFault::Missing { place, field }),
+        of_file(FileFault::WrongKind { place, field }),
+        of_file(FileFault::Range { place, field }),
     ]
 }
 
@@ -79,24 +85,28 @@ fn faults_of_the_program_are_lines_of_one_write(rt: HostRuntime) -> Result<(), F
             1,
         ),
         (
-            ProgramFault::Stalled { slot: u64::MAX },
+            ProgramFault::Schedule(ScheduleFault::Stalled { slot: u64::MAX }),
             "pfair: 52 stalled at slot 18446744073709551615\n",
             3,
         ),
         (ProgramFault::GateGaveUp, "pfair: 53 gate gave up\n", 3),
         (ProgramFault::Astray, "pfair: 54 gone astray\n", 3),
+        (of_file(FileFault::NotToml), "pfair: 60 not TOML\n", 2),
         (
-            ProgramFault::File(FileFault::NotToml),
-            "pfair: 60 not TOML\n",
-            2,
-        ),
-        (
-            ProgramFault::File(FileFault::Version),
+            of_file(FileFault::Version),
             "pfair: 65 unknown version\n",
             2,
         ),
-        (ProgramFault::FileTooLong, "pfair: 66 file too long\n", 2),
-        (ProgramFault::ReadFailed, "pfair: 70 reading failed\n", 5),
+        (
+            ProgramFault::Schedule(ScheduleFault::FileTooLong),
+            "pfair: 66 file too long\n",
+            2,
+        ),
+        (
+            ProgramFault::Schedule(ScheduleFault::ReadFailed),
+            "pfair: 70 reading failed\n",
+            5,
+        ),
         (ProgramFault::WriteFailed, "pfair: 71 writing failed\n", 5),
         (
             ProgramFault::CommandLine,

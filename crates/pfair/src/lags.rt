@@ -3,8 +3,9 @@
 ghost use Rattle.pfair.specs.Runs.{IsCommandOf, IsFaultOfRun, lags_of_run};
 
 use crate::fault::ProgramFault;
-use crate::schedule::{scheduled, send_text};
+use pfair_command::scheduled;
 use pfair_output::lags_of;
+use pfair_text::send;
 use std::alloc::Global;
 use std::io::{Read, Write};
 
@@ -17,9 +18,7 @@ use std::io::{Read, Write};
 /// from the reader, but where the file is too long or memory was wanting: one more may then be.
 ///
 /// # Errors
-/// [`ProgramFault::ReadFailed`] where the reader answers an error, [`ProgramFault::FileTooLong`]
-/// where more than 67,108,864 bytes come, [`ProgramFault::File`] with the first fault of the file,
-/// [`ProgramFault::Stalled`] with the frontier of the logs where it is below the number of slots,
+/// [`ProgramFault::Schedule`] with the cause where the file has no schedule, as [`scheduled`] says,
 /// and [`ProgramFault::Memory`] where memory was wanted and refused: nothing has then been written.
 /// [`ProgramFault::WriteFailed`] where the writer answered an error, or took nothing; a prefix of
 /// the text has then gone out.
@@ -32,5 +31,5 @@ pub fn lags<R: Read, W: Write>(
 {
     let dispatcher = scheduled(alloc, reader)?;
     let text = lags_of(alloc, &dispatcher)?;
-    send_text(writer, text.as_slice())
+    Ok(send(writer, text.as_slice())?)
 }

@@ -13,7 +13,6 @@ mod replay;
 mod replay_placed;
 #[cfg(test)]
 mod run_tests;
-mod schedule;
 #[cfg(test)]
 mod tests;
 mod windows;
@@ -23,11 +22,11 @@ use decisions::decisions;
 use fault::{ProgramFault, write_fault};
 use lags::lags;
 use pfair_board::OpenGate;
+use pfair_command::opened;
+use pfair_text::send;
 use pfair_words::Asked;
 use replay::replay;
 use replay_placed::replay_placed;
-use schedule::send_text;
-use std::fs::File;
 use std::io;
 use std::process::ExitCode;
 use std::sync::Wait;
@@ -58,16 +57,7 @@ fn run<P: Threads + Wait + Sync>(rt: &HostRuntime, threads: &P) -> Result<(), Pr
         }
         Asked::Decisions { file } => decisions(rt.alloc(), &mut opened(rt, &file)?, &mut out),
         Asked::Lags { file } => lags(rt.alloc(), &mut opened(rt, &file)?, &mut out),
-        Asked::Help { text } => send_text(&mut out, text.as_bytes()),
-    }
-}
-
-// A task file, opened for reading.
-fn opened(rt: &HostRuntime, file: &str) -> Result<File, ProgramFault> {
-    match File::open(rt, file) {
-        Ok(reader) => Ok(reader),
-        Err(error) if error.kind() == io::ErrorKind::OutOfMemory => Err(ProgramFault::Memory),
-        Err(_) => Err(ProgramFault::ReadFailed),
+        Asked::Help { text } => Ok(send(&mut out, text.as_bytes())?),
     }
 }
 

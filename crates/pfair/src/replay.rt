@@ -5,9 +5,9 @@ ghost use Rattle.pfair.specs.Runs.{IsCommandOf, IsFaultOfReplay, replay_of_run};
 
 use crate::dispatchers::first_run;
 use crate::fault::ProgramFault;
-use crate::schedule::send_text;
 use pfair_board::Gate;
 use pfair_output::replay_of;
+use pfair_text::send;
 use std::alloc::Global;
 use std::io::{Read, Write};
 use std::sync::Wait;
@@ -24,12 +24,11 @@ use std::thread::Threads;
 /// wanting: one more may then be.
 ///
 /// # Errors
-/// [`ProgramFault::ReadFailed`] where the reader answers an error, [`ProgramFault::FileTooLong`]
-/// where more than 67,108,864 bytes come, [`ProgramFault::File`] with the first fault of the file,
-/// [`ProgramFault::Memory`] where memory was wanted and refused or a thread couldn't be started,
-/// [`ProgramFault::GateGaveUp`] only where the gate's type may give up, [`ProgramFault::Astray`]
-/// where a worker learned something else than the logs say, and [`ProgramFault::Stalled`] with the
-/// frontier of the logs where it is below the number of slots: nothing has then been written.
+/// [`ProgramFault::Schedule`] with the cause where the file has no schedule, as
+/// [`scheduled`](pfair_command::scheduled) says, [`ProgramFault::Memory`] where memory was wanted
+/// and refused or a thread couldn't be started, [`ProgramFault::GateGaveUp`] only where the gate's
+/// type may give up, and [`ProgramFault::Astray`] where a worker learned something else than the
+/// logs say: nothing has then been written.
 /// [`ProgramFault::WriteFailed`] where the writer answered an error, or took nothing; a prefix of
 /// the text has then gone out.
 pub fn replay<P: Threads + Wait + Sync, R: Read, W: Write, G: Gate + Sync>(
@@ -43,5 +42,5 @@ pub fn replay<P: Threads + Wait + Sync, R: Read, W: Write, G: Gate + Sync>(
 {
     let run = first_run(rt, alloc, reader, gate)?;
     let text = replay_of(alloc, run.tables.as_slice())?;
-    send_text(writer, text.as_slice())
+    Ok(send(writer, text.as_slice())?)
 }

@@ -5,9 +5,9 @@ ghost use Rattle.pfair.specs.Runs.{IsCommandOf, IsFaultOfReplay, placed_replay_o
 
 use crate::dispatchers::first_run;
 use crate::fault::ProgramFault;
-use crate::schedule::send_text;
 use pfair_board::Gate;
 use pfair_output::placed_replay_of;
+use pfair_text::send;
 use std::alloc::Global;
 use std::io::{Read, Write};
 use std::sync::Wait;
@@ -35,5 +35,5 @@ pub fn replay_placed<P: Threads + Wait + Sync, R: Read, W: Write, G: Gate + Sync
 {
     let run = first_run(rt, alloc, reader, gate)?;
     let text = placed_replay_of(alloc, run.tables.as_slice(), run.places.as_slice())?;
-    send_text(writer, text.as_slice())
+    Ok(send(writer, text.as_slice())?)
 }

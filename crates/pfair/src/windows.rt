@@ -8,10 +8,9 @@ ghost use Rattle.pfair.specs.Windows.{window_row, windows_text};
 ghost use Rattle.pfair.specs.declared.fault.ProgramFault.TheVariants.{WriteFailed, Memory};
 
 use crate::fault::ProgramFault;
-use crate::schedule::send_text;
 use csv::Writer;
 use itoa::Buffer;
-use pfair_text::{add_row, finish, new_text};
+use pfair_text::{add_row, finish, new_text, send};
 use pfair_weight::{Stepper, Weight};
 use pfair_words::MAX_COUNT;
 use std::alloc::{AllocError, Global};
@@ -37,7 +36,7 @@ pub fn windows<W: Write>(
     ensures only { IfErr result (λ e. (e ≡ WriteFailed) ⊎ (e ≡ Memory)) }
 {
     let text = windows_table(alloc, weight, count)?;
-    send_text(writer, text.as_slice())
+    Ok(send(writer, text.as_slice())?)
 }
 
 // The text of the table.

@@ -5,9 +5,8 @@ use Rattle.std.specs.List.{flat_map, range_with_len}
 use Rattle.std.proofs.lemmas.Bool.{cases_lt, le-leb, lt-ltb}
 use Rattle.std.proofs.lemmas.List.Elements.{Contains-append_left, Contains-append_right}
 use Rattle.std.proofs.lemmas.List.FromFn.{get_or-range_with_len, length-range_with_len}
-use Rattle.std.proofs.lemmas.Option.{slice_get-get_or}
+use Rattle.std.proofs.lemmas.Option.{slice_get-get_or, same_Some, none-some}
 use Rattle.pfair_weight.specs.Name.{NameValue}
-use Rattle.pfair_weight.specs.Options.{none_some, some_inj}
 use Rattle.pfair_weight.specs.Share.{Share}
 use Rattle.pfair_entry.specs.Names.{name_of}
 use Rattle.pfair_entry.specs.declared.announcement.Announcement.{Announcement}
@@ -32,8 +31,8 @@ has_one : {A : Type 0} (x : A) → Contains (x ∷ []) x
 has_one x = (0, omega arith, refl)
 
 flat_has : {A B : Type 0} (g : A → List B) (xs : List A) (k : ℕ) (x : A) (y : B) → slice_get xs k ≡ Some x → Contains (g x) y → Contains (flat_map g xs) y
-flat_has g [] k x y at has = absurd (none_some x at)
-flat_has {B = B} g (z ∷ zs) zero x y at has = Contains-append_left (g z) (flat_map g zs) y (subst (λ a. Contains (g a) y) (sym (some_inj z x at)) has)
+flat_has g [] k x y at has = absurd (none-some x at)
+flat_has {B = B} g (z ∷ zs) zero x y at has = Contains-append_left (g z) (flat_map g zs) y (subst (λ a. Contains (g a) y) (sym (same_Some z x at)) has)
 flat_has g (z ∷ zs) (suc k) x y at has = Contains-append_right (g z) (flat_map g zs) y (flat_has g zs k x y at has)
 
 range_has : (a n t : ℕ) → a ≤ t → t < a + n → slice_get (range_with_len a n) (t - a) ≡ Some t
@@ -52,9 +51,9 @@ refused_has f names slot before name d why is =
 
 refusal_there : (f : Frame) (names : List NameValue) (slot : ℕ) (before ds : List Decided) (k : ℕ) (d : Decided) (why : Refusal) → slice_get ds k ≡ Some d → d.decision ≡ Refused why
     → (count : ℕ) × Contains (refusals_after f names slot before ds) (refusal_mark f (row_of names (name_of d.announcement)) slot count why)
-refusal_there f names slot before [] k d why at is = absurd (none_some d at)
+refusal_there f names slot before [] k d why at is = absurd (none-some d at)
 refusal_there f names slot before (x ∷ more) zero d why at is =
-    let here : d ≡ x = sym (some_inj x d at) in (
+    let here : d ≡ x = sym (same_Some x d at) in (
       count_by (is_refused (name_of d.announcement)) before,
       Contains-append_left (refusal_of f names slot before (name_of x.announcement) x.decision) (refusals_after f names slot (before ++ x ∷ []) more) _
           (subst (λ (e : Decided). Contains (refusal_of f names slot before (name_of e.announcement) e.decision) (refusal_mark f (row_of names (name_of d.announcement)) slot (count_by (is_refused (name_of d.announcement)) before) why)) here
@@ -119,9 +118,9 @@ module _ (name : NameValue) (slot : ℕ) where
 
   joined_here : (weight : Share) (early : Bool) (ds : List Decided) (k : ℕ) (d : Decided) (h : Told) → slice_get ds k ≡ Some d → d.announcement ≡ Arrive name weight early → d.decision ≡ Admitted
       → HasLife (all_told slot ds h).lives name slot
-  joined_here weight early [] k d h at says is = absurd (none_some d at)
+  joined_here weight early [] k d h at says is = absurd (none-some d at)
   joined_here weight early (x ∷ more) zero d h at says is =
-      let here : x ≡ d = some_inj x d at in
+      let here : x ≡ d = same_Some x d at in
       keeps_all slot more (told slot x.announcement x.decision h)
       (subst (λ (a : Announcement). HasLife (told slot a x.decision h).lives name slot) (sym (ap (λ (e : Decided). e.announcement) here ∙ says))
       (subst (λ (e : Decision). HasLife (told slot (Arrive name weight early) e h).lives name slot) (sym (ap (λ (e : Decided). e.decision) here ∙ is))

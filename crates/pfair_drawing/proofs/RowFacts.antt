@@ -4,7 +4,7 @@ use Rattle.std.specs.Prelude.{slice_get, nat_lt}
 use Rattle.std.specs.List.{range_with_len}
 use Rattle.std.specs.Cmp.Lexicographic.{bytes_decides}
 use Rattle.std.proofs.lemmas.Bool.{ltb-true, cases_lt}
-use Rattle.pfair_weight.specs.Options.{none_some, some_inj}
+use Rattle.std.proofs.lemmas.Option.{same_Some, none-some}
 use Rattle.pfair_table.specs.declared.pick.Pick.{Pick}
 use Rattle.pfair_table.specs.declared.pick.Decided.{Decided}
 use Rattle.pfair_table.specs.Table.{Table}
@@ -64,9 +64,9 @@ keeps_all [] names name h = h
 keeps_all (x ∷ xs) names name h = keeps_all xs (with_name names x) name (keeps_with names x name h)
 
 has_all : (xs names : List NameValue) (k : ℕ) (name : NameValue) → slice_get xs k ≡ Some name → Has (with_names names xs) name
-has_all [] names k name e = absurd (none_some name e)
+has_all [] names k name e = absurd (none-some name e)
 has_all (x ∷ xs) names zero name e =
-    keeps_all xs (with_name names x) name (subst (λ (n : NameValue). Has (with_name names x) n) (some_inj x name e) (has_with names x))
+    keeps_all xs (with_name names x) name (subst (λ (n : NameValue). Has (with_name names x) n) (same_Some x name e) (has_with names x))
 has_all (x ∷ xs) names (suc k) name e = has_all xs (with_name names x) k name e
 
 -- ---- slots
@@ -80,8 +80,8 @@ keeps_slots decided tables [] names name h = h
 keeps_slots decided tables (slot ∷ slots) names name h = keeps_slots decided tables slots (with_slot decided tables names slot) name (keeps_slot decided tables names slot name h)
 
 name_at : (table : Table) (k : ℕ) (p : Pick) → slice_get table k ≡ Some p → slice_get (map (λ (p : Pick). p.name) table) k ≡ Some p.name
-name_at [] k p e = absurd (none_some p e)
-name_at (q ∷ table) zero p e = ap (λ (p : Pick). Some p.name) (some_inj q p e)
+name_at [] k p e = absurd (none-some p e)
+name_at (q ∷ table) zero p e = ap (λ (p : Pick). Some p.name) (same_Some q p e)
 name_at (q ∷ table) (suc k) p e = name_at table k p e
 
 has_slot : (decided : List (List Decided)) (tables : List Table) (names : List NameValue) (slot k : ℕ) (table : Table) (p : Pick) → slice_get tables slot ≡ Some table → slice_get table k ≡ Some p

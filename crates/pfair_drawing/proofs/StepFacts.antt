@@ -2,8 +2,7 @@
 use Rattle.std.proofs.Common.{ℕ, zero, suc, ◌+◌, ◌<◌, ◌≡◌, refl, sym, ap, ◌∙◌, arith, List, [], ◌∷◌, ◌++◌, None, Some, map, length, drop, append_assoc}
 use Rattle.std.specs.Prelude.{ℤ, slice_get}
 use Rattle.std.specs.Option.{option_map}
-use Rattle.std.proofs.lemmas.Option.{slice_get-map}
-use Rattle.pfair_weight.specs.Options.{none_some, some_inj}
+use Rattle.std.proofs.lemmas.Option.{slice_get-map, same_Some, none-some}
 use Rattle.pfair_table.specs.declared.pick.Decided.{Decided}
 use Rattle.pfair_table.specs.Table.{Table}
 use Rattle.pfair_lag.specs.Book.{Tally, Book, lag_of, recorded, slot_more}
@@ -47,11 +46,11 @@ more_left {A = A} {B = B} g es place before after whole b inside is grown rest =
 
 -- none is where there is a task
 pub not_none : {A B : Type 0} (g : A → B) (es : List A) (place : ℕ) → place < length es → None ≡ option_map g (slice_get es place) → ⊥
-not_none g es place inside is = let e = first_left es place inside in none_some (g e.0) (is ∙ ap (option_map g) e.1)
+not_none g es place inside is = let e = first_left es place inside in none-some (g e.0) (is ∙ ap (option_map g) e.1)
 
 pub lag_is : (es : List (NameValue × Tally)) (place : ℕ) (lag : ℤ × ℕ) → Some lag ≡ option_map (λ (e : NameValue × Tally). lag_of e.1) (slice_get es place)
     → (e : NameValue × Tally) → slice_get es place ≡ Some e → lag ≡ lag_of e.1
-lag_is es place lag is e at = some_inj lag (lag_of e.1) (is ∙ ap (option_map (λ (e : NameValue × Tally). lag_of e.1)) at)
+lag_is es place lag is e at = same_Some lag (lag_of e.1) (is ∙ ap (option_map (λ (e : NameValue × Tally). lag_of e.1)) at)
 
 -- the step of the task at a place, by its lag before and the book after
 pub step_is : (f : Frame) (names : List NameValue) (slot : ℕ) (ran : List NameValue) (book : Book) (place : ℕ) (name : NameValue) (old new : ℤ × ℕ) (lags : List (ℤ × ℕ))
@@ -62,10 +61,10 @@ pub step_is : (f : Frame) (names : List NameValue) (slot : ℕ) (ran : List Name
 step_is f names slot ran book place name old new lags before at named now e here =
     let next : slice_get (recorded ran book).entered place ≡ Some (e.0, slot_more ran e.0 e.1) =
     slice_get-map (λ (e : NameValue × Tally). (e.0, slot_more ran e.0 e.1)) book.entered place ∙ ap (option_map (λ (e : NameValue × Tally). (e.0, slot_more ran e.0 e.1))) here in
-    let name_is : name ≡ e.0 = some_inj name e.0 (named ∙ ap (option_map (λ (e : NameValue × Tally). e.0)) next) in
-    let new_is : new ≡ lag_of (slot_more ran e.0 e.1) = some_inj new (lag_of (slot_more ran e.0 e.1)) (now ∙ ap (option_map (λ (e : NameValue × Tally). lag_of e.1)) next) in
+    let name_is : name ≡ e.0 = same_Some name e.0 (named ∙ ap (option_map (λ (e : NameValue × Tally). e.0)) next) in
+    let new_is : new ≡ lag_of (slot_more ran e.0 e.1) = same_Some new (lag_of (slot_more ran e.0 e.1)) (now ∙ ap (option_map (λ (e : NameValue × Tally). lag_of e.1)) next) in
     let old_is : old ≡ lag_of e.1 =
-    some_inj old (lag_of e.1) (sym at ∙ ap (λ (l : List (ℤ × ℕ)). slice_get l place) before ∙ slice_get-map (λ (e : NameValue × Tally). lag_of e.1) book.entered place ∙ ap (option_map (λ (e : NameValue × Tally). lag_of e.1)) here) in
+    same_Some old (lag_of e.1) (sym at ∙ ap (λ (l : List (ℤ × ℕ)). slice_get l place) before ∙ slice_get-map (λ (e : NameValue × Tally). lag_of e.1) book.entered place ∙ ap (option_map (λ (e : NameValue × Tally). lag_of e.1)) here) in
     ap (λ (n : NameValue). lag_step f (row_of names n) slot old new) name_is
     ∙ ap (λ (l : ℤ × ℕ). lag_step f (row_of names e.0) slot l new) old_is
     ∙ ap (lag_step f (row_of names e.0) slot (lag_of e.1)) new_is

@@ -1,25 +1,23 @@
 //! Drawing the run of a task file.
 
-ghost use Rattle.std.specs.Prelude.{◌≡◌, ◌≢◌, length, Ok, OnOk, OnErr, IfOk, IfErr, IfSome, IsErrOf, ◌⊎◌};
+ghost use Rattle.std.specs.Prelude.{◌≡◌, ◌≢◌, length, OnOk, IfOk, IfErr, IfSome, IsErrOf, ◌⊎◌};
 ghost use Rattle.std.specs.Io.KnownBytes.{Appends, Keeps};
 ghost use Rattle.pfair_text.specs.Input.{TakesOneFile};
 ghost use Rattle.pfair_text.specs.Output.{TakesPrefix};
-ghost use Rattle.pfair_table.specs.ScriptRun.{IsRunOf};
-ghost use Rattle.pfair_table.specs.Script.{LoggedRun};
-ghost use Rattle.pfair_file.specs.Documents.{script_of_file};
+ghost use Rattle.pfair_command.specs.declared.fault.ScheduleFault.TheVariants.{FileTooLong, ReadFailed};
 ghost use Rattle.pfair_drawing.specs.declared.drawing.Drawing.{Drawing};
 ghost use Rattle.pfair_drawing.specs.Schedule.{AreRefused};
 ghost use Rattle.pfair_drawing.specs.Svg.{svg_text};
 ghost use Rattle.pfair_picture.specs.Pictures.{AreSlotsRefused, IsDrawnBetween, IsDrawnOf, IsFaultOfRun, IsOutputOf, IsRefusalOf, Shows, end_of, first_of};
-ghost use Rattle.pfair_picture.specs.declared.fault.ProgramFault.TheVariants.{FileTooLong, ReadFailed, WriteFailed, Slots, Memory};
+ghost use Rattle.pfair_picture.specs.declared.fault.ProgramFault.TheVariants.{Schedule, WriteFailed, Slots, Memory};
 
 use crate::fault::ProgramFault;
 use crate::words::Picture;
+use pfair_command::scheduled;
 use pfair_drawing::{Drawing, lags_drawing, schedule_drawing, svg_of};
-use pfair_file::read_file;
 use pfair_ready::HeapReady;
-use pfair_table::{Dispatcher, Script, run_script};
-use pfair_text::{read_bytes, send};
+use pfair_table::Dispatcher;
+use pfair_text::send;
 use std::alloc::Global;
 use std::io::{Read, Write};
 
@@ -31,9 +29,7 @@ use std::io::{Read, Write};
 /// be.
 ///
 /// # Errors
-/// [`ProgramFault::ReadFailed`] where the reader answers an error, [`ProgramFault::FileTooLong`]
-/// where more than 67,108,864 bytes come, [`ProgramFault::File`] with the first fault of the file,
-/// [`ProgramFault::Stalled`] with the frontier of the logs where it is below the number of slots,
+/// [`ProgramFault::Schedule`] with the cause where the file has no schedule, as [`scheduled`] says,
 /// [`ProgramFault::Slots`] where the slots are none, or some aren't the script's, or they are more
 /// than 4,096, and [`ProgramFault::Memory`] where memory was wanted and refused: nothing has then
 /// been written. [`ProgramFault::WriteFailed`] where the writer answered an error, or took nothing;
@@ -48,28 +44,14 @@ pub fn draw<R: Read, W: Write>(
     ensures ok { OnOk result (IfSome (R.remaining reader.old) (λ bytes. IsOutputOf picture slots bytes (Appends (W.contents writer.old) (W.contents writer.new)))) }
     ensures refused { IfErr result (λ e. IfSome (R.remaining reader.old) (λ bytes. IsRefusalOf bytes e)) }
     ensures slots { IsErrOf result Slots → IfSome (R.remaining reader.old) (AreSlotsRefused slots) }
-    ensures taken { TakesOneFile FileTooLong ReadFailed Memory result (R.remaining reader.old) (R.remaining reader.new) }
+    ensures taken { TakesOneFile (Schedule FileTooLong) (Schedule ReadFailed) Memory result (R.remaining reader.old) (R.remaining reader.new) }
     ensures nothing { IfErr result (λ e. e ≢ WriteFailed → Keeps (W.contents writer.old) (W.contents writer.new)) }
     ensures cut { IsErrOf result WriteFailed → IfSome (R.remaining reader.old) (λ bytes. IsOutputOf picture slots bytes (TakesPrefix (W.contents writer.old) (W.contents writer.new))) }
     ensures only { IfErr result (λ e. IsFaultOfRun e ⊎ ((e ≡ Slots) ⊎ (e ≡ WriteFailed))) }
 {
     let dispatcher = scheduled(alloc, reader)?;
-    match text_of(alloc, &dispatcher, picture, slots) {
-        Ok(text) => send_text(writer, text.as_slice()),
-        Err(fault) => Err(fault),
-    }
-}
-
-/// Sends the whole text, or a prefix of it where the writer fails.
-pub(crate) fn send_text<W: Write>(writer: &mut W, text: &[u8]) -> Result<(), ProgramFault>
-    ensures ok { OnOk result (Appends (W.contents writer.old) (W.contents writer.new) text.now) }
-    ensures cut { OnErr result (TakesPrefix (W.contents writer.old) (W.contents writer.new) text.now) }
-    ensures only { IfErr result (λ e. e ≡ WriteFailed) }
-{
-    match send(writer, text) {
-        Ok(()) => Ok(()),
-        Err(_) => Err(ProgramFault::WriteFailed),
-    }
+    let text = text_of(alloc, &dispatcher, picture, slots)?;
+    Ok(send(writer, text.as_slice())?)
 }
 
 // The text of the picture that is asked for.
@@ -124,26 +106,4 @@ fn drawing_of(
         Picture::Lags => lags_drawing(alloc, dispatcher, from, to),
     };
     Ok(made?)
-}
-
-// The dispatcher that has planned all slots of the script that a reader's bytes hold.
-fn scheduled<R: Read>(alloc: Global, reader: &mut R) -> Result<Dispatcher<HeapReady>, ProgramFault>
-    ensures ok { IfOk result (λ d. IfSome (R.remaining reader.old) (λ bytes. (run : LoggedRun) × (script_of_file bytes ≡ Ok run) × IsRunOf run d)) }
-    ensures refused { IfErr result (λ e. IfSome (R.remaining reader.old) (λ bytes. IsRefusalOf bytes e)) }
-    ensures taken { TakesOneFile FileTooLong ReadFailed Memory result (R.remaining reader.old) (R.remaining reader.new) }
-    ensures only { IfErr result IsFaultOfRun }
-{
-    let script = read_script(alloc, reader)?;
-    Ok(run_script(alloc, &script)?)
-}
-
-// The script that a reader's bytes hold.
-fn read_script<R: Read>(alloc: Global, reader: &mut R) -> Result<Script, ProgramFault>
-    ensures ok { IfOk result (λ s. IfSome (R.remaining reader.old) (λ bytes. script_of_file bytes ≡ Ok s)) }
-    ensures refused { IfErr result (λ e. IfSome (R.remaining reader.old) (λ bytes. IsRefusalOf bytes e)) }
-    ensures taken { TakesOneFile FileTooLong ReadFailed Memory result (R.remaining reader.old) (R.remaining reader.new) }
-    ensures only { IfErr result IsFaultOfRun }
-{
-    let bytes = read_bytes(alloc, reader)?;
-    Ok(read_file(alloc, bytes.as_slice())?)
 }

@@ -1,13 +1,12 @@
 //! The faults of the program: their numbers, texts and exit statuses.
 
 ghost use Rattle.std.specs.Prelude.{◌≡◌};
-ghost use Rattle.pfair_picture.specs.Faults.{number_of, of_drawing, of_file, of_read, of_script, status_of};
-ghost use Rattle.pfair_picture.specs.declared.fault.ProgramFault.TheVariants.{Memory};
+ghost use Rattle.pfair_picture.specs.Faults.{number_of, of_drawing, of_schedule, status_of};
+ghost use Rattle.pfair_picture.specs.declared.fault.ProgramFault.TheVariants.{Memory, WriteFailed};
 
+use pfair_command::{ScheduleFault, write_line};
 use pfair_drawing::DrawFault;
-use pfair_file::FileFault;
-use pfair_table::ScriptFault;
-use pfair_text::ReadFault;
+use pfair_text::WriteFailed;
 use std::alloc::AllocError;
 use std::io::Write;
 use thiserror::Error;
@@ -15,22 +14,9 @@ use thiserror::Error;
 /// Why a picture was not written.
 #[derive(Debug, Drop, Error)]
 pub enum ProgramFault {
-    /// Number 52: the logs of a task file settle only the slots below this one, which is one of its
-    /// slots.
-    #[error("stalled at slot {slot}")]
-    Stalled {
-        /// The frontier of the logs.
-        slot: u64,
-    },
-    /// Numbers 60 to 65: the first fault of a task file.
+    /// Numbers 52, 60 to 66 and 70: a task file has no schedule.
     #[error("{0}")]
-    File(FileFault),
-    /// Number 66: a task file has more bytes than are taken.
-    #[error("file too long")]
-    FileTooLong,
-    /// Number 70: a file could not be opened, or a reader answered an error.
-    #[error("reading failed")]
-    ReadFailed,
+    Schedule(ScheduleFault),
     /// Number 71: a writer answered an error, or took none of a piece that isn't empty.
     #[error("writing failed")]
     WriteFailed,
@@ -54,37 +40,22 @@ impl From<AllocError> for ProgramFault {
     }
 }
 
-impl From<ReadFault> for ProgramFault {
-    ghost from_gives = { λ fault e. e ≡ of_read fault };
+impl From<ScheduleFault> for ProgramFault {
+    ghost from_gives = { λ fault e. e ≡ of_schedule fault };
 
-    fn from(fault: ReadFault) -> ProgramFault {
+    fn from(fault: ScheduleFault) -> ProgramFault {
         match fault {
-            ReadFault::TooLong => ProgramFault::FileTooLong,
-            ReadFault::ReadFailed => ProgramFault::ReadFailed,
-            ReadFault::Memory => ProgramFault::Memory,
+            ScheduleFault::Memory => ProgramFault::Memory,
+            fault => ProgramFault::Schedule(fault),
         }
     }
 }
 
-impl From<FileFault> for ProgramFault {
-    ghost from_gives = { λ fault e. e ≡ of_file fault };
+impl From<WriteFailed> for ProgramFault {
+    ghost from_gives = { λ _ e. e ≡ WriteFailed };
 
-    fn from(fault: FileFault) -> ProgramFault {
-        match fault {
-            FileFault::Memory => ProgramFault::Memory,
-            fault => ProgramFault::File(fault),
-        }
-    }
-}
-
-impl From<ScriptFault> for ProgramFault {
-    ghost from_gives = { λ fault e. e ≡ of_script fault };
-
-    fn from(fault: ScriptFault) -> ProgramFault {
-        match fault {
-            ScriptFault::Stalled { slot } => ProgramFault::Stalled { slot },
-            ScriptFault::Memory => ProgramFault::Memory,
-        }
+    fn from(_: WriteFailed) -> ProgramFault {
+        ProgramFault::WriteFailed
     }
 }
 
@@ -105,10 +76,7 @@ impl ProgramFault {
         ensures { result ≡ number_of self.now }
     {
         match self {
-            ProgramFault::Stalled { .. } => 52,
-            ProgramFault::File(fault) => fault.number(),
-            ProgramFault::FileTooLong => 66,
-            ProgramFault::ReadFailed => 70,
+            ProgramFault::Schedule(fault) => fault.number(),
             ProgramFault::WriteFailed => 71,
             ProgramFault::CommandLine => 80,
             ProgramFault::Slots => 81,
@@ -116,43 +84,25 @@ impl ProgramFault {
         }
     }
 
-    /// The exit status that goes with the fault: 1 for a command line or refused slots, 2 for a
-    /// task file, 3 for a run that is stalled, 4 for want of memory, 5 for reading or writing.
+    /// The exit status that goes with the fault: 1 for a command line or refused slots, that of its
+    /// cause for a file without a schedule, 4 for want of memory, 5 for writing.
     pub fn status(&self) -> u8
         ensures { result ≡ status_of self.now }
     {
         match self {
             ProgramFault::CommandLine | ProgramFault::Slots => 1,
-            ProgramFault::File(_) | ProgramFault::FileTooLong => 2,
-            ProgramFault::Stalled { .. } => 3,
+            ProgramFault::Schedule(fault) => fault.status(),
             ProgramFault::Memory => 4,
-            ProgramFault::ReadFailed | ProgramFault::WriteFailed => 5,
+            ProgramFault::WriteFailed => 5,
         }
     }
 }
 
-// Room for the line of any fault. The longest is that of a refused entry, with the place of a bad
-// byte of its name: it has 96 bytes where each number in it is the greatest of its type.
-const LINE_ROOM: usize = 128;
-
-/// Writes the line of a fault, `pfair_picture: NUMBER TEXT`, and gives its exit status, also where
-/// the writer fails.
-///
-/// The line goes out in one write, so that the lines of two processes that write to one terminal or
-/// file don't mix. It takes no memory, for want of which may be the fault.
+/// Writes the line of a fault, `pfair_picture: NUMBER TEXT`, in one write, and gives its exit status, also
+/// where the writer fails. It takes no memory.
 pub fn write_fault<W: Write>(fault: &ProgramFault, writer: &mut W) -> u8
     ensures { result ≡ status_of fault.now }
 {
-    let number = fault.number();
-    let mut line = [0; LINE_ROOM];
-    let mut room = &mut line[..];
-    let is_whole = writeln!(room, "pfair_picture: {number} {fault}").is_ok();
-    let length = LINE_ROOM.saturating_sub(room.len());
-    let _ = if is_whole {
-        writer.write_all(&line[..length])
-    } else {
-        // a line that had no room would go out in pieces, and not be cut
-        writeln!(writer, "pfair_picture: {number} {fault}")
-    };
+    write_line("pfair_picture", fault.number(), fault, writer);
     fault.status()
 }

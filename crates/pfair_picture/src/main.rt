@@ -8,9 +8,10 @@ mod help;
 mod tests;
 mod words;
 
-use draw::{draw, send_text};
+use draw::draw;
 use fault::{ProgramFault, write_fault};
-use std::fs::File;
+use pfair_command::opened;
+use pfair_text::send;
 use std::io;
 use std::process::ExitCode;
 use words::{Asked, read_words};
@@ -35,16 +36,7 @@ fn run(rt: &HostRuntime) -> Result<(), ProgramFault> {
             let mut reader = opened(rt, &file)?;
             draw(rt.alloc(), &mut reader, picture, slots, &mut out)
         }
-        Asked::Text(text) => send_text(&mut out, text.as_bytes()),
-    }
-}
-
-// A task file, opened for reading.
-fn opened(rt: &HostRuntime, file: &str) -> Result<File, ProgramFault> {
-    match File::open(rt, file) {
-        Ok(reader) => Ok(reader),
-        Err(error) if error.kind() == io::ErrorKind::OutOfMemory => Err(ProgramFault::Memory),
-        Err(_) => Err(ProgramFault::ReadFailed),
+        Asked::Text(text) => Ok(send(&mut out, text.as_bytes())?),
     }
 }
 

@@ -1,39 +1,35 @@
-use Rattle.std.proofs.Common.{◌∙◌, rules}
+use Rattle.std.proofs.Common.{◌∙◌, refl, rules}
 use Rattle.std.specs.Io.KnownBytes.{Appends}
 use Rattle.pfair_text.specs.Output.{TakesPrefix}
-use Rattle.pfair.specs.Runs.{lags_of_run}
-use Rattle.pfair.proofs.RunFacts.{IsTextOf, ends_by_memory, ends_by_writing, lags_made, memory_refuses_nothing, no_refusal, on_err, on_ok, output_of, taken_then}
+use Rattle.pfair_command.specs.declared.fault.ScheduleFault.TheVariants as schedule
+use Rattle.pfair.specs.Runs.{IsFaultOfRun, lags_of_run}
+use Rattle.pfair.proofs.RunFacts.{IsTextOf, lags_made, ends_cut, ends_wanting, ends_well, output_of}
 use Rattle.pfair.proofs.lags.lags.Goals as goal
 
 pub returns : goal.returns
 returns g c =
     let d = c.in_ok-dispatcher.dispatcher in
+    let given = g.R.Read.remaining c.args.reader.now in
+    let before = g.W.Write.contents c.args.writer.now in
+    let after = g.W.Write.contents c.send.new.writer in
     let made : IsTextOf lags_of_run d c.as_slice.result.now = λ run is. c.as_slice.ensures.value ∙ c.in_ok-text.ensures.whole is.whole ∙ lags_made d run is in
-    record {
-      ok = on_ok c.send_text.result
-          (output_of lags_of_run (g.R.Read.remaining c.args.reader.now) d c.as_slice.result.now
-          (Appends (g.W.Write.contents c.args.writer.now) (g.W.Write.contents c.send_text.new.writer)) c.in_ok-dispatcher.ensures.ok made)
-          c.send_text.ensures.ok;
-      refused = no_refusal c.send_text.result (g.R.Read.remaining c.args.reader.now) c.send_text.ensures.only;
-      taken = taken_then c.send_text.result (g.R.Read.remaining c.args.reader.now) (g.R.Read.remaining c.scheduled.new.reader) c.in_ok-dispatcher.ensures.taken.within c.in_ok-dispatcher.ensures.taken.most
-          (ends_by_writing c.send_text.result c.send_text.ensures.only);
-      nothing = search rules;
-      cut = λ failed. on_err c.send_text.result _
-          (output_of lags_of_run (g.R.Read.remaining c.args.reader.now) d c.as_slice.result.now
-          (TakesPrefix (g.W.Write.contents c.args.writer.now) (g.W.Write.contents c.send_text.new.writer)) c.in_ok-dispatcher.ensures.ok made)
-          c.send_text.ensures.cut failed;
-      only = search rules;
-    }
+    ends_well lags_of_run IsFaultOfRun given (g.R.Read.remaining c.scheduled.new.reader) before after c.in_ok-dispatcher.ensures.taken.within c.in_ok-dispatcher.ensures.taken.most _
+    (output_of lags_of_run given d c.as_slice.result.now (Appends before after) c.in_ok-dispatcher.ensures.ok made c.in_ok-send.ensures.ok)
+
+pub returns-in_err-send : goal.returns-in_err-send
+returns-in_err-send g c =
+    let d = c.in_ok-dispatcher.dispatcher in
+    let given = g.R.Read.remaining c.args.reader.now in
+    let before = g.W.Write.contents c.args.writer.now in
+    let after = g.W.Write.contents c.send.new.writer in
+    let made : IsTextOf lags_of_run d c.as_slice.result.now = λ run is. c.as_slice.ensures.value ∙ c.in_ok-text.ensures.whole is.whole ∙ lags_made d run is in
+    ends_cut lags_of_run IsFaultOfRun given (g.R.Read.remaining c.scheduled.new.reader) before after c.in_ok-dispatcher.ensures.taken.within c.in_ok-dispatcher.ensures.taken.most
+    c.from_residual-in_err-send.result c.from_residual-in_err-send.ensures.1
+    (output_of lags_of_run given d c.as_slice.result.now (TakesPrefix before after) c.in_ok-dispatcher.ensures.ok made c.in_err-send.ensures.failed)
 
 pub returns-in_err-text : goal.returns-in_err-text
 returns-in_err-text g c =
-    let r = c.from_residual-in_err-text.result in
-    let wanting = c.from_residual-in_err-text.ensures.1 in
-    record {
-      ok = search rules;
-      refused = memory_refuses_nothing r (g.R.Read.remaining c.args.reader.now) wanting;
-      taken = taken_then r (g.R.Read.remaining c.args.reader.now) (g.R.Read.remaining c.scheduled.new.reader) c.in_ok-dispatcher.ensures.taken.within c.in_ok-dispatcher.ensures.taken.most (ends_by_memory r wanting);
-      nothing = search rules;
-      cut = search rules;
-      only = search rules;
-    }
+    let writer = g.W.Write.contents c.args.writer.now in
+    ends_wanting lags_of_run IsFaultOfRun (g.R.Read.remaining c.args.reader.now) (g.R.Read.remaining c.scheduled.new.reader) writer writer
+    c.in_ok-dispatcher.ensures.taken.within c.in_ok-dispatcher.ensures.taken.most
+    c.from_residual-in_err-text.result c.from_residual-in_err-text.ensures.1 (search rules) (schedule.Memory, refl)

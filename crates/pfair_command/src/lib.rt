@@ -1,0 +1,13 @@
+//! What every command over a task file does: it opens the file, reads it, and works out its
+//! schedule; and each program writes the line of a fault.
+#![tactic(auto)]
+
+mod fault;
+mod line;
+mod schedule;
+#[cfg(test)]
+mod tests;
+
+pub use fault::ScheduleFault;
+pub use line::write_line;
+pub use schedule::{opened, read_script, scheduled};
