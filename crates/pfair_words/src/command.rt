@@ -17,13 +17,26 @@ const DECISIONS_USAGE: &str = "pfair decisions <FILE>";
 
 const LAGS_USAGE: &str = "pfair lags <FILE>";
 
+const WINDOWS_USAGE: &str = "pfair windows <E> <P> <COUNT>";
+
 /// The command line as `clap` is to read it.
 pub(crate) fn command<'a>(alloc: Global) -> Result<Command<'a>, AllocError> {
-    // the flag that `clap` would add has a short form too
-    let version = Arg::new(alloc, "version")
-        .long("version")
-        .help("Print name and version")
-        .action(ArgAction::Version);
+    let command = with(program(alloc)?, windows(alloc))?;
+    let command = with(command, replay(alloc))?;
+    let command = with(command, decisions(alloc))?;
+    with(command, lags(alloc))
+}
+
+// A command with one more below it.
+fn with<'a>(
+    command: Command<'a>,
+    below: Result<Command<'a>, AllocError>,
+) -> Result<Command<'a>, AllocError> {
+    command.subcommand(below?)
+}
+
+// The program without its commands.
+fn program<'a>(alloc: Global) -> Result<Command<'a>, AllocError> {
     Command::new(alloc, "pfair")
         .version(VERSION)
         .disable_version_flag(true)
@@ -32,39 +45,47 @@ pub(crate) fn command<'a>(alloc: Global) -> Result<Command<'a>, AllocError> {
         .no_binary_name(true)
         .subcommand_required(true)
         .disable_help_subcommand(true)
-        .arg(version)?
-        .subcommand(windows(alloc)?)?
-        .subcommand(replay(alloc)?)?
-        .subcommand(decisions(alloc)?)?
-        .subcommand(lags(alloc)?)
+        .arg(version(alloc))
+}
+
+// The flag that `clap` would add has a short form too.
+fn version<'a>(alloc: Global) -> Arg<'a> {
+    Arg::new(alloc, "version")
+        .long("version")
+        .help("Print name and version")
+        .action(ArgAction::Version)
 }
 
 fn replay<'a>(alloc: Global) -> Result<Command<'a>, AllocError> {
-    let affinity = Arg::new(alloc, "affinity")
-        .long("affinity")
-        .help(AFFINITY_HELP)
-        .action(ArgAction::SetTrue);
-    let command = Command::new(alloc, "replay")
+    Command::new(alloc, "replay")
         .about(REPLAY_ABOUT)
         .override_usage(REPLAY_USAGE)
-        .after_help(REPLAY_AFTER);
-    command.arg(file(alloc))?.arg(affinity)
+        .after_help(REPLAY_AFTER)
+        .arg(file(alloc))?
+        .arg(affinity(alloc))
+}
+
+fn affinity<'a>(alloc: Global) -> Arg<'a> {
+    Arg::new(alloc, "affinity")
+        .long("affinity")
+        .help(AFFINITY_HELP)
+        .action(ArgAction::SetTrue)
 }
 
 fn decisions<'a>(alloc: Global) -> Result<Command<'a>, AllocError> {
-    let command = Command::new(alloc, "decisions")
+    Command::new(alloc, "decisions")
         .about(DECISIONS_ABOUT)
         .override_usage(DECISIONS_USAGE)
-        .after_help(DECISIONS_AFTER);
-    command.arg(file(alloc))
+        .after_help(DECISIONS_AFTER)
+        .arg(file(alloc))
 }
 
 fn lags<'a>(alloc: Global) -> Result<Command<'a>, AllocError> {
-    let command = Command::new(alloc, "lags")
+    Command::new(alloc, "lags")
         .about(LAGS_ABOUT)
         .override_usage(LAGS_USAGE)
-        .after_help(LAGS_AFTER);
-    command.arg(file(alloc))
+        .after_help(LAGS_AFTER)
+        .arg(file(alloc))
 }
 
 // The task file that a command is over.
@@ -76,26 +97,35 @@ fn file<'a>(alloc: Global) -> Arg<'a> {
 }
 
 fn windows<'a>(alloc: Global) -> Result<Command<'a>, AllocError> {
-    let cost = Arg::new(alloc, "cost")
+    Command::new(alloc, "windows")
+        .about(WINDOWS_ABOUT)
+        .override_usage(WINDOWS_USAGE)
+        .after_help(WINDOWS_AFTER)
+        .arg(cost(alloc))?
+        .arg(period(alloc))?
+        .arg(count(alloc))
+}
+
+fn cost<'a>(alloc: Global) -> Arg<'a> {
+    Arg::new(alloc, "cost")
         .value_name("E")
         .help("Cost: quanta in each period, 1 to the period")
         .required(true)
-        .value_parser(value_parser!(u64));
-    let period = Arg::new(alloc, "period")
+        .value_parser(value_parser!(u64))
+}
+
+fn period<'a>(alloc: Global) -> Arg<'a> {
+    Arg::new(alloc, "period")
         .value_name("P")
         .help("Period in slots, at most 1000000000")
         .required(true)
-        .value_parser(value_parser!(u64));
-    let count = Arg::new(alloc, "count")
+        .value_parser(value_parser!(u64))
+}
+
+fn count<'a>(alloc: Global) -> Arg<'a> {
+    Arg::new(alloc, "count")
         .value_name("COUNT")
         .help("How many subtasks, 0 to 1000000")
         .required(true)
-        .value_parser(value_parser!(u64).range(0..=MAX_COUNT as i64));
-    Command::new(alloc, "windows")
-        .about(WINDOWS_ABOUT)
-        .override_usage("pfair windows <E> <P> <COUNT>")
-        .after_help(WINDOWS_AFTER)
-        .arg(cost)?
-        .arg(period)?
-        .arg(count)
+        .value_parser(value_parser!(u64).range(0..=MAX_COUNT as i64))
 }
