@@ -56,37 +56,42 @@ fn arrival(
     )
 }
 
-// The script of two processors: a leaves, b is late once, and d comes in the middle.
-fn two_logs(rt: &impl Abort, alloc: Global) -> Result<Script, AllocError> {
-    let first = vec![in alloc;
+// The log of the first processor: a and b arrive, and a leaves.
+fn first_log(rt: &impl Abort, alloc: Global) -> Result<Vec<Entry>, AllocError> {
+    let leaves = Announcement::Depart {
+        name: name(rt, b"a"),
+    };
+    let entries = [
         arrival(rt, 0, 0, b"a", (1, 2), false),
         arrival(rt, 0, 0, b"b", (2, 3), false),
-        entry(
-            rt,
-            2,
-            Some((
-                2,
-                Announcement::Depart {
-                    name: name(rt, b"a")
-                }
-            ))
-        ),
+        entry(rt, 2, Some((2, leaves))),
         entry(rt, 4, None),
         entry(rt, 6, None),
-    ]?;
+    ];
+    Vec::from_slice(alloc, entries.as_slice())
+}
+
+// The log of the second: c and d arrive, and b is late once.
+fn second_log(rt: &impl Abort, alloc: Global) -> Result<Vec<Entry>, AllocError> {
     let late = Announcement::Late {
         name: name(rt, b"b"),
         index: 4,
         by: 2,
     };
-    let second = vec![in alloc;
+    let entries = [
         arrival(rt, 0, 0, b"c", (1, 3), false),
         arrival(rt, 1, 3, b"d", (1, 2), false),
         entry(rt, 3, Some((4, late))),
         entry(rt, 5, None),
         entry(rt, 6, None),
-    ]?;
-    let logs = vec![in alloc; first, second]?;
+    ];
+    Vec::from_slice(alloc, entries.as_slice())
+}
+
+// The script of two processors: a leaves, b is late once, and d comes in the middle.
+fn two_logs(rt: &impl Abort, alloc: Global) -> Result<Script, AllocError> {
+    let first = first_log(rt, alloc)?;
+    let logs = vec![in alloc; first, second_log(rt, alloc)?]?;
     let settings = Settings::new(2, 6, 6).expect(rt, "settings");
     Ok(Script::new(settings, logs).ok().expect(rt, "a script"))
 }
@@ -127,38 +132,89 @@ fn places_of<R: Ready>(
     Ok(all)
 }
 
-// Asserts the four texts of the script of two processors.
-fn assert_texts<R: Ready>(rt: &impl Abort, alloc: Global) -> Result<(), Fail> {
-    let script = two_logs(rt, alloc)?;
-    let dispatcher: Dispatcher<R> = run_script(alloc, &script)?;
-    let tables = tables_of(alloc, &dispatcher)?;
-    let replay = replay_of(alloc, tables.as_slice())?;
+// Asserts the rows of all slots of a run, without their places and with them.
+fn assert_replays<R: Ready>(
+    rt: &impl Abort,
+    alloc: Global,
+    dispatcher: &Dispatcher<R>,
+) -> Result<(), Fail> {
+    let tables = tables_of(alloc, dispatcher)?;
+    assert_replay(rt, alloc, tables.as_slice())?;
+    let places = places_of(alloc, dispatcher)?;
+    assert_placed(rt, alloc, tables.as_slice(), places.as_slice())
+}
+
+fn assert_replay(rt: &impl Abort, alloc: Global, tables: &[Vec<Pick>]) -> Result<(), Fail> {
+    let replay = replay_of(alloc, tables)?;
     assert_eq!(rt; replay.as_slice(), REPLAY.as_bytes());
-    let places = places_of(alloc, &dispatcher)?;
-    let placed = placed_replay_of(alloc, tables.as_slice(), places.as_slice())?;
-    assert_eq!(rt; placed.as_slice(), PLACED.as_bytes());
-    let decisions = decisions_of(alloc, &dispatcher)?;
-    assert_eq!(rt; decisions.as_slice(), DECISIONS.as_bytes());
-    let lags = lags_of(alloc, &dispatcher)?;
-    assert_eq!(rt; lags.as_slice(), LAGS.as_bytes());
     Ok(())
+}
+
+fn assert_placed(
+    rt: &impl Abort,
+    alloc: Global,
+    tables: &[Vec<Pick>],
+    places: &[Vec<u8>],
+) -> Result<(), Fail> {
+    let placed = placed_replay_of(alloc, tables, places)?;
+    assert_eq!(rt; placed.as_slice(), PLACED.as_bytes());
+    Ok(())
+}
+
+fn assert_decisions<R: Ready>(
+    rt: &impl Abort,
+    alloc: Global,
+    dispatcher: &Dispatcher<R>,
+) -> Result<(), Fail> {
+    let decisions = decisions_of(alloc, dispatcher)?;
+    assert_eq!(rt; decisions.as_slice(), DECISIONS.as_bytes());
+    Ok(())
+}
+
+fn assert_lags<R: Ready>(
+    rt: &impl Abort,
+    alloc: Global,
+    dispatcher: &Dispatcher<R>,
+    text: &str,
+) -> Result<(), Fail> {
+    let lags = lags_of(alloc, dispatcher)?;
+    assert_eq!(rt; lags.as_slice(), text.as_bytes());
+    Ok(())
+}
+
+// Asserts the four texts of a run of the script of two processors.
+fn assert_texts<R: Ready>(
+    rt: &impl Abort,
+    alloc: Global,
+    dispatcher: &Dispatcher<R>,
+) -> Result<(), Fail> {
+    assert_replays(rt, alloc, dispatcher)?;
+    assert_decisions(rt, alloc, dispatcher)?;
+    assert_lags(rt, alloc, dispatcher, LAGS)
+}
+
+// Asserts the four texts of the run of that script.
+fn assert_run<R: Ready>(rt: &impl Abort, alloc: Global, script: &Script) -> Result<(), Fail> {
+    let dispatcher: Dispatcher<R> = run_script(alloc, script)?;
+    assert_texts(rt, alloc, &dispatcher)
 }
 
 #[test]
 fn texts_of_two_logs(rt: HostRuntime) -> Result<(), Fail> {
-    assert_texts::<PlainReady>(&rt, rt.alloc())
+    assert_run::<PlainReady>(&rt, rt.alloc(), &two_logs(&rt, rt.alloc())?)
 }
 
 #[test]
 fn texts_of_two_logs_by_a_heap(rt: HostRuntime) -> Result<(), Fail> {
-    assert_texts::<HeapReady>(&rt, rt.alloc())
+    assert_run::<HeapReady>(&rt, rt.alloc(), &two_logs(&rt, rt.alloc())?)
+}
+
+fn assert_early_lags(rt: &impl Abort, alloc: Global, script: &Script) -> Result<(), Fail> {
+    let dispatcher: Dispatcher<HeapReady> = run_script(alloc, script)?;
+    assert_lags(rt, alloc, &dispatcher, EARLY_LAGS)
 }
 
 #[test]
 fn lags_of_an_early_task(rt: HostRuntime) -> Result<(), Fail> {
-    let script = early_log(&rt, rt.alloc())?;
-    let dispatcher: Dispatcher<HeapReady> = run_script(rt.alloc(), &script)?;
-    let lags = lags_of(rt.alloc(), &dispatcher)?;
-    assert_eq!(rt; lags.as_slice(), EARLY_LAGS.as_bytes());
-    Ok(())
+    assert_early_lags(&rt, rt.alloc(), &early_log(&rt, rt.alloc())?)
 }
