@@ -53,6 +53,10 @@ fn delay(letter: u8, by: u64) -> Option<Said>
 
 /// Four arrivals, the last of a name that is taken then.
 pub(crate) fn four_arrivals(alloc: Global) -> Look {
+    take_four(&mut Twins::new(alloc, 2, 6))
+}
+
+fn take_four(twins: &mut Twins) -> Look {
     let (Some(a), Some(b), Some(c), Some(again)) = (
         arrival(b'a', 1, 2, false),
         arrival(b'b', 2, 3, false),
@@ -68,12 +72,15 @@ pub(crate) fn four_arrivals(alloc: Global) -> Look {
         Decision::Admitted,
         NAME_TAKEN,
     ];
-    let mut twins = Twins::new(alloc, 2, 6);
     Ok(twins.hear(0, heard.as_slice(), decisions.as_slice())? && twins.are(b"abc"))
 }
 
 /// A task that has run holds its weight until its claim ends, and another one finds no room before.
 pub(crate) fn leaver(alloc: Global) -> Look {
+    lose_a_leaver(&mut Twins::new(alloc, 1, 2))
+}
+
+fn lose_a_leaver(twins: &mut Twins) -> Look {
     let (Some(task), Some(a), Some(leaves), Some(b)) = (
         name(b'a'),
         arrival(b'a', 1, 2, false),
@@ -83,7 +90,6 @@ pub(crate) fn leaver(alloc: Global) -> Look {
         return Ok(false);
     };
     let departs = Decision::Departing { freed_at: 3 };
-    let mut twins = Twins::new(alloc, 1, 2);
     Ok(
         twins.hear(0, [a].as_slice(), [Decision::Admitted].as_slice())?
             && twins.run(&task, Some(1))
@@ -98,6 +104,10 @@ pub(crate) fn leaver(alloc: Global) -> Look {
 
 /// A task that never ran leaves its room and its name in the slot in which it departs.
 pub(crate) fn at_once(alloc: Global) -> Look {
+    lose_at_once(&mut Twins::new(alloc, 1, 1))
+}
+
+fn lose_at_once(twins: &mut Twins) -> Look {
     let (Some(a), Some(leaves)) = (arrival(b'a', 1, 1, false), departure(b'a')) else {
         return Ok(false);
     };
@@ -106,12 +116,15 @@ pub(crate) fn at_once(alloc: Global) -> Look {
         Decision::Departing { freed_at: 0 },
         Decision::Admitted,
     ];
-    let mut twins = Twins::new(alloc, 1, 1);
     Ok(twins.hear(0, [a, leaves, a].as_slice(), decisions.as_slice())? && twins.are(b"a"))
 }
 
 /// All that is refused of a task that departs, and of one that isn't there.
 pub(crate) fn refused_leaver(alloc: Global) -> Look {
+    refuse_a_leaver(&mut Twins::new(alloc, 1, 5))
+}
+
+fn refuse_a_leaver(twins: &mut Twins) -> Look {
     let (Some(task), Some(a), Some(leaves), Some(stranger)) = (
         name(b'a'),
         arrival(b'a', 2, 5, false),
@@ -135,7 +148,6 @@ pub(crate) fn refused_leaver(alloc: Global) -> Look {
         DEPARTING,
         NAME_TAKEN,
     ];
-    let mut twins = Twins::new(alloc, 1, 5);
     Ok(
         twins.hear(0, [a].as_slice(), [Decision::Admitted].as_slice())?
             && twins.run(&task, Some(1))
@@ -151,23 +163,30 @@ pub(crate) fn late_release(alloc: Global) -> Look {
     Ok(late_release_at(alloc, 2, Decision::Delayed, 5)? && late_release_at(alloc, 3, RELEASED, 2)?)
 }
 
-// A late release in this slot, the decision on it, and the slot from which subtask 2 may run then.
 fn late_release_at(alloc: Global, slot: u64, decision: Decision, begins: u64) -> Look {
+    delay_at(&mut Twins::new(alloc, 1, 2), slot, decision, begins)
+}
+
+// A late release in this slot, the decision on it, and the slot from which subtask 2 may run then.
+fn delay_at(twins: &mut Twins, slot: u64, decision: Decision, begins: u64) -> Look {
     let (Some(task), Some(a), Some(late)) = (name(b'a'), arrival(b'a', 1, 2, false), delay(b'a', 3))
     else {
         return Ok(false);
     };
-    let mut twins = Twins::new(alloc, 1, 2);
     Ok(
         twins.hear(0, [a].as_slice(), [Decision::Admitted].as_slice())?
             && twins.run(&task, Some(1))
             && twins.hear(slot, [late].as_slice(), [decision].as_slice())?
-            && may_run_from(&twins, b'a', 2, begins),
+            && may_run_from(twins, b'a', 2, begins),
     )
 }
 
 /// The name, the frame and the room are looked at in this order.
 pub(crate) fn refused_arrivals(alloc: Global) -> Look {
+    refuse_arrivals(&mut Twins::new(alloc, 1, 12))
+}
+
+fn refuse_arrivals(twins: &mut Twins) -> Look {
     let (Some(odd), Some(a), Some(b), Some(small)) = (
         arrival(b'a', 1, 5, false),
         arrival(b'a', 12, 12, false),
@@ -184,29 +203,50 @@ pub(crate) fn refused_arrivals(alloc: Global) -> Look {
         OUTSIDE_FRAME,
         NO_ROOM,
     ];
-    let mut twins = Twins::new(alloc, 1, 12);
     Ok(twins.hear(0, heard.as_slice(), decisions.as_slice())? && twins.are(b"a"))
 }
 
 /// A task with early release is late only in what has not run, and begins its next job no earlier
 /// than its release.
 pub(crate) fn early_release(alloc: Global) -> Look {
+    Ok(delayed_early(alloc)? && refused_early(alloc)?)
+}
+
+fn delayed_early(alloc: Global) -> Look {
+    delay_early(&mut Twins::new(alloc, 1, 4))
+}
+
+fn refused_early(alloc: Global) -> Look {
+    refuse_early(&mut Twins::new(alloc, 1, 4))
+}
+
+// Subtask 1 has run when the late release of subtask 2 comes, which is accepted.
+fn delay_early(twins: &mut Twins) -> Look {
     let (Some(task), Some(a), Some(late)) = (name(b'a'), arrival(b'a', 2, 4, true), delay(b'a', 3))
     else {
         return Ok(false);
     };
-    let mut first = Twins::new(alloc, 1, 4);
-    let is_delayed = first.hear(0, [a].as_slice(), [Decision::Admitted].as_slice())?
-        && first.run(&task, Some(1))
-        && first.hear(1, [late].as_slice(), [Decision::Delayed].as_slice())?
-        && may_run_from(&first, b'a', 2, 5);
-    let mut second = Twins::new(alloc, 1, 4);
-    let is_refused = second.hear(0, [a].as_slice(), [Decision::Admitted].as_slice())?
-        && second.run(&task, Some(1))
-        && second.run(&task, Some(2))
-        && second.hear(2, [late].as_slice(), [RELEASED].as_slice())?
-        && may_run_from(&second, b'a', 3, 4);
-    Ok(is_delayed && is_refused)
+    Ok(
+        twins.hear(0, [a].as_slice(), [Decision::Admitted].as_slice())?
+            && twins.run(&task, Some(1))
+            && twins.hear(1, [late].as_slice(), [Decision::Delayed].as_slice())?
+            && may_run_from(twins, b'a', 2, 5),
+    )
+}
+
+// Both subtasks of the first job have run when it comes, and it is refused.
+fn refuse_early(twins: &mut Twins) -> Look {
+    let (Some(task), Some(a), Some(late)) = (name(b'a'), arrival(b'a', 2, 4, true), delay(b'a', 3))
+    else {
+        return Ok(false);
+    };
+    Ok(
+        twins.hear(0, [a].as_slice(), [Decision::Admitted].as_slice())?
+            && twins.run(&task, Some(1))
+            && twins.run(&task, Some(2))
+            && twins.hear(2, [late].as_slice(), [RELEASED].as_slice())?
+            && may_run_from(twins, b'a', 3, 4),
+    )
 }
 
 // Whether the next subtask of the member is this one, and may run from that slot on.

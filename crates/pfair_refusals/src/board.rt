@@ -27,6 +27,15 @@ fn row(board: &Board, processor: u8) -> Result<Desk, AllocError>
     Ok(desks.swap_remove(processor as usize))
 }
 
+// The desks of both rows, each of a new set.
+fn two_desks(board: &Board) -> Result<(Desk, Desk), AllocError>
+    requires { board.now.processors ≡ 2 }
+    ensures { IfOk result (λ desks. IsDeskOf desks.0 board.now × IsDeskOf desks.1 board.now) }
+{
+    let first = row(board, 0)?;
+    Ok((first, row(board, 1)?))
+}
+
 // Publishes an entry of this floor, and says whether there is such an entry.
 fn publish_one(board: &Board, desk: &mut Desk, floor: u64) -> Look
     requires { IsDeskOf desk.old board.now }
@@ -60,29 +69,52 @@ pub(crate) fn new(alloc: Global) -> Look {
 
 /// The desks of a board. After want of memory the board stands, and is asked for them once more.
 pub(crate) fn desks(alloc: Global) -> Look {
-    let board = two_rows(alloc)?;
+    desks_of(&two_rows(alloc)?)
+}
+
+fn desks_of(board: &Board) -> Look {
     let desks = match board.desks() {
         Ok(desks) => desks,
         Err(_) => board.desks()?,
     };
+    Ok(are_new(&desks))
+}
+
+fn are_new(desks: &[Desk]) -> bool {
     for desk in desks {
-        let held = desk.replica();
-        if desk.next_number() != 1 || held.missing(0) != Some(1) || held.missing(1) != Some(1) {
-            return Ok(false);
+        if !is_new(desk) {
+            return false;
         }
     }
-    Ok(true)
+    true
+}
+
+// Whether the desk has published and found nothing.
+fn is_new(desk: &Desk) -> bool {
+    let held = desk.replica();
+    desk.next_number() == 1 && held.missing(0) == Some(1) && held.missing(1) == Some(1)
 }
 
 /// An entry that is published. After want of memory the desk is as before, and publishes it once
 /// more.
 pub(crate) fn publish(alloc: Global) -> Look {
+    publish_on(&two_rows(alloc)?)
+}
+
+fn publish_on(board: &Board) -> Look
+    requires { board.now.processors ≡ 2 }
+{
+    let mut desk = row(board, 0)?;
+    publish_at(board, &mut desk)
+}
+
+fn publish_at(board: &Board, desk: &mut Desk) -> Look
+    requires { IsDeskOf desk.old board.now }
+{
     let Some(entry) = quiet(3) else {
         return Ok(false);
     };
-    let board = two_rows(alloc)?;
-    let mut desk = row(&board, 0)?;
-    match desk.publish(&board, entry) {
+    match desk.publish(board, entry) {
         Ok(number) => return Ok(number == 1),
         Err(PublishFault::Memory) => {}
         Err(_) => return Ok(false),
@@ -90,7 +122,7 @@ pub(crate) fn publish(alloc: Global) -> Look {
     if desk.next_number() != 1 || desk.replica().get(0, 1).is_some() {
         return Ok(false);
     }
-    match desk.publish(&board, entry) {
+    match desk.publish(board, entry) {
         Ok(number) => Ok(number == 1 && desk.replica().get(0, 1) == Some(Flat::One(entry))),
         Err(PublishFault::Memory) => Err(AllocError),
         Err(_) => Ok(false),
@@ -100,25 +132,36 @@ pub(crate) fn publish(alloc: Global) -> Look {
 /// A look at what another desk published. After want of memory the desk is as before, and looks
 /// once more.
 pub(crate) fn look(alloc: Global) -> Look {
+    look_on(&two_rows(alloc)?)
+}
+
+fn look_on(board: &Board) -> Look
+    requires { board.now.processors ≡ 2 }
+{
+    let (mut writer, mut reader) = two_desks(board)?;
+    look_at(board, &mut writer, &mut reader)
+}
+
+fn look_at(board: &Board, writer: &mut Desk, reader: &mut Desk) -> Look
+    requires of_writer { IsDeskOf writer.old board.now }
+    requires of_reader { IsDeskOf reader.old board.now }
+{
     let Some(entry) = quiet(3) else {
         return Ok(false);
     };
-    let board = two_rows(alloc)?;
-    let mut writer = row(&board, 0)?;
-    let mut reader = row(&board, 1)?;
-    if writer.publish(&board, entry) != Ok(1) {
+    if writer.publish(board, entry) != Ok(1) {
         return Err(AllocError);
     }
-    if reader.look(&board, 0, 1) == Err(LookFault::Memory) {
+    if reader.look(board, 0, 1) == Err(LookFault::Memory) {
         if reader.replica().get(0, 1).is_some() {
             return Ok(false);
         }
-        if reader.look(&board, 0, 1) == Err(LookFault::Memory) {
+        if reader.look(board, 0, 1) == Err(LookFault::Memory) {
             return Err(AllocError);
         }
     }
     Ok(
-        reader.look(&board, 0, 1) == Ok(Some(entry))
+        reader.look(board, 0, 1) == Ok(Some(entry))
             && reader.replica().get(0, 1) == Some(Flat::One(entry)),
     )
 }
@@ -126,13 +169,24 @@ pub(crate) fn look(alloc: Global) -> Look {
 /// A refresh that finds two entries. After want of memory what was found is held, and another
 /// refresh finds the rest.
 pub(crate) fn refresh(alloc: Global) -> Look {
-    let board = two_rows(alloc)?;
-    let mut writer = row(&board, 0)?;
-    let mut reader = row(&board, 1)?;
-    if !publish_two(&board, &mut writer, 3, 4)? {
+    refresh_on(&two_rows(alloc)?)
+}
+
+fn refresh_on(board: &Board) -> Look
+    requires { board.now.processors ≡ 2 }
+{
+    let (mut writer, mut reader) = two_desks(board)?;
+    refresh_from(board, &mut writer, &mut reader)
+}
+
+fn refresh_from(board: &Board, writer: &mut Desk, reader: &mut Desk) -> Look
+    requires of_writer { IsDeskOf writer.old board.now }
+    requires of_reader { IsDeskOf reader.old board.now }
+{
+    if !publish_two(board, writer, 3, 4)? {
         return Ok(false);
     }
-    match reader.refresh(&board) {
+    match reader.refresh(board) {
         Ok(count) => return Ok(count == 2 && reader.replica().missing(0).is_none()),
         Err(_) => {
             if !reader.replica().le(writer.replica()) {
@@ -140,24 +194,35 @@ pub(crate) fn refresh(alloc: Global) -> Look {
             }
         }
     }
-    reader.refresh(&board)?;
+    reader.refresh(board)?;
     Ok(reader.replica().missing(0).is_none() && reader.replica().le(writer.replica()))
 }
 
 /// A meet of two desks that published. After want of memory the first holds a part of the second,
 /// and meets it again.
 pub(crate) fn meet(alloc: Global) -> Look {
-    let board = two_rows(alloc)?;
-    let mut first = row(&board, 0)?;
-    let mut second = row(&board, 1)?;
-    if !publish_two(&board, &mut first, 1, 2)? || !publish_two(&board, &mut second, 3, 4)? {
+    meet_on(&two_rows(alloc)?)
+}
+
+fn meet_on(board: &Board) -> Look
+    requires { board.now.processors ≡ 2 }
+{
+    let (mut first, mut second) = two_desks(board)?;
+    meet_with(board, &mut first, &mut second)
+}
+
+fn meet_with(board: &Board, first: &mut Desk, second: &mut Desk) -> Look
+    requires of_first { IsDeskOf first.old board.now }
+    requires of_second { IsDeskOf second.old board.now }
+{
+    if !publish_two(board, first, 1, 2)? || !publish_two(board, second, 3, 4)? {
         return Ok(false);
     }
-    if first.meet(&second).is_err() {
+    if first.meet(second).is_err() {
         if first.replica().missing(0).is_some() || first.replica().first_torn().is_some() {
             return Ok(false);
         }
-        first.meet(&second)?;
+        first.meet(second)?;
     }
     let held = first.replica();
     Ok(

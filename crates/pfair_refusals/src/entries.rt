@@ -2,7 +2,7 @@
 
 use pfair_entry::{Announcement, Entry};
 use pfair_ready::Ready;
-use pfair_table::Dispatcher;
+use pfair_table::{Dispatcher, Pick};
 use pfair_weight::{TaskName, Weight};
 
 /// The picks of each of the six slots: the letter of the task, and the index of its subtask.
@@ -68,16 +68,21 @@ pub(crate) fn is_planned<R: Ready>(dispatcher: &Dispatcher<R>, slots: u64) -> bo
         let (Some(table), Some(known)) = (dispatcher.table(slot), TABLES.get(slot as usize)) else {
             return false;
         };
-        if table.len() != known.len()
+        if !are_picks(table, known)
             || dispatcher.places(slot) != PLACES.get(slot as usize).copied()
         {
             return false;
         }
-        for (pick, (letter, index)) in table.iter().zip(known.iter()) {
-            if pick.name.as_bytes() != [*letter].as_slice() || pick.index != *index {
-                return false;
-            }
-        }
     }
     true
+}
+
+// Whether a table has these picks: each by the letter of its task and the index of its subtask.
+fn are_picks(table: &[Pick], known: &[(u8, u64)]) -> bool {
+    for (pick, (letter, index)) in table.iter().zip(known.iter()) {
+        if pick.name.as_bytes() != [*letter].as_slice() || pick.index != *index {
+            return false;
+        }
+    }
+    table.len() == known.len()
 }

@@ -33,12 +33,15 @@ fn enters(
 
 /// Two tasks, one after the other, and the first of them again.
 pub(crate) fn enter(alloc: Global) -> Look {
+    enter_two(&mut LagBook::new(alloc))
+}
+
+fn enter_two(book: &mut LagBook) -> Look {
     let (Some(a), Some(b), Ok(half)) = (name(b'a'), name(b'b'), Weight::new(1, 2)) else {
         return Ok(false);
     };
-    let mut book = LagBook::new(alloc);
-    let is_first = enters(&mut book, &[], a, half)?;
-    let is_second = enters(&mut book, &[a], b, half)?;
+    let is_first = enters(book, &[], a, half)?;
+    let is_second = enters(book, &[a], b, half)?;
     let is_known = book.enter(a, half) == Ok(false);
-    Ok(is_first && is_second && is_known && has_entered(&book, &[a, b]))
+    Ok(is_first && is_second && is_known && has_entered(book, &[a, b]))
 }

@@ -10,23 +10,48 @@ type Middle = JoinMap<u8, Inner>;
 
 type Outer = JoinMap<u8, Middle>;
 
+fn inner(alloc: Global, key: u8, content: u8) -> Result<Inner, AllocError> {
+    let mut inner = Inner::new(alloc);
+    inner.put(key, &Flat::One(content))?;
+    Ok(inner)
+}
+
+fn middle(alloc: Global, keys: (u8, u8), content: u8) -> Result<Middle, AllocError> {
+    let inner = inner(alloc, keys.1, content)?;
+    let mut middle = Middle::new(alloc);
+    middle.put(keys.0, &inner)?;
+    Ok(middle)
+}
+
 // The map that holds one content under three keys.
 fn outer(alloc: Global, keys: (u8, u8, u8), content: u8) -> Result<Outer, AllocError> {
-    let mut inner = Inner::new(alloc);
-    inner.put(keys.2, &Flat::One(content))?;
-    let mut middle = Middle::new(alloc);
-    middle.put(keys.1, &inner)?;
+    let middle = middle(alloc, (keys.1, keys.2), content)?;
     let mut outer = Outer::new(alloc);
     outer.put(keys.0, &middle)?;
     Ok(outer)
 }
 
+// Joins one content under three keys.
+fn join_one(
+    all: &mut Outer,
+    alloc: Global,
+    keys: (u8, u8, u8),
+    content: u8,
+) -> Result<(), AllocError> {
+    let one = outer(alloc, keys, content)?;
+    all.join(&one)
+}
+
 // Contents under new keys at each of the three depths.
 fn grown(alloc: Global) -> Result<Outer, AllocError> {
     let mut all = outer(alloc, (1, 1, 2), 6)?;
-    all.join(&outer(alloc, (1, 2, 1), 7)?)?;
-    all.join(&outer(alloc, (2, 1, 1), 8)?)?;
+    join_two(&mut all, alloc)?;
     Ok(all)
+}
+
+fn join_two(all: &mut Outer, alloc: Global) -> Result<(), AllocError> {
+    join_one(all, alloc, (1, 2, 1), 7)?;
+    join_one(all, alloc, (2, 1, 1), 8)
 }
 
 fn content_at(map: &Outer, keys: (u8, u8, u8)) -> Option<Flat<u8>> {
@@ -51,63 +76,98 @@ fn is_between(old: &Outer, now: &Outer, whole: &Outer) -> bool {
 /// A join that adds keys at each of three depths. After want of memory it is made once more.
 pub(crate) fn join_three_deep(alloc: Global) -> Look {
     let other = grown(alloc)?;
-    let old = outer(alloc, (1, 1, 1), 5)?;
+    join_from(alloc, &other)
+}
+
+fn join_from(alloc: Global, other: &Outer) -> Look {
     let mut whole = outer(alloc, (1, 1, 1), 5)?;
-    whole.join(&other)?;
+    whole.join(other)?;
+    join_up_to(alloc, other, &whole)
+}
+
+fn join_up_to(alloc: Global, other: &Outer, whole: &Outer) -> Look {
+    let old = outer(alloc, (1, 1, 1), 5)?;
     let mut now = outer(alloc, (1, 1, 1), 5)?;
-    if now.join(&other).is_ok() {
-        return Ok(is_whole(&now) && is_between(&whole, &now, &whole));
+    join_into(&mut now, &old, other, whole)
+}
+
+fn join_into(now: &mut Outer, old: &Outer, other: &Outer, whole: &Outer) -> Look {
+    if now.join(other).is_err() {
+        if !is_between(old, now, whole) {
+            return Ok(false);
+        }
+        now.join(other)?;
     }
-    if !is_between(&old, &now, &whole) {
-        return Ok(false);
-    }
-    now.join(&other)?;
-    Ok(is_whole(&now) && is_between(&whole, &now, &whole))
+    Ok(is_whole(now) && is_between(whole, now, whole))
 }
 
 /// A pair that a map lacks. After want of memory the key is missing still, and the other key is as
 /// it was.
 pub(crate) fn put_missing_key(alloc: Global) -> Look {
     let other = grown(alloc)?;
-    let Some(value) = other.get(&2) else {
-        return Ok(false);
-    };
+    match other.get(&2) {
+        Some(value) => put_missing(alloc, value),
+        None => Ok(false),
+    }
+}
+
+fn put_missing(alloc: Global, value: &Middle) -> Look {
     let old = outer(alloc, (1, 1, 1), 5)?;
     let mut now = outer(alloc, (1, 1, 1), 5)?;
-    if now.put(2, value).is_ok() {
-        return Ok(now.len() == 2 && content_at(&now, (2, 1, 1)) == Some(Flat::One(8)));
+    put_missing_into(&mut now, &old, value)
+}
+
+fn put_missing_into(now: &mut Outer, old: &Outer, value: &Middle) -> Look {
+    if now.put(2, value).is_err() {
+        if now.get(&2).is_some() || !is_between(old, now, old) {
+            return Ok(false);
+        }
+        now.put(2, value)?;
     }
-    if now.get(&2).is_some() || !is_between(&old, &now, &old) {
-        return Ok(false);
-    }
-    now.put(2, value)?;
-    Ok(now.len() == 2 && content_at(&now, (2, 1, 1)) == Some(Flat::One(8)))
+    Ok(now.len() == 2 && content_at(now, (2, 1, 1)) == Some(Flat::One(8)))
 }
 
 /// A pair at a key that the map has. After want of memory it lies between the old map and the join.
 pub(crate) fn put_shared_key(alloc: Global) -> Look {
     let other = grown(alloc)?;
-    let Some(value) = other.get(&1) else {
-        return Ok(false);
-    };
-    let old = outer(alloc, (1, 1, 1), 5)?;
+    match other.get(&1) {
+        Some(value) => put_shared(alloc, value),
+        None => Ok(false),
+    }
+}
+
+fn put_shared(alloc: Global, value: &Middle) -> Look {
     let mut whole = outer(alloc, (1, 1, 1), 5)?;
     whole.put(1, value)?;
+    put_shared_up_to(alloc, value, &whole)
+}
+
+fn put_shared_up_to(alloc: Global, value: &Middle, whole: &Outer) -> Look {
+    let old = outer(alloc, (1, 1, 1), 5)?;
     let mut now = outer(alloc, (1, 1, 1), 5)?;
+    put_shared_into(&mut now, &old, value, whole)
+}
+
+fn put_shared_into(now: &mut Outer, old: &Outer, value: &Middle, whole: &Outer) -> Look {
     if now.put(1, value).is_err() {
-        if !is_between(&old, &now, &whole) {
+        if !is_between(old, now, whole) {
             return Ok(false);
         }
         now.put(1, value)?;
     }
-    Ok(content_at(&now, (1, 2, 1)) == Some(Flat::One(7)) && is_between(&whole, &now, &whole))
+    Ok(content_at(now, (1, 2, 1)) == Some(Flat::One(7)) && is_between(whole, now, whole))
 }
 
 /// A copy, which is equal to what was copied.
 pub(crate) fn copy_three_deep(alloc: Global) -> Look {
     let map = grown(alloc)?;
-    let Ok(copy) = map.copy() else {
-        return Ok(content_at(&map, (2, 1, 1)) == Some(Flat::One(8)));
-    };
-    Ok(is_between(&map, &copy, &map) && content_at(&copy, (1, 2, 1)) == Some(Flat::One(7)))
+    Ok(is_copied(&map))
+}
+
+fn is_copied(map: &Outer) -> bool {
+    match map.copy() {
+        Ok(copy) => is_between(map, &copy, map)
+            && content_at(&copy, (1, 2, 1)) == Some(Flat::One(7)),
+        Err(_) => content_at(map, (2, 1, 1)) == Some(Flat::One(8)),
+    }
 }

@@ -19,143 +19,44 @@ mod table;
 mod twins;
 
 use pfair_ready::{HeapReady, PlainReady};
-use std::alloc::AllocError;
+use std::alloc::{AllocError, Global};
 use std::process::ExitCode;
 
 // What a look answers: whether all was as promised, or want of memory for the looking.
 type Look = Result<bool, AllocError>;
 
+// A look, and what it was at.
+type Named = (&'static str, Look);
+
 fn main(rt: HostRuntime) -> ExitCode {
-    let looks: [(&str, Look); 44] = [
-        (
-            "join of maps three deep",
-            lattice::join_three_deep(rt.alloc()),
-        ),
-        ("put of a missing key", lattice::put_missing_key(rt.alloc())),
-        (
-            "put at a key that is there",
-            lattice::put_shared_key(rt.alloc()),
-        ),
-        (
-            "copy of maps three deep",
-            lattice::copy_three_deep(rt.alloc()),
-        ),
-        (
-            "insert of a plain ready list",
-            ready::insert::<PlainReady>(rt.alloc()),
-        ),
-        (
-            "take_first of a plain ready list",
-            ready::take_first::<PlainReady>(rt.alloc()),
-        ),
-        (
-            "insert of a ready heap",
-            ready::insert::<HeapReady>(rt.alloc()),
-        ),
-        (
-            "take_first of a ready heap",
-            ready::take_first::<HeapReady>(rt.alloc()),
-        ),
-        ("take of a replica", replica::take(rt.alloc())),
-        ("merge of two halves", replica::merge(rt.alloc())),
-        (
-            "merge that tears and fills a gap",
-            replica::merge_torn(rt.alloc()),
-        ),
-        ("copy of a replica", replica::copy(rt.alloc())),
-        ("faults of a replica", replica::faults(rt.alloc())),
-        ("what is said at a slot", replica::said(rt.alloc())),
-        (
-            "boundary of four arrivals",
-            admission::four_arrivals(rt.alloc()),
-        ),
-        ("boundaries of a leaver", admission::leaver(rt.alloc())),
-        (
-            "boundary of a task that leaves at once",
-            admission::at_once(rt.alloc()),
-        ),
-        (
-            "boundaries of a leaver that is named again",
-            admission::refused_leaver(rt.alloc()),
-        ),
-        (
-            "boundaries of a late release",
-            admission::late_release(rt.alloc()),
-        ),
-        (
-            "boundary of refused arrivals",
-            admission::refused_arrivals(rt.alloc()),
-        ),
-        (
-            "boundaries of an early release",
-            admission::early_release(rt.alloc()),
-        ),
-        (
-            "plans over plain lists",
-            table::plans::<PlainReady>(rt.alloc()),
-        ),
-        (
-            "reopening over plain lists",
-            table::reopen::<PlainReady>(rt.alloc()),
-        ),
-        (
-            "taking over plain lists",
-            table::take::<PlainReady>(rt.alloc()),
-        ),
-        (
-            "absorbing over plain lists",
-            table::absorb::<PlainReady>(rt.alloc()),
-        ),
-        (
-            "a second content over plain lists",
-            table::tear::<PlainReady>(rt.alloc()),
-        ),
-        (
-            "a run of events over plain lists",
-            table::events::<PlainReady>(rt.alloc()),
-        ),
-        (
-            "a run of two halves over plain lists",
-            table::halves::<PlainReady>(rt.alloc()),
-        ),
-        (
-            "a run of logs over plain lists",
-            table::script::<PlainReady>(rt.alloc()),
-        ),
-        ("plans over heaps", table::plans::<HeapReady>(rt.alloc())),
-        (
-            "reopening over heaps",
-            table::reopen::<HeapReady>(rt.alloc()),
-        ),
-        ("taking over heaps", table::take::<HeapReady>(rt.alloc())),
-        (
-            "absorbing over heaps",
-            table::absorb::<HeapReady>(rt.alloc()),
-        ),
-        (
-            "a second content over heaps",
-            table::tear::<HeapReady>(rt.alloc()),
-        ),
-        (
-            "a run of events over heaps",
-            table::events::<HeapReady>(rt.alloc()),
-        ),
-        (
-            "a run of two halves over heaps",
-            table::halves::<HeapReady>(rt.alloc()),
-        ),
-        (
-            "a run of logs over heaps",
-            table::script::<HeapReady>(rt.alloc()),
-        ),
-        ("enter of a book of lags", lag::enter(rt.alloc())),
-        ("a new board", board::new(rt.alloc())),
-        ("desks of a board", board::desks(rt.alloc())),
-        ("publish of a desk", board::publish(rt.alloc())),
-        ("look of a desk", board::look(rt.alloc())),
-        ("refresh of a desk", board::refresh(rt.alloc())),
-        ("meet of two desks", board::meet(rt.alloc())),
+    let of_maps = of_maps(rt.alloc());
+    let of_ready = of_ready(rt.alloc());
+    let of_replicas = of_replicas(rt.alloc());
+    let of_boundaries = of_boundaries(rt.alloc());
+    let over_lists = over_lists(rt.alloc());
+    let over_heaps = over_heaps(rt.alloc());
+    let of_books_and_boards = of_books_and_boards(rt.alloc());
+    let groups = [
+        of_maps.as_slice(),
+        of_ready.as_slice(),
+        of_replicas.as_slice(),
+        of_boundaries.as_slice(),
+        over_lists.as_slice(),
+        over_heaps.as_slice(),
+        of_books_and_boards.as_slice(),
     ];
+    for looks in groups {
+        let status = told(&rt, looks);
+        if status != 0 {
+            return ExitCode::from(status);
+        }
+    }
+    ExitCode::SUCCESS
+}
+
+// Says in a line each what was looked at, up to the first that was not as promised. The status with
+// which the program ends for these looks.
+fn told(rt: &HostRuntime, looks: &[Named]) -> u8 {
     for (what, look) in looks {
         match look {
             Ok(true) => {
@@ -163,13 +64,149 @@ fn main(rt: HostRuntime) -> ExitCode {
             }
             Ok(false) => {
                 let _ = println!(rt; "{what}: NOT as promised");
-                return ExitCode::from(1);
+                return 1;
             }
             Err(_) => {
                 let _ = println!(rt; "{what}: no memory to look");
-                return ExitCode::from(4);
+                return 4;
             }
         }
     }
-    ExitCode::SUCCESS
+    0
+}
+
+fn of_maps(alloc: Global) -> [Named; 4] {
+    [
+        ("join of maps three deep", lattice::join_three_deep(alloc)),
+        ("put of a missing key", lattice::put_missing_key(alloc)),
+        ("put at a key that is there", lattice::put_shared_key(alloc)),
+        ("copy of maps three deep", lattice::copy_three_deep(alloc)),
+    ]
+}
+
+fn of_ready(alloc: Global) -> [Named; 4] {
+    [
+        (
+            "insert of a plain ready list",
+            ready::insert::<PlainReady>(alloc),
+        ),
+        (
+            "take_first of a plain ready list",
+            ready::take_first::<PlainReady>(alloc),
+        ),
+        ("insert of a ready heap", ready::insert::<HeapReady>(alloc)),
+        (
+            "take_first of a ready heap",
+            ready::take_first::<HeapReady>(alloc),
+        ),
+    ]
+}
+
+fn of_replicas(alloc: Global) -> [Named; 6] {
+    [
+        ("take of a replica", replica::take(alloc)),
+        ("merge of two halves", replica::merge(alloc)),
+        (
+            "merge that tears and fills a gap",
+            replica::merge_torn(alloc),
+        ),
+        ("copy of a replica", replica::copy(alloc)),
+        ("faults of a replica", replica::faults(alloc)),
+        ("what is said at a slot", replica::said(alloc)),
+    ]
+}
+
+fn of_boundaries(alloc: Global) -> [Named; 7] {
+    [
+        ("boundary of four arrivals", admission::four_arrivals(alloc)),
+        ("boundaries of a leaver", admission::leaver(alloc)),
+        (
+            "boundary of a task that leaves at once",
+            admission::at_once(alloc),
+        ),
+        (
+            "boundaries of a leaver that is named again",
+            admission::refused_leaver(alloc),
+        ),
+        (
+            "boundaries of a late release",
+            admission::late_release(alloc),
+        ),
+        (
+            "boundary of refused arrivals",
+            admission::refused_arrivals(alloc),
+        ),
+        (
+            "boundaries of an early release",
+            admission::early_release(alloc),
+        ),
+    ]
+}
+
+fn over_lists(alloc: Global) -> [Named; 8] {
+    [
+        ("plans over plain lists", table::plans::<PlainReady>(alloc)),
+        (
+            "reopening over plain lists",
+            table::reopen::<PlainReady>(alloc),
+        ),
+        ("taking over plain lists", table::take::<PlainReady>(alloc)),
+        (
+            "absorbing over plain lists",
+            table::absorb::<PlainReady>(alloc),
+        ),
+        (
+            "a second content over plain lists",
+            table::tear::<PlainReady>(alloc),
+        ),
+        (
+            "a run of events over plain lists",
+            table::events::<PlainReady>(alloc),
+        ),
+        (
+            "a run of two halves over plain lists",
+            table::halves::<PlainReady>(alloc),
+        ),
+        (
+            "a run of logs over plain lists",
+            table::script::<PlainReady>(alloc),
+        ),
+    ]
+}
+
+fn over_heaps(alloc: Global) -> [Named; 8] {
+    [
+        ("plans over heaps", table::plans::<HeapReady>(alloc)),
+        ("reopening over heaps", table::reopen::<HeapReady>(alloc)),
+        ("taking over heaps", table::take::<HeapReady>(alloc)),
+        ("absorbing over heaps", table::absorb::<HeapReady>(alloc)),
+        (
+            "a second content over heaps",
+            table::tear::<HeapReady>(alloc),
+        ),
+        (
+            "a run of events over heaps",
+            table::events::<HeapReady>(alloc),
+        ),
+        (
+            "a run of two halves over heaps",
+            table::halves::<HeapReady>(alloc),
+        ),
+        (
+            "a run of logs over heaps",
+            table::script::<HeapReady>(alloc),
+        ),
+    ]
+}
+
+fn of_books_and_boards(alloc: Global) -> [Named; 7] {
+    [
+        ("enter of a book of lags", lag::enter(alloc)),
+        ("a new board", board::new(alloc)),
+        ("desks of a board", board::desks(alloc)),
+        ("publish of a desk", board::publish(alloc)),
+        ("look of a desk", board::look(alloc)),
+        ("refresh of a desk", board::refresh(alloc)),
+        ("meet of two desks", board::meet(alloc)),
+    ]
 }

@@ -1,4 +1,5 @@
 //! Insertions and selections of a ready structure.
+ghost use Rattle.std.specs.Prelude.{◌≡◌};
 
 use crate::Look;
 use pfair_order::Key;
@@ -19,10 +20,13 @@ fn key(d: u64, letter: u8) -> Option<Key> {
 
 /// A key that is new. After want of memory nothing has changed, and it is inserted once more.
 pub(crate) fn insert<R: Ready>(alloc: Global) -> Look {
+    insert_into(&mut R::new(alloc))
+}
+
+fn insert_into<R: Ready>(ready: &mut R) -> Look {
     let (Some(a), Some(b)) = (key(4, b'a'), key(3, b'b')) else {
         return Ok(false);
     };
-    let mut ready = R::new(alloc);
     ready.insert(3, a)?;
     if ready.insert(0, b).is_err() {
         let is_unchanged = ready.held(&b.name).is_none()
@@ -39,10 +43,15 @@ pub(crate) fn insert<R: Ready>(alloc: Global) -> Look {
 /// A selection of one key of two that are released. After want of memory all is held still and the
 /// slot has moved; then it is made once more.
 pub(crate) fn take_first<R: Ready>(alloc: Global) -> Look {
+    take_first_of(&mut R::new(alloc))
+}
+
+fn take_first_of<R: Ready>(ready: &mut R) -> Look
+    requires { R.now ready.old ≡ 0 }
+{
     let (Some(a), Some(b), Some(c)) = (key(4, b'a'), key(3, b'b'), key(5, b'c')) else {
         return Ok(false);
     };
-    let mut ready = R::new(alloc);
     ready.insert(3, a)?;
     ready.insert(0, b)?;
     ready.insert(2, c)?;

@@ -9,13 +9,19 @@ use std::alloc::{AllocError, Global};
 /// A replica that holds those of the ten entries whose numbers are odd, or even, or all of them.
 pub(crate) fn holding(alloc: Global, odd: bool, even: bool) -> Result<Replica, AllocError> {
     let mut replica = Replica::new(alloc, 2, 5)?;
+    take_some(&mut replica, odd, even)?;
+    Ok(replica)
+}
+
+// Takes those of the ten entries whose numbers are odd, or even, or all of them.
+fn take_some(replica: &mut Replica, odd: bool, even: bool) -> Result<(), AllocError> {
     for (processor, number, entry) in ten().ok_or(AllocError)? {
         let is_wanted = if number % 2 == 1 { odd } else { even };
         if is_wanted && replica.take(processor, number, entry) == Err(TakeFault::Memory) {
             return Err(AllocError);
         }
     }
-    Ok(replica)
+    Ok(())
 }
 
 /// Whether each holds what the other does.
@@ -66,13 +72,17 @@ fn first_torn_in(replica: &Replica, processor: u8) -> Option<EntryKey> {
 
 /// An entry that is new. After want of memory it isn't held, and is taken once more.
 pub(crate) fn take(alloc: Global) -> Look {
+    let empty = Replica::new(alloc, 2, 5)?;
+    let mut replica = Replica::new(alloc, 2, 5)?;
+    take_into(&mut replica, &empty)
+}
+
+fn take_into(replica: &mut Replica, empty: &Replica) -> Look {
     let Some(entry) = quiet(3) else {
         return Ok(false);
     };
-    let empty = Replica::new(alloc, 2, 5)?;
-    let mut replica = Replica::new(alloc, 2, 5)?;
     if replica.take(1, 4, entry) == Err(TakeFault::Memory) {
-        if replica.get(1, 4).is_some() || !are_equal(&replica, &empty) || !are_counted(&replica) {
+        if replica.get(1, 4).is_some() || !are_equal(replica, empty) || !are_counted(replica) {
             return Ok(false);
         }
         if replica.take(1, 4, entry) != Ok(Taken::New) {
@@ -82,7 +92,7 @@ pub(crate) fn take(alloc: Global) -> Look {
     Ok(
         replica.get(1, 4) == Some(Flat::One(entry))
             && replica.take(1, 4, entry) == Ok(Taken::Known)
-            && are_counted(&replica),
+            && are_counted(replica),
     )
 }
 
@@ -90,38 +100,54 @@ pub(crate) fn take(alloc: Global) -> Look {
 /// is merged once more.
 pub(crate) fn merge(alloc: Global) -> Look {
     let whole = holding(alloc, true, true)?;
+    merge_up_to(alloc, &whole)
+}
+
+fn merge_up_to(alloc: Global, whole: &Replica) -> Look {
     let old = holding(alloc, true, false)?;
     let other = holding(alloc, false, true)?;
+    merge_between(alloc, &old, &other, whole)
+}
+
+fn merge_between(alloc: Global, old: &Replica, other: &Replica, whole: &Replica) -> Look {
     let mut now = holding(alloc, true, false)?;
-    if now.merge(&other) == Err(MergeFault::Memory) {
-        if !old.le(&now) || !now.le(&whole) || !are_counted(&now) {
+    merge_into(&mut now, old, other, whole)
+}
+
+fn merge_into(now: &mut Replica, old: &Replica, other: &Replica, whole: &Replica) -> Look {
+    if now.merge(other) == Err(MergeFault::Memory) {
+        if !old.le(now) || !now.le(whole) || !are_counted(now) {
             return Ok(false);
         }
-        if now.merge(&other).is_err() {
+        if now.merge(other).is_err() {
             return Err(AllocError);
         }
     }
-    Ok(are_equal(&now, &whole) && now.merge(&other).is_ok() && are_counted(&now))
+    Ok(are_equal(now, whole) && now.merge(other).is_ok() && are_counted(now))
 }
 
 /// A merge that tears, and one that fills a gap. After want of memory the counters are those of
 /// what is held then.
 pub(crate) fn merge_torn(alloc: Global) -> Look {
+    let mut other = holding(alloc, false, true)?;
+    let mut now = holding(alloc, true, false)?;
+    tear_and_merge(&mut now, &mut other)
+}
+
+fn tear_and_merge(now: &mut Replica, other: &mut Replica) -> Look {
     let Some(other_entry) = quiet(6) else {
         return Ok(false);
     };
-    let mut other = holding(alloc, false, true)?;
     for (processor, number) in [(0, 1), (1, 3)] {
         if other.take(processor, number, other_entry) == Err(TakeFault::Memory) {
             return Err(AllocError);
         }
     }
-    let mut now = holding(alloc, true, false)?;
-    if now.merge(&other) == Err(MergeFault::Memory) {
-        if !are_counted(&now) {
+    if now.merge(other) == Err(MergeFault::Memory) {
+        if !are_counted(now) {
             return Ok(false);
         }
-        if now.merge(&other).is_err() {
+        if now.merge(other).is_err() {
             return Err(AllocError);
         }
     }
@@ -130,7 +156,7 @@ pub(crate) fn merge_torn(alloc: Global) -> Look {
         number: 1,
     };
     Ok(
-        are_counted(&now)
+        are_counted(now)
             && now.first_torn() == Some(first)
             && now.mark(0) == 0
             && now.sound_count(1) == 2,
@@ -141,18 +167,26 @@ pub(crate) fn merge_torn(alloc: Global) -> Look {
 pub(crate) fn copy(alloc: Global) -> Look {
     let replica = holding(alloc, true, true)?;
     let whole = holding(alloc, true, true)?;
+    Ok(is_copied(&replica, &whole))
+}
+
+fn is_copied(replica: &Replica, whole: &Replica) -> bool {
     match replica.copy() {
-        Ok(copy) => Ok(are_equal(&copy, &whole) && are_counted(&copy)),
-        Err(_) => Ok(are_equal(&replica, &whole)),
+        Ok(copy) => are_equal(&copy, whole) && are_counted(&copy),
+        Err(_) => are_equal(replica, whole),
     }
 }
 
 /// The faults of a replica with a torn key and a fallen floor, and what is said at a slot.
 pub(crate) fn faults(alloc: Global) -> Look {
+    let mut replica = Replica::new(alloc, 2, 5)?;
+    faults_of(&mut replica)
+}
+
+fn faults_of(replica: &mut Replica) -> Look {
     let (Some(low), Some(high)) = (quiet(4), quiet(5)) else {
         return Ok(false);
     };
-    let mut replica = Replica::new(alloc, 2, 5)?;
     for (processor, number, entry) in [(0, 1, high), (0, 2, low), (1, 3, low), (1, 3, high)] {
         if replica.take(processor, number, entry) == Err(TakeFault::Memory) {
             return Err(AllocError);
@@ -175,11 +209,15 @@ pub(crate) fn faults(alloc: Global) -> Look {
 /// What is said at slot 0: three arrivals.
 pub(crate) fn said(alloc: Global) -> Look {
     let replica = holding(alloc, true, true)?;
+    Ok(is_said(&replica))
+}
+
+fn is_said(replica: &Replica) -> bool {
     match replica.agenda() {
         Ok(agenda) => {
             let heard = agenda.at(0);
-            Ok(heard.len() == 3 && heard.iter().all(|one| one.number < 3))
+            heard.len() == 3 && heard.iter().all(|one| one.number < 3)
         }
-        Err(_) => Ok(replica.frontier() == 6),
+        Err(_) => replica.frontier() == 6,
     }
 }

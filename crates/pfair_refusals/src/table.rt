@@ -15,12 +15,18 @@ use std::alloc::{AllocError, Global};
 fn told<R: Ready>(alloc: Global) -> Result<Dispatcher<R>, AllocError> {
     let settings = Settings::new(2, 6, 6).ok_or(AllocError)?;
     let mut dispatcher = Dispatcher::new(alloc, settings, 20)?;
+    tell(&mut dispatcher)?;
+    Ok(dispatcher)
+}
+
+// Tells a dispatcher the ten entries.
+fn tell<R: Ready>(dispatcher: &mut Dispatcher<R>) -> Result<(), AllocError> {
     for (processor, number, entry) in ten().ok_or(AllocError)? {
         if dispatcher.take(processor, number, entry) == Err(TakeFault::Memory) {
             return Err(AllocError);
         }
     }
-    Ok(dispatcher)
+    Ok(())
 }
 
 // Reopens, once more where memory is wanted: plans are then spent still, and what was planned
@@ -80,12 +86,17 @@ fn plans_rest<R: Ready>(dispatcher: &mut Dispatcher<R>) -> Look {
 // A dispatcher that holds the ten entries, and has planned three slots.
 fn half_planned<R: Ready>(alloc: Global) -> Result<Dispatcher<R>, AllocError> {
     let mut dispatcher = told(alloc)?;
+    plan_three(&mut dispatcher)?;
+    Ok(dispatcher)
+}
+
+fn plan_three<R: Ready>(dispatcher: &mut Dispatcher<R>) -> Result<(), AllocError> {
     for _ in 0..3 {
         if dispatcher.plan_next().is_err() {
             return Err(AllocError);
         }
     }
-    Ok(dispatcher)
+    Ok(())
 }
 
 /// Plans of all six slots, each once more after it wanted memory.
@@ -97,94 +108,117 @@ pub(crate) fn plans<R: Ready>(alloc: Global) -> Look {
 /// Reopening after three slots. After want of memory plans are spent, and it is reopened once more.
 pub(crate) fn reopen<R: Ready>(alloc: Global) -> Look {
     let mut dispatcher: Dispatcher<R> = half_planned(alloc)?;
-    if !reopens(&mut dispatcher, 3).ok_or(AllocError)? {
+    reopens_and_plans(&mut dispatcher)
+}
+
+fn reopens_and_plans<R: Ready>(dispatcher: &mut Dispatcher<R>) -> Look {
+    if !reopens(dispatcher, 3).ok_or(AllocError)? {
         return Ok(false);
     }
-    plans_rest(&mut dispatcher)
+    plans_rest(dispatcher)
 }
 
 /// Entries that come after three slots are planned. After want of memory nothing has changed, and
 /// the entry is taken once more.
 pub(crate) fn take<R: Ready>(alloc: Global) -> Look {
-    let Some(entry) = quiet(6) else {
-        return Ok(false);
-    };
     let mut dispatcher: Dispatcher<R> = half_planned(alloc)?;
+    takes(&mut dispatcher)
+}
+
+fn takes<R: Ready>(dispatcher: &mut Dispatcher<R>) -> Look {
     let mut twin = dispatcher.replica().copy()?;
+    takes_like(dispatcher, &mut twin)
+}
+
+// The dispatcher takes what its twin takes, and plans the rest.
+fn takes_like<R: Ready>(dispatcher: &mut Dispatcher<R>, twin: &mut Replica) -> Look {
     for number in 6..=20 {
-        let mut taken = dispatcher.take(0, number, entry);
-        if taken == Err(TakeFault::Memory) {
-            let stands = are_equal(dispatcher.replica(), &twin)
-                && are_counted(dispatcher.replica())
-                && is_planned(&dispatcher, 3);
-            if !stands {
-                return Ok(false);
-            }
-            taken = dispatcher.take(0, number, entry);
-        }
-        if taken == Err(TakeFault::Memory)
-            || twin.take(0, number, entry) == Err(TakeFault::Memory)
-        {
-            return Err(AllocError);
-        }
-        if taken != Ok(Taken::New) || !are_equal(dispatcher.replica(), &twin) {
+        if !takes_one(dispatcher, twin, number)? {
             return Ok(false);
         }
     }
-    plans_rest(&mut dispatcher)
+    plans_rest(dispatcher)
+}
+
+fn takes_one<R: Ready>(dispatcher: &mut Dispatcher<R>, twin: &mut Replica, number: u32) -> Look {
+    let Some(entry) = quiet(6) else {
+        return Ok(false);
+    };
+    let mut taken = dispatcher.take(0, number, entry);
+    if taken == Err(TakeFault::Memory) {
+        let stands = are_equal(dispatcher.replica(), twin)
+            && are_counted(dispatcher.replica())
+            && is_planned(dispatcher, 3);
+        if !stands {
+            return Ok(false);
+        }
+        taken = dispatcher.take(0, number, entry);
+    }
+    if taken == Err(TakeFault::Memory) || twin.take(0, number, entry) == Err(TakeFault::Memory) {
+        return Err(AllocError);
+    }
+    Ok(taken == Ok(Taken::New) && are_equal(dispatcher.replica(), twin))
 }
 
 /// A dispatcher that takes in what another holds. After want of memory it holds a part of it, and
 /// takes it in once more; then it plans all.
 pub(crate) fn absorb<R: Ready>(alloc: Global) -> Look {
     let whole: Dispatcher<R> = told(alloc)?;
+    absorb_all_of::<R>(alloc, whole.replica())
+}
+
+fn absorb_all_of<R: Ready>(alloc: Global, whole: &Replica) -> Look {
     let settings = Settings::new(2, 6, 6).ok_or(AllocError)?;
     let mut dispatcher: Dispatcher<R> = Dispatcher::new(alloc, settings, 20)?;
-    if dispatcher.absorb(whole.replica()) == Err(MergeFault::Memory) {
-        let stands = dispatcher.replica().le(whole.replica())
+    absorbs(&mut dispatcher, whole)
+}
+
+fn absorbs<R: Ready>(dispatcher: &mut Dispatcher<R>, whole: &Replica) -> Look {
+    if dispatcher.absorb(whole) == Err(MergeFault::Memory) {
+        let stands = dispatcher.replica().le(whole)
             && are_counted(dispatcher.replica())
             && dispatcher.next_slot() == 0;
         if !stands {
             return Ok(false);
         }
-        if dispatcher.absorb(whole.replica()).is_err() {
+        if dispatcher.absorb(whole).is_err() {
             return Err(AllocError);
         }
     }
-    if !are_equal(dispatcher.replica(), whole.replica()) {
+    if !are_equal(dispatcher.replica(), whole) {
         return Ok(false);
     }
-    plans_rest(&mut dispatcher)
+    plans_rest(dispatcher)
 }
 
 /// A second content of an entry stops plans and reopening, also those of a dispatcher that is
 /// spent; what was planned stands.
 pub(crate) fn tear<R: Ready>(alloc: Global) -> Look {
-    let Some(other) = quiet(6) else {
-        return Ok(false);
-    };
     let mut dispatcher: Dispatcher<R> = half_planned(alloc)?;
+    Ok(tears(&mut dispatcher))
+}
+
+fn tears<R: Ready>(dispatcher: &mut Dispatcher<R>) -> bool {
+    let Some(other) = quiet(6) else {
+        return false;
+    };
     let slots = match dispatcher.plan_next() {
         Ok(Step::Planned { slot: 3 }) => 4,
         Err(PlanFault::Memory) if dispatcher.plan_next() == Err(PlanFault::Spent) => 3,
-        _ => return Ok(false),
+        _ => return false,
     };
     let torn = PlanFault::Torn(EntryKey {
         processor: 0,
         number: 1,
     });
-    Ok(
-        dispatcher.take(0, 1, other) == Ok(Taken::Torn)
-            && dispatcher.plan_next() == Err(torn)
-            && dispatcher.reopen() == Err(torn)
-            && is_planned(&dispatcher, slots),
-    )
+    dispatcher.take(0, 1, other) == Ok(Taken::Torn)
+        && dispatcher.plan_next() == Err(torn)
+        && dispatcher.reopen() == Err(torn)
+        && is_planned(dispatcher, slots)
 }
 
-/// The run of ten events and as many plans as there are slots.
-pub(crate) fn events<R: Ready>(alloc: Global) -> Look {
-    let settings = Settings::new(2, 6, 6).ok_or(AllocError)?;
-    let mut events = Vec::new(alloc);
+// The coming of each of the ten entries.
+fn push_ten(events: &mut Vec<Event>) -> Result<(), AllocError> {
     for (processor, number, entry) in ten().ok_or(AllocError)? {
         events.push(Event::Take {
             processor,
@@ -192,33 +226,81 @@ pub(crate) fn events<R: Ready>(alloc: Global) -> Look {
             entry,
         })?;
     }
+    Ok(())
+}
+
+// As many plans as there are slots.
+fn push_plans(events: &mut Vec<Event>) -> Result<(), AllocError> {
     for _ in TABLES {
         events.push(Event::Plan)?;
     }
-    let dispatcher: Dispatcher<R> = run_events(alloc, settings, 5, &events)?;
+    Ok(())
+}
+
+/// The run of ten events and as many plans as there are slots.
+pub(crate) fn events<R: Ready>(alloc: Global) -> Look {
+    run_ten::<R>(alloc, &mut Vec::new(alloc))
+}
+
+fn run_ten<R: Ready>(alloc: Global, events: &mut Vec<Event>) -> Look {
+    push_ten(events)?;
+    push_plans(events)?;
+    let settings = Settings::new(2, 6, 6).ok_or(AllocError)?;
+    let dispatcher: Dispatcher<R> = run_events(alloc, settings, 5, events)?;
     Ok(is_planned(&dispatcher, 6))
 }
 
-/// The run in which two halves of the ten entries come one after the other, among events that are
-/// refused.
-pub(crate) fn halves<R: Ready>(alloc: Global) -> Look {
-    let settings = Settings::new(2, 6, 6).ok_or(AllocError)?;
+// The coming of what a replica holds of the ten entries.
+fn push_half(
+    alloc: Global,
+    events: &mut Vec<Event>,
+    odd: bool,
+    even: bool,
+) -> Result<(), AllocError> {
+    let half = holding(alloc, odd, even)?;
+    events.push(Event::Absorb(half))?;
+    Ok(())
+}
+
+// The coming of a replica with other room, which is refused.
+fn push_stranger(alloc: Global, events: &mut Vec<Event>) -> Result<(), AllocError> {
+    let stranger = Replica::new(alloc, 2, 6)?;
+    events.push(Event::Absorb(stranger))?;
+    Ok(())
+}
+
+// The coming of two halves of the ten entries, among events that are refused, and plans.
+fn push_halves(alloc: Global, events: &mut Vec<Event>) -> Result<(), AllocError> {
     let entry = quiet(0).ok_or(AllocError)?;
-    let mut events = Vec::new(alloc);
-    events.push(Event::Absorb(holding(alloc, true, false)?))?;
+    push_half(alloc, events, true, false)?;
     events.push(Event::Take {
         processor: 2,
         number: 1,
         entry,
     })?;
-    events.push(Event::Absorb(Replica::new(alloc, 2, 6)?))?;
+    push_stranger(alloc, events)?;
     events.push(Event::Plan)?;
-    events.push(Event::Absorb(holding(alloc, false, true)?))?;
-    for _ in TABLES {
-        events.push(Event::Plan)?;
-    }
-    let dispatcher: Dispatcher<R> = run_events(alloc, settings, 5, &events)?;
-    Ok(is_planned(&dispatcher, 6) && are_equal(dispatcher.replica(), &holding(alloc, true, true)?))
+    push_half(alloc, events, false, true)?;
+    push_plans(events)
+}
+
+/// The run in which two halves of the ten entries come one after the other, among events that are
+/// refused.
+pub(crate) fn halves<R: Ready>(alloc: Global) -> Look {
+    run_halves::<R>(alloc, &mut Vec::new(alloc))
+}
+
+fn run_halves<R: Ready>(alloc: Global, events: &mut Vec<Event>) -> Look {
+    push_halves(alloc, events)?;
+    let settings = Settings::new(2, 6, 6).ok_or(AllocError)?;
+    let dispatcher: Dispatcher<R> = run_events(alloc, settings, 5, events)?;
+    has_whole(alloc, &dispatcher)
+}
+
+// Whether all slots are planned, and all ten entries held.
+fn has_whole<R: Ready>(alloc: Global, dispatcher: &Dispatcher<R>) -> Look {
+    let whole = holding(alloc, true, true)?;
+    Ok(is_planned(dispatcher, 6) && are_equal(dispatcher.replica(), &whole))
 }
 
 // The logs of the two processors.
@@ -244,9 +326,13 @@ pub(crate) fn script<R: Ready>(alloc: Global) -> Look {
     let Ok(script) = Script::new(settings, logs(alloc)?) else {
         return Ok(false);
     };
-    let run: Result<Dispatcher<R>, ScriptFault> = run_script(alloc, &script);
+    Ok(is_run::<R>(alloc, &script))
+}
+
+fn is_run<R: Ready>(alloc: Global, script: &Script) -> bool {
+    let run: Result<Dispatcher<R>, ScriptFault> = run_script(alloc, script);
     match run {
-        Ok(dispatcher) => Ok(is_planned(&dispatcher, 6)),
-        Err(fault) => Ok(fault == ScriptFault::Memory),
+        Ok(dispatcher) => is_planned(&dispatcher, 6),
+        Err(fault) => fault == ScriptFault::Memory,
     }
 }
