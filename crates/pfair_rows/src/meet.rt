@@ -17,9 +17,20 @@ fn meeting(
     other: &str,
 ) -> Result<Vec<Event>, AllocError> {
     let mut all = events(rt, alloc, mine)?;
-    all.push(Event::Absorb(held(rt, alloc, MACHINE, other)?))?;
-    extend(rt, alloc, &mut all, "plan 1")?;
+    meet(rt, alloc, &mut all, other)?;
     Ok(all)
+}
+
+// Puts the coming of what the other one holds behind the events, and a plan.
+fn meet(
+    rt: &impl Abort,
+    alloc: Global,
+    all: &mut Vec<Event>,
+    other: &str,
+) -> Result<(), AllocError> {
+    let held = held(rt, alloc, MACHINE, other)?;
+    all.push(Event::Absorb(held))?;
+    extend(rt, alloc, all, "plan 1")
 }
 
 // Asserts what a dispatcher answers and leaves that meets another one.

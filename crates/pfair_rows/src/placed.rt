@@ -15,8 +15,18 @@ fn assert_left<R: Ready>(
     places: &str,
 ) -> Result<(), AllocError> {
     let left: Dispatcher<R> = left_by(alloc, settings, events)?;
-    assert_eq!(rt; shown::places(alloc, &left)?.as_str(), places);
-    assert!(rt; left.places(left.next_slot()).is_none());
+    assert_placed(rt, alloc, &left, places)
+}
+
+fn assert_placed<R: Ready>(
+    rt: &impl Abort,
+    alloc: Global,
+    dispatcher: &Dispatcher<R>,
+    places: &str,
+) -> Result<(), AllocError> {
+    let found = shown::places(alloc, dispatcher)?;
+    assert_eq!(rt; found.as_str(), places);
+    assert!(rt; dispatcher.places(dispatcher.next_slot()).is_none());
     Ok(())
 }
 

@@ -27,20 +27,20 @@ fn happen<R: Ready>(
     }
 }
 
-// The events come to a dispatcher one after another; all answers, with commas between them.
-fn answers_of<R: Ready>(
-    alloc: Global,
+// The events come to a dispatcher one after another; all answers go behind the text, with commas
+// between them.
+fn happen_all<R: Ready>(
     dispatcher: &mut Dispatcher<R>,
     events: &[Event],
-) -> Result<String, AllocError> {
-    let mut text = String::new(alloc);
+    text: &mut String,
+) -> Result<(), AllocError> {
     for (place, event) in events.iter().enumerate() {
         if place > 0 {
             text.push_str(", ")?;
         }
-        happen(dispatcher, event, &mut text)?;
+        happen(dispatcher, event, text)?;
     }
-    Ok(text)
+    Ok(())
 }
 
 /// The settings of a machine.
@@ -76,8 +76,34 @@ pub(crate) fn assert_planned<R: Ready>(
     tables: &str,
     decisions: &str,
 ) -> Result<(), AllocError> {
-    assert_eq!(rt; shown::tables(alloc, dispatcher)?.as_str(), tables);
-    assert_eq!(rt; shown::decisions(alloc, dispatcher)?.as_str(), decisions);
+    assert_tables(rt, alloc, dispatcher, tables)?;
+    let found = shown::decisions(alloc, dispatcher)?;
+    assert_eq!(rt; found.as_str(), decisions);
+    Ok(())
+}
+
+fn assert_tables<R: Ready>(
+    rt: &impl Abort,
+    alloc: Global,
+    dispatcher: &Dispatcher<R>,
+    tables: &str,
+) -> Result<(), AllocError> {
+    let found = shown::tables(alloc, dispatcher)?;
+    assert_eq!(rt; found.as_str(), tables);
+    Ok(())
+}
+
+// Asserts what is answered to the events that come one by one.
+fn assert_answers<R: Ready>(
+    rt: &impl Abort,
+    alloc: Global,
+    dispatcher: &mut Dispatcher<R>,
+    events: &[Event],
+    answers: &str,
+) -> Result<(), AllocError> {
+    let mut text = String::new(alloc);
+    happen_all(dispatcher, events, &mut text)?;
+    assert_eq!(rt; text.as_str(), answers);
     Ok(())
 }
 
@@ -92,9 +118,28 @@ fn assert_stepped<R: Ready>(
     decisions: &str,
 ) -> Result<(), AllocError> {
     let mut dispatcher: Dispatcher<R> = new_dispatcher(alloc, settings)?;
-    let answered = answers_of(alloc, &mut dispatcher, events)?;
-    assert_eq!(rt; answered.as_str(), answers);
-    assert_planned(rt, alloc, &dispatcher, tables, decisions)
+    assert_steps(
+        rt,
+        alloc,
+        &mut dispatcher,
+        events,
+        answers,
+        tables,
+        decisions,
+    )
+}
+
+fn assert_steps<R: Ready>(
+    rt: &impl Abort,
+    alloc: Global,
+    dispatcher: &mut Dispatcher<R>,
+    events: &[Event],
+    answers: &str,
+    tables: &str,
+    decisions: &str,
+) -> Result<(), AllocError> {
+    assert_answers(rt, alloc, dispatcher, events, answers)?;
+    assert_planned(rt, alloc, dispatcher, tables, decisions)
 }
 
 // Asserts what `run_events` leaves.
@@ -151,6 +196,10 @@ pub(crate) fn held(
     events: &str,
 ) -> Result<Replica, AllocError> {
     let events = notation::events(rt, alloc, events)?;
-    let left: Dispatcher<HeapReady> = left_by(alloc, settings_of(rt, machine), &events)?;
+    held_after(alloc, settings_of(rt, machine), &events)
+}
+
+fn held_after(alloc: Global, settings: Settings, events: &[Event]) -> Result<Replica, AllocError> {
+    let left: Dispatcher<HeapReady> = left_by(alloc, settings, events)?;
     left.replica().copy()
 }

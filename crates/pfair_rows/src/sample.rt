@@ -44,9 +44,19 @@ fn merged(
     second: &str,
 ) -> Result<Replica, AllocError> {
     let mut merged = held(rt, alloc, MACHINE, first)?;
-    let other = held(rt, alloc, MACHINE, second)?;
-    assert!(rt; merged.merge(&other).is_ok());
+    merge(rt, alloc, &mut merged, second)?;
     Ok(merged)
+}
+
+fn merge(
+    rt: &impl Abort,
+    alloc: Global,
+    replica: &mut Replica,
+    text: &str,
+) -> Result<(), AllocError> {
+    let other = held(rt, alloc, MACHINE, text)?;
+    assert!(rt; replica.merge(&other).is_ok());
+    Ok(())
 }
 
 // Puts the coming of what a dispatcher holds behind the events.
@@ -70,13 +80,29 @@ fn two_halves(
     second: &str,
 ) -> Result<Vec<Event>, AllocError> {
     let mut events = Vec::new(alloc);
-    absorb(rt, alloc, &mut events, first)?;
+    push_halves(rt, alloc, &mut events, first, second)?;
+    Ok(events)
+}
+
+fn push_halves(
+    rt: &impl Abort,
+    alloc: Global,
+    events: &mut Vec<Event>,
+    first: &str,
+    second: &str,
+) -> Result<(), AllocError> {
+    absorb(rt, alloc, events, first)?;
+    push_stranger(alloc, events)?;
+    extend(rt, alloc, events, "plan 1")?;
+    absorb(rt, alloc, events, second)?;
+    extend(rt, alloc, events, "plan 7")
+}
+
+// Puts the coming of a replica with other room behind the events.
+fn push_stranger(alloc: Global, events: &mut Vec<Event>) -> Result<(), AllocError> {
     let stranger = Replica::new(alloc, 2, 1)?;
     events.push(Event::Absorb(stranger))?;
-    extend(rt, alloc, &mut events, "plan 1")?;
-    absorb(rt, alloc, &mut events, second)?;
-    extend(rt, alloc, &mut events, "plan 7")?;
-    Ok(events)
+    Ok(())
 }
 
 // Asserts what comes of a replica of five entries and then of one of the five others.
@@ -103,6 +129,23 @@ fn assert_whole(rt: &impl Abort, alloc: Global, replica: &Replica) -> Result<(),
     let whole = held(rt, alloc, MACHINE, FORWARD)?;
     assert!(rt; replica.le(&whole) && whole.le(replica));
     Ok(())
+}
+
+// Asserts that what a dispatcher holds that took these events is that.
+fn assert_held(rt: &impl Abort, alloc: Global, events: &str) -> Result<(), AllocError> {
+    let replica = held(rt, alloc, MACHINE, events)?;
+    assert_whole(rt, alloc, &replica)
+}
+
+// Asserts that the merge of what two dispatchers hold is that.
+fn assert_merged(
+    rt: &impl Abort,
+    alloc: Global,
+    first: &str,
+    second: &str,
+) -> Result<(), AllocError> {
+    let replica = merged(rt, alloc, first, second)?;
+    assert_whole(rt, alloc, &replica)
 }
 
 #[test]
@@ -144,10 +187,22 @@ fn in_two_halves(rt: HostRuntime) -> Result<(), AllocError> {
 
 #[test]
 fn as_one_replica(rt: HostRuntime) -> Result<(), AllocError> {
-    assert_whole(&rt, rt.alloc(), &held(&rt, rt.alloc(), MACHINE, BACKWARD)?)?;
-    assert_whole(&rt, rt.alloc(), &held(&rt, rt.alloc(), MACHINE, TWICE)?)?;
-    assert_whole(&rt, rt.alloc(), &merged(&rt, rt.alloc(), FIRST, SECOND)?)?;
-    assert_whole(&rt, rt.alloc(), &merged(&rt, rt.alloc(), SECOND, FIRST)?)
+    assert_held(&rt, rt.alloc(), BACKWARD)?;
+    assert_held(&rt, rt.alloc(), TWICE)?;
+    assert_merged(&rt, rt.alloc(), FIRST, SECOND)?;
+    assert_merged(&rt, rt.alloc(), SECOND, FIRST)
+}
+
+// Asserts the frontier of what a dispatcher holds that took these events.
+fn assert_frontier(
+    rt: &impl Abort,
+    alloc: Global,
+    events: &str,
+    frontier: u64,
+) -> Result<(), AllocError> {
+    let replica = held(rt, alloc, MACHINE, events)?;
+    assert_eq!(rt; replica.frontier(), frontier);
+    Ok(())
 }
 
 #[test]
@@ -163,7 +218,7 @@ fn with_a_gap(rt: HostRuntime) -> Result<(), AllocError> {
         "[b1 a1]",
         "[0.1 a admitted, 0.2 b admitted, 1.1 c admitted]",
     )?;
-    assert_eq!(rt; held(&rt, rt.alloc(), MACHINE, gap)?.frontier(), 1);
+    assert_frontier(&rt, rt.alloc(), gap, 1)?;
     assert_run(
         &rt,
         rt.alloc(),

@@ -3,7 +3,7 @@
 use pfair_admission::Decision;
 use pfair_ready::Ready;
 use pfair_replica::{MergeFault, TakeFault, Taken};
-use pfair_table::{Dispatcher, PlanFault, Step};
+use pfair_table::{Decided, Dispatcher, Pick, PlanFault, Step};
 use pfair_weight::TaskName;
 use std::alloc::{AllocError, Global};
 
@@ -22,17 +22,23 @@ pub(crate) fn tables<R: Ready>(
 ) -> Result<String, AllocError> {
     let mut text = String::new(alloc);
     for slot in 0..dispatcher.next_slot() {
-        text.push('[')?;
-        for (place, pick) in dispatcher.table(slot).unwrap_or(&[]).iter().enumerate() {
-            if place > 0 {
-                text.push(' ')?;
-            }
-            push_name(&mut text, &pick.name)?;
-            write!(text, "{}", pick.index)?;
-        }
-        text.push(']')?;
+        push_table(&mut text, dispatcher.table(slot).unwrap_or(&[]))?;
     }
     Ok(text)
+}
+
+// Puts a table behind the text, in brackets.
+fn push_table(text: &mut String, table: &[Pick]) -> Result<(), AllocError> {
+    text.push('[')?;
+    for (place, pick) in table.iter().enumerate() {
+        if place > 0 {
+            text.push(' ')?;
+        }
+        push_name(text, &pick.name)?;
+        write!(text, "{}", pick.index)?;
+    }
+    text.push(']')?;
+    Ok(())
 }
 
 /// The places of each slot that is planned, in brackets, as `[0 1][][1]`.
@@ -42,16 +48,22 @@ pub(crate) fn places<R: Ready>(
 ) -> Result<String, AllocError> {
     let mut text = String::new(alloc);
     for slot in 0..dispatcher.next_slot() {
-        text.push('[')?;
-        for (row, place) in dispatcher.places(slot).unwrap_or(&[]).iter().enumerate() {
-            if row > 0 {
-                text.push(' ')?;
-            }
-            write!(text, "{place}")?;
-        }
-        text.push(']')?;
+        push_places(&mut text, dispatcher.places(slot).unwrap_or(&[]))?;
     }
     Ok(text)
+}
+
+// Puts the places of a slot behind the text, in brackets.
+fn push_places(text: &mut String, places: &[u8]) -> Result<(), AllocError> {
+    text.push('[')?;
+    for (row, place) in places.iter().enumerate() {
+        if row > 0 {
+            text.push(' ')?;
+        }
+        write!(text, "{place}")?;
+    }
+    text.push(']')?;
+    Ok(())
 }
 
 // Puts what was decided behind the text, as `admitted`, `departing 3`, `delayed` or `refused 22`.
@@ -73,19 +85,25 @@ pub(crate) fn decisions<R: Ready>(
 ) -> Result<String, AllocError> {
     let mut text = String::new(alloc);
     for slot in 0..dispatcher.next_slot() {
-        text.push('[')?;
-        for (place, decided) in dispatcher.decisions(slot).unwrap_or(&[]).iter().enumerate() {
-            if place > 0 {
-                text.push_str(", ")?;
-            }
-            write!(text, "{}.{} ", decided.processor, decided.number)?;
-            push_name(&mut text, &decided.announcement.name())?;
-            text.push(' ')?;
-            push_decision(&mut text, decided.decision)?;
-        }
-        text.push(']')?;
+        push_decisions(&mut text, dispatcher.decisions(slot).unwrap_or(&[]))?;
     }
     Ok(text)
+}
+
+// Puts the decisions at a slot behind the text, in brackets.
+fn push_decisions(text: &mut String, decisions: &[Decided]) -> Result<(), AllocError> {
+    text.push('[')?;
+    for (place, decided) in decisions.iter().enumerate() {
+        if place > 0 {
+            text.push_str(", ")?;
+        }
+        write!(text, "{}.{} ", decided.processor, decided.number)?;
+        push_name(text, &decided.announcement.name())?;
+        text.push(' ')?;
+        push_decision(text, decided.decision)?;
+    }
+    text.push(']')?;
+    Ok(())
 }
 
 /// Puts what a take answers behind the text.

@@ -22,9 +22,9 @@ fn left_by<R: Ready>(
     run_events(alloc, settings, CAPACITY, events)
 }
 
-// Puts the coming of entries 200 to 1 of processor 0 behind the events, last first. They say
-// nothing, and their floors are 0.
-fn push_silent(rt: &impl Abort, events: &mut Vec<Event>) -> Result<(), AllocError> {
+// Puts the coming of entries 200 to 1 of processor 0 behind the events, last first, and five plans.
+// The entries say nothing, and their floors are 0.
+fn push_silent(rt: &impl Abort, alloc: Global, events: &mut Vec<Event>) -> Result<(), AllocError> {
     let entry = Entry::new(0, None).expect(rt, "an entry");
     for after in 0..200u32 {
         events.push(Event::Take {
@@ -33,7 +33,7 @@ fn push_silent(rt: &impl Abort, events: &mut Vec<Event>) -> Result<(), AllocErro
             entry,
         })?;
     }
-    Ok(())
+    extend(rt, alloc, events, "plan 5")
 }
 
 // Four announcements of slot 1, of which processor 0 makes two at the end of a long log.
@@ -43,14 +43,22 @@ fn long_log(rt: &impl Abort, alloc: Global) -> Result<Vec<Event>, AllocError> {
         alloc,
         "1 3 4; 1 2 1 1 depart b; 1 1 0 1 arrive a 1 4; 0 203 4; 0 202 1 1 arrive b 1 2; 0 201 1 1 arrive a 1 2",
     )?;
-    push_silent(rt, &mut all)?;
-    extend(rt, alloc, &mut all, "plan 5")?;
+    push_silent(rt, alloc, &mut all)?;
     Ok(all)
 }
 
 fn assert_long_log<R: Ready>(rt: &impl Abort, alloc: Global) -> Result<(), AllocError> {
     let all = long_log(rt, alloc)?;
-    let left: Dispatcher<R> = left_by(alloc, settings_of(rt, (2, 4, 4)), &all)?;
+    assert_left_by::<R>(rt, alloc, &all)
+}
+
+// Asserts what the events of the long log leave.
+fn assert_left_by<R: Ready>(
+    rt: &impl Abort,
+    alloc: Global,
+    events: &[Event],
+) -> Result<(), AllocError> {
+    let left: Dispatcher<R> = left_by(alloc, settings_of(rt, (2, 4, 4)), events)?;
     assert_planned(
         rt,
         alloc,
@@ -75,8 +83,10 @@ fn assert_alone(rt: &impl Abort, table: &[Pick], index: u64) {
     }
 }
 
-// Asserts the tables of a task that runs in every other slot.
+// Asserts the tables of a task that runs in every other of 5,003 slots.
 fn assert_every_other<R: Ready>(rt: &impl Abort, left: &Dispatcher<R>) {
+    assert_eq!(rt; left.next_slot(), 5003);
+    assert!(rt; left.table(5003).is_none());
     for slot in 0..5003u64 {
         let table = left.table(slot).expect(rt, "a table");
         if slot % 2 == 0 {
@@ -90,9 +100,7 @@ fn assert_every_other<R: Ready>(rt: &impl Abort, left: &Dispatcher<R>) {
 fn assert_long_run<R: Ready>(rt: &impl Abort, alloc: Global) -> Result<(), AllocError> {
     let all = events(rt, alloc, "0 1 0 0 arrive a 1 2; 0 2 5003; plan 5004")?;
     let left: Dispatcher<R> = left_by(alloc, settings_of(rt, (1, 2, 5003)), &all)?;
-    assert_eq!(rt; left.next_slot(), 5003);
     assert_every_other(rt, &left);
-    assert!(rt; left.table(5003).is_none());
     Ok(())
 }
 
@@ -122,11 +130,20 @@ const NAMES: [&str; 8] = [
 // The arrivals of so many processors.
 fn full_machine(rt: &impl Abort, alloc: Global, processors: u8) -> Result<Vec<Event>, AllocError> {
     let mut all = Vec::new(alloc);
-    for text in ARRIVALS.iter().take(processors as usize) {
-        extend(rt, alloc, &mut all, text)?;
-    }
-    extend(rt, alloc, &mut all, "plan 4")?;
+    push_arrivals(rt, alloc, &mut all, processors)?;
     Ok(all)
+}
+
+fn push_arrivals(
+    rt: &impl Abort,
+    alloc: Global,
+    all: &mut Vec<Event>,
+    processors: u8,
+) -> Result<(), AllocError> {
+    for text in ARRIVALS.iter().take(processors as usize) {
+        extend(rt, alloc, all, text)?;
+    }
+    extend(rt, alloc, all, "plan 4")
 }
 
 // Asserts that a table has a row for each of these names of a letter, in their order, with this
@@ -147,6 +164,15 @@ fn assert_in_place(rt: &impl Abort, places: &[u8], rows: usize) {
     }
 }
 
+// Asserts what a full machine has planned.
+fn assert_all_rows<R: Ready>(rt: &impl Abort, left: &Dispatcher<R>, names: &[u8]) {
+    assert_eq!(rt; left.next_slot(), 3);
+    for slot in 0..3u64 {
+        assert_rows(rt, left.table(slot).expect(rt, "a table"), names, slot + 1);
+        assert_in_place(rt, left.places(slot).expect(rt, "places"), names.len());
+    }
+}
+
 // Asserts what a full machine of so many processors plans.
 fn assert_full<R: Ready>(
     rt: &impl Abort,
@@ -156,11 +182,7 @@ fn assert_full<R: Ready>(
 ) -> Result<(), AllocError> {
     let all = full_machine(rt, alloc, processors)?;
     let left: Dispatcher<R> = left_by(alloc, settings_of(rt, (processors, 1, 3)), &all)?;
-    assert_eq!(rt; left.next_slot(), 3);
-    for slot in 0..3u64 {
-        assert_rows(rt, left.table(slot).expect(rt, "a table"), names, slot + 1);
-        assert_in_place(rt, left.places(slot).expect(rt, "places"), names.len());
-    }
+    assert_all_rows(rt, &left, names);
     Ok(())
 }
 
