@@ -1,16 +1,20 @@
 -- What is known of the text of a dispatcher that ran a file's script is known of the output of the file.
-use Rattle.std.proofs.Common.{ℕ, List, [], ◌∷◌, Option, None, Some, Result, Ok, Err, Bool, ◌≡◌, ◌<◌, ◌≤◌, inl, inr, refl, sym, ap, ◌∙◌, subst, arith, map, length, slice_get, slice_index_or}
-use Rattle.std.specs.Prelude.{IfErr, IfSome, IsErrAnd, min}
-use Rattle.std.specs.Io.KnownBytes.{Appends, Keeps}
+use Rattle.std.proofs.Common.{ℕ, List, [], ◌∷◌, Option, Some, Ok, Bool, ◌≡◌, ◌≢◌, ◌<◌, refl, sym, ap, ◌∙◌, subst, arith, map, length, slice_get, slice_index_or}
+use Rattle.std.proofs.lemmas.Option.{IfSome_then}
+use Rattle.std.specs.Prelude.{IfSome, Vec, min}
+use Rattle.std.specs.declared.alloc.Global.{Global}
 use Rattle.pfair_command.specs.Schedules.{IsScheduleOf}
+use Rattle.pfair_command.specs.declared.fault.ScheduleFault.{ScheduleFault}
 use Rattle.pfair_command.specs.declared.fault.ScheduleFault.TheVariants as schedule
+use Rattle.pfair_command.proofs.CommandFacts.{TakesOver}
 use Rattle.pfair.specs.declared.fault.ProgramFault.{ProgramFault}
-use Rattle.pfair.specs.declared.fault.ProgramFault.TheVariants.{Memory, WriteFailed}
-use Rattle.pfair.specs.Faults.{of_run}
+use Rattle.pfair.specs.declared.fault.ProgramFault.TheVariants.{Memory, Schedule, WriteFailed}
+use Rattle.pfair.specs.Faults.{of_run, of_schedule}
 use Rattle.pfair_replica.specs.Replica.{Replica, frontier, numbers_below}
 use Rattle.pfair_replica.specs.HeldRows.{replica_of}
 use Rattle.pfair_table.specs.Table.{Settings, decisions}
 use Rattle.pfair_table.specs.declared.pick.Decided.{Decided}
+use Rattle.pfair_table.specs.declared.pick.Pick.{Pick}
 use Rattle.pfair_table.specs.Script.{LoggedRun}
 use Rattle.pfair_table.specs.ScriptRun.{IsRunOf}
 use Rattle.pfair_board.specs.declared.run.RunFault.{RunFault}
@@ -18,27 +22,20 @@ use Rattle.pfair_board.specs.declared.run.RunFault.TheVariants as run
 use Rattle.pfair_board.specs.RunFaults.{IsRunFaultOf}
 use Rattle.pfair_table.specs.Refinement.{Dispatch}
 use Rattle.pfair_board.specs.declared.run.Run.{Run}
-use Rattle.pfair_table.specs.Planned.{as_places, as_tables}
+use Rattle.pfair_table.specs.Planned.{as_tables}
 use Rattle.pfair_output.specs.Replay.{placed_replay_text, placed_text, replay_text}
 use Rattle.pfair_output.specs.Decisions.{decisions_text}
 use Rattle.pfair_output.specs.Lags.{lags_text}
 use Rattle.pfair_file.specs.Documents.{script_of_file}
-use Rattle.pfair_text.specs.Input.{HasTaken}
-use Rattle.pfair_text.specs.Output.{TakesPrefix}
-use Rattle.pfair.specs.Runs.{IsCommandOf, IsFaultOfReplay, IsOutputOf, IsRefusalOf, IsWholeRun, replay_of_run, placed_replay_of_run, decisions_of_run, lags_of_run}
-
--- the bytes are known to hold a script that the dispatcher has run
-abbrev pub HasRun : Option (List ℕ) → Dispatch → Type 0
-HasRun o d = IfSome o (λ bytes. IsScheduleOf bytes d)
+use Rattle.pfair.specs.Runs.{IsFaultOfReplay, IsOutputOf, IsWholeRun, replay_of_run, placed_replay_of_run, decisions_of_run, lags_of_run}
 
 -- the text of a dispatcher is that of each script that it has run
 abbrev pub IsTextOf : (LoggedRun → List ℕ) → Dispatch → List ℕ → Type 0
 IsTextOf text d made = (run : LoggedRun) → IsRunOf run d → made ≡ text run
 
-pub output_of : (text : LoggedRun → List ℕ) (o : Option (List ℕ)) (d : Dispatch) (made : List ℕ) (P : List ℕ → Type 0)
-    → HasRun o d → IsTextOf text d made → P made → IfSome o (λ bytes. IsOutputOf text bytes P)
-output_of text None d made P has same p = tt
-output_of text (Some bytes) d made P (run, read, is) same p = (run, read, is.far_enough, subst P (same run is) p)
+pub output_of : {made shown : List ℕ} (text : LoggedRun → List ℕ) (given : Option (List ℕ)) (d : Dispatch) → IfSome given (λ bytes. IsScheduleOf bytes d) → IsTextOf text d made → shown ≡ made
+    → (P : List ℕ → Type 0) → P shown → IfSome given (λ bytes. IsOutputOf text bytes P)
+output_of text given d has same equal P p = IfSome_then given has (λ bytes (run, read, is). (run, read, is.far_enough, subst P (equal ∙ same run is) p))
 
 both : {A : Type 0} → (f : Settings → Replica → A) → {s s′ : Settings} → {x x′ : Replica} → s ≡ s′ → x ≡ x′ → f s x ≡ f s′ x′
 both f same equal = rw (same, equal) refl
@@ -55,34 +52,31 @@ lags_made d run is = both lags_text is.settings_are is.held_is
 
 -- the bytes are known to hold a script of which this is a dispatcher's run
 abbrev pub HasWholeRun : Option (List ℕ) → Run → Type 0
-HasWholeRun o made = IfSome o (λ bytes. (run : LoggedRun) × (script_of_file bytes ≡ Ok run) × IsWholeRun run made)
+HasWholeRun given first = IfSome given (λ bytes. (run : LoggedRun) × (script_of_file bytes ≡ Ok run) × IsWholeRun run first)
 
--- what is known of the text of a dispatcher's run is known of the output of the file
-pub output_of_whole : (text : LoggedRun → List ℕ) (o : Option (List ℕ)) (made : Run) (bytes : List ℕ) (P : List ℕ → Type 0)
-    → HasWholeRun o made → ((run : LoggedRun) → IsWholeRun run made → bytes ≡ text run) → P bytes → IfSome o (λ given. IsOutputOf text given P)
-output_of_whole text None made bytes P has same p = tt
-output_of_whole text (Some given) made bytes P (run, read, is) same p = (run, read, is.far_enough, subst P (same run is) p)
+pub is_whole : (given : Option (List ℕ)) (script : LoggedRun) (first : Run) → IfSome given (λ bytes. script_of_file bytes ≡ Ok script) → IsWholeRun script first → HasWholeRun given first
+is_whole given script first read is = IfSome_then given read (λ bytes same. (script, same, is))
 
-pub tables_made : (made : Run) (run : LoggedRun) → IsWholeRun run made → replay_text (as_tables made.tables) ≡ replay_of_run run
-tables_made made run is = ap replay_text is.tables
+-- what is known of the text of such a run is known of the output of the file
+pub output_of_whole : {made shown : List ℕ} (text : LoggedRun → List ℕ) (given : Option (List ℕ)) (first : Run) → HasWholeRun given first → ((run : LoggedRun) → IsWholeRun run first → made ≡ text run)
+    → shown ≡ made → (P : List ℕ → Type 0) → P shown → IfSome given (λ bytes. IsOutputOf text bytes P)
+output_of_whole text given first has same equal P p = IfSome_then given has (λ bytes (run, read, is). (run, read, is.far_enough, subst P (equal ∙ same run is) p))
 
-pub places_made : (made : Run) (run : LoggedRun) → IsWholeRun run made → placed_text (as_tables made.tables) (as_places made.places) ≡ placed_replay_of_run run
-places_made made run is = ap (placed_text (as_tables made.tables)) is.places ∙ ap placed_replay_text is.tables
+pub tables_made : (first : Run) {tables : List (Vec Pick Global)} → tables ≡ first.tables.items → (run : LoggedRun) → IsWholeRun run first → replay_text (map (λ t. t.items) tables) ≡ replay_of_run run
+tables_made first are run is = ap (λ (ts : List (Vec Pick Global)). replay_text (map (λ t. t.items) ts)) are ∙ ap replay_text is.tables
+
+pub places_made : (first : Run) {tables : List (Vec Pick Global)} {places : List (Vec ℕ Global)} → tables ≡ first.tables.items → places ≡ first.places.items → (run : LoggedRun) → IsWholeRun run first
+    → placed_text (map (λ t. t.items) tables) (map (λ p. p.items) places) ≡ placed_replay_of_run run
+places_made first {places = places} are places_are run is =
+    ap (λ (ts : List (Vec Pick Global)). placed_text (map (λ t. t.items) ts) (map (λ p. p.items) places)) are
+    ∙ ap (λ (ps : List (Vec ℕ Global)). placed_text (as_tables first.tables) (map (λ p. p.items) ps)) places_are
+    ∙ ap (placed_text (as_tables first.tables)) is.places
+    ∙ ap placed_replay_text is.tables
 
 -- the first of a list that isn't empty
 pub first_is : {A : Type 0} (xs : List A) (x : A) → 0 < length xs → x ≡ slice_index_or xs 0 x → slice_get xs 0 ≡ Some x
 first_is [] x some same = absurd (omega (arith, some))
 first_is (y ∷ ys) x some same = ap Some (sym same)
-
--- a script that was read and run is one of the bytes that were read
-pub is_whole : (o : Option (List ℕ)) (script : LoggedRun) (made : Run) → IfSome o (λ bytes. script_of_file bytes ≡ Ok script) → IsWholeRun script made → HasWholeRun o made
-is_whole None script made read is = tt
-is_whole (Some bytes) script made read is = (script, read, is)
-
--- what holds of the only fault holds of a fault
-pub err_is : {T : Type 0} (P : ProgramFault → Type 0) (r : Result T ProgramFault) (own : ProgramFault) → IsErrAnd r (λ e. e ≡ own) → P own → IfErr r P
-err_is P (Ok x) own is p = tt
-err_is P (Err e) own is p = subst P (sym is) p
 
 -- a run that isn't finished is a fault of a replay
 pub fault_of_replay : (may_give_up : Bool) (script : LoggedRun) (fault : RunFault) → IsRunFaultOf may_give_up script fault → IsFaultOfReplay may_give_up (of_run fault)
@@ -91,45 +85,19 @@ fault_of_replay may_give_up script run.GateGaveUp is = is
 fault_of_replay may_give_up script run.Astray is = tt
 fault_of_replay may_give_up script (run.Stalled slot) is = (schedule.Stalled slot, refl)
 
--- a fault that isn't of the file refuses no bytes
-refuses_nothing : (own e : ProgramFault) (given : Option (List ℕ)) → ((bytes : List ℕ) → IsRefusalOf bytes own) → e ≡ own → IfSome given (λ bytes. IsRefusalOf bytes e)
-refuses_nothing own e None always is = tt
-refuses_nothing own e (Some bytes) always is = subst (IsRefusalOf bytes) (sym is) (always bytes)
+-- the cause that a fault has
+abbrev cause_of : ProgramFault → ScheduleFault
+cause_of (Schedule cause) = cause
+cause_of fault = schedule.Memory
 
--- How a command ends that has taken no more than a file may have: well,
-module _ {T : Type 0} (text : LoggedRun → List ℕ) (IsFault : ProgramFault → Type 0) (given left before after : Option (List ℕ))
-    (few : HasTaken given left (λ n. n ≤ 67108864)) (most : HasTaken given left (λ n. n ≤ 67108865)) where
-  pub ends_well : (x : T) → IfSome given (λ bytes. IsOutputOf text bytes (Appends before after)) → IsCommandOf text IsFault (Ok x) given left before after
-  ends_well x made = record {
-    ok = made;
-    refused = tt;
-    taken = record { long = λ is. cc is; unread = λ is. few; within = few; within_fault = tt; most = most };
-    nothing = tt;
-    cut = λ is. cc is;
-    only = tt;
-  }
+pub unlike : WriteFailed ≢ Memory
+unlike same = cc same
 
-  -- by its writer,
-  pub ends_cut : (r : Result T ProgramFault) → IsErrAnd r (λ e. e ≡ WriteFailed) → IfSome given (λ bytes. IsOutputOf text bytes (TakesPrefix before after))
-      → IsCommandOf text IsFault r given left before after
-  ends_cut (Ok x) is made = absurd is
-  ends_cut (Err e) is made = record {
-    ok = tt;
-    refused = refuses_nothing WriteFailed e given (λ bytes. tt) is;
-    taken = record { long = λ same. cc (same, is); unread = λ same. few; within = tt; within_fault = λ short known. few; most = most };
-    nothing = λ other. absurd (other is);
-    cut = λ same. made;
-    only = inr is;
-  }
-
-  -- or by want of memory
-  pub ends_wanting : (r : Result T ProgramFault) → IsErrAnd r (λ e. e ≡ Memory) → Keeps before after → IsFault Memory → IsCommandOf text IsFault r given left before after
-  ends_wanting (Ok x) is kept wanting = absurd is
-  ends_wanting (Err e) is kept wanting = record {
-    ok = tt;
-    refused = refuses_nothing Memory e given (λ bytes. tt) is;
-    taken = record { long = λ same. cc (same, is); unread = λ same. few; within = tt; within_fault = λ short known. few; most = most };
-    nothing = λ other. kept;
-    cut = λ same. cc (same, is);
-    only = inl (subst IsFault (sym is) wanting);
-  }
+-- the program's faults take over those of a schedule
+abbrev pub takes_over : TakesOver of_schedule WriteFailed
+takes_over = record {
+  cause_of = cause_of;
+  same_cause = elim [ schedule.Stalled slot ↦ refl | schedule.File fault ↦ refl | schedule.FileTooLong ↦ refl | schedule.ReadFailed ↦ refl | schedule.Memory ↦ refl ];
+  no_cause = refl;
+  no_want = unlike;
+}

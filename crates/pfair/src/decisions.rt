@@ -1,6 +1,8 @@
 //! The command `decisions`: the admission decisions of a task file.
 
-ghost use Rattle.pfair.specs.Runs.{IsCommandOf, IsFaultOfRun, decisions_of_run};
+ghost use Rattle.pfair_command.specs.Commands.{IsCommandOf, IsFaultBy};
+ghost use Rattle.pfair.specs.Faults.{of_schedule};
+ghost use Rattle.pfair.specs.Runs.{IsOutputOf, decisions_of_run};
 
 use crate::fault::ProgramFault;
 use pfair_command::scheduled;
@@ -27,7 +29,8 @@ pub fn decisions<R: Read, W: Write>(
     reader: &mut R,
     writer: &mut W,
 ) -> Result<(), ProgramFault>
-    ensures { IsCommandOf decisions_of_run IsFaultOfRun result (R.remaining reader.old) (R.remaining reader.new) (W.contents writer.old) (W.contents writer.new) }
+    ensures { IsCommandOf of_schedule ProgramFault.WriteFailed (IsOutputOf decisions_of_run) (IsFaultBy of_schedule) result
+        (R.remaining reader.old) (R.remaining reader.new) (W.contents writer.old) (W.contents writer.new) }
 {
     let dispatcher = scheduled(alloc, reader)?;
     let text = decisions_of(alloc, &dispatcher)?;

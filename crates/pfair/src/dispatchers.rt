@@ -4,7 +4,9 @@ ghost use Rattle.std.specs.Prelude.{◌≡◌, Ok, IfErr, IfOk, IfSome};
 ghost use Rattle.pfair_text.specs.Input.{TakesOneFile};
 ghost use Rattle.pfair_table.specs.Script.{LoggedRun};
 ghost use Rattle.pfair_file.specs.Documents.{script_of_file};
-ghost use Rattle.pfair.specs.Runs.{IsFaultOfReplay, IsRefusalOf, IsWholeRun};
+ghost use Rattle.pfair_command.specs.Commands.{IsRefusalBy};
+ghost use Rattle.pfair.specs.Faults.{of_schedule};
+ghost use Rattle.pfair.specs.Runs.{IsFaultOfReplay, IsWholeRun};
 ghost use Rattle.pfair_command.specs.declared.fault.ScheduleFault.TheVariants.{FileTooLong, ReadFailed};
 ghost use Rattle.pfair.specs.declared.fault.ProgramFault.TheVariants.{Memory, Schedule};
 
@@ -25,7 +27,7 @@ pub(crate) fn first_run<P: Threads + Wait + Sync, R: Read, G: Gate + Sync>(
     gate: &G,
 ) -> Result<Run, ProgramFault>
     ensures ok { IfOk result (λ first. IfSome (R.remaining reader.old) (λ bytes. (run : LoggedRun) × (script_of_file bytes ≡ Ok run) × IsWholeRun run first)) }
-    ensures refused { IfErr result (λ e. IfSome (R.remaining reader.old) (λ bytes. IsRefusalOf bytes e)) }
+    ensures refused { IfErr result (λ e. IfSome (R.remaining reader.old) (λ bytes. IsRefusalBy of_schedule bytes e)) }
     ensures taken { TakesOneFile (Schedule FileTooLong) (Schedule ReadFailed) Memory result (R.remaining reader.old) (R.remaining reader.new) }
     ensures only { IfErr result (IsFaultOfReplay G.may_give_up) }
 {

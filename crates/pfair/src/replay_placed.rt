@@ -1,7 +1,9 @@
 //! The command `replay` with places: the tables of a task file, and the processor that runs each
 //! row.
 
-ghost use Rattle.pfair.specs.Runs.{IsCommandOf, IsFaultOfReplay, placed_replay_of_run};
+ghost use Rattle.pfair_command.specs.Commands.{IsCommandOf};
+ghost use Rattle.pfair.specs.Faults.{of_schedule};
+ghost use Rattle.pfair.specs.Runs.{IsFaultOfReplay, IsOutputOf, placed_replay_of_run};
 
 use crate::dispatchers::first_run;
 use crate::fault::ProgramFault;
@@ -31,7 +33,8 @@ pub fn replay_placed<P: Threads + Wait + Sync, R: Read, W: Write, G: Gate + Sync
     writer: &mut W,
     gate: &G,
 ) -> Result<(), ProgramFault>
-    ensures { IsCommandOf placed_replay_of_run (IsFaultOfReplay G.may_give_up) result (R.remaining reader.old) (R.remaining reader.new) (W.contents writer.old) (W.contents writer.new) }
+    ensures { IsCommandOf of_schedule ProgramFault.WriteFailed (IsOutputOf placed_replay_of_run) (IsFaultOfReplay G.may_give_up) result
+        (R.remaining reader.old) (R.remaining reader.new) (W.contents writer.old) (W.contents writer.new) }
 {
     let run = first_run(rt, alloc, reader, gate)?;
     let text = placed_replay_of(alloc, run.tables.as_slice(), run.places.as_slice())?;

@@ -1,17 +1,16 @@
 -- What a picture of a task file shows, and why none is drawn.
-use Rattle.std.specs.Prelude.{ℕ, List, length, ◌≡◌, Option, None, Some}
+use Rattle.std.specs.Prelude.{ℕ, List, length, ◌≡◌, ◌⊎◌, Option, None, Some}
 use Rattle.pfair_table.specs.Table.{Table}
 use Rattle.pfair_table.specs.declared.pick.Decided.{Decided}
 use Rattle.pfair_table.specs.Refinement.{Dispatch}
-use Rattle.pfair_command.specs.Schedules as schedules
+use Rattle.pfair_command.specs.Commands.{IsFaultBy}
 use Rattle.pfair_command.specs.Schedules.{IsScheduleOf}
-use Rattle.pfair_command.specs.declared.fault.ScheduleFault.{ScheduleFault}
 use Rattle.pfair_drawing.specs.declared.drawing.Drawing.{Drawing}
 use Rattle.pfair_drawing.specs.Lags.{AreLags}
 use Rattle.pfair_drawing.specs.Schedule.{AreRefused, IsSchedule}
 use Rattle.pfair_drawing.specs.Svg.{svg_text}
 use Rattle.pfair_picture.specs.declared.fault.ProgramFault.{ProgramFault}
-use Rattle.pfair_picture.specs.declared.fault.ProgramFault.TheVariants as program
+use Rattle.pfair_picture.specs.declared.fault.ProgramFault.TheVariants.{Slots}
 use Rattle.pfair_picture.specs.Faults.{of_schedule}
 use Rattle.pfair_picture.specs.declared.words.Picture.{Picture}
 use Rattle.pfair_picture.specs.declared.words.Picture.TheVariants.{Schedule, Lags}
@@ -46,11 +45,6 @@ IsOutputOf picture slots bytes P = (d : Dispatch) × IsScheduleOf bytes d × ((d
 abbrev pub AreSlotsRefused : Option (ℕ × ℕ) → List ℕ → Type 0
 AreSlotsRefused slots bytes = (d : Dispatch) × IsScheduleOf bytes d × AreRefused (first_of slots) (end_of slots (length d.tables)) (length d.tables)
 
--- what a fault says of the bytes that were read
-abbrev pub IsRefusalOf : List ℕ → ProgramFault → Type 0
-IsRefusalOf bytes (program.Schedule fault) = schedules.IsRefusalOf bytes fault
-IsRefusalOf bytes _ = Unit {0}
-
--- the faults that reading and running a task file may end with: why it has no schedule
-abbrev pub IsFaultOfRun : ProgramFault → Type 0
-IsFaultOfRun fault = (cause : ScheduleFault) × (fault ≡ of_schedule cause)
+-- the faults that a picture may end with before it is written: why the file has no schedule, or that its slots are refused
+abbrev pub IsFaultOfPicture : ProgramFault → Type 0
+IsFaultOfPicture fault = IsFaultBy of_schedule fault ⊎ (fault ≡ Slots)

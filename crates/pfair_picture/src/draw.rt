@@ -1,15 +1,13 @@
 //! Drawing the run of a task file.
 
-ghost use Rattle.std.specs.Prelude.{◌≡◌, ◌≢◌, length, OnOk, IfOk, IfErr, IfSome, IsErrOf, ◌⊎◌};
-ghost use Rattle.std.specs.Io.KnownBytes.{Appends, Keeps};
-ghost use Rattle.pfair_text.specs.Input.{TakesOneFile};
-ghost use Rattle.pfair_text.specs.Output.{TakesPrefix};
-ghost use Rattle.pfair_command.specs.declared.fault.ScheduleFault.TheVariants.{FileTooLong, ReadFailed};
+ghost use Rattle.std.specs.Prelude.{◌≡◌, length, OnOk, IfOk, IfErr, IfSome, IsErrOf, ◌⊎◌};
+ghost use Rattle.pfair_command.specs.Commands.{IsCommandOf};
 ghost use Rattle.pfair_drawing.specs.declared.drawing.Drawing.{Drawing};
 ghost use Rattle.pfair_drawing.specs.Schedule.{AreRefused};
 ghost use Rattle.pfair_drawing.specs.Svg.{svg_text};
-ghost use Rattle.pfair_picture.specs.Pictures.{AreSlotsRefused, IsDrawnBetween, IsDrawnOf, IsFaultOfRun, IsOutputOf, IsRefusalOf, Shows, end_of, first_of};
-ghost use Rattle.pfair_picture.specs.declared.fault.ProgramFault.TheVariants.{Schedule, WriteFailed, Slots, Memory};
+ghost use Rattle.pfair_picture.specs.Faults.{of_schedule};
+ghost use Rattle.pfair_picture.specs.Pictures.{AreSlotsRefused, IsDrawnBetween, IsDrawnOf, IsFaultOfPicture, IsOutputOf, Shows, end_of, first_of};
+ghost use Rattle.pfair_picture.specs.declared.fault.ProgramFault.TheVariants.{Slots, Memory};
 
 use crate::fault::ProgramFault;
 use crate::words::Picture;
@@ -41,13 +39,9 @@ pub fn draw<R: Read, W: Write>(
     slots: Option<(u64, u64)>,
     writer: &mut W,
 ) -> Result<(), ProgramFault>
-    ensures ok { OnOk result (IfSome (R.remaining reader.old) (λ bytes. IsOutputOf picture slots bytes (Appends (W.contents writer.old) (W.contents writer.new)))) }
-    ensures refused { IfErr result (λ e. IfSome (R.remaining reader.old) (λ bytes. IsRefusalOf bytes e)) }
+    ensures command { IsCommandOf of_schedule ProgramFault.WriteFailed (IsOutputOf picture slots) IsFaultOfPicture result
+        (R.remaining reader.old) (R.remaining reader.new) (W.contents writer.old) (W.contents writer.new) }
     ensures slots { IsErrOf result Slots → IfSome (R.remaining reader.old) (AreSlotsRefused slots) }
-    ensures taken { TakesOneFile (Schedule FileTooLong) (Schedule ReadFailed) Memory result (R.remaining reader.old) (R.remaining reader.new) }
-    ensures nothing { IfErr result (λ e. e ≢ WriteFailed → Keeps (W.contents writer.old) (W.contents writer.new)) }
-    ensures cut { IsErrOf result WriteFailed → IfSome (R.remaining reader.old) (λ bytes. IsOutputOf picture slots bytes (TakesPrefix (W.contents writer.old) (W.contents writer.new))) }
-    ensures only { IfErr result (λ e. IsFaultOfRun e ⊎ ((e ≡ Slots) ⊎ (e ≡ WriteFailed))) }
 {
     let dispatcher = scheduled(alloc, reader)?;
     let text = text_of(alloc, &dispatcher, picture, slots)?;

@@ -1,11 +1,13 @@
 use Rattle.std.proofs.Common.{◌<◌, ◌≡◌, Some, length, rules, slice_get}
+use Rattle.std.specs.Prelude.{IfErr}
+use Rattle.pfair_command.proofs.CommandFacts.{err_is}
 use Rattle.pfair.specs.Runs.{IsFaultOfReplay}
-use Rattle.pfair.proofs.RunFacts.{err_is, fault_of_replay, first_is, is_whole}
+use Rattle.pfair.proofs.RunFacts.{fault_of_replay, first_is, is_whole}
 use Rattle.pfair.proofs.dispatchers.first_run.Goals as goal
 
 pub returns-in_err-finished-clause-only : goal.returns-in_err-finished-clause-only
 returns-in_err-finished-clause-only g c =
-    err_is (IsFaultOfReplay g.G.Gate.may_give_up) c.from_residual-in_err-finished.result _ c.from_residual-in_err-finished.ensures.1
+    err_is (λ r. IfErr r (IsFaultOfReplay g.G.Gate.may_give_up)) c.from_residual-in_err-finished.result _ c.from_residual-in_err-finished.ensures.1
     (fault_of_replay g.G.Gate.may_give_up c.in_ok-script.script _ c.in_err-finished.ensures.fault)
 
 pub returns-clause-ok : goal.returns-clause-ok
@@ -15,5 +17,4 @@ returns-clause-ok g c =
     let first = c.swap_remove.result in
     let some : 0 < length runs = search rules in
     let at : slice_get runs 0 ≡ Some first = first_is runs first some c.swap_remove.ensures.value in
-    is_whole (g.R.Read.remaining c.args.reader.now) c.in_ok-script.script first c.in_ok-script.ensures.ok
-    (record { far_enough = finished.far_enough; tables = finished.runs 0 first at; places = finished.places 0 first at })
+    is_whole _ c.in_ok-script.script first c.in_ok-script.ensures.ok (record { far_enough = finished.far_enough; tables = finished.runs 0 first at; places = finished.places 0 first at })

@@ -1,35 +1,27 @@
-use Rattle.std.proofs.Common.{◌∙◌, refl, rules}
-use Rattle.std.specs.Io.KnownBytes.{Appends}
-use Rattle.pfair_text.specs.Output.{TakesPrefix}
+use Rattle.std.proofs.Common.{◌∙◌, refl}
 use Rattle.pfair_command.specs.declared.fault.ScheduleFault.TheVariants as schedule
-use Rattle.pfair.specs.Runs.{IsFaultOfRun, lags_of_run}
-use Rattle.pfair.proofs.RunFacts.{IsTextOf, lags_made, ends_cut, ends_wanting, ends_well, output_of}
+use Rattle.pfair_command.proofs.CommandFacts.{ends_cut, ends_refused, ends_unwritten, ends_well}
+use Rattle.pfair.specs.declared.fault.ProgramFault.TheVariants.{Memory}
+use Rattle.pfair.specs.Runs.{lags_of_run}
+use Rattle.pfair.proofs.RunFacts.{lags_made, output_of, takes_over}
 use Rattle.pfair.proofs.lags.lags.Goals as goal
 
 pub returns : goal.returns
 returns g c =
     let d = c.in_ok-dispatcher.dispatcher in
-    let given = g.R.Read.remaining c.args.reader.now in
-    let before = g.W.Write.contents c.args.writer.now in
-    let after = g.W.Write.contents c.send.new.writer in
-    let made : IsTextOf lags_of_run d c.as_slice.result.now = λ run is. c.as_slice.ensures.value ∙ c.in_ok-text.ensures.whole is.whole ∙ lags_made d run is in
-    ends_well lags_of_run IsFaultOfRun given (g.R.Read.remaining c.scheduled.new.reader) before after c.in_ok-dispatcher.ensures.taken.within c.in_ok-dispatcher.ensures.taken.most _
-    (output_of lags_of_run given d c.as_slice.result.now (Appends before after) c.in_ok-dispatcher.ensures.ok made c.in_ok-send.ensures.ok)
+    ends_well takes_over c.in_ok-dispatcher.ensures.taken _
+    (output_of lags_of_run _ d c.in_ok-dispatcher.ensures.ok (λ run is. c.in_ok-text.ensures.whole is.whole ∙ lags_made d run is) c.as_slice.ensures.value) c.in_ok-send.ensures.ok
 
 pub returns-in_err-send : goal.returns-in_err-send
 returns-in_err-send g c =
     let d = c.in_ok-dispatcher.dispatcher in
-    let given = g.R.Read.remaining c.args.reader.now in
-    let before = g.W.Write.contents c.args.writer.now in
-    let after = g.W.Write.contents c.send.new.writer in
-    let made : IsTextOf lags_of_run d c.as_slice.result.now = λ run is. c.as_slice.ensures.value ∙ c.in_ok-text.ensures.whole is.whole ∙ lags_made d run is in
-    ends_cut lags_of_run IsFaultOfRun given (g.R.Read.remaining c.scheduled.new.reader) before after c.in_ok-dispatcher.ensures.taken.within c.in_ok-dispatcher.ensures.taken.most
-    c.from_residual-in_err-send.result c.from_residual-in_err-send.ensures.1
-    (output_of lags_of_run given d c.as_slice.result.now (TakesPrefix before after) c.in_ok-dispatcher.ensures.ok made c.in_err-send.ensures.failed)
+    ends_cut takes_over c.in_ok-dispatcher.ensures.taken _ c.from_residual-in_err-send.ensures.1
+    (output_of lags_of_run _ d c.in_ok-dispatcher.ensures.ok (λ run is. c.in_ok-text.ensures.whole is.whole ∙ lags_made d run is) c.as_slice.ensures.value) c.in_err-send.ensures.failed
 
 pub returns-in_err-text : goal.returns-in_err-text
 returns-in_err-text g c =
-    let writer = g.W.Write.contents c.args.writer.now in
-    ends_wanting lags_of_run IsFaultOfRun (g.R.Read.remaining c.args.reader.now) (g.R.Read.remaining c.scheduled.new.reader) writer writer
-    c.in_ok-dispatcher.ensures.taken.within c.in_ok-dispatcher.ensures.taken.most
-    c.from_residual-in_err-text.result c.from_residual-in_err-text.ensures.1 (search rules) (schedule.Memory, refl)
+    ends_unwritten takes_over c.in_ok-dispatcher.ensures.taken _ Memory c.from_residual-in_err-text.ensures.1 refl (λ same. cc same) (schedule.Memory, refl)
+
+pub returns-in_err-dispatcher : goal.returns-in_err-dispatcher
+returns-in_err-dispatcher g c =
+    ends_refused takes_over c.in_err-dispatcher.ensures.taken c.in_err-dispatcher.ensures.refused _ c.from_residual.ensures.1 (_, refl)

@@ -1,4 +1,4 @@
-use Rattle.std.proofs.Common.{ℕ, Option, sym, subst, IfOk, ◌≡◌, List}
+use Rattle.std.proofs.Common.{ℕ, Option, sym, subst, IfOk, ◌≡◌}
 use Rattle.pfair_drawing.specs.declared.drawing.Drawing.{Drawing}
 use Rattle.pfair_drawing.specs.Svg.{svg_text}
 use Rattle.pfair_picture.specs.Pictures.{IsDrawnBetween, IsDrawnOf}
