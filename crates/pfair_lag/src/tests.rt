@@ -1,6 +1,6 @@
 //! Worked rows of schedules and of the book.
 
-ghost use Rattle.std.specs.Prelude.{◌≡◌, ◌≤◌, IfOk};
+ghost use Rattle.std.specs.Prelude.{◌≡◌, ◌≤◌, OnOk};
 
 use crate::{
     LagBook, Miss, PickFault, first_late, first_miss, in_windows, lag_below, lag_within,
@@ -98,17 +98,20 @@ fn faults_have_places(rt: HostRuntime) -> Result<(), Fail> {
     assert_eq!(rt; lag_within(half, &[4], 4), Err(past));
     assert_eq!(rt; meets_deadlines(half, &[4], 4), Err(past));
     assert_eq!(rt; lag_below(half, &[4], 4), Err(past));
-    assert_eq!(rt;
-        text(rt.alloc(), falling)?.as_str(),
-        "picks not rising at 1"
-    );
-    assert_eq!(rt; text(rt.alloc(), past)?.as_str(), "pick past horizon at 0");
-    Ok(())
+    assert_text(&rt, rt.alloc(), falling, "picks not rising at 1")?;
+    assert_text(&rt, rt.alloc(), past, "pick past horizon at 0")
 }
 
-// The text of a fault.
-fn text(alloc: Global, fault: PickFault) -> Result<String, AllocError> {
-    format!(in alloc; "{fault}")
+// Asserts the text of a fault.
+fn assert_text(
+    rt: &impl Abort,
+    alloc: Global,
+    fault: PickFault,
+    expected: &str,
+) -> Result<(), Fail> {
+    let text = format!(in alloc; "{fault}")?;
+    assert_eq!(rt; text.as_str(), expected);
+    Ok(())
 }
 
 // Enters a task.
@@ -119,51 +122,63 @@ fn enter(book: &mut LagBook, name: TaskName, weight: Weight) -> Result<bool, All
 }
 
 // Enters a of weight 1/2, and b of weight 1/3 two slots later. In the first slot a runs.
-fn rows_book(rt: &impl Abort, alloc: Global) -> Result<LagBook, Fail>
-    ensures { IfOk result (λ book. book.time ≡ 2) }
+fn enters_two(rt: &impl Abort, book: &mut LagBook) -> Result<(), Fail>
+    requires { book.old.time ≡ 0 }
+    ensures { OnOk result (book.new.time ≡ 2) }
 {
     let (a, b) = (name(rt, b"a"), name(rt, b"b"));
-    let mut book = LagBook::new(alloc);
-    assert!(rt; enter(&mut book, a, weight(rt, 1, 2))?);
+    assert!(rt; enter(book, a, weight(rt, 1, 2))?);
     book.record(&[Pick { name: a, index: 1 }]);
     assert_eq!(rt; book.lag(&a), Some((-1, 2)));
     book.record(&[]);
     assert_eq!(rt; book.lag(&a), Some((0, 2)));
-    assert!(rt; enter(&mut book, b, weight(rt, 1, 3))?);
-    Ok(book)
+    assert!(rt; enter(book, b, weight(rt, 1, 3))?);
+    Ok(())
 }
 
-#[test]
-fn counts_lags(rt: HostRuntime) -> Result<(), Fail> {
-    let (a, b) = (name(&rt, b"a"), name(&rt, b"b"));
-    let mut book = rows_book(&rt, rt.alloc())?;
+fn counts(rt: &impl Abort, book: &mut LagBook) -> Result<(), Fail>
+    requires { book.old.time ≡ 0 }
+{
+    let (a, b) = (name(rt, b"a"), name(rt, b"b"));
+    enters_two(rt, book)?;
     book.record(&[]);
     assert_eq!(rt; book.lag(&a), Some((1, 2)));
     assert_eq!(rt; book.lag(&b), Some((1, 3)));
     assert_eq!(rt; book.time(), 3);
-    assert!(rt; !enter(&mut book, a, weight(&rt, 1, 3))?);
+    assert!(rt; !enter(book, a, weight(rt, 1, 3))?);
     assert!(rt; book.name_at(0) == Some(&a));
     assert!(rt; book.name_at(1) == Some(&b));
     assert!(rt; book.name_at(2).is_none());
     Ok(())
 }
 
-// A task that is named twice had one quantum, and one that leaves and comes again starts anew.
 #[test]
-fn starts_anew(rt: HostRuntime) -> Result<(), Fail> {
-    let (a, b) = (name(&rt, b"a"), name(&rt, b"b"));
+fn counts_lags(rt: HostRuntime) -> Result<(), Fail> {
+    counts(&rt, &mut LagBook::new(rt.alloc()))
+}
+
+// A task that is named twice had one quantum, and one that leaves and comes again starts anew.
+fn enters_again(rt: &impl Abort, book: &mut LagBook) -> Result<(), Fail>
+    requires { book.old.time ≡ 0 }
+{
+    let (a, b) = (name(rt, b"a"), name(rt, b"b"));
     let pick = Pick { name: a, index: 2 };
-    let mut book = rows_book(&rt, rt.alloc())?;
+    enters_two(rt, book)?;
     book.record(&[pick, pick]);
     assert_eq!(rt; book.lag(&a), Some((-1, 2)));
     assert!(rt; book.leave(&a));
     assert!(rt; !book.leave(&a));
     assert_eq!(rt; book.lag(&a), None);
-    assert!(rt; enter(&mut book, a, weight(&rt, 1, 2))?);
+    assert!(rt; enter(book, a, weight(rt, 1, 2))?);
     assert_eq!(rt; book.lag(&a), Some((0, 2)));
     assert!(rt; book.name_at(0) == Some(&b));
     assert!(rt; book.name_at(1) == Some(&a));
     Ok(())
+}
+
+#[test]
+fn starts_anew(rt: HostRuntime) -> Result<(), Fail> {
+    enters_again(&rt, &mut LagBook::new(rt.alloc()))
 }
 
 // Asserts which tasks are entered, in their order.
@@ -175,19 +190,22 @@ fn assert_names(rt: &impl Abort, book: &LagBook, names: &[TaskName]) {
     assert!(rt; book.name_at(names.len()).is_none());
 }
 
+fn lists(rt: &impl Abort, book: &mut LagBook) -> Result<(), Fail> {
+    let (a, b, half) = (name(rt, b"a"), name(rt, b"b"), weight(rt, 1, 2));
+    let (c, d) = (name(rt, b"c"), name(rt, b"d"));
+    assert!(rt; enter(book, a, half)?);
+    assert!(rt; enter(book, b, half)?);
+    assert!(rt; enter(book, c, half)?);
+    assert_names(rt, book, &[a, b, c]);
+    assert!(rt; book.leave(&b));
+    assert_names(rt, book, &[a, c]);
+    assert!(rt; enter(book, d, half)?);
+    assert!(rt; enter(book, b, half)?);
+    assert_names(rt, book, &[a, c, d, b]);
+    Ok(())
+}
+
 #[test]
 fn lists_in_order_of_entering(rt: HostRuntime) -> Result<(), Fail> {
-    let (a, b, half) = (name(&rt, b"a"), name(&rt, b"b"), weight(&rt, 1, 2));
-    let (c, d) = (name(&rt, b"c"), name(&rt, b"d"));
-    let mut book = LagBook::new(rt.alloc());
-    assert!(rt; enter(&mut book, a, half)?);
-    assert!(rt; enter(&mut book, b, half)?);
-    assert!(rt; enter(&mut book, c, half)?);
-    assert_names(&rt, &book, &[a, b, c]);
-    assert!(rt; book.leave(&b));
-    assert_names(&rt, &book, &[a, c]);
-    assert!(rt; enter(&mut book, d, half)?);
-    assert!(rt; enter(&mut book, b, half)?);
-    assert_names(&rt, &book, &[a, c, d, b]);
-    Ok(())
+    lists(&rt, &mut LagBook::new(rt.alloc()))
 }
