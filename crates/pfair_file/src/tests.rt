@@ -105,10 +105,23 @@ fn line_of(alloc: Global, bytes: &[u8]) -> Result<String, AllocError> {
     }
 }
 
-// The first fault of the sample file, with one text for another.
-fn line_with(alloc: Global, old: &str, new: &str) -> Result<String, AllocError> {
+// Asserts the line of the first fault.
+fn assert_line(rt: &impl Abort, alloc: Global, bytes: &[u8], expected: &str) -> Result<(), Fail> {
+    let line = line_of(alloc, bytes)?;
+    assert_eq!(rt; line.as_str(), expected);
+    Ok(())
+}
+
+// Asserts the first fault of the sample file, with one text for another.
+fn assert_line_with(
+    rt: &impl Abort,
+    alloc: Global,
+    old: &str,
+    new: &str,
+    line: &str,
+) -> Result<(), Fail> {
     let text = SAMPLE.replacen(alloc, old, new, 1)?;
-    line_of(alloc, text.as_bytes())
+    assert_line(rt, alloc, text.as_bytes(), line)
 }
 
 // An entry of a log of a script that has this processor.
@@ -117,27 +130,39 @@ fn entry_of(rt: &impl Abort, script: &Script, processor: u8, place: usize) -> En
     *script.log(processor).get(place).expect(rt, "an entry")
 }
 
-#[test]
-fn the_sample_is_read(rt: HostRuntime) -> Result<(), Fail> {
-    let script = read_file(rt.alloc(), SAMPLE.as_bytes()).expect(&rt, "a script");
+// Asserts the settings of the sample.
+fn assert_settings(rt: &impl Abort, script: &Script) {
     let settings = script.settings();
-    assert_eq!(&rt; settings.processors(), 2);
-    assert_eq!(&rt; settings.frame(), 6);
-    assert_eq!(&rt; settings.slots(), 6);
-    assert_eq!(&rt; script.capacity(), 5);
-    let first = entry_of(&rt, &script, 0, 0);
-    let text = format!(in rt.alloc(); "{first:?}")?;
-    assert!(&rt; text.as_str().contains("cost: 1, period: 2"));
-    let departure = entry_of(&rt, &script, 0, 2);
-    assert_eq!(&rt; departure.floor(), 2);
-    let (stamp, said) = departure.said().expect(&rt, "an announcement");
-    assert_eq!(&rt; stamp, 2);
-    assert_eq!(&rt; said.name().as_bytes(), b"a".as_slice());
-    assert_eq!(&rt; entry_of(&rt, &script, 0, 3).said(), None);
-    let (_, late) = entry_of(&rt, &script, 1, 2)
+    assert_eq!(rt; settings.processors(), 2);
+    assert_eq!(rt; settings.frame(), 6);
+    assert_eq!(rt; settings.slots(), 6);
+    assert_eq!(rt; script.capacity(), 5);
+}
+
+// Asserts what the first arrival of the sample shows of itself.
+fn assert_arrival(rt: &impl Abort, alloc: Global, script: &Script) -> Result<(), Fail> {
+    let first = entry_of(rt, script, 0, 0);
+    let text = format!(in alloc; "{first:?}")?;
+    assert!(rt; text.as_str().contains("cost: 1, period: 2"));
+    Ok(())
+}
+
+// Asserts the departure of the sample, and the entry after it, which says nothing.
+fn assert_departure(rt: &impl Abort, script: &Script) {
+    let departure = entry_of(rt, script, 0, 2);
+    assert_eq!(rt; departure.floor(), 2);
+    let (stamp, said) = departure.said().expect(rt, "an announcement");
+    assert_eq!(rt; stamp, 2);
+    assert_eq!(rt; said.name().as_bytes(), b"a".as_slice());
+    assert_eq!(rt; entry_of(rt, script, 0, 3).said(), None);
+}
+
+// Asserts the entries of the sample's second processor.
+fn assert_second_log(rt: &impl Abort, script: &Script) {
+    let (_, late) = entry_of(rt, script, 1, 2)
         .said()
-        .expect(&rt, "an announcement");
-    assert_eq!(&rt;
+        .expect(rt, "an announcement");
+    assert_eq!(rt;
         late,
         Announcement::Late {
             name: late.name(),
@@ -145,8 +170,16 @@ fn the_sample_is_read(rt: HostRuntime) -> Result<(), Fail> {
             by: 2
         }
     );
-    assert_eq!(&rt; entry_of(&rt, &script, 1, 4).floor(), 6);
-    Ok(())
+    assert_eq!(rt; entry_of(rt, script, 1, 4).floor(), 6);
+}
+
+#[test]
+fn the_sample_is_read(rt: HostRuntime) -> Result<(), Fail> {
+    let script = read_file(rt.alloc(), SAMPLE.as_bytes()).expect(&rt, "a script");
+    assert_settings(&rt, &script);
+    assert_departure(&rt, &script);
+    assert_second_log(&rt, &script);
+    assert_arrival(&rt, rt.alloc(), &script)
 }
 
 #[test]
@@ -216,7 +249,7 @@ fn a_changed_sample_has_its_fault(rt: HostRuntime) -> Result<(), Fail> {
             "62 kind of wrong kind at 3",
         ),
     ] {
-        assert_eq!(&rt; line_with(rt.alloc(), old, new)?.as_str(), line);
+        assert_line_with(&rt, rt.alloc(), old, new, line)?;
     }
     Ok(())
 }
@@ -253,30 +286,62 @@ fn a_small_file_has_its_fault(rt: HostRuntime) -> Result<(), Fail> {
             "64 entry 1 of processor 0 refused: 1 empty name",
         ),
     ] {
-        assert_eq!(&rt; line_of(rt.alloc(), text.as_bytes())?.as_str(), line);
+        assert_line(&rt, rt.alloc(), text.as_bytes(), line)?;
     }
-    assert_eq!(&rt;
-        line_of(rt.alloc(), b"\xff".as_slice())?.as_str(),
-        "60 not TOML"
-    );
-    Ok(())
+    assert_line(&rt, rt.alloc(), b"\xff".as_slice(), "60 not TOML")
+}
+
+// Asserts that a file has a script with such a capacity, and this entry, which says nothing.
+fn assert_closed(
+    rt: &impl Abort,
+    alloc: Global,
+    file: &[u8],
+    capacity: u32,
+    closing: (u8, usize, u64),
+) {
+    let script = read_file(alloc, file).expect(rt, "a script");
+    assert_eq!(rt; script.capacity(), capacity);
+    let (processor, place, floor) = closing;
+    let closing = entry_of(rt, &script, processor, place);
+    assert_eq!(rt; closing.floor(), floor);
+    assert_eq!(rt; closing.said(), None);
 }
 
 #[test]
 fn logs_are_closed_where_they_end_early(rt: HostRuntime) -> Result<(), Fail> {
     let text = SAMPLE.replacen(rt.alloc(), "slots = 6", "slots = 7", 1)?;
-    let script = read_file(rt.alloc(), text.as_bytes()).expect(&rt, "a script");
-    assert_eq!(&rt; script.capacity(), 6);
-    let closing = entry_of(&rt, &script, 1, 5);
-    assert_eq!(&rt; closing.floor(), 7);
-    assert_eq!(&rt; closing.said(), None);
-    let bare = read_file(
-        rt.alloc(),
-        b"version = 1\nprocessors = 1\nframe = 1\nslots = 9\n",
-    )
-    .expect(&rt, "a script");
-    assert_eq!(&rt; bare.capacity(), 1);
-    assert_eq!(&rt; entry_of(&rt, &bare, 0, 0).floor(), 9);
+    assert_closed(&rt, rt.alloc(), text.as_bytes(), 6, (1, 5, 7));
+    let bare = "version = 1\nprocessors = 1\nframe = 1\nslots = 9\n";
+    assert_closed(&rt, rt.alloc(), bare.as_bytes(), 1, (0, 0, 9));
+    Ok(())
+}
+
+// Asserts whether the arrival of a file may run ahead, or the fault of the file.
+fn assert_early(rt: &impl Abort, alloc: Global, file: &[u8], early: Result<bool, FileFault>) {
+    match read_file(alloc, file) {
+        Ok(script) => {
+            let (_, said) = entry_of(rt, &script, 1, 0)
+                .said()
+                .expect(rt, "an announcement");
+            assert!(rt;
+                matches!(said, Announcement::Arrive { early: found, .. } if early == Ok(found))
+            );
+        }
+        Err(fault) => assert_eq!(rt; early, Err(fault)),
+    }
+}
+
+// Asserts the same of the file of one arrival, in this version and with a line more.
+fn assert_early_with(
+    rt: &impl Abort,
+    alloc: Global,
+    version: &str,
+    added: &str,
+    early: Result<bool, FileFault>,
+) -> Result<(), Fail> {
+    let mut text = EARLY.replacen(alloc, "version = 2", version, 1)?;
+    text.push_str(added)?;
+    assert_early(rt, alloc, text.as_bytes(), early);
     Ok(())
 }
 
@@ -297,48 +362,41 @@ fn early_is_read_from_version_2_on(rt: HostRuntime) -> Result<(), Fail> {
         ("version = 1", "early = 1\n", Ok(false)),
         ("version = 1", "early = true\n", Ok(false)),
     ] {
-        let text = EARLY.replacen(rt.alloc(), "version = 2", version, 1)?;
-        let text = format!(in rt.alloc(); "{text}{added}")?;
-        match read_file(rt.alloc(), text.as_bytes()) {
-            Ok(script) => {
-                let (_, said) = entry_of(&rt, &script, 1, 0)
-                    .said()
-                    .expect(&rt, "an announcement");
-                assert!(&rt;
-                    matches!(said, Announcement::Arrive { early: found, .. } if early == Ok(found))
-                );
-            }
-            Err(fault) => assert_eq!(&rt; early, Err(fault)),
-        }
+        assert_early_with(&rt, rt.alloc(), version, added, early)?;
     }
     let late = EARLY.replacen(rt.alloc(), "period = 4", "early = 1", 1)?;
-    assert_eq!(&rt;
-        line_of(rt.alloc(), late.as_bytes())?.as_str(),
-        "61 missing period at 1"
-    );
+    assert_line(&rt, rt.alloc(), late.as_bytes(), "61 missing period at 1")
+}
+
+// A file whose one log has so many entries, besides what closes it.
+fn long_file(alloc: Global, entries: usize) -> Result<String, AllocError> {
+    let log = "[[entry]]\nprocessor = 0\nfloor = 0\n".repeat(alloc, entries)?;
+    format!(in alloc; "version = 1\nprocessors = 1\nframe = 1\nslots = 1\n{log}")
+}
+
+fn assert_most(rt: &impl Abort, alloc: Global) -> Result<(), Fail> {
+    let text = long_file(alloc, 4095)?;
+    let script = read_file(alloc, text.as_bytes()).expect(rt, "a script");
+    assert_eq!(rt; script.capacity(), 4096);
     Ok(())
 }
 
-#[test]
-fn a_log_has_at_most_4095_entries_of_a_file(rt: HostRuntime) -> Result<(), Fail> {
-    let header = "version = 1\nprocessors = 1\nframe = 1\nslots = 1\n";
-    let entry = "[[entry]]\nprocessor = 0\nfloor = 0\n";
-    let most = entry.repeat(rt.alloc(), 4095)?;
-    let text = format!(in rt.alloc(); "{header}{most}")?;
-    let script = read_file(rt.alloc(), text.as_bytes()).expect(&rt, "a script");
-    assert_eq!(&rt; script.capacity(), 4096);
-    let text = format!(in rt.alloc(); "{header}{most}{entry}")?;
+fn assert_too_many(rt: &impl Abort, alloc: Global) -> Result<(), Fail> {
+    let text = long_file(alloc, 4096)?;
     let full = FileFault::Entry {
         processor: 0,
         number: 4096,
         cause: EntryCause::LogFull,
     };
-    assert_eq!(&rt; read_file(rt.alloc(), text.as_bytes()).err(), Some(full));
-    assert_eq!(&rt;
-        line_of(rt.alloc(), text.as_bytes())?.as_str(),
-        "64 entry 4096 of processor 0 refused: 12 log full"
-    );
-    Ok(())
+    assert_eq!(rt; read_file(alloc, text.as_bytes()).err(), Some(full));
+    let line = "64 entry 4096 of processor 0 refused: 12 log full";
+    assert_line(rt, alloc, text.as_bytes(), line)
+}
+
+#[test]
+fn a_log_has_at_most_4095_entries_of_a_file(rt: HostRuntime) -> Result<(), Fail> {
+    assert_most(&rt, rt.alloc())?;
+    assert_too_many(&rt, rt.alloc())
 }
 
 #[test]
