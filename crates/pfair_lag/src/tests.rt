@@ -87,17 +87,27 @@ fn deadlines_and_lags_agree(rt: HostRuntime) {
     assert_deadlines(&rt, half, &[2], 3, Some(Miss::Tardy { index: 1, slot: 2 }));
 }
 
+// Asserts that all tests of a schedule of four slots answer this fault.
+fn assert_fault(rt: &impl Abort, picks: &[u64], fault: PickFault) {
+    let half = weight(rt, 1, 2);
+    assert_eq!(rt; first_miss(half, picks, 4), Err(fault));
+    assert_eq!(rt; first_late(half, picks, 4), Err(fault));
+    assert_refused(rt, in_windows(half, picks, 4), fault);
+    assert_refused(rt, lag_within(half, picks, 4), fault);
+    assert_refused(rt, meets_deadlines(half, picks, 4), fault);
+    assert_refused(rt, lag_below(half, picks, 4), fault);
+}
+
+fn assert_refused(rt: &impl Abort, answer: Result<bool, PickFault>, fault: PickFault) {
+    assert_eq!(rt; answer, Err(fault));
+}
+
 #[test]
 fn faults_have_places(rt: HostRuntime) -> Result<(), Fail> {
-    let half = weight(&rt, 1, 2);
     let falling = PickFault::PicksNotRising { at: 1 };
     let past = PickFault::PickPastHorizon { at: 0 };
-    assert_eq!(rt; first_miss(half, &[0, 0], 4), Err(falling));
-    assert_eq!(rt; first_late(half, &[0, 0], 4), Err(falling));
-    assert_eq!(rt; in_windows(half, &[0, 0], 4), Err(falling));
-    assert_eq!(rt; lag_within(half, &[4], 4), Err(past));
-    assert_eq!(rt; meets_deadlines(half, &[4], 4), Err(past));
-    assert_eq!(rt; lag_below(half, &[4], 4), Err(past));
+    assert_fault(&rt, &[0, 0], falling);
+    assert_fault(&rt, &[4], past);
     assert_text(&rt, rt.alloc(), falling, "picks not rising at 1")?;
     assert_text(&rt, rt.alloc(), past, "pick past horizon at 0")
 }
@@ -114,11 +124,29 @@ fn assert_text(
     Ok(())
 }
 
-// Enters a task.
-fn enter(book: &mut LagBook, name: TaskName, weight: Weight) -> Result<bool, AllocError>
+// Enters a task, and asserts whether it is new.
+fn assert_enter(
+    rt: &impl Abort,
+    book: &mut LagBook,
+    name: TaskName,
+    weight: Weight,
+    is_new: bool,
+) -> Result<(), Fail>
     ensures { book.new.time ≡ book.old.time }
 {
-    book.enter(name, weight)
+    let entered = book.enter(name, weight)?;
+    assert_eq!(rt; entered, is_new);
+    Ok(())
+}
+
+// Asserts the lag of a task, where it is entered.
+fn assert_lag(rt: &impl Abort, book: &LagBook, name: TaskName, lag: Option<(i64, u64)>) {
+    assert_eq!(rt; book.lag(&name), lag);
+}
+
+// Asserts which task has this place.
+fn assert_at(rt: &impl Abort, book: &LagBook, place: usize, name: TaskName) {
+    assert!(rt; book.name_at(place) == Some(&name));
 }
 
 // Enters a of weight 1/2, and b of weight 1/3 two slots later. In the first slot a runs.
@@ -127,12 +155,12 @@ fn enters_two(rt: &impl Abort, book: &mut LagBook) -> Result<(), Fail>
     ensures { OnOk result (book.new.time ≡ 2) }
 {
     let (a, b) = (name(rt, b"a"), name(rt, b"b"));
-    assert!(rt; enter(book, a, weight(rt, 1, 2))?);
+    assert_enter(rt, book, a, weight(rt, 1, 2), true)?;
     book.record(&[Pick { name: a, index: 1 }]);
-    assert_eq!(rt; book.lag(&a), Some((-1, 2)));
+    assert_lag(rt, book, a, Some((-1, 2)));
     book.record(&[]);
-    assert_eq!(rt; book.lag(&a), Some((0, 2)));
-    assert!(rt; enter(book, b, weight(rt, 1, 3))?);
+    assert_lag(rt, book, a, Some((0, 2)));
+    assert_enter(rt, book, b, weight(rt, 1, 3), true)?;
     Ok(())
 }
 
@@ -142,12 +170,12 @@ fn counts(rt: &impl Abort, book: &mut LagBook) -> Result<(), Fail>
     let (a, b) = (name(rt, b"a"), name(rt, b"b"));
     enters_two(rt, book)?;
     book.record(&[]);
-    assert_eq!(rt; book.lag(&a), Some((1, 2)));
-    assert_eq!(rt; book.lag(&b), Some((1, 3)));
+    assert_lag(rt, book, a, Some((1, 2)));
+    assert_lag(rt, book, b, Some((1, 3)));
     assert_eq!(rt; book.time(), 3);
-    assert!(rt; !enter(book, a, weight(rt, 1, 3))?);
-    assert!(rt; book.name_at(0) == Some(&a));
-    assert!(rt; book.name_at(1) == Some(&b));
+    assert_enter(rt, book, a, weight(rt, 1, 3), false)?;
+    assert_at(rt, book, 0, a);
+    assert_at(rt, book, 1, b);
     assert!(rt; book.name_at(2).is_none());
     Ok(())
 }
@@ -162,17 +190,16 @@ fn enters_again(rt: &impl Abort, book: &mut LagBook) -> Result<(), Fail>
     requires { book.old.time ≡ 0 }
 {
     let (a, b) = (name(rt, b"a"), name(rt, b"b"));
-    let pick = Pick { name: a, index: 2 };
     enters_two(rt, book)?;
-    book.record(&[pick, pick]);
-    assert_eq!(rt; book.lag(&a), Some((-1, 2)));
+    book.record(&[Pick { name: a, index: 2 }, Pick { name: a, index: 2 }]);
+    assert_lag(rt, book, a, Some((-1, 2)));
     assert!(rt; book.leave(&a));
     assert!(rt; !book.leave(&a));
-    assert_eq!(rt; book.lag(&a), None);
-    assert!(rt; enter(book, a, weight(rt, 1, 2))?);
-    assert_eq!(rt; book.lag(&a), Some((0, 2)));
-    assert!(rt; book.name_at(0) == Some(&b));
-    assert!(rt; book.name_at(1) == Some(&a));
+    assert_lag(rt, book, a, None);
+    assert_enter(rt, book, a, weight(rt, 1, 2), true)?;
+    assert_lag(rt, book, a, Some((0, 2)));
+    assert_at(rt, book, 0, b);
+    assert_at(rt, book, 1, a);
     Ok(())
 }
 
@@ -193,14 +220,14 @@ fn assert_names(rt: &impl Abort, book: &LagBook, names: &[TaskName]) {
 fn lists(rt: &impl Abort, book: &mut LagBook) -> Result<(), Fail> {
     let (a, b, half) = (name(rt, b"a"), name(rt, b"b"), weight(rt, 1, 2));
     let (c, d) = (name(rt, b"c"), name(rt, b"d"));
-    assert!(rt; enter(book, a, half)?);
-    assert!(rt; enter(book, b, half)?);
-    assert!(rt; enter(book, c, half)?);
+    assert_enter(rt, book, a, half, true)?;
+    assert_enter(rt, book, b, half, true)?;
+    assert_enter(rt, book, c, half, true)?;
     assert_names(rt, book, &[a, b, c]);
     assert!(rt; book.leave(&b));
     assert_names(rt, book, &[a, c]);
-    assert!(rt; enter(book, d, half)?);
-    assert!(rt; enter(book, b, half)?);
+    assert_enter(rt, book, d, half, true)?;
+    assert_enter(rt, book, b, half, true)?;
     assert_names(rt, book, &[a, c, d, b]);
     Ok(())
 }
