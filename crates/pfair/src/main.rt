@@ -22,12 +22,11 @@ use decisions::decisions;
 use fault::{ProgramFault, write_fault};
 use lags::lags;
 use pfair_board::OpenGate;
-use pfair_command::opened;
+use pfair_command::{given_words, opened};
 use pfair_text::send;
 use pfair_words::Asked;
 use replay::replay;
 use replay_placed::replay_placed;
-use std::io;
 use std::process::ExitCode;
 use std::sync::Wait;
 use std::thread::Threads;
@@ -43,7 +42,7 @@ fn main(rt: HostRuntime) -> ExitCode {
 
 // Does what the command line asks for. The second handle is the one by which threads are started.
 fn run<P: Threads + Wait + Sync>(rt: &HostRuntime, threads: &P) -> Result<(), ProgramFault> {
-    let words = given_words(rt)?;
+    let words = given_words(rt, ProgramFault::CommandLine)?;
     let mut out = rt.stdout();
     match read_words(rt.alloc(), words.as_slice())? {
         Asked::Windows { weight, count } => windows(rt.alloc(), weight, count, &mut out),
@@ -58,14 +57,5 @@ fn run<P: Threads + Wait + Sync>(rt: &HostRuntime, threads: &P) -> Result<(), Pr
         Asked::Decisions { file } => decisions(rt.alloc(), &mut opened(rt, &file)?, &mut out),
         Asked::Lags { file } => lags(rt.alloc(), &mut opened(rt, &file)?, &mut out),
         Asked::Help { text } => Ok(send(&mut out, text.as_bytes())?),
-    }
-}
-
-// The words after the program's name. Those that are no text are refused.
-fn given_words(rt: &HostRuntime) -> Result<Vec<String>, ProgramFault> {
-    match std::env::args(rt) {
-        Ok(args) => Ok(args.skip(1).collect(rt.alloc())?),
-        Err(error) if error.kind() == io::ErrorKind::OutOfMemory => Err(ProgramFault::Memory),
-        Err(_) => Err(ProgramFault::CommandLine),
     }
 }

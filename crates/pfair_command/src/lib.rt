@@ -1,13 +1,17 @@
-//! What every command over a task file does: it opens the file, reads it, and works out its
-//! schedule; and each program writes the line of a fault.
+//! What every command over a task file does: it takes the program's words, opens the file, reads
+//! it, and works out its schedule; and each program writes the line of a fault.
 #![tactic(auto)]
 
 mod fault;
+mod given;
+#[cfg(test)]
+mod given_tests;
 mod line;
 mod schedule;
 #[cfg(test)]
 mod tests;
 
 pub use fault::ScheduleFault;
+pub use given::given_words;
 pub use line::write_line;
 pub use schedule::{opened, read_script, scheduled};

@@ -10,9 +10,8 @@ mod words;
 
 use draw::draw;
 use fault::{ProgramFault, write_fault};
-use pfair_command::opened;
+use pfair_command::{given_words, opened};
 use pfair_text::send;
-use std::io;
 use std::process::ExitCode;
 use words::{Asked, read_words};
 
@@ -25,7 +24,7 @@ fn main(rt: HostRuntime) -> ExitCode {
 
 // Does what the command line asks for.
 fn run(rt: &HostRuntime) -> Result<(), ProgramFault> {
-    let words = given_words(rt)?;
+    let words = given_words(rt, ProgramFault::CommandLine)?;
     let mut out = rt.stdout();
     match read_words(rt.alloc(), words.as_slice())? {
         Asked::Draw {
@@ -37,14 +36,5 @@ fn run(rt: &HostRuntime) -> Result<(), ProgramFault> {
             draw(rt.alloc(), &mut reader, picture, slots, &mut out)
         }
         Asked::Text(text) => Ok(send(&mut out, text.as_bytes())?),
-    }
-}
-
-// The words after the program's name. Those that are no text are refused.
-fn given_words(rt: &HostRuntime) -> Result<Vec<String>, ProgramFault> {
-    match std::env::args(rt) {
-        Ok(args) => Ok(args.skip(1).collect(rt.alloc())?),
-        Err(error) if error.kind() == io::ErrorKind::OutOfMemory => Err(ProgramFault::Memory),
-        Err(_) => Err(ProgramFault::CommandLine),
     }
 }

@@ -1,0 +1,25 @@
+//! The words that a program is given.
+
+ghost use Rattle.std.specs.Prelude.{◌≡◌, ◌⊎◌, IfErr, alloc_error};
+
+use std::alloc::{AllocError, AllocGlobal};
+use std::io;
+use std::rt::Env;
+
+/// The words after the program's name.
+///
+/// # Errors
+/// `no_text` where a word is no text, and what a want of memory makes of the fault's type where
+/// memory was wanting.
+pub fn given_words<P: Env + AllocGlobal, F: From<AllocError> + Drop>(
+    rt: &P,
+    no_text: F,
+) -> Result<Vec<String>, F>
+    ensures { IfErr result (λ e. (e ≡ no_text) ⊎ F.from_gives alloc_error e) }
+{
+    match std::env::args(rt) {
+        Ok(args) => Ok(args.skip(1).collect(rt.alloc())?),
+        Err(error) if error.kind() == io::ErrorKind::OutOfMemory => Err(F::from(AllocError)),
+        Err(_) => Err(no_text),
+    }
+}
