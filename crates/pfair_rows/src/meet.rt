@@ -1,7 +1,7 @@
 //! Two dispatchers that planned alike, took different contents of one number, and meet.
 
 use crate::notation::{events, extend};
-use crate::run::{assert_events, held, settings_of};
+use crate::run::{Wanted, assert_events, held, settings_of};
 use pfair_table::Event;
 use std::alloc::{AllocError, Global};
 use std::process::Abort;
@@ -39,13 +39,11 @@ fn assert_meets(
     alloc: Global,
     mine: &str,
     other: &str,
-    answers: &str,
-    tables: &str,
-    decisions: &str,
+    wanted: Wanted<'_>,
 ) -> Result<(), AllocError> {
     let all = meeting(rt, alloc, mine, other)?;
     let settings = settings_of(rt, MACHINE);
-    assert_events(rt, alloc, settings, &all, answers, tables, decisions)
+    assert_events(rt, alloc, settings, &all, wanted)
 }
 
 // Asserts what both answer and leave.
@@ -54,12 +52,10 @@ fn assert_both(
     alloc: Global,
     one: &str,
     two: &str,
-    answers: &str,
-    tables: &str,
-    decisions: &str,
+    wanted: Wanted<'_>,
 ) -> Result<(), AllocError> {
-    assert_meets(rt, alloc, one, two, answers, tables, decisions)?;
-    assert_meets(rt, alloc, two, one, answers, tables, decisions)
+    assert_meets(rt, alloc, one, two, wanted)?;
+    assert_meets(rt, alloc, two, one, wanted)
 }
 
 #[test]
@@ -69,17 +65,21 @@ fn two_contents_are_torn_for_both(rt: HostRuntime) -> Result<(), AllocError> {
         rt.alloc(),
         "0 1 3; plan 3; 0 2 4",
         "0 1 3; plan 3; 0 2 5",
-        "new, slot 0, slot 1, slot 2, new, merged, fault 30 at 0.2",
-        "[][][]",
-        "[][][]",
+        Wanted {
+            answers: "new, slot 0, slot 1, slot 2, new, merged, fault 30 at 0.2",
+            tables: "[][][]",
+            decisions: "[][][]",
+        },
     )?;
     assert_both(
         &rt,
         rt.alloc(),
         "0 1 0 0 arrive a 1 1; 0 2 3; plan 3; 0 3 4",
         "0 1 0 0 arrive a 1 1; 0 2 3; plan 3; 0 3 5",
-        "new, new, slot 0, slot 1, slot 2, new, merged, fault 30 at 0.3",
-        "[a1][a2][a3]",
-        "[0.1 a admitted][][]",
+        Wanted {
+            answers: "new, new, slot 0, slot 1, slot 2, new, merged, fault 30 at 0.3",
+            tables: "[a1][a2][a3]",
+            decisions: "[0.1 a admitted][][]",
+        },
     )
 }

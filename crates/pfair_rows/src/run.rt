@@ -68,6 +68,17 @@ pub(crate) fn left_by<R: Ready>(
     run_events(alloc, settings, CAPACITY, events)
 }
 
+/// What is wanted of a run: what is answered to its events, and what they leave.
+#[derive(Clone, Copy)]
+pub(crate) struct Wanted<'a> {
+    /// The answers, with commas between them.
+    pub answers: &'a str,
+    /// The table of each slot that is planned.
+    pub tables: &'a str,
+    /// The decisions at each slot that is planned.
+    pub decisions: &'a str,
+}
+
 /// Asserts what a dispatcher has planned and decided.
 pub(crate) fn assert_planned<R: Ready>(
     rt: &impl Abort,
@@ -113,20 +124,10 @@ fn assert_stepped<R: Ready>(
     alloc: Global,
     settings: Settings,
     events: &[Event],
-    answers: &str,
-    tables: &str,
-    decisions: &str,
+    wanted: Wanted<'_>,
 ) -> Result<(), AllocError> {
     let mut dispatcher: Dispatcher<R> = new_dispatcher(alloc, settings)?;
-    assert_steps(
-        rt,
-        alloc,
-        &mut dispatcher,
-        events,
-        answers,
-        tables,
-        decisions,
-    )
+    assert_steps(rt, alloc, &mut dispatcher, events, wanted)
 }
 
 fn assert_steps<R: Ready>(
@@ -134,12 +135,10 @@ fn assert_steps<R: Ready>(
     alloc: Global,
     dispatcher: &mut Dispatcher<R>,
     events: &[Event],
-    answers: &str,
-    tables: &str,
-    decisions: &str,
+    wanted: Wanted<'_>,
 ) -> Result<(), AllocError> {
-    assert_answers(rt, alloc, dispatcher, events, answers)?;
-    assert_planned(rt, alloc, dispatcher, tables, decisions)
+    assert_answers(rt, alloc, dispatcher, events, wanted.answers)?;
+    assert_planned(rt, alloc, dispatcher, wanted.tables, wanted.decisions)
 }
 
 // Asserts what `run_events` leaves.
@@ -148,11 +147,10 @@ fn assert_left<R: Ready>(
     alloc: Global,
     settings: Settings,
     events: &[Event],
-    tables: &str,
-    decisions: &str,
+    wanted: Wanted<'_>,
 ) -> Result<(), AllocError> {
     let left: Dispatcher<R> = left_by(alloc, settings, events)?;
-    assert_planned(rt, alloc, &left, tables, decisions)
+    assert_planned(rt, alloc, &left, wanted.tables, wanted.decisions)
 }
 
 /// Asserts what the events leave, taken one by one and by `run_events`, over plain lists and over
@@ -162,14 +160,12 @@ pub(crate) fn assert_events(
     alloc: Global,
     settings: Settings,
     events: &[Event],
-    answers: &str,
-    tables: &str,
-    decisions: &str,
+    wanted: Wanted<'_>,
 ) -> Result<(), AllocError> {
-    assert_stepped::<PlainReady>(rt, alloc, settings, events, answers, tables, decisions)?;
-    assert_stepped::<HeapReady>(rt, alloc, settings, events, answers, tables, decisions)?;
-    assert_left::<PlainReady>(rt, alloc, settings, events, tables, decisions)?;
-    assert_left::<HeapReady>(rt, alloc, settings, events, tables, decisions)
+    assert_stepped::<PlainReady>(rt, alloc, settings, events, wanted)?;
+    assert_stepped::<HeapReady>(rt, alloc, settings, events, wanted)?;
+    assert_left::<PlainReady>(rt, alloc, settings, events, wanted)?;
+    assert_left::<HeapReady>(rt, alloc, settings, events, wanted)
 }
 
 /// Asserts a run on a machine of so many processors, with such a frame and so many slots: the
@@ -179,13 +175,11 @@ pub(crate) fn assert_run(
     alloc: Global,
     machine: (u8, u64, u64),
     events: &str,
-    answers: &str,
-    tables: &str,
-    decisions: &str,
+    wanted: Wanted<'_>,
 ) -> Result<(), AllocError> {
     let settings = settings_of(rt, machine);
     let events = notation::events(rt, alloc, events)?;
-    assert_events(rt, alloc, settings, &events, answers, tables, decisions)
+    assert_events(rt, alloc, settings, &events, wanted)
 }
 
 /// What a dispatcher holds that took these events.

@@ -1,7 +1,7 @@
 //! The ten entries of two processors, in any order and in parts.
 
 use crate::notation::extend;
-use crate::run::{assert_events, assert_run, held, settings_of};
+use crate::run::{Wanted, assert_events, assert_run, held, settings_of};
 use pfair_replica::Replica;
 use pfair_table::Event;
 use std::alloc::{AllocError, Global};
@@ -118,9 +118,11 @@ fn assert_halves(
         alloc,
         settings_of(rt, MACHINE),
         &events,
-        HALVES,
-        TABLES,
-        DECISIONS,
+        Wanted {
+            answers: HALVES,
+            tables: TABLES,
+            decisions: DECISIONS,
+        },
     )
 }
 
@@ -155,27 +157,33 @@ fn in_any_order(rt: HostRuntime) -> Result<(), AllocError> {
         rt.alloc(),
         MACHINE,
         FORWARD,
-        ANSWERS,
-        TABLES,
-        DECISIONS,
+        Wanted {
+            answers: ANSWERS,
+            tables: TABLES,
+            decisions: DECISIONS,
+        },
     )?;
     assert_run(
         &rt,
         rt.alloc(),
         MACHINE,
         BACKWARD,
-        ANSWERS,
-        TABLES,
-        DECISIONS,
+        Wanted {
+            answers: ANSWERS,
+            tables: TABLES,
+            decisions: DECISIONS,
+        },
     )?;
     assert_run(
         &rt,
         rt.alloc(),
         MACHINE,
         TWICE,
-        "new, known, new, known, new, known, new, known, new, known, new, known, new, known, new, known, new, known, new, known, slot 0, slot 1, slot 2, slot 3, slot 4, slot 5, done",
-        TABLES,
-        DECISIONS,
+        Wanted {
+            answers: "new, known, new, known, new, known, new, known, new, known, new, known, new, known, new, known, new, known, new, known, slot 0, slot 1, slot 2, slot 3, slot 4, slot 5, done",
+            tables: TABLES,
+            decisions: DECISIONS,
+        },
     )
 }
 
@@ -214,9 +222,11 @@ fn with_a_gap(rt: HostRuntime) -> Result<(), AllocError> {
         rt.alloc(),
         MACHINE,
         gap,
-        "new, new, new, new, new, new, new, slot 0, waiting 1",
-        "[b1 a1]",
-        "[0.1 a admitted, 0.2 b admitted, 1.1 c admitted]",
+        Wanted {
+            answers: "new, new, new, new, new, new, new, slot 0, waiting 1",
+            tables: "[b1 a1]",
+            decisions: "[0.1 a admitted, 0.2 b admitted, 1.1 c admitted]",
+        },
     )?;
     assert_frontier(&rt, rt.alloc(), gap, 1)?;
     assert_run(
@@ -224,8 +234,10 @@ fn with_a_gap(rt: HostRuntime) -> Result<(), AllocError> {
         rt.alloc(),
         MACHINE,
         "0 1 0 0 arrive a 1 2; 0 2 0 0 arrive b 2 3; 0 3 2 2 depart a; 0 4 4; 0 5 6; 1 1 0 0 arrive c 1 3; 1 2 1 3 arrive d 1 2; plan 2; 1 5 6; 1 4 5; plan 1; 1 3 3 4 late b 4 2; plan 6",
-        "new, new, new, new, new, new, new, slot 0, waiting 1, new, new, waiting 1, new, slot 1, slot 2, slot 3, slot 4, slot 5, done",
-        TABLES,
-        DECISIONS,
+        Wanted {
+            answers: "new, new, new, new, new, new, new, slot 0, waiting 1, new, new, waiting 1, new, slot 1, slot 2, slot 3, slot 4, slot 5, done",
+            tables: TABLES,
+            decisions: DECISIONS,
+        },
     )
 }
