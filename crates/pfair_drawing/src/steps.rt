@@ -20,23 +20,27 @@ use std::alloc::{AllocError, Global};
 /// A step for each of the figure's slots and each task that is a member in it and isn't departing,
 /// from its lag at the slot's beginning to that at its end. It costs all slots before the figure's
 /// end.
-pub(crate) fn steps_of<R: Ready>(
+pub(crate) fn steps_of<'a, R: Ready>(
     alloc: Global,
-    frame: &Frame,
-    names: &[TaskName],
+    frame: &'a Frame,
+    names: &'a [TaskName],
     dispatcher: &Dispatcher<R>,
 ) -> Result<Vec<LagStep>, AllocError>
     requires { IsFrame frame.now }
     ensures { IfOk result (λ made. made.items ≡ lag_steps frame.now names.now dispatcher.now.decided dispatcher.now.tables) }
 {
-    let mut steps = Vec::new(alloc);
-    let mut book = book_before(alloc, dispatcher, frame.from)?;
+    let mut steps = Steps {
+        frame,
+        names,
+        book: book_before(alloc, dispatcher, frame.from)?,
+        made: Vec::new(alloc),
+    };
     for slot in frame.from..frame.to {
-        tell_all(&mut book, decided_at(dispatcher, slot))?;
+        tell_all(&mut steps.book, decided_at(dispatcher, slot))?;
         let table = table_at(dispatcher, slot);
-        add_slot(alloc, &mut steps, frame, names, &mut book, slot, table)?;
+        steps.add_slot(alloc, slot, table)?;
     }
-    Ok(steps)
+    Ok(steps.made)
 }
 
 // The book of lags before the boundary of a slot.
@@ -56,30 +60,35 @@ fn book_before<R: Ready>(
     Ok(book)
 }
 
-// Records a slot's table, and adds a step for each task of the book.
-fn add_slot(
-    alloc: Global,
-    steps: &mut Vec<LagStep>,
-    frame: &Frame,
-    names: &[TaskName],
-    book: &mut LagBook,
-    slot: u64,
-    table: &[Pick],
-) -> Result<(), AllocError>
-    requires frame { IsFrame frame.now }
-    requires slot { slot < MAX_HORIZON }
-    requires time { book.old.time < MAX_HORIZON }
-    ensures book { OnOk result (book.new ≡ recorded (map (λ p. p.name) table.now) book.old) }
-    ensures steps { OnOk result (steps.new.items ≡ steps.old.items ++ map (task_step frame.now names.now slot (map (λ p. p.name) table.now)) book.old.entered) }
-{
-    let before = lags_of(alloc, book)?;
-    book.record(table);
-    for (place, old) in before.iter().enumerate() {
-        if let Some((name, new)) = book.row_at(place) {
-            steps.push(lag_step(frame, row_of(names, *name), slot, *old, new))?;
+// The steps that were made of a figure, and the book of lags after them.
+#[derive(Drop)]
+struct Steps<'a> {
+    frame: &'a Frame,
+    names: &'a [TaskName],
+    book: LagBook,
+    made: Vec<LagStep>,
+}
+
+impl<'a> Steps<'a> {
+    // Records a slot's table, and adds a step for each task of the book.
+    fn add_slot(&mut self, alloc: Global, slot: u64, table: &[Pick]) -> Result<(), AllocError>
+        requires frame { IsFrame self.old.frame.now }
+        requires slot { slot < MAX_HORIZON }
+        requires time { self.old.book.time < MAX_HORIZON }
+        ensures figure { (self.new.frame ≡ self.old.frame) × (self.new.names ≡ self.old.names) }
+        ensures book { OnOk result (self.new.book ≡ recorded (map (λ p. p.name) table.now) self.old.book) }
+        ensures steps { OnOk result (self.new.made.items ≡ self.old.made.items ++ map (task_step self.old.frame.now self.old.names.now slot (map (λ p. p.name) table.now)) self.old.book.entered) }
+    {
+        let before = lags_of(alloc, &self.book)?;
+        self.book.record(table);
+        for (place, old) in before.iter().enumerate() {
+            if let Some((name, new)) = self.book.row_at(place) {
+                let row = row_of(self.names, *name);
+                self.made.push(lag_step(self.frame, row, slot, *old, new))?;
+            }
         }
+        Ok(())
     }
-    Ok(())
 }
 
 // The lag of each task of a book, in their order, each as a numerator over its period.
