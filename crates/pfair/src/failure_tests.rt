@@ -2,18 +2,18 @@
 //! that fails once and would then go on, and a gate that gives up at any of its calls.
 
 use crate::decisions::decisions;
-use crate::fault::{ProgramFault, write_fault};
+use crate::fault::ProgramFault;
 use crate::lags::lags;
 use crate::replay::replay;
 use crate::replay_placed::replay_placed;
-use crate::run_tests::{DECISIONS, LAGS, PLACED, SAMPLE, TABLES};
+use crate::run_tests::{DECISIONS, LAGS, PLACED, SAMPLE, TABLES, assert_fault};
 use pfair_board::{Gate, OpenGate};
 use std::alloc::Global;
 use std::io;
 use std::io::{Read, Write};
+use std::process::Abort;
 use std::sync::Wait;
 use std::sync::atomic::{AtomicU64, Ordering};
-use std::test::Fail;
 use std::thread::Threads;
 
 // A command over a task file.
@@ -100,53 +100,66 @@ impl Write for OnceFailingWriter {
     }
 }
 
-#[test]
-fn a_reader_that_fails_once(rt: HostRuntime) -> Result<(), Fail> {
-    for (command, _) in COMMANDS {
-        for failing in 0..SAMPLE.len() / 64 + 2 {
-            let mut reader = OnceFailingReader {
-                left: SAMPLE.as_bytes(),
-                calls: 0,
-                failing,
-            };
-            let mut text = Vec::new(rt.alloc());
-            let fault = run_over(&rt, rt.alloc(), command, &mut reader, &mut text)
-                .err()
-                .expect(&rt, "a fault");
-            let mut line = Vec::new(rt.alloc());
-            assert_eq!(rt; write_fault(&fault, &mut line), 5);
-            assert_eq!(rt; line.as_slice(), b"pfair: 70 reading failed\n".as_slice());
-            assert!(rt; text.is_empty() && reader.calls == failing.saturating_add(1));
-        }
-    }
-    Ok(())
+fn assert_read_fails<P: Abort + Threads + Wait + Sync>(
+    rt: &P,
+    alloc: Global,
+    command: Over,
+    failing: usize,
+) {
+    let mut reader = OnceFailingReader {
+        left: SAMPLE.as_bytes(),
+        calls: 0,
+        failing,
+    };
+    let mut text = Vec::new(alloc);
+    let fault = run_over(rt, alloc, command, &mut reader, &mut text)
+        .err()
+        .expect(rt, "a fault");
+    assert_fault(rt, alloc, &fault, b"pfair: 70 reading failed\n", 5);
+    assert!(rt; text.is_empty() && reader.calls == failing.saturating_add(1));
 }
 
 #[test]
-fn a_writer_that_fails_once(rt: HostRuntime) -> Result<(), Fail> {
+fn a_reader_that_fails_once(rt: HostRuntime) {
+    for (command, _) in COMMANDS {
+        for failing in 0..SAMPLE.len() / 64 + 2 {
+            assert_read_fails(&rt, rt.alloc(), command, failing);
+        }
+    }
+}
+
+fn assert_write_fails<P: Abort + Threads + Wait + Sync>(
+    rt: &P,
+    alloc: Global,
+    command: Over,
+    writer: &mut OnceFailingWriter,
+    rows: &str,
+) {
+    let failing = writer.failing;
+    let fault = run_over(rt, alloc, command, &mut SAMPLE.as_bytes(), writer)
+        .err()
+        .expect(rt, "a fault");
+    assert_fault(rt, alloc, &fault, b"pfair: 71 writing failed\n", 5);
+    assert!(rt; writer.calls == failing.saturating_add(1));
+    assert_eq!(rt; writer.taken.len(), failing.saturating_mul(10));
+    assert!(rt; rows.as_bytes().starts_with(writer.taken.as_slice()));
+}
+
+#[test]
+fn a_writer_that_fails_once(rt: HostRuntime) {
     for (command, rows) in COMMANDS {
         for failing in 0..rows.len().div_ceil(10) {
             for takes_none in [false, true] {
-                let mut reader = SAMPLE.as_bytes();
                 let mut writer = OnceFailingWriter {
                     taken: Vec::new(rt.alloc()),
                     calls: 0,
                     failing,
                     takes_none,
                 };
-                let fault = run_over(&rt, rt.alloc(), command, &mut reader, &mut writer)
-                    .err()
-                    .expect(&rt, "a fault");
-                let mut line = Vec::new(rt.alloc());
-                assert_eq!(rt; write_fault(&fault, &mut line), 5);
-                assert_eq!(rt; line.as_slice(), b"pfair: 71 writing failed\n".as_slice());
-                assert!(rt; writer.calls == failing.saturating_add(1));
-                assert_eq!(rt; writer.taken.len(), failing.saturating_mul(10));
-                assert!(rt; rows.as_bytes().starts_with(writer.taken.as_slice()));
+                assert_write_fails(&rt, rt.alloc(), command, &mut writer, rows);
             }
         }
     }
-    Ok(())
 }
 
 // Gives up from one of its calls on, counted from 1.
@@ -166,27 +179,27 @@ impl Gate for TiringGate {
     }
 }
 
+fn assert_tired<P: Abort + Threads + Wait + Sync>(rt: &P, alloc: Global, tired: u64) {
+    let gate = TiringGate {
+        calls: AtomicU64::new(0),
+        tired,
+    };
+    let mut text = Vec::new(alloc);
+    let outcome = replay(rt, alloc, &mut SAMPLE.as_bytes(), &mut text, &gate);
+    if tired > 12 {
+        assert!(rt; outcome.is_ok());
+        assert_eq!(rt; text.as_slice(), TABLES.as_bytes());
+        return;
+    }
+    let fault = outcome.err().expect(rt, "a fault");
+    assert_fault(rt, alloc, &fault, b"pfair: 53 gate gave up\n", 3);
+    assert!(rt; text.is_empty());
+}
+
 #[test]
-fn a_gate_that_gives_up_from_one_of_its_calls_on(rt: HostRuntime) -> Result<(), Fail> {
+fn a_gate_that_gives_up_from_one_of_its_calls_on(rt: HostRuntime) {
     // two workers come before each of six slots
     for tired in 1..=13 {
-        let gate = TiringGate {
-            calls: AtomicU64::new(0),
-            tired,
-        };
-        let mut reader = SAMPLE.as_bytes();
-        let mut text = Vec::new(rt.alloc());
-        let outcome = replay(&rt, rt.alloc(), &mut reader, &mut text, &gate);
-        if tired > 12 {
-            assert!(rt; outcome.is_ok());
-            assert_eq!(rt; text.as_slice(), TABLES.as_bytes());
-            continue;
-        }
-        let fault = outcome.err().expect(&rt, "a fault");
-        let mut line = Vec::new(rt.alloc());
-        assert_eq!(rt; write_fault(&fault, &mut line), 3);
-        assert_eq!(rt; line.as_slice(), b"pfair: 53 gate gave up\n".as_slice());
-        assert!(rt; text.is_empty());
+        assert_tired(&rt, rt.alloc(), tired);
     }
-    Ok(())
 }

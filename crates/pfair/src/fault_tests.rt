@@ -9,8 +9,10 @@ use pfair_replica::{EntryKey, MergeFault, TakeFault};
 use pfair_table::PlanFault;
 use pfair_weight::{NameFault, WeightFault};
 use std::alloc::Global;
+use std::fmt::Display;
 use std::io;
 use std::io::Write;
+use std::process::Abort;
 use std::test::Fail;
 
 // Takes all that comes, and counts the calls.
@@ -157,14 +159,34 @@ fn faults_of_a_file_are_lines_of_one_write(rt: HostRuntime) -> Result<(), Fail> 
         (EntryCause::LogFull, "12 log full"),
     ];
     for (cause, text) in causes {
-        let line = format!(in rt.alloc();
-            "pfair: 64 entry 4294967295 of processor 255 refused: {text}\n"
-        )?;
-        assert!(rt;
-            is_one_line(rt.alloc(), &refused(cause), line.as_str(), 2),
-            "{text}"
-        );
+        assert_refused(&rt, rt.alloc(), cause, text)?;
     }
+    Ok(())
+}
+
+fn assert_refused(
+    rt: &impl Abort,
+    alloc: Global,
+    cause: EntryCause,
+    text: &str,
+) -> Result<(), Fail> {
+    let line = format!(in alloc; "pfair: 64 entry 4294967295 of processor 255 refused: {text}\n")?;
+    assert!(rt;
+        is_one_line(alloc, &refused(cause), line.as_str(), 2),
+        "{text}"
+    );
+    Ok(())
+}
+
+// Asserts the text of a fault.
+fn assert_text<F: Display>(
+    rt: &impl Abort,
+    alloc: Global,
+    fault: &F,
+    expected: &str,
+) -> Result<(), Fail> {
+    let text = format!(in alloc; "{fault}")?;
+    assert_eq!(rt; text.as_str(), expected);
     Ok(())
 }
 
@@ -180,7 +202,7 @@ fn texts_that_no_run_of_the_program_shows(rt: HostRuntime) -> Result<(), Fail> {
         (PlanFault::Memory, 90, "out of memory"),
     ] {
         assert_eq!(rt; fault.number(), number);
-        assert_eq!(rt; format!(in rt.alloc(); "{fault}")?.as_str(), text);
+        assert_text(&rt, rt.alloc(), &fault, text)?;
     }
     for (fault, number, text) in [
         (NoteFault::FloorFell, 11, "floor fell"),
@@ -188,7 +210,7 @@ fn texts_that_no_run_of_the_program_shows(rt: HostRuntime) -> Result<(), Fail> {
         (NoteFault::Refused(EntryFault::BadDelay), 9, "bad delay"),
     ] {
         assert_eq!(rt; fault.number(), number);
-        assert_eq!(rt; format!(in rt.alloc(); "{fault}")?.as_str(), text);
+        assert_text(&rt, rt.alloc(), &fault, text)?;
     }
     for (fault, number, text) in [
         (TakeFault::NoSuchProcessor, 13, "no such processor"),
@@ -196,14 +218,14 @@ fn texts_that_no_run_of_the_program_shows(rt: HostRuntime) -> Result<(), Fail> {
         (TakeFault::Memory, 90, "out of memory"),
     ] {
         assert_eq!(rt; fault.number(), number);
-        assert_eq!(rt; format!(in rt.alloc(); "{fault}")?.as_str(), text);
+        assert_text(&rt, rt.alloc(), &fault, text)?;
     }
     for (fault, number, text) in [
         (MergeFault::OtherShape, 15, "other shape"),
         (MergeFault::Memory, 90, "out of memory"),
     ] {
         assert_eq!(rt; fault.number(), number);
-        assert_eq!(rt; format!(in rt.alloc(); "{fault}")?.as_str(), text);
+        assert_text(&rt, rt.alloc(), &fault, text)?;
     }
     Ok(())
 }
@@ -216,7 +238,7 @@ fn texts_of_a_board(rt: HostRuntime) -> Result<(), Fail> {
         (LookFault::Memory, 90, "out of memory"),
     ] {
         assert_eq!(rt; fault.number(), number);
-        assert_eq!(rt; format!(in rt.alloc(); "{fault}")?.as_str(), text);
+        assert_text(&rt, rt.alloc(), &fault, text)?;
     }
     let standing = Entry::new(0, None).ok().expect(&rt, "an entry");
     for (fault, number, text) in [
@@ -225,7 +247,7 @@ fn texts_of_a_board(rt: HostRuntime) -> Result<(), Fail> {
         (PublishFault::Memory, 90, "out of memory"),
     ] {
         assert_eq!(rt; fault.number(), number);
-        assert_eq!(rt; format!(in rt.alloc(); "{fault}")?.as_str(), text);
+        assert_text(&rt, rt.alloc(), &fault, text)?;
     }
     Ok(())
 }

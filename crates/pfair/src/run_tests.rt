@@ -9,9 +9,9 @@ use crate::replay_placed::replay_placed;
 use pfair_board::{Gate, OpenGate};
 use std::alloc::Global;
 use std::io::{Read, Write};
+use std::process::Abort;
 use std::sync::Wait;
 use std::sync::atomic::{AtomicU64, Ordering};
-use std::test::Fail;
 use std::thread::Threads;
 use std::{io, thread};
 
@@ -100,76 +100,115 @@ fn replay_sample<P: Threads + Wait + Sync, W: Write, G: Gate + Sync>(
     }
 }
 
-#[test]
-fn the_sample_file_gives_its_rows(rt: HostRuntime) -> Result<(), Fail> {
-    let mut text = Vec::new(rt.alloc());
-    assert!(rt; replay(&rt, rt.alloc(), &mut sample(), &mut text, &OpenGate).is_ok());
-    assert_eq!(rt; text.as_slice(), TABLES.as_bytes());
-    let mut text = Vec::new(rt.alloc());
-    assert!(rt; replay_placed(&rt, rt.alloc(), &mut sample(), &mut text, &OpenGate).is_ok());
-    assert_eq!(rt; text.as_slice(), PLACED.as_bytes());
-    let mut text = Vec::new(rt.alloc());
-    assert!(rt; decisions(rt.alloc(), &mut sample(), &mut text).is_ok());
-    assert_eq!(rt; text.as_slice(), DECISIONS.as_bytes());
-    let mut text = Vec::new(rt.alloc());
-    assert!(rt; lags(rt.alloc(), &mut sample(), &mut text).is_ok());
-    assert_eq!(rt; text.as_slice(), LAGS.as_bytes());
-    Ok(())
+// Asserts the rows of a replay without places.
+fn assert_rows<P: Abort + Threads + Wait + Sync>(
+    rt: &P,
+    alloc: Global,
+    reader: &mut PieceReader,
+    rows: &str,
+) {
+    let mut text = Vec::new(alloc);
+    assert!(rt; replay(rt, alloc, reader, &mut text, &OpenGate).is_ok());
+    assert_eq!(rt; text.as_slice(), rows.as_bytes());
+}
+
+// Asserts the rows of a replay with places.
+fn assert_placed<P: Abort + Threads + Wait + Sync>(
+    rt: &P,
+    alloc: Global,
+    reader: &mut PieceReader,
+    rows: &str,
+) {
+    let mut text = Vec::new(alloc);
+    assert!(rt; replay_placed(rt, alloc, reader, &mut text, &OpenGate).is_ok());
+    assert_eq!(rt; text.as_slice(), rows.as_bytes());
+}
+
+fn assert_decisions(rt: &impl Abort, alloc: Global, reader: &mut PieceReader, rows: &str) {
+    let mut text = Vec::new(alloc);
+    assert!(rt; decisions(alloc, reader, &mut text).is_ok());
+    assert_eq!(rt; text.as_slice(), rows.as_bytes());
+}
+
+fn assert_lags(rt: &impl Abort, alloc: Global, reader: &mut PieceReader, rows: &str) {
+    let mut text = Vec::new(alloc);
+    assert!(rt; lags(alloc, reader, &mut text).is_ok());
+    assert_eq!(rt; text.as_slice(), rows.as_bytes());
 }
 
 #[test]
-fn a_task_stays_where_it_ran_in_the_slot_before(rt: HostRuntime) -> Result<(), Fail> {
-    let mut text = Vec::new(rt.alloc());
-    let mut reader = whole(TWO_THIRDS);
-    assert!(rt; replay_placed(&rt, rt.alloc(), &mut reader, &mut text, &OpenGate).is_ok());
-    assert_eq!(rt; text.as_slice(), TWO_THIRDS_PLACED.as_bytes());
-    Ok(())
+fn the_sample_file_gives_its_rows(rt: HostRuntime) {
+    assert_rows(&rt, rt.alloc(), &mut sample(), TABLES);
+    assert_placed(&rt, rt.alloc(), &mut sample(), PLACED);
+    assert_decisions(&rt, rt.alloc(), &mut sample(), DECISIONS);
+    assert_lags(&rt, rt.alloc(), &mut sample(), LAGS);
 }
 
 #[test]
-fn no_task_on_64_processors(rt: HostRuntime) -> Result<(), Fail> {
-    let mut text = Vec::new(rt.alloc());
+fn a_task_stays_where_it_ran_in_the_slot_before(rt: HostRuntime) {
+    assert_placed(&rt, rt.alloc(), &mut whole(TWO_THIRDS), TWO_THIRDS_PLACED);
+}
+
+#[test]
+fn no_task_on_64_processors(rt: HostRuntime) {
     let mut reader = whole("version = 1\nprocessors = 64\nframe = 1\nslots = 2\n");
-    assert!(rt; replay_placed(&rt, rt.alloc(), &mut reader, &mut text, &OpenGate).is_ok());
-    assert_eq!(rt;
-        text.as_slice(),
-        b"slot,processor,task,index,place\n".as_slice()
+    assert_placed(
+        &rt,
+        rt.alloc(),
+        &mut reader,
+        "slot,processor,task,index,place\n",
     );
-    Ok(())
 }
 
 #[test]
-fn a_reader_of_one_byte_a_call(rt: HostRuntime) -> Result<(), Fail> {
+fn a_reader_of_one_byte_a_call(rt: HostRuntime) {
     let mut reader = sample();
     reader.at_once = 1;
-    let mut text = Vec::new(rt.alloc());
-    assert!(rt; replay(&rt, rt.alloc(), &mut reader, &mut text, &OpenGate).is_ok());
-    assert_eq!(rt; text.as_slice(), TABLES.as_bytes());
-    Ok(())
+    assert_rows(&rt, rt.alloc(), &mut reader, TABLES);
+}
+
+/// Asserts that a fault has this line and status.
+pub(crate) fn assert_fault(
+    rt: &impl Abort,
+    alloc: Global,
+    fault: &ProgramFault,
+    expected: &[u8],
+    status: u8,
+) {
+    let mut line = Vec::new(alloc);
+    assert_eq!(rt; write_fault(fault, &mut line), status);
+    assert_eq!(rt; line.as_slice(), expected);
+}
+
+// The sample file, given in pieces of 64 bytes by so many calls.
+fn in_pieces(calls: usize) -> PieceReader {
+    PieceReader {
+        left: SAMPLE.as_bytes(),
+        at_once: 64,
+        calls,
+    }
+}
+
+fn assert_read_fails<P: Abort + Threads + Wait + Sync>(
+    rt: &P,
+    alloc: Global,
+    reader: &mut PieceReader,
+) {
+    let mut text = Vec::new(alloc);
+    let fault = replay(rt, alloc, reader, &mut text, &OpenGate)
+        .err()
+        .expect(rt, "a fault");
+    assert_fault(rt, alloc, &fault, b"pfair: 70 reading failed\n", 5);
+    assert!(rt; text.is_empty());
 }
 
 #[test]
-fn a_reader_that_fails_at_each_call(rt: HostRuntime) -> Result<(), Fail> {
+fn a_reader_that_fails_at_each_call(rt: HostRuntime) {
     let pieces = SAMPLE.len() / 64 + 2;
     for calls in 0..pieces {
-        let mut reader = sample();
-        reader.at_once = 64;
-        reader.calls = calls;
-        let mut text = Vec::new(rt.alloc());
-        let fault = replay(&rt, rt.alloc(), &mut reader, &mut text, &OpenGate)
-            .err()
-            .expect(&rt, "a fault");
-        let mut line = Vec::new(rt.alloc());
-        assert_eq!(rt; write_fault(&fault, &mut line), 5);
-        assert_eq!(rt; line.as_slice(), b"pfair: 70 reading failed\n".as_slice());
-        assert!(rt; text.is_empty());
+        assert_read_fails(&rt, rt.alloc(), &mut in_pieces(calls));
     }
-    let mut reader = sample();
-    reader.at_once = 64;
-    reader.calls = pieces;
-    let mut text = Vec::new(rt.alloc());
-    assert!(rt; replay(&rt, rt.alloc(), &mut reader, &mut text, &OpenGate).is_ok());
-    Ok(())
+    assert_rows(&rt, rt.alloc(), &mut in_pieces(pieces), TABLES);
 }
 
 // Takes at most so many bytes a call, and fails, or takes none, once its calls are used up.
@@ -200,8 +239,24 @@ impl Write for PieceWriter {
     }
 }
 
+fn assert_write_fails<P: Abort + Threads + Wait + Sync>(
+    rt: &P,
+    alloc: Global,
+    affinity: bool,
+    writer: &mut PieceWriter,
+    rows: &str,
+) {
+    let calls = writer.calls;
+    let fault = replay_sample(rt, alloc, affinity, writer, &OpenGate)
+        .err()
+        .expect(rt, "a fault");
+    assert_fault(rt, alloc, &fault, b"pfair: 71 writing failed\n", 5);
+    assert_eq!(rt; writer.taken.len(), calls.saturating_mul(10));
+    assert!(rt; rows.as_bytes().starts_with(writer.taken.as_slice()));
+}
+
 #[test]
-fn a_writer_that_fails_at_each_call(rt: HostRuntime) -> Result<(), Fail> {
+fn a_writer_that_fails_at_each_call(rt: HostRuntime) {
     for (affinity, rows) in [(false, TABLES), (true, PLACED)] {
         for calls in 0..rows.len().div_ceil(10) {
             for fails in [false, true] {
@@ -211,18 +266,10 @@ fn a_writer_that_fails_at_each_call(rt: HostRuntime) -> Result<(), Fail> {
                     calls,
                     fails,
                 };
-                let fault = replay_sample(&rt, rt.alloc(), affinity, &mut writer, &OpenGate)
-                    .err()
-                    .expect(&rt, "a fault");
-                let mut line = Vec::new(rt.alloc());
-                assert_eq!(rt; write_fault(&fault, &mut line), 5);
-                assert_eq!(rt; line.as_slice(), b"pfair: 71 writing failed\n".as_slice());
-                assert_eq!(rt; writer.taken.len(), calls.saturating_mul(10));
-                assert!(rt; rows.as_bytes().starts_with(writer.taken.as_slice()));
+                assert_write_fails(&rt, rt.alloc(), affinity, &mut writer, rows);
             }
         }
     }
-    Ok(())
 }
 
 // Gives so many spaces.
@@ -241,7 +288,7 @@ impl Read for Spaces {
 }
 
 #[test]
-fn a_file_that_is_too_long_by_a_byte(rt: HostRuntime) -> Result<(), Fail> {
+fn a_file_that_is_too_long_by_a_byte(rt: HostRuntime) {
     let mut text = Vec::new(rt.alloc());
     let fault = replay(
         &rt,
@@ -252,11 +299,8 @@ fn a_file_that_is_too_long_by_a_byte(rt: HostRuntime) -> Result<(), Fail> {
     )
     .err()
     .expect(&rt, "a fault");
-    let mut line = Vec::new(rt.alloc());
-    assert_eq!(rt; write_fault(&fault, &mut line), 2);
-    assert_eq!(rt; line.as_slice(), b"pfair: 66 file too long\n".as_slice());
+    assert_fault(&rt, rt.alloc(), &fault, b"pfair: 66 file too long\n", 2);
     assert!(rt; text.is_empty());
-    Ok(())
 }
 
 // Each of two workers' first come ends only after the other's first has begun. It counts the calls
@@ -291,20 +335,27 @@ impl Gate for Meeting {
     }
 }
 
+fn assert_meeting<P: Abort + Threads + Wait + Sync>(
+    rt: &P,
+    alloc: Global,
+    affinity: bool,
+    rows: &str,
+) {
+    let gate = Meeting {
+        first: AtomicU64::new(0),
+        second: AtomicU64::new(0),
+    };
+    let mut text = Vec::new(alloc);
+    assert!(rt; replay_sample(rt, alloc, affinity, &mut text, &gate).is_ok());
+    assert_eq!(rt; text.as_slice(), rows.as_bytes());
+    assert_eq!(rt; gate.first.load(Ordering::SeqCst), 6);
+    assert_eq!(rt; gate.second.load(Ordering::SeqCst), 6);
+}
+
 #[test]
-fn two_workers_that_wait_for_each_other(rt: HostRuntime) -> Result<(), Fail> {
-    for (affinity, rows) in [(false, TABLES), (true, PLACED)] {
-        let gate = Meeting {
-            first: AtomicU64::new(0),
-            second: AtomicU64::new(0),
-        };
-        let mut text = Vec::new(rt.alloc());
-        assert!(rt; replay_sample(&rt, rt.alloc(), affinity, &mut text, &gate).is_ok());
-        assert_eq!(rt; text.as_slice(), rows.as_bytes());
-        assert_eq!(rt; gate.first.load(Ordering::SeqCst), 6);
-        assert_eq!(rt; gate.second.load(Ordering::SeqCst), 6);
-    }
-    Ok(())
+fn two_workers_that_wait_for_each_other(rt: HostRuntime) {
+    assert_meeting(&rt, rt.alloc(), false, TABLES);
+    assert_meeting(&rt, rt.alloc(), true, PLACED);
 }
 
 // Gives up at once.
@@ -321,17 +372,17 @@ impl Gate for ShutGate {
     }
 }
 
+fn assert_given_up<P: Abort + Threads + Wait + Sync>(rt: &P, alloc: Global, affinity: bool) {
+    let mut text = Vec::new(alloc);
+    let fault = replay_sample(rt, alloc, affinity, &mut text, &ShutGate)
+        .err()
+        .expect(rt, "a fault");
+    assert_fault(rt, alloc, &fault, b"pfair: 53 gate gave up\n", 3);
+    assert!(rt; text.is_empty());
+}
+
 #[test]
-fn a_gate_that_gives_up(rt: HostRuntime) -> Result<(), Fail> {
-    for affinity in [false, true] {
-        let mut text = Vec::new(rt.alloc());
-        let fault = replay_sample(&rt, rt.alloc(), affinity, &mut text, &ShutGate)
-            .err()
-            .expect(&rt, "a fault");
-        let mut line = Vec::new(rt.alloc());
-        assert_eq!(rt; write_fault(&fault, &mut line), 3);
-        assert_eq!(rt; line.as_slice(), b"pfair: 53 gate gave up\n".as_slice());
-        assert!(rt; text.is_empty());
-    }
-    Ok(())
+fn a_gate_that_gives_up(rt: HostRuntime) {
+    assert_given_up(&rt, rt.alloc(), false);
+    assert_given_up(&rt, rt.alloc(), true);
 }

@@ -5,8 +5,10 @@ use crate::windows::windows;
 use crate::words::read_words;
 use pfair_weight::Weight;
 use pfair_words::Asked;
+use std::alloc::{AllocError, Global};
 use std::io;
 use std::io::Write;
+use std::process::Abort;
 use std::test::Fail;
 
 // Takes so many bytes and then fails.
@@ -32,6 +34,14 @@ impl Write for FailingWriter {
     }
 }
 
+// Asserts the windows of a weight.
+fn assert_rows(rt: &impl Abort, alloc: Global, weight: Weight, count: u64, expected: &[u8]) {
+    let mut text = Vec::new(alloc);
+    assert!(rt; count <= 1_000_000);
+    assert!(rt; windows(alloc, weight, count, &mut text).is_ok());
+    assert_eq!(rt; text.as_slice(), expected);
+}
+
 #[test]
 fn windows_that_are_known(rt: HostRuntime) -> Result<(), Fail> {
     let rows: [(u64, u64, u64, &[u8]); 4] = [
@@ -42,10 +52,7 @@ fn windows_that_are_known(rt: HostRuntime) -> Result<(), Fail> {
     ];
     for (cost, period, count, expected) in rows {
         let weight = Weight::new(cost, period).ok().expect(&rt, "a weight");
-        let mut text = Vec::new(rt.alloc());
-        assert!(rt; count <= 1_000_000);
-        assert!(rt; windows(rt.alloc(), weight, count, &mut text).is_ok());
-        assert_eq!(rt; text.as_slice(), expected);
+        assert_rows(&rt, rt.alloc(), weight, count, expected);
     }
     Ok(())
 }
@@ -65,6 +72,31 @@ fn a_writer_that_fails_after_the_header(rt: HostRuntime) -> Result<(), Fail> {
     assert_eq!(rt; write_fault(&fault, &mut line), 5);
     assert_eq!(rt; line.as_slice(), b"pfair: 71 writing failed\n".as_slice());
     assert_eq!(rt; write_fault(&ProgramFault::CommandLine, &mut writer), 1);
+    Ok(())
+}
+
+fn words_of(alloc: Global, words: &[&str]) -> Result<Vec<String>, AllocError> {
+    let mut given = Vec::new(alloc);
+    for word in words {
+        given.push(String::from_str(alloc, word)?)?;
+    }
+    Ok(given)
+}
+
+// Asserts the line that tells why words are refused.
+fn assert_refused(
+    rt: &impl Abort,
+    alloc: Global,
+    words: &[&str],
+    expected: &[u8],
+) -> Result<(), Fail> {
+    let given = words_of(alloc, words)?;
+    let fault = read_words(alloc, given.as_slice())
+        .err()
+        .expect(rt, "a fault");
+    let mut line = Vec::new(alloc);
+    assert_eq!(rt; write_fault(&fault, &mut line), 1);
+    assert_eq!(rt; line.as_slice(), expected);
     Ok(())
 }
 
@@ -102,26 +134,14 @@ fn words_that_are_refused(rt: HostRuntime) -> Result<(), Fail> {
         (&[], b"pfair: 80 command line refused\n"),
     ];
     for (words, expected) in rows {
-        let mut given = Vec::new(rt.alloc());
-        for word in words {
-            given.push(String::from_str(rt.alloc(), word)?)?;
-        }
-        let fault = read_words(rt.alloc(), given.as_slice())
-            .err()
-            .expect(&rt, "a fault");
-        let mut line = Vec::new(rt.alloc());
-        assert_eq!(rt; write_fault(&fault, &mut line), 1);
-        assert_eq!(rt; line.as_slice(), expected);
+        assert_refused(&rt, rt.alloc(), words, expected)?;
     }
     Ok(())
 }
 
 #[test]
 fn words_that_ask(rt: HostRuntime) -> Result<(), Fail> {
-    let mut given = Vec::new(rt.alloc());
-    for word in ["windows", "8", "11", "2"] {
-        given.push(String::from_str(rt.alloc(), word)?)?;
-    }
+    let given = words_of(rt.alloc(), &["windows", "8", "11", "2"])?;
     let mut text = Vec::new(rt.alloc());
     let asked = read_words(rt.alloc(), given.as_slice())
         .ok()
@@ -138,6 +158,25 @@ fn words_that_ask(rt: HostRuntime) -> Result<(), Fail> {
     Ok(())
 }
 
+// Asserts that words ask for the rows of a file, with places or without.
+fn assert_affinity(
+    rt: &impl Abort,
+    alloc: Global,
+    words: &[&str],
+    expected: bool,
+) -> Result<(), Fail> {
+    let given = words_of(alloc, words)?;
+    let asked = read_words(alloc, given.as_slice())
+        .ok()
+        .expect(rt, "a command");
+    let is_as_asked = match asked {
+        Asked::Replay { file, affinity } => affinity == expected && file.as_str() == "a.toml",
+        _ => false,
+    };
+    assert!(rt; is_as_asked);
+    Ok(())
+}
+
 #[test]
 fn words_that_ask_for_places(rt: HostRuntime) -> Result<(), Fail> {
     let rows: [(&[&str], bool); 3] = [
@@ -146,20 +185,7 @@ fn words_that_ask_for_places(rt: HostRuntime) -> Result<(), Fail> {
         (&["replay", "a.toml", "--affinity"], true),
     ];
     for (words, expected) in rows {
-        let mut given = Vec::new(rt.alloc());
-        for word in words {
-            given.push(String::from_str(rt.alloc(), word)?)?;
-        }
-        let asked = read_words(rt.alloc(), given.as_slice())
-            .ok()
-            .expect(&rt, "a command");
-        let is_as_asked = match asked {
-            Asked::Replay { file, affinity } => {
-                affinity == expected && file.as_str() == "a.toml"
-            }
-            _ => false,
-        };
-        assert!(rt; is_as_asked);
+        assert_affinity(&rt, rt.alloc(), words, expected)?;
     }
     Ok(())
 }

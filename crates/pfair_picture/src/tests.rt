@@ -3,8 +3,10 @@
 use crate::draw::draw;
 use crate::fault::{ProgramFault, write_fault};
 use crate::words::{Asked, Picture, read_words};
+use std::alloc::{AllocError, Global};
 use std::io;
 use std::io::Write;
+use std::process::Abort;
 use std::test::Fail;
 
 const FILE: &str =
@@ -20,25 +22,42 @@ fn has(text: &[u8], part: &[u8]) -> bool {
     false
 }
 
-#[test]
-fn both_pictures_come_out(rt: HostRuntime) -> Result<(), Fail> {
-    let rows = [
-        (Picture::Schedule, b"class=\"window\"".as_slice()),
-        (Picture::Lags, b"class=\"lag\"".as_slice()),
-    ];
-    for (picture, part) in rows {
-        let mut text: Vec<u8> = Vec::new(rt.alloc());
-        let made = draw(rt.alloc(), &mut FILE.as_bytes(), picture, None, &mut text);
-        assert!(rt; made.is_ok());
-        assert!(rt; text.as_slice().starts_with(b"<svg "));
-        assert!(rt; text.as_slice().ends_with(b"</svg>\n"));
-        assert!(rt; has(text.as_slice(), part));
-    }
-    Ok(())
+fn assert_picture(rt: &impl Abort, alloc: Global, picture: Picture, part: &[u8]) {
+    let mut text: Vec<u8> = Vec::new(alloc);
+    let made = draw(alloc, &mut FILE.as_bytes(), picture, None, &mut text);
+    assert!(rt; made.is_ok());
+    assert!(rt; text.as_slice().starts_with(b"<svg "));
+    assert!(rt; text.as_slice().ends_with(b"</svg>\n"));
+    assert!(rt; has(text.as_slice(), part));
 }
 
 #[test]
-fn slots_outside_the_file_are_refused(rt: HostRuntime) -> Result<(), Fail> {
+fn both_pictures_come_out(rt: HostRuntime) {
+    assert_picture(&rt, rt.alloc(), Picture::Schedule, b"class=\"window\"");
+    assert_picture(&rt, rt.alloc(), Picture::Lags, b"class=\"lag\"");
+}
+
+// Asserts whether these slots are drawn.
+fn assert_drawn(rt: &impl Abort, alloc: Global, slots: (u64, u64), is_drawn: bool) {
+    let mut text: Vec<u8> = Vec::new(alloc);
+    let made = draw(
+        alloc,
+        &mut FILE.as_bytes(),
+        Picture::Schedule,
+        Some(slots),
+        &mut text,
+    );
+    match made {
+        Ok(()) => assert!(rt; is_drawn),
+        Err(fault) => {
+            assert!(rt; !is_drawn && fault.number() == 81 && fault.status() == 1);
+            assert!(rt; text.is_empty());
+        }
+    }
+}
+
+#[test]
+fn slots_outside_the_file_are_refused(rt: HostRuntime) {
     let rows = [
         ((0, 4), true),
         ((3, 4), true),
@@ -48,66 +67,69 @@ fn slots_outside_the_file_are_refused(rt: HostRuntime) -> Result<(), Fail> {
         ((4, 5), false),
     ];
     for (slots, is_drawn) in rows {
-        let mut text: Vec<u8> = Vec::new(rt.alloc());
-        let slots = Some(slots);
-        let made = draw(
-            rt.alloc(),
-            &mut FILE.as_bytes(),
-            Picture::Schedule,
-            slots,
-            &mut text,
-        );
-        match made {
-            Ok(()) => assert!(rt; is_drawn),
-            Err(fault) => {
-                assert!(rt; !is_drawn && fault.number() == 81 && fault.status() == 1);
-                assert!(rt; text.is_empty());
-            }
+        assert_drawn(&rt, rt.alloc(), slots, is_drawn);
+    }
+}
+
+// Asserts whether words are taken: as a picture of one file, and of slots where there are four.
+fn assert_words(
+    rt: &impl Abort,
+    alloc: Global,
+    given: &[&str],
+    is_taken: bool,
+) -> Result<(), Fail> {
+    let words = words_of(alloc, given)?;
+    match read_words(alloc, words.as_slice()) {
+        Ok(Asked::Draw { file, slots, .. }) => {
+            assert!(rt; is_taken && file.as_str() == "file");
+            assert!(rt; slots == if given.len() == 4 { Some((2, 7)) } else { None });
         }
+        Ok(Asked::Text(_)) => assert!(rt; false),
+        Err(fault) => assert!(rt; !is_taken && fault.number() == 80),
     }
     Ok(())
 }
 
+fn words_of(alloc: Global, given: &[&str]) -> Result<Vec<String>, AllocError> {
+    let mut words = Vec::new(alloc);
+    for word in given {
+        words.push(String::from_str(alloc, word)?)?;
+    }
+    Ok(words)
+}
+
 #[test]
 fn words_are_read(rt: HostRuntime) -> Result<(), Fail> {
-    let rows = [
-        (["lags", "file", "2", "7"], 4, true),
-        (["schedule", "file", "", ""], 2, true),
-        (["schedule", "file", "2", ""], 3, false),
-        (["schedule", "file", "2", "x"], 4, false),
-        (["replay", "file", "", ""], 2, false),
-        (["lags", "", "", ""], 1, false),
-        (["--help", "file", "", ""], 2, false),
-        (["", "", "", ""], 0, false),
+    let rows: [(&[&str], bool); 8] = [
+        (&["lags", "file", "2", "7"], true),
+        (&["schedule", "file"], true),
+        (&["schedule", "file", "2"], false),
+        (&["schedule", "file", "2", "x"], false),
+        (&["replay", "file"], false),
+        (&["lags"], false),
+        (&["--help", "file"], false),
+        (&[], false),
     ];
-    for (given, count, is_taken) in rows {
-        let mut words = Vec::new(rt.alloc());
-        for word in given.iter().take(count) {
-            words.push(String::from_str(rt.alloc(), word)?)?;
-        }
-        match read_words(rt.alloc(), words.as_slice()) {
-            Ok(Asked::Draw { file, slots, .. }) => {
-                assert!(rt; is_taken && file.as_str() == "file");
-                assert!(rt; slots == if count == 4 { Some((2, 7)) } else { None });
-            }
-            Ok(Asked::Text(_)) => assert!(rt; false),
-            Err(fault) => assert!(rt; !is_taken && fault.number() == 80),
-        }
+    for (given, is_taken) in rows {
+        assert_words(&rt, rt.alloc(), given, is_taken)?;
+    }
+    Ok(())
+}
+
+// Asserts that a word asks for a text that starts so.
+fn assert_text(rt: &impl Abort, alloc: Global, given: &str, start: &str) -> Result<(), Fail> {
+    let words = words_of(alloc, &[given])?;
+    match read_words(alloc, words.as_slice()) {
+        Ok(Asked::Text(text)) => assert!(rt; text.starts_with(start)),
+        _ => assert!(rt; false),
     }
     Ok(())
 }
 
 #[test]
 fn texts_are_asked_for(rt: HostRuntime) -> Result<(), Fail> {
-    for (given, start) in [("--version", "pfair_picture "), ("--help", "Pictures of ")] {
-        let mut words = Vec::new(rt.alloc());
-        words.push(String::from_str(rt.alloc(), given)?)?;
-        match read_words(rt.alloc(), words.as_slice()) {
-            Ok(Asked::Text(text)) => assert!(rt; text.starts_with(start)),
-            _ => assert!(rt; false),
-        }
-    }
-    Ok(())
+    assert_text(&rt, rt.alloc(), "--version", "pfair_picture ")?;
+    assert_text(&rt, rt.alloc(), "--help", "Pictures of ")
 }
 
 // Takes so many bytes and then fails.
