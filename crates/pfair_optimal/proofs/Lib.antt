@@ -1,0 +1,3 @@
+mod BusyBounds
+mod Ends
+mod Fluids

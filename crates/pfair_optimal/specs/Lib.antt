@@ -1,0 +1,2 @@
+pub mod Fluid
+pub mod Laws
