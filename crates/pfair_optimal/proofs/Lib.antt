@@ -1,6 +1,7 @@
 mod BusyBounds
 mod Ends
 mod Fluids
+mod Holes
 mod Lists
 mod Past
 mod Reasons
