@@ -1,9 +1,9 @@
 -- Shares of slots in the fluid schedule.
-use Rattle.std.proofs.Common.{◌≡◌, ℕ, zero, suc, ◌+◌, ◌-◌, ◌*◌, ◌/◌, ◌<◌, ◌≤◌, min, arith, ap, sym, inl, inr}
+use Rattle.std.proofs.Common.{◌≡◌, ℕ, zero, suc, ◌+◌, ◌-◌, ◌*◌, ◌<◌, ◌≤◌, min, arith, ap, sym, inl, inr}
 use Rattle.std.specs.Prelude.{◌↔◌}
 use Rattle.std.proofs.lemmas.Bool.{cases_lt}
 use Rattle.pfair_weight.specs.Share.{Share, IsWeight}
-use Rattle.pfair_weight.specs.Rounding.{lt_of_mul, one_less}
+use Rattle.pfair_weight.specs.Rounding.{one_less}
 use Rattle.pfair_weight.specs.Window.{release_of, deadline_of, b_bit_of}
 use Rattle.pfair_optimal.specs.Fluid.{fluid_of, share_of, total_before}
 use Rattle.pfair_weight.specs.WindowFacts.{release_rises}

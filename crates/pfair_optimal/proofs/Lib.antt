@@ -1,4 +1,6 @@
+mod Blocks
 mod BusyBounds
+mod Counting
 mod Ends
 mod Fluids
 mod Holes
@@ -6,3 +8,5 @@ mod Lists
 mod Past
 mod Reasons
 mod RunWindows
+mod Shares
+mod Totals

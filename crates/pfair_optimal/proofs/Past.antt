@@ -1,10 +1,10 @@
 -- Subtasks that are the same, and those that ran before a time.
-use Rattle.std.proofs.Common.{◌≡◌, ℕ, zero, suc, ◌+◌, ◌-◌, ◌<◌, ◌≤◌, Bool, true, false, arith, ap, refl, sym, ◌∙◌, subst, inl, inr, ⊎_elim}
-use Rattle.std.specs.Prelude.{◌↔◌, ◌⊎◌, ◌==◌, ◌&&◌}
+use Rattle.std.proofs.Common.{◌≡◌, ℕ, zero, suc, ◌+◌, ◌-◌, ◌<◌, ◌≤◌, true, false, arith, ap, sym, ◌∙◌, subst, inl, inr, ⊎_elim}
+use Rattle.std.specs.Prelude.{◌↔◌, ◌==◌}
 use Rattle.std.specs.Cmp.Lexicographic.{bytes_decides}
 use Rattle.std.proofs.lemmas.Bool.{true≢false, false≢true, or_cases, or_left, or_right, and_parts, and_from, eqb-true, eq-eqb, cases_lt, cases_Bool}
 use Rattle.pfair_weight.specs.Name.{name_eq}
-use Rattle.pfair_optimal.specs.Run.{Task, Subtask, same_task, same_subtask, next_of, previous_of, Run, is_row, has_run, IsRun, IsNext}
+use Rattle.pfair_optimal.specs.Run.{Task, Subtask, same_task, same_subtask, next_of, previous_of, Run, is_row, has_run, IsRun}
 
 pub task_exact : (a b : Task) → (same_task a b ≡ true) ↔ (a ≡ b)
 task_exact a b = (to, from)

@@ -1,12 +1,12 @@
 -- The subtasks that a missed one hangs on. Back from the miss, slot by slot: where one of them waits, all rows of the slot come in;
 -- where none does, those rows come in whose next subtask is one of them and is released by the slot.
 use Rattle.std.proofs.Common.{◌≡◌, ℕ, zero, suc, ◌+◌, ◌-◌, ◌<◌, ◌≤◌, Bool, true, false, cond, not, ◌&&◌, ◌||◌, List, [], ◌∷◌, ◌++◌, length, arith, ap, refl, sym, ◌∙◌, subst, inl, inr, ⊎_elim}
-use Rattle.std.specs.Prelude.{◌↔◌, ◌⊎◌, ◌==◌, nat_le, filter}
+use Rattle.std.specs.Prelude.{◌⊎◌, ◌==◌, nat_le, filter}
 use Rattle.std.specs.List.{list_any}
 use Rattle.std.proofs.lemmas.Bool.{true≢false, false≢true, or_cases, or_left, or_right, and_parts, and_from, eqb-true, eq-eqb, leb-true, le-leb, cases_lt, cases_eq, cases_Bool, not-true, not_from_false}
-use Rattle.pfair_optimal.specs.Run.{Task, Subtask, is_among, NoneTwice, same_subtask, next_of, previous_of, Run, release, deadline, is_row, has_run, IsRun, IsNext, IsMiss, IsFirstMiss, GoesFirst}
-use Rattle.pfair_optimal.proofs.Lists.{among_here, among_more, among_cases, among_left, among_right, among_append, among_filter, filter_among, any_from, any_some, twice_filter, twice_append}
-use Rattle.pfair_optimal.proofs.Past.{subtask_exact, previous_next, next_previous, ran_at, ran_by, ran_more, not_ran_less, row_not_before, next_after}
+use Rattle.pfair_optimal.specs.Run.{Subtask, is_among, NoneTwice, same_subtask, next_of, previous_of, Run, release, deadline, is_row, has_run, IsRun, IsMiss, IsFirstMiss, GoesFirst}
+use Rattle.pfair_optimal.proofs.Lists.{among_here, among_cases, among_left, among_right, among_append, among_filter, filter_among, any_from, any_some, twice_filter, twice_append}
+use Rattle.pfair_optimal.proofs.Past.{subtask_exact, next_previous, ran_at, ran_by, ran_more, not_ran_less, row_not_before, next_after}
 use Rattle.pfair_optimal.proofs.RunWindows.{release_joined, release_before, next_deadline, first_bound}
 
 -- it is released by slot v, the one before it ran before v, and it has not run by the end of v
@@ -71,28 +71,32 @@ downward P td start step t le = go (td - t) t (omega arith)
     go zero t e = subst P (let back : td ≡ t = omega arith in back) start
     go (suc n) t e = step t (omega arith) (go n (suc t) (omega arith))
 
+-- a row of a slot at or after its deadline missed it by then
+pub late_row : (x : Run) (is : IsRun x) (z : Subtask) (s : ℕ) → is_row x s z ≡ true → deadline x z ≤ s → IsMiss x s z
+late_row x is z s row late =
+    let next = is.rows_follow s z row in
+    let opens = release_before x is z next.counted in
+    let joined = release_joined x is z next.counted in
+    record {
+      some_time = omega arith;
+      active = is.active_since z.task (s - 1) s (omega arith) (omega arith) (is.rows_active s z row);
+      next = next;
+      not_run = row_not_before x is z s s row (omega arith);
+      late = late;
+    }
+
 module _ (x : Run) (is : IsRun x) (td : ℕ) (missed : Subtask) (m : IsFirstMiss x td missed) where
   -- what ran before the first miss ran before its deadline
   pub in_time : (z : Subtask) (s : ℕ) → s < td → is_row x s z ≡ true → s < deadline x z
   in_time z s before row =
       elim (cases_lt s (deadline x z)) [
         | inl early ↦ early
-        | inr late ↦ absurd (
-            let next = is.rows_follow s z row in
-            let opens = release_before x is z next.counted in
-            let joined = release_joined x is z next.counted in
-            m.first s z before (record {
-              some_time = omega arith;
-              active = is.active_since z.task (s - 1) s (omega arith) (omega arith) (is.rows_active s z row);
-              next = next;
-              not_run = row_not_before x is z s s row (omega arith);
-              late = late;
-            }))
+        | inr late ↦ absurd (m.first s z before (late_row x is z s row late))
       ]
 
   -- ---- who came in, and when
 
-  later_last : later x td missed td ≡ missed ∷ []
+  pub later_last : later x td missed td ≡ missed ∷ []
   later_last = let e : td - td ≡ 0 = omega arith in ap (back x td missed) e
 
   pub later_step : (v : ℕ) → v < td → later x td missed v ≡ picks x td missed v ++ later x td missed (suc v)

@@ -1,11 +1,8 @@
 -- Windows in a run.
-use Rattle.std.proofs.Common.{◌≡◌, ℕ, zero, suc, ◌+◌, ◌-◌, ◌*◌, ◌<◌, ◌≤◌, arith, ap, refl, sym, ◌∙◌, subst, inl, inr}
+use Rattle.std.proofs.Common.{◌≡◌, ℕ, zero, suc, ◌+◌, ◌<◌, ◌≤◌, arith, ap, inl, inr}
 use Rattle.std.proofs.lemmas.Bool.{cases_lt}
-use Rattle.pfair_weight.specs.Share.{Share, IsWeight}
-use Rattle.pfair_weight.specs.Window.{release_of, deadline_of, b_bit_of}
 use Rattle.pfair_weight.specs.WindowFacts.{window_not_empty, release_rises, deadline_rises_strictly, windows_overlap, b_bit_at_most_one}
-use Rattle.pfair_optimal.specs.Run.{Task, Subtask, next_of, previous_of, Run, release, deadline, b_bit, group_deadline, busy_bound, IsRun, GoesFirst}
-use Rattle.pfair_optimal.proofs.Ends.{next_near, opening_next, b_bit_between}
+use Rattle.pfair_optimal.specs.Run.{Task, Subtask, next_of, Run, release, deadline, b_bit, group_deadline, busy_bound, IsRun, GoesFirst}
 
 module _ (x : Run) (is : IsRun x) where
   -- offsets never fall

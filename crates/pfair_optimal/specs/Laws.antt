@@ -1,8 +1,9 @@
--- The laws of fluid schedules and of busy bounds, each over every weight, subtask and offset.
-use Rattle.std.specs.Prelude.{ℕ, ◌≡◌, ◌+◌, ◌-◌, ◌*◌, ◌<◌, ◌≤◌, ◌↔◌}
+-- The laws of fluid schedules and of busy bounds, each over every weight, subtask and offset, and the theorem of runs.
+use Rattle.std.specs.Prelude.{ℕ, suc, true, false, ◌≡◌, ◌+◌, ◌<◌, ◌≤◌, ◌↔◌}
 use Rattle.pfair_weight.specs.Share.{Share, IsWeight, IsHeavy}
 use Rattle.pfair_weight.specs.Window.{release_of, deadline_of, b_bit_of, group_deadline_of}
-use Rattle.pfair_optimal.specs.Fluid.{fluid_of, share_of, total_before, busy_bound_of}
+use Rattle.pfair_optimal.specs.Fluid.{share_of, total_before, busy_bound_of}
+use Rattle.pfair_optimal.specs.Run.{Subtask, Run, deadline, is_row, has_run, IsRun, IsNext}
 
 -- a subtask's shares are above 0 just in the slots of its window, at most the cost each, and add up to one quantum
 pub record SharesFillWindows : Type 0 where
@@ -32,3 +33,9 @@ pub record BusyBoundsLast : Type 0 where
       → deadline_of w i theta + k < busy_bound_of w i theta
   pub first_shares : (w : Share) (i k theta later : ℕ) → IsWeight w.cost w.period → b_bit_of w i ≡ 1 → i < k → theta ≤ later → release_of w k later < busy_bound_of w i theta
       → share_of w k later (release_of w k later) ≤ share_of w (i + 1) theta (release_of w (i + 1) theta)
+
+-- in a run of the PD2 order in which the weights have room, no task misses: after each slot the next subtask of an active member has
+-- its deadline after the slot's end, and what ran in it ran before its deadline
+pub record RunsNeverMiss : Type 0 where
+  pub none_misses : (x : Run) (t : ℕ) (z : Subtask) → IsRun x → x.is_active z.task t ≡ true → IsNext x z (suc t) → has_run x z (suc t) ≡ false → suc t < deadline x z
+  pub each_in_time : (x : Run) (t : ℕ) (z : Subtask) → IsRun x → is_row x t z ≡ true → t < deadline x z

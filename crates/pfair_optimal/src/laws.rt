@@ -1,7 +1,8 @@
-//! The laws of fluid schedules and of busy bounds, for every weight, subtask and offset.
+//! The laws of fluid schedules and of busy bounds, for every weight, subtask and offset, and the
+//! theorem of runs.
 //!
 //! Each function states one law and does nothing.
-ghost use Rattle.pfair_optimal.specs.Laws.{SharesFillWindows, SharesFitSlots, GroupDeadlinesEndCascades, BusyBoundsLast};
+ghost use Rattle.pfair_optimal.specs.Laws.{SharesFillWindows, SharesFitSlots, GroupDeadlinesEndCascades, BusyBoundsLast, RunsNeverMiss};
 
 /// In the fluid schedule each subtask gets a quantum in its window and nothing outside of it: its
 /// shares of slots are above 0 just in the window, at most the cost, and add up to the period.
@@ -28,4 +29,12 @@ pub fn group_deadlines_end_cascades()
 /// first slot than the next subtask.
 pub fn busy_bounds_last()
     ensures { BusyBoundsLast }
+{}
+
+/// In a run no task misses. A run is plain data: the rows of each slot, the members, and the final
+/// offsets. It is wanted that a table has the first of the eligible subtasks in PD2 order, that a
+/// task holds its weight up to the busy bound of what it ran, and that the weights held in a slot
+/// have room on the machine.
+pub fn runs_never_miss()
+    ensures { RunsNeverMiss }
 {}
