@@ -3,6 +3,7 @@ mod BusyBounds
 mod Counting
 mod Ends
 mod Fluids
+mod Halves
 mod Holes
 mod Lists
 mod Past

@@ -2,7 +2,7 @@
 //! theorem of runs.
 //!
 //! Each function states one law and does nothing.
-ghost use Rattle.pfair_optimal.specs.Laws.{SharesFillWindows, SharesFitSlots, GroupDeadlinesEndCascades, BusyBoundsLast, RunsNeverMiss};
+ghost use Rattle.pfair_optimal.specs.Laws.{SharesFillWindows, SharesFitSlots, GroupDeadlinesEndCascades, BusyBoundsLast, RunsNeverMiss, SomeRunIsFull};
 
 /// In the fluid schedule each subtask gets a quantum in its window and nothing outside of it: its
 /// shares of slots are above 0 just in the window, at most the cost, and add up to the period.
@@ -37,4 +37,10 @@ pub fn busy_bounds_last()
 /// have room on the machine.
 pub fn runs_never_miss()
     ensures { RunsNeverMiss }
+{}
+
+/// The premises of a run don't contradict each other: two tasks of weight 1/2 that run by turns on
+/// one processor keep them, and fill it.
+pub fn some_run_is_full()
+    ensures { SomeRunIsFull }
 {}
