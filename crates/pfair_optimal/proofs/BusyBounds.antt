@@ -1,0 +1,286 @@
+-- Where cascades end, and how long a subtask holds its task's weight.
+use Rattle.std.proofs.Common.{◌≡◌, ℕ, ◌+◌, ◌-◌, ◌*◌, ◌<◌, ◌≤◌, arith, ap, refl, sym, ◌∙◌, inl, inr}
+use Rattle.std.specs.Prelude.{◌↔◌}
+use Rattle.std.specs.Int.{div_ceil}
+use Rattle.std.proofs.lemmas.Bool.{cases_lt}
+use Rattle.pfair_weight.specs.Share.{Share, IsWeight, IsHeavy}
+use Rattle.pfair_weight.specs.Rounding.{lt_of_mul, div_ceil_le, le_div_ceil}
+use Rattle.pfair_weight.specs.Window.{release_of, deadline_of, b_bit_of, group_deadline_of, cascade_end}
+use Rattle.pfair_weight.specs.GroupFacts.{group_deadline_light, group_deadline_heavy}
+use Rattle.pfair_optimal.specs.Fluid.{share_of, busy_bound_of}
+use Rattle.pfair_optimal.proofs.Ends.{grow, opening, closing, next_opening, pinned, opening_next, next_near, b_bit_between}
+use Rattle.pfair_optimal.proofs.Fluids.{first_share}
+
+-- what a subtask with b-bit 1 has, of a weight e / (e + q): with a = d - i, i * q lies strictly between (a - 1) * e and a * e
+pub record Wrapped (w : Share) (i a q : ℕ) : Type 0 where
+  pub closes : a + i ≡ closing w i
+  pub idle : q + w.cost ≡ w.period
+  pub some_idle : 0 < q
+  pub low : a * w.cost < i * q + w.cost
+  pub high : i * q < a * w.cost
+
+-- where the b-bit is 1 the weight is below 1
+below_one : (w : Share) (i : ℕ) → IsWeight w.cost w.period → b_bit_of w i ≡ 1 → w.cost < w.period
+below_one w i h bit =
+    elim (cases_lt w.cost w.period) [
+      | inl below ↦ below
+      | inr whole ↦ absurd (
+          let ends = pinned w i h.some_cost in
+          let near = b_bit_between w i h.some_cost in
+          let at_most = h.at_most_one in
+          let same : i * w.period ≡ i * w.cost = let e : w.period ≡ w.cost = omega arith in ap (λ (n : ℕ). i * n) e in
+          let close : (next_opening w i + 1) * w.cost ≡ closing w i * w.cost = let e : next_opening w i + 1 ≡ closing w i = omega arith in ap (λ (n : ℕ). n * w.cost) e in
+          let more = ends.next_high in
+          let less = ends.closes_low in
+          let after : i < closing w i = lt_of_mul i (closing w i) w.cost (omega arith) in
+          let before : closing w i < i + 1 = lt_of_mul (closing w i) (i + 1) w.cost (omega arith) in
+          omega arith)
+    ]
+
+-- no subtask closes before its index
+index_le_closing : (w : Share) (i : ℕ) → IsWeight w.cost w.period → i ≤ closing w i
+index_le_closing w i h =
+    let ends = pinned w i h.some_cost in
+    let high = ends.closes_high in
+    let wide = grow w.cost w.period i h.at_most_one in
+    let some = h.some_cost in
+    let below : i < closing w i + 1 = lt_of_mul i (closing w i + 1) w.cost (omega arith) in
+    omega arith
+
+pub wrapped : (w : Share) (i : ℕ) → IsWeight w.cost w.period → b_bit_of w i ≡ 1 → Wrapped w i (closing w i - i) (w.period - w.cost)
+wrapped w i h bit =
+    let ends = pinned w i h.some_cost in
+    let near = b_bit_between w i h.some_cost in
+    let below = below_one w i h bit in
+    let later = index_le_closing w i h in
+    let close : (next_opening w i + 1) * w.cost ≡ closing w i * w.cost = let e : next_opening w i + 1 ≡ closing w i = omega arith in ap (λ (n : ℕ). n * w.cost) e in
+    let whole : (closing w i - i + i) * w.cost ≡ closing w i * w.cost = let e : closing w i - i + i ≡ closing w i = omega arith in ap (λ (n : ℕ). n * w.cost) e in
+    let parts : i * (w.period - w.cost + w.cost) ≡ i * w.period = let e : w.period - w.cost + w.cost ≡ w.period = omega arith in ap (λ (n : ℕ). i * n) e in
+    let more = ends.next_high in
+    let less = ends.closes_low in
+    record {
+      closes = omega arith;
+      idle = omega arith;
+      some_idle = omega arith;
+      low = apart_low (closing w i - i) i (w.period - w.cost) w.cost (i * w.period) (closing w i * w.cost) parts whole less;
+      high = apart_high (closing w i - i) i (w.period - w.cost) w.cost (i * w.period) (closing w i * w.cost) parts whole (omega arith);
+    }
+  where
+    apart_low : (a i q e ip ce : ℕ) → i * (q + e) ≡ ip → (a + i) * e ≡ ce → ce < ip + e → a * e < i * q + e
+    apart_low a i q e ip ce p c less = omega arith
+
+    apart_high : (a i q e ip ce : ℕ) → i * (q + e) ≡ ip → (a + i) * e ≡ ce → ip < ce → i * q < a * e
+    apart_high a i q e ip ce p c less = omega arith
+
+-- the idle slots before a cascade's end
+inner : (a i q e c p : ℕ) → a + i ≡ c → q + e ≡ p → 0 < p → a * e < i * q + e → i * q < a * e → div_ceil (c * q) p ≡ a
+inner a i q e c p closes idle some low high =
+    let cq : c * q ≡ (a + i) * q = ap (λ (n : ℕ). n * q) (sym closes) in
+    let ap_is : a * p ≡ a * (q + e) = ap (λ (n : ℕ). a * n) (sym idle) in
+    let at_most : div_ceil (c * q) p ≤ a = div_ceil_le (c * q) p a some (omega arith) in
+    elim (cases_lt (div_ceil (c * q) p) a) [
+      | inr least ↦ omega arith
+      | inl fewer ↦ absurd (
+          let reach : c * q ≤ (a - 1) * p = le_div_ceil (c * q) p (a - 1) some (omega arith) in
+          let one : (a - 1) * p + p ≡ a * p = let e : a - 1 + 1 ≡ a = omega arith in let spread : (a - 1) * p + p ≡ (a - 1 + 1) * p = omega arith in spread ∙ ap (λ (n : ℕ). n * p) e in
+          omega arith)
+    ]
+
+-- the cascade has ended by n - i slots after the deadline just where n idle slots are a whole number of costs more
+cascade_ends : (w : Share) (i a q n : ℕ) → IsWeight w.cost w.period → Wrapped w i a q → (cascade_end w (closing w i) ≤ a + n) ↔ (a * w.cost ≤ n * q)
+cascade_ends w i a q n h at = (from, to)
+  where
+    some : 0 < w.period
+    some = let s = h.some_cost in let m = h.at_most_one in omega arith
+
+    idle_is : w.period - w.cost ≡ q
+    idle_is = let e = at.idle in omega arith
+
+    slots : div_ceil (closing w i * (w.period - w.cost)) w.period ≡ a
+    slots = ap (λ (n : ℕ). div_ceil (closing w i * n) w.period) idle_is ∙ inner a i q w.cost (closing w i) w.period at.closes at.idle some at.low at.high
+
+    end_is : cascade_end w (closing w i) ≡ div_ceil (a * w.period) q
+    end_is = ap (λ (n : ℕ). div_ceil (n * w.period) (w.period - w.cost)) slots ∙ ap (λ (n : ℕ). div_ceil (a * w.period) n) idle_is
+
+    period_is : a * w.period ≡ a * (q + w.cost)
+    period_is = ap (λ (n : ℕ). a * n) (sym at.idle)
+
+    from : cascade_end w (closing w i) ≤ a + n → a * w.cost ≤ n * q
+    from ends =
+        let is = end_is in
+        let reach : a * w.period ≤ (a + n) * q = le_div_ceil (a * w.period) q (a + n) at.some_idle (omega arith) in
+        let p = period_is in
+        omega arith
+
+    to : a * w.cost ≤ n * q → cascade_end w (closing w i) ≤ a + n
+    to enough =
+        let p = period_is in
+        let reach : div_ceil (a * w.period) q ≤ a + n = div_ceil_le (a * w.period) q (a + n) at.some_idle (omega arith) in
+        let is = end_is in
+        omega arith
+
+-- k tight slots more push the end of a cascade past them
+pub cascade_after : (w : Share) (i k : ℕ) → IsWeight w.cost w.period → b_bit_of w i ≡ 1 → closing w (i + k) ≡ closing w i + k → b_bit_of w (i + k) ≡ 1 → closing w i + k < cascade_end w (closing w i)
+cascade_after w i k h bit tight last =
+    let a = closing w i - i in
+    let q = w.period - w.cost in
+    let here = wrapped w i h bit in
+    let there = wrapped w (i + k) h last in
+    let closes = here.closes in
+    elim (cases_lt (closing w i + k) (cascade_end w (closing w i))) [
+      | inl past ↦ past
+      | inr ended ↦ absurd (
+          let same : (closing w (i + k) - (i + k)) * w.cost ≡ (closing w i - i) * w.cost = let e : closing w (i + k) - (i + k) ≡ closing w i - i = omega arith in ap (λ (n : ℕ). n * w.cost) e in
+          let enough = (cascade_ends w i a q (i + k) h here).0 (omega arith) in
+          let high = there.high in
+          omega arith)
+    ]
+
+-- and up to its end all slots are tight
+pub cascade_tight : (w : Share) (i k : ℕ) → IsWeight w.cost w.period → b_bit_of w i ≡ 1 → closing w i + k < cascade_end w (closing w i) → (closing w (i + k) ≡ closing w i + k) × (b_bit_of w (i + k) ≡ 1)
+cascade_tight w i k h bit before =
+    let a = closing w i - i in
+    let q = w.period - w.cost in
+    let here = wrapped w i h bit in
+    let closes = here.closes in
+    let low = here.low in
+    let ends = pinned w (i + k) h.some_cost in
+    let near = next_near w (i + k) h.some_cost in
+    let between = b_bit_between w (i + k) h.some_cost in
+    let grown = grow i (i + k) q (omega arith) in
+    let parts : (i + k) * (q + w.cost) ≡ (i + k) * w.period = ap (λ (n : ℕ). (i + k) * n) here.idle in
+    elim (cases_lt ((i + k) * q) (a * w.cost)) [
+      | inr enough ↦ absurd (let ended = (cascade_ends w i a q (i + k) h here).1 enough in omega arith)
+      | inl less ↦
+          let c_low = ends.closes_low in
+          let c_high = ends.closes_high in
+          let n_low = ends.next_low in
+          let n_high = ends.next_high in
+          let not_before : i + k + a < closing w (i + k) + 1 = lt_of_mul (i + k + a) (closing w (i + k) + 1) w.cost (omega arith) in
+          let not_after : closing w (i + k) < i + k + a + 1 = lt_of_mul (closing w (i + k)) (i + k + a + 1) w.cost (omega arith) in
+          let opens : next_opening w (i + k) < i + k + a = lt_of_mul (next_opening w (i + k)) (i + k + a) w.cost (omega arith) in
+          (omega arith, omega arith)
+    ]
+
+-- what opens before the cascade's end opens with no greater share than the next subtask
+opens_less : (w : Share) (i k : ℕ) → IsWeight w.cost w.period → b_bit_of w i ≡ 1 → i < k → opening w k < cascade_end w (closing w i) → opening w k * w.cost + w.cost + i * w.period ≤ closing w i * w.cost + (k - 1) * w.period
+opens_less w i k h bit later before =
+    let a = closing w i - i in
+    let q = w.period - w.cost in
+    let m = k - 1 in
+    let here = wrapped w i h bit in
+    let closes = here.closes in
+    let low = here.low in
+    let ends = pinned w k h.some_cost in
+    let o_low = ends.opens_low in
+    let o_high = ends.opens_high in
+    let grown = grow i m q (omega arith) in
+    let parts : m * (q + w.cost) ≡ m * w.period = ap (λ (n : ℕ). m * n) here.idle in
+    let own : i * (q + w.cost) ≡ i * w.period = ap (λ (n : ℕ). i * n) here.idle in
+    let close : (a + i) * w.cost ≡ closing w i * w.cost = ap (λ (n : ℕ). n * w.cost) here.closes in
+    elim (cases_lt (m * q) (a * w.cost)) [
+      | inr enough ↦ absurd (
+          let ended = (cascade_ends w i a q m h here).1 enough in
+          let after : a + m < opening w k + 1 = lt_of_mul (a + m) (opening w k + 1) w.cost (omega arith) in
+          omega arith)
+      | inl less ↦
+          let not_after : opening w k < a + m = lt_of_mul (opening w k) (a + m) w.cost (omega arith) in
+          let up_to = grow (opening w k + 1) (a + m) w.cost (omega arith) in
+          omega arith
+    ]
+
+-- a light weight's windows lie two slots apart at least
+light_closes : (w : Share) (i k : ℕ) → IsWeight w.cost w.period → 2 * w.cost < w.period → 0 < k → closing w i + k < closing w (i + k)
+light_closes w i k h light some =
+    let here = pinned w i h.some_cost in
+    let there = pinned w (i + k) h.some_cost in
+    let low = here.closes_low in
+    let high = there.closes_high in
+    let wide = grow (2 * w.cost + 1) w.period k (omega arith) in
+    let more = grow 1 k w.cost some in
+    let up : closing w i + k < closing w (i + k) = lt_of_mul (closing w i + k) (closing w (i + k)) w.cost (omega arith) in
+    up
+
+light_opens : (w : Share) (i k : ℕ) → IsWeight w.cost w.period → 2 * w.cost < w.period → i + 1 < k → next_opening w i + 1 < opening w k
+light_opens w i k h light later =
+    let here = pinned w i h.some_cost in
+    let there = pinned w k h.some_cost in
+    let low = here.next_low in
+    let high = there.opens_high in
+    let wide = grow (i + 1) (k - 1) w.period (omega arith) in
+    let up : next_opening w i + 2 < opening w k + 1 = lt_of_mul (next_opening w i + 2) (opening w k + 1) w.cost (omega arith) in
+    omega arith
+
+-- k tight slots more push the busy bound past them
+pub busy_after : (w : Share) (i k theta : ℕ) → IsWeight w.cost w.period → b_bit_of w i ≡ 1 → deadline_of w (i + k) theta ≡ deadline_of w i theta + k → b_bit_of w (i + k) ≡ 1 →
+    deadline_of w i theta + k < busy_bound_of w i theta
+busy_after w i k theta h bit tight last =
+    elim (cases_lt (2 * w.cost) w.period) [
+      | inl light ↦ elim (cases_lt 0 k) [
+        | inl some ↦ absurd (let apart = light_closes w i k h light some in omega arith)
+        | inr none ↦ omega arith
+      ]
+      | inr heavy ↦
+          let below = below_one w i h bit in
+          let after = cascade_after w i k h bit (omega arith) last in
+          let group = group_deadline_heavy w i theta heavy below in
+          omega arith
+    ]
+
+-- the share of the slot of the release is one number at any offset
+first_same : (w : Share) (i theta later v u : ℕ) → IsWeight w.cost w.period → v ≡ release_of w i theta → u ≡ release_of w i later → share_of w i theta v ≡ share_of w i later u
+first_same w i theta later v u h one other =
+    let a = first_share w i theta v h one in
+    let b = first_share w i later u h other in
+    omega arith
+
+-- what opens before the busy bound opens with no greater share than the next subtask
+pub busy_opens : (w : Share) (i k theta later : ℕ) → IsWeight w.cost w.period → b_bit_of w i ≡ 1 → i < k → theta ≤ later → release_of w k later < busy_bound_of w i theta →
+    share_of w k later (release_of w k later) ≤ share_of w (i + 1) theta (release_of w (i + 1) theta)
+busy_opens w i k theta later h bit after offsets before =
+    let near = b_bit_between w i h.some_cost in
+    let next = opening_next w i in
+    elim (cases_lt (i + 1) k) [
+      | inr same ↦
+          let is : k ≡ i + 1 = omega arith in
+          let one : share_of w k later (release_of w k later) ≡ share_of w (i + 1) later (release_of w (i + 1) later) = ap (λ (n : ℕ). share_of w n later (release_of w n later)) is in
+          let other = first_same w (i + 1) later theta (release_of w (i + 1) later) (release_of w (i + 1) theta) h refl refl in
+          omega arith
+      | inl far ↦ elim (cases_lt (2 * w.cost) w.period) [
+        | inl light ↦ absurd (
+            let apart = light_opens w i k h light far in
+            let group = group_deadline_light w i theta light in
+            omega arith)
+        | inr heavy ↦
+            let below = below_one w i h bit in
+            let group = group_deadline_heavy w i theta heavy below in
+            let none : i + 0 ≡ i = omega arith in
+            let whole = cascade_after w i 0 h bit (let e : closing w (i + 0) ≡ closing w i = ap (closing w) none in omega arith) (ap (b_bit_of w) none ∙ bit) in
+            let less = opens_less w i k h bit after (omega arith) in
+            let one = first_share w k later (release_of w k later) h refl in
+            let other = first_share w (i + 1) theta (release_of w (i + 1) theta) h refl in
+            let opens : opening w (i + 1) * w.cost ≡ next_opening w i * w.cost = ap (λ (n : ℕ). n * w.cost) next in
+            let close : (next_opening w i + 1) * w.cost ≡ closing w i * w.cost = let e : next_opening w i + 1 ≡ closing w i = omega arith in ap (λ (n : ℕ). n * w.cost) e in
+            let back : (i + 1 - 1) * w.period ≡ i * w.period = let e : i + 1 - 1 ≡ i = omega arith in ap (λ (n : ℕ). n * w.period) e in
+            omega arith
+      ]
+    ]
+
+-- the group deadline of a heavy subtask with b-bit 1: up to there each slot is the last one of a next subtask with b-bit 1
+pub group_deadline_tight : (w : Share) (i k theta : ℕ) → IsWeight w.cost w.period → IsHeavy w → b_bit_of w i ≡ 1 → deadline_of w i theta + k < group_deadline_of w i theta →
+    (deadline_of w (i + k) theta ≡ deadline_of w i theta + k) × (b_bit_of w (i + k) ≡ 1)
+group_deadline_tight w i k theta h heavy bit before =
+    let below = below_one w i h bit in
+    let group = group_deadline_heavy w i theta heavy below in
+    let tight = cascade_tight w i k h bit (omega arith) in
+    let close = tight.0 in
+    (omega arith, tight.1)
+
+-- and the slot after it isn't
+pub group_deadline_ends : (w : Share) (i k theta : ℕ) → IsWeight w.cost w.period → IsHeavy w → b_bit_of w i ≡ 1 → deadline_of w (i + k) theta ≡ deadline_of w i theta + k → b_bit_of w (i + k) ≡ 1 →
+    deadline_of w i theta + k < group_deadline_of w i theta
+group_deadline_ends w i k theta h heavy bit tight last =
+    let below = below_one w i h bit in
+    let group = group_deadline_heavy w i theta heavy below in
+    let after = cascade_after w i k h bit (omega arith) last in
+    omega arith

@@ -1,0 +1,66 @@
+-- The ends of windows, by products.
+use Rattle.std.proofs.Common.{◌≡◌, ℕ, ◌+◌, ◌-◌, ◌*◌, ◌/◌, ◌<◌, ◌≤◌, arith, ap}
+use Rattle.std.specs.Int.{div_ceil}
+use Rattle.std.proofs.lemmas.Grind.{div_ceil_times}
+use Rattle.std.proofs.lemmas.Nat.{mul-le}
+use Rattle.std.proofs.Math.Nat.{le_refl, div-lt_iff_lt-mul}
+use Rattle.pfair_weight.specs.Share.{Share}
+use Rattle.pfair_weight.specs.Rounding.{lt_of_mul, mul_le_of_div}
+use Rattle.pfair_weight.specs.Window.{b_bit_of}
+
+-- a product that grows with its first factor
+pub grow : (x y a : ℕ) → x ≤ y → x * a ≤ y * a
+grow x y a h = mul-le x a y a h (le_refl a)
+
+-- where the window of subtask i opens and closes, counted from the offset, and where the next one opens
+abbrev pub opening : Share → ℕ → ℕ
+opening w i = ((i - 1) * w.period) / w.cost
+
+abbrev pub closing : Share → ℕ → ℕ
+closing w i = div_ceil (i * w.period) w.cost
+
+abbrev pub next_opening : Share → ℕ → ℕ
+next_opening w i = (i * w.period) / w.cost
+
+quotient_low : (n d : ℕ) → 0 < d → (n / d) * d ≤ n
+quotient_low n d p = mul_le_of_div n d (n / d) p (le_refl (n / d))
+
+quotient_high : (n d : ℕ) → 0 < d → n < (n / d + 1) * d
+quotient_high n d p = (div-lt_iff_lt-mul p).0 (omega arith)
+
+-- what pins down the ends of a window
+pub record Pinned (w : Share) (i : ℕ) : Type 0 where
+  pub opens_low : opening w i * w.cost ≤ (i - 1) * w.period
+  pub opens_high : (i - 1) * w.period < opening w i * w.cost + w.cost
+  pub closes_low : closing w i * w.cost < i * w.period + w.cost
+  pub closes_high : i * w.period ≤ closing w i * w.cost
+  pub next_low : next_opening w i * w.cost ≤ i * w.period
+  pub next_high : i * w.period < next_opening w i * w.cost + w.cost
+
+pub pinned : (w : Share) (i : ℕ) → 0 < w.cost → Pinned w i
+pinned w i p = record {
+  opens_low = quotient_low ((i - 1) * w.period) w.cost p;
+  opens_high = let h = quotient_high ((i - 1) * w.period) w.cost p in omega arith;
+  closes_low = (div_ceil_times (i * w.period) w.cost p).1;
+  closes_high = (div_ceil_times (i * w.period) w.cost p).0;
+  next_low = quotient_low (i * w.period) w.cost p;
+  next_high = let h = quotient_high (i * w.period) w.cost p in omega arith;
+}
+
+-- the next subtask's window opens there
+pub opening_next : (w : Share) (i : ℕ) → opening w (i + 1) ≡ next_opening w i
+opening_next w i =
+    let back : i + 1 - 1 ≡ i = omega arith in
+    ap (λ (n : ℕ). (n * w.period) / w.cost) back
+
+-- the next window opens where this one closes, or one slot before
+pub next_near : (w : Share) (i : ℕ) → 0 < w.cost → (next_opening w i ≤ closing w i) × (closing w i ≤ next_opening w i + 1)
+next_near w i p =
+    let h = pinned w i p in
+    let low : next_opening w i < closing w i + 1 = lt_of_mul (next_opening w i) (closing w i + 1) w.cost (omega (arith, h)) in
+    let high : closing w i < next_opening w i + 1 + 1 = lt_of_mul (closing w i) (next_opening w i + 1 + 1) w.cost (omega (arith, h)) in
+    (omega arith, omega arith)
+
+-- so its b-bit is what lies between them
+pub b_bit_between : (w : Share) (i : ℕ) → 0 < w.cost → next_opening w i + b_bit_of w i ≡ closing w i
+b_bit_between w i p = let near = next_near w i p in omega (arith, near.0)

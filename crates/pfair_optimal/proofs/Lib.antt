@@ -1,0 +1,13 @@
+mod Blocks
+mod BusyBounds
+mod Counting
+mod Ends
+mod Fluids
+mod Halves
+mod Holes
+mod Lists
+mod Past
+mod Reasons
+mod RunWindows
+mod Shares
+mod Totals

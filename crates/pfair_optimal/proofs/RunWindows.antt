@@ -1,0 +1,87 @@
+-- Windows in a run.
+use Rattle.std.proofs.Common.{◌≡◌, ℕ, zero, suc, ◌+◌, ◌<◌, ◌≤◌, arith, ap, inl, inr}
+use Rattle.std.proofs.lemmas.Bool.{cases_lt}
+use Rattle.pfair_weight.specs.WindowFacts.{window_not_empty, release_rises, deadline_rises_strictly, windows_overlap, b_bit_at_most_one}
+use Rattle.pfair_optimal.specs.Run.{Task, Subtask, next_of, Run, release, deadline, b_bit, group_deadline, busy_bound, IsRun, GoesFirst}
+
+module _ (x : Run) (is : IsRun x) where
+  -- offsets never fall
+  pub offsets : (a : Task) (i j : ℕ) → 1 ≤ i → i ≤ j → x.offset a i ≤ x.offset a j
+  offsets a i zero first le = absurd (omega arith)
+  offsets a i (suc j) first le =
+      elim (cases_lt i (suc j)) [
+        | inl less ↦
+            let before = offsets a i j first (omega arith) in
+            let step = is.offsets_rise a j (omega arith) in
+            let same : x.offset a (j + 1) ≡ x.offset a (suc j) = let e : j + 1 ≡ suc j = omega arith in ap (x.offset a) e in
+            omega arith
+        | inr all ↦ let e : i ≡ suc j = omega arith in let same : x.offset a i ≡ x.offset a (suc j) = ap (x.offset a) e in omega arith
+      ]
+
+  -- the next window opens where this one closes less the b-bit, and the delay between them
+  pub next_release : (z : Subtask) → 1 ≤ z.index → release x (next_of z) + b_bit x z + x.offset z.task z.index ≡ deadline x z + x.offset z.task (z.index + 1)
+  next_release z first =
+      let meet = windows_overlap (x.weight z.task) z.index 0 in
+      omega arith
+
+  pub next_release_late : (z : Subtask) → 1 ≤ z.index → deadline x z ≤ release x (next_of z) + b_bit x z
+  next_release_late z first =
+      let e = next_release z first in
+      let rise = is.offsets_rise z.task z.index first in
+      omega arith
+
+  pub b_bit_small : (z : Subtask) → b_bit x z ≤ 1
+  b_bit_small z = b_bit_at_most_one (x.weight z.task) z.index
+
+  pub release_before : (z : Subtask) → 1 ≤ z.index → release x z < deadline x z
+  release_before z first = window_not_empty (x.weight z.task) z.index (x.offset z.task z.index) (is.weights z.task) first
+
+  -- a window with b-bit 1 has two slots at least
+  pub release_two_before : (z : Subtask) → 1 ≤ z.index → b_bit x z ≡ 1 → release x z + 1 < deadline x z
+  release_two_before z first bit =
+      let w = x.weight z.task in
+      let rises = release_rises w z.index (z.index + 1) 0 (is.weights z.task) first (omega arith) in
+      let meet = windows_overlap w z.index 0 in
+      omega arith
+
+  pub release_joined : (z : Subtask) → 1 ≤ z.index → z.task.joined ≤ release x z
+  release_joined z first = let start = is.offsets_start z.task z.index first in omega arith
+
+  -- releases and deadlines rise with the index
+  pub releases : (a : Task) (i j : ℕ) → 1 ≤ i → i < j → release x (record { task = a; index = i }) < release x (record { task = a; index = j })
+  releases a i j first less =
+      let rises = release_rises (x.weight a) i j 0 (is.weights a) first less in
+      let moved = offsets a i j first (omega arith) in
+      omega arith
+
+  pub deadlines : (a : Task) (i j : ℕ) → 1 ≤ i → i < j → deadline x (record { task = a; index = i }) < deadline x (record { task = a; index = j })
+  deadlines a i j first less =
+      let rises = deadline_rises_strictly (x.weight a) i j 0 (is.weights a) less in
+      let moved = offsets a i j first (omega arith) in
+      omega arith
+
+  pub next_deadline : (z : Subtask) → 1 ≤ z.index → deadline x z < deadline x (next_of z)
+  next_deadline z first = deadlines z.task z.index (z.index + 1) first (omega arith)
+
+  -- the busy bound is at least the deadline and the b-bit
+  pub busy_late : (z : Subtask) → deadline x z + b_bit x z ≤ busy_bound x z
+  busy_late z = omega arith
+
+  -- of two with one deadline and b-bit 1 the one that goes first is bound no earlier
+  pub first_bound : (w z : Subtask) → GoesFirst x w z → (deadline x w ≤ deadline x z) × (deadline x w ≡ deadline x z → b_bit x z ≡ 1 → (b_bit x w ≡ 1) × (busy_bound x z ≤ busy_bound x w))
+  first_bound w z before =
+      let one = b_bit_small w in
+      let other = b_bit_small z in
+      elim before [
+        | inl earlier ↦ (omega arith, λ same bit. absurd (omega arith))
+        | inr (same, tie) ↦ elim tie [
+          | inl greater ↦ (omega arith, λ _ bit. absurd (omega arith))
+          | inr (bits, groups) ↦ elim groups [
+            | inl none ↦ (omega arith, λ _ bit. absurd (omega arith))
+            | inr later ↦ (omega arith, λ _ bit. (omega arith, bound_le w z same bits later))
+          ]
+        ]
+      ]
+    where
+      bound_le : (w z : Subtask) → deadline x w ≡ deadline x z → b_bit x w ≡ b_bit x z → group_deadline x z ≤ group_deadline x w → busy_bound x z ≤ busy_bound x w
+      bound_le w z same bits later = omega arith

@@ -1,0 +1,243 @@
+-- The shares that one task's subtasks have of a slot.
+use Rattle.std.proofs.Common.{◌≡◌, ℕ, suc, ◌+◌, ◌-◌, ◌<◌, ◌≤◌, Bool, true, false, cond, [], ◌∷◌, arith, ap, refl, sym, ◌∙◌, subst, inl, inr, ⊎_elim}
+use Rattle.std.specs.Prelude.{◌⊎◌}
+use Rattle.std.proofs.lemmas.Bool.{true≢false, cases_lt, cases_eq, cases_order}
+use Rattle.pfair_weight.specs.Window.{release_of}
+use Rattle.pfair_optimal.specs.Fluid.{share_of}
+use Rattle.pfair_optimal.specs.Run.{Task, Subtask, is_among, NoneTwice, same_task, same_subtask, Run, release, deadline, busy_bound, IsRun, IsFirstMiss}
+use Rattle.pfair_optimal.proofs.Fluids.{share_in_window, shares_fit, shares_meet, no_three_shares}
+use Rattle.pfair_optimal.proofs.BusyBounds.{busy_opens}
+use Rattle.pfair_optimal.proofs.Lists.{among_here, among_more}
+use Rattle.pfair_optimal.proofs.Past.{task_exact, subtask_exact, ran_by, ran_more}
+use Rattle.pfair_optimal.proofs.RunWindows.{offsets, release_joined, releases, deadlines, busy_late}
+use Rattle.pfair_optimal.proofs.Reasons.{picks, reasons, is_full, In, picks_rows, reason_index, reason_cases, later_twice}
+use Rattle.pfair_optimal.proofs.Holes.{is_served, AreHoles, IsUnserved, unserved, unserved_on, reached}
+use Rattle.pfair_optimal.proofs.Totals.{total, total_some, total_among}
+
+-- a subtask's share of a slot, and the same where it is of the task
+abbrev pub share : Run → Subtask → ℕ → ℕ
+share x z v = share_of (x.weight z.task) z.index (x.offset z.task z.index) v
+
+abbrev pub own_share : Run → Task → ℕ → Subtask → ℕ
+own_share x a v z = cond (same_task z.task a) (share x z v) 0
+
+-- the shares that a task's subtasks among the reasons have of a slot together
+abbrev pub shares : Run → ℕ → Subtask → Task → ℕ → ℕ
+shares x td missed a v = total (own_share x a v) (reasons x td missed)
+
+abbrev pub subtask_of : Task → ℕ → Subtask
+subtask_of a i = record { task = a; index = i }
+
+-- what is above 0 is the task's own
+pub own : (x : Run) (a : Task) (v : ℕ) (z : Subtask) → 0 < own_share x a v z → (z.task ≡ a) × (0 < share x z v)
+own x a v z some = by (same_task z.task a) refl some
+  where
+    by : (b : Bool) → same_task z.task a ≡ b → 0 < cond b (share x z v) 0 → (z.task ≡ a) × (0 < share x z v)
+    by true e s = ((task_exact z.task a).0 e, s)
+    by false e s = absurd (omega arith)
+
+own_le : (x : Run) (a : Task) (v : ℕ) (z : Subtask) → own_share x a v z ≤ share x z v
+own_le x a v z = by (same_task z.task a)
+  where
+    by : (b : Bool) → cond b (share x z v) 0 ≤ share x z v
+    by true = omega arith
+    by false = omega arith
+
+module _ (x : Run) (is : IsRun x) (td : ℕ) (missed : Subtask) (m : IsFirstMiss x td missed) where
+  reasons_twice : NoneTwice same_subtask (reasons x td missed)
+  reasons_twice = later_twice x is td missed m 0 (omega arith)
+
+  -- a share above 0 lies in the window
+  pub share_inside : (z : Subtask) (v : ℕ) → 1 ≤ z.index → 0 < share x z v → (release x z ≤ v) × (v < deadline x z)
+  share_inside z v first some = (share_in_window (x.weight z.task) z.index (x.offset z.task z.index) v (is.weights z.task) first).0 some
+
+  -- where a task has a share, one of its subtasks has
+  pub shares_some : (a : Task) (v : ℕ) → 0 < shares x td missed a v → (i : ℕ) × In (reasons x td missed) (subtask_of a i) × (0 < share x (subtask_of a i) v)
+  shares_some a v some =
+      let t = total_some same_subtask subtask_exact (own_share x a v) (reasons x td missed) some in
+      let mine = own x a v t.0 t.2 in
+      let is_it : t.0 ≡ subtask_of a t.0.index = λ i. record { task = mine.0 i; index = t.0.index } in
+      (t.0.index, subst (λ z. In (reasons x td missed) z) is_it t.1, subst (λ z. 0 < share x z v) is_it mine.1)
+
+  -- all shares of a task in a slot are those of one subtask, or of two
+  shares_one : (a : Task) (v i : ℕ) → ((j : ℕ) → In (reasons x td missed) (subtask_of a j) → 0 < share x (subtask_of a j) v → j ≡ i) → shares x td missed a v ≤ share x (subtask_of a i) v
+  shares_one a v i only =
+      let one = total_among same_subtask subtask_exact (own_share x a v) (reasons x td missed) (subtask_of a i ∷ []) reasons_twice (λ z h some.
+      (let mine = own x a v z some in
+      let is_it : z ≡ subtask_of a z.index = λ k. record { task = mine.0 k; index = z.index } in
+      let index = only z.index (subst (λ y. In (reasons x td missed) y) is_it h) (subst (λ y. 0 < share x y v) is_it mine.1) in
+      subst (λ y. is_among same_subtask (subtask_of a i ∷ []) y ≡ true) (sym (is_it ∙ ap (subtask_of a) index)) (among_here same_subtask subtask_exact [] (subtask_of a i)))) in
+      let le = own_le x a v (subtask_of a i) in
+      omega arith
+
+  shares_two : (a : Task) (v i j : ℕ) → ((k : ℕ) → In (reasons x td missed) (subtask_of a k) → 0 < share x (subtask_of a k) v → (k ≡ i) ⊎ (k ≡ j))
+      → shares x td missed a v ≤ share x (subtask_of a i) v + share x (subtask_of a j) v
+  shares_two a v i j only =
+      let two = total_among same_subtask subtask_exact (own_share x a v) (reasons x td missed) (subtask_of a i ∷ subtask_of a j ∷ []) reasons_twice (λ z h some.
+      (let mine = own x a v z some in
+      let is_it : z ≡ subtask_of a z.index = λ k. record { task = mine.0 k; index = z.index } in
+      ⊎_elim
+      (λ index. subst (λ y. is_among same_subtask (subtask_of a i ∷ subtask_of a j ∷ []) y ≡ true) (sym (is_it ∙ ap (subtask_of a) index)) (among_here same_subtask subtask_exact (subtask_of a j ∷ []) (subtask_of a i)))
+      (λ index. subst (λ y. is_among same_subtask (subtask_of a i ∷ subtask_of a j ∷ []) y ≡ true) (sym (is_it ∙ ap (subtask_of a) index)) (among_more same_subtask subtask_exact (subtask_of a i) (subtask_of a j ∷ []) (subtask_of a j) (among_here same_subtask subtask_exact [] (subtask_of a j))))
+      (only z.index (subst (λ y. In (reasons x td missed) y) is_it h) (subst (λ y. 0 < share x y v) is_it mine.1)))) in
+      let le = own_le x a v (subtask_of a i) in
+      let other = own_le x a v (subtask_of a j) in
+      omega arith
+
+  -- subtasks of a task that both have a share of a slot are neighbours
+  near : (a : Task) (v i j : ℕ) → 1 ≤ i → 0 < share x (subtask_of a i) v → 0 < share x (subtask_of a j) v → j ≤ i + 1
+  near a v i j first one other =
+      elim (cases_lt (i + 1) j) [
+        | inl far ↦ absurd (let none = no_three_shares (x.weight a) i j (x.offset a i) (x.offset a j) v (is.weights a) first far (offsets x is a i j first (omega arith)) one in omega arith)
+        | inr close ↦ close
+      ]
+
+  two_fit : (a : Task) (v i j : ℕ) → 1 ≤ i → i < j → share x (subtask_of a i) v + share x (subtask_of a j) v ≤ (x.weight a).cost
+  two_fit a v i j first less = shares_fit (x.weight a) i j (x.offset a i) (x.offset a j) v (is.weights a) first less (offsets x is a i j first (omega arith))
+
+  -- a task's shares of one slot are at most its cost
+  pub shares_le_cost : (a : Task) (v : ℕ) → shares x td missed a v ≤ (x.weight a).cost
+  shares_le_cost a v =
+      elim (cases_lt 0 (shares x td missed a v)) [
+        | inr none ↦ omega arith
+        | inl some ↦ (let t = shares_some a v some in with_one t.0 (reason_index x is td missed m (subtask_of a t.0) t.1) t.2)
+      ]
+    where
+      at_or_after : (i : ℕ) → 1 ≤ i → 0 < share x (subtask_of a i) v → ((j : ℕ) → In (reasons x td missed) (subtask_of a j) → 0 < share x (subtask_of a j) v → i ≤ j) → shares x td missed a v ≤ (x.weight a).cost
+      at_or_after i first one least =
+          let two = shares_two a v i (i + 1) (λ k h s.
+          (let up = near a v i k first one s in
+          let low = least k h s in
+          elim (cases_eq k i) [ inl e ↦ inl e | inr ne ↦ inr (omega (arith, up, low, ne)) ])) in
+          let fit = two_fit a v i (i + 1) first (omega arith) in
+          omega arith
+
+      with_one : (i : ℕ) → 1 ≤ i → 0 < share x (subtask_of a i) v → shares x td missed a v ≤ (x.weight a).cost
+      with_one i first one =
+          elim (cases_lt 1 i) [
+            | inr is_one ↦ at_or_after i first one (λ j h s. let low = reason_index x is td missed m (subtask_of a j) h in omega (arith, low))
+            | inl more ↦ elim (cases_lt 0 (share x (subtask_of a (i - 1)) v)) [
+              | inr none ↦ at_or_after i first one (λ j h s.
+                  elim (cases_lt j i) [
+                    | inr from ↦ from
+                    | inl before ↦ absurd (
+                        let low = reason_index x is td missed m (subtask_of a j) h in
+                        let close = near a v j i low s one in
+                        let at : j ≡ i - 1 = omega (arith, close, before) in
+                        let same : share x (subtask_of a j) v ≡ share x (subtask_of a (i - 1)) v = ap (λ (n : ℕ). share x (subtask_of a n) v) at in
+                        omega (arith, s, same, none))
+                  ])
+              | inl also ↦ at_or_after (i - 1) (omega arith) also (λ j h s.
+                  elim (cases_lt j (i - 1)) [
+                    | inr from ↦ from
+                    | inl before ↦ absurd (
+                        let low = reason_index x is td missed m (subtask_of a j) h in
+                        let close = near a v j i low s one in
+                        omega (arith, close, before))
+                  ])
+            ]
+          ]
+
+  -- in a hole that isn't the first of its block who is unserved has no share
+  pub unserved_none : (a : Task) (s t : ℕ) → suc s ≡ t → t < td → is_full x td missed s ≡ false → is_full x td missed t ≡ false → is_served x td missed a t ≡ false → shares x td missed a t ≡ 0
+  unserved_none a s t e less before hole alone =
+      elim (cases_lt 0 (shares x td missed a t)) [
+        | inr none ↦ omega arith
+        | inl some ↦ absurd (
+            let p = shares_some a t some in
+            let inside = share_inside (subtask_of a p.0) t (reason_index x is td missed m (subtask_of a p.0) p.1) p.2 in
+            let left = unserved x is td missed m (subtask_of a p.0) t less hole p.1 inside.0 inside.1 alone in
+            true≢false (sym (left.first s e) ∙ before))
+      ]
+
+  -- who has a share holds its weight still
+  pub shares_member : (a : Task) (t : ℕ) → t < td → 0 < shares x td missed a t → is_among same_task (x.members t) a ≡ true
+  shares_member a t less some =
+      let p = shares_some a t some in
+      let first = reason_index x is td missed m (subtask_of a p.0) p.1 in
+      let inside = share_inside (subtask_of a p.0) t first p.2 in
+      let opened = inside.0 in
+      let closes = inside.1 in
+      let joined = release_joined x is (subtask_of a p.0) first in
+      let bound = busy_late x is (subtask_of a p.0) in
+      ⊎_elim
+      (λ e. is.active_members a t (is.active_since a t (td - 1) (omega arith) (omega arith) (subst (λ (w : Subtask). x.is_active w.task (td - 1) ≡ true) (sym e) m.miss.active)))
+      (λ (q : (v : ℕ) × (v < td) × In (picks x td missed v) (subtask_of a p.0)).
+      is.held (subtask_of a p.0) (suc q.0) t (ran_by x (subtask_of a p.0) q.0 (suc q.0) (omega arith) (picks_rows x is td missed m q.0 (subtask_of a p.0) q.2)) (omega arith) (omega arith))
+      (reason_cases x is td missed m (subtask_of a p.0) p.1)
+
+  -- who is unserved in a block's first slot u holds its weight in its full slot v, and its shares of both are at most its cost
+  pub record IsLeft (a : Task) (u v : ℕ) : Type 0 where
+    pub member : is_among same_task (x.members v) a ≡ true
+    pub fits : shares x td missed a u + shares x td missed a v ≤ (x.weight a).cost
+
+  pub left_over : (a : Task) (u v : ℕ) → u < v → v < td → AreHoles x is td missed m u v → is_served x td missed a u ≡ false → 0 < shares x td missed a u → IsLeft a u v
+  left_over a u v from to holes alone some =
+      let p = shares_some a u some in
+      by p.0 p.1 p.2 (reason_index x is td missed m (subtask_of a p.0) p.1)
+    where
+      by : (i : ℕ) → In (reasons x td missed) (subtask_of a i) → 0 < share x (subtask_of a i) u → 1 ≤ i → IsLeft a u v
+      by i h one first =
+          let y : Subtask = subtask_of a i in
+          let inside = share_inside (subtask_of a i) u first one in
+          let here = unserved x is td missed m (subtask_of a i) u (omega arith) (holes u (omega arith) from) h inside.0 inside.1 alone in
+          let that = reached x is td missed m (subtask_of a i) u v from (omega arith) holes h (ran_more x (subtask_of a i) u (suc u) (omega arith) here.ran) in
+          let bound = that.bound here.due in
+          let joined = release_joined x is (subtask_of a i) first in
+          let opened = inside.0 in
+          record { member = is.held (subtask_of a i) u v here.ran (omega arith) bound; fits = fits i h first here bound }
+        where
+          -- who has a share in v is released there
+          released : (j : ℕ) → In (reasons x td missed) (subtask_of a j) → 0 < share x (subtask_of a j) v → release x (subtask_of a j) ≡ v
+          released j k s =
+              let inside = share_inside (subtask_of a j) v (reason_index x is td missed m (subtask_of a j) k) s in
+              let opened = inside.0 in
+              let closes = inside.1 in
+              elim (cases_lt (release x (subtask_of a j)) v) [
+                | inr now ↦ omega arith
+                | inl before ↦ absurd (
+                    let still = unserved_on x is td missed m a u (v - 1) v (omega arith) (omega arith) (omega arith) holes alone in
+                    let left = unserved x is td missed m (subtask_of a j) (v - 1) (omega arith) (holes (v - 1) (omega arith) (omega arith)) k (omega arith) (omega arith) still in
+                    let due = left.due in
+                    omega arith)
+              ]
+
+          fits : (i : ℕ) → In (reasons x td missed) (subtask_of a i) → 1 ≤ i → IsUnserved x is td missed m (subtask_of a i) u → v < busy_bound x (subtask_of a i) → shares x td missed a u + shares x td missed a v ≤ (x.weight a).cost
+          fits i h first here bound =
+              let due = here.due in
+              let last = shares_one a u i (λ j k s.
+              (let low = reason_index x is td missed m (subtask_of a j) k in
+              let inside = share_inside (subtask_of a j) u low s in
+              let other = unserved x is td missed m (subtask_of a j) u (omega arith) (holes u (omega arith) from) k inside.0 inside.1 alone in
+              let also = other.due in
+              elim (cases_order j i) [
+                | inl e ↦ e
+                | inr (inl less) ↦ absurd (let up = deadlines x is a j i low less in omega (arith, up, also, due))
+                | inr (inr more) ↦ absurd (let up = deadlines x is a i j first more in omega (arith, up, also, due))
+              ])) in
+              elim (cases_lt 0 (shares x td missed a v)) [
+                | inr none ↦ (let le = shares_le_cost a u in omega arith)
+                | inl some_v ↦
+                    let p = shares_some a v some_v in
+                    let at = released p.0 p.1 p.2 in
+                    let first_p = reason_index x is td missed m (subtask_of a p.0) p.1 in
+                    let inside = share_inside (subtask_of a p.0) v first_p p.2 in
+                    let closes = inside.1 in
+                    let one = shares_one a v p.0 (λ j k s.
+                    (let low = reason_index x is td missed m (subtask_of a j) k in
+                    let also = released j k s in
+                    elim (cases_order j p.0) [
+                      | inl e ↦ e
+                      | inr (inl less) ↦ absurd (let up = releases x is a j p.0 low less in omega (arith, up, also, at))
+                      | inr (inr more) ↦ absurd (let up = releases x is a p.0 j first_p more in omega (arith, up, also, at))
+                    ])) in
+                    let after : i < p.0 = elim (cases_order i p.0) [
+                      | inl e ↦ absurd (let same : deadline x (subtask_of a i) ≡ deadline x (subtask_of a p.0) = ap (λ (n : ℕ). deadline x (subtask_of a n)) e in omega (arith, closes, due, same))
+                      | inr (inl less) ↦ less
+                      | inr (inr more) ↦ absurd (let up = deadlines x is a p.0 i first_p more in omega (arith, up, closes, due))
+                    ] in
+                    let le = busy_opens (x.weight a) i p.0 (x.offset a i) (x.offset a p.0) (is.weights a) here.bit after (offsets x is a i p.0 first (omega arith)) (omega arith) in
+                    let meet = shares_meet (x.weight a) i (x.offset a i) u (x.offset a i) (release_of (x.weight a) (i + 1) (x.offset a i)) (is.weights a) first here.bit (omega arith) refl in
+                    let moved : share x (subtask_of a p.0) (release x (subtask_of a p.0)) ≡ share x (subtask_of a p.0) v = ap (share x (subtask_of a p.0)) at in
+                    omega arith
+              ]

@@ -1,0 +1,122 @@
+-- Sums over lists.
+use Rattle.std.proofs.Common.{◌≡◌, ℕ, ◌+◌, ◌*◌, ◌<◌, ◌≤◌, Bool, true, false, cond, not, List, [], ◌∷◌, ◌++◌, length, arith, ap, refl, sym, ◌∙◌, subst, inl, inr}
+use Rattle.std.specs.Prelude.{◌↔◌, ◌⊎◌, filter, sum_by}
+use Rattle.std.proofs.lemmas.List.Sums.{sum_by-cons}
+use Rattle.std.proofs.lemmas.Bool.{true≢false, false≢true, cases_lt, cases_Bool, not_from_false}
+use Rattle.pfair_optimal.specs.Run.{is_among, NoneTwice}
+use Rattle.pfair_optimal.proofs.Lists.{among_here, among_more, among_cases, filter_among}
+
+abbrev pub total : {A : Type 0} → (A → ℕ) → List A → ℕ
+total f [] = 0
+total f (x ∷ xs) = f x + total f xs
+
+module _ {A : Type 0} where
+  pub total_sum : (f : A → ℕ) (xs : List A) → sum_by f xs ≡ total f xs
+  total_sum f [] = refl
+  total_sum f (x ∷ xs) = sum_by-cons f x xs ∙ ap (λ (n : ℕ). f x + n) (total_sum f xs)
+
+  pub total_plus : (f g : A → ℕ) (xs : List A) → total (λ a. f a + g a) xs ≡ total f xs + total g xs
+  total_plus f g [] = omega arith
+  total_plus f g (x ∷ xs) = let rest = total_plus f g xs in omega arith
+
+  pub total_times : (k : ℕ) (f : A → ℕ) (xs : List A) → total (λ a. k * f a) xs ≡ k * total f xs
+  total_times k f [] = omega arith
+  total_times k f (x ∷ xs) = let rest = total_times k f xs in omega arith
+
+  pub total_append : (f : A → ℕ) (xs ys : List A) → total f (xs ++ ys) ≡ total f xs + total f ys
+  total_append f [] ys = omega arith
+  total_append f (x ∷ xs) ys = let rest = total_append f xs ys in omega arith
+
+  pub total_constant : (k : ℕ) (xs : List A) → total (λ _. k) xs ≡ length xs * k
+  total_constant k [] = omega arith
+  total_constant k (x ∷ xs) = let rest = total_constant k xs in omega arith
+
+  -- at most, each or all
+  pub total_all_le : (f g : A → ℕ) (xs : List A) → ((a : A) → f a ≤ g a) → total f xs ≤ total g xs
+  total_all_le f g [] h = omega arith
+  total_all_le f g (x ∷ xs) h = let here = h x in let rest = total_all_le f g xs h in omega arith
+
+  pub total_all_same : (f g : A → ℕ) (xs : List A) → ((a : A) → f a ≡ g a) → total f xs ≡ total g xs
+  total_all_same f g [] h = refl
+  total_all_same f g (x ∷ xs) h = let here = h x in let rest = total_all_same f g xs h in omega arith
+
+  pub total_none : (xs : List A) → total (λ _. 0) xs ≡ 0
+  total_none [] = refl
+  total_none (x ∷ xs) = let rest = total_none xs in omega arith
+
+module _ {A : Type 0} (same : A → A → Bool) (exact : (a b : A) → (same a b ≡ true) ↔ (a ≡ b)) where
+  pub total_le : (f g : A → ℕ) (xs : List A) → ((a : A) → is_among same xs a ≡ true → f a ≤ g a) → total f xs ≤ total g xs
+  total_le f g [] h = omega arith
+  total_le f g (x ∷ xs) h = let here = h x (among_here same exact xs x) in let rest = total_le f g xs (λ a i. h a (among_more same exact x xs a i)) in omega arith
+
+  pub total_same : (f g : A → ℕ) (xs : List A) → ((a : A) → is_among same xs a ≡ true → f a ≡ g a) → total f xs ≡ total g xs
+  total_same f g [] h = refl
+  total_same f g (x ∷ xs) h = let here = h x (among_here same exact xs x) in let rest = total_same f g xs (λ a i. h a (among_more same exact x xs a i)) in omega arith
+
+  -- where a sum is above 0, one of its terms is
+  pub total_some : (f : A → ℕ) (xs : List A) → 0 < total f xs → (a : A) × (is_among same xs a ≡ true) × (0 < f a)
+  total_some f [] h = absurd (omega arith)
+  total_some f (x ∷ xs) h =
+      elim (cases_lt 0 (f x)) [
+        | inl some ↦ (x, among_here same exact xs x, some)
+        | inr none ↦ (let t = total_some f xs (omega arith) in (t.0, among_more same exact x xs t.0 t.1, t.2))
+      ]
+
+  -- the others of a list
+  total_others_le : (f : A → ℕ) (a : A) (xs : List A) → total f (filter (λ b. not (same a b)) xs) ≤ total f xs
+  total_others_le f a [] = omega arith
+  total_others_le f a (x ∷ xs) = by (not (same a x)) (total_others_le f a xs)
+    where
+      by : (b : Bool) → total f (filter (λ b. not (same a b)) xs) ≤ total f xs → total f (cond b (x ∷ filter (λ b. not (same a b)) xs) (filter (λ b. not (same a b)) xs)) ≤ f x + total f xs
+      by true rest = omega arith
+      by false rest = omega arith
+
+  total_without : (f : A → ℕ) (a : A) (xs : List A) → is_among same xs a ≡ true → f a + total f (filter (λ b. not (same a b)) xs) ≤ total f xs
+  total_without f a [] h = absurd (false≢true h)
+  total_without f a (x ∷ xs) h = by (same a x) refl (total_others_le f a xs) (λ i. total_without f a xs i) (among_cases same exact x xs a h)
+    where
+      by : (b : Bool) → same a x ≡ b → total f (filter (λ b. not (same a b)) xs) ≤ total f xs → (is_among same xs a ≡ true → f a + total f (filter (λ b. not (same a b)) xs) ≤ total f xs)
+          → (a ≡ x) ⊎ (is_among same xs a ≡ true) → f a + total f (cond (not b) (x ∷ filter (λ b. not (same a b)) xs) (filter (λ b. not (same a b)) xs)) ≤ f x + total f xs
+      by true e rest more c = let is : f a ≡ f x = ap f ((exact a x).0 e) in omega arith
+      by false e rest more (inl i) = absurd (true≢false (sym ((exact a x).1 i) ∙ e))
+      by false e rest more (inr i) = let r = more i in omega arith
+
+  -- where all terms above 0 stand in another list, the sum is at most the sum over that list
+  pub total_among : (f : A → ℕ) (xs ys : List A) → NoneTwice same xs → ((a : A) → is_among same xs a ≡ true → 0 < f a → is_among same ys a ≡ true) → total f xs ≤ total f ys
+  total_among f [] ys apart h = omega arith
+  total_among f (x ∷ xs) ys apart h =
+      elim (cases_lt 0 (f x)) [
+        | inl some ↦
+            let here = h x (among_here same exact xs x) some in
+            let without = total_without f x ys here in
+            let rest = total_among f xs (filter (λ b. not (same x b)) ys) apart.1 (λ a i s.
+            filter_among same exact (λ b. not (same x b)) ys a (h a (among_more same exact x xs a i) s) (other a i (cases_Bool (same x a)))) in
+            omega arith
+        | inr none ↦ (let rest = total_among f xs ys apart.1 (λ a i s. h a (among_more same exact x xs a i) s) in omega arith)
+      ]
+    where
+      other : (a : A) → is_among same xs a ≡ true → (same x a ≡ true) ⊎ (same x a ≡ false) → not (same x a) ≡ true
+      other a i (inr e) = not_from_false (same x a) e
+      other a i (inl e) = absurd (true≢false (sym (subst (λ (b : A). is_among same xs b ≡ true) (sym ((exact x a).0 e)) i) ∙ apart.0))
+
+  -- one term stands for itself
+  pub total_zero : (k : ℕ) (b : A) (xs : List A) → is_among same xs b ≡ false → total (λ a. cond (same b a) k 0) xs ≡ 0
+  total_zero k b xs h = elim (cases_lt 0 (total (λ a. cond (same b a) k 0) xs)) [
+    | inr none ↦ omega arith
+    | inl some ↦ absurd (
+        let t = total_some (λ a. cond (same b a) k 0) xs some in
+        here t.0 t.1 t.2 (cases_Bool (same b t.0)))
+  ]
+    where
+      here : (a : A) → is_among same xs a ≡ true → 0 < cond (same b a) k 0 → (same b a ≡ true) ⊎ (same b a ≡ false) → ⊥
+      here a i s (inl e) = true≢false (sym (subst (λ (c : A). is_among same xs c ≡ true) (sym ((exact b a).0 e)) i) ∙ h)
+      here a i s (inr e) = let z : cond (same b a) k 0 ≡ 0 = ap (λ t. cond t k 0) e in omega arith
+
+  pub total_one : (k : ℕ) (b : A) (xs : List A) → NoneTwice same xs → is_among same xs b ≡ true → total (λ a. cond (same b a) k 0) xs ≡ k
+  total_one k b [] apart h = absurd (false≢true h)
+  total_one k b (x ∷ xs) apart h = by (same b x) refl (λ i. total_one k b xs apart.1 i) (among_cases same exact x xs b h)
+    where
+      by : (t : Bool) → same b x ≡ t → (is_among same xs b ≡ true → total (λ a. cond (same b a) k 0) xs ≡ k) → (b ≡ x) ⊎ (is_among same xs b ≡ true) → cond t k 0 + total (λ a. cond (same b a) k 0) xs ≡ k
+      by true e more c = let rest = total_zero k b xs (subst (λ (n : A). is_among same xs n ≡ false) (sym ((exact b x).0 e)) apart.0) in omega arith
+      by false e more (inl i) = absurd (true≢false (sym ((exact b x).1 i) ∙ e))
+      by false e more (inr i) = let rest = more i in omega arith

@@ -1,0 +1,3 @@
+pub mod Fluid
+pub mod Laws
+pub mod Run

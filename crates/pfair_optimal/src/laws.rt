@@ -1,0 +1,46 @@
+//! The laws of fluid schedules and of busy bounds, for every weight, subtask and offset, and the
+//! theorem of runs.
+//!
+//! Each function states one law and does nothing.
+ghost use Rattle.pfair_optimal.specs.Laws.{SharesFillWindows, SharesFitSlots, GroupDeadlinesEndCascades, BusyBoundsLast, RunsNeverMiss, SomeRunIsFull};
+
+/// In the fluid schedule each subtask gets a quantum in its window and nothing outside of it: its
+/// shares of slots are above 0 just in the window, at most the cost, and add up to the period.
+pub fn shares_fill_windows()
+    ensures { SharesFillWindows }
+{}
+
+/// The shares that two subtasks of one task have of a slot are the cost at most, and no three have
+/// a share of one slot. Where a b-bit is 1, the last share of that window and the first one of the
+/// next are the cost together.
+pub fn shares_fit_slots()
+    ensures { SharesFitSlots }
+{}
+
+/// The group deadline of a heavy subtask with b-bit 1 is where its cascade ends: the first time from
+/// its deadline on, k slots after it, at which the k-th subtask after it isn't due, or is due with
+/// b-bit 0 (Anderson and Srinivasan).
+pub fn group_deadlines_end_cascades()
+    ensures { GroupDeadlinesEndCascades }
+{}
+
+/// The busy bound, which is the group deadline of a heavy subtask and the deadline and b-bit of a
+/// light one, is past each such cascade; and what is released before it has no greater share of its
+/// first slot than the next subtask.
+pub fn busy_bounds_last()
+    ensures { BusyBoundsLast }
+{}
+
+/// In a run no task misses. A run is plain data: the rows of each slot, the members, and the final
+/// offsets. It is wanted that a table has the first of the eligible subtasks in PD2 order, that a
+/// task holds its weight up to the busy bound of what it ran, and that the weights held in a slot
+/// have room on the machine.
+pub fn runs_never_miss()
+    ensures { RunsNeverMiss }
+{}
+
+/// The premises of a run don't contradict each other: two tasks of weight 1/2 that run by turns on
+/// one processor keep them, and fill it.
+pub fn some_run_is_full()
+    ensures { SomeRunIsFull }
+{}
