@@ -1,3 +1,4 @@
+mod Beginnings
 mod Blocks
 mod BusyBounds
 mod Counting

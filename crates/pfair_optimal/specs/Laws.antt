@@ -2,6 +2,7 @@
 use Rattle.std.specs.Prelude.{sum_by, ℕ, suc, true, false, ◌≡◌, ◌+◌, ◌*◌, ◌<◌, ◌≤◌, ◌↔◌}
 use Rattle.pfair_weight.specs.Share.{Share, IsWeight, IsHeavy, units_of}
 use Rattle.pfair_weight.specs.Window.{release_of, deadline_of, b_bit_of, group_deadline_of}
+use Rattle.pfair_optimal.specs.Beginning.{IsRunBelow}
 use Rattle.pfair_optimal.specs.Fluid.{share_of, total_before, busy_bound_of}
 use Rattle.pfair_optimal.specs.Run.{Subtask, Run, deadline, is_row, has_run, IsRun, IsNext}
 
@@ -39,6 +40,11 @@ pub record BusyBoundsLast : Type 0 where
 pub record RunsNeverMiss : Type 0 where
   pub none_misses : (x : Run) (t : ℕ) (z : Subtask) → IsRun x → x.is_active z.task t ≡ true → IsNext x z (suc t) → has_run x z (suc t) ≡ false → suc t < deadline x z
   pub each_in_time : (x : Run) (t : ℕ) (z : Subtask) → IsRun x → is_row x t z ≡ true → t < deadline x z
+
+-- the same of the beginning of a run, of which no more than that is known
+pub record BeginningsNeverMiss : Type 0 where
+  pub none_misses : (x : Run) (n t : ℕ) (z : Subtask) → IsRunBelow x n → t < n → x.is_active z.task t ≡ true → IsNext x z (suc t) → has_run x z (suc t) ≡ false → suc t < deadline x z
+  pub each_in_time : (x : Run) (n t : ℕ) (z : Subtask) → IsRunBelow x n → t < n → is_row x t z ≡ true → t < deadline x z
 
 -- the premises can be met, also where the weights fill the machine
 abbrev pub SomeRunIsFull : Type 0

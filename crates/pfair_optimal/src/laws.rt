@@ -2,7 +2,7 @@
 //! theorem of runs.
 //!
 //! Each function states one law and does nothing.
-ghost use Rattle.pfair_optimal.specs.Laws.{SharesFillWindows, SharesFitSlots, GroupDeadlinesEndCascades, BusyBoundsLast, RunsNeverMiss, SomeRunIsFull};
+ghost use Rattle.pfair_optimal.specs.Laws.{SharesFillWindows, SharesFitSlots, GroupDeadlinesEndCascades, BusyBoundsLast, RunsNeverMiss, BeginningsNeverMiss, SomeRunIsFull};
 
 /// In the fluid schedule each subtask gets a quantum in its window and nothing outside of it: its
 /// shares of slots are above 0 just in the window, at most the cost, and add up to the period.
@@ -37,6 +37,12 @@ pub fn busy_bounds_last()
 /// have room on the machine.
 pub fn runs_never_miss()
     ensures { RunsNeverMiss }
+{}
+
+/// The same of the beginning of a run: where the slots below a number keep the premises, none
+/// misses in them, whatever comes later. Offsets are those that stand at the end of the beginning.
+pub fn beginnings_never_miss()
+    ensures { BeginningsNeverMiss }
 {}
 
 /// The premises of a run don't contradict each other: two tasks of weight 1/2 that run by turns on
