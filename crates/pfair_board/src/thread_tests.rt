@@ -653,37 +653,16 @@ fn busy(rt: &impl Abort, alloc: Global) -> Result<Script, AllocError> {
     Ok(Script::new(settings, logs).ok().expect(rt, "a script"))
 }
 
-// Asserts that ten runs of the busy script, in threads, end well.
-fn ten_runs<P: Threads + Wait + Abort + Sync>(rt: &P, alloc: Global) -> Result<(), Fail> {
-    let script = busy(rt, alloc)?;
+// Asserts that ten runs of a script, in threads, end well.
+fn ten_runs<P: Threads + Wait + Abort + Sync>(rt: &P, alloc: Global, script: &Script) {
     for _ in 0..10 {
-        let run = run_dispatchers::<P, HeapReady, OpenGate>(rt, alloc, &script, &OpenGate);
+        let run = run_dispatchers::<P, HeapReady, OpenGate>(rt, alloc, script, &OpenGate);
         assert!(rt; run.is_ok());
     }
+}
+
+#[test]
+fn busy_runs(rt: HostRuntime) -> Result<(), Fail> {
+    ten_runs(&rt, rt.alloc(), &busy(&rt, rt.alloc())?);
     Ok(())
-}
-
-#[test]
-fn busy_runs_1_to_10(rt: HostRuntime) -> Result<(), Fail> {
-    ten_runs(&rt, rt.alloc())
-}
-
-#[test]
-fn busy_runs_11_to_20(rt: HostRuntime) -> Result<(), Fail> {
-    ten_runs(&rt, rt.alloc())
-}
-
-#[test]
-fn busy_runs_21_to_30(rt: HostRuntime) -> Result<(), Fail> {
-    ten_runs(&rt, rt.alloc())
-}
-
-#[test]
-fn busy_runs_31_to_40(rt: HostRuntime) -> Result<(), Fail> {
-    ten_runs(&rt, rt.alloc())
-}
-
-#[test]
-fn busy_runs_41_to_50(rt: HostRuntime) -> Result<(), Fail> {
-    ten_runs(&rt, rt.alloc())
 }
