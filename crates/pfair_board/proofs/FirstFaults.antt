@@ -6,7 +6,7 @@ use Rattle.pfair_table.specs.Script.{LoggedRun, replica_of_logs}
 use Rattle.pfair_board.specs.declared.worked.Worked.{Worked}
 use Rattle.pfair_board.specs.declared.run.RunFault.{RunFault}
 use Rattle.pfair_board.specs.declared.run.RunFault.TheVariants.{Memory, GateGaveUp, Astray, Stalled}
-use Rattle.pfair_board.specs.Boards.{BoardFrame}
+use Rattle.pfair_desk.specs.Boards.{BoardFrame}
 use Rattle.pfair_board.specs.Works.{AreWorks}
 use Rattle.pfair_board.specs.FirstFault.{IsFirstFault}
 use Rattle.pfair_board.specs.RunFaults.{IsRunFaultOf}

@@ -1,164 +1,27 @@
--- What desks hold are entries of set cells, as they stand.
-use Rattle.std.proofs.Common.{ℕ, ◌≡◌, refl, sym, ap, ◌∙◌, subst, inl, inr, Bool, true, false, List, [], ◌∷◌, Option, Some, None}
-use Rattle.std.specs.Prelude.{◌⊎◌, ◌≢◌, ◌==◌, ◌&&◌, unwrap_or, if◌then◌else◌}
+-- What desks plan follows from what they hold.
+use Rattle.std.proofs.Common.{ℕ, refl, List}
 use Rattle.std.specs.List.{AllByRecursion}
-use Rattle.std.proofs.lemmas.Bool.{eqb-true, and_parts}
-use Rattle.pfair_lattice.specs.Held.{HeldBelow}
-use Rattle.pfair_lattice.specs.declared.flat.Flat.{Flat}
-use Rattle.pfair_lattice.specs.declared.flat.Flat.TheVariants.{One, Torn}
-use Rattle.pfair_lattice.specs.HeldLaws.{join_least, none_below, below_itself, below_trans}
-use Rattle.pfair_entry.specs.Entry.{Logged, IsEntry}
-use Rattle.pfair_entry.specs.Same.{entry_eq}
-use Rattle.pfair_entry.specs.Exact.{entry_exact}
-use Rattle.pfair_replica.specs.Replica.{Contents, IsReplica, only, contents_join}
 use Rattle.pfair_table.specs.Laws.{IsOf, OnePlan, OneTable}
 use Rattle.pfair_table.specs.Table.{Settings}
-use Rattle.pfair_board.specs.Boards.{IsKey}
-use Rattle.pfair_board.specs.Steps.{State, Step, IsStep, Set, Get, Meet, empty_board, set_cell, with_cell, with_desk, after_get, after_step, after_steps, one_of, EachDeskBelow, desk_replica}
-use Rattle.pfair_board.specs.Laws.{DesksStayBelow, DesksAgree, DesksPlanAlike, DesksShareAPlan}
-
--- contents that are below the set cells
-abbrev UnderCells : Contents → (ℕ → ℕ → Option Logged) → Type 0
-UnderCells held cells = (k n : ℕ) → HeldBelow (held k n) (one_of (cells k n))
-
--- setting a cell changes no cell that is set
-set_keeps : (cells : ℕ → ℕ → Option Logged) (j m : ℕ) (e : Logged) (k n : ℕ) → HeldBelow (one_of (cells k n)) (one_of (set_cell cells j m e k n))
-set_keeps cells j m e k n = by (k == j && n == m) refl
-  where
-    on : (o : Option Logged) → HeldBelow (one_of o) (one_of (Some (unwrap_or o e)))
-    on None = none_below _
-    on (Some f) = below_itself _
-
-    by : (b : Bool) → (k == j && n == m) ≡ b → HeldBelow (one_of (cells k n)) (one_of (if b then Some (unwrap_or (cells j m) e) else cells k n))
-    by true p =
-        (let q = and_parts (k == j) (n == m) p in
-        let ek = eqb-true k j q.0 in
-        let en = eqb-true n m q.1 in
-        subst (λ o. HeldBelow (one_of (cells k n)) (one_of (Some (unwrap_or o e)))) (λ i. cells (ek i) (en i)) (on (cells k n)))
-    by false p = below_itself _
-
--- the entry of a cell is below the cells
-only_below : (cells : ℕ → ℕ → Option Logged) (j m : ℕ) (e : Logged) → cells j m ≡ Some e → UnderCells (only j m e) cells
-only_below cells j m e is k n = by (k == j) (n == m) refl refl
-  where
-    by : (b c : Bool) → (k == j) ≡ b → (n == m) ≡ c → HeldBelow (if b then (if c then Some (One e) else None) else None) (one_of (cells k n))
-    by true true p q =
-        (let ek = eqb-true k j p in
-        let en = eqb-true n m q in
-        subst (λ o. HeldBelow (Some (One e)) o) (sym (ap one_of ((λ i. cells (ek i) (en i)) ∙ is))) (below_itself (Some (One e))))
-    by true false p q = none_below _
-    by false c p q = none_below _
-
-read_below : (cells : ℕ → ℕ → Option Logged) (held : Contents) (j m : ℕ) → UnderCells held cells → UnderCells (with_cell held j m (cells j m)) cells
-read_below cells held j m under = by (cells j m) refl
-  where
-    by : (o : Option Logged) → cells j m ≡ o → UnderCells (with_cell held j m o) cells
-    by None p = under
-    by (Some e) p = λ k n. join_least entry_eq entry_exact (held k n) (only j m e k n) (one_of (cells k n)) (under k n) (only_below cells j m e p k n)
-
-with_below : (cells : ℕ → ℕ → Option Logged) (desks : ℕ → Contents) (d : ℕ) (held : Contents) → ((c : ℕ) → UnderCells (desks c) cells) → UnderCells held cells → (c : ℕ) → UnderCells (with_desk desks d held c) cells
-with_below cells desks d held each under c = by (c == d)
-  where
-    by : (b : Bool) → UnderCells (if b then held else desks c) cells
-    by true = under
-    by false = each c
-
-got_below : (b : State) (d k n : ℕ) → EachDeskBelow b → EachDeskBelow (after_get b d k n)
-got_below b d k n each = with_below b.cells b.desks d (with_cell (b.desks d) k n (b.cells k n)) each (read_below b.cells (b.desks d) k n (each d))
-
-step_below : (b : State) (step : Step) → EachDeskBelow b → EachDeskBelow (after_step b step)
-step_below b (Set d k n e) each =
-    got_below (record b { cells = set_cell b.cells k n e }) d k n
-    (λ c i j. below_trans (b.desks c i j) (one_of (b.cells i j)) (one_of (set_cell b.cells k n e i j)) (each c i j) (set_keeps b.cells k n e i j))
-step_below b (Get d k n) each = got_below b d k n each
-step_below b (Meet d c) each =
-    with_below b.cells b.desks d (contents_join (b.desks d) (b.desks c)) each
-    (λ k n. join_least entry_eq entry_exact (b.desks d k n) (b.desks c k n) (one_of (b.cells k n)) (each d k n) (each c k n))
-
-steps_below : (steps : List Step) (b : State) → EachDeskBelow b → EachDeskBelow (after_steps steps b)
-steps_below [] b each = each
-steps_below (step ∷ steps) b each = steps_below steps (after_step b step) (step_below b step each)
-
-pub desks_stay_below : DesksStayBelow
-desks_stay_below steps = steps_below steps empty_board (λ d k n. none_below _)
-
--- no set cell is torn
-cell_whole : (o : Option Logged) → one_of o ≢ Some Torn
-cell_whole None e = absurd (cc)
-cell_whole (Some f) e = absurd (cc)
-
-pub desks_agree : DesksAgree
-desks_agree steps c d processors capacity k n torn =
-    let b = after_steps steps empty_board in
-    let each = desks_stay_below steps in
-    elim (join_least entry_eq entry_exact (b.desks c k n) (b.desks d k n) (one_of (b.cells k n)) (each c k n) (each d k n) Torn torn) [
-      | inl e ↦ cell_whole (b.cells k n) e
-      | inr e ↦ cell_whole (b.cells k n) e
-    ]
-
--- each cell that is set is a key of the board, and its entry is stamped at or after its floor
-abbrev CellsAreGood : ℕ → ℕ → (ℕ → ℕ → Option Logged) → Type 0
-CellsAreGood processors capacity cells = (k n : ℕ) (e : Logged) → cells k n ≡ Some e → IsKey processors capacity k n × IsEntry e
-
-set_good : (processors capacity : ℕ) (cells : ℕ → ℕ → Option Logged) (j m : ℕ) (e : Logged) → IsKey processors capacity j m × IsEntry e → CellsAreGood processors capacity cells → CellsAreGood processors capacity (set_cell cells j m e)
-set_good processors capacity cells j m e new good k n f = by (k == j && n == m) refl
-  where
-    Good : ℕ → ℕ → Logged → Type 0
-    Good i l g = IsKey processors capacity i l × IsEntry g
-
-    on : (o : Option Logged) → cells j m ≡ o → Some (unwrap_or o e) ≡ Some f → IsKey processors capacity j m × IsEntry f
-    on None p h = subst (λ g. IsKey processors capacity j m × IsEntry g) (let same : e ≡ f = cc in same) new
-    on (Some g) p h = good j m f (p ∙ h)
-
-    by : (b : Bool) → (k == j && n == m) ≡ b → (if b then Some (unwrap_or (cells j m) e) else cells k n) ≡ Some f → IsKey processors capacity k n × IsEntry f
-    by true p h =
-        (let q = and_parts (k == j) (n == m) p in
-        let ek = eqb-true k j q.0 in
-        let en = eqb-true n m q.1 in
-        subst (λ (v : ℕ × ℕ). IsKey processors capacity v.0 v.1 × IsEntry f) (λ i. (sym ek i, sym en i)) (on (cells j m) refl h))
-    by false p h = good k n f h
-
-step_good : (processors capacity : ℕ) (b : State) (step : Step) → IsStep processors capacity step → CellsAreGood processors capacity b.cells → CellsAreGood processors capacity (after_step b step).cells
-step_good processors capacity b (Set d k n e) new good = set_good processors capacity b.cells k n e new good
-step_good processors capacity b (Get d k n) new good = good
-step_good processors capacity b (Meet d c) new good = good
-
-steps_good : (processors capacity : ℕ) (steps : List Step) (b : State) → AllByRecursion (IsStep processors capacity) steps → CellsAreGood processors capacity b.cells → CellsAreGood processors capacity (after_steps steps b).cells
-steps_good processors capacity [] b all good = good
-steps_good processors capacity (step ∷ steps) b all good = steps_good processors capacity steps (after_step b step) all.1 (step_good processors capacity b step all.0 good)
-
--- what is held is the entry of the cell
-held_cell : (c : Flat Logged) (o : Option Logged) → (one_of o ≡ Some c) ⊎ (one_of o ≡ Some Torn) → (e : Logged) × (o ≡ Some e) × (c ≡ One e)
-held_cell c None (inl h) = absurd (cc)
-held_cell c None (inr h) = absurd (cc)
-held_cell c (Some e) (inl h) = (e, refl, (let same : c ≡ One e = cc in same))
-held_cell c (Some e) (inr h) = absurd (cc)
-
-desk_is_replica : (processors capacity : ℕ) (steps : List Step) → AllByRecursion (IsStep processors capacity) steps → (d : ℕ) → IsReplica (desk_replica processors capacity (after_steps steps empty_board) d)
-desk_is_replica processors capacity steps all d =
-    let b = after_steps steps empty_board in
-    let good = steps_good processors capacity steps empty_board all (λ k n e h. absurd (cc)) in
-    let cell = λ (k n : ℕ) (c : Flat Logged) (h : b.desks d k n ≡ Some c). held_cell c (b.cells k n) (desks_stay_below steps d k n c h) in
-    record {
-      in_range = λ k n c h. (let t = cell k n c h in let key = (good k n t.0 t.1).0 in (key.row, key.first, key.last));
-      stamped = λ k n e h. (let t = cell k n (One e) h in subst IsEntry (let same : t.0 ≡ e = (let back = t.2 in cc) in same) (good k n t.0 t.1).1);
-    }
+use Rattle.pfair_desk.specs.Steps.{Step, IsStep, empty_board, after_steps, desk_replica}
+use Rattle.pfair_desk.specs.Laws.{DesksAgree, DesksHoldReplicas}
+use Rattle.pfair_board.specs.Laws.{DesksPlanAlike, DesksShareAPlan}
 
 -- what a desk holds after steps of this shape is a replica for these settings
-desk_is_of : (s : Settings) (capacity : ℕ) (steps : List Step) → AllByRecursion (IsStep s.processors capacity) steps → (c : ℕ)
+desk_is_of : DesksHoldReplicas → (s : Settings) (capacity : ℕ) (steps : List Step) → AllByRecursion (IsStep s.processors capacity) steps → (c : ℕ)
     → IsOf s (desk_replica s.processors capacity (after_steps steps empty_board) c)
-desk_is_of s capacity steps all c = record { replica = desk_is_replica s.processors capacity steps all c; processors = refl }
+desk_is_of replicas s capacity steps all c = record { replica = replicas s.processors capacity steps all c; processors = refl }
 
-pub desks_plan_alike : OneTable → DesksPlanAlike
-desks_plan_alike one_table s capacity steps all c d t h g =
+pub desks_plan_alike : DesksAgree → DesksHoldReplicas → OneTable → DesksPlanAlike
+desks_plan_alike agree replicas one_table s capacity steps all c d t h g =
     let b = after_steps steps empty_board in
     (one_table s (desk_replica s.processors capacity b c) (desk_replica s.processors capacity b d)
-    (desk_is_of s capacity steps all c) (desk_is_of s capacity steps all d)
-    (desks_agree steps c d s.processors capacity) t h g).0
+    (desk_is_of replicas s capacity steps all c) (desk_is_of replicas s capacity steps all d)
+    (agree steps c d s.processors capacity) t h g).0
 
-pub desks_share_a_plan : OnePlan → DesksShareAPlan
-desks_share_a_plan one_plan s capacity steps all c d =
+pub desks_share_a_plan : DesksAgree → DesksHoldReplicas → OnePlan → DesksShareAPlan
+desks_share_a_plan agree replicas one_plan s capacity steps all c d =
     let b = after_steps steps empty_board in
     one_plan s (desk_replica s.processors capacity b c) (desk_replica s.processors capacity b d)
-    (desk_is_of s capacity steps all c) (desk_is_of s capacity steps all d)
-    (desks_agree steps c d s.processors capacity)
+    (desk_is_of replicas s capacity steps all c) (desk_is_of replicas s capacity steps all d)
+    (agree steps c d s.processors capacity)

@@ -1,22 +1,15 @@
--- Facts of each element of a list and its place.
-use Rattle.std.proofs.Common.{◌≡◌, ◌∙◌, ℕ, zero, suc, List, [], ◌∷◌, ◌++◌, length, slice_get, Some, Ok, Err, IsOk, subst, sym}
+-- Facts of the works of a run, row by row.
+use Rattle.std.proofs.Common.{◌≡◌, ◌∙◌, ℕ, List, [], slice_get, Some, Ok, Err, IsOk, subst, sym}
 use Rattle.std.proofs.lemmas.Bool.{true≢false}
 use Rattle.pfair_table.specs.Table.{Settings, plan}
 use Rattle.pfair_table.specs.Script.{LoggedRun}
 use Rattle.pfair_board.specs.declared.worked.Worked.{Worked}
 use Rattle.pfair_board.specs.declared.run.Run.{Run}
 use Rattle.pfair_board.specs.declared.run.RunFault.{RunFault}
-use Rattle.pfair_board.specs.Boards.{BoardFrame}
-use Rattle.pfair_board.specs.Desks.{IsDeskOf}
+use Rattle.pfair_desk.specs.Boards.{BoardFrame}
+use Rattle.pfair_desk.specs.Desks.{IsDeskOf}
 use Rattle.pfair_board.specs.Works.{IsWorkOf}
 use Rattle.pfair_board.specs.Finish.{IsGood, IsFullRun, IsPlacedRun}
-
--- one more element
-pub each_snoc : {A : Type 0} (P : ℕ → A → Type 0) (xs : List A) (x : A) → ((k : ℕ) (y : A) → slice_get xs k ≡ Some y → P k y) → P (length xs) x → (k : ℕ) (y : A) → slice_get (xs ++ x ∷ []) k ≡ Some y → P k y
-each_snoc P [] x old new zero y at = let e : x ≡ y = cc in subst (λ z. P 0 z) e new
-each_snoc P [] x old new (suc k) y at = absurd (cc)
-each_snoc P (z ∷ zs) x old new zero y at = old 0 y at
-each_snoc P (z ∷ zs) x old new (suc k) y at = each_snoc (λ j. P (suc j)) zs x (λ j. old (suc j)) new k y at
 
 -- the same work of a row that is known by other names
 pub work_moves : (m : _) (b b' : BoardFrame) (s s' : Settings) (k k' : ℕ) (w : Worked) → b ≡ b' → s ≡ s' → k ≡ k' → IsWorkOf m b s k w → IsWorkOf m b' s' k' w

@@ -12,7 +12,7 @@ use Rattle.pfair_replica.specs.HeldRows.{held, replica_of}
 use Rattle.pfair_replica.specs.Replica.{Replica, IsReplica, Below, Untorn, only, with_entry, empty_replica}
 use Rattle.pfair_replica.specs.Offered.{has_key, taken}
 use Rattle.pfair_table.specs.Refinement.{Dispatch}
-use Rattle.pfair_board.specs.Desks.{DeskView, GrownDesk}
+use Rattle.pfair_desk.specs.Desks.{DeskView, GrownDesk}
 use Rattle.pfair_board.specs.Logs.{HoldsLog, IsBehind}
 
 pub grown_trans : (a b c : DeskView) → GrownDesk a b → GrownDesk b c → GrownDesk a c

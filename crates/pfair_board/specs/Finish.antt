@@ -7,8 +7,8 @@ use Rattle.pfair_table.specs.Places.{places_of}
 use Rattle.pfair_table.specs.Script.{LoggedRun, capacity_of, replica_of_logs}
 use Rattle.pfair_board.specs.declared.run.Run.{Run}
 use Rattle.pfair_board.specs.declared.worked.Worked.{Worked}
-use Rattle.pfair_board.specs.Boards.{BoardFrame}
-use Rattle.pfair_board.specs.Desks.{DeskView, IsDeskOf}
+use Rattle.pfair_desk.specs.Boards.{BoardFrame}
+use Rattle.pfair_desk.specs.Desks.{DeskView, IsDeskOf}
 use Rattle.pfair_table.specs.Planned.{as_tables, as_places}
 
 -- the desk of row k of this board, which holds the script's replica

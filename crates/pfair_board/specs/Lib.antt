@@ -1,13 +1,6 @@
-pub mod Boards
-pub mod Desks
-pub mod Faults
 pub mod Finish
 pub mod FirstFault
-pub mod Gained
-pub mod Knowledge
 pub mod Laws
 pub mod Logs
-pub mod Noted
 pub mod RunFaults
-pub mod Steps
 pub mod Works

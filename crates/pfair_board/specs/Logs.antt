@@ -5,7 +5,7 @@ use Rattle.pfair_entry.specs.Entry.{Logged}
 use Rattle.pfair_replica.specs.HeldRows.{held, replica_of, SameShape}
 use Rattle.pfair_replica.specs.Replica.{Below}
 use Rattle.pfair_table.specs.Refinement.{Dispatch}
-use Rattle.pfair_board.specs.Desks.{DeskView}
+use Rattle.pfair_desk.specs.Desks.{DeskView}
 
 -- it holds the log in its own row, from that number on
 abbrev pub HoldsLog : DeskView → (first : ℕ) → List Logged → Type 0

@@ -5,7 +5,7 @@ use Rattle.pfair_replica.specs.Replica.{frontier}
 use Rattle.pfair_table.specs.Script.{LoggedRun, replica_of_logs}
 use Rattle.pfair_board.specs.declared.run.RunFault.{RunFault}
 use Rattle.pfair_board.specs.declared.run.RunFault.TheVariants.{Memory, GateGaveUp, Astray, Stalled}
-use Rattle.pfair_board.specs.Desks.{DeskView}
+use Rattle.pfair_desk.specs.Desks.{DeskView}
 use Rattle.pfair_board.specs.Logs.{IsTaken}
 
 -- why slots aren't planned: the gate's type may give up, or memory was wanted

@@ -4,8 +4,8 @@ use Rattle.pfair_table.specs.Table.{Settings}
 use Rattle.pfair_board.specs.declared.worked.Worked.{Worked}
 use Rattle.pfair_board.specs.declared.workplace.Workplace.{Workplace}
 use Rattle.pfair_board.specs.declared.run.RunFault.TheVariants.{GateGaveUp}
-use Rattle.pfair_board.specs.Boards.{BoardFrame}
-use Rattle.pfair_board.specs.Desks.{IsDeskOf}
+use Rattle.pfair_desk.specs.Boards.{BoardFrame}
+use Rattle.pfair_desk.specs.Desks.{IsDeskOf}
 
 -- the work of the board's row k under these settings, whose gate gave up only if its type may
 pub record IsWorkOf (may_give_up : Bool) (b : BoardFrame) (s : Settings) (k : ℕ) (w : Worked) : Type 0 where

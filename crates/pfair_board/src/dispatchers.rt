@@ -3,20 +3,19 @@ ghost use Rattle.std.specs.Prelude.{◌≡◌, ◌≤◌, ◌↔◌, ℕ, IfOk, 
 ghost use Rattle.pfair_replica.specs.HeldRows.{replica_of};
 ghost use Rattle.pfair_replica.specs.Replica.{frontier};
 ghost use Rattle.pfair_table.specs.Script.{capacity_of, replica_of_logs};
-ghost use Rattle.pfair_board.specs.Desks.{IsDeskOf};
+ghost use Rattle.pfair_desk.specs.Desks.{IsDeskOf};
 ghost use Rattle.pfair_board.specs.Works.{IsWorkOf, AreWorks, AreWorkplaces};
 ghost use Rattle.pfair_board.specs.Finish.{IsFinished, IsGood};
 ghost use Rattle.pfair_board.specs.FirstFault.{SomeEndsIn, Holds, AllHold, IsFirstFault};
 ghost use Rattle.pfair_board.specs.RunFaults.{IsRunFaultOf};
 ghost use Rattle.pfair_board.specs.declared.worked.Worked.{Worked};
 
-use crate::board::Board;
-use crate::desk::Desk;
 use crate::gate::Gate;
 use crate::run::{Run, RunFault};
 use crate::worked::Worked;
 use crate::worker::run_worker;
 use crate::workplace::Workplace;
+use pfair_desk::{Board, Desk};
 use pfair_ready::Ready;
 use pfair_replica::Replica;
 use pfair_replica::laws::least_join;

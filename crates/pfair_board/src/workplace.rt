@@ -2,9 +2,8 @@
 ghost use Rattle.std.specs.Prelude.{IfOk};
 ghost use Rattle.pfair_board.specs.Works.{AreWorkplaces};
 
-use crate::board::Board;
-use crate::desk::Desk;
 use crate::hints::Hints;
+use pfair_desk::{Board, Desk};
 use std::alloc::{AllocError, Global};
 use std::marker::PhantomData;
 

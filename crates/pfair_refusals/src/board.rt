@@ -1,6 +1,6 @@
 //! Boards, and what their desks publish, find and tell each other.
 ghost use Rattle.std.specs.Prelude.{◌≡◌, ◌<◌, IfOk};
-ghost use Rattle.pfair_board.specs.Desks.{IsDeskOf};
+ghost use Rattle.pfair_desk.specs.Desks.{IsDeskOf};
 
 use crate::Look;
 use crate::entries::quiet;

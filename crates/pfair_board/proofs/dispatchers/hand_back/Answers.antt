@@ -2,7 +2,8 @@ use Rattle.std.proofs.Common.{◌≡◌, ◌+◌, ◌∷◌, rules, arith, subst
 use Rattle.std.proofs.lemmas.Grind.{common_steps}
 use Rattle.std.specs.Vec.Iter.{into_iter_items}
 use Rattle.pfair_board.specs.Finish.{IsGood, IsFullDesk, IsFullRun, IsPlacedRun}
-use Rattle.pfair_board.proofs.Rows.{each_snoc, none_in_empty, full_run, placed_run, not_failed}
+use Rattle.pfair_desk.proofs.Rows.{each_snoc}
+use Rattle.pfair_board.proofs.Rows.{none_in_empty, full_run, placed_run, not_failed}
 use Rattle.pfair_board.proofs.dispatchers.hand_back.Goals as goal
 
 pub loop-work-init : goal.loop-work-init

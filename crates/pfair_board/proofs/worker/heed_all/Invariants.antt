@@ -1,5 +1,5 @@
 use Rattle.std.proofs.Common.{◌≡◌}
-use Rattle.pfair_board.specs.Desks.{IsDeskOf, GrownDesk}
+use Rattle.pfair_desk.specs.Desks.{IsDeskOf, GrownDesk}
 use Rattle.pfair_board.specs.Logs.{IsBehind}
 use Rattle.pfair_board.proofs.worker.heed_all.Given as goal
 

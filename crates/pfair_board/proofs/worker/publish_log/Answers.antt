@@ -3,9 +3,9 @@ use Rattle.std.proofs.lemmas.Bool.{cases_lt}
 use Rattle.std.proofs.lemmas.Option.{slice_get_read, slice_get_within}
 use Rattle.pfair_lattice.specs.declared.flat.Flat.TheVariants.{One}
 use Rattle.pfair_replica.specs.HeldRows.{held}
-use Rattle.pfair_board.specs.declared.fault.PublishFault.TheVariants.{Taken}
-use Rattle.pfair_board.specs.Desks.{DeskState}
-use Rattle.pfair_board.specs.Faults.{IsPublishFaultOf}
+use Rattle.pfair_desk.specs.declared.fault.PublishFault.TheVariants.{Taken}
+use Rattle.pfair_desk.specs.Desks.{DeskState}
+use Rattle.pfair_desk.specs.Faults.{IsPublishFaultOf}
 use Rattle.pfair_board.proofs.Working.{grown_trans}
 use Rattle.pfair_board.proofs.worker.publish_log.Goals as goal
 

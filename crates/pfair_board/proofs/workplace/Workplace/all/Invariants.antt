@@ -1,6 +1,6 @@
 use Rattle.std.proofs.Common.{◌≡◌, ◌+◌, ℕ, slice_get, Some, vec_len}
 use Rattle.std.specs.Vec.Iter.{into_iter_items, into_iter_len}
-use Rattle.pfair_board.specs.Desks.{DeskView, IsDeskOf}
+use Rattle.pfair_desk.specs.Desks.{DeskView, IsDeskOf}
 use Rattle.pfair_board.specs.Works.{IsWorkplaceOf}
 use Rattle.pfair_board.proofs.workplace.Workplace.all.Given as goal
 

@@ -6,7 +6,8 @@ use Rattle.std.specs.declared.thread.PromisedHandle.{PromisedHandle}
 use Rattle.pfair_board.specs.declared.worked.Worked.{Worked}
 use Rattle.pfair_board.specs.declared.dispatchers.RowOf.{RowOf}
 use Rattle.pfair_board.specs.Works.{IsWorkOf}
-use Rattle.pfair_board.proofs.Rows.{each_snoc, work_moves}
+use Rattle.pfair_desk.proofs.Rows.{each_snoc}
+use Rattle.pfair_board.proofs.Rows.{work_moves}
 use Rattle.pfair_board.proofs.dispatchers.fn.run_all.scope.Goals as goal
 
 -- the workplace that comes is the first that was left

@@ -1,8 +1,0 @@
-use Rattle.std.proofs.Common.{◌≡◌, ◌∙◌, ap, rules}
-use Rattle.pfair_board.specs.Desks.{state_of, numbered}
-use Rattle.pfair_board.proofs.desk.Desk.publish.Goals as goal
-
-pub returns-in-Ok-clause-ok : goal.returns-in-Ok-clause-ok
-returns-in-Ok-clause-ok c =
-    let same : c.in-Ok.standing ≡ c.args.entry = search rules in
-    (ap (λ d. d.next_number) c.self.view_is, c.in-Ok.ensures.ok ∙ ap (numbered (state_of c.args.self.now)) same)

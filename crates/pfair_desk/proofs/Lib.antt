@@ -1,0 +1,5 @@
+mod Following
+mod Gains
+mod NoteLists
+mod NotedLemmas
+pub mod Rows

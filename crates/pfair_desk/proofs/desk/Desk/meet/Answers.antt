@@ -1,0 +1,45 @@
+use Rattle.std.proofs.Common.{◌≡◌, ap, sym, refl, ◌∙◌}
+use Rattle.pfair_replica.specs.Replica.{join}
+use Rattle.pfair_replica.specs.HeldRows.{replica_of, SameShape}
+use Rattle.pfair_desk.specs.Noted.{AllNoted}
+use Rattle.pfair_desk.proofs.NotedLemmas.{all_noted_more, join_noted, below_noted, noted_whole, kept_noted, in_order_met, holds_more}
+use Rattle.pfair_desk.proofs.desk.Desk.meet.Goals.{After-merge, in-Ok, in-Err}
+use Rattle.pfair_desk.proofs.desk.Desk.meet.Goals as goal
+
+-- the notes know of all that the two hold
+join_known : (c : After-merge) → AllNoted (join (replica_of c.self.inside.replica) (replica_of c.other.inside.replica)) c.share.new.self.known
+join_known c =
+    let row : c.self.inside.replica.capacity ≡ c.other.inside.replica.capacity = ap (λ d. d.replica.capacity) c.self.view_is ∙ (c.requires.own.capacity ∙ sym (ap (λ d. d.replica.capacity) c.other.view_is)) in
+    join_noted (replica_of c.self.inside.replica) (replica_of c.other.inside.replica) c.share.new.self.known row
+    (all_noted_more (replica_of c.self.inside.replica) c.self.inside.notes.known c.share.new.self.known c.share.ensures.mine.grows c.self.invariant.noted)
+    (all_noted_more (replica_of c.other.inside.replica) c.other.inside.notes.known c.share.new.self.known c.share.ensures.theirs c.other.invariant.noted)
+
+now_known : (c : After-merge) → AllNoted (replica_of c.merge.new.self) c.share.new.self.known
+now_known c = below_noted (replica_of c.merge.new.self) (join (replica_of c.self.inside.replica) (replica_of c.other.inside.replica)) c.share.new.self.known (sym c.merge.ensures.shape.1) c.merge.ensures.within (join_known c)
+
+pub invariant_of-self : goal.invariant_of-self
+invariant_of-self c = in_order_met c.self.inside.processor c.self.inside.next_number (replica_of c.self.inside.replica) (replica_of c.merge.new.self) c.self.inside.notes c.share.new.self c.self.invariant c.share.ensures.mine c.merge.ensures.shape (now_known (goal.at.invariant_of-self c).After-merge)
+
+pub returns-clause-agree : goal.returns-clause-agree
+returns-clause-agree c = rw (← c.self.view_is, ← c.other.view_is) (noted_whole (join (replica_of c.self.inside.replica) (replica_of c.other.inside.replica)) c.share.new.self.known (join_known (goal.at.returns-clause-agree c).After-merge))
+
+pub returns-clause-kept : goal.returns-clause-kept
+returns-clause-kept c = rw (← c.self.view_is) (record {
+  processor = refl;
+  cells = c.share.ensures.mine.cells;
+  processors = sym c.merge.ensures.shape.0;
+  capacity = sym c.merge.ensures.shape.1;
+  kept = kept_noted (replica_of c.self.inside.replica) (replica_of c.merge.new.self) c.share.new.self.known c.merge.ensures.grows (now_known (goal.at.returns-clause-kept c).After-merge);
+})
+
+same_shape : (c : goal.Joined-merge) → SameShape c.self.inside.replica c.other.inside.replica
+same_shape c = (
+  ap (λ d. d.replica.processors) c.self.view_is ∙ (c.requires.own.processors ∙ sym (ap (λ d. d.replica.processors) c.other.view_is)),
+  ap (λ d. d.replica.capacity) c.self.view_is ∙ (c.requires.own.capacity ∙ sym (ap (λ d. d.replica.capacity) c.other.view_is)),
+)
+
+pub returns-clause-lacking : goal.returns-clause-lacking
+returns-clause-lacking c = elim c.match-merge.branch [
+  | in-Ok w ↦ rw w.result-is tt
+  | in-Err w ↦ rw (w.result-is, ← c.self.view_is, ← c.other.view_is) (holds_more c.self.inside.replica c.other.inside.replica w.in-Err.field-0 (same_shape c) w.in-Err.ensures.fault)
+]

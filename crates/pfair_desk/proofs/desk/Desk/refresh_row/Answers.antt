@@ -1,0 +1,94 @@
+use Rattle.std.proofs.Common.{◌≡◌, ◌+◌, ◌-◌, ap, sym, ◌∙◌, arith, refl, ⊎_elim, subst, Ok, Some, true, false, is_none, is_some, cond, IsSome}
+use Rattle.std.proofs.lemmas.Bool.{cases_lt}
+use Rattle.pfair_lattice.specs.declared.flat.Flat.TheVariants.{One}
+use Rattle.pfair_replica.specs.HeldRows.{held, replica_of}
+use Rattle.pfair_desk.specs.Desks.{DeskView, state_of, learned}
+use Rattle.pfair_desk.specs.Gained.{gained_in_row}
+use Rattle.pfair_desk.proofs.Gains.{row_full, row_same, row_step, same_trans, same_learned, none_of, look_other, is_some_some, beginning_held}
+use Rattle.pfair_desk.proofs.desk.Desk.refresh_row.Goals as goal
+
+pub loop-number-init : goal.loop-number-init
+loop-number-init c =
+    let capacity : c.self.inside.replica.capacity ≡ c.args.self.now.replica.capacity = ap (λ d. d.replica.capacity) c.self.view_is in
+    let within = c.sound_count-number.ensures.within in
+    record {
+      same = record { processor = refl; next_number = refl; cells = refl; processors = refl; capacity = refl };
+      kept = λ k n f is. is;
+      positive = omega arith;
+      room = omega arith;
+      full = rw (← c.self.view_is) (λ j a lt. beginning_held c.read_by_number.ensures (replica_of c.self.inside.replica) c.args.processor j a (omega (arith, c.sound_count-number.ensures.value)));
+      count = sym (row_full (replica_of c.args.self.now.replica) (replica_of c.args.self.now.replica) c.args.processor 0 (c.sound_count-number.result + 1 - 1) (omega arith) (λ j lt. refl));
+      few = omega arith;
+      others = λ k n apart. refl;
+      later = λ n le. refl;
+    }
+
+-- a number that is held already
+pub loop-number-preserved-then-is_some : goal.loop-number-preserved-then-is_some
+loop-number-preserved-then-is_some c =
+    let old = c.args.self.now in
+    let now = c.loop-number.self in
+    let x = replica_of old.replica in
+    let y = replica_of now.replica in
+    let m = c.loop-number.number in
+    let was = c.loop-number.invariant in
+    let capacity : c.capacity-number-end.result ≡ old.replica.capacity = c.capacity-number-end.ensures.value ∙ ap (λ d. d.replica.capacity) c.self.view_is in
+    let here : is_some (held now.replica c.args.processor m) ≡ true
+    = sym (ap is_some c.get.ensures.value ∙ ap (λ (d : DeskView). is_some (held d.replica c.args.processor m)) c.self-in-loop-number.view_is) ∙ (sym c.is_some.ensures ∙ c.if-is_some.true) in
+    let shift : m ≡ m + 1 - 1 = omega arith in
+    record {
+      same = was.same;
+      kept = was.kept;
+      positive = omega arith;
+      room = (let long = was.same.capacity in let test = c.loop-number-test.true in omega arith);
+      full = λ j a lt. ⊎_elim (λ below. was.full j a below)
+          (λ last. let last_is : m ≡ j = omega arith in subst (λ i. IsSome (held now.replica c.args.processor i)) last_is here)
+          (cases_lt j m);
+      count = was.count ∙ (sym (row_same x y c.args.processor m was.positive (was.later m (omega arith))) ∙ ap (gained_in_row x y c.args.processor) shift);
+      few = (let few = was.few in omega arith);
+      others = was.others;
+      later = λ n le. was.later n (omega arith);
+    }
+
+pub returns-in-Ok-None-clause-count : goal.returns-in-Ok-None-clause-count
+returns-in-Ok-None-clause-count c =
+    let same : c.look.new.self ≡ c.loop-number.self = (c.in-Ok-None.ensures.none (ap Ok c.in-Ok-None.field-0-is)).1 in
+    let room = c.loop-number.invariant.room in let positive = c.loop-number.invariant.positive in
+    subst (λ (d : DeskView). c.loop-number.found ≡ gained_in_row (replica_of c.args.self.now.replica) (replica_of d.replica) c.args.processor d.replica.capacity) (sym same) (c.loop-number.invariant.count ∙ sym (row_full (replica_of c.args.self.now.replica) (replica_of c.loop-number.self.replica) c.args.processor (c.loop-number.number - 1) c.loop-number.self.replica.capacity (omega arith) (λ j lt. c.loop-number.invariant.later j (omega arith))))
+
+-- a number that is newly held
+pub loop-number-preserved : goal.loop-number-preserved
+loop-number-preserved c =
+    let old = c.args.self.now in
+    let now = c.loop-number.self in
+    let new = c.look.new.self in
+    let x = replica_of old.replica in
+    let y = replica_of now.replica in
+    let z = replica_of new.replica in
+    let m = c.loop-number.number in
+    let was = c.loop-number.invariant in
+    let e = c.in-Ok-Some.field-0-0 in
+    let learned_it : state_of new ≡ learned (state_of now) c.args.processor m e = c.in-Ok-Some.ensures.some e (ap Ok c.in-Ok-Some.field-0-is) in
+    let there : held new.replica c.args.processor m ≡ Some (One e) = c.in-Ok-Some.ensures.held_now e (ap Ok c.in-Ok-Some.field-0-is) in
+    let desk = same_learned now new c.args.processor m e learned_it in
+    let capacity : c.capacity-number-end.result ≡ old.replica.capacity = c.capacity-number-end.ensures.value ∙ ap (λ d. d.replica.capacity) c.self.view_is in
+    let other = look_other now new c.args.processor m e learned_it in
+    let step : gained_in_row x z c.args.processor m ≡ gained_in_row x y c.args.processor (m - 1) + cond (is_none (held now.replica c.args.processor m)) 1 0
+    = row_step x y z c.args.processor m (One e) was.positive (was.later m (omega arith)) there (λ n lt. other c.args.processor n (λ both. let eq = both.1 in absurd (omega arith))) in
+    let missing : is_some (held now.replica c.args.processor m) ≡ false
+    = sym (ap is_some c.get.ensures.value ∙ ap (λ (d : DeskView). is_some (held d.replica c.args.processor m)) c.self-in-loop-number.view_is) ∙ (sym c.is_some.ensures ∙ c.if-is_some.false) in
+    let shift : m ≡ m + 1 - 1 = omega arith in
+    record {
+      same = same_trans old now new was.same desk;
+      kept = λ k n f is. c.in-Ok-Some.ensures.kept.kept k n f (was.kept k n f is);
+      positive = omega arith;
+      room = (let longer = desk.capacity in let long = was.same.capacity in let test = c.loop-number-test.true in omega arith);
+      full = λ j a lt. ⊎_elim (λ below. subst (λ h. IsSome h) (sym (other c.args.processor j (λ both. let eq = both.1 in absurd (omega arith)))) (was.full j a below))
+          (λ last. let last_is : m ≡ j = omega arith in subst (λ i. IsSome (held new.replica c.args.processor i)) last_is (is_some_some (held new.replica c.args.processor m) (One e) there))
+          (cases_lt j m);
+      count = ap (λ n. n + 1) was.count
+          ∙ (ap (λ b. gained_in_row x y c.args.processor (m - 1) + cond b 1 0) (none_of (held now.replica c.args.processor m) true missing) ∙ (sym step ∙ ap (gained_in_row x z c.args.processor) shift));
+      few = (let few = was.few in omega arith);
+      others = λ k n apart. other k n (λ both. apart both.0) ∙ was.others k n apart;
+      later = λ n le. other c.args.processor n (λ both. let eq = both.1 in absurd (omega arith)) ∙ was.later n (omega arith);
+    }

@@ -1,0 +1,119 @@
+//! The cells.
+ghost use Rattle.std.specs.Prelude.{◌≡◌, ◌<◌, ℕ, IfOk, Some, length, slice_get, vec_len};
+ghost use Rattle.once_cell.specs.Once.{cell_name};
+ghost use Rattle.pfair_replica.specs.HeldRows.{IsShape};
+ghost use Rattle.pfair_desk.specs.Boards.{BoardFrame};
+ghost use Rattle.pfair_desk.specs.Desks.{DeskView, IsDeskOf, state_of, fresh_desk};
+
+use crate::desk::Desk;
+use once_cell::race::OnceBox;
+use pfair_entry::Entry;
+use std::alloc::{AllocError, Global};
+use std::marker::Model;
+
+/// One row of cells for each processor, and in each row a cell for each number from 1 to the
+/// capacity. A cell is empty until a desk sets it, and then keeps its entry for good.
+#[derive(Drop)]
+pub struct Board {
+    processors: u8,
+    capacity: u32,
+    cells: Vec<OnceBox<Entry>>,
+    alloc: Global,
+}
+
+impl Model for Board {
+    ghost use Rattle.std.specs.Prelude.{◌≡◌, ◌*◌, length, map};
+    ghost use Rattle.pfair_replica.specs.HeldRows.{IsShape};
+    ghost use Rattle.pfair_desk.specs.Boards.{BoardFrame};
+    ghost use Rattle.once_cell.specs.Once.{cell_name};
+
+    ghost Value = { BoardFrame };
+
+    ghost view = { λ b. record { processors = b.processors; capacity = b.capacity; cells = map cell_name b.cells.items } };
+
+    ghost invariant = { λ b. (length b.cells.items ≡ b.processors * b.capacity) × IsShape b.processors b.capacity };
+}
+
+impl Board {
+    /// A board of empty cells, for 1 to 64 processors, counted from 0, and logs of 1 to 4,096
+    /// entries, counted from 1.
+    ///
+    /// It costs a step and the room of a pointer for each cell, of which there are `processors`
+    /// times `capacity`.
+    ///
+    /// # Errors
+    /// `AllocError` where memory was wanted and refused.
+    pub fn new(alloc: Global, processors: u8, capacity: u32) -> Result<Board, AllocError>
+        requires { IsShape processors capacity }
+        ensures { IfOk result (λ b. (b.processors ≡ processors) × (b.capacity ≡ capacity)) }
+    {
+        let mut cells = Vec::new(alloc);
+        for _ in 0..processors as usize * capacity as usize {
+            cells.push(OnceBox::new(alloc))?;
+        }
+        Ok(Board {
+            processors,
+            capacity,
+            cells,
+            alloc,
+        })
+    }
+
+    /// How many rows there are.
+    pub fn processors(&self) -> u8
+        ensures value { result ≡ self.now.processors }
+        ensures shape { IsShape self.now.processors self.now.capacity }
+    {
+        self.processors
+    }
+
+    /// How many cells each row has; no number is greater.
+    pub fn capacity(&self) -> u32
+        ensures value { result ≡ self.now.capacity }
+        ensures shape { IsShape self.now.processors self.now.capacity }
+    {
+        self.capacity
+    }
+
+    /// One desk for each row, that of processor k at place k, each with an empty replica. A second
+    /// call gives desks of their own, so that a row can have two pens.
+    ///
+    /// It costs a step for each cell and each desk: processors times processors times capacity. The
+    /// room grows with the number of desks alone, as notes of cells take none.
+    ///
+    /// # Errors
+    /// `AllocError` where memory was wanted and refused.
+    pub fn desks(&self) -> Result<Vec<Desk>, AllocError>
+        ensures count { IfOk result (λ desks. vec_len desks ≡ self.now.processors) }
+        ensures fresh { IfOk result (λ desks. (k : ℕ) (d : DeskView) → slice_get desks.items k ≡ Some d → state_of d ≡ fresh_desk self.now k) }
+        ensures own { IfOk result (λ desks. (k : ℕ) (d : DeskView) → slice_get desks.items k ≡ Some d → IsDeskOf d self.now) }
+    {
+        let mut desks = Vec::new(self.alloc);
+        for processor in 0..self.processors {
+            desks.push(self.desk(processor)?)?;
+        }
+        Ok(desks)
+    }
+
+    /// The cell at a place of the list of all cells.
+    pub(crate) fn cell(&self, place: usize) -> &OnceBox<Entry>
+        requires { place < length self.now.cells }
+        ensures { slice_get self.now.cells place ≡ Some (cell_name result.now) }
+    {
+        &self.cells[place]
+    }
+
+    // The desk of one row.
+    fn desk(&self, processor: u8) -> Result<Desk, AllocError>
+        requires { processor < self.now.processors }
+        ensures { IfOk result (λ desk. state_of desk ≡ fresh_desk self.now processor) }
+    {
+        Desk::of(
+            self.alloc,
+            self.processors,
+            self.capacity,
+            self.cells.as_slice(),
+            processor,
+        )
+    }
+}

@@ -1,0 +1,283 @@
+//! A dispatcher's end of the board.
+ghost use Rattle.std.specs.Prelude.{◌≡◌, ◌<◌, ◌≤◌, ◌*◌, ◌+◌, ℕ, IfOk, IfErr, OnOk, OnErr, Ok, Some, None, length, map};
+ghost use Rattle.once_cell.specs.Once.{cell_name};
+ghost use Rattle.pfair_lattice.specs.declared.flat.Flat.TheVariants.{One};
+ghost use Rattle.pfair_entry.specs.Entry.{Logged};
+ghost use Rattle.pfair_replica.specs.HeldRows.{IsShape, IsHeldRows, held, replica_of};
+ghost use Rattle.pfair_replica.specs.Faults.{HoldsMore};
+ghost use Rattle.pfair_replica.specs.Replica.{Untorn};
+ghost use Rattle.pfair_desk.specs.Boards.{BoardFrame, IsKey, place_of};
+ghost use Rattle.pfair_desk.specs.Desks.{DeskView, state_of, IsDeskOf, OfOneBoard, IsPartlyMet, GrownDesk, Keeps, fresh_desk, learned, numbered, met};
+ghost use Rattle.pfair_desk.specs.Faults.{IsLookFaultOf, IsPublishFaultOf};
+ghost use Rattle.pfair_desk.specs.Gained.{LacksSome, gained, gained_in_row, NoGapInRow, SameDesk};
+
+use crate::board::Board;
+use crate::fault::{LookFault, PublishFault};
+use crate::notes::Notes;
+use once_cell::race::OnceBox;
+use pfair_entry::Entry;
+use pfair_replica::Replica;
+use pfair_replica::laws::read_by_number;
+use std::alloc::{AllocError, Global};
+use std::marker::Model;
+
+/// The pen of one row of a board, a note for each of its cells, and what was learned of them.
+///
+/// A desk is used with the board that made it. What it holds it keeps, unchanged, and nothing that
+/// it holds is torn.
+#[derive(Drop)]
+pub struct Desk {
+    processor: u8,
+    next_number: u32,
+    replica: Replica,
+    notes: Notes,
+    alloc: Global,
+}
+
+impl Model for Desk {
+    ghost use Rattle.pfair_replica.specs.HeldRows.{replica_of};
+    ghost use Rattle.pfair_desk.specs.Desks.{DeskView};
+    ghost use Rattle.pfair_desk.specs.Noted.{IsInOrder};
+
+    ghost Value = { DeskView };
+
+    ghost view = { λ d. record { processor = d.processor; next_number = d.next_number; cells = d.notes.cells; replica = d.replica } };
+
+    ghost invariant = { λ d. IsInOrder d.processor d.next_number (replica_of d.replica) d.notes };
+}
+
+impl Desk {
+    /// The desk of a row over these cells, which holds nothing.
+    pub(crate) fn of(
+        alloc: Global,
+        processors: u8,
+        capacity: u32,
+        cells: &[OnceBox<Entry>],
+        processor: u8,
+    ) -> Result<Desk, AllocError>
+        requires shape { IsShape processors capacity }
+        requires all { length cells.now ≡ processors * capacity }
+        requires row { processor < processors }
+        ensures { IfOk result (λ desk. state_of desk ≡ fresh_desk (record { processors = processors; capacity = capacity; cells = map cell_name cells.now }) processor) }
+    {
+        let notes = Notes::of(alloc, cells)?;
+        Ok(Desk {
+            processor,
+            next_number: 1,
+            replica: Replica::new(alloc, processors, capacity)?,
+            notes,
+            alloc,
+        })
+    }
+
+    /// The processor whose row it is, counted from 0.
+    pub fn processor(&self) -> u8
+        ensures value { result ≡ self.now.processor }
+        ensures row { self.now.processor < self.now.replica.processors }
+    {
+        self.processor
+    }
+
+    /// The number at which the desk publishes next, counted from 1; past the capacity where its row
+    /// is full.
+    pub fn next_number(&self) -> u32
+        ensures value { result ≡ self.now.next_number }
+        ensures numbered { (1 ≤ self.now.next_number) × (self.now.next_number ≤ self.now.replica.capacity + 1) }
+    {
+        self.next_number
+    }
+
+    /// What the desk holds.
+    pub fn replica(&self) -> &Replica
+        ensures value { result.now ≡ self.now.replica }
+        ensures rows { IsHeldRows self.now.replica }
+        ensures whole { Untorn (replica_of self.now.replica) }
+    {
+        // what every replica keeps comes with the contract of its reader
+        let _processors = self.replica.processors();
+        &self.replica
+    }
+
+    /// Looks at one cell, and answers its entry, which the desk holds from then on, or `None` where
+    /// it is empty: then the desk holds nothing of that key, and is unchanged.
+    ///
+    /// It costs a number of steps that grows with the logarithm of the entries held in the row; and
+    /// where the entry fills the first gap of its row, the same for each entry that is held right
+    /// behind the gap, which happens once to each entry.
+    ///
+    /// # Errors
+    /// The first of these that applies, and then the desk is unchanged: `NoSuchProcessor`,
+    /// `NumberOutOfRange`, and `Memory`, which comes only where the desk held nothing of that key.
+    pub fn look(
+        &mut self,
+        board: &Board,
+        processor: u8,
+        number: u32,
+    ) -> Result<Option<Entry>, LookFault>
+        requires own { IsDeskOf self.old board.now }
+        ensures some { (e : Logged) → result ≡ Ok (Some e) → state_of self.new ≡ learned (state_of self.old) processor number e }
+        ensures none { result ≡ Ok None → (held self.old.replica processor number ≡ None) × (self.new ≡ self.old) }
+        ensures key { OnOk result (IsKey self.old.replica.processors self.old.replica.capacity processor number) }
+        ensures fault { IfErr result (IsLookFaultOf self.old processor number) }
+        ensures unchanged { OnErr result (self.new ≡ self.old) }
+        ensures held_now { (e : Logged) → result ≡ Ok (Some e) → held self.new.replica processor number ≡ Some (One e) }
+        ensures kept { GrownDesk self.old self.new }
+        ensures own { IsDeskOf self.new board.now }
+    {
+        if processor >= self.replica.processors() {
+            return Err(LookFault::NoSuchProcessor);
+        }
+        if number == 0 || number > self.replica.capacity() {
+            return Err(LookFault::NumberOutOfRange);
+        }
+        let place = self.place(processor, number);
+        match self.notes.read(board.cell(place), place) {
+            None => Ok(None),
+            Some(entry) => match self.replica.take(processor, number, entry) {
+                Ok(_) => Ok(Some(entry)),
+                Err(_) => Err(LookFault::Memory),
+            },
+        }
+    }
+
+    /// Puts an entry at the desk's next number, and answers that number. The desk holds the entry
+    /// from then on. It costs what a look costs.
+    ///
+    /// # Errors
+    /// The first of these that applies. `RowFull` exactly where the next number is past the
+    /// capacity; nothing has then changed. `Taken` where another entry stands there: the desk then
+    /// holds that one, and its next number is one further. `Memory`, which comes only where the
+    /// desk held nothing at that number; it is then as before. The cell may be set by then:
+    /// publishing the same entry once more answers its number, and another one meets the first as
+    /// `Taken`.
+    pub fn publish(&mut self, board: &Board, entry: Entry) -> Result<u32, PublishFault>
+        requires own { IsDeskOf self.old board.now }
+        ensures ok { IfOk result (λ n. (n ≡ self.old.next_number) × (state_of self.new ≡ numbered (state_of self.old) entry)) }
+        ensures room { OnOk result (self.old.next_number ≤ self.old.replica.capacity) }
+        ensures fault { IfErr result (IsPublishFaultOf self.old self.new entry) }
+        ensures held_now { OnOk result (held self.new.replica self.old.processor self.old.next_number ≡ Some (One entry)) }
+        ensures kept { GrownDesk self.old self.new }
+        ensures own { IsDeskOf self.new board.now }
+    {
+        if self.next_number > self.replica.capacity() {
+            return Err(PublishFault::RowFull);
+        }
+        let number = self.next_number;
+        match self.put(board, entry) {
+            Ok(standing) if standing == entry => Ok(number),
+            Ok(standing) => Err(PublishFault::Taken { standing }),
+            Err(_) => Err(PublishFault::Memory),
+        }
+    }
+
+    // Sets the cell of the next number where it is empty, takes what stands there then, and goes
+    // on to the number after it.
+    fn put(&mut self, board: &Board, entry: Entry) -> Result<Entry, AllocError>
+        requires own { IsDeskOf self.old board.now }
+        requires room { self.old.next_number ≤ self.old.replica.capacity }
+        ensures ok { IfOk result (λ e. state_of self.new ≡ numbered (state_of self.old) e) }
+        ensures held_now { IfOk result (λ e. held self.new.replica self.old.processor self.old.next_number ≡ Some (One e)) }
+        ensures memory { OnErr result ((held self.old.replica self.old.processor self.old.next_number ≡ None) × (self.new ≡ self.old)) }
+        ensures kept { GrownDesk self.old self.new }
+        ensures own { IsDeskOf self.new board.now }
+    {
+        let number = self.next_number;
+        let place = self.place(self.processor, number);
+        let standing = self.notes.set(self.alloc, board.cell(place), place, entry)?;
+        let Ok(_) = self.replica.take(self.processor, number, standing) else {
+            return Err(AllocError);
+        };
+        self.next_number = number + 1;
+        Ok(standing)
+    }
+
+    // Where the cell of a key stands among those of all keys.
+    fn place(&self, processor: u8, number: u32) -> usize
+        requires { IsKey self.now.replica.processors self.now.replica.capacity processor number }
+        ensures value { result ≡ place_of self.now.replica.capacity processor number }
+        ensures within { result < length self.now.cells }
+    {
+        processor as usize * self.replica.capacity() as usize + (number as usize - 1)
+    }
+
+    /// Joins in what another desk of the same board holds. Afterwards the desk holds what either
+    /// held, and nothing torn.
+    ///
+    /// It costs a step for each cell of the board, and a look-up for each entry that the other
+    /// holds and for each number of a row in which it holds one.
+    ///
+    /// # Errors
+    /// `AllocError` where memory was wanted and refused, which comes only where the other holds
+    /// something at a key at which this desk holds nothing: then a part of that is joined in, and
+    /// another meet gives what one would have given.
+    pub fn meet(&mut self, other: &Desk) -> Result<(), AllocError>
+        requires own { OfOneBoard self.old other.now }
+        ensures ok { OnOk result (state_of self.new ≡ met (state_of self.old) (state_of other.now)) }
+        ensures partly { OnErr result (IsPartlyMet self.old other.now self.new) }
+        ensures lacking { OnErr result (HoldsMore self.old.replica other.now.replica) }
+        ensures agree { Untorn (met (state_of self.old) (state_of other.now)).replica }
+        ensures kept { GrownDesk self.old self.new }
+        ensures own { OfOneBoard self.new other.now }
+    {
+        self.notes.share(&other.notes);
+        match self.replica.merge(&other.replica) {
+            Ok(()) => Ok(()),
+            Err(_) => Err(AllocError),
+        }
+    }
+
+    /// Looks at each processor's numbers, from the first that the desk doesn't hold up to the first
+    /// empty cell, and answers how many keys are newly held. In a row that gained some, no number
+    /// up to the last one gained is missing then, also after want of memory.
+    ///
+    /// It costs, for each processor, a look at each number that is newly held and at one empty
+    /// cell, and a look-up for each number past its sound beginning that was held already. What is
+    /// in a sound beginning isn't gone through again.
+    ///
+    /// # Errors
+    /// `AllocError` where memory was wanted and refused, which comes only where a key of the board
+    /// is still not held; what was found until then is held.
+    pub fn refresh(&mut self, board: &Board) -> Result<u64, AllocError>
+        requires own { IsDeskOf self.old board.now }
+        ensures count { IfOk result (λ c. c ≡ gained (replica_of self.old.replica) (replica_of self.new.replica)) }
+        ensures no_gap { (k : ℕ) → NoGapInRow (replica_of self.old.replica) (replica_of self.new.replica) k }
+        ensures lacking { OnErr result (LacksSome self.new.replica) }
+        ensures next { self.new.next_number ≡ self.old.next_number }
+        ensures kept { GrownDesk self.old self.new }
+        ensures own { IsDeskOf self.new board.now }
+    {
+        let mut found = 0;
+        for processor in 0..board.processors() {
+            found += self.refresh_row(board, processor)?;
+        }
+        Ok(found)
+    }
+
+    // The same for one row.
+    fn refresh_row(&mut self, board: &Board, processor: u8) -> Result<u64, AllocError>
+        requires own { IsDeskOf self.old board.now }
+        requires row { processor < self.old.replica.processors }
+        ensures count { IfOk result (λ c. c ≡ gained_in_row (replica_of self.old.replica) (replica_of self.new.replica) processor self.new.replica.capacity) }
+        ensures few { IfOk result (λ c. c ≤ self.new.replica.capacity) }
+        ensures no_gap { NoGapInRow (replica_of self.old.replica) (replica_of self.new.replica) processor }
+        ensures lacking { OnErr result (LacksSome self.new.replica) }
+        ensures same { SameDesk self.old self.new }
+        ensures kept { Keeps (replica_of self.old.replica) (replica_of self.new.replica) }
+        ensures others { (k n : ℕ) → (k ≡ processor → ⊥) → held self.new.replica k n ≡ held self.old.replica k n }
+        ensures own { IsDeskOf self.new board.now }
+    {
+        read_by_number();
+        let mut found = 0;
+        for number in self.replica.sound_count(processor) + 1..self.replica.capacity() + 1 {
+            if self.replica.get(processor, number).is_some() {
+                continue;
+            }
+            match self.look(board, processor, number) {
+                Ok(Some(_)) => found += 1,
+                Ok(None) => return Ok(found),
+                Err(_) => return Err(AllocError),
+            }
+        }
+        Ok(found)
+    }
+}

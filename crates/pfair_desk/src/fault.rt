@@ -1,0 +1,63 @@
+//! Why a desk refuses.
+ghost use Rattle.std.specs.Prelude.{◌≡◌};
+ghost use Rattle.pfair_desk.specs.Faults.{look_fault_number, publish_fault_number};
+
+use pfair_entry::Entry;
+use thiserror::Error;
+
+/// Why nothing was learned of a cell.
+#[derive(Clone, Copy, Debug, PartialEq, Eq, Error)]
+pub enum LookFault {
+    /// The board has no such row.
+    #[error("no such processor")]
+    NoSuchProcessor,
+    /// The number is 0 or past the capacity.
+    #[error("number out of range")]
+    NumberOutOfRange,
+    /// Memory was wanted and refused.
+    #[error("out of memory")]
+    Memory,
+}
+
+impl LookFault {
+    /// The number under which the fault is reported: 13, 14 and 90, in the order of the variants.
+    pub fn number(&self) -> u8
+        ensures { result ≡ look_fault_number self.now }
+    {
+        match self {
+            LookFault::NoSuchProcessor => 13,
+            LookFault::NumberOutOfRange => 14,
+            LookFault::Memory => 90,
+        }
+    }
+}
+
+/// Why an entry was not published.
+#[derive(Clone, Copy, Debug, PartialEq, Eq, Error)]
+pub enum PublishFault {
+    /// The desk's next number is past the capacity.
+    #[error("row full")]
+    RowFull,
+    /// Another entry stands at the desk's next number.
+    #[error("number taken")]
+    Taken {
+        /// The entry that stands there.
+        standing: Entry,
+    },
+    /// Memory was wanted and refused.
+    #[error("out of memory")]
+    Memory,
+}
+
+impl PublishFault {
+    /// The number under which the fault is reported: 50, 51 and 90, in the order of the variants.
+    pub fn number(&self) -> u8
+        ensures { result ≡ publish_fault_number self.now }
+    {
+        match self {
+            PublishFault::RowFull => 50,
+            PublishFault::Taken { .. } => 51,
+            PublishFault::Memory => 90,
+        }
+    }
+}
