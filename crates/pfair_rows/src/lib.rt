@@ -5,11 +5,7 @@
 #![tactic(auto)]
 
 #[cfg(test)]
-mod meet;
-#[cfg(test)]
 mod notation;
-#[cfg(test)]
-mod placed;
 #[cfg(test)]
 mod run;
 #[cfg(test)]

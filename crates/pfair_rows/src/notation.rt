@@ -11,20 +11,22 @@ use pfair_weight::{TaskName, Weight};
 use std::alloc::{AllocError, Global};
 use std::process::Abort;
 
-fn word<'a>(rt: &impl Abort, words: &[&'a str], place: usize) -> &'a str {
-    words.get(place).copied().expect(rt, "a word")
+/// The word at a place, or none.
+pub(crate) fn word<'a>(words: &[&'a str], place: usize) -> &'a str {
+    words.get(place).copied().unwrap_or("")
 }
 
-fn number(rt: &impl Abort, words: &[&str], place: usize) -> u64 {
-    word(rt, words, place)
+/// The number at a place.
+pub(crate) fn number(rt: &impl Abort, words: &[&str], place: usize) -> u64 {
+    word(words, place)
         .parse::<u64>()
         .ok()
         .expect(rt, "a number")
 }
 
 fn announcement(rt: &impl Abort, words: &[&str]) -> Announcement {
-    let kind = word(rt, words, 4);
-    let name = TaskName::from_bytes(word(rt, words, 5).as_bytes()).expect(rt, "a name");
+    let kind = word(words, 4);
+    let name = TaskName::from_bytes(word(words, 5).as_bytes()).expect(rt, "a name");
     if kind == "depart" {
         return Announcement::Depart { name };
     }
@@ -45,36 +47,33 @@ fn announcement(rt: &impl Abort, words: &[&str]) -> Announcement {
     }
 }
 
-fn entry(rt: &impl Abort, words: &[&str]) -> Entry {
-    let floor = number(rt, words, 2);
-    let said = if words.len() > 3 {
-        Some((number(rt, words, 3), announcement(rt, words)))
-    } else {
-        None
-    };
-    Entry::new(floor, said).expect(rt, "an entry")
-}
-
-// Puts what some words say behind the events.
-fn push(rt: &impl Abort, events: &mut Vec<Event>, words: &[&str]) -> Result<(), AllocError> {
-    if word(rt, words, 0) == "plan" {
+/// Puts what some words say behind the events.
+pub(crate) fn push(
+    rt: &impl Abort,
+    events: &mut Vec<Event>,
+    words: &[&str],
+) -> Result<(), AllocError> {
+    if word(words, 0) == "plan" {
         for _ in 0..number(rt, words, 1) {
             events.push(Event::Plan)?;
         }
         return Ok(());
     }
-    let processor = u8::try_from(number(rt, words, 0)).expect(rt, "a processor");
-    let number = u32::try_from(number(rt, words, 1)).expect(rt, "a number");
+    let said = if words.len() > 3 {
+        Some((number(rt, words, 3), announcement(rt, words)))
+    } else {
+        None
+    };
     events.push(Event::Take {
-        processor,
-        number,
-        entry: entry(rt, words),
+        processor: u8::try_from(number(rt, words, 0)).expect(rt, "a processor"),
+        number: u32::try_from(number(rt, words, 1)).expect(rt, "a number"),
+        entry: Entry::new(number(rt, words, 2), said).expect(rt, "an entry"),
     })?;
     Ok(())
 }
 
 /// Puts the events of a text behind others.
-pub(crate) fn extend(
+pub(crate) fn push_all(
     rt: &impl Abort,
     alloc: Global,
     events: &mut Vec<Event>,
@@ -85,11 +84,4 @@ pub(crate) fn extend(
         push(rt, events, &words)?;
     }
     Ok(())
-}
-
-/// The events of a text.
-pub(crate) fn events(rt: &impl Abort, alloc: Global, text: &str) -> Result<Vec<Event>, AllocError> {
-    let mut events = Vec::new(alloc);
-    extend(rt, alloc, &mut events, text)?;
-    Ok(events)
 }

@@ -1,6 +1,7 @@
 //! Runs of events, by hand and by `run_events`.
 
-use crate::{notation, shown};
+use crate::notation::{number, push, push_all, word};
+use crate::shown::{push_answer, push_decisions, push_places, push_tables};
 use pfair_ready::{HeapReady, PlainReady, Ready};
 use pfair_replica::Replica;
 use pfair_table::{Dispatcher, Event, Settings, run_events};
@@ -8,57 +9,32 @@ use std::alloc::{AllocError, Global};
 use std::process::Abort;
 
 // The room that each dispatcher has for entries of one log.
-const CAPACITY: u32 = 16;
+const CAPACITY: u32 = 256;
 
-// One event comes to a dispatcher, and its answer goes behind the text.
-fn happen<R: Ready>(
-    dispatcher: &mut Dispatcher<R>,
-    event: &Event,
-    text: &mut String,
-) -> Result<(), AllocError> {
-    match event {
-        Event::Take {
-            processor,
-            number,
-            entry,
-        } => shown::push_taken(text, dispatcher.take(*processor, *number, *entry)),
-        Event::Absorb(other) => shown::push_merged(text, dispatcher.absorb(other)),
-        Event::Plan => shown::push_planned(text, dispatcher.plan_next()),
-    }
+/// A run on a machine of so many processors, with such a frame and so many slots, and what is
+/// wanted of it.
+#[derive(Clone, Copy)]
+pub(crate) struct Run<'a> {
+    pub machine: (u8, u64, u64),
+    /// What other dispatchers took; `absorb 0` among the events is the coming of what the first of
+    /// them holds.
+    pub others: &'a [&'a str],
+    pub events: &'a str,
+    /// The answers, with commas between them.
+    pub answers: &'a str,
+    /// The table of each slot that is planned.
+    pub tables: &'a str,
+    /// The decisions at each slot that is planned.
+    pub decisions: &'a str,
+    /// The places of each slot that is planned, or nothing where they aren't looked at.
+    pub places: &'a str,
 }
 
-// The events come to a dispatcher one after another; all answers go behind the text, with commas
-// between them.
-fn happen_all<R: Ready>(
-    dispatcher: &mut Dispatcher<R>,
-    events: &[Event],
-    text: &mut String,
-) -> Result<(), AllocError> {
-    for (place, event) in events.iter().enumerate() {
-        if place > 0 {
-            text.push_str(", ")?;
-        }
-        happen(dispatcher, event, text)?;
-    }
-    Ok(())
-}
-
-/// The settings of a machine.
-pub(crate) fn settings_of(rt: &impl Abort, machine: (u8, u64, u64)) -> Settings {
+fn settings_of(rt: &impl Abort, machine: (u8, u64, u64)) -> Settings {
     Settings::new(machine.0, machine.1, machine.2).expect(rt, "settings")
 }
 
-fn new_dispatcher<R: Ready>(
-    alloc: Global,
-    settings: Settings,
-) -> Result<Dispatcher<R>, AllocError> {
-    // settings have 1 to 64 processors
-    let _processors = settings.processors();
-    Dispatcher::new(alloc, settings, CAPACITY)
-}
-
-/// The dispatcher that the events leave.
-pub(crate) fn left_by<R: Ready>(
+fn left_by<R: Ready>(
     alloc: Global,
     settings: Settings,
     events: &[Event],
@@ -68,132 +44,102 @@ pub(crate) fn left_by<R: Ready>(
     run_events(alloc, settings, CAPACITY, events)
 }
 
-/// What is wanted of a run: what is answered to its events, and what they leave.
-#[derive(Clone, Copy)]
-pub(crate) struct Wanted<'a> {
-    /// The answers, with commas between them.
-    pub answers: &'a str,
-    /// The table of each slot that is planned.
-    pub tables: &'a str,
-    /// The decisions at each slot that is planned.
-    pub decisions: &'a str,
-}
-
-/// Asserts what a dispatcher has planned and decided.
-pub(crate) fn assert_planned<R: Ready>(
-    rt: &impl Abort,
-    alloc: Global,
-    dispatcher: &Dispatcher<R>,
-    tables: &str,
-    decisions: &str,
-) -> Result<(), AllocError> {
-    assert_tables(rt, alloc, dispatcher, tables)?;
-    let found = shown::decisions(alloc, dispatcher)?;
-    assert_eq!(rt; found.as_str(), decisions);
-    Ok(())
-}
-
-fn assert_tables<R: Ready>(
-    rt: &impl Abort,
-    alloc: Global,
-    dispatcher: &Dispatcher<R>,
-    tables: &str,
-) -> Result<(), AllocError> {
-    let found = shown::tables(alloc, dispatcher)?;
-    assert_eq!(rt; found.as_str(), tables);
-    Ok(())
-}
-
-// Asserts what is answered to the events that come one by one.
-fn assert_answers<R: Ready>(
-    rt: &impl Abort,
-    alloc: Global,
-    dispatcher: &mut Dispatcher<R>,
-    events: &[Event],
-    answers: &str,
-) -> Result<(), AllocError> {
-    let mut text = String::new(alloc);
-    happen_all(dispatcher, events, &mut text)?;
-    assert_eq!(rt; text.as_str(), answers);
-    Ok(())
-}
-
-// Asserts what the events leave that come one by one, and what is answered to them.
-fn assert_stepped<R: Ready>(
-    rt: &impl Abort,
-    alloc: Global,
-    settings: Settings,
-    events: &[Event],
-    wanted: Wanted<'_>,
-) -> Result<(), AllocError> {
-    let mut dispatcher: Dispatcher<R> = new_dispatcher(alloc, settings)?;
-    assert_steps(rt, alloc, &mut dispatcher, events, wanted)
-}
-
-fn assert_steps<R: Ready>(
-    rt: &impl Abort,
-    alloc: Global,
-    dispatcher: &mut Dispatcher<R>,
-    events: &[Event],
-    wanted: Wanted<'_>,
-) -> Result<(), AllocError> {
-    assert_answers(rt, alloc, dispatcher, events, wanted.answers)?;
-    assert_planned(rt, alloc, dispatcher, wanted.tables, wanted.decisions)
-}
-
-// Asserts what `run_events` leaves.
-fn assert_left<R: Ready>(
-    rt: &impl Abort,
-    alloc: Global,
-    settings: Settings,
-    events: &[Event],
-    wanted: Wanted<'_>,
-) -> Result<(), AllocError> {
-    let left: Dispatcher<R> = left_by(alloc, settings, events)?;
-    assert_planned(rt, alloc, &left, wanted.tables, wanted.decisions)
-}
-
-/// Asserts what the events leave, taken one by one and by `run_events`, over plain lists and over
-/// heaps.
-pub(crate) fn assert_events(
-    rt: &impl Abort,
-    alloc: Global,
-    settings: Settings,
-    events: &[Event],
-    wanted: Wanted<'_>,
-) -> Result<(), AllocError> {
-    assert_stepped::<PlainReady>(rt, alloc, settings, events, wanted)?;
-    assert_stepped::<HeapReady>(rt, alloc, settings, events, wanted)?;
-    assert_left::<PlainReady>(rt, alloc, settings, events, wanted)?;
-    assert_left::<HeapReady>(rt, alloc, settings, events, wanted)
-}
-
-/// Asserts a run on a machine of so many processors, with such a frame and so many slots: the
-/// answers to the events, and the tables and decisions that they leave.
-pub(crate) fn assert_run(
-    rt: &impl Abort,
-    alloc: Global,
-    machine: (u8, u64, u64),
-    events: &str,
-    wanted: Wanted<'_>,
-) -> Result<(), AllocError> {
-    let settings = settings_of(rt, machine);
-    let events = notation::events(rt, alloc, events)?;
-    assert_events(rt, alloc, settings, &events, wanted)
-}
-
-/// What a dispatcher holds that took these events.
+/// What a dispatcher holds that took the events of a text.
 pub(crate) fn held(
     rt: &impl Abort,
     alloc: Global,
     machine: (u8, u64, u64),
-    events: &str,
+    text: &str,
 ) -> Result<Replica, AllocError> {
-    let events = notation::events(rt, alloc, events)?;
-    held_after(alloc, settings_of(rt, machine), &events)
+    let mut events = Vec::new(alloc);
+    push_all(rt, alloc, &mut events, text)?;
+    let left: Dispatcher<HeapReady> = left_by(alloc, settings_of(rt, machine), &events)?;
+    Ok(left.into_replica())
 }
 
-fn held_after(alloc: Global, settings: Settings, events: &[Event]) -> Result<Replica, AllocError> {
-    let left: Dispatcher<HeapReady> = left_by(alloc, settings, events)?;
-    left.replica().copy()
+// Puts the events of a run behind others.
+fn push_run(
+    rt: &impl Abort,
+    alloc: Global,
+    events: &mut Vec<Event>,
+    run: Run<'_>,
+) -> Result<(), AllocError> {
+    for part in run.events.split(';') {
+        let words: Vec<&str> = part.split_whitespace().collect(alloc)?;
+        if word(&words, 0) == "absorb" {
+            let other = word(run.others, number(rt, &words, 1) as usize);
+            events.push(Event::Absorb(held(rt, alloc, run.machine, other)?))?;
+        } else {
+            push(rt, events, &words)?;
+        }
+    }
+    Ok(())
+}
+
+// Asserts what a dispatcher has planned and decided.
+fn assert_left<R: Ready>(
+    rt: &impl Abort,
+    dispatcher: &Dispatcher<R>,
+    text: &mut String,
+    run: Run<'_>,
+) -> Result<(), AllocError> {
+    text.clear();
+    push_tables(text, dispatcher)?;
+    assert_eq!(rt; text.as_str(), run.tables);
+    text.clear();
+    push_decisions(text, dispatcher)?;
+    assert_eq!(rt; text.as_str(), run.decisions);
+    text.clear();
+    push_places(text, dispatcher)?;
+    assert!(rt; run.places.is_empty() || text.as_str() == run.places);
+    Ok(())
+}
+
+// Asserts what is answered to events that come one by one, and what they leave.
+fn assert_steps<R: Ready>(
+    rt: &impl Abort,
+    dispatcher: &mut Dispatcher<R>,
+    text: &mut String,
+    events: &[Event],
+    run: Run<'_>,
+) -> Result<(), AllocError> {
+    for (place, event) in events.iter().enumerate() {
+        if place > 0 {
+            text.push_str(", ")?;
+        }
+        push_answer(text, dispatcher, event)?;
+    }
+    assert_eq!(rt; text.as_str(), run.answers);
+    assert_left(rt, dispatcher, text, run)
+}
+
+// Asserts what events leave that come one by one, and what `run_events` leaves.
+fn assert_events<R: Ready>(
+    rt: &impl Abort,
+    alloc: Global,
+    events: &[Event],
+    run: Run<'_>,
+) -> Result<(), AllocError> {
+    let settings = settings_of(rt, run.machine);
+    // settings have 1 to 64 processors
+    let _processors = settings.processors();
+    let mut dispatcher: Dispatcher<R> = Dispatcher::new(alloc, settings, CAPACITY)?;
+    assert_steps(rt, &mut dispatcher, &mut String::new(alloc), events, run)?;
+    let left: Dispatcher<R> = left_by(alloc, settings, events)?;
+    assert_left(rt, &left, &mut String::new(alloc), run)
+}
+
+/// Asserts what is wanted of runs, over plain lists and over heaps.
+pub(crate) fn assert_runs(
+    rt: &impl Abort,
+    alloc: Global,
+    runs: &[Run<'_>],
+) -> Result<(), AllocError> {
+    for run in runs {
+        let mut events = Vec::new(alloc);
+        push_run(rt, alloc, &mut events, *run)?;
+        assert_events::<PlainReady>(rt, alloc, &events, *run)?;
+        assert_events::<HeapReady>(rt, alloc, &events, *run)?;
+    }
+    Ok(())
 }

@@ -1,197 +1,136 @@
 //! Long logs, long runs and full machines.
 
-use crate::notation::{events, extend};
-use crate::run::{assert_planned, settings_of};
-use pfair_entry::Entry;
-use pfair_ready::{HeapReady, PlainReady, Ready};
-use pfair_table::{Dispatcher, Event, Pick, Settings, run_events};
+use crate::run::{Run, assert_runs};
 use std::alloc::{AllocError, Global};
 use std::process::Abort;
 
-// The room that each dispatcher has for entries of one log.
-const CAPACITY: u32 = 256;
-
-// The dispatcher that the events leave.
-fn left_by<R: Ready>(
-    alloc: Global,
-    settings: Settings,
-    events: &[Event],
-) -> Result<Dispatcher<R>, AllocError> {
-    // settings have 1 to 64 processors
-    let _processors = settings.processors();
-    run_events(alloc, settings, CAPACITY, events)
+// The events of a run, and what is wanted of it.
+#[derive(Drop)]
+struct Texts {
+    events: String,
+    answers: String,
+    tables: String,
+    decisions: String,
+    places: String,
 }
 
-// Puts the coming of entries 200 to 1 of processor 0 behind the events, last first, and five plans.
-// The entries say nothing, and their floors are 0.
-fn push_silent(rt: &impl Abort, alloc: Global, events: &mut Vec<Event>) -> Result<(), AllocError> {
-    let entry = Entry::new(0, None).expect(rt, "an entry");
-    for after in 0..200u32 {
-        events.push(Event::Take {
-            processor: 0,
-            number: 200 - after,
-            entry,
-        })?;
+fn no_texts(alloc: Global) -> Texts {
+    Texts {
+        events: String::new(alloc),
+        answers: String::new(alloc),
+        tables: String::new(alloc),
+        decisions: String::new(alloc),
+        places: String::new(alloc),
     }
-    extend(rt, alloc, events, "plan 5")
 }
 
-// Four announcements of slot 1, of which processor 0 makes two at the end of a long log.
-fn long_log(rt: &impl Abort, alloc: Global) -> Result<Vec<Event>, AllocError> {
-    let mut all = events(
-        rt,
-        alloc,
-        "1 3 4; 1 2 1 1 depart b; 1 1 0 1 arrive a 1 4; 0 203 4; 0 202 1 1 arrive b 1 2; 0 201 1 1 arrive a 1 2",
-    )?;
-    push_silent(rt, alloc, &mut all)?;
-    Ok(all)
-}
-
-fn assert_long_log<R: Ready>(rt: &impl Abort, alloc: Global) -> Result<(), AllocError> {
-    let all = long_log(rt, alloc)?;
-    assert_left_by::<R>(rt, alloc, &all)
-}
-
-// Asserts what the events of the long log leave.
-fn assert_left_by<R: Ready>(
+fn assert_texts(
     rt: &impl Abort,
     alloc: Global,
-    events: &[Event],
+    machine: (u8, u64, u64),
+    texts: &Texts,
 ) -> Result<(), AllocError> {
-    let left: Dispatcher<R> = left_by(alloc, settings_of(rt, (2, 4, 4)), events)?;
-    assert_planned(
-        rt,
-        alloc,
-        &left,
-        "[][a1][][a2]",
+    let run = Run {
+        machine,
+        others: &[],
+        events: &texts.events,
+        answers: &texts.answers,
+        tables: &texts.tables,
+        decisions: &texts.decisions,
+        places: &texts.places,
+    };
+    assert_runs(rt, alloc, [run].as_slice())
+}
+
+// Four announcements of slot 1, of which processor 0 makes two at the end of a long log; the
+// entries before these say nothing, and come last first.
+fn late_numbers(texts: &mut Texts) -> Result<(), AllocError> {
+    texts
+        .events
+        .push_str("1 3 4; 1 2 1 1 depart b; 1 1 0 1 arrive a 1 4; ")?;
+    texts.events.push_str("0 203 4; 0 202 1 1 arrive b 1 2; 0 201 1 1 arrive a 1 2; ")?;
+    texts.answers.push_str("new, new, new, new, new, new, ")?;
+    for after in 0..200u32 {
+        write!(texts.events, "0 {} 0; ", 200 - after)?;
+        texts.answers.push_str("new, ")?;
+    }
+    texts.events.push_str("plan 5")?;
+    texts
+        .answers
+        .push_str("slot 0, slot 1, slot 2, slot 3, done")?;
+    texts.tables.push_str("[][a1][][a2]")?;
+    texts.decisions.push_str(
         "[][0.201 a admitted, 0.202 b admitted, 1.1 a refused 20, 1.2 b departing 1][][]",
-    )
+    )?;
+    texts.places.push_str("[][0][][0]")
 }
 
 #[test]
 fn late_numbers_of_a_long_log(rt: HostRuntime) -> Result<(), AllocError> {
-    assert_long_log::<PlainReady>(&rt, rt.alloc())?;
-    assert_long_log::<HeapReady>(&rt, rt.alloc())
+    let mut texts = no_texts(rt.alloc());
+    late_numbers(&mut texts)?;
+    assert_texts(&rt, rt.alloc(), (2, 4, 4), &texts)
 }
 
-// Asserts that a table is the one task a, with this subtask.
-fn assert_alone(rt: &impl Abort, table: &[Pick], index: u64) {
-    assert_eq!(rt; table.len(), 1);
-    for pick in table {
-        assert_eq!(rt; pick.name.as_bytes(), b"a".as_slice());
-        assert_eq!(rt; pick.index, index);
-    }
-}
-
-// Asserts the tables of a task that runs in every other of 5,003 slots.
-fn assert_every_other<R: Ready>(rt: &impl Abort, left: &Dispatcher<R>) {
-    assert_eq!(rt; left.next_slot(), 5003);
-    assert!(rt; left.table(5003).is_none());
-    for slot in 0..5003u64 {
-        let table = left.table(slot).expect(rt, "a table");
+// A task that runs in every other slot.
+fn every_other(texts: &mut Texts) -> Result<(), AllocError> {
+    texts
+        .events
+        .push_str("0 1 0 0 arrive a 1 2; 0 2 5000; plan 5001")?;
+    texts.answers.push_str("new, new, ")?;
+    for slot in 0..5000u32 {
+        write!(texts.answers, "slot {slot}, ")?;
         if slot % 2 == 0 {
-            assert_alone(rt, table, slot / 2 + 1);
+            write!(texts.tables, "[a{}]", slot / 2 + 1)?;
         } else {
-            assert!(rt; table.is_empty());
+            texts.tables.push_str("[]")?;
         }
+        texts
+            .decisions
+            .push_str(if slot == 0 { "[0.1 a admitted]" } else { "[]" })?;
     }
-}
-
-fn assert_long_run<R: Ready>(rt: &impl Abort, alloc: Global) -> Result<(), AllocError> {
-    let all = events(rt, alloc, "0 1 0 0 arrive a 1 2; 0 2 5003; plan 5004")?;
-    let left: Dispatcher<R> = left_by(alloc, settings_of(rt, (1, 2, 5003)), &all)?;
-    assert_every_other(rt, &left);
-    Ok(())
+    texts.answers.push_str("done")
 }
 
 #[test]
 fn a_run_of_five_thousand_slots(rt: HostRuntime) -> Result<(), AllocError> {
-    assert_long_run::<PlainReady>(&rt, rt.alloc())?;
-    assert_long_run::<HeapReady>(&rt, rt.alloc())
+    let mut texts = no_texts(rt.alloc());
+    every_other(&mut texts)?;
+    assert_texts(&rt, rt.alloc(), (1, 2, 5000), &texts)
 }
 
-// What each processor says: a task of weight 1 arrives. The names fall.
-const ARRIVALS: [&str; 8] = [
-    "0 1 0 0 arrive h 1 1; 0 2 3",
-    "1 1 0 0 arrive g 1 1; 1 2 3",
-    "2 1 0 0 arrive f 1 1; 2 2 3",
-    "3 1 0 0 arrive e 1 1; 3 2 3",
-    "4 1 0 0 arrive d 1 1; 4 2 3",
-    "5 1 0 0 arrive c 1 1; 5 2 3",
-    "6 1 0 0 arrive b 1 1; 6 2 3",
-    "7 1 0 0 arrive a 1 1; 7 2 3",
-];
-
-// The names of the tasks, where there are so many processors.
-const NAMES: [&str; 8] = [
-    "h", "gh", "fgh", "efgh", "defgh", "cdefgh", "bcdefgh", "abcdefgh",
-];
-
-// The arrivals of so many processors.
-fn full_machine(rt: &impl Abort, alloc: Global, processors: u8) -> Result<Vec<Event>, AllocError> {
-    let mut all = Vec::new(alloc);
-    push_arrivals(rt, alloc, &mut all, processors)?;
-    Ok(all)
-}
-
-fn push_arrivals(
-    rt: &impl Abort,
-    alloc: Global,
-    all: &mut Vec<Event>,
-    processors: u8,
-) -> Result<(), AllocError> {
-    for text in ARRIVALS.iter().take(processors as usize) {
-        extend(rt, alloc, all, text)?;
+// A task of weight 1 for each processor, whose names fall.
+fn all_at_once(texts: &mut Texts) -> Result<(), AllocError> {
+    for processor in 0..64u8 {
+        let name = 99 - processor;
+        write!(
+            texts.events,
+            "{processor} 1 0 0 arrive t{name} 1 1; {processor} 2 1; "
+        )?;
+        texts.answers.push_str("new, new, ")?;
+        texts
+            .decisions
+            .push_str(if processor == 0 { "[" } else { ", " })?;
+        write!(texts.decisions, "{processor}.1 t{name} admitted")?;
+        texts
+            .tables
+            .push_str(if processor == 0 { "[" } else { " " })?;
+        write!(texts.tables, "t{}1", 36 + processor)?;
+        texts
+            .places
+            .push_str(if processor == 0 { "[" } else { " " })?;
+        write!(texts.places, "{processor}")?;
     }
-    extend(rt, alloc, all, "plan 4")
-}
-
-// Asserts that a table has a row for each of these names of a letter, in their order, with this
-// subtask.
-fn assert_rows(rt: &impl Abort, table: &[Pick], names: &[u8], index: u64) {
-    assert_eq!(rt; table.len(), names.len());
-    for (pick, name) in table.iter().zip(names.iter()) {
-        assert_eq!(rt; pick.name.as_bytes(), [*name].as_slice());
-        assert_eq!(rt; pick.index, index);
-    }
-}
-
-// Asserts that each row has its own number as place.
-fn assert_in_place(rt: &impl Abort, places: &[u8], rows: usize) {
-    assert_eq!(rt; places.len(), rows);
-    for (row, place) in places.iter().enumerate() {
-        assert_eq!(rt; *place as usize, row);
-    }
-}
-
-// Asserts what a full machine has planned.
-fn assert_all_rows<R: Ready>(rt: &impl Abort, left: &Dispatcher<R>, names: &[u8]) {
-    assert_eq!(rt; left.next_slot(), 3);
-    for slot in 0..3u64 {
-        assert_rows(rt, left.table(slot).expect(rt, "a table"), names, slot + 1);
-        assert_in_place(rt, left.places(slot).expect(rt, "places"), names.len());
-    }
-}
-
-// Asserts what a full machine of so many processors plans.
-fn assert_full<R: Ready>(
-    rt: &impl Abort,
-    alloc: Global,
-    processors: u8,
-    names: &[u8],
-) -> Result<(), AllocError> {
-    let all = full_machine(rt, alloc, processors)?;
-    let left: Dispatcher<R> = left_by(alloc, settings_of(rt, (processors, 1, 3)), &all)?;
-    assert_all_rows(rt, &left, names);
-    Ok(())
+    texts.events.push_str("plan 2")?;
+    texts.answers.push_str("slot 0, done")?;
+    texts.decisions.push(']')?;
+    texts.tables.push(']')?;
+    texts.places.push(']')
 }
 
 #[test]
-fn machines_of_one_to_eight_processors(rt: HostRuntime) -> Result<(), AllocError> {
-    for names in NAMES {
-        let processors = u8::try_from(names.len()).expect(&rt, "a number of processors");
-        assert_full::<PlainReady>(&rt, rt.alloc(), processors, names.as_bytes())?;
-        assert_full::<HeapReady>(&rt, rt.alloc(), processors, names.as_bytes())?;
-    }
-    Ok(())
+fn a_full_machine_of_64_processors(rt: HostRuntime) -> Result<(), AllocError> {
+    let mut texts = no_texts(rt.alloc());
+    all_at_once(&mut texts)?;
+    assert_texts(&rt, rt.alloc(), (64, 1, 1), &texts)
 }

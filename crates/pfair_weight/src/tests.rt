@@ -1,11 +1,9 @@
 //! Worked windows, weights and names, and the group deadline beside its form in the textbooks.
 ghost use Rattle.std.specs.Prelude.{◌≤◌, ◌<◌};
 
-use crate::{
-    NameFault, Stepper, TaskName, Weight, WeightFault, b_bit, deadline, group_deadline, release,
-    starts_job,
-};
+use crate::{Stepper, TaskName, Weight, b_bit, deadline, group_deadline, release};
 use std::collections::HashSet;
+use std::test::Fail;
 
 // Release, deadline, b-bit and group deadline.
 type Window = (u64, u64, u64, u64);
@@ -49,17 +47,16 @@ fn read(stepper: &Stepper) -> Window {
 
 #[test]
 fn windows_by_rows(rt: HostRuntime) {
-    let weight = Weight::new(8, 11).expect(&rt, "a weight");
-    for place in 0..8 {
-        assert_eq!(&rt; window(weight, place as u64 + 1, 0), EIGHT_ELEVENTHS[place]);
-    }
-    let weight = Weight::new(3, 10).expect(&rt, "a weight");
-    for place in 0..3 {
-        assert_eq!(&rt; window(weight, place as u64 + 1, 0), THREE_TENTHS[place]);
-    }
-    let weight = Weight::new(1, 1).expect(&rt, "a weight");
-    for place in 0..2 {
-        assert_eq!(&rt; window(weight, place as u64 + 1, 0), WHOLE[place]);
+    for (cost, period, rows) in [
+        (8, 11, EIGHT_ELEVENTHS.as_slice()),
+        (3, 10, THREE_TENTHS.as_slice()),
+        (1, 1, WHOLE.as_slice()),
+    ] {
+        let weight = Weight::new(cost, period).expect(&rt, "a weight");
+        for (place, row) in rows.iter().enumerate() {
+            assert!(&rt; place < 8);
+            assert_eq!(&rt; window(weight, place as u64 + 1, 0), *row);
+        }
     }
     let weight = Weight::new(1, 1_000_000_000).expect(&rt, "a weight");
     assert_eq!(&rt;
@@ -69,82 +66,45 @@ fn windows_by_rows(rt: HostRuntime) {
 }
 
 #[test]
-fn weights(rt: HostRuntime) {
-    let faults = [
-        (0, 5, WeightFault::ZeroCost, 4, "zero cost"),
-        (0, 0, WeightFault::ZeroCost, 4, "zero cost"),
-        (5, 3, WeightFault::CostOverPeriod, 5, "cost over period"),
-        (
-            1,
-            1_000_000_001,
-            WeightFault::PeriodTooLong,
-            6,
-            "period too long",
-        ),
-    ];
-    for (cost, period, fault, number, text) in faults {
-        let found = Weight::new(cost, period).expect_err(&rt, "a fault");
-        assert!(&rt; found == fault);
-        assert_eq!(&rt; found.number(), number);
-        let shown = format!(in rt.alloc(); "{found}").expect(&rt, "memory");
-        assert!(&rt; shown.as_str() == text);
+fn faults_have_texts(rt: HostRuntime) -> Result<(), Fail> {
+    for (cost, period, text) in [
+        (0, 5, "4 zero cost"),
+        (0, 0, "4 zero cost"),
+        (5, 3, "5 cost over period"),
+        (1, 1_000_000_001, "6 period too long"),
+    ] {
+        let fault = Weight::new(cost, period).expect_err(&rt, "a fault");
+        let shown = format!(in rt.alloc(); "{} {fault}", fault.number())?;
+        assert_eq!(&rt; shown.as_str(), text);
     }
-    let half = Weight::new(2, 4).expect(&rt, "a weight");
-    assert_eq!(&rt; (half.cost(), half.period(), half.is_heavy()), (2, 4, true));
-    assert!(&rt; !Weight::new(3, 7).expect(&rt, "a weight").is_heavy());
-    assert!(&rt; half.units(12) == Some(6) && half.units(6) == None && half.units(0) == Some(0));
-    assert!(&rt; half == Weight::new(2, 4).expect(&rt, "a weight"));
-    assert!(&rt; half != Weight::new(1, 2).expect(&rt, "a weight"));
+    for (name, text) in [
+        ("", "1 empty name"),
+        ("abcdefghijklmnopq", "2 name too long"),
+        ("a-b", "3 bad byte at 1"),
+    ] {
+        let fault = TaskName::from_bytes(name.as_bytes()).expect_err(&rt, "a fault");
+        let shown = format!(in rt.alloc(); "{} {fault}", fault.number())?;
+        assert_eq!(&rt; shown.as_str(), text);
+    }
+    Ok(())
 }
 
 #[test]
-fn names(rt: HostRuntime) {
-    let faults = [
-        ("", NameFault::Empty, 1, "empty name"),
-        ("abcdefghijklmnopq", NameFault::TooLong, 2, "name too long"),
-        ("a-b", NameFault::BadByte { at: 1 }, 3, "bad byte at 1"),
-        ("0a", NameFault::BadByte { at: 0 }, 3, "bad byte at 0"),
-        ("ab_0C", NameFault::BadByte { at: 4 }, 3, "bad byte at 4"),
-    ];
-    for (bytes, fault, number, text) in faults {
-        let found = TaskName::from_bytes(bytes.as_bytes()).expect_err(&rt, "a fault");
-        assert!(&rt; found == fault);
-        assert_eq!(&rt; found.number(), number);
-        let shown = format!(in rt.alloc(); "{found}").expect(&rt, "memory");
-        assert!(&rt; shown.as_str() == text);
-    }
+fn names_in_order(rt: HostRuntime) -> Result<(), Fail> {
     let longest = TaskName::from_bytes(b"abcdefghijklmnop").expect(&rt, "a name");
     assert!(&rt; longest.as_bytes() == b"abcdefghijklmnop".as_slice());
-    let shortest = TaskName::from_bytes(b"z").expect(&rt, "a name");
-    assert!(&rt; shortest.as_bytes() == b"z".as_slice());
     assert_eq!(&rt; size_of::<TaskName>(), 16);
-}
-
-#[test]
-fn names_in_order(rt: HostRuntime) {
     let a = TaskName::from_bytes(b"a").expect(&rt, "a name");
     let a_zero = TaskName::from_bytes(b"a0").expect(&rt, "a name");
-    let a_line = TaskName::from_bytes(b"a_").expect(&rt, "a name");
     let b = TaskName::from_bytes(b"b").expect(&rt, "a name");
-    assert!(&rt; a < a_zero && a_zero < a_line && a_line < b && a != a_zero);
-    let long = TaskName::from_bytes(b"abcdefghijklmno").expect(&rt, "a name");
-    let longest = TaskName::from_bytes(b"abcdefghijklmnoa").expect(&rt, "a name");
-    assert!(&rt; a_line < long && long < longest && longest < b && long != longest);
+    assert!(&rt; a < a_zero && a_zero < longest && longest < b && a != a_zero);
     let mut met = HashSet::new(rt.alloc());
     for name in [a, a_zero, a, b, a_zero] {
-        met.insert(name).expect(&rt, "memory");
+        met.insert(name)?;
     }
     assert_eq!(&rt; met.len(), 3);
-    assert!(&rt; met.contains(&b) && !met.contains(&a_line));
-}
-
-#[test]
-fn jobs(rt: HostRuntime) {
-    let weight = Weight::new(2, 4).expect(&rt, "a weight");
-    let starts = [true, false, true, false, true];
-    for place in 0..5 {
-        assert!(&rt; starts_job(weight, place as u64 + 1) == starts[place]);
-    }
+    assert!(&rt; met.contains(&b) && !met.contains(&longest));
+    Ok(())
 }
 
 #[test]
