@@ -1,0 +1,2 @@
+mod Offsets
+mod Boundaries
