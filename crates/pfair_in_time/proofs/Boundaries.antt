@@ -83,7 +83,7 @@ delay_sound frame index by m active s = record { weight = s.weight; period = s.p
 
 -- ---- the member of a name
 
-named_is : (ms : List Member) (name : List ℕ) (m : Member) → NamesApart (λ (m : Member). m.name) ms → Among ms m → is_named name m ≡ true → member_named ms name ≡ Some m
+pub named_is : (ms : List Member) (name : List ℕ) (m : Member) → NamesApart (λ (m : Member). m.name) ms → Among ms m → is_named name m ≡ true → member_named ms name ≡ Some m
 named_is [] name m apart h e = absurd h
 named_is (x ∷ ms) name m apart h e = by (is_named name x) refl (λ i. named_is ms name m (apart_tail (λ (m : Member). m.name) x ms apart) i e) h
   where

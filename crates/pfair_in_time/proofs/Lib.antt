@@ -1,2 +1,4 @@
 mod Offsets
 mod Boundaries
+mod Worlds
+mod Lines
