@@ -2,3 +2,6 @@ mod Offsets
 mod Boundaries
 mod Worlds
 mod Lines
+mod AsRun
+mod Room
+mod Claims

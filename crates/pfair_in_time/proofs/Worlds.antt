@@ -65,7 +65,7 @@ same_member s x t m n here there e =
 abbrev pub keys_at : Settings → Replica → ℕ → List Key
 keys_at s x t = chosen s t (world s x t)
 
-keys_apart : (s : Settings) (x : Replica) (t : ℕ) → NamesApart (λ (k : Key). k.name) (eligible t (world s x t))
+pub keys_apart : (s : Settings) (x : Replica) (t : ℕ) → NamesApart (λ (k : Key). k.name) (eligible t (world s x t))
 keys_apart s x t = apart_map (λ (m : Member). m.name) (λ (k : Key). k.name) next_key (λ m. refl) (filter (is_eligible t) (world s x t)) (apart_filter (λ (m : Member). m.name) (is_eligible t) (world s x t) (apart_world s x t))
 
 pub first_keys : (s : Settings) (x : Replica) (t : ℕ) → AreFirst pd2_cmp s.processors (eligible t (world s x t)) (keys_at s x t)
@@ -121,7 +121,7 @@ next_more s x t m joined =
     omega arith
 
 -- who joins has had no quantum
-next_new : (s : Settings) (x : Replica) (t : ℕ) (m : Member) → m.joined ≡ t → next_index (tables_before s x t) m ≡ 1
+pub next_new : (s : Settings) (x : Replica) (t : ℕ) (m : Member) → m.joined ≡ t → next_index (tables_before s x t) m ≡ 1
 next_new s x t m e = let long = long_history s x t in ap (λ ts. 1 + count_by (names_task m.name) ts) (drop_all m.joined (tables_before s x t) (omega arith))
 
 -- what holds of each member of slot t
