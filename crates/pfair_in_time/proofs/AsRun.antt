@@ -37,7 +37,7 @@ module _ {A : Type 0} (same : A → A → Bool) (exact : (a b : A) → (same a b
   among_test [] x h = absurd (false≢true h)
   among_test (y ∷ ys) x h = ⊎_elim (λ e. inl e) (λ r. inr (among_test ys x r)) (among_cases same exact y ys x h)
 
-found_some : {A : Type 0} (p : A → Bool) (xs : List A) (x : A) → find p xs ≡ Some x → Among xs x × (p x ≡ true)
+pub found_some : {A : Type 0} (p : A → Bool) (xs : List A) (x : A) → find p xs ≡ Some x → Among xs x × (p x ≡ true)
 found_some p [] x e = absurd (cc)
 found_some p (y ∷ ys) x e = by (p y) refl e (λ r. found_some p ys x r)
   where

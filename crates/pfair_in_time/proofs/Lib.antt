@@ -5,3 +5,4 @@ mod Lines
 mod AsRun
 mod Room
 mod Claims
+mod Executive

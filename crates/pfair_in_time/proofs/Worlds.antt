@@ -30,7 +30,7 @@ use Rattle.pfair_in_time.specs.Laws.{AllSound, AllHaveWeights, IsFreed}
 use Rattle.pfair_in_time.proofs.Boundaries.{named_is, boundaries_keep_members}
 
 -- some one passes a test
-any_among : {A : Type 0} (p : A → Bool) (xs : List A) → list_any p xs ≡ true → (x : A) × Among xs x × (p x ≡ true)
+pub any_among : {A : Type 0} (p : A → Bool) (xs : List A) → list_any p xs ≡ true → (x : A) × Among xs x × (p x ≡ true)
 any_among p [] h = absurd (false≢true h)
 any_among p (y ∷ ys) h = ⊎_elim (λ e. (y, inl refl, e)) (λ r. (let t = any_among p ys r in (t.0, inr t.1, t.2))) (or_cases (p y) (list_any p ys) h)
 
@@ -93,7 +93,7 @@ runs_chosen s x t m here named =
     let same = same_member s x t m n.0 here n.1 name in
     (ap (is_eligible t) same ∙ n.2, subst (λ k. Among (keys_at s x t) k) (n.3 ∙ ap next_key (sym same)) q.1)
 
-any_from_among : {A : Type 0} (p : A → Bool) (xs : List A) (x : A) → Among xs x → p x ≡ true → list_any p xs ≡ true
+pub any_from_among : {A : Type 0} (p : A → Bool) (xs : List A) (x : A) → Among xs x → p x ≡ true → list_any p xs ≡ true
 any_from_among p [] x h e = absurd h
 any_from_among p (y ∷ ys) x (inl i) e = by (p y) (sym (ap p i) ∙ e)
   where
