@@ -45,7 +45,7 @@ found_some p (y ∷ ys) x e = by (p y) refl e (λ r. found_some p ys x r)
     by true t e rest = let same = same_Some y x e in (inl (sym same), sym (ap p same) ∙ t)
     by false t e rest = let r = rest e in (inr r.0, r.1)
 
-found_none : {A : Type 0} (p : A → Bool) (xs : List A) (x : A) → find p xs ≡ None → Among xs x → p x ≡ true → ⊥
+pub found_none : {A : Type 0} (p : A → Bool) (xs : List A) (x : A) → find p xs ≡ None → Among xs x → p x ≡ true → ⊥
 found_none p [] x e h t = h
 found_none p (y ∷ ys) x e h t = by (p y) refl e h (λ r i. found_none p ys x r i t)
   where

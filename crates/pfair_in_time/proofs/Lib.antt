@@ -6,3 +6,4 @@ mod AsRun
 mod Room
 mod Claims
 mod Executive
+mod InTime

@@ -1,2 +1,3 @@
 pub mod Descent
+pub mod InTime
 pub mod Laws
