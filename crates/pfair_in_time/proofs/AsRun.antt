@@ -1,10 +1,10 @@
 -- The executive as a run: who is which task, and with which offsets in the end.
-use Rattle.std.proofs.Common.{◌≡◌, ℕ, zero, suc, ◌+◌, ◌-◌, ◌*◌, ◌%◌, ◌<◌, ◌≤◌, Bool, true, false, cond, List, [], ◌∷◌, Option, Some, None, length, arith, ap, refl, sym, ◌∙◌, subst, inl, inr, ⊎_elim}
-use Rattle.std.specs.Prelude.{◌⊎◌, not, ◌&&◌, ◌||◌, map, ◌↔◌}
+use Rattle.std.proofs.Common.{◌≡◌, ℕ, zero, suc, ◌<◌, ◌≤◌, Bool, true, false, cond, List, [], ◌∷◌, Option, Some, None, arith, ap, refl, sym, ◌∙◌, subst, inl, inr, ⊎_elim}
+use Rattle.std.specs.Prelude.{◌⊎◌, not, ◌&&◌, map, ◌↔◌}
 use Rattle.std.specs.List.{find, list_any}
-use Rattle.std.proofs.lemmas.Bool.{true≢false, false≢true, cases_lt, cases_eq, cases_Bool, or_left, or_right, or_cases, and_parts, and_from, not-true, not_from_false}
+use Rattle.std.proofs.lemmas.Bool.{true≢false, false≢true, cases_lt, cases_eq, cases_Bool, or_left, or_right}
 use Rattle.std.proofs.lemmas.Option.{same_Some}
-use Rattle.pfair_weight.specs.Share.{Share, IsWeight}
+use Rattle.pfair_weight.specs.Share.{Share}
 use Rattle.pfair_weight.specs.Name.{NamesApart}
 use Rattle.pfair_weight.specs.Window.{release_of}
 use Rattle.pfair_weight.proofs.NamesApart.{apart_head, apart_tail}
@@ -16,13 +16,13 @@ use Rattle.pfair_replica.specs.Among.{Among, among_map, map_among, among_all}
 use Rattle.pfair_replica.specs.Replica.{Replica, said}
 use Rattle.pfair_admission.specs.Member.{Member, theta, is_departing, next_key}
 use Rattle.pfair_admission.specs.Admission.{member_named, announcements}
-use Rattle.pfair_table.specs.Table.{Settings, eligible, is_eligible, world}
-use Rattle.pfair_optimal.specs.Run.{Task, Subtask, Run, is_among, NoneTwice, same_task, same_subtask, next_of, previous_of, is_row, has_run, IsNext}
+use Rattle.pfair_table.specs.Table.{Settings, eligible, world}
+use Rattle.pfair_optimal.specs.Run.{Task, Subtask, Run, is_among, NoneTwice, same_task, same_subtask, is_row, has_run}
 use Rattle.pfair_optimal.proofs.Lists.{among_here, among_more, among_cases}
-use Rattle.pfair_optimal.proofs.Past.{task_exact, subtask_exact, ran_at, ran_by}
+use Rattle.pfair_optimal.proofs.Past.{task_exact, subtask_exact, ran_at}
 use Rattle.pfair_in_time.specs.Laws.{AllHaveWeights}
 use Rattle.pfair_in_time.proofs.Boundaries.{named_is}
-use Rattle.pfair_in_time.proofs.Worlds.{runs, on, on_next, keys_at, keys_apart, apart_world, same_member, chosen_member, runs_chosen, chosen_runs, next_new, IsHere, here, came_from}
+use Rattle.pfair_in_time.proofs.Worlds.{runs, on, on_next, keys_at, keys_apart, apart_world, same_member, chosen_member, runs_chosen, chosen_runs, next_new, here, came_from}
 use Rattle.pfair_in_time.proofs.Lines.{IsLine, line_of}
 
 -- ---- among a list, by a test or not
@@ -124,17 +124,20 @@ rows_apart s x n t = go (keys_at s x t) (λ k h. h) (first_names s.processors (e
   where
     named : (k : Key) → Among (keys_at s x t) k → (row_of (world s x t) k).task.name ≡ k.name
     named k h = (let q = chosen_member s x t k h in ap (λ (z : Subtask). z.task.name) (ap (row_of (world s x t)) q.3 ∙ row_is s x t q.0 q.1) ∙ ap (λ (l : Key). l.name) (sym q.3))
+
     go : (ks : List Key) → ((k : Key) → Among ks k → Among (keys_at s x t) k) → NamesApart (λ (k : Key). k.name) ks → NoneTwice same_subtask (map (row_of (world s x t)) ks)
     go [] within apart = tt
-    go (k ∷ ks) within apart =
-        (elim (cases_Bool (is_among same_subtask (map (row_of (world s x t)) ks) (row_of (world s x t) k))) [
-          | inr e ↦ e
-          | inl twice ↦ absurd (
-              let p = among_map (row_of (world s x t)) ks (row_of (world s x t) k) (among_test same_subtask subtask_exact (map (row_of (world s x t)) ks) (row_of (world s x t) k) twice) in
-              let names : k.name ≡ p.0.name = sym (named k (within k (inl refl))) ∙ ap (λ (z : Subtask). z.task.name) p.2 ∙ named p.0 (within p.0 (inr p.1)) in
-              let other = among_all (λ (y : Key). name_eq k.name y.name ≡ false) ks (apart_head (λ (k : Key). k.name) k ks apart) p.0 p.1 in
-              true≢false (sym (subst (λ (n : List ℕ). name_eq k.name n ≡ true) names (name_itself k.name)) ∙ other))
-        ], go ks (λ l h. within l (inr h)) (apart_tail (λ (k : Key). k.name) k ks apart))
+    go (k ∷ ks) within apart = (
+      elim (cases_Bool (is_among same_subtask (map (row_of (world s x t)) ks) (row_of (world s x t) k))) [
+        | inr e ↦ e
+        | inl twice ↦ absurd (
+            let p = among_map (row_of (world s x t)) ks (row_of (world s x t) k) (among_test same_subtask subtask_exact (map (row_of (world s x t)) ks) (row_of (world s x t) k) twice) in
+            let names : k.name ≡ p.0.name = sym (named k (within k (inl refl))) ∙ ap (λ (z : Subtask). z.task.name) p.2 ∙ named p.0 (within p.0 (inr p.1)) in
+            let other = among_all (λ (y : Key). name_eq k.name y.name ≡ false) ks (apart_head (λ (k : Key). k.name) k ks apart) p.0 p.1 in
+            true≢false (sym (subst (λ (n : List ℕ). name_eq k.name n ≡ true) names (name_itself k.name)) ∙ other))
+      ],
+      go ks (λ l h. within l (inr h)) (apart_tail (λ (k : Key). k.name) k ks apart),
+    )
 
 module _ (s : Settings) (x : Replica) (weights : (t : ℕ) → AllHaveWeights (announcements (said x t))) where
   -- ---- in the end
@@ -145,6 +148,7 @@ module _ (s : Settings) (x : Replica) (weights : (t : ℕ) → AllHaveWeights (a
     where
       Last : Option Member → Type 0
       Last o = (l : Member) × (v : ℕ) × (or_else o (last_of s x n (task_of m)) ≡ Some l) × Among (world s x v) l × (u ≤ v) × IsLine s x u v m l
+
       by : (o : Option Member) → find (is_task (task_of m)) (world s x n) ≡ o → (u < n → Last None) → Last o
       by (Some l) e rest =
           let f = found_some (is_task (task_of m)) (world s x n) l e in
@@ -218,6 +222,7 @@ module _ (s : Settings) (x : Replica) (weights : (t : ℕ) → AllHaveWeights (a
                 | inl e ↦ (e, (let c : cond {A = ℕ} (runs s x t l) 1 0 ≡ 1 = ap (λ b. cond {A = ℕ} b 1 0) e in omega arith))
                 | inr e ↦ absurd (let c : cond {A = ℕ} (runs s x t l) 1 0 ≡ 0 = ap (λ b. cond {A = ℕ} b 1 0) e in omega arith)
               ]
+
           at_last : l.next ≤ i → is_row (as_run s x n) t (record { task = task_of l; index = i }) ≡ true
           at_last last = (let p = named last in subst (λ k. is_row (as_run s x n) t (record { task = task_of l; index = k }) ≡ true) p.1 (member_row s x n t l there p.0))
 

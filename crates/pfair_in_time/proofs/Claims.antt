@@ -1,8 +1,7 @@
 -- How long a claim is held, and who goes before whom.
-use Rattle.std.proofs.Common.{◌≡◌, ℕ, zero, suc, ◌+◌, ◌-◌, ◌*◌, ◌<◌, ◌≤◌, Bool, true, false, cond, List, [], ◌∷◌, Option, Some, length, arith, ap, refl, sym, ◌∙◌, subst, inl, inr, ⊎_elim, max, get_or}
-use Rattle.std.specs.Prelude.{◌⊎◌, not, ◌||◌, nat_lt, if◌then◌else◌}
-use Rattle.std.specs.List.{slice_get, Contains}
-use Rattle.std.specs.declared.cmp.Ordering.TheVariants.{Less}
+use Rattle.std.proofs.Common.{◌≡◌, ℕ, suc, ◌+◌, ◌-◌, ◌*◌, ◌<◌, ◌≤◌, Bool, true, false, List, length, arith, ap, inl, inr, get_or}
+use Rattle.std.specs.Prelude.{not, ◌||◌, if◌then◌else◌}
+use Rattle.std.specs.List.{Contains}
 use Rattle.std.proofs.lemmas.Bool.{cases_lt, cases_eq, lt-ltb, le-ltb}
 use Rattle.std.proofs.lemmas.Option.{slice_get_within, slice_get-get_or}
 use Rattle.pfair_weight.specs.Share.{Share, IsWeight}
@@ -11,7 +10,7 @@ use Rattle.pfair_weight.specs.WindowFacts.{deadline_rises_strictly, b_bit_at_mos
 use Rattle.pfair_weight.specs.GroupFacts.{group_deadline_light, group_deadline_whole, group_deadline_heavy, group_deadline_not_before, group_deadline_rises}
 use Rattle.pfair_order.specs.declared.Key.{Key}
 use Rattle.pfair_order.specs.Order.{pd2_cmp, GoesBefore}
-use Rattle.pfair_order.specs.Rank.{rank, first_by_rank, AreFirst, EachOnce}
+use Rattle.pfair_order.specs.Rank.{rank, first_by_rank, EachOnce}
 use Rattle.pfair_order.proofs.KeyLaws.{keys_total}
 use Rattle.pfair_order.proofs.OrderLemmas.{goes_before}
 use Rattle.pfair_order.proofs.RankLemmas.{place_of, at_place, less_by_rank, first_within}

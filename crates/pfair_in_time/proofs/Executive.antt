@@ -1,8 +1,8 @@
 -- The executive keeps the premises of a run.
-use Rattle.std.proofs.Common.{◌≡◌, ℕ, zero, suc, ◌+◌, ◌-◌, ◌*◌, ◌%◌, ◌<◌, ◌≤◌, Bool, true, false, cond, List, [], ◌∷◌, Option, Some, None, length, arith, ap, refl, sym, ◌∙◌, subst, inl, inr, ⊎_elim}
-use Rattle.std.specs.Prelude.{◌⊎◌, not, ◌&&◌, map, filter, nat_le, sum_by}
-use Rattle.std.specs.List.{find, list_any, Contains}
-use Rattle.std.proofs.lemmas.Bool.{true≢false, false≢true, cases_lt, cases_eq, cases_order, cases_Bool, and_parts, and_from, not-true, not_from_false, le-leb}
+use Rattle.std.proofs.Common.{◌≡◌, ℕ, zero, suc, ◌+◌, ◌-◌, ◌*◌, ◌%◌, ◌<◌, ◌≤◌, true, false, List, [], ◌∷◌, Option, Some, None, length, arith, ap, refl, sym, ◌∙◌, subst, inl, inr}
+use Rattle.std.specs.Prelude.{◌⊎◌, not, map, filter, nat_le, sum_by}
+use Rattle.std.specs.List.{find, Contains}
+use Rattle.std.proofs.lemmas.Bool.{true≢false, cases_lt, cases_eq, cases_order, cases_Bool, and_parts, and_from, not-true, not_from_false, le-leb}
 use Rattle.std.proofs.lemmas.List.{length-map}
 use Rattle.std.proofs.lemmas.List.Sums.{sum_by-cons}
 use Rattle.pfair_weight.specs.Share.{Share, IsWeight, units_of}
@@ -11,21 +11,21 @@ use Rattle.pfair_weight.specs.WindowFacts.{b_bit_at_most_one}
 use Rattle.pfair_order.specs.declared.Key.{Key}
 use Rattle.pfair_order.specs.Order.{GoesBefore, earlier_deadline, greater_b_bit, later_group, smaller_name, smaller_group}
 use Rattle.pfair_order.proofs.NamesApart.{once_from_names}
-use Rattle.pfair_replica.specs.Among.{Among, among_contains, contains_among, filter_among, map_among, among_map}
+use Rattle.pfair_replica.specs.Among.{Among, among_contains, contains_among, filter_among, map_among}
 use Rattle.pfair_replica.specs.Replica.{Replica, said}
-use Rattle.pfair_admission.specs.Member.{Member, theta, is_departing, busy_until, eligible_from, next_key}
+use Rattle.pfair_admission.specs.Member.{Member, theta, is_departing, eligible_from, next_key}
 use Rattle.pfair_admission.specs.Admission.{announcements}
 use Rattle.pfair_table.specs.Table.{Settings, eligible, is_eligible, world}
 use Rattle.pfair_optimal.specs.Fluid.{busy_bound_of}
-use Rattle.pfair_optimal.specs.Run.{Task, Subtask, Run, is_among, same_task, same_subtask, previous_of, release, deadline, b_bit, group_deadline, busy_bound, is_row, has_run, IsNext, GoesFirst}
+use Rattle.pfair_optimal.specs.Run.{Task, Subtask, Run, is_among, same_task, release, deadline, b_bit, group_deadline, busy_bound, is_row, has_run, IsNext, GoesFirst}
 use Rattle.pfair_optimal.specs.Beginning.{IsRunBelow}
-use Rattle.pfair_optimal.proofs.Past.{task_exact, subtask_exact, ran_by, ran_more}
+use Rattle.pfair_optimal.proofs.Past.{task_exact, ran_by, ran_more}
 use Rattle.pfair_in_time.specs.Descent.{IsSound}
 use Rattle.pfair_in_time.specs.Laws.{AllHaveWeights}
 use Rattle.pfair_in_time.proofs.Offsets.{theta_rises}
-use Rattle.pfair_in_time.proofs.Worlds.{any_among, any_from_among, runs, keys_at, keys_apart, runs_chosen, chosen_member, chosen_runs, IsHere, here}
-use Rattle.pfair_in_time.proofs.Lines.{IsLine, line_of, back_to, on_to, IsGone}
-use Rattle.pfair_in_time.proofs.AsRun.{test_among, among_test, task_of, subtask_of, is_task, last_of, or_else, weight_in, offset_in, is_running, row_of, as_run, row_member, member_row, rows_apart, IsFinal, final, next_counted, all_before_ran, none_after_ran, found_some}
+use Rattle.pfair_in_time.proofs.Worlds.{any_among, any_from_among, runs, keys_at, keys_apart, runs_chosen, chosen_runs, here}
+use Rattle.pfair_in_time.proofs.Lines.{line_of, back_to, on_to, IsGone}
+use Rattle.pfair_in_time.proofs.AsRun.{test_among, task_of, subtask_of, is_task, last_of, or_else, weight_in, offset_in, is_running, row_of, as_run, row_member, member_row, rows_apart, IsFinal, final, next_counted, all_before_ran, none_after_ran, found_some}
 use Rattle.pfair_in_time.proofs.Room.{room_world}
 use Rattle.pfair_in_time.proofs.Claims.{bound_le_claim, eligible_by_release, IsPast, past_first}
 
@@ -42,11 +42,16 @@ goes_first r w z k l a b (earlier_deadline lower) = (let p = a.due in let q = b.
 goes_first r w z k l a b (greater_b_bit d lower) = (let p = a.bit in let q = b.bit in inr (a.due ∙ d ∙ sym b.due, inl (omega arith)))
 goes_first r w z k l a b (later_group d one other lower) = (let p = a.group in let q = b.group in inr (a.due ∙ d ∙ sym b.due, inr (a.bit ∙ one ∙ sym other ∙ sym b.bit, inr (omega arith))))
 goes_first r w z k l a b (smaller_name d bits groups lower) =
-    inr (a.due ∙ d ∙ sym b.due, inr (a.bit ∙ bits ∙ sym b.bit,
-    (elim (cases_eq k.b 1) [
-      | inl one ↦ (let p = a.group in let q = b.group in let same = groups one in inr (omega arith))
-      | inr other ↦ (let p = a.bit in let q = b.bit in let small = b_bit_at_most_one (r.weight w.task) w.index in inl (omega (arith, other)))
-    ])))
+    inr (
+      a.due ∙ d ∙ sym b.due,
+      inr (
+        a.bit ∙ bits ∙ sym b.bit,
+        (elim (cases_eq k.b 1) [
+          | inl one ↦ (let p = a.group in let q = b.group in let same = groups one in inr (omega arith))
+          | inr other ↦ (let p = a.bit in let q = b.bit in let small = b_bit_at_most_one (r.weight w.task) w.index in inl (omega (arith, other)))
+        ]),
+      ),
+    )
 goes_first r w z k l a b (smaller_group d bits other name lower) =
     (let p = a.bit in let q = b.bit in let small = b_bit_at_most_one (r.weight w.task) w.index in inr (a.due ∙ d ∙ sym b.due, inr (a.bit ∙ bits ∙ sym b.bit, inl (omega (arith, other)))))
 
@@ -198,9 +203,9 @@ module _ (s : Settings) (x : Replica) (frame : 0 < s.frame) (weights : (t : ℕ)
               let f = final s x weights n u m h less in
               let up = g.line.ran g.since named in
               let bound : busy_bound (as_run s x n) z ≡ busy_bound_of l.weight m.next (theta l m.next) =
-                  ap (busy_bound (as_run s x n)) e
-                  ∙ ap (λ (w : Share). busy_bound_of w m.next ((as_run s x n).offset (task_of m) m.next)) (f.weight ∙ sym g.line.weight)
-                  ∙ ap (λ (o : ℕ). busy_bound_of l.weight m.next o) (f.stays_run m.next named (omega arith) ∙ sym (g.line.stays_run m.next g.since named (omega arith))) in
+              ap (busy_bound (as_run s x n)) e
+              ∙ ap (λ (w : Share). busy_bound_of w m.next ((as_run s x n).offset (task_of m) m.next)) (f.weight ∙ sym g.line.weight)
+              ∙ ap (λ (o : ℕ). busy_bound_of l.weight m.next o) (f.stays_run m.next named (omega arith) ∙ sym (g.line.stays_run m.next g.since named (omega arith))) in
               let claim = bound_le_claim l m.next (l.next - 1) g.sound.weight (omega arith) in
               let by_then = g.by_then in
               let counted = next_counted s x weights u m h in
@@ -228,6 +233,7 @@ module _ (s : Settings) (x : Replica) (frame : 0 < s.frame) (weights : (t : ℕ)
         where
           z_at : (i : ℕ) → z.index ≡ i → z ≡ record { task = task_of m; index = i }
           z_at i same = λ j. record { task = sym e j; index = same j }
+
           -- the member is at this very subtask
           index : z.index ≡ m.next
           index =
@@ -243,26 +249,34 @@ module _ (s : Settings) (x : Replica) (frame : 0 < s.frame) (weights : (t : ℕ)
                   | inr ran ↦ none_after_ran s x weights n t m (z.index - 1) h (omega arith) (subst (λ a. has_run (as_run s x n) (record { task = a; index = z.index - 1 }) t ≡ true) (sym e) ran)
                 ])
               ]
+
           is_it : z ≡ subtask_of m
           is_it = z_at m.next index
+
           f : IsFinal s x weights n t m
           f = final s x weights n t m h less
+
           released : release_of m.weight m.next (theta m m.next) ≤ t
           released =
               let same : release (as_run s x n) z ≡ release_of m.weight m.next ((as_run s x n).offset (task_of m) m.next) = ap (release (as_run s x n)) is_it ∙ ap (λ (w : Share). release_of w m.next ((as_run s x n).offset (task_of m) m.next)) f.weight in
               let up = f.rises m.next in
               omega arith
+
           may_run : is_eligible t m ≡ true
           may_run = and_from (not (is_departing m)) (nat_le (eligible_from m m.next) t) (not_from_false (is_departing m) d) (le-leb (eligible_from m m.next) t (let by_then = eligible_by_release m m.next in let r = released in omega arith))
+
           among : Contains (eligible t (world s x t)) (next_key m)
           among = among_contains (eligible t (world s x t)) (next_key m) (map_among next_key (filter (is_eligible t) (world s x t)) m (filter_among (is_eligible t) (world s x t) m h may_run))
+
           out : Contains (keys_at s x t) (next_key m) → ⊥
           out c =
               let row = member_row s x n t m h (chosen_runs s x t m (contains_among (keys_at s x t) (next_key m) c)) in
               let ran = ran_by (as_run s x n) (subtask_of m) t (suc t) (omega arith) row in
               true≢false (sym (subst (λ y. has_run (as_run s x n) y (suc t) ≡ true) (sym is_it) ran) ∙ not_run)
+
           past : IsPast s.processors (keys_at s x t) (next_key m)
           past = past_first s.processors (eligible t (world s x t)) (next_key m) (once_from_names (eligible t (world s x t)) (keys_apart s x t)) among out
+
           first : (w : Subtask) → (l : Member) × Among (world s x t) l × (runs s x t l ≡ true) × (w ≡ subtask_of l) → GoesFirst (as_run s x n) w z
           first w (l, i, named, same) =
               let g = final s x weights n t l i less in

@@ -1,26 +1,23 @@
 -- No admitted task misses.
-use Rattle.std.proofs.Common.{◌≡◌, ℕ, zero, suc, ◌+◌, ◌-◌, ◌<◌, ◌≤◌, Bool, true, false, cond, List, Option, Some, None, arith, ap, refl, sym, ◌∙◌, subst, inl, inr, ⊎_elim}
-use Rattle.std.specs.Prelude.{◌⊎◌, not, ◌||◌, nat_le, if◌then◌else◌}
+use Rattle.std.proofs.Common.{◌≡◌, ℕ, suc, ◌-◌, ◌<◌, ◌≤◌, true, false, cond, Option, Some, None, arith, ap, refl, sym, ◌∙◌, subst, inl, inr}
+use Rattle.std.specs.Prelude.{not, ◌||◌, nat_le, if◌then◌else◌}
 use Rattle.std.specs.List.{find}
-use Rattle.std.proofs.lemmas.Bool.{true≢false, cases_lt, cases_eq, cases_Bool, and_parts, leb-true}
-use Rattle.pfair_weight.specs.Share.{Share}
+use Rattle.std.proofs.lemmas.Bool.{cases_lt, cases_eq, cases_Bool, and_parts, leb-true}
 use Rattle.pfair_weight.specs.Window.{release_of, deadline_of, starts_job_of}
 use Rattle.pfair_entry.specs.Exact.{name_itself}
-use Rattle.pfair_order.specs.declared.Key.{Key}
 use Rattle.pfair_replica.specs.Among.{Among, among_map}
-use Rattle.pfair_replica.specs.Replica.{Replica, said}
+use Rattle.pfair_replica.specs.Replica.{Replica}
 use Rattle.pfair_admission.specs.Member.{Member, theta, is_departing, is_delayed_at, eligible_from, next_key}
-use Rattle.pfair_admission.specs.Admission.{member_named}
 use Rattle.pfair_table.specs.declared.pick.Pick.{Pick}
 use Rattle.pfair_table.specs.Table.{Settings, pick, index_of, world, table}
-use Rattle.pfair_optimal.specs.Run.{Task, Subtask, Run, deadline, is_row, has_run, IsNext}
+use Rattle.pfair_optimal.specs.Run.{Task, Subtask, deadline, is_row, has_run, IsNext}
 use Rattle.pfair_optimal.proofs.Beginnings.{beginning_none_misses, beginning_in_time}
 use Rattle.pfair_optimal.proofs.Past.{task_exact, ran_at, ran_by, ran_more}
 use Rattle.pfair_in_time.specs.InTime.{SaysWeights, index_after, NoneMisses, IsInTime, EachRunsInTime}
 use Rattle.pfair_in_time.proofs.Boundaries.{named_is}
-use Rattle.pfair_in_time.proofs.Worlds.{apart_world, same_member, runs, keys_at, chosen_member, chosen_runs, runs_chosen, on, on_next, here}
-use Rattle.pfair_in_time.proofs.AsRun.{task_of, subtask_of, is_task, last_of, or_else, offset_in, weight_in, as_run, row_member, member_row, found_some, found_none, IsFinal, final, next_counted, all_before_ran, none_after_ran}
-use Rattle.pfair_in_time.proofs.Executive.{is_run, member_active, at_next}
+use Rattle.pfair_in_time.proofs.Worlds.{apart_world, same_member, runs, keys_at, chosen_member, chosen_runs, runs_chosen, on_next, here}
+use Rattle.pfair_in_time.proofs.AsRun.{task_of, subtask_of, is_task, last_of, or_else, offset_in, weight_in, as_run, row_member, member_row, found_some, found_none, next_counted, all_before_ran, none_after_ran}
+use Rattle.pfair_in_time.proofs.Executive.{is_run, member_active}
 
 -- up to the end of slot t a member is the last one of its task
 last_now : (s : Settings) (x : Replica) (t : ℕ) (m : Member) → Among (world s x t) m → last_of s x (suc t) (task_of m) ≡ Some m
@@ -42,19 +39,22 @@ module _ (s : Settings) (x : Replica) (frame : 0 < s.frame) (weights : SaysWeigh
   next_after t m h =
       let more = on_next s x t m (here s x weights t m h) in
       let counted = next_counted s x weights t m h in
-      record { counted = omega arith; follows = elim (cases_Bool (runs s x t m)) [
-        | inl named ↦
-            let c : cond {A = ℕ} (runs s x t m) 1 0 ≡ 1 = ap (λ b. cond {A = ℕ} b 1 0) named in
-            let index : m.next ≡ index_after s x t m - 1 = omega arith in
-            inr (subst (λ i. has_run (as_run s x (suc t)) (record { task = task_of m; index = i }) (suc t) ≡ true) index (ran_by (as_run s x (suc t)) (subtask_of m) t (suc t) (omega arith) (member_row s x (suc t) t m h named)))
-        | inr rests ↦
-            let c : cond {A = ℕ} (runs s x t m) 1 0 ≡ 0 = ap (λ b. cond {A = ℕ} b 1 0) rests in
-            elim (cases_eq (index_after s x t m) 1) [
-              | inl first ↦ inl first
-              | inr other ↦ inr (ran_more (as_run s x (suc t)) (record { task = task_of m; index = index_after s x t m - 1 }) t (suc t) (omega arith)
-                  (all_before_ran s x weights (suc t) t m (index_after s x t m - 1) h (omega (arith, other)) (omega (arith, other))))
-            ]
-      ] }
+      record {
+        counted = omega arith;
+        follows = elim (cases_Bool (runs s x t m)) [
+          | inl named ↦
+              let c : cond {A = ℕ} (runs s x t m) 1 0 ≡ 1 = ap (λ b. cond {A = ℕ} b 1 0) named in
+              let index : m.next ≡ index_after s x t m - 1 = omega arith in
+              inr (subst (λ i. has_run (as_run s x (suc t)) (record { task = task_of m; index = i }) (suc t) ≡ true) index (ran_by (as_run s x (suc t)) (subtask_of m) t (suc t) (omega arith) (member_row s x (suc t) t m h named)))
+          | inr rests ↦
+              let c : cond {A = ℕ} (runs s x t m) 1 0 ≡ 0 = ap (λ b. cond {A = ℕ} b 1 0) rests in
+              elim (cases_eq (index_after s x t m) 1) [
+                | inl first ↦ inl first
+                | inr other ↦ inr (ran_more (as_run s x (suc t)) (record { task = task_of m; index = index_after s x t m - 1 }) t (suc t) (omega arith)
+                    (all_before_ran s x weights (suc t) t m (index_after s x t m - 1) h (omega (arith, other)) (omega (arith, other))))
+              ]
+        ];
+      }
 
   -- and has not run itself
   not_yet : (t : ℕ) (m : Member) → Among (world s x t) m → has_run (as_run s x (suc t)) (record { task = task_of m; index = index_after s x t m }) (suc t) ≡ false
@@ -80,7 +80,7 @@ module _ (s : Settings) (x : Replica) (frame : 0 < s.frame) (weights : SaysWeigh
   none : (t : ℕ) (m : Member) → Among (world s x t) m → is_departing m ≡ false → suc t < deadline_of m.weight (index_after s x t m) (theta m (index_after s x t m))
   none t m h d =
       let late = beginning_none_misses (as_run s x (suc t)) (suc t) t (record { task = task_of m; index = index_after s x t m }) (is_run s x frame weights (suc t)) (omega arith)
-          (member_active s x frame weights (suc t) (task_of m) t m h refl d) (next_after t m h) (not_yet t m h) in
+      (member_active s x frame weights (suc t) (task_of m) t m h refl d) (next_after t m h) (not_yet t m h) in
       let own = own_deadline s x t m (index_after s x t m) h in
       omega arith
 
@@ -102,13 +102,16 @@ module _ (s : Settings) (x : Replica) (frame : 0 < s.frame) (weights : SaysWeigh
       let q = among_map (pick (world s x t)) (keys_at s x t) p h in
       let k = chosen_member s x t q.0 q.1 in
       let named = chosen_runs s x t k.0 (subst (λ l. Among (keys_at s x t) l) k.3 q.1) in
-      let is : p ≡ pick (world s x t) (next_key k.0) = q.2 ∙ ap (pick (world s x t)) k.3 in
-      (k.0, k.1, record {
-        name = ap (λ (r : Pick). r.name) is;
-        index = ap (λ (r : Pick). r.index) is ∙ ap index_of (named_is (world s x t) k.0.name k.0 (apart_world s x t) k.1 (name_itself k.0.name));
-        before_deadline = in_time t k.0 k.1 named;
-        released = released t k.0 k.1 named;
-      })
+      let is : p ≡ pick (world s x t) (next_key k.0) = q.2 ∙ ap (pick (world s x t)) k.3 in (
+        k.0,
+        k.1,
+        record {
+          name = ap (λ (r : Pick). r.name) is;
+          index = ap (λ (r : Pick). r.index) is ∙ ap index_of (named_is (world s x t) k.0.name k.0 (apart_world s x t) k.1 (name_itself k.0.name));
+          before_deadline = in_time t k.0 k.1 named;
+          released = released t k.0 k.1 named;
+        },
+      )
 
 pub none_misses : NoneMisses
 none_misses s x frame weights t m h d = none s x frame weights t m h d

@@ -1,17 +1,17 @@
 -- One incarnation over many slots.
-use Rattle.std.proofs.Common.{◌≡◌, ℕ, zero, suc, ◌+◌, ◌-◌, ◌*◌, ◌<◌, ◌≤◌, Bool, true, false, cond, List, [], ◌∷◌, Option, Some, None, arith, ap, refl, sym, ◌∙◌, subst, inl, inr, ⊎_elim}
+use Rattle.std.proofs.Common.{◌≡◌, ℕ, zero, suc, ◌<◌, ◌≤◌, true, cond, Some, arith, ap, refl, sym, ◌∙◌, subst, inl, inr}
 use Rattle.std.specs.Prelude.{◌⊎◌}
-use Rattle.std.proofs.lemmas.Bool.{true≢false, cases_lt, cases_eq, cases_Bool}
+use Rattle.std.proofs.lemmas.Bool.{cases_eq}
 use Rattle.pfair_weight.specs.Share.{Share}
 use Rattle.pfair_weight.specs.Window.{release_of}
 use Rattle.pfair_replica.specs.Among.{Among}
 use Rattle.pfair_replica.specs.Replica.{Replica, said}
-use Rattle.pfair_admission.specs.Member.{Member, theta, is_departing, busy_until}
+use Rattle.pfair_admission.specs.Member.{Member, theta, is_departing}
 use Rattle.pfair_admission.specs.Admission.{announcements}
 use Rattle.pfair_table.specs.Table.{Settings, world}
-use Rattle.pfair_in_time.specs.Descent.{Descends, IsSound, IsNew}
-use Rattle.pfair_in_time.specs.Laws.{AllHaveWeights, IsFreed}
-use Rattle.pfair_in_time.proofs.Worlds.{runs, IsHere, on, on_next, departing_rests, same_member, here, came_from, goes_to}
+use Rattle.pfair_in_time.specs.Descent.{Descends, IsSound}
+use Rattle.pfair_in_time.specs.Laws.{AllHaveWeights}
+use Rattle.pfair_in_time.proofs.Worlds.{runs, IsHere, on, on_next, same_member, here, came_from, goes_to}
 
 -- n in slot t, or after what is decided for slot t, is the incarnation that m is in slot u
 pub record IsLine (s : Settings) (x : Replica) (u t : ℕ) (m n : Member) : Type 0 where
@@ -28,8 +28,15 @@ pub record IsLine (s : Settings) (x : Replica) (u t : ℕ) (m n : Member) : Type
 
 line_itself : (s : Settings) (x : Replica) (t : ℕ) (m : Member) → IsLine s x t t m m
 line_itself s x t m = record {
-  name = refl; weight = refl; joined = refl; next = omega arith; ran = λ less _. absurd (omega arith); rises = λ i. omega arith;
-  stays = λ i _. refl; stays_run = λ i less _ _. absurd (omega arith); departing = λ d. d;
+  name = refl;
+  weight = refl;
+  joined = refl;
+  next = omega arith;
+  ran = λ less _. absurd (omega arith);
+  rises = λ i. omega arith;
+  stays = λ i _. refl;
+  stays_run = λ i less _ _. absurd (omega arith);
+  departing = λ d. d;
 }
 
 -- over one boundary
@@ -52,6 +59,7 @@ line_next s x t m n at d = record {
         let more = on_next s x t m at in
         let same = d.next in
         omega arith
+
     still : (i : ℕ) → (i < m.next) ⊎ (release_of m.weight i (theta m i) ≤ t) → (i < (on s x t m).next) ⊎ (release_of m.weight i (theta m i) < suc t)
     still i (inl ran) = inl (let more = on_next s x t m at in omega arith)
     still i (inr released) = inr (omega arith)
@@ -125,11 +133,18 @@ module _ (s : Settings) (x : Replica) (weights : (t : ℕ) → AllHaveWeights (a
       more t u m h le (inl (n, i, line)) =
           elim (goes_to s x weights t n i) [
             | inl p ↦ inl (p.0, p.1, joined_line t u m n p.0 line (line_next s x t n p.0 (here s x weights t n i) p.2) le (cases_eq u t) h i)
-            | inr p ↦ inr (p.0, record {
-              slot = suc t; since = omega arith;
-              line = joined_line t u m n p.0 line (line_next s x t n p.0 (here s x weights t n i) p.1.descends) le (cases_eq u t) h i;
-              sound = p.1.sound; freed_at = p.1.slot; freed = p.1.freed; by_then = p.1.by_now;
-            })
+            | inr p ↦ inr (
+              p.0,
+              record {
+                slot = suc t;
+                since = omega arith;
+                line = joined_line t u m n p.0 line (line_next s x t n p.0 (here s x weights t n i) p.1.descends) le (cases_eq u t) h i;
+                sound = p.1.sound;
+                freed_at = p.1.slot;
+                freed = p.1.freed;
+                by_then = p.1.by_now;
+              },
+            )
           ]
         where
           joined_line : (t u : ℕ) (m n l : Member) → IsLine s x u t m n → IsLine s x t (suc t) n l → u ≤ t → (u ≡ t) ⊎ (u ≡ t → ⊥) → Among (world s x u) m → Among (world s x t) n → IsLine s x u (suc t) m l

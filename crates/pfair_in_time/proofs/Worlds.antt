@@ -1,13 +1,12 @@
 -- The members from one slot to the next.
-use Rattle.std.proofs.Common.{◌≡◌, ℕ, zero, suc, ◌+◌, ◌-◌, ◌*◌, ◌%◌, ◌<◌, ◌≤◌, Bool, true, false, cond, List, [], ◌∷◌, ◌++◌, Option, Some, None, length, drop, arith, ap, refl, sym, ◌∙◌, subst, inl, inr, ⊎_elim, max}
-use Rattle.std.specs.Prelude.{◌⊎◌, not, ◌&&◌, ◌||◌, is_some, filter, map, nat_le, count_by, ◌==◌, if◌then◌else◌}
+use Rattle.std.proofs.Common.{◌≡◌, ℕ, zero, suc, ◌+◌, ◌-◌, ◌≤◌, Bool, true, false, cond, List, [], ◌∷◌, Some, length, drop, arith, ap, refl, sym, ◌∙◌, subst, inl, inr, ⊎_elim}
+use Rattle.std.specs.Prelude.{◌⊎◌, not, ◌||◌, is_some, filter, nat_le, count_by}
 use Rattle.std.specs.List.{list_any}
-use Rattle.std.proofs.lemmas.Bool.{true≢false, false≢true, cases_lt, cases_eq, cases_Bool, or_cases, and_parts, and_from, leb-true, le-leb, not-true, not_from_false}
+use Rattle.std.proofs.lemmas.Bool.{true≢false, false≢true, cases_Bool, or_cases, and_parts, not-true}
 use Rattle.std.proofs.lemmas.List.{length-append, drop_all, drop-append-le}
 use Rattle.std.proofs.lemmas.List.Sums.{sum_by_push}
 use Rattle.std.proofs.lemmas.Option.{same_Some}
 use Rattle.pfair_weight.specs.Name.{NamesApart}
-use Rattle.pfair_weight.specs.Window.{release_of}
 use Rattle.pfair_weight.proofs.NamesApart.{apart_nil, apart_map, apart_filter}
 use Rattle.pfair_entry.specs.Same.{name_eq}
 use Rattle.pfair_entry.specs.Exact.{name_exact, name_itself}
@@ -18,12 +17,12 @@ use Rattle.pfair_order.proofs.KeyLaws.{keys_total}
 use Rattle.pfair_order.proofs.InOrder.{by_rank_first}
 use Rattle.pfair_order.proofs.RankLemmas.{place_of}
 use Rattle.pfair_order.proofs.NamesApart.{once_from_names}
-use Rattle.pfair_replica.specs.Among.{Among, among_filter, filter_among, among_map, map_among, among_contains, contains_among}
+use Rattle.pfair_replica.specs.Among.{Among, among_filter, among_map, map_among, among_contains, contains_among}
 use Rattle.pfair_replica.specs.Replica.{Replica, said}
-use Rattle.pfair_admission.specs.Member.{Member, theta, is_departing, busy_until, eligible_from, next_key}
-use Rattle.pfair_admission.specs.Admission.{member_named, announcements, boundary}
+use Rattle.pfair_admission.specs.Member.{Member, is_departing, busy_until, eligible_from, next_key}
+use Rattle.pfair_admission.specs.Admission.{announcements}
 use Rattle.pfair_admission.proofs.NamesKept.{apart_boundary}
-use Rattle.pfair_table.specs.Table.{Settings, Table, machine, names_task, quanta, next_index, counted_one, counted, is_eligible, eligible, pick, chosen, table_of, history, world, table}
+use Rattle.pfair_table.specs.Table.{Settings, Table, machine, names_task, quanta, next_index, counted_one, counted, is_eligible, eligible, pick, chosen, history, world, table}
 use Rattle.pfair_table.specs.declared.pick.Pick.{Pick}
 use Rattle.pfair_in_time.specs.Descent.{Descends, IsSound, IsNew}
 use Rattle.pfair_in_time.specs.Laws.{AllSound, AllHaveWeights, IsFreed}
@@ -141,8 +140,8 @@ on_next s x t m here = let more = next_more s x t m here.by_now in let was = her
 pub departing_rests : (s : Settings) (x : Replica) (t : ℕ) (m : Member) → Among (world s x t) m → is_departing m ≡ true → runs s x t m ≡ false
 departing_rests s x t m h d = ⊎_elim
     (λ named. absurd (
-        let p = and_parts (not (is_departing m)) (nat_le (eligible_from m m.next) t) (runs_chosen s x t m h named).0 in
-        true≢false (sym d ∙ not-true (is_departing m) p.0)))
+    let p = and_parts (not (is_departing m)) (nat_le (eligible_from m m.next) t) (runs_chosen s x t m h named).0 in
+    true≢false (sym d ∙ not-true (is_departing m) p.0)))
     (λ e. e)
     (cases_Bool (runs s x t m))
 
@@ -155,6 +154,7 @@ module _ (s : Settings) (x : Replica) (weights : (t : ℕ) → AllHaveWeights (a
           let rests : cond {A = ℕ} (runs s x t m) 1 0 ≡ 0 = ap (λ b. cond {A = ℕ} b 1 0) (departing_rests s x t m h (ap is_some e)) in
           let more = on_next s x t m here in
           omega arith
+
       kept : (slot : ℕ) → m.freed_at ≡ Some slot → (m.next ≡ 1) ⊎ (busy_until m (m.next - 1) ≤ slot) → ((on s x t m).next ≡ 1) ⊎ (busy_until m ((on s x t m).next - 1) ≤ slot)
       kept slot e (inl first) = inl (still slot e ∙ first)
       kept slot e (inr busy) = inr (subst (λ n. busy_until m (n - 1) ≤ slot) (sym (still slot e)) busy)
@@ -181,12 +181,12 @@ module _ (s : Settings) (x : Replica) (weights : (t : ℕ) → AllHaveWeights (a
       let own = boundaries_keep_members.sound (machine s) (suc t) (counted (tables_before s x (suc t)) (world s x t)) (announcements (said x (suc t))) (apart_on t) sound (weights (suc t)) m h in
       ⊎_elim
       (λ (p : (l : Member) × Among (counted (tables_before s x (suc t)) (world s x t)) l × Descends (suc t) l m).
-          (let q = among_map (counted_one (tables_before s x (suc t))) (world s x t) p.0 p.1 in
-          let was = here t q.0 q.1 in
-          let d : Descends (suc t) (on s x t q.0) m = subst (λ l. Descends (suc t) l m) q.2 p.2 in
-          let joined = d.joined in
-          let before = was.by_now in
-          record { sound = own; by_now = omega arith; next = d.next ∙ next_of_same m q.0 d.name d.joined }))
+      (let q = among_map (counted_one (tables_before s x (suc t))) (world s x t) p.0 p.1 in
+      let was = here t q.0 q.1 in
+      let d : Descends (suc t) (on s x t q.0) m = subst (λ l. Descends (suc t) l m) q.2 p.2 in
+      let joined = d.joined in
+      let before = was.by_now in
+      record { sound = own; by_now = omega arith; next = d.next ∙ next_of_same m q.0 d.name d.joined }))
       (λ new. record { sound = own; by_now = (let j = new.joined in omega arith); next = new.next ∙ sym (next_new s x (suc t) m new.joined) })
       (boundaries_keep_members.from (machine s) (suc t) (counted (tables_before s x (suc t)) (world s x t)) (announcements (said x (suc t))) (apart_on t) sound (weights (suc t)) m h)
     where
@@ -198,7 +198,7 @@ module _ (s : Settings) (x : Replica) (weights : (t : ℕ) → AllHaveWeights (a
   pub came_from : (t : ℕ) (n : Member) → Among (world s x (suc t)) n → ((m : Member) × Among (world s x t) m × Descends (suc t) (on s x t m) n) ⊎ IsNew (suc t) n
   came_from t n h = ⊎_elim
       (λ (p : (l : Member) × Among (counted (tables_before s x (suc t)) (world s x t)) l × Descends (suc t) l n).
-          (let q = among_map (counted_one (tables_before s x (suc t))) (world s x t) p.0 p.1 in inl (q.0, q.1, subst (λ l. Descends (suc t) l n) q.2 p.2)))
+      (let q = among_map (counted_one (tables_before s x (suc t))) (world s x t) p.0 p.1 in inl (q.0, q.1, subst (λ l. Descends (suc t) l n) q.2 p.2)))
       (λ new. inr new)
       (boundaries_keep_members.from (machine s) (suc t) (counted (tables_before s x (suc t)) (world s x t)) (announcements (said x (suc t))) (apart_on t) (all_on_sound t (here t)) (weights (suc t)) n h)
 
