@@ -1,4 +1,4 @@
-mod Beginnings
+pub mod Beginnings
 mod Blocks
 mod BusyBounds
 mod Counting
@@ -6,8 +6,8 @@ mod Ends
 mod Fluids
 mod Halves
 mod Holes
-mod Lists
-mod Past
+pub mod Lists
+pub mod Past
 mod Reasons
 mod RunWindows
 mod Shares

@@ -3,7 +3,7 @@
 //!
 //! The theorem is the law `laws::runs_never_miss`, of a run as plain data (`specs/Run.antt`, whose
 //! record `IsRun` has the premises; `laws::some_run_is_full` says that they can be met). That the
-//! executive is such a run is not proved yet.
+//! executive is such a run is what the crate `pfair_in_time` shows.
 //!
 //! The proof counts. No counterexample is made smaller, and no subtask is displaced.
 //! - **The set** (`proofs/Reasons.antt`). Take the first subtask that misses, and go back slot by

@@ -1,0 +1,240 @@
+-- The executive as a run: who is which task, and with which offsets in the end.
+use Rattle.std.proofs.Common.{◌≡◌, ℕ, zero, suc, ◌<◌, ◌≤◌, Bool, true, false, cond, List, [], ◌∷◌, Option, Some, None, arith, ap, refl, sym, ◌∙◌, subst, inl, inr, ⊎_elim}
+use Rattle.std.specs.Prelude.{◌⊎◌, not, ◌&&◌, map, ◌↔◌}
+use Rattle.std.specs.List.{find, list_any}
+use Rattle.std.proofs.lemmas.Bool.{true≢false, false≢true, cases_lt, cases_eq, cases_Bool, or_left, or_right}
+use Rattle.std.proofs.lemmas.Option.{same_Some}
+use Rattle.pfair_weight.specs.Share.{Share}
+use Rattle.pfair_weight.specs.Name.{NamesApart}
+use Rattle.pfair_weight.specs.Window.{release_of}
+use Rattle.pfair_weight.proofs.NamesApart.{apart_head, apart_tail}
+use Rattle.pfair_entry.specs.Exact.{name_itself}
+use Rattle.pfair_entry.specs.Same.{name_eq}
+use Rattle.pfair_order.specs.declared.Key.{Key}
+use Rattle.pfair_order.proofs.NamesApart.{first_names}
+use Rattle.pfair_replica.specs.Among.{Among, among_map, map_among, among_all}
+use Rattle.pfair_replica.specs.Replica.{Replica, said}
+use Rattle.pfair_admission.specs.Member.{Member, theta, is_departing, next_key}
+use Rattle.pfair_admission.specs.Admission.{member_named, announcements}
+use Rattle.pfair_table.specs.Table.{Settings, eligible, world}
+use Rattle.pfair_optimal.specs.Run.{Task, Subtask, Run, is_among, NoneTwice, same_task, same_subtask, is_row, has_run}
+use Rattle.pfair_optimal.proofs.Lists.{among_here, among_more, among_cases}
+use Rattle.pfair_optimal.proofs.Past.{task_exact, subtask_exact, ran_at}
+use Rattle.pfair_in_time.specs.Laws.{AllHaveWeights}
+use Rattle.pfair_in_time.proofs.Boundaries.{named_is}
+use Rattle.pfair_in_time.proofs.Worlds.{runs, on, on_next, keys_at, keys_apart, apart_world, same_member, chosen_member, runs_chosen, chosen_runs, next_new, here, came_from}
+use Rattle.pfair_in_time.proofs.Lines.{IsLine, line_of}
+
+-- ---- among a list, by a test or not
+
+module _ {A : Type 0} (same : A → A → Bool) (exact : (a b : A) → (same a b ≡ true) ↔ (a ≡ b)) where
+  pub test_among : (xs : List A) (x : A) → Among xs x → is_among same xs x ≡ true
+  test_among [] x h = absurd h
+  test_among (y ∷ ys) x (inl e) = subst (λ (z : A). is_among same (y ∷ ys) z ≡ true) (sym e) (among_here same exact ys y)
+  test_among (y ∷ ys) x (inr h) = among_more same exact y ys x (test_among ys x h)
+
+  pub among_test : (xs : List A) (x : A) → is_among same xs x ≡ true → Among xs x
+  among_test [] x h = absurd (false≢true h)
+  among_test (y ∷ ys) x h = ⊎_elim (λ e. inl e) (λ r. inr (among_test ys x r)) (among_cases same exact y ys x h)
+
+pub found_some : {A : Type 0} (p : A → Bool) (xs : List A) (x : A) → find p xs ≡ Some x → Among xs x × (p x ≡ true)
+found_some p [] x e = absurd (cc)
+found_some p (y ∷ ys) x e = by (p y) refl e (λ r. found_some p ys x r)
+  where
+    by : (b : Bool) → p y ≡ b → cond b (Some y) (find p ys) ≡ Some x → (find p ys ≡ Some x → Among ys x × (p x ≡ true)) → Among (y ∷ ys) x × (p x ≡ true)
+    by true t e rest = let same = same_Some y x e in (inl (sym same), sym (ap p same) ∙ t)
+    by false t e rest = let r = rest e in (inr r.0, r.1)
+
+pub found_none : {A : Type 0} (p : A → Bool) (xs : List A) (x : A) → find p xs ≡ None → Among xs x → p x ≡ true → ⊥
+found_none p [] x e h t = h
+found_none p (y ∷ ys) x e h t = by (p y) refl e h (λ r i. found_none p ys x r i t)
+  where
+    by : (b : Bool) → p y ≡ b → cond b (Some y) (find p ys) ≡ None → Among (y ∷ ys) x → (find p ys ≡ None → Among ys x → ⊥) → ⊥
+    by true q e h rest = cc
+    by false q e (inl i) rest = true≢false (sym t ∙ ap p i ∙ q)
+    by false q e (inr i) rest = rest e i
+
+-- ---- tasks
+
+abbrev pub task_of : Member → Task
+task_of m = record { name = m.name; joined = m.joined }
+
+abbrev pub subtask_of : Member → Subtask
+subtask_of m = record { task = task_of m; index = m.next }
+
+abbrev pub is_task : Task → Member → Bool
+is_task a m = same_task (task_of m) a
+
+-- the task as it is in the last slot below n that has it
+abbrev pub or_else : Option Member → Option Member → Option Member
+or_else (Some m) rest = Some m
+or_else None rest = rest
+
+abbrev pub last_of : Settings → Replica → ℕ → Task → Option Member
+last_of s x zero a = None
+last_of s x (suc n) a = or_else (find (is_task a) (world s x n)) (last_of s x n a)
+
+abbrev pub weight_in : Option Member → Share
+weight_in None = record { cost = 1; period = 1 }
+weight_in (Some m) = m.weight
+
+abbrev pub offset_in : Task → Option Member → ℕ → ℕ
+offset_in a None i = a.joined
+offset_in a (Some m) i = theta m i
+
+abbrev pub row_in : Option Member → Subtask
+row_in None = record { task = record { name = []; joined = 0 }; index = 0 }
+row_in (Some m) = subtask_of m
+
+abbrev pub row_of : List Member → Key → Subtask
+row_of members k = row_in (member_named members k.name)
+
+abbrev pub is_running : Task → Member → Bool
+is_running a m = is_task a m && not (is_departing m)
+
+abbrev pub as_run : Settings → Replica → ℕ → Run
+as_run s x n = record {
+  processors = s.processors;
+  frame = s.frame;
+  weight = λ a. weight_in (last_of s x n a);
+  offset = λ a i. offset_in a (last_of s x n a) i;
+  table = λ t. map (row_of (world s x t)) (keys_at s x t);
+  members = λ t. map task_of (world s x t);
+  is_active = λ a t. list_any (is_running a) (world s x t);
+}
+
+-- ---- rows
+
+row_is : (s : Settings) (x : Replica) (t : ℕ) (m : Member) → Among (world s x t) m → row_of (world s x t) (next_key m) ≡ subtask_of m
+row_is s x t m h = ap row_in (named_is (world s x t) m.name m (apart_world s x t) h (name_itself m.name))
+
+pub row_member : (s : Settings) (x : Replica) (n t : ℕ) (z : Subtask) → is_row (as_run s x n) t z ≡ true → (m : Member) × Among (world s x t) m × (runs s x t m ≡ true) × (z ≡ subtask_of m)
+row_member s x n t z row =
+    let p = among_map (row_of (world s x t)) (keys_at s x t) z (among_test same_subtask subtask_exact (map (row_of (world s x t)) (keys_at s x t)) z row) in
+    let q = chosen_member s x t p.0 p.1 in
+    (q.0, q.1, chosen_runs s x t q.0 (subst (λ k. Among (keys_at s x t) k) q.3 p.1), p.2 ∙ ap (row_of (world s x t)) q.3 ∙ row_is s x t q.0 q.1)
+
+pub member_row : (s : Settings) (x : Replica) (n t : ℕ) (m : Member) → Among (world s x t) m → runs s x t m ≡ true → is_row (as_run s x n) t (subtask_of m) ≡ true
+member_row s x n t m h named =
+    test_among same_subtask subtask_exact (map (row_of (world s x t)) (keys_at s x t)) (subtask_of m)
+    (subst (λ z. Among (map (row_of (world s x t)) (keys_at s x t)) z) (row_is s x t m h) (map_among (row_of (world s x t)) (keys_at s x t) (next_key m) (runs_chosen s x t m h named).1))
+
+pub rows_apart : (s : Settings) (x : Replica) (n t : ℕ) → NoneTwice same_subtask ((as_run s x n).table t)
+rows_apart s x n t = go (keys_at s x t) (λ k h. h) (first_names s.processors (eligible t (world s x t)) (keys_apart s x t))
+  where
+    named : (k : Key) → Among (keys_at s x t) k → (row_of (world s x t) k).task.name ≡ k.name
+    named k h = (let q = chosen_member s x t k h in ap (λ (z : Subtask). z.task.name) (ap (row_of (world s x t)) q.3 ∙ row_is s x t q.0 q.1) ∙ ap (λ (l : Key). l.name) (sym q.3))
+
+    go : (ks : List Key) → ((k : Key) → Among ks k → Among (keys_at s x t) k) → NamesApart (λ (k : Key). k.name) ks → NoneTwice same_subtask (map (row_of (world s x t)) ks)
+    go [] within apart = tt
+    go (k ∷ ks) within apart = (
+      elim (cases_Bool (is_among same_subtask (map (row_of (world s x t)) ks) (row_of (world s x t) k))) [
+        | inr e ↦ e
+        | inl twice ↦ absurd (
+            let p = among_map (row_of (world s x t)) ks (row_of (world s x t) k) (among_test same_subtask subtask_exact (map (row_of (world s x t)) ks) (row_of (world s x t) k) twice) in
+            let names : k.name ≡ p.0.name = sym (named k (within k (inl refl))) ∙ ap (λ (z : Subtask). z.task.name) p.2 ∙ named p.0 (within p.0 (inr p.1)) in
+            let other = among_all (λ (y : Key). name_eq k.name y.name ≡ false) ks (apart_head (λ (k : Key). k.name) k ks apart) p.0 p.1 in
+            true≢false (sym (subst (λ (n : List ℕ). name_eq k.name n ≡ true) names (name_itself k.name)) ∙ other))
+      ],
+      go ks (λ l h. within l (inr h)) (apart_tail (λ (k : Key). k.name) k ks apart),
+    )
+
+module _ (s : Settings) (x : Replica) (weights : (t : ℕ) → AllHaveWeights (announcements (said x t))) where
+  -- ---- in the end
+
+  last_line : (n u : ℕ) (m : Member) → Among (world s x u) m → u < n → (l : Member) × (v : ℕ) × (last_of s x n (task_of m) ≡ Some l) × Among (world s x v) l × (u ≤ v) × IsLine s x u v m l
+  last_line zero u m h less = absurd (omega arith)
+  last_line (suc n) u m h less = by (find (is_task (task_of m)) (world s x n)) refl (λ before. last_line n u m h before)
+    where
+      Last : Option Member → Type 0
+      Last o = (l : Member) × (v : ℕ) × (or_else o (last_of s x n (task_of m)) ≡ Some l) × Among (world s x v) l × (u ≤ v) × IsLine s x u v m l
+
+      by : (o : Option Member) → find (is_task (task_of m)) (world s x n) ≡ o → (u < n → Last None) → Last o
+      by (Some l) e rest =
+          let f = found_some (is_task (task_of m)) (world s x n) l e in
+          let same = (task_exact (task_of l) (task_of m)).0 f.1 in
+          (l, n, refl, f.0, omega arith, line_of s x weights n u m l h f.0 (omega arith) (ap (λ (a : Task). a.name) same) (ap (λ (a : Task). a.joined) same))
+      by None e rest =
+          elim (cases_eq u n) [
+            | inl now ↦ absurd (found_none (is_task (task_of m)) (world s x n) m e (subst (λ k. Among (world s x k) m) now h) ((task_exact (task_of m) (task_of m)).1 refl))
+            | inr other ↦ rest (omega (arith, other))
+          ]
+
+  -- the weight, and the offsets that don't change any more, are those that stand in the end
+  pub record IsFinal (n u : ℕ) (m : Member) : Type 0 where
+    pub weight : (as_run s x n).weight (task_of m) ≡ m.weight
+    pub rises : (i : ℕ) → theta m i ≤ (as_run s x n).offset (task_of m) i
+    pub stays : (i : ℕ) → (i < m.next) ⊎ (release_of m.weight i (theta m i) ≤ u) → (as_run s x n).offset (task_of m) i ≡ theta m i
+    pub stays_run : (i : ℕ) → runs s x u m ≡ true → i ≤ m.next → (as_run s x n).offset (task_of m) i ≡ theta m i
+
+  pub final : (n u : ℕ) (m : Member) → Among (world s x u) m → u < n → IsFinal n u m
+  final n u m h less =
+      let p = last_line n u m h less in
+      by p.0 p.1 p.2 p.3 p.4 p.5
+    where
+      by : (l : Member) (v : ℕ) → last_of s x n (task_of m) ≡ Some l → Among (world s x v) l → u ≤ v → IsLine s x u v m l → IsFinal n u m
+      by l v e there le line = record {
+        weight = ap weight_in e ∙ line.weight;
+        rises = λ i. (let at = offset i in let up = line.rises i in omega arith);
+        stays = λ i frozen. offset i ∙ line.stays i frozen;
+        stays_run = λ i named low. offset i ∙ (elim (cases_eq u v) [
+          | inl now ↦ (let same = same_member s x u l m (subst (λ k. Among (world s x k) l) (sym now) there) h line.name in ap (λ (k : Member). theta k i) same)
+          | inr other ↦ line.stays_run i (omega (arith, other)) named low
+        ]);
+      }
+        where
+          offset : (i : ℕ) → (as_run s x n).offset (task_of m) i ≡ theta l i
+          offset i = ap (λ (o : Option Member). offset_in (task_of m) o i) e
+
+  -- ---- what ran
+
+  pub next_counted : (t : ℕ) (m : Member) → Among (world s x t) m → 1 ≤ m.next
+  next_counted t m h = let e = (here s x weights t m h).next in omega arith
+
+  -- all subtasks before the next one ran
+  pub all_before_ran : (n t : ℕ) (m : Member) (i : ℕ) → Among (world s x t) m → 1 ≤ i → i < m.next → has_run (as_run s x n) (record { task = task_of m; index = i }) t ≡ true
+  all_before_ran n zero m i h first less = absurd (
+      let at = here s x weights 0 m h in
+      let joined = at.by_now in
+      let next = at.next in
+      let new = next_new s x 0 m (omega arith) in
+      omega arith)
+  all_before_ran n (suc t) m i h first less =
+      elim (came_from s x weights t m h) [
+        | inr new ↦ absurd (let one = new.next in omega arith)
+        | inl p ↦ earlier p.0 p.1 p.2.name p.2.joined p.2.next (λ l. all_before_ran n t p.0 i p.1 first l)
+      ]
+    where
+      earlier : (l : Member) → Among (world s x t) l → m.name ≡ l.name → m.joined ≡ l.joined → m.next ≡ (on s x t l).next → (i < l.next → has_run (as_run s x n) (record { task = task_of l; index = i }) t ≡ true)
+          → has_run (as_run s x n) (record { task = task_of m; index = i }) (suc t) ≡ true
+      earlier l there name joined next rest =
+          let task_is : task_of l ≡ task_of m = λ j. record { name = sym name j; joined = sym joined j } in
+          subst (λ a. has_run (as_run s x n) (record { task = a; index = i }) (suc t) ≡ true) task_is
+          (elim (cases_lt i l.next) [
+            | inl before ↦ or_left (has_run (as_run s x n) (record { task = task_of l; index = i }) t) (is_row (as_run s x n) t (record { task = task_of l; index = i })) (rest before)
+            | inr last ↦ or_right (has_run (as_run s x n) (record { task = task_of l; index = i }) t) (is_row (as_run s x n) t (record { task = task_of l; index = i })) (at_last last)
+          ])
+        where
+          named : l.next ≤ i → (runs s x t l ≡ true) × (l.next ≡ i)
+          named last =
+              let more = on_next s x t l (here s x weights t l there) in
+              elim (cases_Bool (runs s x t l)) [
+                | inl e ↦ (e, (let c : cond {A = ℕ} (runs s x t l) 1 0 ≡ 1 = ap (λ b. cond {A = ℕ} b 1 0) e in omega arith))
+                | inr e ↦ absurd (let c : cond {A = ℕ} (runs s x t l) 1 0 ≡ 0 = ap (λ b. cond {A = ℕ} b 1 0) e in omega arith)
+              ]
+
+          at_last : l.next ≤ i → is_row (as_run s x n) t (record { task = task_of l; index = i }) ≡ true
+          at_last last = (let p = named last in subst (λ k. is_row (as_run s x n) t (record { task = task_of l; index = k }) ≡ true) p.1 (member_row s x n t l there p.0))
+
+  -- and none from the next one on
+  pub none_after_ran : (n t : ℕ) (m : Member) (i : ℕ) → Among (world s x t) m → m.next ≤ i → has_run (as_run s x n) (record { task = task_of m; index = i }) t ≡ true → ⊥
+  none_after_ran n t m i h le ran =
+      let p = ran_at (as_run s x n) (record { task = task_of m; index = i }) t ran in
+      let q = row_member s x n p.0 (record { task = task_of m; index = i }) p.2 in
+      let less = p.1 in
+      let name = ap (λ (z : Subtask). z.task.name) q.3 in
+      let joined = ap (λ (z : Subtask). z.task.joined) q.3 in
+      let index : i ≡ q.0.next = ap (λ (z : Subtask). z.index) q.3 in
+      let line = line_of s x weights t p.0 q.0 m q.1 h (omega arith) name joined in
+      let up = line.ran p.1 q.2 in
+      omega arith

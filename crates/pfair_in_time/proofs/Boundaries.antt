@@ -1,0 +1,264 @@
+-- What boundaries make of members.
+use Rattle.std.proofs.Common.{◌≡◌, ℕ, ◌+◌, ◌-◌, ◌*◌, ◌%◌, ◌<◌, ◌≤◌, Bool, true, false, cond, List, [], ◌∷◌, ◌++◌, Option, Some, None, arith, ap, refl, sym, ◌∙◌, subst, inl, inr, ⊎_elim, max}
+use Rattle.std.specs.Prelude.{◌⊎◌, not, nat_lt, ◌==◌, ◌||◌, is_some, if◌then◌else◌}
+use Rattle.std.proofs.lemmas.Bool.{true≢false, false≢true, cases_lt, cases_Bool, or_parts, ltb-false, leb-true, eqb-true, not_from_false}
+use Rattle.std.proofs.lemmas.Option.{same_Some}
+use Rattle.pfair_weight.specs.Name.{NamesApart}
+use Rattle.pfair_weight.specs.Share.{Share, IsWeight, units_of}
+use Rattle.pfair_weight.specs.Window.{release_of}
+use Rattle.pfair_weight.proofs.NamesApart.{apart_head, apart_tail}
+use Rattle.pfair_entry.specs.Same.{name_eq}
+use Rattle.pfair_entry.specs.Exact.{name_exact}
+use Rattle.pfair_entry.specs.declared.announcement.Announcement.{Announcement}
+use Rattle.pfair_entry.specs.declared.announcement.Announcement.TheVariants.{Arrive, Depart, Late}
+use Rattle.pfair_replica.specs.Among.{Among, among_left, among_append, among_filter, filter_among, among_map, map_among, among_all}
+use Rattle.pfair_admission.specs.declared.decision.Decision.{Decision}
+use Rattle.pfair_admission.specs.declared.decision.Decision.TheVariants.{Admitted, Departing, Delayed, Refused}
+use Rattle.pfair_admission.specs.declared.refusal.Refusal.TheVariants.{NameTaken, PeriodOutsideFrame, NoRoom, AlreadyDeparting, AlreadyReleased}
+use Rattle.pfair_admission.specs.Member.{Member, theta, is_departing, busy_until, freeing_slot}
+use Rattle.pfair_admission.specs.Admission.{Machine, is_named, member_named, claimed, arrival, departure, late_release, decision, newcomer, with_freeing, with_delay, change, effect, is_freed, present, decided, all_decided, boundary}
+use Rattle.pfair_admission.proofs.NamesKept.{apart_effect, apart_present}
+use Rattle.pfair_in_time.specs.Descent.{Descends, IsSound, IsNew, HasWeight}
+use Rattle.pfair_in_time.specs.Laws.{AllSound, AllHaveWeights, IsFreed, BoundariesKeepMembers}
+use Rattle.pfair_in_time.proofs.Offsets.{release_rises, delayed_rises, delayed_before}
+
+-- ---- one member
+
+pub descends_itself : (t : ℕ) (m : Member) → Descends t m m
+descends_itself t m = record { name = refl; weight = refl; joined = refl; next = refl; rises = λ i. omega arith; stays = λ i _. refl; departing = λ _. refl }
+
+pub descends_on : (t : ℕ) (l m n : Member) → Descends t l m → Descends t m n → Descends t l n
+descends_on t l m n a b = record {
+  name = b.name ∙ a.name;
+  weight = b.weight ∙ a.weight;
+  joined = b.joined ∙ a.joined;
+  next = b.next ∙ a.next;
+  rises = λ i. (let one = a.rises i in let other = b.rises i in omega arith);
+  stays = λ i h. b.stays i (still i (a.stays i h) h) ∙ a.stays i h;
+  departing = λ d. b.departing (ap is_departing (a.departing d) ∙ d) ∙ a.departing d;
+}
+  where
+    still : (i : ℕ) → theta m i ≡ theta l i → (i < l.next) ⊎ (release_of l.weight i (theta l i) < t) → (i < m.next) ⊎ (release_of m.weight i (theta m i) < t)
+    still i same (inl ran) = inl (let e = a.next in omega arith)
+    still i same (inr before) = inr (subst (λ (w : Share). release_of w i (theta m i) < t) (sym a.weight) (let e = same in omega arith))
+
+-- the departure of one that isn't departing
+freeing_descends : (t : ℕ) (m : Member) → is_departing m ≡ false → (slot : ℕ) → Descends t m (with_freeing slot m)
+freeing_descends t m active slot = record { name = refl; weight = refl; joined = refl; next = refl; rises = λ i. omega arith; stays = λ i _. refl; departing = λ d. absurd (true≢false (sym d ∙ active)) }
+
+freeing_sound : (frame t : ℕ) (m : Member) (slot : ℕ) → slot ≡ freeing_slot m t → IsSound frame m → IsSound frame (with_freeing slot m)
+freeing_sound frame t m slot is s = record { weight = s.weight; period = s.period; claim = λ f e. holds f (same_Some slot f e) }
+  where
+    holds : (f : ℕ) → slot ≡ f → (m.next ≡ 1) ⊎ (busy_until m (m.next - 1) ≤ f)
+    holds f e = by (m.next == 1) refl
+      where
+        by : (b : Bool) → (m.next == 1) ≡ b → (m.next ≡ 1) ⊎ (busy_until m (m.next - 1) ≤ f)
+        by true first = inl (eqb-true m.next 1 first)
+        by false ran =
+            let slot_is : freeing_slot m t ≡ max t (busy_until m (m.next - 1)) = ap (λ b. if b then t else max t (busy_until m (m.next - 1))) ran in
+            inr (omega arith)
+
+-- the late release of one that isn't departing, of a subtask that is to come
+delay_descends : (t index by : ℕ) (m : Member) → 0 < m.weight.cost → is_departing m ≡ false → t ≤ release_of m.weight index (theta m index) → m.next ≤ index → Descends t m (with_delay index by m)
+delay_descends t index by m some active released to_come = record {
+  name = refl;
+  weight = refl;
+  joined = refl;
+  next = refl;
+  rises = delayed_rises index by m;
+  stays = λ i h. delayed_before index by m i (below i h);
+  departing = λ d. absurd (true≢false (sym d ∙ active));
+}
+  where
+    below : (i : ℕ) → (i < m.next) ⊎ (release_of m.weight i (theta m i) < t) → i < index
+    below i (inl ran) = omega arith
+    below i (inr before) =
+        elim (cases_lt i index) [
+          | inl less ↦ less
+          | inr after ↦ absurd (let rise = release_rises m index i some after in omega arith)
+        ]
+
+delay_sound : (frame index by : ℕ) (m : Member) → is_departing m ≡ false → IsSound frame m → IsSound frame (with_delay index by m)
+delay_sound frame index by m active s = record { weight = s.weight; period = s.period; claim = λ f e. absurd (true≢false (sym (ap is_some e) ∙ active)) }
+
+-- ---- the member of a name
+
+pub named_is : (ms : List Member) (name : List ℕ) (m : Member) → NamesApart (λ (m : Member). m.name) ms → Among ms m → is_named name m ≡ true → member_named ms name ≡ Some m
+named_is [] name m apart h e = absurd h
+named_is (x ∷ ms) name m apart h e = by (is_named name x) refl (λ i. named_is ms name m (apart_tail (λ (m : Member). m.name) x ms apart) i e) h
+  where
+    later : Among ms m → is_named name x ≡ true → ⊥
+    later i t =
+        let other = among_all (λ (y : Member). name_eq x.name y.name ≡ false) ms (apart_head (λ (m : Member). m.name) x ms apart) m i in
+        true≢false (sym (ap (λ n. name_eq n m.name) (sym (name_exact name x.name t)) ∙ e) ∙ other)
+
+    by : (b : Bool) → is_named name x ≡ b → (Among ms m → member_named ms name ≡ Some m) → Among (x ∷ ms) m → cond b (Some x) (member_named ms name) ≡ Some m
+    by true t rest (inl i) = ap Some (sym i)
+    by true t rest (inr i) = absurd (later i t)
+    by false t rest (inl i) = absurd (true≢false (sym e ∙ ap (is_named name) i ∙ t))
+    by false t rest (inr i) = rest i
+
+-- ---- decisions that change a member
+
+departs : (t : ℕ) (o : Option Member) (slot : ℕ) → departure t o ≡ Departing slot → (m : Member) × (o ≡ Some m) × (is_departing m ≡ false) × (slot ≡ freeing_slot m t)
+departs t None slot e = absurd (cc)
+departs t (Some m) slot e = by (is_departing m) refl e
+  where
+    by : (b : Bool) → is_departing m ≡ b → (if b then Refused AlreadyDeparting else Departing (freeing_slot m t)) ≡ Departing slot → (n : Member) × (Some m ≡ Some n) × (is_departing n ≡ false) × (slot ≡ freeing_slot n t)
+    by true d e = absurd (cc)
+    by false d e = (m, refl, d, cc)
+
+is_late : (t : ℕ) (o : Option Member) (index : ℕ) → late_release t o index ≡ Delayed → (m : Member) × (o ≡ Some m) × (is_departing m ≡ false) × (t ≤ release_of m.weight index (theta m index)) × (m.next ≤ index)
+is_late t None index e = absurd (cc)
+is_late t (Some m) index e = by (is_departing m) (nat_lt (release_of m.weight index (theta m index)) t || nat_lt index m.next) refl refl e
+  where
+    by : (b c : Bool) → is_departing m ≡ b → (nat_lt (release_of m.weight index (theta m index)) t || nat_lt index m.next) ≡ c → (if b then Refused AlreadyDeparting else if c then Refused AlreadyReleased else Delayed) ≡ Delayed
+        → (n : Member) × (Some m ≡ Some n) × (is_departing n ≡ false) × (t ≤ release_of n.weight index (theta n index)) × (n.next ≤ index)
+    by true c d r e = absurd (cc)
+    by false true d r e = absurd (cc)
+    by false false d r e =
+        let p = or_parts (nat_lt (release_of m.weight index (theta m index)) t) (nat_lt index m.next) r in
+        (m, refl, d, ltb-false (release_of m.weight index (theta m index)) t p.0, ltb-false index m.next p.1)
+
+fits_frame : (machine : Machine) (ms : List Member) (name : List ℕ) (w : Share) → arrival machine ms name w ≡ Admitted → machine.frame % w.period ≡ 0
+fits_frame machine ms name w e = eqb-true (machine.frame % w.period) 0
+    (by (is_some (member_named ms name)) (machine.frame % w.period == 0) (nat_lt (machine.processors * machine.frame) (claimed machine.frame ms + units_of w machine.frame)) e)
+  where
+    by : (b c d : Bool) → (if b then Refused NameTaken else if not c then Refused PeriodOutsideFrame else if d then Refused NoRoom else Admitted) ≡ Admitted → c ≡ true
+    by true c d e = absurd (cc)
+    by false true d e = refl
+    by false false d e = absurd (cc)
+
+-- ---- one decision
+
+-- what becomes of all members
+record Step (machine : Machine) (t : ℕ) (old new : List Member) : Type 0 where
+  sound : AllSound machine.frame new
+  from : (n : Member) → Among new n → ((m : Member) × Among old m × Descends t m n) ⊎ IsNew t n
+  to : (m : Member) → Among old m → (n : Member) × Among new n × Descends t m n
+
+nothing_changes : (machine : Machine) (t : ℕ) (ms : List Member) → AllSound machine.frame ms → Step machine t ms ms
+nothing_changes machine t ms sound = record { sound = sound; from = λ n h. inl (n, h, descends_itself t n); to = λ m h. (m, h, descends_itself t m) }
+
+one_changes : (machine : Machine) (t : ℕ) (ms : List Member) (name : List ℕ) (f : Member → Member) → AllSound machine.frame ms
+    → ((m : Member) → Among ms m → is_named name m ≡ true → Descends t m (f m) × IsSound machine.frame (f m)) → Step machine t ms (change name f ms)
+one_changes machine t ms name f sound changes = record {
+  sound = λ n h. (let p = among_map (λ m. if is_named name m then f m else m) ms n h in subst (IsSound machine.frame) (sym p.2) (whole p.0 p.1).1);
+  from = λ n h. (let p = among_map (λ m. if is_named name m then f m else m) ms n h in inl (p.0, p.1, subst (Descends t p.0) (sym p.2) (whole p.0 p.1).0));
+  to = λ m h. ((if is_named name m then f m else m), map_among (λ m. if is_named name m then f m else m) ms m h, (whole m h).0);
+}
+  where
+    whole : (m : Member) → Among ms m → Descends t m (if is_named name m then f m else m) × IsSound machine.frame (if is_named name m then f m else m)
+    whole m h = by (is_named name m) refl
+      where
+        by : (b : Bool) → is_named name m ≡ b → Descends t m (if b then f m else m) × IsSound machine.frame (if b then f m else m)
+        by true e = changes m h e
+        by false e = (descends_itself t m, sound m h)
+
+joins : (machine : Machine) (t : ℕ) (ms : List Member) (name : List ℕ) (w : Share) (early : Bool) → AllSound machine.frame ms → IsWeight w.cost w.period → machine.frame % w.period ≡ 0
+    → Step machine t ms (ms ++ newcomer t name w early ∷ [])
+joins machine t ms name w early sound weight period = record {
+  sound = λ n h. ⊎_elim (λ l. sound n l) (λ r. ⊎_elim (λ e. subst (IsSound machine.frame) (sym e) new) (λ none. absurd none) r) (among_append ms (newcomer t name w early ∷ []) n h);
+  from = λ n h. ⊎_elim (λ l. inl (n, l, descends_itself t n)) (λ r. inr (⊎_elim (λ e. subst (IsNew t) (sym e) (record { joined = refl; next = refl })) (λ none. absurd none) r)) (among_append ms (newcomer t name w early ∷ []) n h);
+  to = λ m h. (m, among_left ms (newcomer t name w early ∷ []) m h, descends_itself t m);
+}
+  where
+    new : IsSound machine.frame (newcomer t name w early)
+    new = record { weight = weight; period = period; claim = λ slot e. absurd (cc) }
+
+arrive_step : (machine : Machine) (t : ℕ) (ms : List Member) (name : List ℕ) (w : Share) (early : Bool) (d : Decision) → arrival machine ms name w ≡ d → AllSound machine.frame ms → IsWeight w.cost w.period
+    → Step machine t ms (effect t ms (Arrive name w early) d)
+arrive_step machine t ms name w early Admitted is sound weight = joins machine t ms name w early sound weight (fits_frame machine ms name w is)
+arrive_step machine t ms name w early (Departing slot) is sound weight = nothing_changes machine t ms sound
+arrive_step machine t ms name w early Delayed is sound weight = nothing_changes machine t ms sound
+arrive_step machine t ms name w early (Refused r) is sound weight = nothing_changes machine t ms sound
+
+depart_step : (machine : Machine) (t : ℕ) (ms : List Member) (name : List ℕ) (d : Decision) → departure t (member_named ms name) ≡ d → NamesApart (λ (m : Member). m.name) ms → AllSound machine.frame ms → Step machine t ms (effect t ms (Depart name) d)
+depart_step machine t ms name (Departing slot) is apart sound = one_changes machine t ms name (with_freeing slot) sound (λ m h e.
+    (let p = departs t (member_named ms name) slot is in
+    let same : p.0 ≡ m = same_Some p.0 m (sym p.1 ∙ named_is ms name m apart h e) in
+    (freeing_descends t m (sym (ap is_departing same) ∙ p.2) slot, freeing_sound machine.frame t m slot (p.3 ∙ ap (λ (k : Member). freeing_slot k t) same) (sound m h))))
+depart_step machine t ms name Admitted is apart sound = nothing_changes machine t ms sound
+depart_step machine t ms name Delayed is apart sound = nothing_changes machine t ms sound
+depart_step machine t ms name (Refused r) is apart sound = nothing_changes machine t ms sound
+
+late_step : (machine : Machine) (t : ℕ) (ms : List Member) (name : List ℕ) (index by : ℕ) (d : Decision) → late_release t (member_named ms name) index ≡ d → NamesApart (λ (m : Member). m.name) ms → AllSound machine.frame ms
+    → Step machine t ms (effect t ms (Late name index by) d)
+late_step machine t ms name index by Delayed is apart sound = one_changes machine t ms name (with_delay index by) sound (λ m h e.
+    (let p = is_late t (member_named ms name) index is in
+    let same : p.0 ≡ m = same_Some p.0 m (sym p.1 ∙ named_is ms name m apart h e) in
+    let active = sym (ap is_departing same) ∙ p.2 in
+    (delay_descends t index by m ((sound m h).weight.some_cost) active (subst (λ (k : Member). t ≤ release_of k.weight index (theta k index)) same p.3) (subst (λ (k : Member). k.next ≤ index) same p.4), delay_sound machine.frame index by m active (sound m h))))
+late_step machine t ms name index by Admitted is apart sound = nothing_changes machine t ms sound
+late_step machine t ms name index by (Departing slot) is apart sound = nothing_changes machine t ms sound
+late_step machine t ms name index by (Refused r) is apart sound = nothing_changes machine t ms sound
+
+effect_step : (machine : Machine) (t : ℕ) (ms : List Member) (a : Announcement) → NamesApart (λ (m : Member). m.name) ms → AllSound machine.frame ms → HasWeight a → Step machine t ms (effect t ms a (decision machine t ms a))
+effect_step machine t ms (Arrive name w early) apart sound weight = arrive_step machine t ms name w early (arrival machine ms name w) refl sound weight
+effect_step machine t ms (Depart name) apart sound weight = depart_step machine t ms name (departure t (member_named ms name)) refl apart sound
+effect_step machine t ms (Late name index by) apart sound weight = late_step machine t ms name index by (late_release t (member_named ms name) index) refl apart sound
+
+-- ---- all decisions
+
+-- the same, where some may be freed
+record Steps (machine : Machine) (t : ℕ) (old new : List Member) : Type 0 where
+  sound : AllSound machine.frame new
+  from : (n : Member) → Among new n → ((m : Member) × Among old m × Descends t m n) ⊎ IsNew t n
+  to : (m : Member) → Among old m → ((n : Member) × Among new n × Descends t m n) ⊎ ((n : Member) × IsFreed t machine.frame m n)
+
+freed_slot : (t : ℕ) (o : Option ℕ) → is_freed t o ≡ true → (slot : ℕ) × (o ≡ Some slot) × (slot ≤ t)
+freed_slot t None e = absurd (false≢true e)
+freed_slot t (Some slot) e = (slot, refl, leb-true slot t e)
+
+present_steps : (machine : Machine) (t : ℕ) (old new : List Member) → Step machine t old new → Steps machine t old (present t new)
+present_steps machine t old new s = record {
+  sound = λ n h. s.sound n (among_filter (λ (m : Member). not (is_freed t m.freed_at)) new n h).0;
+  from = λ n h. s.from n (among_filter (λ (m : Member). not (is_freed t m.freed_at)) new n h).0;
+  to = λ m h. (let p = s.to m h in kept m p.0 p.1 p.2 (cases_Bool (is_freed t p.0.freed_at)));
+}
+  where
+    kept : (m n : Member) → Among new n → Descends t m n → (is_freed t n.freed_at ≡ true) ⊎ (is_freed t n.freed_at ≡ false)
+        → ((n : Member) × Among (present t new) n × Descends t m n) ⊎ ((n : Member) × IsFreed t machine.frame m n)
+    kept m n h d (inl e) = let p = freed_slot t n.freed_at e in inr (n, record { descends = d; sound = s.sound n h; slot = p.0; freed = p.1; by_now = p.2 })
+    kept m n h d (inr e) = inl (n, filter_among (λ (m : Member). not (is_freed t m.freed_at)) new n h (not_from_false (is_freed t n.freed_at) e), d)
+
+new_descends : (t : ℕ) (m n : Member) → IsNew t m → Descends t m n → IsNew t n
+new_descends t m n new d = record { joined = d.joined ∙ new.joined; next = d.next ∙ new.next }
+
+steps_on : (machine : Machine) (t : ℕ) (a b c : List Member) → Steps machine t a b → Steps machine t b c → Steps machine t a c
+steps_on machine t a b c one other = record {
+  sound = other.sound;
+  from = λ n h. ⊎_elim
+      (λ (p : (m : Member) × Among b m × Descends t m n). ⊎_elim
+      (λ (q : (l : Member) × Among a l × Descends t l p.0). inl (q.0, q.1, descends_on t q.0 p.0 n q.2 p.2))
+      (λ new. inr (new_descends t p.0 n new p.2))
+      (one.from p.0 p.1))
+      (λ new. inr new)
+      (other.from n h);
+  to = λ m h. ⊎_elim
+      (λ (p : (n : Member) × Among b n × Descends t m n). ⊎_elim
+      (λ (q : (l : Member) × Among c l × Descends t p.0 l). inl (q.0, q.1, descends_on t m p.0 q.0 p.2 q.2))
+      (λ (q : (l : Member) × IsFreed t machine.frame p.0 l). inr (q.0, record { descends = descends_on t m p.0 q.0 p.2 q.1.descends; sound = q.1.sound; slot = q.1.slot; freed = q.1.freed; by_now = q.1.by_now }))
+      (other.to p.0 p.1))
+      (λ gone. inr gone)
+      (one.to m h);
+}
+
+all_steps : (machine : Machine) (t : ℕ) (ms : List Member) (announced : List Announcement) → NamesApart (λ (m : Member). m.name) ms → AllSound machine.frame ms → AllHaveWeights announced → Steps machine t ms (all_decided machine t ms announced)
+all_steps machine t ms [] apart sound weights = record { sound = sound; from = λ n h. inl (n, h, descends_itself t n); to = λ m h. inl (m, h, descends_itself t m) }
+all_steps machine t ms (a ∷ more) apart sound weights =
+    let one = present_steps machine t ms (effect t ms a (decision machine t ms a)) (effect_step machine t ms a apart sound (weights a (inl refl))) in
+    let still = apart_present t (effect t ms a (decision machine t ms a)) (apart_effect machine t ms a apart) in
+    steps_on machine t ms (decided machine t ms a) (all_decided machine t (decided machine t ms a) more) one (all_steps machine t (decided machine t ms a) more still one.sound (λ b h. weights b (inr h)))
+
+boundary_steps : (machine : Machine) (t : ℕ) (ms : List Member) (announced : List Announcement) → NamesApart (λ (m : Member). m.name) ms → AllSound machine.frame ms → AllHaveWeights announced → Steps machine t ms (boundary machine t ms announced)
+boundary_steps machine t ms announced apart sound weights =
+    let one = present_steps machine t ms ms (nothing_changes machine t ms sound) in
+    steps_on machine t ms (present t ms) (boundary machine t ms announced) one (all_steps machine t (present t ms) announced (apart_present t ms apart) one.sound weights)
+
+pub boundaries_keep_members : BoundariesKeepMembers
+boundaries_keep_members = record {
+  sound = λ machine t ms announced apart sound weights. (boundary_steps machine t ms announced apart sound weights).sound;
+  from = λ machine t ms announced apart sound weights. (boundary_steps machine t ms announced apart sound weights).from;
+  to = λ machine t ms announced apart sound weights. (boundary_steps machine t ms announced apart sound weights).to;
+}

@@ -1,0 +1,99 @@
+-- How long a claim is held, and who goes before whom.
+use Rattle.std.proofs.Common.{◌≡◌, ℕ, suc, ◌+◌, ◌-◌, ◌*◌, ◌<◌, ◌≤◌, Bool, true, false, List, length, arith, ap, inl, inr, get_or}
+use Rattle.std.specs.Prelude.{not, ◌||◌, if◌then◌else◌}
+use Rattle.std.specs.List.{Contains}
+use Rattle.std.proofs.lemmas.Bool.{cases_lt, cases_eq, lt-ltb, le-ltb}
+use Rattle.std.proofs.lemmas.Option.{slice_get_within, slice_get-get_or}
+use Rattle.pfair_weight.specs.Share.{Share, IsWeight}
+use Rattle.pfair_weight.specs.Window.{release_of, deadline_of, b_bit_of, group_deadline_of, starts_job_of}
+use Rattle.pfair_weight.specs.WindowFacts.{deadline_rises_strictly, b_bit_at_most_one}
+use Rattle.pfair_weight.specs.GroupFacts.{group_deadline_light, group_deadline_whole, group_deadline_heavy, group_deadline_not_before, group_deadline_rises}
+use Rattle.pfair_order.specs.declared.Key.{Key}
+use Rattle.pfair_order.specs.Order.{pd2_cmp, GoesBefore}
+use Rattle.pfair_order.specs.Rank.{rank, first_by_rank, EachOnce}
+use Rattle.pfair_order.proofs.KeyLaws.{keys_total}
+use Rattle.pfair_order.proofs.OrderLemmas.{goes_before}
+use Rattle.pfair_order.proofs.RankLemmas.{place_of, at_place, less_by_rank, first_within}
+use Rattle.pfair_order.proofs.InOrder.{by_rank_first}
+use Rattle.pfair_admission.specs.Member.{Member, theta, busy_until, eligible_from, is_delayed_at}
+use Rattle.pfair_optimal.specs.Fluid.{busy_bound_of}
+use Rattle.pfair_in_time.proofs.Offsets.{theta_rises}
+
+-- a later offset puts the group deadline of a heavy weight off
+group_moves : (w : Share) (i from to : ℕ) → IsWeight w.cost w.period → from ≤ to → group_deadline_of w i from ≤ group_deadline_of w i to
+group_moves w i from to h le =
+    elim (cases_lt (2 * w.cost) w.period) [
+      | inl light ↦ (let a = group_deadline_light w i from light in omega arith)
+      | inr heavy ↦ elim (cases_lt w.cost w.period) [
+        | inl below ↦ (let a = group_deadline_heavy w i from heavy below in let b = group_deadline_heavy w i to heavy below in omega arith)
+        | inr whole ↦
+            let most = h.at_most_one in
+            let same : w.cost ≡ w.period = omega arith in
+            let a = group_deadline_whole w i from h same in
+            let b = group_deadline_whole w i to h same in
+            omega arith
+      ]
+    ]
+
+-- the claim of a later subtask is held past the busy bound of an earlier one
+pub bound_le_claim : (m : Member) (i j : ℕ) → IsWeight m.weight.cost m.weight.period → i ≤ j → busy_bound_of m.weight i (theta m i) ≤ busy_until m j
+bound_le_claim m i j h le =
+    let moved = theta_rises m i j le in
+    let small = b_bit_at_most_one m.weight i in
+    elim (cases_lt (2 * m.weight.cost) m.weight.period) [
+      | inl light ↦
+          let none = group_deadline_light m.weight i (theta m i) light in
+          let is : busy_until m j ≡ deadline_of m.weight j (theta m j) + b_bit_of m.weight j = ap (λ b. if b then deadline_of m.weight j (theta m j) + b_bit_of m.weight j else group_deadline_of m.weight j (theta m j) + 1) (lt-ltb (2 * m.weight.cost) m.weight.period light) in
+          elim (cases_eq i j) [
+            | inl e ↦ (let same : deadline_of m.weight i (theta m i) + b_bit_of m.weight i ≡ deadline_of m.weight j (theta m j) + b_bit_of m.weight j = ap (λ (k : ℕ). deadline_of m.weight k (theta m k) + b_bit_of m.weight k) e in omega arith)
+            | inr other ↦ (let up = deadline_rises_strictly m.weight i j 0 h (omega (arith, other)) in omega arith)
+          ]
+      | inr heavy ↦
+          let is : busy_until m j ≡ group_deadline_of m.weight j (theta m j) + 1 = ap (λ b. if b then deadline_of m.weight j (theta m j) + b_bit_of m.weight j else group_deadline_of m.weight j (theta m j) + 1) (le-ltb (2 * m.weight.cost) m.weight.period heavy) in
+          let up = group_deadline_rises m.weight i j (theta m i) h le in
+          let on = group_moves m.weight j (theta m i) (theta m j) h moved in
+          let late = group_deadline_not_before m.weight i (theta m i) h heavy in
+          omega arith
+    ]
+
+-- no subtask may run later than from its release on
+pub eligible_by_release : (m : Member) (i : ℕ) → eligible_from m i ≤ release_of m.weight i (theta m i)
+eligible_by_release m i = by (not m.early || (starts_job_of m.weight i || is_delayed_at m i))
+  where
+    by : (b : Bool) → (if b then release_of m.weight i (theta m i) else m.joined) ≤ release_of m.weight i (theta m i)
+    by true = omega arith
+    by false = omega arith
+
+-- where a key isn't among the first, these are as many as there may be, and each goes before it
+pub record IsPast (m : ℕ) (first : List Key) (k : Key) : Type 0 where
+  pub full : length first ≡ m
+  pub before : (g : Key) → Contains first g → GoesBefore g k
+
+pub past_first : (m : ℕ) (keys : List Key) (k : Key) → EachOnce pd2_cmp keys → Contains keys k → (Contains (first_by_rank pd2_cmp m keys) k → ⊥) → IsPast m (first_by_rank pd2_cmp m keys) k
+past_first m keys k once inside out =
+    let first = by_rank_first keys_total m keys once in
+    let past : m ≤ rank pd2_cmp keys k = elim (cases_lt (rank pd2_cmp keys k) m) [
+      | inl below ↦ absurd (out (at_place (first_by_rank pd2_cmp m keys) (rank pd2_cmp keys k) k (first.complete k inside below)))
+      | inr after ↦ after
+    ] in
+    record {
+      full = (let most = first_within keys_total m keys (first_by_rank pd2_cmp m keys) first in elim (cases_eq m 0) [
+        | inl none ↦ omega arith
+        | inr some ↦ (let enough = reaches (m - 1) (omega (arith, some)) (omega (arith, some, past)) in omega arith)
+      ]);
+      before = λ g h. (let at = place_of (first_by_rank pd2_cmp m keys) g h in let own = first.at_rank at.0 g at.1 in let same = own.1 in let low = own.2 in goes_before g k (less_by_rank keys_total keys g k (omega arith)));
+    }
+  where
+    -- there is a key of each lower rank
+    reaches : (i : ℕ) → i < m → i ≤ rank pd2_cmp keys k → i < length (first_by_rank pd2_cmp m keys)
+    reaches i low to =
+        let all = first_by_rank pd2_cmp (suc (rank pd2_cmp keys k)) keys in
+        let more = by_rank_first keys_total (suc (rank pd2_cmp keys k)) keys once in
+        let long = slice_get_within (first_by_rank pd2_cmp (suc (rank pd2_cmp keys k)) keys) (rank pd2_cmp keys k) k (more.complete k inside (omega arith)) in
+        let at = slice_get-get_or (first_by_rank pd2_cmp (suc (rank pd2_cmp keys k)) keys) i k (omega arith) in
+        let own = more.at_rank i (get_or (first_by_rank pd2_cmp (suc (rank pd2_cmp keys k)) keys) i k) at in
+        let first = by_rank_first keys_total m keys once in
+        let there = first.complete (get_or (first_by_rank pd2_cmp (suc (rank pd2_cmp keys k)) keys) i k) own.0 (let r = own.1 in omega arith) in
+        let within = slice_get_within (first_by_rank pd2_cmp m keys) (rank pd2_cmp keys (get_or (first_by_rank pd2_cmp (suc (rank pd2_cmp keys k)) keys) i k)) (get_or (first_by_rank pd2_cmp (suc (rank pd2_cmp keys k)) keys) i k) there in
+        let r = own.1 in
+        omega arith

@@ -1,0 +1,305 @@
+-- The executive keeps the premises of a run.
+use Rattle.std.proofs.Common.{◌≡◌, ℕ, zero, suc, ◌+◌, ◌-◌, ◌*◌, ◌%◌, ◌<◌, ◌≤◌, true, false, List, [], ◌∷◌, Option, Some, None, length, arith, ap, refl, sym, ◌∙◌, subst, inl, inr}
+use Rattle.std.specs.Prelude.{◌⊎◌, not, map, filter, nat_le, sum_by}
+use Rattle.std.specs.List.{find, Contains}
+use Rattle.std.proofs.lemmas.Bool.{true≢false, cases_lt, cases_eq, cases_order, cases_Bool, and_parts, and_from, not-true, not_from_false, le-leb}
+use Rattle.std.proofs.lemmas.List.{length-map}
+use Rattle.std.proofs.lemmas.List.Sums.{sum_by-cons}
+use Rattle.pfair_weight.specs.Share.{Share, IsWeight, units_of}
+use Rattle.pfair_weight.specs.Window.{release_of, deadline_of, b_bit_of, group_deadline_of}
+use Rattle.pfair_weight.specs.WindowFacts.{b_bit_at_most_one}
+use Rattle.pfair_order.specs.declared.Key.{Key}
+use Rattle.pfair_order.specs.Order.{GoesBefore, earlier_deadline, greater_b_bit, later_group, smaller_name, smaller_group}
+use Rattle.pfair_order.proofs.NamesApart.{once_from_names}
+use Rattle.pfair_replica.specs.Among.{Among, among_contains, contains_among, filter_among, map_among}
+use Rattle.pfair_replica.specs.Replica.{Replica, said}
+use Rattle.pfair_admission.specs.Member.{Member, theta, is_departing, eligible_from, next_key}
+use Rattle.pfair_admission.specs.Admission.{announcements}
+use Rattle.pfair_table.specs.Table.{Settings, eligible, is_eligible, world}
+use Rattle.pfair_optimal.specs.Fluid.{busy_bound_of}
+use Rattle.pfair_optimal.specs.Run.{Task, Subtask, Run, is_among, same_task, release, deadline, b_bit, group_deadline, busy_bound, is_row, has_run, IsNext, GoesFirst}
+use Rattle.pfair_optimal.specs.Beginning.{IsRunBelow}
+use Rattle.pfair_optimal.proofs.Past.{task_exact, ran_by, ran_more}
+use Rattle.pfair_in_time.specs.Descent.{IsSound}
+use Rattle.pfair_in_time.specs.Laws.{AllHaveWeights}
+use Rattle.pfair_in_time.proofs.Offsets.{theta_rises}
+use Rattle.pfair_in_time.proofs.Worlds.{any_among, any_from_among, runs, keys_at, keys_apart, runs_chosen, chosen_runs, here}
+use Rattle.pfair_in_time.proofs.Lines.{line_of, back_to, on_to, IsGone}
+use Rattle.pfair_in_time.proofs.AsRun.{test_among, task_of, subtask_of, is_task, last_of, or_else, weight_in, offset_in, is_running, row_of, as_run, row_member, member_row, rows_apart, IsFinal, final, next_counted, all_before_ran, none_after_ran, found_some}
+use Rattle.pfair_in_time.proofs.Room.{room_world}
+use Rattle.pfair_in_time.proofs.Claims.{bound_le_claim, eligible_by_release, IsPast, past_first}
+
+-- ---- who goes before whom
+
+-- a subtask's place in the order is that of the key
+record KeyIs (r : Run) (z : Subtask) (k : Key) : Type 0 where
+  due : deadline r z ≡ k.d
+  bit : b_bit r z ≡ k.b
+  group : group_deadline r z ≡ k.group
+
+goes_first : (r : Run) (w z : Subtask) (k l : Key) → KeyIs r w k → KeyIs r z l → GoesBefore k l → GoesFirst r w z
+goes_first r w z k l a b (earlier_deadline lower) = (let p = a.due in let q = b.due in inl (omega arith))
+goes_first r w z k l a b (greater_b_bit d lower) = (let p = a.bit in let q = b.bit in inr (a.due ∙ d ∙ sym b.due, inl (omega arith)))
+goes_first r w z k l a b (later_group d one other lower) = (let p = a.group in let q = b.group in inr (a.due ∙ d ∙ sym b.due, inr (a.bit ∙ one ∙ sym other ∙ sym b.bit, inr (omega arith))))
+goes_first r w z k l a b (smaller_name d bits groups lower) =
+    inr (
+      a.due ∙ d ∙ sym b.due,
+      inr (
+        a.bit ∙ bits ∙ sym b.bit,
+        (elim (cases_eq k.b 1) [
+          | inl one ↦ (let p = a.group in let q = b.group in let same = groups one in inr (omega arith))
+          | inr other ↦ (let p = a.bit in let q = b.bit in let small = b_bit_at_most_one (r.weight w.task) w.index in inl (omega (arith, other)))
+        ]),
+      ),
+    )
+goes_first r w z k l a b (smaller_group d bits other name lower) =
+    (let p = a.bit in let q = b.bit in let small = b_bit_at_most_one (r.weight w.task) w.index in inr (a.due ∙ d ∙ sym b.due, inr (a.bit ∙ bits ∙ sym b.bit, inl (omega (arith, other)))))
+
+-- ---- sums
+
+sum_same : (f : Task → ℕ) (g : Member → ℕ) (ms : List Member) → ((m : Member) → Among ms m → f (task_of m) ≡ g m) → sum_by f (map task_of ms) ≡ sum_by g ms
+sum_same f g [] h = refl
+sum_same f g (m ∷ ms) h =
+    let one = sum_by-cons f (task_of m) (map task_of ms) in
+    let other = sum_by-cons g m ms in
+    let first = h m (inl refl) in
+    let rest = sum_same f g ms (λ n i. h n (inr i)) in
+    omega arith
+
+module _ (s : Settings) (x : Replica) (frame : 0 < s.frame) (weights : (t : ℕ) → AllHaveWeights (announcements (said x t))) (n : ℕ) where
+  -- the task in the end is a member of some slot
+  last_member : (k : ℕ) (a : Task) (m : Member) → last_of s x k a ≡ Some m → IsSound s.frame m × (task_of m ≡ a)
+  last_member zero a m e = absurd (cc)
+  last_member (suc k) a m e = by (find (is_task a) (world s x k)) refl e (λ f. last_member k a m f)
+    where
+      by : (o : Option Member) → find (is_task a) (world s x k) ≡ o → or_else o (last_of s x k a) ≡ Some m → (last_of s x k a ≡ Some m → IsSound s.frame m × (task_of m ≡ a)) → IsSound s.frame m × (task_of m ≡ a)
+      by (Some l) f is rest =
+          let same : Some l ≡ Some m = is in
+          let p = found_some (is_task a) (world s x k) m (f ∙ same) in
+          ((here s x weights k m p.0).sound, (task_exact (task_of m) a).0 p.1)
+      by None f is rest = rest is
+
+  -- what is wanted of weights and offsets, by whether the task was ever a member
+  record IsFit (a : Task) (o : Option Member) : Type 0 where
+    weight : IsWeight (weight_in o).cost (weight_in o).period
+    period : s.frame % (weight_in o).period ≡ 0
+    starts : (i : ℕ) → a.joined ≤ offset_in a o i
+    rises : (i : ℕ) → offset_in a o i ≤ offset_in a o (i + 1)
+
+  fit : (a : Task) → IsFit a (last_of s x n a)
+  fit a = by (last_of s x n a) refl
+    where
+      by : (o : Option Member) → last_of s x n a ≡ o → IsFit a o
+      by None e = record { weight = record { some_cost = omega arith; at_most_one = omega arith; period_in_range = omega arith }; period = omega arith; starts = λ i. omega arith; rises = λ i. omega arith }
+      by (Some m) e =
+          let p = last_member n a m e in
+          let joined : m.joined ≡ a.joined = ap (λ (b : Task). b.joined) p.1 in
+          record { weight = p.0.weight; period = p.0.period; starts = λ i. omega arith; rises = λ i. theta_rises m i (i + 1) (omega arith) }
+
+  -- a member's next subtask, where its offset doesn't change any more
+  key_is : (t : ℕ) (m : Member) → IsFinal s x weights n t m → (as_run s x n).offset (task_of m) m.next ≡ theta m m.next → KeyIs (as_run s x n) (subtask_of m) (next_key m)
+  key_is t m f offset = record {
+    due = ap (λ (w : Share). deadline_of w m.next ((as_run s x n).offset (task_of m) m.next)) f.weight ∙ ap (λ (o : ℕ). deadline_of m.weight m.next o) offset;
+    bit = ap (λ (w : Share). b_bit_of w m.next) f.weight;
+    group = ap (λ (w : Share). group_deadline_of w m.next ((as_run s x n).offset (task_of m) m.next)) f.weight ∙ ap (λ (o : ℕ). group_deadline_of m.weight m.next o) offset;
+  }
+
+  -- who is active
+  active_member : (a : Task) (t : ℕ) → (as_run s x n).is_active a t ≡ true → (m : Member) × Among (world s x t) m × (task_of m ≡ a) × (is_departing m ≡ false)
+  active_member a t h =
+      let p = any_among (is_running a) (world s x t) h in
+      let q = and_parts (is_task a p.0) (not (is_departing p.0)) p.2 in
+      (p.0, p.1, (task_exact (task_of p.0) a).0 q.0, not-true (is_departing p.0) q.1)
+
+  pub member_active : (a : Task) (t : ℕ) (m : Member) → Among (world s x t) m → task_of m ≡ a → is_departing m ≡ false → (as_run s x n).is_active a t ≡ true
+  member_active a t m h e d = any_from_among (is_running a) (world s x t) m h (and_from (is_task a m) (not (is_departing m)) ((task_exact (task_of m) a).1 e) (not_from_false (is_departing m) d))
+
+  member_among : (a : Task) (t : ℕ) (m : Member) → Among (world s x t) m → task_of m ≡ a → is_among same_task (map task_of (world s x t)) a ≡ true
+  member_among a t m h e = test_among same_task task_exact (map task_of (world s x t)) a (subst (λ b. Among (map task_of (world s x t)) b) e (map_among task_of (world s x t) m h))
+
+  task_is : (l m : Member) → l.name ≡ m.name → l.joined ≡ m.joined → task_of l ≡ task_of m
+  task_is l m name joined = λ i. record { name = name i; joined = joined i }
+
+  -- ---- rows
+
+  not_later : (u t : ℕ) (z : Subtask) → u < t → is_row (as_run s x n) u z ≡ true → is_row (as_run s x n) t z ≡ true → ⊥
+  not_later u t z less one other =
+      let p = row_member s x n u z one in
+      let q = row_member s x n t z other in
+      let same : subtask_of q.0 ≡ subtask_of p.0 = sym q.3 ∙ p.3 in
+      let line = line_of s x weights t u p.0 q.0 p.1 q.1 (omega arith) (ap (λ (y : Subtask). y.task.name) same) (ap (λ (y : Subtask). y.task.joined) same) in
+      let up = line.ran less p.2 in
+      let index : q.0.next ≡ p.0.next = ap (λ (y : Subtask). y.index) same in
+      omega arith
+
+  rows_once : (u t : ℕ) (z : Subtask) → is_row (as_run s x n) u z ≡ true → is_row (as_run s x n) t z ≡ true → u ≡ t
+  rows_once u t z one other =
+      elim (cases_order u t) [
+        | inl e ↦ e
+        | inr (inl less) ↦ absurd (not_later u t z less one other)
+        | inr (inr more) ↦ absurd (not_later t u z more other one)
+      ]
+
+  -- the subtask that a member is at is its next
+  pub at_next : (t : ℕ) (m : Member) (i : ℕ) → Among (world s x t) m → m.next ≡ i → IsNext (as_run s x n) (record { task = task_of m; index = i }) t
+  at_next t m i h e = record {
+    counted = (let c = next_counted s x weights t m h in omega arith);
+    follows = elim (cases_eq i 1) [
+      | inl first ↦ inl first
+      | inr other ↦ inr (all_before_ran s x weights n t m (i - 1) h (let c = next_counted s x weights t m h in omega (arith, other)) (let c = next_counted s x weights t m h in omega arith))
+    ];
+  }
+
+  rows_follow : (t : ℕ) (z : Subtask) → is_row (as_run s x n) t z ≡ true → IsNext (as_run s x n) z t
+  rows_follow t z row = (let p = row_member s x n t z row in subst (λ y. IsNext (as_run s x n) y t) (sym p.3) (at_next t p.0 p.0.next p.1 refl))
+
+  rows_active : (t : ℕ) (z : Subtask) → is_row (as_run s x n) t z ≡ true → (as_run s x n).is_active z.task t ≡ true
+  rows_active t z row =
+      let p = row_member s x n t z row in
+      let q = and_parts (not (is_departing p.0)) (nat_le (eligible_from p.0 p.0.next) t) (runs_chosen s x t p.0 p.1 p.2).0 in
+      member_active z.task t p.0 p.1 (ap (λ (y : Subtask). y.task) (sym p.3)) (not-true (is_departing p.0) q.0)
+
+  rows_joined : (t : ℕ) (z : Subtask) → is_row (as_run s x n) t z ≡ true → z.task.joined ≤ t
+  rows_joined t z row =
+      let p = row_member s x n t z row in
+      let now = (here s x weights t p.0 p.1).by_now in
+      let same : z.task.joined ≡ p.0.joined = ap (λ (y : Subtask). y.task.joined) p.3 in
+      omega arith
+
+  -- ---- members
+
+  active_since : (a : Task) (u t : ℕ) → a.joined ≤ u → u ≤ t → (as_run s x n).is_active a t ≡ true → (as_run s x n).is_active a u ≡ true
+  active_since a u t joined le h =
+      let p = active_member a t h in
+      let same : p.0.joined ≡ a.joined = ap (λ (b : Task). b.joined) p.2 in
+      let q = back_to s x weights t u p.0 p.1 (omega arith) le in
+      member_active a u q.0 q.1 (task_is q.0 p.0 (sym q.2.name) (sym q.2.joined) ∙ p.2)
+      (elim (cases_Bool (is_departing q.0)) [
+        | inr e ↦ e
+        | inl d ↦ absurd (true≢false (sym (q.2.departing d) ∙ p.3))
+      ])
+
+  active_members : (a : Task) (t : ℕ) → (as_run s x n).is_active a t ≡ true → is_among same_task ((as_run s x n).members t) a ≡ true
+  active_members a t h = (let p = active_member a t h in member_among a t p.0 p.1 p.2)
+
+  held : (z : Subtask) (u t : ℕ) → u < n → is_row (as_run s x n) u z ≡ true → z.task.joined ≤ t → t < busy_bound (as_run s x n) z → is_among same_task ((as_run s x n).members t) z.task ≡ true
+  held z u t less row joined before =
+      let p = row_member s x n u z row in
+      by p.0 p.1 p.2 p.3 (cases_lt u t)
+    where
+      by : (m : Member) → Among (world s x u) m → runs s x u m ≡ true → z ≡ subtask_of m → (u < t) ⊎ (t ≤ u) → is_among same_task ((as_run s x n).members t) z.task ≡ true
+      by m h named e (inr earlier) =
+          let since : z.task.joined ≡ m.joined = ap (λ (y : Subtask). y.task.joined) e in
+          let q = back_to s x weights u t m h (omega arith) earlier in
+          member_among z.task t q.0 q.1 (task_is q.0 m (sym q.2.name) (sym q.2.joined) ∙ ap (λ (y : Subtask). y.task) (sym e))
+      by m h named e (inl later) =
+          elim (on_to s x weights t u m h (omega arith)) [
+            | inl q ↦ member_among z.task t q.0 q.1 (task_is q.0 m q.2.name q.2.joined ∙ ap (λ (y : Subtask). y.task) (sym e))
+            | inr q ↦ absurd (gone q.0 q.1)
+          ]
+        where
+          gone : (l : Member) → IsGone s x weights u t m l → ⊥
+          gone l g =
+              let f = final s x weights n u m h less in
+              let up = g.line.ran g.since named in
+              let bound : busy_bound (as_run s x n) z ≡ busy_bound_of l.weight m.next (theta l m.next) =
+              ap (busy_bound (as_run s x n)) e
+              ∙ ap (λ (w : Share). busy_bound_of w m.next ((as_run s x n).offset (task_of m) m.next)) (f.weight ∙ sym g.line.weight)
+              ∙ ap (λ (o : ℕ). busy_bound_of l.weight m.next o) (f.stays_run m.next named (omega arith) ∙ sym (g.line.stays_run m.next g.since named (omega arith))) in
+              let claim = bound_le_claim l m.next (l.next - 1) g.sound.weight (omega arith) in
+              let by_then = g.by_then in
+              let counted = next_counted s x weights u m h in
+              elim (g.sound.claim g.freed_at g.freed) [
+                | inl first ↦ omega arith
+                | inr busy ↦ omega arith
+              ]
+
+  room : (t : ℕ) → t < n → sum_by (λ a. units_of ((as_run s x n).weight a) s.frame) ((as_run s x n).members t) ≤ s.processors * s.frame
+  room t less =
+      let same = sum_same (λ a. units_of ((as_run s x n).weight a) s.frame) (λ (m : Member). units_of m.weight s.frame) (world s x t) (λ m h. ap (λ (w : Share). units_of w s.frame) (final s x weights n t m h less).weight) in
+      let all = room_world s x t in
+      omega arith
+
+  -- ---- the order
+
+  chosen_first : (t : ℕ) (z : Subtask) → t < n → IsNext (as_run s x n) z t → (as_run s x n).is_active z.task t ≡ true → release (as_run s x n) z ≤ t → has_run (as_run s x n) z (suc t) ≡ false
+      → (length ((as_run s x n).table t) ≡ s.processors) × ((w : Subtask) → is_row (as_run s x n) t w ≡ true → GoesFirst (as_run s x n) w z)
+  chosen_first t z less next active opened not_run =
+      let p = active_member z.task t active in
+      by p.0 p.1 p.2 p.3
+    where
+      by : (m : Member) → Among (world s x t) m → task_of m ≡ z.task → is_departing m ≡ false → (length ((as_run s x n).table t) ≡ s.processors) × ((w : Subtask) → is_row (as_run s x n) t w ≡ true → GoesFirst (as_run s x n) w z)
+      by m h e d = (length-map (keys_at s x t) (row_of (world s x t)) ∙ past.full, λ w row. first w (row_member s x n t w row))
+        where
+          z_at : (i : ℕ) → z.index ≡ i → z ≡ record { task = task_of m; index = i }
+          z_at i same = λ j. record { task = sym e j; index = same j }
+
+          -- the member is at this very subtask
+          index : z.index ≡ m.next
+          index =
+              let counted = next.counted in
+              elim (cases_order z.index m.next) [
+                | inl same ↦ same
+                | inr (inl lower) ↦ absurd (
+                    let ran = all_before_ran s x weights n t m z.index h counted lower in
+                    let now = ran_more (as_run s x n) (record { task = task_of m; index = z.index }) t (suc t) (omega arith) ran in
+                    true≢false (sym (subst (λ y. has_run (as_run s x n) y (suc t) ≡ true) (sym (z_at z.index refl)) now) ∙ not_run))
+                | inr (inr higher) ↦ absurd (elim next.follows [
+                  | inl one ↦ (let c = next_counted s x weights t m h in omega arith)
+                  | inr ran ↦ none_after_ran s x weights n t m (z.index - 1) h (omega arith) (subst (λ a. has_run (as_run s x n) (record { task = a; index = z.index - 1 }) t ≡ true) (sym e) ran)
+                ])
+              ]
+
+          is_it : z ≡ subtask_of m
+          is_it = z_at m.next index
+
+          f : IsFinal s x weights n t m
+          f = final s x weights n t m h less
+
+          released : release_of m.weight m.next (theta m m.next) ≤ t
+          released =
+              let same : release (as_run s x n) z ≡ release_of m.weight m.next ((as_run s x n).offset (task_of m) m.next) = ap (release (as_run s x n)) is_it ∙ ap (λ (w : Share). release_of w m.next ((as_run s x n).offset (task_of m) m.next)) f.weight in
+              let up = f.rises m.next in
+              omega arith
+
+          may_run : is_eligible t m ≡ true
+          may_run = and_from (not (is_departing m)) (nat_le (eligible_from m m.next) t) (not_from_false (is_departing m) d) (le-leb (eligible_from m m.next) t (let by_then = eligible_by_release m m.next in let r = released in omega arith))
+
+          among : Contains (eligible t (world s x t)) (next_key m)
+          among = among_contains (eligible t (world s x t)) (next_key m) (map_among next_key (filter (is_eligible t) (world s x t)) m (filter_among (is_eligible t) (world s x t) m h may_run))
+
+          out : Contains (keys_at s x t) (next_key m) → ⊥
+          out c =
+              let row = member_row s x n t m h (chosen_runs s x t m (contains_among (keys_at s x t) (next_key m) c)) in
+              let ran = ran_by (as_run s x n) (subtask_of m) t (suc t) (omega arith) row in
+              true≢false (sym (subst (λ y. has_run (as_run s x n) y (suc t) ≡ true) (sym is_it) ran) ∙ not_run)
+
+          past : IsPast s.processors (keys_at s x t) (next_key m)
+          past = past_first s.processors (eligible t (world s x t)) (next_key m) (once_from_names (eligible t (world s x t)) (keys_apart s x t)) among out
+
+          first : (w : Subtask) → (l : Member) × Among (world s x t) l × (runs s x t l ≡ true) × (w ≡ subtask_of l) → GoesFirst (as_run s x n) w z
+          first w (l, i, named, same) =
+              let g = final s x weights n t l i less in
+              let key = (runs_chosen s x t l i named).1 in
+              subst (λ y. GoesFirst (as_run s x n) y z) (sym same) (subst (λ y. GoesFirst (as_run s x n) (subtask_of l) y) (sym is_it)
+              (goes_first (as_run s x n) (subtask_of l) (subtask_of m) (next_key l) (next_key m) (key_is t l g (g.stays_run l.next named (omega arith))) (key_is t m f (f.stays m.next (inr released)))
+              (past.before (next_key l) (among_contains (keys_at s x t) (next_key l) key))))
+
+  pub is_run : IsRunBelow (as_run s x n) n
+  is_run = record {
+    frame = frame;
+    weights = λ a. (fit a).weight;
+    periods = λ a. (fit a).period;
+    offsets_start = λ a i first. (fit a).starts i;
+    offsets_rise = λ a i first. (fit a).rises i;
+    rows_apart = λ t less. rows_apart s x n t;
+    rows_once = λ u t z a b one other. rows_once u t z one other;
+    rows_follow = λ t z less row. rows_follow t z row;
+    rows_active = λ t z less row. rows_active t z row;
+    rows_joined = λ t z less row. rows_joined t z row;
+    active_since = λ a u t joined le less h. active_since a u t joined le h;
+    active_members = λ a t less h. active_members a t h;
+    held = λ z u t a b row joined before. held z u t a row joined before;
+    room = room;
+    chosen = chosen_first;
+  }

@@ -1,0 +1,120 @@
+-- No admitted task misses.
+use Rattle.std.proofs.Common.{◌≡◌, ℕ, suc, ◌-◌, ◌<◌, ◌≤◌, true, false, cond, Option, Some, None, arith, ap, refl, sym, ◌∙◌, subst, inl, inr}
+use Rattle.std.specs.Prelude.{not, ◌||◌, nat_le, if◌then◌else◌}
+use Rattle.std.specs.List.{find}
+use Rattle.std.proofs.lemmas.Bool.{cases_lt, cases_eq, cases_Bool, and_parts, leb-true}
+use Rattle.pfair_weight.specs.Window.{release_of, deadline_of, starts_job_of}
+use Rattle.pfair_entry.specs.Exact.{name_itself}
+use Rattle.pfair_replica.specs.Among.{Among, among_map}
+use Rattle.pfair_replica.specs.Replica.{Replica}
+use Rattle.pfair_admission.specs.Member.{Member, theta, is_departing, is_delayed_at, eligible_from, next_key}
+use Rattle.pfair_table.specs.declared.pick.Pick.{Pick}
+use Rattle.pfair_table.specs.Table.{Settings, pick, index_of, world, table}
+use Rattle.pfair_optimal.specs.Run.{Task, Subtask, deadline, is_row, has_run, IsNext}
+use Rattle.pfair_optimal.proofs.Beginnings.{beginning_none_misses, beginning_in_time}
+use Rattle.pfair_optimal.proofs.Past.{task_exact, ran_at, ran_by, ran_more}
+use Rattle.pfair_in_time.specs.InTime.{SaysWeights, index_after, NoneMisses, IsInTime, EachRunsInTime}
+use Rattle.pfair_in_time.proofs.Boundaries.{named_is}
+use Rattle.pfair_in_time.proofs.Worlds.{apart_world, same_member, runs, keys_at, chosen_member, chosen_runs, runs_chosen, on_next, here}
+use Rattle.pfair_in_time.proofs.AsRun.{task_of, subtask_of, is_task, last_of, or_else, offset_in, weight_in, as_run, row_member, member_row, found_some, found_none, next_counted, all_before_ran, none_after_ran}
+use Rattle.pfair_in_time.proofs.Executive.{is_run, member_active}
+
+-- up to the end of slot t a member is the last one of its task
+last_now : (s : Settings) (x : Replica) (t : ℕ) (m : Member) → Among (world s x t) m → last_of s x (suc t) (task_of m) ≡ Some m
+last_now s x t m h = by (find (is_task (task_of m)) (world s x t)) refl
+  where
+    by : (o : Option Member) → find (is_task (task_of m)) (world s x t) ≡ o → or_else o (last_of s x t (task_of m)) ≡ Some m
+    by (Some l) e =
+        let f = found_some (is_task (task_of m)) (world s x t) l e in
+        ap Some (same_member s x t l m f.0 h (ap (λ (a : Task). a.name) ((task_exact (task_of l) (task_of m)).0 f.1)))
+    by None e = absurd (found_none (is_task (task_of m)) (world s x t) m e h ((task_exact (task_of m) (task_of m)).1 refl))
+
+-- so its deadlines in the run are its own
+own_deadline : (s : Settings) (x : Replica) (t : ℕ) (m : Member) (i : ℕ) → Among (world s x t) m → deadline (as_run s x (suc t)) (record { task = task_of m; index = i }) ≡ deadline_of m.weight i (theta m i)
+own_deadline s x t m i h = ap (λ (o : Option Member). deadline_of (weight_in o) i (offset_in (task_of m) o i)) (last_now s x t m h)
+
+module _ (s : Settings) (x : Replica) (frame : 0 < s.frame) (weights : SaysWeights x) where
+  -- the next subtask after a table comes after all that ran
+  next_after : (t : ℕ) (m : Member) → Among (world s x t) m → IsNext (as_run s x (suc t)) (record { task = task_of m; index = index_after s x t m }) (suc t)
+  next_after t m h =
+      let more = on_next s x t m (here s x weights t m h) in
+      let counted = next_counted s x weights t m h in
+      record {
+        counted = omega arith;
+        follows = elim (cases_Bool (runs s x t m)) [
+          | inl named ↦
+              let c : cond {A = ℕ} (runs s x t m) 1 0 ≡ 1 = ap (λ b. cond {A = ℕ} b 1 0) named in
+              let index : m.next ≡ index_after s x t m - 1 = omega arith in
+              inr (subst (λ i. has_run (as_run s x (suc t)) (record { task = task_of m; index = i }) (suc t) ≡ true) index (ran_by (as_run s x (suc t)) (subtask_of m) t (suc t) (omega arith) (member_row s x (suc t) t m h named)))
+          | inr rests ↦
+              let c : cond {A = ℕ} (runs s x t m) 1 0 ≡ 0 = ap (λ b. cond {A = ℕ} b 1 0) rests in
+              elim (cases_eq (index_after s x t m) 1) [
+                | inl first ↦ inl first
+                | inr other ↦ inr (ran_more (as_run s x (suc t)) (record { task = task_of m; index = index_after s x t m - 1 }) t (suc t) (omega arith)
+                    (all_before_ran s x weights (suc t) t m (index_after s x t m - 1) h (omega (arith, other)) (omega (arith, other))))
+              ]
+        ];
+      }
+
+  -- and has not run itself
+  not_yet : (t : ℕ) (m : Member) → Among (world s x t) m → has_run (as_run s x (suc t)) (record { task = task_of m; index = index_after s x t m }) (suc t) ≡ false
+  not_yet t m h = elim (cases_Bool (has_run (as_run s x (suc t)) (record { task = task_of m; index = index_after s x t m }) (suc t))) [
+    | inr e ↦ e
+    | inl ran ↦ absurd (
+        let more = on_next s x t m (here s x weights t m h) in
+        let p = ran_at (as_run s x (suc t)) (record { task = task_of m; index = index_after s x t m }) (suc t) ran in
+        let within = p.1 in
+        elim (cases_lt p.0 t) [
+          | inl before ↦ none_after_ran s x weights (suc t) t m (index_after s x t m) h (omega arith) (ran_by (as_run s x (suc t)) (record { task = task_of m; index = index_after s x t m }) p.0 t before p.2)
+          | inr now ↦
+              let at : p.0 ≡ t = omega arith in
+              let q = row_member s x (suc t) t (record { task = task_of m; index = index_after s x t m }) (subst (λ u. is_row (as_run s x (suc t)) u (record { task = task_of m; index = index_after s x t m }) ≡ true) at p.2) in
+              let same : m ≡ q.0 = same_member s x t m q.0 h q.1 (ap (λ (z : Subtask). z.task.name) q.3) in
+              let named : runs s x t m ≡ true = ap (runs s x t) same ∙ q.2 in
+              let c : cond {A = ℕ} (runs s x t m) 1 0 ≡ 1 = ap (λ b. cond {A = ℕ} b 1 0) named in
+              let index : index_after s x t m ≡ m.next = ap (λ (z : Subtask). z.index) q.3 ∙ ap (λ (l : Member). l.next) (sym same) in
+              omega arith
+        ])
+  ]
+
+  none : (t : ℕ) (m : Member) → Among (world s x t) m → is_departing m ≡ false → suc t < deadline_of m.weight (index_after s x t m) (theta m (index_after s x t m))
+  none t m h d =
+      let late = beginning_none_misses (as_run s x (suc t)) (suc t) t (record { task = task_of m; index = index_after s x t m }) (is_run s x frame weights (suc t)) (omega arith)
+      (member_active s x frame weights (suc t) (task_of m) t m h refl d) (next_after t m h) (not_yet t m h) in
+      let own = own_deadline s x t m (index_after s x t m) h in
+      omega arith
+
+  in_time : (t : ℕ) (m : Member) → Among (world s x t) m → runs s x t m ≡ true → t < deadline_of m.weight m.next (theta m m.next)
+  in_time t m h named =
+      let early = beginning_in_time (as_run s x (suc t)) (suc t) t (subtask_of m) (is_run s x frame weights (suc t)) (omega arith) (member_row s x (suc t) t m h named) in
+      let own = own_deadline s x t m m.next h in
+      omega arith
+
+  released : (t : ℕ) (m : Member) → Among (world s x t) m → runs s x t m ≡ true → m.early ≡ false → release_of m.weight m.next (theta m m.next) ≤ t
+  released t m h named early =
+      let p = and_parts (not (is_departing m)) (nat_le (eligible_from m m.next) t) (runs_chosen s x t m h named).0 in
+      let from = leb-true (eligible_from m m.next) t p.1 in
+      let is : eligible_from m m.next ≡ release_of m.weight m.next (theta m m.next) = ap (λ b. if not b || (starts_job_of m.weight m.next || is_delayed_at m m.next) then release_of m.weight m.next (theta m m.next) else m.joined) early in
+      omega arith
+
+  rows : (t : ℕ) (p : Pick) → Among (table s x t) p → (m : Member) × Among (world s x t) m × IsInTime t p m
+  rows t p h =
+      let q = among_map (pick (world s x t)) (keys_at s x t) p h in
+      let k = chosen_member s x t q.0 q.1 in
+      let named = chosen_runs s x t k.0 (subst (λ l. Among (keys_at s x t) l) k.3 q.1) in
+      let is : p ≡ pick (world s x t) (next_key k.0) = q.2 ∙ ap (pick (world s x t)) k.3 in (
+        k.0,
+        k.1,
+        record {
+          name = ap (λ (r : Pick). r.name) is;
+          index = ap (λ (r : Pick). r.index) is ∙ ap index_of (named_is (world s x t) k.0.name k.0 (apart_world s x t) k.1 (name_itself k.0.name));
+          before_deadline = in_time t k.0 k.1 named;
+          released = released t k.0 k.1 named;
+        },
+      )
+
+pub none_misses : NoneMisses
+none_misses s x frame weights t m h d = none s x frame weights t m h d
+
+pub each_runs_in_time : EachRunsInTime
+each_runs_in_time s x frame weights t p h = rows s x frame weights t p h

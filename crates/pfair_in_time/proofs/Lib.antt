@@ -1,0 +1,9 @@
+mod Offsets
+mod Boundaries
+mod Worlds
+mod Lines
+mod AsRun
+mod Room
+mod Claims
+mod Executive
+mod InTime

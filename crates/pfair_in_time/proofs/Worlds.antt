@@ -1,0 +1,207 @@
+-- The members from one slot to the next.
+use Rattle.std.proofs.Common.{◌≡◌, ℕ, zero, suc, ◌+◌, ◌-◌, ◌≤◌, Bool, true, false, cond, List, [], ◌∷◌, Some, length, drop, arith, ap, refl, sym, ◌∙◌, subst, inl, inr, ⊎_elim}
+use Rattle.std.specs.Prelude.{◌⊎◌, not, ◌||◌, is_some, filter, nat_le, count_by}
+use Rattle.std.specs.List.{list_any}
+use Rattle.std.proofs.lemmas.Bool.{true≢false, false≢true, cases_Bool, or_cases, and_parts, not-true}
+use Rattle.std.proofs.lemmas.List.{length-append, drop_all, drop-append-le}
+use Rattle.std.proofs.lemmas.List.Sums.{sum_by_push}
+use Rattle.std.proofs.lemmas.Option.{same_Some}
+use Rattle.pfair_weight.specs.Name.{NamesApart}
+use Rattle.pfair_weight.proofs.NamesApart.{apart_nil, apart_map, apart_filter}
+use Rattle.pfair_entry.specs.Same.{name_eq}
+use Rattle.pfair_entry.specs.Exact.{name_exact, name_itself}
+use Rattle.pfair_order.specs.declared.Key.{Key}
+use Rattle.pfair_order.specs.Order.{pd2_cmp}
+use Rattle.pfair_order.specs.Rank.{AreFirst}
+use Rattle.pfair_order.proofs.KeyLaws.{keys_total}
+use Rattle.pfair_order.proofs.InOrder.{by_rank_first}
+use Rattle.pfair_order.proofs.RankLemmas.{place_of}
+use Rattle.pfair_order.proofs.NamesApart.{once_from_names}
+use Rattle.pfair_replica.specs.Among.{Among, among_filter, among_map, map_among, among_contains, contains_among}
+use Rattle.pfair_replica.specs.Replica.{Replica, said}
+use Rattle.pfair_admission.specs.Member.{Member, is_departing, busy_until, eligible_from, next_key}
+use Rattle.pfair_admission.specs.Admission.{announcements}
+use Rattle.pfair_admission.proofs.NamesKept.{apart_boundary}
+use Rattle.pfair_table.specs.Table.{Settings, Table, machine, names_task, quanta, next_index, counted_one, counted, is_eligible, eligible, pick, chosen, history, world, table}
+use Rattle.pfair_table.specs.declared.pick.Pick.{Pick}
+use Rattle.pfair_in_time.specs.Descent.{Descends, IsSound, IsNew}
+use Rattle.pfair_in_time.specs.Laws.{AllSound, AllHaveWeights, IsFreed}
+use Rattle.pfair_in_time.proofs.Boundaries.{named_is, boundaries_keep_members}
+
+-- some one passes a test
+pub any_among : {A : Type 0} (p : A → Bool) (xs : List A) → list_any p xs ≡ true → (x : A) × Among xs x × (p x ≡ true)
+any_among p [] h = absurd (false≢true h)
+any_among p (y ∷ ys) h = ⊎_elim (λ e. (y, inl refl, e)) (λ r. (let t = any_among p ys r in (t.0, inr t.1, t.2))) (or_cases (p y) (list_any p ys) h)
+
+-- the tables of the slots before t
+abbrev pub tables_before : Settings → Replica → ℕ → List Table
+tables_before s x t = (history s x t).tables
+
+pub long_history : (s : Settings) (x : Replica) (t : ℕ) → length (tables_before s x t) ≡ t
+long_history s x zero = refl
+long_history s x (suc t) = (let more = long_history s x t in let sum = length-append (tables_before s x t) (table s x t ∷ []) in omega arith)
+
+-- ---- names
+
+apart_at : (s : Settings) (x : Replica) (t : ℕ) → NamesApart (λ (m : Member). m.name) (history s x t).members → NamesApart (λ (m : Member). m.name) (world s x t)
+apart_at s x t a = apart_boundary (machine s) t (counted (tables_before s x t) (history s x t).members) (announcements (said x t)) (apart_map (λ (m : Member). m.name) (λ (m : Member). m.name) (counted_one (tables_before s x t)) (λ m. refl) (history s x t).members a)
+
+apart_history : (s : Settings) (x : Replica) (t : ℕ) → NamesApart (λ (m : Member). m.name) (history s x t).members
+apart_history s x zero = apart_nil (λ (m : Member). m.name)
+apart_history s x (suc t) = apart_at s x t (apart_history s x t)
+
+pub apart_world : (s : Settings) (x : Replica) (t : ℕ) → NamesApart (λ (m : Member). m.name) (world s x t)
+apart_world s x t = apart_at s x t (apart_history s x t)
+
+pub same_member : (s : Settings) (x : Replica) (t : ℕ) (m n : Member) → Among (world s x t) m → Among (world s x t) n → m.name ≡ n.name → m ≡ n
+same_member s x t m n here there e =
+    let one = named_is (world s x t) m.name m (apart_world s x t) here (name_itself m.name) in
+    let other = named_is (world s x t) m.name n (apart_world s x t) there (subst (λ k. name_eq m.name k ≡ true) e (name_itself m.name)) in
+    same_Some m n (sym one ∙ other)
+
+-- ---- who runs
+
+abbrev pub keys_at : Settings → Replica → ℕ → List Key
+keys_at s x t = chosen s t (world s x t)
+
+pub keys_apart : (s : Settings) (x : Replica) (t : ℕ) → NamesApart (λ (k : Key). k.name) (eligible t (world s x t))
+keys_apart s x t = apart_map (λ (m : Member). m.name) (λ (k : Key). k.name) next_key (λ m. refl) (filter (is_eligible t) (world s x t)) (apart_filter (λ (m : Member). m.name) (is_eligible t) (world s x t) (apart_world s x t))
+
+pub first_keys : (s : Settings) (x : Replica) (t : ℕ) → AreFirst pd2_cmp s.processors (eligible t (world s x t)) (keys_at s x t)
+first_keys s x t = by_rank_first keys_total s.processors (eligible t (world s x t)) (once_from_names (eligible t (world s x t)) (keys_apart s x t))
+
+-- a key that is chosen is that of an eligible member
+pub chosen_member : (s : Settings) (x : Replica) (t : ℕ) (k : Key) → Among (keys_at s x t) k → (m : Member) × Among (world s x t) m × (is_eligible t m ≡ true) × (k ≡ next_key m)
+chosen_member s x t k h =
+    let at = place_of (keys_at s x t) k (among_contains (keys_at s x t) k h) in
+    let among = contains_among (eligible t (world s x t)) k ((first_keys s x t).at_rank at.0 k at.1).0 in
+    let p = among_map next_key (filter (is_eligible t) (world s x t)) k among in
+    let q = among_filter (is_eligible t) (world s x t) p.0 p.1 in
+    (p.0, q.0, q.1, p.2)
+
+abbrev pub runs : Settings → Replica → ℕ → Member → Bool
+runs s x t m = names_task m.name (table s x t)
+
+-- who is named in a table is eligible, and its key is chosen
+pub runs_chosen : (s : Settings) (x : Replica) (t : ℕ) (m : Member) → Among (world s x t) m → runs s x t m ≡ true → (is_eligible t m ≡ true) × Among (keys_at s x t) (next_key m)
+runs_chosen s x t m here named =
+    let p = any_among (λ (r : Pick). name_eq m.name r.name) (table s x t) named in
+    let q = among_map (pick (world s x t)) (keys_at s x t) p.0 p.1 in
+    let n = chosen_member s x t q.0 q.1 in
+    let name : m.name ≡ n.0.name = name_exact m.name p.0.name p.2 ∙ ap (λ (r : Pick). r.name) q.2 ∙ ap (λ (k : Key). k.name) n.3 in
+    let same = same_member s x t m n.0 here n.1 name in
+    (ap (is_eligible t) same ∙ n.2, subst (λ k. Among (keys_at s x t) k) (n.3 ∙ ap next_key (sym same)) q.1)
+
+pub any_from_among : {A : Type 0} (p : A → Bool) (xs : List A) (x : A) → Among xs x → p x ≡ true → list_any p xs ≡ true
+any_from_among p [] x h e = absurd h
+any_from_among p (y ∷ ys) x (inl i) e = by (p y) (sym (ap p i) ∙ e)
+  where
+    by : (b : Bool) → b ≡ true → (b || list_any p ys) ≡ true
+    by true _ = refl
+    by false e = absurd (false≢true e)
+any_from_among p (y ∷ ys) x (inr h) e = by (p y) (any_from_among p ys x h e)
+  where
+    by : (b : Bool) → list_any p ys ≡ true → (b || list_any p ys) ≡ true
+    by true _ = refl
+    by false e = e
+
+pub chosen_runs : (s : Settings) (x : Replica) (t : ℕ) (m : Member) → Among (keys_at s x t) (next_key m) → runs s x t m ≡ true
+chosen_runs s x t m h = any_from_among (λ (r : Pick). name_eq m.name r.name) (table s x t) (pick (world s x t) (next_key m)) (map_among (pick (world s x t)) (keys_at s x t) (next_key m) h) (name_itself m.name)
+
+-- ---- how far members have come
+
+-- one table more
+pub next_more : (s : Settings) (x : Replica) (t : ℕ) (m : Member) → m.joined ≤ t → next_index (tables_before s x (suc t)) m ≡ next_index (tables_before s x t) m + cond (runs s x t m) 1 0
+next_more s x t m joined =
+    let long = long_history s x t in
+    let more : quanta (tables_before s x (suc t)) m ≡ quanta (tables_before s x t) m + cond (runs s x t m) 1 0 =
+    ap (count_by (names_task m.name)) (drop-append-le m.joined (tables_before s x t) (table s x t ∷ []) (omega arith))
+    ∙ sum_by_push (λ ts. cond (names_task m.name ts) 1 0) (drop m.joined (tables_before s x t)) (table s x t) in
+    omega arith
+
+-- who joins has had no quantum
+pub next_new : (s : Settings) (x : Replica) (t : ℕ) (m : Member) → m.joined ≡ t → next_index (tables_before s x t) m ≡ 1
+next_new s x t m e = let long = long_history s x t in ap (λ ts. 1 + count_by (names_task m.name) ts) (drop_all m.joined (tables_before s x t) (omega arith))
+
+-- what holds of each member of slot t
+pub record IsHere (s : Settings) (x : Replica) (t : ℕ) (m : Member) : Type 0 where
+  pub sound : IsSound s.frame m
+  pub by_now : m.joined ≤ t
+  pub next : m.next ≡ next_index (tables_before s x t) m
+
+-- a member after the table of slot t
+abbrev pub on : Settings → Replica → ℕ → Member → Member
+on s x t m = counted_one (tables_before s x (suc t)) m
+
+pub on_next : (s : Settings) (x : Replica) (t : ℕ) (m : Member) → IsHere s x t m → (on s x t m).next ≡ m.next + cond (runs s x t m) 1 0
+on_next s x t m here = let more = next_more s x t m here.by_now in let was = here.next in omega arith
+
+-- who is departing doesn't run
+pub departing_rests : (s : Settings) (x : Replica) (t : ℕ) (m : Member) → Among (world s x t) m → is_departing m ≡ true → runs s x t m ≡ false
+departing_rests s x t m h d = ⊎_elim
+    (λ named. absurd (
+    let p = and_parts (not (is_departing m)) (nat_le (eligible_from m m.next) t) (runs_chosen s x t m h named).0 in
+    true≢false (sym d ∙ not-true (is_departing m) p.0)))
+    (λ e. e)
+    (cases_Bool (runs s x t m))
+
+module _ (s : Settings) (x : Replica) (weights : (t : ℕ) → AllHaveWeights (announcements (said x t))) where
+  on_sound : (t : ℕ) (m : Member) → Among (world s x t) m → IsHere s x t m → IsSound s.frame (on s x t m)
+  on_sound t m h here = record { weight = here.sound.weight; period = here.sound.period; claim = λ slot e. kept slot e (here.sound.claim slot e) }
+    where
+      still : (slot : ℕ) → m.freed_at ≡ Some slot → (on s x t m).next ≡ m.next
+      still slot e =
+          let rests : cond {A = ℕ} (runs s x t m) 1 0 ≡ 0 = ap (λ b. cond {A = ℕ} b 1 0) (departing_rests s x t m h (ap is_some e)) in
+          let more = on_next s x t m here in
+          omega arith
+
+      kept : (slot : ℕ) → m.freed_at ≡ Some slot → (m.next ≡ 1) ⊎ (busy_until m (m.next - 1) ≤ slot) → ((on s x t m).next ≡ 1) ⊎ (busy_until m ((on s x t m).next - 1) ≤ slot)
+      kept slot e (inl first) = inl (still slot e ∙ first)
+      kept slot e (inr busy) = inr (subst (λ n. busy_until m (n - 1) ≤ slot) (sym (still slot e)) busy)
+
+  all_on_sound : (t : ℕ) → ((m : Member) → Among (world s x t) m → IsHere s x t m) → AllSound s.frame (counted (tables_before s x (suc t)) (world s x t))
+  all_on_sound t here n h =
+      let p = among_map (counted_one (tables_before s x (suc t))) (world s x t) n h in
+      subst (IsSound s.frame) (sym p.2) (on_sound t p.0 p.1 (here p.0 p.1))
+
+  apart_on : (t : ℕ) → NamesApart (λ (m : Member). m.name) (counted (tables_before s x (suc t)) (world s x t))
+  apart_on t = apart_map (λ (m : Member). m.name) (λ (m : Member). m.name) (counted_one (tables_before s x (suc t))) (λ m. refl) (world s x t) (apart_world s x t)
+
+  pub here : (t : ℕ) (m : Member) → Among (world s x t) m → IsHere s x t m
+  here zero m h = ⊎_elim
+      (λ (p : (l : Member) × Among (counted (tables_before s x 0) []) l × Descends 0 l m). absurd p.1)
+      (λ new. record {
+        sound = boundaries_keep_members.sound (machine s) 0 [] (announcements (said x 0)) (apart_nil (λ (m : Member). m.name)) (λ l none. absurd none) (weights 0) m h;
+        by_now = (let j = new.joined in omega arith);
+        next = new.next ∙ sym (next_new s x 0 m new.joined);
+      })
+      (boundaries_keep_members.from (machine s) 0 [] (announcements (said x 0)) (apart_nil (λ (m : Member). m.name)) (λ l none. absurd none) (weights 0) m h)
+  here (suc t) m h =
+      let sound = all_on_sound t (here t) in
+      let own = boundaries_keep_members.sound (machine s) (suc t) (counted (tables_before s x (suc t)) (world s x t)) (announcements (said x (suc t))) (apart_on t) sound (weights (suc t)) m h in
+      ⊎_elim
+      (λ (p : (l : Member) × Among (counted (tables_before s x (suc t)) (world s x t)) l × Descends (suc t) l m).
+      (let q = among_map (counted_one (tables_before s x (suc t))) (world s x t) p.0 p.1 in
+      let was = here t q.0 q.1 in
+      let d : Descends (suc t) (on s x t q.0) m = subst (λ l. Descends (suc t) l m) q.2 p.2 in
+      let joined = d.joined in
+      let before = was.by_now in
+      record { sound = own; by_now = omega arith; next = d.next ∙ next_of_same m q.0 d.name d.joined }))
+      (λ new. record { sound = own; by_now = (let j = new.joined in omega arith); next = new.next ∙ sym (next_new s x (suc t) m new.joined) })
+      (boundaries_keep_members.from (machine s) (suc t) (counted (tables_before s x (suc t)) (world s x t)) (announcements (said x (suc t))) (apart_on t) sound (weights (suc t)) m h)
+    where
+      next_of_same : (m l : Member) → m.name ≡ l.name → m.joined ≡ l.joined → next_index (tables_before s x (suc t)) l ≡ next_index (tables_before s x (suc t)) m
+      next_of_same m l name joined = ap (λ n. 1 + count_by (names_task n) (drop l.joined (tables_before s x (suc t)))) (sym name) ∙ ap (λ j. 1 + count_by (names_task m.name) (drop j (tables_before s x (suc t)))) (sym joined)
+
+  -- ---- from one slot to the next
+
+  pub came_from : (t : ℕ) (n : Member) → Among (world s x (suc t)) n → ((m : Member) × Among (world s x t) m × Descends (suc t) (on s x t m) n) ⊎ IsNew (suc t) n
+  came_from t n h = ⊎_elim
+      (λ (p : (l : Member) × Among (counted (tables_before s x (suc t)) (world s x t)) l × Descends (suc t) l n).
+      (let q = among_map (counted_one (tables_before s x (suc t))) (world s x t) p.0 p.1 in inl (q.0, q.1, subst (λ l. Descends (suc t) l n) q.2 p.2)))
+      (λ new. inr new)
+      (boundaries_keep_members.from (machine s) (suc t) (counted (tables_before s x (suc t)) (world s x t)) (announcements (said x (suc t))) (apart_on t) (all_on_sound t (here t)) (weights (suc t)) n h)
+
+  pub goes_to : (t : ℕ) (m : Member) → Among (world s x t) m → ((n : Member) × Among (world s x (suc t)) n × Descends (suc t) (on s x t m) n) ⊎ ((n : Member) × IsFreed (suc t) s.frame (on s x t m) n)
+  goes_to t m h = boundaries_keep_members.to (machine s) (suc t) (counted (tables_before s x (suc t)) (world s x t)) (announcements (said x (suc t))) (apart_on t) (all_on_sound t (here t)) (weights (suc t)) (on s x t m)
+      (map_among (counted_one (tables_before s x (suc t))) (world s x t) m h)

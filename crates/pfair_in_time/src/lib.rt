@@ -1,0 +1,21 @@
+//! No admitted task misses its deadline: laws alone, nothing of which is called when the program
+//! runs.
+//!
+//! `pfair_optimal` has the theorem of a run as plain data. Here the tables, the members and the
+//! offsets that follow from what a replica holds, up to any slot, are the beginning of such a run.
+//! - **A boundary** (`proofs/Boundaries.antt`). A member after it was one before, or has joined; who
+//!   is gone was freed, and no sooner than its claim allows. An accepted delay moves no subtask that
+//!   ran or is released.
+//! - **Slot by slot** (`proofs/Worlds.antt`, `proofs/Lines.antt`). The next index of a member rises
+//!   by one where a table names it. An incarnation goes back to each slot since it joined
+//!   (`back_to`), and on to each later one unless it is freed by then (`on_to`).
+//! - **As a run** (`proofs/AsRun.antt`). A task is a name with its joining slot; its offsets are those
+//!   of the last slot that has it, and for what ran or is released they are what the planner saw
+//!   (`final`).
+//! - **The premises** (`proofs/Room.antt`, `proofs/Claims.antt`, `proofs/Executive.antt`). The weights
+//!   have room, claims are held past busy bounds, and a released subtask without a row sees a full
+//!   table of rows that go before it (`is_run`).
+//! - **In time** (`proofs/InTime.antt`). The theorem in the executive's own words.
+#![tactic(auto)]
+
+pub mod laws;
