@@ -32,21 +32,16 @@ fn arrives(rt: &impl Abort, name: TaskName, cost: u64, period: u64) -> Said
 }
 
 // The decisions at the boundary of a slot.
-fn decided(
-    rt: &impl Abort,
-    members: &mut Members,
-    slot: u64,
-    announced: &[Said],
-) -> Result<Vec<Decision>, AllocError>
+fn decided(rt: &impl Abort, members: &mut Members, slot: u64, announced: &[Said]) -> Vec<Decision>
     requires { AllByRecursion (λ a. IsWithinLimits a.announcement) announced.now }
 {
     assert!(rt; slot <= 1_000_000 && members.last_slot().unwrap_or(0) <= slot);
     assert!(rt; announced.len() <= 1000 && members.heard() + announced.len() as u64 <= 262_144);
-    members.boundary(slot, announced)
+    members.boundary(slot, announced).expect(rt, "memory")
 }
 
 // A task that ran leaves, and holds its weight and its name until slot 3.
-fn hears_each_kind(rt: &impl Abort, members: &mut Members) -> Result<(), AllocError> {
+fn hears_each_kind(rt: &impl Abort, members: &mut Members) {
     let a = TaskName::from_bytes(b"a").expect(rt, "a name");
     let b = TaskName::from_bytes(b"b").expect(rt, "a name");
     let late = [
@@ -57,7 +52,7 @@ fn hears_each_kind(rt: &impl Abort, members: &mut Members) -> Result<(), AllocEr
             by: 4,
         }),
     ];
-    let decisions = decided(rt, members, 0, late.as_slice())?;
+    let decisions = decided(rt, members, 0, late.as_slice());
     assert_eq!(rt;
         decisions.as_slice(),
         [Decision::Admitted, Decision::Delayed].as_slice()
@@ -65,7 +60,7 @@ fn hears_each_kind(rt: &impl Abort, members: &mut Members) -> Result<(), AllocEr
     assert!(rt; members.get(&a).expect(rt, "a member").next() <= 1_000_000);
     assert_eq!(rt; members.ran(&a), Some(1));
     let leaves = [said(Announcement::Depart { name: a }), arrives(rt, b, 1, 1)];
-    let decisions = decided(rt, members, 1, leaves.as_slice())?;
+    let decisions = decided(rt, members, 1, leaves.as_slice());
     assert_eq!(rt;
         decisions.as_slice(),
         [
@@ -74,14 +69,13 @@ fn hears_each_kind(rt: &impl Abort, members: &mut Members) -> Result<(), AllocEr
         ]
         .as_slice()
     );
-    let decisions = decided(rt, members, 3, [arrives(rt, b, 1, 1)].as_slice())?;
+    let decisions = decided(rt, members, 3, [arrives(rt, b, 1, 1)].as_slice());
     assert_eq!(rt; decisions.as_slice(), [Decision::Admitted].as_slice());
-    Ok(())
 }
 
 #[test]
-fn each_kind_is_heard(rt: HostRuntime) -> Result<(), AllocError> {
-    hears_each_kind(&rt, &mut Members::new(rt.alloc(), 1, 2))
+fn each_kind_is_heard(rt: HostRuntime) {
+    hears_each_kind(&rt, &mut Members::new(rt.alloc(), 1, 2));
 }
 
 // A task of its own for each place, of the least weight in a frame of 199 slots.
@@ -110,10 +104,10 @@ fn light_arrivals(rt: &impl Abort, alloc: Global) -> Result<Vec<Said>, AllocErro
 }
 
 // There is room for all tasks but the last one.
-fn hears_many(rt: &impl Abort, members: &mut Members, announced: &[Said]) -> Result<(), AllocError>
+fn hears_many(rt: &impl Abort, members: &mut Members, announced: &[Said])
     requires { AllByRecursion (λ a. IsWithinLimits a.announcement) announced.now }
 {
-    let decisions = decided(rt, members, 0, announced)?;
+    let decisions = decided(rt, members, 0, announced);
     assert_eq!(rt; (decisions.len(), members.len()), (200, 199));
     for (place, decision) in decisions.iter().enumerate() {
         let expected = if place < 199 {
@@ -123,11 +117,10 @@ fn hears_many(rt: &impl Abort, members: &mut Members, announced: &[Said]) -> Res
         };
         assert_eq!(rt; *decision, expected);
     }
-    Ok(())
 }
 
 // Each of the first 150 subtasks is put off.
-fn hears_many_delays(rt: &impl Abort, members: &mut Members) -> Result<(), AllocError> {
+fn hears_many_delays(rt: &impl Abort, members: &mut Members) {
     let name = TaskName::from_bytes(b"t000").expect(rt, "a name");
     for before in 0..150_u64 {
         let late = Announcement::Late {
@@ -135,20 +128,20 @@ fn hears_many_delays(rt: &impl Abort, members: &mut Members) -> Result<(), Alloc
             index: before + 1,
             by: 1,
         };
-        let decisions = decided(rt, members, 0, [said(late)].as_slice())?;
+        let decisions = decided(rt, members, 0, [said(late)].as_slice());
         assert_eq!(rt; decisions.as_slice(), [Decision::Delayed].as_slice());
     }
     let member = members.get(&name).expect(rt, "a member");
     assert_eq!(rt; (member.theta(100), member.theta(1000)), (100, 150));
-    Ok(())
 }
 
 #[test]
 fn many_are_heard(rt: HostRuntime) -> Result<(), AllocError> {
     let announced = light_arrivals(&rt, rt.alloc())?;
     let mut members = Members::new(rt.alloc(), 1, 199);
-    hears_many(&rt, &mut members, &announced)?;
-    hears_many_delays(&rt, &mut members)
+    hears_many(&rt, &mut members, &announced);
+    hears_many_delays(&rt, &mut members);
+    Ok(())
 }
 
 #[test]

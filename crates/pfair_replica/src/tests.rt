@@ -51,7 +51,7 @@ fn assert_row(rt: &impl Abort, x: &mut Replica, row: Row) -> Result<(), Fail> {
     }
     assert_eq!(rt; (x.mark(0), x.missing(0)), (row.mark, row.missing));
     assert_scanned(rt, x);
-    let faults = x.faults()?;
+    let faults = x.faults().expect(rt, "memory");
     assert_eq!(rt; faults.torn.as_slice(), row.torn);
     assert_eq!(rt; faults.fallen.as_slice(), row.fallen);
     Ok(())
@@ -122,7 +122,7 @@ fn marks_and_faults(rt: HostRuntime) -> Result<(), Fail> {
     Ok(())
 }
 
-fn refuses(rt: &impl Abort, x: &mut Replica, larger: &mut Replica) {
+fn refuses(rt: &impl Abort, x: &mut Replica, y: &mut Replica, larger: &mut Replica) {
     let entry = floor(rt, 3);
     for (processor, number, fault) in [
         (1, 1, TakeFault::NoSuchProcessor),
@@ -132,15 +132,16 @@ fn refuses(rt: &impl Abort, x: &mut Replica, larger: &mut Replica) {
     ] {
         assert_eq!(rt; take(x, processor, number, entry), Err(fault));
     }
-    assert_eq!(rt; take(x, 0, 1, entry), Ok(Taken::New));
-    assert_eq!(rt; larger.merge(x), Err(MergeFault::OtherShape));
+    assert_eq!(rt; take(y, 0, 1, entry), Ok(Taken::New));
+    assert_eq!(rt; larger.merge(y), Err(MergeFault::OtherShape));
     assert!(rt; larger.get(0, 1).is_none());
 }
 
 #[test]
 fn other_keys_and_shapes_are_refused(rt: HostRuntime) -> Result<(), Fail> {
     let mut x = Replica::new(rt.alloc(), 1, 1)?;
-    refuses(&rt, &mut x, &mut Replica::new(rt.alloc(), 1, 2)?);
+    let mut y = Replica::new(rt.alloc(), 1, 4)?;
+    refuses(&rt, &mut x, &mut y, &mut Replica::new(rt.alloc(), 1, 5)?);
     Ok(())
 }
 
@@ -164,20 +165,16 @@ fn faults_have_texts(rt: HostRuntime) -> Result<(), Fail> {
     Ok(())
 }
 
-// Two contents meet at one of three keys.
-fn merges(rt: &impl Abort, x: &mut Replica, y: &mut Replica) -> Result<(), Fail> {
-    let (a, b, c) = (floor(rt, 1), floor(rt, 2), floor(rt, 3));
-    take(x, 0, 1, a)?;
-    take(x, 0, 2, b)?;
-    take(y, 0, 2, c)?;
-    take(y, 1, 1, a)?;
-    assert!(rt; !x.le(y));
-    let copy = x.copy()?;
-    assert!(rt; x.le(&copy) && copy.le(x));
-    x.merge(y)?;
-    y.merge(&copy)?;
-    y.merge(x)?;
-    assert!(rt; x.le(y) && y.le(x) && copy.le(x));
+// The merge of two replicas.
+fn joined(x: &Replica, y: &Replica) -> Result<Replica, MergeFault> {
+    let mut now = x.copy()?;
+    now.merge(y)?;
+    Ok(now)
+}
+
+// Asserts that one of three keys is torn.
+fn assert_torn(rt: &impl Abort, x: &Replica) {
+    let a = floor(rt, 1);
     for (processor, number, held) in [
         (0, 1, Flat::One(a)),
         (0, 2, Flat::Torn),
@@ -186,6 +183,20 @@ fn merges(rt: &impl Abort, x: &mut Replica, y: &mut Replica) -> Result<(), Fail>
         assert_eq!(rt; x.get(processor, number), Some(held));
     }
     assert!(rt; x.get(1, 2).is_none());
+}
+
+// Two contents meet at one of three keys.
+fn merges(rt: &impl Abort, x: &mut Replica, y: &mut Replica) -> Result<(), Fail> {
+    take(x, 0, 1, floor(rt, 1))?;
+    take(x, 0, 2, floor(rt, 2))?;
+    take(y, 0, 2, floor(rt, 3))?;
+    take(y, 1, 1, floor(rt, 1))?;
+    assert!(rt; !x.le(y) && !y.le(x));
+    let both = joined(x, y)?;
+    assert_torn(rt, &both);
+    assert!(rt; x.le(&both) && y.le(&both));
+    assert!(rt; y.merge(x).is_ok());
+    assert!(rt; both.le(y) && y.le(&both));
     Ok(())
 }
 
@@ -219,31 +230,35 @@ fn fills_other(rt: &impl Abort, y: &mut Replica) -> Result<(), Fail> {
     Ok(())
 }
 
-// The merge of the two, its copy, and what is wrong with them.
-fn assert_merged(rt: &impl Abort, x: &mut Replica, y: &mut Replica) -> Result<(), Fail> {
-    fills(rt, x)?;
-    fills_other(rt, y)?;
-    x.merge(y)?;
-    let copy = x.copy()?;
-    assert!(rt; x.le(&copy) && copy.le(x) && y.le(&copy));
+// What is held of the two, and what is wrong with it.
+fn assert_both(rt: &impl Abort, both: &Replica, x: &Replica, y: &Replica) {
+    assert!(rt; x.le(both) && both.le(x) && y.le(both));
     assert_eq!(rt;
-        (copy.first_torn(), copy.mark(40)),
+        (both.first_torn(), both.mark(40)),
         (Some(key(40, 2)), 5000)
     );
-    assert_eq!(rt; (copy.mark(63), copy.frontier()), (5001, 5000));
-    let faults = copy.faults()?;
+    assert_eq!(rt; (both.mark(63), both.frontier()), (5001, 5000));
+    let faults = both.faults().expect(rt, "memory");
     assert_eq!(rt; faults.torn.as_slice(), [key(40, 2)].as_slice());
     assert_eq!(rt;
         faults.fallen.as_slice(),
         [key(0, 3), key(63, 3)].as_slice()
     );
+}
+
+fn fill_and_merge(rt: &impl Abort, x: &mut Replica, y: &mut Replica) -> Result<(), Fail> {
+    fills(rt, x)?;
+    fills_other(rt, y)?;
+    x.merge(y)?;
+    let copy = x.copy()?;
+    assert_both(rt, &copy, x, y);
     Ok(())
 }
 
 #[test]
 fn sixty_four_logs_merge(rt: HostRuntime) -> Result<(), Fail> {
     let mut x = Replica::new(rt.alloc(), 64, 4096)?;
-    assert_merged(&rt, &mut x, &mut Replica::new(rt.alloc(), 64, 4096)?)
+    fill_and_merge(&rt, &mut x, &mut Replica::new(rt.alloc(), 64, 4096)?)
 }
 
 // An entry by which a task departs.
@@ -355,8 +370,7 @@ impl Walk {
 
     // The merge of two replicas.
     fn merged(&mut self, rt: &impl Abort, x: &Replica, y: &Replica) -> Result<Replica, MergeFault> {
-        let mut now = x.copy()?;
-        now.merge(y)?;
+        let now = joined(x, y)?;
         assert_scanned(rt, &now);
         for processor in 0..x.processors() {
             let before = x.sound_count(processor);
@@ -403,6 +417,25 @@ fn assert_scanned(rt: &impl Abort, x: &Replica) {
 }
 
 // Forty steps of two replicas in turn, now and then merged.
+fn walk_both(
+    rt: &impl Abort,
+    walk: &mut Walk,
+    x: &mut Replica,
+    y: &mut Replica,
+) -> Result<(), Fail> {
+    for turn in 0..20u8 {
+        walk.step(rt, x)?;
+        walk.step(rt, y)?;
+        if turn % 4 == 3 {
+            *x = walk.merged(rt, x, y)?;
+        }
+        if turn % 10 == 9 {
+            *y = walk.merged(rt, y, x)?;
+        }
+    }
+    Ok(())
+}
+
 fn walked(
     rt: &impl Abort,
     alloc: Global,
@@ -414,17 +447,7 @@ fn walked(
 {
     let mut x = Replica::new(alloc, processors, capacity)?;
     let mut y = Replica::new(alloc, processors, capacity)?;
-    for turn in 0..20u8 {
-        walk.step(rt, &mut x)?;
-        walk.step(rt, &mut y)?;
-        if turn % 4 == 3 {
-            x = walk.merged(rt, &x, &y)?;
-        }
-        if turn % 10 == 9 {
-            y = walk.merged(rt, &y, &x)?;
-        }
-    }
-    Ok(())
+    walk_both(rt, walk, &mut x, &mut y)
 }
 
 #[test]

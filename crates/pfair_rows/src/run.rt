@@ -113,8 +113,8 @@ fn assert_steps<R: Ready>(
     assert_left(rt, dispatcher, text, run)
 }
 
-// Asserts what events leave that come one by one, and what `run_events` leaves.
-fn assert_events<R: Ready>(
+// Asserts what events leave that come one by one.
+fn assert_stepped<R: Ready>(
     rt: &impl Abort,
     alloc: Global,
     events: &[Event],
@@ -124,8 +124,17 @@ fn assert_events<R: Ready>(
     // settings have 1 to 64 processors
     let _processors = settings.processors();
     let mut dispatcher: Dispatcher<R> = Dispatcher::new(alloc, settings, CAPACITY)?;
-    assert_steps(rt, &mut dispatcher, &mut String::new(alloc), events, run)?;
-    let left: Dispatcher<R> = left_by(alloc, settings, events)?;
+    assert_steps(rt, &mut dispatcher, &mut String::new(alloc), events, run)
+}
+
+// Asserts what `run_events` leaves.
+fn assert_run<R: Ready>(
+    rt: &impl Abort,
+    alloc: Global,
+    events: &[Event],
+    run: Run<'_>,
+) -> Result<(), AllocError> {
+    let left: Dispatcher<R> = left_by(alloc, settings_of(rt, run.machine), events)?;
     assert_left(rt, &left, &mut String::new(alloc), run)
 }
 
@@ -138,8 +147,10 @@ pub(crate) fn assert_runs(
     for run in runs {
         let mut events = Vec::new(alloc);
         push_run(rt, alloc, &mut events, *run)?;
-        assert_events::<PlainReady>(rt, alloc, &events, *run)?;
-        assert_events::<HeapReady>(rt, alloc, &events, *run)?;
+        assert_stepped::<PlainReady>(rt, alloc, &events, *run)?;
+        assert_stepped::<HeapReady>(rt, alloc, &events, *run)?;
+        assert_run::<PlainReady>(rt, alloc, &events, *run)?;
+        assert_run::<HeapReady>(rt, alloc, &events, *run)?;
     }
     Ok(())
 }

@@ -113,23 +113,22 @@ fn assert_whole(
     whole: &Replica,
     first: &Replica,
     second: &Replica,
-) -> Result<(), AllocError> {
+) {
     for text in [BACKWARD, TWICE] {
-        let other = held(rt, alloc, MACHINE, text)?;
+        let other = held(rt, alloc, MACHINE, text).expect(rt, "memory");
         assert!(rt; whole.le(&other) && other.le(whole));
     }
     for (mine, other) in [(first, second), (second, first)] {
-        let mut merged = mine.copy()?;
+        let mut merged = mine.copy().expect(rt, "memory");
         assert!(rt; merged.merge(other).is_ok());
         assert!(rt; whole.le(&merged) && merged.le(whole));
     }
-    Ok(())
 }
 
 #[test]
-fn as_one_replica(rt: HostRuntime) -> Result<(), AllocError> {
-    let whole = held(&rt, rt.alloc(), MACHINE, FORWARD)?;
-    let first = held(&rt, rt.alloc(), MACHINE, FIRST)?;
-    let second = held(&rt, rt.alloc(), MACHINE, SECOND)?;
-    assert_whole(&rt, rt.alloc(), &whole, &first, &second)
+fn as_one_replica(rt: HostRuntime) {
+    let whole = held(&rt, rt.alloc(), MACHINE, FORWARD).expect(&rt, "memory");
+    let first = held(&rt, rt.alloc(), MACHINE, FIRST).expect(&rt, "memory");
+    let second = held(&rt, rt.alloc(), MACHINE, SECOND).expect(&rt, "memory");
+    assert_whole(&rt, rt.alloc(), &whole, &first, &second);
 }
