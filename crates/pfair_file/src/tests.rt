@@ -89,75 +89,78 @@ fn assert_line(rt: &impl Abort, alloc: Global, bytes: &[u8], expected: &str) -> 
     Ok(())
 }
 
+// A text of the sample, what stands in its place, and the line of the fault that the file then has.
+const CHANGES: &[(&str, &str, &str)] = &[
+    ("version = 1", "version = 1", ""),
+    ("slots = 6\n", "slots = ", "60 not TOML"),
+    (
+        "floor = 1\n",
+        "floor = \"x\"\n",
+        "62 floor of wrong kind at 7",
+    ),
+    ("\"late\"", "\"lat\"", "63 kind out of range at 8"),
+    (
+        "\"a\"\ncost",
+        "\"A\"\ncost",
+        "64 entry 1 of processor 0 refused: 3 bad byte at 0",
+    ),
+    (
+        "floor = 4",
+        "floor = 1000001",
+        "64 entry 4 of processor 0 refused: 8 slot too far",
+    ),
+    (
+        "at = 3",
+        "at = 0",
+        "64 entry 2 of processor 1 refused: 7 stamp before floor",
+    ),
+    (
+        "index = 4",
+        "index = 0",
+        "64 entry 3 of processor 1 refused: 10 bad index",
+    ),
+    (
+        "by = 2",
+        "by = 0",
+        "64 entry 3 of processor 1 refused: 9 bad delay",
+    ),
+    (
+        "cost = 2",
+        "cost = 4",
+        "64 entry 2 of processor 0 refused: 5 cost over period",
+    ),
+    ("floor = 5", "floor = 2", ""),
+    ("version = 1", "version = 3", "65 unknown version"),
+    ("version = 1", "version = 0", "65 unknown version"),
+    ("cost = 1\n", "early = 1\ncost = 1\n", ""),
+    (
+        "processors = 2",
+        "processors = 65",
+        "63 processors out of range at 0",
+    ),
+    (
+        "processors = 2",
+        "processors = 1",
+        "63 processor out of range at 6",
+    ),
+    (
+        "frame = 6",
+        "frame = 1000000001",
+        "63 frame out of range at 0",
+    ),
+    ("slots = 6", "slots = 1000001", "63 slots out of range at 0"),
+    ("at = 2", "at = -1", "63 at out of range at 3"),
+    ("at = 2", "ab = 2", "61 missing at at 3"),
+    (
+        "kind = \"depart\"",
+        "kind = 3",
+        "62 kind of wrong kind at 3",
+    ),
+];
+
 #[test]
 fn a_changed_sample_has_its_fault(rt: HostRuntime) -> Result<(), Fail> {
-    for (old, new, line) in [
-        ("version = 1", "version = 1", ""),
-        ("slots = 6\n", "slots = ", "60 not TOML"),
-        (
-            "floor = 1\n",
-            "floor = \"x\"\n",
-            "62 floor of wrong kind at 7",
-        ),
-        ("\"late\"", "\"lat\"", "63 kind out of range at 8"),
-        (
-            "\"a\"\ncost",
-            "\"A\"\ncost",
-            "64 entry 1 of processor 0 refused: 3 bad byte at 0",
-        ),
-        (
-            "floor = 4",
-            "floor = 1000001",
-            "64 entry 4 of processor 0 refused: 8 slot too far",
-        ),
-        (
-            "at = 3",
-            "at = 0",
-            "64 entry 2 of processor 1 refused: 7 stamp before floor",
-        ),
-        (
-            "index = 4",
-            "index = 0",
-            "64 entry 3 of processor 1 refused: 10 bad index",
-        ),
-        (
-            "by = 2",
-            "by = 0",
-            "64 entry 3 of processor 1 refused: 9 bad delay",
-        ),
-        (
-            "cost = 2",
-            "cost = 4",
-            "64 entry 2 of processor 0 refused: 5 cost over period",
-        ),
-        ("floor = 5", "floor = 2", ""),
-        ("version = 1", "version = 3", "65 unknown version"),
-        ("version = 1", "version = 0", "65 unknown version"),
-        ("cost = 1\n", "early = 1\ncost = 1\n", ""),
-        (
-            "processors = 2",
-            "processors = 65",
-            "63 processors out of range at 0",
-        ),
-        (
-            "processors = 2",
-            "processors = 1",
-            "63 processor out of range at 6",
-        ),
-        (
-            "frame = 6",
-            "frame = 1000000001",
-            "63 frame out of range at 0",
-        ),
-        ("slots = 6", "slots = 1000001", "63 slots out of range at 0"),
-        ("at = 2", "at = -1", "63 at out of range at 3"),
-        ("at = 2", "ab = 2", "61 missing at at 3"),
-        (
-            "kind = \"depart\"",
-            "kind = 3",
-            "62 kind of wrong kind at 3",
-        ),
-    ] {
+    for (old, new, line) in CHANGES {
         let text = SAMPLE.replacen(rt.alloc(), old, new, 1)?;
         assert_line(&rt, rt.alloc(), text.as_bytes(), line)?;
     }

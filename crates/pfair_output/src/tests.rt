@@ -33,31 +33,28 @@ fn early_log(rt: &impl Abort, alloc: Global) -> Result<Script, AllocError> {
 }
 
 // Asserts the texts of a run but for those of its tables.
-fn assert_told<R: Ready>(
-    rt: &impl Abort,
-    alloc: Global,
-    dispatcher: &Dispatcher<R>,
-) -> Result<(), Fail> {
-    let decisions = decisions_of(alloc, dispatcher)?;
+fn assert_told<R: Ready>(rt: &impl Abort, alloc: Global, dispatcher: &Dispatcher<R>) {
+    let decisions = decisions_of(alloc, dispatcher).expect(rt, "memory");
     assert_eq!(rt; decisions.as_slice(), DECISIONS.as_bytes());
-    let lags = lags_of(alloc, dispatcher)?;
+    let lags = lags_of(alloc, dispatcher).expect(rt, "memory");
     assert_eq!(rt; lags.as_slice(), LAGS.as_bytes());
-    Ok(())
 }
 
 // Asserts the texts of its tables, without places and with them.
-fn assert_replayed(rt: &impl Abort, alloc: Global, schedule: &Schedule) -> Result<(), Fail> {
-    let replay = replay_of(alloc, &schedule.tables)?;
+fn assert_replayed(rt: &impl Abort, alloc: Global, schedule: &Schedule) {
+    let replay = replay_of(alloc, &schedule.tables).expect(rt, "memory");
     assert_eq!(rt; replay.as_slice(), REPLAY.as_bytes());
-    let placed = placed_replay_of(alloc, &schedule.tables, &schedule.places)?;
+    let placed = placed_replay_of(alloc, &schedule.tables, &schedule.places).expect(rt, "memory");
     assert_eq!(rt; placed.as_slice(), PLACED.as_bytes());
-    Ok(())
 }
 
 #[test]
 fn texts_of_an_early_task(rt: HostRuntime) -> Result<(), Fail> {
     let script = early_log(&rt, rt.alloc())?;
-    let dispatcher: Dispatcher<HeapReady> = run_script(rt.alloc(), &script)?;
-    assert_told(&rt, rt.alloc(), &dispatcher)?;
-    assert_replayed(&rt, rt.alloc(), &dispatcher.into_schedule())
+    let dispatcher: Dispatcher<HeapReady> = run_script(rt.alloc(), &script)
+        .ok()
+        .expect(&rt, "a run");
+    assert_told(&rt, rt.alloc(), &dispatcher);
+    assert_replayed(&rt, rt.alloc(), &dispatcher.into_schedule());
+    Ok(())
 }
