@@ -25,12 +25,13 @@ use Rattle.pfair_in_time.proofs.Offsets.{release_rises, delayed_rises, delayed_b
 -- ---- one member
 
 pub descends_itself : (t : ℕ) (m : Member) → Descends t m m
-descends_itself t m = record { name = refl; weight = refl; joined = refl; next = refl; rises = λ i. omega arith; stays = λ i _. refl; departing = λ _. refl }
+descends_itself t m = record { name = refl; weight = refl; early = refl; joined = refl; next = refl; rises = λ i. omega arith; stays = λ i _. refl; departing = λ _. refl }
 
 pub descends_on : (t : ℕ) (l m n : Member) → Descends t l m → Descends t m n → Descends t l n
 descends_on t l m n a b = record {
   name = b.name ∙ a.name;
   weight = b.weight ∙ a.weight;
+  early = b.early ∙ a.early;
   joined = b.joined ∙ a.joined;
   next = b.next ∙ a.next;
   rises = λ i. (let one = a.rises i in let other = b.rises i in omega arith);
@@ -44,7 +45,7 @@ descends_on t l m n a b = record {
 
 -- the departure of one that isn't departing
 freeing_descends : (t : ℕ) (m : Member) → is_departing m ≡ false → (slot : ℕ) → Descends t m (with_freeing slot m)
-freeing_descends t m active slot = record { name = refl; weight = refl; joined = refl; next = refl; rises = λ i. omega arith; stays = λ i _. refl; departing = λ d. absurd (true≢false (sym d ∙ active)) }
+freeing_descends t m active slot = record { name = refl; weight = refl; early = refl; joined = refl; next = refl; rises = λ i. omega arith; stays = λ i _. refl; departing = λ d. absurd (true≢false (sym d ∙ active)) }
 
 freeing_sound : (frame t : ℕ) (m : Member) (slot : ℕ) → slot ≡ freeing_slot m t → IsSound frame m → IsSound frame (with_freeing slot m)
 freeing_sound frame t m slot is s = record { weight = s.weight; period = s.period; claim = λ f e. holds f (same_Some slot f e) }
@@ -63,6 +64,7 @@ delay_descends : (t index by : ℕ) (m : Member) → 0 < m.weight.cost → is_de
 delay_descends t index by m some active released to_come = record {
   name = refl;
   weight = refl;
+  early = refl;
   joined = refl;
   next = refl;
   rises = delayed_rises index by m;

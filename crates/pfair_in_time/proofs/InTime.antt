@@ -77,20 +77,20 @@ module _ (s : Settings) (x : Replica) (frame : 0 < s.frame) (weights : SaysWeigh
         ])
   ]
 
-  none : (t : ℕ) (m : Member) → Among (world s x t) m → is_departing m ≡ false → suc t < deadline_of m.weight (index_after s x t m) (theta m (index_after s x t m))
+  pub none : (t : ℕ) (m : Member) → Among (world s x t) m → is_departing m ≡ false → suc t < deadline_of m.weight (index_after s x t m) (theta m (index_after s x t m))
   none t m h d =
       let late = beginning_none_misses (as_run s x (suc t)) (suc t) t (record { task = task_of m; index = index_after s x t m }) (is_run s x frame weights (suc t)) (omega arith)
       (member_active s x frame weights (suc t) (task_of m) t m h refl d) (next_after t m h) (not_yet t m h) in
       let own = own_deadline s x t m (index_after s x t m) h in
       omega arith
 
-  in_time : (t : ℕ) (m : Member) → Among (world s x t) m → runs s x t m ≡ true → t < deadline_of m.weight m.next (theta m m.next)
+  pub in_time : (t : ℕ) (m : Member) → Among (world s x t) m → runs s x t m ≡ true → t < deadline_of m.weight m.next (theta m m.next)
   in_time t m h named =
       let early = beginning_in_time (as_run s x (suc t)) (suc t) t (subtask_of m) (is_run s x frame weights (suc t)) (omega arith) (member_row s x (suc t) t m h named) in
       let own = own_deadline s x t m m.next h in
       omega arith
 
-  released : (t : ℕ) (m : Member) → Among (world s x t) m → runs s x t m ≡ true → m.early ≡ false → release_of m.weight m.next (theta m m.next) ≤ t
+  pub released : (t : ℕ) (m : Member) → Among (world s x t) m → runs s x t m ≡ true → m.early ≡ false → release_of m.weight m.next (theta m m.next) ≤ t
   released t m h named early =
       let p = and_parts (not (is_departing m)) (nat_le (eligible_from m m.next) t) (runs_chosen s x t m h named).0 in
       let from = leb-true (eligible_from m m.next) t p.1 in

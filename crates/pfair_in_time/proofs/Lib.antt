@@ -7,3 +7,5 @@ mod Room
 mod Claims
 mod Executive
 mod InTime
+mod Passing
+mod Windows

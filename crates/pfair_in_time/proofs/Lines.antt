@@ -17,6 +17,7 @@ use Rattle.pfair_in_time.proofs.Worlds.{runs, IsHere, on, on_next, same_member, 
 pub record IsLine (s : Settings) (x : Replica) (u t : ℕ) (m n : Member) : Type 0 where
   pub name : n.name ≡ m.name
   pub weight : n.weight ≡ m.weight
+  pub early : n.early ≡ m.early
   pub joined : n.joined ≡ m.joined
   pub next : m.next ≤ n.next
   pub ran : u < t → runs s x u m ≡ true → m.next < n.next
@@ -30,6 +31,7 @@ line_itself : (s : Settings) (x : Replica) (t : ℕ) (m : Member) → IsLine s x
 line_itself s x t m = record {
   name = refl;
   weight = refl;
+  early = refl;
   joined = refl;
   next = omega arith;
   ran = λ less _. absurd (omega arith);
@@ -44,6 +46,7 @@ line_next : (s : Settings) (x : Replica) (t : ℕ) (m n : Member) → IsHere s x
 line_next s x t m n at d = record {
   name = d.name;
   weight = d.weight;
+  early = d.early;
   joined = d.joined;
   next = (let more = on_next s x t m at in let same = d.next in omega arith);
   ran = λ _ e. one_more e;
@@ -68,6 +71,7 @@ line_on : (s : Settings) (x : Replica) (u v t : ℕ) (l m n : Member) → u < v 
 line_on s x u v t l m n less le a b = record {
   name = b.name ∙ a.name;
   weight = b.weight ∙ a.weight;
+  early = b.early ∙ a.early;
   joined = b.joined ∙ a.joined;
   next = (let one = a.next in let other = b.next in omega arith);
   ran = λ _ e. (let one = a.ran less e in let other = b.next in omega arith);

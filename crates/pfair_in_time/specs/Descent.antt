@@ -11,6 +11,7 @@ use Rattle.pfair_admission.specs.Member.{Member, theta, is_departing, busy_until
 pub record Descends (t : ℕ) (m n : Member) : Type 0 where
   pub name : n.name ≡ m.name
   pub weight : n.weight ≡ m.weight
+  pub early : n.early ≡ m.early
   pub joined : n.joined ≡ m.joined
   pub next : n.next ≡ m.next
   pub rises : (i : ℕ) → theta m i ≤ theta n i

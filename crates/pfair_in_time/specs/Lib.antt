@@ -1,3 +1,4 @@
 pub mod Descent
 pub mod InTime
 pub mod Laws
+pub mod Windows

@@ -16,6 +16,8 @@
 //!   have room, claims are held past busy bounds, and a released subtask without a row sees a full
 //!   table of rows that go before it (`is_run`).
 //! - **In time** (`proofs/InTime.antt`). The theorem in the executive's own words.
+//! - **In windows** (`proofs/Passing.antt`, `proofs/Windows.antt`). The slots in which a member without
+//!   delays runs, counted from its joining, are in its windows, and none that was due is missing.
 #![tactic(auto)]
 
 pub mod laws;

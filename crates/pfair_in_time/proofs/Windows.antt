@@ -1,0 +1,123 @@
+-- The slots in which a member runs are in its windows.
+use Rattle.std.proofs.Common.{◌≡◌, ℕ, zero, suc, ◌+◌, ◌-◌, ◌<◌, ◌≤◌, Bool, true, false, cond, List, [], length, get_or, drop, arith, ap, refl, sym, ◌∙◌, subst, inl, inr}
+use Rattle.std.specs.Prelude.{nat_le, filter, sum_by, count_by}
+use Rattle.std.proofs.lemmas.Bool.{cases_lt}
+use Rattle.pfair_weight.specs.Share.{Share}
+use Rattle.pfair_weight.specs.Window.{release_of, deadline_of}
+use Rattle.pfair_weight.specs.WindowFacts.{deadline_rises}
+use Rattle.pfair_lag.specs.Picks.{ArePicks, InWindows, MeetsDeadlines}
+use Rattle.pfair_replica.specs.Among.{Among}
+use Rattle.pfair_replica.specs.Replica.{Replica}
+use Rattle.pfair_admission.specs.Member.{Member, theta, is_departing}
+use Rattle.pfair_admission.specs.declared.delay.Delay.{Delay}
+use Rattle.pfair_table.specs.Table.{Settings, names_task, quanta, next_index, world, table}
+use Rattle.pfair_in_time.specs.InTime.{SaysWeights, index_after}
+use Rattle.pfair_in_time.specs.Windows.{slots_since, slots_run, DeadlinesAreKept, WindowsAreKept}
+use Rattle.pfair_in_time.proofs.Worlds.{tables_before, runs, next_more, next_new, here}
+use Rattle.pfair_in_time.proofs.Lines.{IsLine, back_to}
+use Rattle.pfair_in_time.proofs.InTime.{none, in_time, released}
+use Rattle.pfair_in_time.proofs.Passing.{passing, one_more, at_place, passing_rise}
+
+-- whether a member runs in a slot that is counted from its joining
+abbrev runs_at : Settings → Replica → Member → ℕ → Bool
+runs_at s x m slot = names_task m.name (table s x (m.joined + slot))
+
+-- its quanta are as many as such slots
+quanta_passing : (s : Settings) (x : Replica) (m : Member) (slot : ℕ) → quanta (tables_before s x (m.joined + slot)) m ≡ length (passing (runs_at s x m) slot)
+quanta_passing s x m zero = (let new = next_new s x (m.joined + 0) m (omega arith) in omega arith)
+quanta_passing s x m (suc slot) =
+    let more = next_more s x (m.joined + slot) m (omega arith) in
+    let before = quanta_passing s x m slot in
+    let passes = one_more (runs_at s x m) slot in
+    let at : suc (m.joined + slot) ≡ m.joined + suc slot = omega arith in
+    let same = ap (λ t. quanta (tables_before s x t) m) at in
+    omega arith
+
+-- without delays the offset is the joining slot
+no_offset : (m : Member) (i : ℕ) → m.delays ≡ [] → theta m i ≡ m.joined
+no_offset m i e = ap (λ ds. m.joined + sum_by (λ (d : Delay). d.by) (filter (λ (d : Delay). nat_le d.index i) ds)) e ∙ omega arith
+
+-- a subtask that runs in a slot counted from the joining does so in its window
+record IsKept (m : Member) (slot index : ℕ) : Type 0 where
+  before_deadline : slot < deadline_of m.weight index 0
+  released : m.early ≡ false → release_of m.weight index 0 ≤ slot
+
+module _ (s : Settings) (x : Replica) (frame : 0 < s.frame) (weights : SaysWeights x) where
+  kept_at : (t slot : ℕ) (m l : Member) → Among (world s x (m.joined + slot)) l → IsLine s x (m.joined + slot) t l m → m.delays ≡ [] → runs_at s x m slot ≡ true
+      → IsKept m slot (1 + length (passing (runs_at s x m) slot))
+  kept_at t slot m l h line undelayed ran = record {
+    before_deadline = (
+        let early = in_time s x frame weights (m.joined + slot) l h named in
+        let same = ap (λ (w : Share). deadline_of w l.next (theta l l.next)) line.weight in
+        let is = ap (λ i. deadline_of m.weight i 0) next in
+        let up = line.rises l.next in
+        let offset = no_offset m l.next undelayed in
+        omega arith);
+    released = λ e. (
+        let from = released s x frame weights (m.joined + slot) l h named (sym line.early ∙ e) in
+        let same = ap (λ (w : Share). release_of w l.next (theta l l.next)) line.weight in
+        let is = ap (λ i. release_of m.weight i 0) next in
+        let joined = line.joined in
+        omega arith);
+  }
+    where
+      named : runs s x (m.joined + slot) l ≡ true
+      named = ap (λ n. names_task n (table s x (m.joined + slot))) (sym line.name) ∙ ran
+
+      own : next_index (tables_before s x (m.joined + slot)) l ≡ next_index (tables_before s x (m.joined + slot)) m
+      own = ap (λ n. 1 + count_by (names_task n) (drop l.joined (tables_before s x (m.joined + slot)))) (sym line.name) ∙ ap (λ j. 1 + count_by (names_task m.name) (drop j (tables_before s x (m.joined + slot)))) (sym line.joined)
+
+      next : l.next ≡ 1 + length (passing (runs_at s x m) slot)
+      next = (here s x weights (m.joined + slot) l h).next ∙ own ∙ ap (λ n. 1 + n) (quanta_passing s x m slot)
+
+  kept : (t : ℕ) (m : Member) → Among (world s x t) m → m.delays ≡ [] → (i : ℕ) → 1 ≤ i → i ≤ length (slots_run s x t m) → IsKept m (get_or (slots_run s x t m) (i - 1) 0) i
+  kept t m h undelayed i first inside =
+      let p = at_place (runs_at s x m) (slots_since t m) (i - 1) (omega arith) in
+      let below = p.below in
+      let q = back_to s x weights t (m.joined + get_or (slots_run s x t m) (i - 1) 0) m h (omega arith) (omega arith) in
+      let index : 1 + length (passing (runs_at s x m) (get_or (slots_run s x t m) (i - 1) 0)) ≡ i = (let before = p.before in omega arith) in
+      subst (IsKept m (get_or (slots_run s x t m) (i - 1) 0)) index (kept_at t (get_or (slots_run s x t m) (i - 1) 0) m q.0 q.1 q.2 undelayed p.passes)
+
+  served : (t : ℕ) (m : Member) → Among (world s x t) m → is_departing m ≡ false → m.delays ≡ [] → (i : ℕ) → 1 ≤ i → deadline_of m.weight i 0 ≤ slots_since t m → i ≤ length (slots_run s x t m)
+  served t m h active undelayed i first due =
+      elim (cases_lt (length (slots_run s x t m)) i) [
+        | inr has ↦ has
+        | inl missing ↦ absurd (
+            let at = here s x weights t m h in
+            let joined = at.by_now in
+            let late = none s x frame weights t m h active in
+            let offset = no_offset m (index_after s x t m) undelayed in
+            let now : m.joined + slots_since t m ≡ suc t = omega arith in
+            let ran = quanta_passing s x m (slots_since t m) in
+            let same = ap (λ u. quanta (tables_before s x u) m) now in
+            let index : index_after s x t m ≡ 1 + length (slots_run s x t m) = omega arith in
+            let is = ap (λ k. deadline_of m.weight k 0) index in
+            let rise = deadline_rises m.weight (1 + length (slots_run s x t m)) i at.sound.weight.some_cost (omega arith) in
+            omega arith)
+      ]
+
+  meets_deadlines : (t : ℕ) (m : Member) → Among (world s x t) m → is_departing m ≡ false → m.delays ≡ [] → MeetsDeadlines m.weight (slots_run s x t m) (slots_since t m)
+  meets_deadlines t m h active undelayed = record {
+    in_time = λ i first inside. (kept t m h undelayed i first inside).before_deadline;
+    served = served t m h active undelayed;
+  }
+
+  in_windows : (t : ℕ) (m : Member) → Among (world s x t) m → is_departing m ≡ false → m.delays ≡ [] → m.early ≡ false → InWindows m.weight (slots_run s x t m) (slots_since t m)
+  in_windows t m h active undelayed early = record {
+    releases = λ i first inside. (kept t m h undelayed i first inside).released early;
+    deadlines = meets_deadlines t m h active undelayed;
+  }
+
+pub deadlines_are_kept : DeadlinesAreKept
+deadlines_are_kept s x frame weights t m h active undelayed = record {
+  weight = (here s x weights t m h).sound.weight;
+  are_picks = passing_rise (runs_at s x m) (slots_since t m);
+  deadlines = meets_deadlines s x frame weights t m h active undelayed;
+}
+
+pub windows_are_kept : WindowsAreKept
+windows_are_kept s x frame weights t m h active undelayed early = record {
+  weight = (here s x weights t m h).sound.weight;
+  are_picks = passing_rise (runs_at s x m) (slots_since t m);
+  windows = in_windows s x frame weights t m h active undelayed early;
+}
