@@ -6,7 +6,7 @@ use Rattle.std.proofs.lemmas.Nat.{mul-le}
 use Rattle.std.proofs.Math.Nat.{le_refl}
 use Rattle.std.proofs.lemmas.List.Elements.{All-map, All-append}
 use Rattle.pfair_drawing.specs.declared.frame.Frame.{Frame}
-use Rattle.pfair_drawing.specs.declared.shape.Area.{Area}
+use Rattle.pfair_svg.specs.declared.shape.Area.{Area}
 use Rattle.pfair_drawing.specs.declared.history.Life.{Life}
 use Rattle.pfair_drawing.specs.declared.history.Late.{Late}
 use Rattle.pfair_drawing.specs.declared.runs.Ran.{Ran}
@@ -15,7 +15,7 @@ use Rattle.pfair_drawing.specs.Inside.{AreaLiesIn}
 use Rattle.pfair_weight.specs.Name.{NameValue}
 use Rattle.pfair_drawing.specs.Names.{row_of}
 use Rattle.pfair_drawing.specs.Quanta.{quantum_bar, cell_bar}
-use Rattle.pfair_drawing.specs.Windows.{windows_from, life_windows, window_area, meets}
+use Rattle.pfair_drawing.specs.Windows.{windows_from, life_windows, window_of, meets}
 
 -- an area of a figure
 abbrev pub InFrame : Frame → Area → Type 0
@@ -84,14 +84,14 @@ cell_inside f r h =
     below : (a c s b : ℕ) → a ≤ c → s ≤ 15 → 7 ≤ s → b + 12 + a + 1 + (s - 2) ≤ b + 12 + c + 4 + 98
     below a c s b h k j = omega arith
 
-life_inside : (f : Frame) (row : ℕ) (late : List Late) (place : ℕ) (life : Life) → IsFrame f → All (InFrame f) (life_windows f row late place life)
+life_inside : (f : Frame) (row : ℕ) (late : List Late) (place : ℕ) (life : Life) → IsFrame f → All (λ b. InFrame f b.area) (life_windows f row late place life)
 life_inside f row late place life h =
-    All-map (InFrame f) (window_area f row late place life) (filter (meets f late place life) (range_with_len 1 f.to)) (λ k d inside. lane_inside f row _ _ _ h)
+    All-map (λ b. InFrame f b.area) (window_of f row late place life) (filter (meets f late place life) (range_with_len 1 f.to)) (λ k d inside. lane_inside f row _ _ _ h)
 
-pub windows_inside : (f : Frame) (names : List NameValue) (late : List Late) (place : ℕ) (lives : List Life) → IsFrame f → All (InFrame f) (windows_from f names late place lives)
+pub windows_inside : (f : Frame) (names : List NameValue) (late : List Late) (place : ℕ) (lives : List Life) → IsFrame f → All (λ b. InFrame f b.area) (windows_from f names late place lives)
 windows_inside f names late place [] h = λ k d inside. absurd (omega arith)
 windows_inside f names late place (l ∷ ls) h =
-    All-append (InFrame f) (life_windows f (row_of names l.name) late place l) (windows_from f names late (suc place) ls) (life_inside f (row_of names l.name) late place l h) (windows_inside f names late (suc place) ls h)
+    All-append (λ b. InFrame f b.area) (life_windows f (row_of names l.name) late place l) (windows_from f names late (suc place) ls) (life_inside f (row_of names l.name) late place l h) (windows_inside f names late (suc place) ls h)
 
 pub quanta_inside : (f : Frame) (runs : List Ran) → IsFrame f → All (λ q. InFrame f q.area) (map (quantum_bar f) runs)
 quanta_inside f runs h = All-map (λ q. InFrame f q.area) (quantum_bar f) runs (λ k d inside. quantum_inside f (slice_index_or runs k d) h)

@@ -5,6 +5,4 @@ mod MarkFacts
 mod RowFacts
 mod ScheduleFacts
 mod StepFacts
-mod SlotFacts
-mod TextFacts
 mod WindowFacts

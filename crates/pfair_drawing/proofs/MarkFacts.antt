@@ -9,16 +9,21 @@ use Rattle.pfair_admission.specs.declared.refusal.Refusal.{Refusal}
 use Rattle.pfair_table.specs.declared.pick.Decided.{Decided}
 use Rattle.pfair_table.specs.Table.{Table}
 use Rattle.pfair_lag.specs.Book.{lag_of, slot_more}
+use Rattle.pfair_svg.specs.declared.caption.Refusals.{Refusals}
+use Rattle.pfair_svg.specs.declared.mark.LifeMark.{LifeMark}
+use Rattle.pfair_svg.specs.declared.shape.Bar.{Bar}
+use Rattle.pfair_svg.specs.declared.shape.Label.{Label}
+use Rattle.pfair_svg.specs.declared.shape.Point.{Point}
 use Rattle.pfair_drawing.specs.declared.frame.Frame.{Frame}
 use Rattle.pfair_drawing.specs.declared.history.Life.{Life}
 use Rattle.pfair_drawing.specs.declared.history.Late.{Late}
 use Rattle.pfair_drawing.specs.declared.history.Leave.{Leave}
 use Rattle.pfair_drawing.specs.Frame.{IsFrame, has_slot, slot_x, row_y, lanes_height, lane_y, lane_middle, width_of, height_of}
-use Rattle.pfair_drawing.specs.Inside.{AreaLiesIn, ArrowLiesIn, LabelLiesIn, LateLiesIn, PointLiesIn, RefusalLiesIn, StepLiesIn}
+use Rattle.pfair_drawing.specs.Inside.{AreaLiesIn, ArrowLiesIn, BeyondLiesIn, LabelLiesIn, LateLiesIn, PointLiesIn, RefusalLiesIn, StepLiesIn}
 use Rattle.pfair_weight.specs.Name.{NameValue}
 use Rattle.pfair_drawing.specs.Names.{row_of}
-use Rattle.pfair_drawing.specs.Marks.{arrows, departures, departure_arrow, held, held_area, held_by, is_refused, is_shown, join_arrow, late_after, late_arrow, late_mark, late_of, late_of_life, life_arrows, more_label, refusal_mark, refusal_of, refusals, refusals_after}
-use Rattle.pfair_drawing.specs.Lags.{book_at, lag_step, lag_steps, lag_y, ran_at, slot_steps, task_step}
+use Rattle.pfair_drawing.specs.Marks.{arrows, departures, departure_arrow, departure_mark, held, held_bar, held_by, is_shown, join_arrow, join_mark, late_after, late_arrow, late_mark, late_of, late_of_life, life_arrows, more_label, refusal_label, refusal_mark, refusal_of, refusal_words, refusal_x, refusal_y, refusals, refusals_among, refusals_by, refusals_in}
+use Rattle.pfair_drawing.specs.Lags.{beyond_label, beyond_mark, beyond_of, book_at, full_height, is_beyond, lag_step, lag_steps, lag_y, ran_at, slot_steps, task_step}
 use Rattle.pfair_drawing.specs.Slots.{decided_at}
 use Rattle.pfair_drawing.specs.Windows.{opens}
 use Rattle.pfair_entry.specs.Names.{name_of}
@@ -38,6 +43,10 @@ all_if P false xs p = All-nil P
 some_cond : {A : Type 0} (P : A → Type 0) (b : Bool) (x : A) → P x → IfSome (cond b (Some x) None) P
 some_cond P true x p = p
 some_cond P false x p = tt
+
+none_cond : {A : Type 0} (P : A → Type 0) (b : Bool) (x : A) → P x → IfSome (cond b None (Some x)) P
+none_cond P true x p = tt
+none_cond P false x p = p
 
 all_flat : {A B : Type 0} (P : B → Type 0) (g : A → List B) (xs : List A) → ((x : A) → All P (g x)) → All P (flat_map g xs)
 all_flat P g [] each = All-nil P
@@ -88,18 +97,24 @@ module _ (f : Frame) (h : IsFrame f) where
       tip : (a b l : ℕ) → a ≤ b → l ≤ 55 → a + l - 2 ≤ b + 68
       tip a b l h k = omega arith
 
-  departures_inside : (row : ℕ) (leave : Option Leave) → All (ArrowLiesIn (width_of f) (height_of f)) (departures f row leave)
-  departures_inside row None = All-nil _
-  departures_inside row (Some leave) = all_cond (ArrowLiesIn (width_of f) (height_of f)) (has_slot f leave.stamp) (departure_arrow f row leave.stamp) (departure_inside row leave.stamp)
+  abbrev LifeInside : LifeMark → Type 0
+  LifeInside m = ArrowLiesIn (width_of f) (height_of f) m.arrow
 
-  pub arrows_inside : (names : List NameValue) (lives : List Life) → All (ArrowLiesIn (width_of f) (height_of f)) (arrows f names lives)
+  departures_inside : (row : ℕ) (leave : Option Leave) → All LifeInside (departures f row leave)
+  departures_inside row None = All-nil _
+  departures_inside row (Some leave) = all_cond LifeInside (has_slot f leave.stamp) (departure_mark f row leave) (departure_inside row leave.stamp)
+
+  pub arrows_inside : (names : List NameValue) (lives : List Life) → All (λ m. ArrowLiesIn (width_of f) (height_of f) m.arrow) (arrows f names lives)
   arrows_inside names lives =
-      all_flat (ArrowLiesIn (width_of f) (height_of f)) (life_arrows f names) lives
-      (λ life. All-append (ArrowLiesIn (width_of f) (height_of f)) (cond (has_slot f life.joined) (join_arrow f (row_of names life.name) life.joined ∷ []) []) (departures f (row_of names life.name) life.leave)
-      (all_cond (ArrowLiesIn (width_of f) (height_of f)) (has_slot f life.joined) (join_arrow f (row_of names life.name) life.joined) (join_inside (row_of names life.name) life.joined))
+      all_flat LifeInside (life_arrows f names) lives
+      (λ life. All-append LifeInside (cond (has_slot f life.joined) (join_mark f (row_of names life.name) life.joined life.weight ∷ []) []) (departures f (row_of names life.name) life.leave)
+      (all_cond LifeInside (has_slot f life.joined) (join_mark f (row_of names life.name) life.joined life.weight) (join_inside (row_of names life.name) life.joined))
       (departures_inside (row_of names life.name) life.leave))
 
-  held_inside_of : (row : ℕ) (leave : Leave) → AreaLiesIn (width_of f) (height_of f) (held_area f row leave)
+  abbrev BarInside : Bar → Type 0
+  BarInside b = AreaLiesIn (width_of f) (height_of f) b.area
+
+  held_inside_of : (row : ℕ) (leave : Leave) → BarInside (held_bar f row leave)
   held_inside_of row leave =
       let left : slot_x f leave.stamp ≤ slot_x f f.to = slot_at_most f leave.stamp in
       let right : slot_x f leave.freed_at ≤ slot_x f f.to = slot_at_most f leave.freed_at in
@@ -114,13 +129,13 @@ module _ (f : Frame) (h : IsFrame f) where
       below : (a b c l p : ℕ) → a ≤ b → l ≤ 20 → p ≤ 7 → a + p + (2 * l + 1) ≤ b + 12 + c + 4 + 98
       below a b c l p h k j = omega arith
 
-  held_by_inside : (row : ℕ) (leave : Option Leave) → All (AreaLiesIn (width_of f) (height_of f)) (held_by f row leave)
+  held_by_inside : (row : ℕ) (leave : Option Leave) → All BarInside (held_by f row leave)
   held_by_inside row None = All-nil _
-  held_by_inside row (Some leave) = all_cond (AreaLiesIn (width_of f) (height_of f)) (nat_lt (slot_x f leave.stamp) (slot_x f leave.freed_at)) (held_area f row leave) (held_inside_of row leave)
+  held_by_inside row (Some leave) = all_cond BarInside (nat_lt (slot_x f leave.stamp) (slot_x f leave.freed_at)) (held_bar f row leave) (held_inside_of row leave)
 
-  pub held_inside : (names : List NameValue) (lives : List Life) → All (AreaLiesIn (width_of f) (height_of f)) (held f names lives)
+  pub held_inside : (names : List NameValue) (lives : List Life) → All (λ b. AreaLiesIn (width_of f) (height_of f) b.area) (held f names lives)
   held_inside names lives =
-      all_flat (AreaLiesIn (width_of f) (height_of f)) (λ life. held_by f (row_of names life.name) life.leave) lives (λ life. held_by_inside (row_of names life.name) life.leave)
+      all_flat BarInside (λ life. held_by f (row_of names life.name) life.leave) lives (λ life. held_by_inside (row_of names life.name) life.leave)
 
   -- ---- late releases
 
@@ -174,54 +189,68 @@ module _ (f : Frame) (h : IsFrame f) where
 
   -- ---- refusals
 
-  refusal_inside : (row slot count : ℕ) (why : Refusal) → RefusalLiesIn (width_of f) (height_of f) (refusal_mark f row slot count why)
-  refusal_inside row slot count why =
-      let high : row_y f row ≤ row_y f f.rows = row_at_most f row in (
-        (at_most (slot_x f slot + 7 + 24 * min count 100) (slot_x f f.to), below (row_y f row) (row_y f f.rows) (min f.processors f.processors * f.sizes.cell) (lanes_height f) f.sizes.strip high lanes_low h.sizes.strip),
-        (beside (slot_x f slot + 7 + 24 * min count 100) (slot_x f f.to), lower (row_y f row) (row_y f f.rows) (min f.processors f.processors * f.sizes.cell) (lanes_height f) f.sizes.strip high lanes_low h.sizes.strip),
-      )
+  refusal_label_inside : (row slot : ℕ) (refusals : Refusals) (why : Refusal) → IfSome (refusal_mark f row slot refusals why).number (LabelLiesIn (width_of f) (height_of f))
+  refusal_label_inside row slot refusals why =
+      none_cond (LabelLiesIn (width_of f) (height_of f)) (nat_lt f.sizes.slot 28) _ (right (slot_x f slot) (slot_x f f.to) f.sizes.slot (slot_at_most f slot), below (row_y f row) (row_y f f.rows) (min f.processors f.processors * f.sizes.cell) (lanes_height f) f.sizes.strip (row_at_most f row) lanes_low h.sizes.strip)
     where
-      at_most : (x c : ℕ) → min x (max (c + 40) 640 - 20) ≤ max (c + 40) 640
-      at_most x c = omega arith
+      right : (a c s : ℕ) → a ≤ c → a + min 7 (s / 2) + 6 ≤ max (c + 40) 640
+      right a c s h = omega arith
 
-      beside : (x c : ℕ) → min x (max (c + 40) 640 - 20) + 6 ≤ max (c + 40) 640
-      beside x c = omega arith
+      below : (a b c l s : ℕ) → a ≤ b → l ≤ 55 → s ≤ 13 → a + l + s / 2 - 3 + 4 ≤ b + 12 + c + 4 + 98
+      below a b c l s h k j = omega arith
+
+  refusal_inside : (row slot : ℕ) (refusals : Refusals) (why : Refusal) → RefusalLiesIn (width_of f) (height_of f) (refusal_mark f row slot refusals why)
+  refusal_inside row slot refusals why = (
+    (right (slot_x f slot) (slot_x f f.to) f.sizes.slot (slot_at_most f slot), below (row_y f row) (row_y f f.rows) (min f.processors f.processors * f.sizes.cell) (lanes_height f) f.sizes.strip (row_at_most f row) lanes_low h.sizes.strip),
+    refusal_label_inside row slot refusals why,
+  )
+    where
+      right : (a c s : ℕ) → a ≤ c → a + min 7 (s / 2) ≤ max (c + 40) 640
+      right a c s h = omega arith
 
       below : (a b c l s : ℕ) → a ≤ b → l ≤ 55 → s ≤ 13 → a + l + s / 2 - 3 ≤ b + 12 + c + 4 + 98
       below a b c l s h k j = omega arith
 
-      lower : (a b c l s : ℕ) → a ≤ b → l ≤ 55 → s ≤ 13 → a + l + s / 2 - 3 + 4 ≤ b + 12 + c + 4 + 98
-      lower a b c l s h k j = omega arith
-
-  refusal_of_inside : (names : List NameValue) (slot : ℕ) (before : List Decided) (name : NameValue) (d : Decision) → All (RefusalLiesIn (width_of f) (height_of f)) (refusal_of f names slot before name d)
-  refusal_of_inside names slot before name Admitted = All-nil _
-  refusal_of_inside names slot before name (Departing freed_at) = All-nil _
-  refusal_of_inside names slot before name Delayed = All-nil _
-  refusal_of_inside names slot before name (Refused why) = all_one (RefusalLiesIn (width_of f) (height_of f)) _ (refusal_inside (row_of names name) slot (count_by (is_refused name) before) why)
-
-  refusals_after_inside : (names : List NameValue) (slot : ℕ) (before ds : List Decided) → All (RefusalLiesIn (width_of f) (height_of f)) (refusals_after f names slot before ds)
-  refusals_after_inside names slot before [] = All-nil _
-  refusals_after_inside names slot before (d ∷ more) =
-      All-append (RefusalLiesIn (width_of f) (height_of f)) (refusal_of f names slot before (name_of d.announcement) d.decision) (refusals_after f names slot (before ++ d ∷ []) more)
-      (refusal_of_inside names slot before (name_of d.announcement) d.decision) (refusals_after_inside names slot (before ++ d ∷ []) more)
+  refusal_of_inside : (names : List NameValue) (slot : ℕ) (all : List Decided) (name : NameValue) (d : Decision) → All (RefusalLiesIn (width_of f) (height_of f)) (refusal_of f names slot all name d)
+  refusal_of_inside names slot all name Admitted = All-nil _
+  refusal_of_inside names slot all name (Departing freed_at) = All-nil _
+  refusal_of_inside names slot all name Delayed = All-nil _
+  refusal_of_inside names slot all name (Refused why) = all_one (RefusalLiesIn (width_of f) (height_of f)) _ (refusal_inside (row_of names name) slot (refusals_by name all) why)
 
   pub refusals_inside : (names : List NameValue) (decided : List (List Decided)) → All (RefusalLiesIn (width_of f) (height_of f)) (refusals f names decided)
   refusals_inside names decided =
-      all_flat (RefusalLiesIn (width_of f) (height_of f)) (λ slot. refusals_after f names slot [] (decided_at decided slot)) (range_with_len f.from (f.to - f.from)) (λ slot. refusals_after_inside names slot [] (decided_at decided slot))
+      all_flat (RefusalLiesIn (width_of f) (height_of f)) (refusals_in f names decided) (range_with_len f.from (f.to - f.from))
+      (λ slot. all_flat (RefusalLiesIn (width_of f) (height_of f)) (λ (d : Decided). refusal_of f names slot (decided_at decided slot) (name_of d.announcement) d.decision) (decided_at decided slot)
+      (λ d. refusal_of_inside names slot (decided_at decided slot) (name_of d.announcement) d.decision))
 
   -- ---- lags
 
   lag_inside : (row slot : ℕ) (lag : ℤ × ℕ) → PointLiesIn (width_of f) (height_of f) (record { x = slot_x f slot; y = lag_y f row lag })
   lag_inside row slot lag =
       let high : row_y f row ≤ row_y f f.rows = row_at_most f row in
-      at_slot slot _ (far (int_le (pos 0) lag.0) (row_y f row) (row_y f f.rows) f.sizes.lane f.sizes.pad (unsigned_abs lag.0 * f.sizes.lane / max lag.1 1) high h.sizes.high h.sizes.pad)
+      at_slot slot _ (far (int_le (pos 0) lag.0) (row_y f row) (row_y f f.rows) f.sizes.lane f.sizes.pad (full_height f lag) high h.sizes.high h.sizes.pad)
     where
       far : (up : Bool) (a b l p x : ℕ) → a ≤ b → l ≤ 20 → p ≤ 7 → cond up (a + p + l - min x (l + p)) (a + p + l + min x (l + p)) ≤ b + 68
       far true a b l p x h k j = omega arith
       far false a b l p x h k j = omega arith
 
+  -- the lag itself, a little below a mark above or a little above one below
+  beyond_label_inside : (row slot : ℕ) (lag : ℤ × ℕ) → IfSome (beyond_label f (record { x = slot_x f slot; y = lag_y f row lag }) lag) (LabelLiesIn (width_of f) (height_of f))
+  beyond_label_inside row slot lag =
+      let high : row_y f row ≤ row_y f f.rows = row_at_most f row in
+      none_cond (LabelLiesIn (width_of f) (height_of f)) (nat_lt f.sizes.slot 28) _
+      (at_slot slot _ (far (int_le (pos 0) lag.0) (row_y f row) (row_y f f.rows) f.sizes.lane f.sizes.pad (full_height f lag) high h.sizes.high h.sizes.pad))
+    where
+      far : (up : Bool) (a b l p x : ℕ) → a ≤ b → l ≤ 20 → p ≤ 7
+          → cond up (cond up (a + p + l - min x (l + p)) (a + p + l + min x (l + p)) + 10) (cond up (a + p + l - min x (l + p)) (a + p + l + min x (l + p)) - 5) ≤ b + 68
+      far true a b l p x h k j = omega arith
+      far false a b l p x h k j = omega arith
+
+  beyond_inside : (row slot : ℕ) (lag : ℤ × ℕ) → IfSome (beyond_of f (record { x = slot_x f slot; y = lag_y f row lag }) lag) (BeyondLiesIn (width_of f) (height_of f))
+  beyond_inside row slot lag = some_cond (BeyondLiesIn (width_of f) (height_of f)) (is_beyond f lag) _ (lag_inside row slot lag, beyond_label_inside row slot lag)
+
   step_inside : (row slot : ℕ) (old new : ℤ × ℕ) → StepLiesIn (width_of f) (height_of f) (lag_step f row slot old new)
-  step_inside row slot old new = (lag_inside row slot old, lag_inside row (slot + 1) new)
+  step_inside row slot old new = record { from = lag_inside row slot old; to = lag_inside row (slot + 1) new; beyond = beyond_inside row (slot + 1) new }
 
   pub steps_inside : (names : List NameValue) (decided : List (List Decided)) (tables : List Table) → All (StepLiesIn (width_of f) (height_of f)) (lag_steps f names decided tables)
   steps_inside names decided tables =

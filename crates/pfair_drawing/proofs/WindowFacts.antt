@@ -8,13 +8,12 @@ use Rattle.pfair_weight.specs.Share.{IsWeight}
 use Rattle.pfair_weight.specs.Window.{release_of}
 use Rattle.pfair_weight.specs.WindowFacts.{release_rises}
 use Rattle.pfair_drawing.specs.declared.frame.Frame.{Frame}
-use Rattle.pfair_drawing.specs.declared.shape.Area.{Area}
+use Rattle.pfair_svg.specs.declared.shape.Bar.{Bar}
 use Rattle.pfair_drawing.specs.declared.history.Life.{Life}
 use Rattle.pfair_drawing.specs.declared.history.Late.{Late}
 use Rattle.pfair_drawing.specs.declared.history.Leave.{Leave}
-use Rattle.pfair_drawing.specs.Windows.{put_off_by, offset_of, opens, closes, cut, ends, meets, window_area}
-use Rattle.pfair_drawing.specs.Frame.{lane_area}
-use Rattle.pfair_drawing.proofs.SlotFacts.{range_first}
+use Rattle.pfair_drawing.specs.Windows.{put_off_by, offset_of, opens, closes, cut, ends, meets, window_bar, window_of}
+use Rattle.pfair_svg.proofs.RangeFacts.{range_first}
 
 put_off_more : (a b c : Bool) (n : ℕ) → (b ≡ true → c ≡ true) → cond (a && b) n 0 ≤ cond (a && c) n 0
 put_off_more false b c n more = omega arith
@@ -73,7 +72,7 @@ module _ (f : Frame) (late : List Late) (place : ℕ) (life : Life) where
   none_meet (suc n) i j weight first h past = rw (misses i j weight first h past) (none_meet n i (j + 1) weight first (omega arith) past)
 
 -- one more number of a range that is filtered
-pub filter_more : (p : ℕ → Bool) (g : ℕ → Area) (a b : ℕ) (before after whole : List Area) → a < b → after ≡ before ++ cond (p a) (g a ∷ []) []
+pub filter_more : (p : ℕ → Bool) (g : ℕ → Bar) (a b : ℕ) (before after whole : List Bar) → a < b → after ≡ before ++ cond (p a) (g a ∷ []) []
     → before ++ map g (filter p (range_with_len a (b - a))) ≡ whole → after ++ map g (filter p (range_with_len (a + 1) (b - (a + 1)))) ≡ whole
 filter_more p g a b before after whole inside grown is =
     ap (λ l. l ++ map g (filter p (range_with_len (a + 1) (b - (a + 1))))) grown
@@ -87,12 +86,12 @@ filter_more p g a b before after whole inside grown is =
     chosen false rest = refl
 
 -- a window whose subtask's time doesn't end before it opens meets a figure where it closes after the figure's beginning
-pub met : (f : Frame) (row : ℕ) (late : List Late) (place : ℕ) (life : Life) (index o c e : ℕ) (before after : List Area)
-    → after ≡ before ++ cond (nat_lt f.from c) (lane_area f row index o c ∷ []) [] → o ≡ opens late place life index → c ≡ closes late place life index → e ≡ ends life index f.to → o < e
-    → after ≡ before ++ cond (meets f late place life index) (window_area f row late place life index ∷ []) []
+pub met : (f : Frame) (row : ℕ) (late : List Late) (place : ℕ) (life : Life) (index o c e : ℕ) (before after : List Bar)
+    → after ≡ before ++ cond (nat_lt f.from c) (window_bar f row index o c ∷ []) [] → o ≡ opens late place life index → c ≡ closes late place life index → e ≡ ends life index f.to → o < e
+    → after ≡ before ++ cond (meets f late place life index) (window_of f row late place life index ∷ []) []
 met f row late place life index o c e before after grown opens_are closes_are ends_are less =
     let early : nat_lt (opens late place life index) (ends life index f.to) ≡ true = lt-ltb (opens late place life index) (ends life index f.to) (rw (sym opens_are, sym ends_are) less) in
     grown
-    ∙ ap (λ (o : ℕ). before ++ cond (nat_lt f.from c) (lane_area f row index o c ∷ []) []) opens_are
-    ∙ ap (λ (c : ℕ). before ++ cond (nat_lt f.from c) (lane_area f row index (opens late place life index) c ∷ []) []) closes_are
-    ∙ ap (λ (b : Bool). before ++ cond (b && nat_lt f.from (closes late place life index)) (window_area f row late place life index ∷ []) []) (sym early)
+    ∙ ap (λ (o : ℕ). before ++ cond (nat_lt f.from c) (window_bar f row index o c ∷ []) []) opens_are
+    ∙ ap (λ (c : ℕ). before ++ cond (nat_lt f.from c) (window_bar f row index (opens late place life index) c ∷ []) []) closes_are
+    ∙ ap (λ (b : Bool). before ++ cond (b && nat_lt f.from (closes late place life index)) (window_of f row late place life index ∷ []) []) (sym early)

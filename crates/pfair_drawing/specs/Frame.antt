@@ -2,8 +2,8 @@
 use Rattle.std.specs.Prelude.{ℕ, ◌+◌, ◌-◌, ◌*◌, ◌/◌, ◌%◌, ◌≤◌, min, max, Bool, ◌&&◌, nat_le, nat_lt}
 use Rattle.pfair_drawing.specs.declared.frame.Frame.{Frame}
 use Rattle.pfair_drawing.specs.declared.sizes.Sizes.{Sizes}
-use Rattle.pfair_drawing.specs.declared.shape.Area.{Area}
-use Rattle.pfair_drawing.specs.declared.shape.Point.{Point}
+use Rattle.pfair_svg.specs.declared.shape.Area.{Area}
+use Rattle.pfair_svg.specs.declared.shape.Point.{Point}
 
 -- the sizes of a figure's parts are within the table's
 pub record IsSizes (s : Sizes) : Type 0 where

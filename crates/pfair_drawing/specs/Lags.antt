@@ -1,14 +1,35 @@
 -- What the picture of lags shows: for each task, slot by slot, its lag from the slot's beginning to its end.
-use Rattle.std.specs.Prelude.{ℕ, zero, suc, ◌+◌, ◌-◌, ◌*◌, ◌/◌, ◌≡◌, ℤ, pos, int_le, unsigned_abs, min, max, Bool, nat_le, if◌then◌else◌, List, [], map, length}
+use Rattle.std.specs.Prelude.{ℕ, zero, suc, ◌+◌, ◌-◌, ◌*◌, ◌/◌, ◌≡◌, ℤ, pos, int_le, unsigned_abs, min, max, Bool, false, nat_le, nat_lt, if◌then◌else◌, Option, Some, None, ◌++◌, ◌∷◌, List, [], map, length}
 use Rattle.std.specs.List.{flat_map, range_with_len}
 use Rattle.pfair_table.specs.declared.pick.Decided.{Decided}
-use Rattle.pfair_table.specs.Table.{Table}
+use Rattle.pfair_table.specs.Table.{Settings, Table}
 use Rattle.pfair_lag.specs.Book.{Tally, Book, empty_book, lag_of, recorded, slot_more}
 use Rattle.pfair_output.specs.Told.{all_told}
 use Rattle.pfair_drawing.specs.declared.frame.Frame.{Frame}
-use Rattle.pfair_drawing.specs.declared.drawing.Drawing.{Drawing}
-use Rattle.pfair_drawing.specs.declared.mark.LagStep.{LagStep}
-use Rattle.pfair_drawing.specs.Frame.{IsFrame, slot_x, row_y, width_of, height_of}
+use Rattle.pfair_svg.specs.declared.drawing.Drawing.{Drawing}
+use Rattle.pfair_svg.specs.declared.caption.Caption.TheVariants as caption
+use Rattle.pfair_svg.specs.declared.drawing.Content.TheVariants as content
+use Rattle.pfair_svg.specs.declared.drawing.Lags.{Lags}
+use Rattle.pfair_svg.specs.declared.mark.BeyondMark.{BeyondMark}
+use Rattle.pfair_svg.specs.declared.mark.LagStep.{LagStep}
+use Rattle.pfair_svg.specs.declared.mark.Mark.{Mark}
+use Rattle.pfair_svg.specs.declared.mark.Mark.TheVariants as mark
+use Rattle.pfair_svg.specs.declared.shape.Fill.TheVariants as fill
+use Rattle.pfair_svg.specs.declared.shape.Label.{Label}
+use Rattle.pfair_svg.specs.declared.shape.Point.{Point}
+use Rattle.pfair_svg.specs.declared.shape.Shape.{Shape}
+use Rattle.pfair_svg.specs.declared.shape.Shape.TheVariants.{Bar}
+use Rattle.pfair_svg.specs.declared.shape.Stroke.TheVariants as stroke
+use Rattle.pfair_svg.specs.declared.shape.Style.TheVariants as style
+use Rattle.pfair_svg.specs.declared.words.Words.TheVariants as words
+use Rattle.pfair_drawing.specs.declared.history.Life.{Life}
+use Rattle.pfair_drawing.specs.Canvas.{cut_label, cut_shape, cut_sign}
+use Rattle.pfair_drawing.specs.Figures.{figures_of}
+use Rattle.pfair_drawing.specs.Frame.{IsFrame, slot_x, row_y, bottom, width_of, height_of}
+use Rattle.pfair_drawing.specs.Ground.{frame_shapes, level, rows_from}
+use Rattle.pfair_drawing.specs.Key.{lag_key, shown_lags_of}
+use Rattle.pfair_drawing.specs.Labels.{weights}
+use Rattle.pfair_drawing.specs.Sizes.{lag_sizes_of, left_of, sizes_of}
 use Rattle.pfair_drawing.specs.Inside.{LieInside}
 use Rattle.pfair_drawing.specs.History.{told_before}
 use Rattle.pfair_weight.specs.Name.{NameValue}
@@ -17,9 +38,13 @@ use Rattle.pfair_drawing.specs.Slots.{decided_at, table_at}
 
 -- ---- a lag in its row, as a numerator over its period
 
--- a lag of 1 is as high as a lane; a lag further than the pad past that is drawn there
+-- a lag of 1 is as high as a lane
+abbrev pub full_height : Frame → ℤ × ℕ → ℕ
+full_height f lag = unsigned_abs lag.0 * f.sizes.lane / max lag.1 1
+
+-- a lag further than the pad past that is drawn there
 abbrev pub lag_height : Frame → ℤ × ℕ → ℕ
-lag_height f lag = min (unsigned_abs lag.0 * f.sizes.lane / max lag.1 1) (f.sizes.lane + f.sizes.pad)
+lag_height f lag = min (full_height f lag) (f.sizes.lane + f.sizes.pad)
 
 -- where a lag of 0 lies
 abbrev pub zero_y : Frame → (row : ℕ) → ℕ
@@ -33,6 +58,21 @@ lag_y f row lag = if int_le (pos 0) lag.0 then zero_y f row - lag_height f lag e
 abbrev pub is_past : ℤ × ℕ → Bool
 is_past lag = nat_le lag.1 (unsigned_abs lag.0)
 
+-- a lag that is further than is drawn has a mark that says so, and where slots have 28 pixels the lag itself
+abbrev pub is_beyond : Frame → ℤ × ℕ → Bool
+is_beyond f lag = nat_le (f.sizes.lane + f.sizes.pad + 1) (full_height f lag)
+
+abbrev pub beyond_mark : ℤ → Mark
+beyond_mark numerator = if int_le (pos 0) numerator then mark.Above else mark.Below
+
+abbrev pub beyond_label : Frame → Point → ℤ × ℕ → Option Label
+beyond_label f at lag =
+    if nat_lt f.sizes.slot 28 then None
+    else Some (record { at = record { x = at.x; y = if int_le (pos 0) lag.0 then at.y + 10 else at.y - 5 }; words = words.Lag lag.0 lag.1; style = style.Beyond })
+
+abbrev pub beyond_of : Frame → Point → ℤ × ℕ → Option BeyondMark
+beyond_of f at lag = if is_beyond f lag then Some (record { at = at; mark = beyond_mark lag.0; number = beyond_label f at lag }) else None
+
 -- a task's lag from the beginning of a slot to its end
 abbrev pub lag_step : Frame → (row slot : ℕ) → (old new : ℤ × ℕ) → LagStep
 lag_step f row slot old new = record {
@@ -40,6 +80,8 @@ lag_step f row slot old new = record {
   to = record { x = slot_x f (slot + 1); y = lag_y f row new };
   was_outside = is_past old;
   is_outside = is_past new;
+  beyond = beyond_of f (record { x = slot_x f (slot + 1); y = lag_y f row new }) new;
+  caption = caption.Lag row (slot + 1) new.0 new.1;
 }
 
 -- ---- the lags of a slot, by a book that is told the decisions and the tables before it
@@ -74,21 +116,40 @@ lag_steps f names decided tables = flat_map (slot_steps f names decided tables) 
 abbrev pub admitted_before : List (List Decided) → List Table → ℕ → List NameValue
 admitted_before decided tables to = with_names [] (map (λ life. life.name) (told_before decided tables to).lives)
 
+-- in each row the strip between the bounds, and its three lines
+abbrev pub strip : Frame → (row : ℕ) → List Shape
+strip f row =
+    Bar (record { x = f.left; y = zero_y f row - f.sizes.lane; width = slot_x f f.to - f.left; height = 2 * f.sizes.lane }) fill.Within
+    ∷ level f (zero_y f row) stroke.Zero ∷ level f (zero_y f row - f.sizes.lane) stroke.Bound ∷ level f (zero_y f row + f.sizes.lane) stroke.Bound ∷ []
+
+abbrev pub strips : Frame → List Shape
+strips f = flat_map (strip f) (range_with_len 0 f.rows)
+
+abbrev pub lags_ground : Frame → List NameValue → List Life → List Shape
+lags_ground f names lives = rows_from f lives 0 names ++ strips f ++ frame_shapes f false
+
 -- A picture of the lags in the slots `from` to `to - 1` of some tables and the decisions before them.
-pub record AreLags (decided : List (List Decided)) (tables : List Table) (from to : ℕ) (d : Drawing) : Type 0 where
-  -- a figure of these slots with a row for each task that was admitted, of which a run has fewer than 1,000,000
+pub record AreLags (decided : List (List Decided)) (tables : List Table) (settings : Settings) (from to : ℕ) (d : Drawing) : Type 0 where
+  -- lags, in a figure of these slots with a row for each task that was admitted, of which a run has fewer than 1,000,000
   pub frame : Frame
   pub is_frame : IsFrame frame
   pub first : frame.from ≡ from
   pub end : frame.to ≡ to
   pub names : d.names.items ≡ admitted_before decided tables to
   pub rows : frame.rows ≡ min (length d.names.items) 1000000
+  pub left : frame.left ≡ left_of d.names.items
+  pub sizes : frame.sizes ≡ lag_sizes_of (length d.names.items) (sizes_of (to - from) to)
   pub width : d.width ≡ width_of frame
   pub height : d.height ≡ height_of frame
-  -- the lags, slot by slot
-  pub steps_are : d.steps.items ≡ lag_steps frame d.names.items decided tables
-  -- no bars, and no marks of decisions
-  pub no_bars : (d.windows.items ≡ []) × (d.quanta.items ≡ []) × (d.cells.items ≡ []) × (d.held.items ≡ [])
-  pub no_marks : (d.arrows.items ≡ []) × (d.late.items ≡ []) × (d.refusals.items ≡ [])
+  pub figures_are : d.figures ≡ figures_of settings from to
+  -- the lags, slot by slot, each told by its task, its time and itself; dots where there is room
+  pub lags : Lags
+  pub content : d.content ≡ content.Lags lags
+  pub has_dots : lags.has_dots ≡ nat_le 12 frame.sizes.slot
+  pub steps_are : lags.steps.items ≡ lag_steps frame d.names.items decided tables
+  -- the weight of each incarnation where it joins; the names, the strips and the scales; the key of what there is
+  pub labels_are : lags.labels.items ≡ map (cut_label d.width d.height) (weights frame d.names.items (told_before decided tables to).lives)
+  pub ground_is : d.ground.items ≡ map (cut_shape d.width d.height) (lags_ground frame d.names.items (told_before decided tables to).lives)
+  pub key_is : d.key.items ≡ map (cut_sign d.width d.height) (lag_key (shown_lags_of lags) (bottom frame + 36))
   -- and all shapes inside
   pub inside : LieInside d

@@ -1,6 +1,6 @@
 -- The laws of pictures.
-use Rattle.std.specs.Prelude.{ℕ, ◌≡◌, ◌+◌, ◌≤◌, ◌<◌, Bool, List, Some, slice_get, All, Contains, ◌≢◌}
-use Rattle.pfair_weight.specs.Name.{IsTaskName, NameValue}
+use Rattle.std.specs.Prelude.{ℕ, ◌≡◌, ◌+◌, ◌≤◌, ◌<◌, Bool, List, Some, slice_get, Contains}
+use Rattle.pfair_weight.specs.Name.{NameValue}
 use Rattle.pfair_weight.specs.Share.{Share, IsWeight}
 use Rattle.pfair_weight.specs.Window.{release_of, deadline_of}
 use Rattle.pfair_entry.specs.Names.{name_of}
@@ -12,7 +12,7 @@ use Rattle.pfair_table.specs.declared.pick.Decided.{Decided}
 use Rattle.pfair_table.specs.Table.{Table}
 use Rattle.pfair_drawing.specs.declared.frame.Frame.{Frame}
 use Rattle.pfair_drawing.specs.History.{told_before}
-use Rattle.pfair_drawing.specs.Marks.{arrows, join_arrow, refusal_mark, refusals}
+use Rattle.pfair_drawing.specs.Marks.{arrows, join_mark, refusal_mark, refusals, refusals_by}
 use Rattle.pfair_drawing.specs.Names.{row_of, names_before}
 use Rattle.pfair_drawing.specs.Slots.{decided_at}
 
@@ -23,30 +23,22 @@ RunsHaveRows =
     → t < to → slice_get tables t ≡ Some table → slice_get table k ≡ Some p
     → let names = names_before decided tables to in slice_get names (row_of names p.name) ≡ Some p.name
 
--- Each task that is admitted at a slot of a figure has its arrow there, in its row.
+-- Each task that is admitted at a slot of a figure has its arrow there, in its row, which tells its weight.
 abbrev pub AdmissionsHaveArrows : Type 0
 AdmissionsHaveArrows =
     (f : Frame) (names : List NameValue) (decided : List (List Decided)) (tables : List Table) (slot k : ℕ) (d : Decided) (name : NameValue) (weight : Share) (early : Bool)
     → f.from ≤ slot → slot < f.to → slice_get (decided_at decided slot) k ≡ Some d → d.announcement ≡ Arrive name weight early → d.decision ≡ Admitted
-    → Contains (arrows f names (told_before decided tables f.to).lives) (join_arrow f (row_of names name) slot)
+    → Contains (arrows f names (told_before decided tables f.to).lives) (join_mark f (row_of names name) slot weight)
 
--- Each announcement that is refused at a slot of a figure has its mark there, in its row and with its number.
+-- Each announcement that is refused at a slot of a figure has its mark there, in its row, which tells all that was refused of its task at that slot.
 abbrev pub RefusalsHaveMarks : Type 0
 RefusalsHaveMarks =
     (f : Frame) (names : List NameValue) (decided : List (List Decided)) (slot k : ℕ) (d : Decided) (why : Refusal)
     → f.from ≤ slot → slot < f.to → slice_get (decided_at decided slot) k ≡ Some d → d.decision ≡ Refused why
-    → (count : ℕ) × Contains (refusals f names decided) (refusal_mark f (row_of names (name_of d.announcement)) slot count why)
+    → Contains (refusals f names decided) (refusal_mark f (row_of names (name_of d.announcement)) slot (refusals_by (name_of d.announcement) (decided_at decided slot)) why)
 
 -- Two lanes are enough: the window of the next subtask in the same lane opens where this one's closes, or later, also where it is put off.
 abbrev pub TwoLanesAreEnough : Type 0
 TwoLanesAreEnough =
     (w : Share) (i theta later : ℕ) → IsWeight w.cost w.period → 1 ≤ i → theta ≤ later
     → deadline_of w i theta ≤ release_of w (i + 2) later
-
--- a character that stands for itself in the text of an element: none of & < > "
-abbrev pub IsPlain : ℕ → Type 0
-IsPlain b = (b ≢ 38) × (b ≢ 60) × (b ≢ 62) × (b ≢ 34)
-
--- Nothing of a task's name has to be escaped.
-abbrev pub NamesArePlain : Type 0
-NamesArePlain = (bytes : List ℕ) → IsTaskName bytes → All IsPlain bytes

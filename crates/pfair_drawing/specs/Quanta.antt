@@ -3,7 +3,9 @@ use Rattle.std.specs.Prelude.{ℕ, suc, ◌+◌, ◌-◌, ◌*◌, List, [], ◌
 use Rattle.std.specs.List.{flat_map, range_with_len}
 use Rattle.pfair_table.specs.Table.{Table}
 use Rattle.pfair_drawing.specs.declared.frame.Frame.{Frame}
-use Rattle.pfair_drawing.specs.declared.shape.Quantum.{Quantum}
+use Rattle.pfair_svg.specs.declared.caption.Caption.TheVariants as caption
+use Rattle.pfair_svg.specs.declared.caption.Caption.{Caption}
+use Rattle.pfair_svg.specs.declared.shape.Quantum.{Quantum}
 use Rattle.pfair_drawing.specs.declared.runs.Ran.{Ran}
 use Rattle.pfair_drawing.specs.Frame.{slot_x, lane_y, cell_y}
 use Rattle.pfair_weight.specs.Name.{NameValue}
@@ -28,6 +30,10 @@ ran_in names tables slot = ran_from names slot (places_at tables slot) 0 (table_
 abbrev pub ran_between : List NameValue → List Table → (from to : ℕ) → List Ran
 ran_between names tables from to = flat_map (ran_in names tables) (range_with_len from (to - from))
 
+-- what is told of a quantum: its task, its subtask, its slot and its processor
+abbrev pub quantum_caption : Ran → Caption
+quantum_caption r = caption.Quantum r.row r.index r.slot r.processor
+
 -- the bar of a quantum: its slot in its subtask's lane, less the gap, of the processor that runs it
 abbrev pub quantum_bar : Frame → Ran → Quantum
 quantum_bar f r = record {
@@ -38,6 +44,7 @@ quantum_bar f r = record {
     height = f.sizes.lane - 2 * f.sizes.gap;
   };
   processor = r.processor;
+  caption = quantum_caption r;
 }
 
 -- the bar of a quantum in its processor's row
@@ -45,6 +52,7 @@ abbrev pub cell_bar : Frame → Ran → Quantum
 cell_bar f r = record {
   area = record { x = slot_x f r.slot; y = cell_y f r.processor + 1; width = f.sizes.slot - 1; height = f.sizes.cell - 2 };
   processor = r.processor;
+  caption = quantum_caption r;
 }
 
 -- for each quantum that is planned in a figure's slots one bar, and no other: slots in order, and in each as its table has them

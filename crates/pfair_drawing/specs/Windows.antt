@@ -4,7 +4,8 @@ use Rattle.std.specs.List.{range_with_len}
 use Rattle.pfair_weight.specs.Window.{release_of, deadline_of}
 use Rattle.pfair_weight.specs.declared.window.TheConstants.{MAX_OFFSET}
 use Rattle.pfair_drawing.specs.declared.frame.Frame.{Frame}
-use Rattle.pfair_drawing.specs.declared.shape.Area.{Area}
+use Rattle.pfair_svg.specs.declared.caption.Caption.TheVariants as caption
+use Rattle.pfair_svg.specs.declared.shape.Bar.{Bar}
 use Rattle.pfair_drawing.specs.declared.history.Life.{Life}
 use Rattle.pfair_drawing.specs.declared.history.Late.{Late}
 use Rattle.pfair_drawing.specs.declared.history.Leave.{Leave}
@@ -39,19 +40,23 @@ closes late place life index = ends life index (deadline_of life.weight index (o
 abbrev pub meets : Frame → List Late → (place : ℕ) → Life → (index : ℕ) → Bool
 meets f late place life index = nat_lt (opens late place life index) (ends life index f.to) && nat_lt f.from (closes late place life index)
 
-abbrev pub window_area : Frame → (row : ℕ) → List Late → (place : ℕ) → Life → (index : ℕ) → Area
-window_area f row late place life index = lane_area f row index (opens late place life index) (closes late place life index)
+-- a window in its subtask's lane, told by its task, its subtask, and where it opens and closes
+abbrev pub window_bar : Frame → (row index opens closes : ℕ) → Bar
+window_bar f row index opens closes = record { area = lane_area f row index opens closes; caption = caption.Window row index opens closes }
+
+abbrev pub window_of : Frame → (row : ℕ) → List Late → (place : ℕ) → Life → (index : ℕ) → Bar
+window_of f row late place life index = window_bar f row index (opens late place life index) (closes late place life index)
 
 -- the windows of an incarnation that meet a figure's slots, each in its subtask's lane. A subtask after the `to`-th is released no earlier
 -- than in slot `to`
-abbrev pub life_windows : Frame → (row : ℕ) → List Late → (place : ℕ) → Life → List Area
-life_windows f row late place life = map (window_area f row late place life) (filter (meets f late place life) (range_with_len 1 f.to))
+abbrev pub life_windows : Frame → (row : ℕ) → List Late → (place : ℕ) → Life → List Bar
+life_windows f row late place life = map (window_of f row late place life) (filter (meets f late place life) (range_with_len 1 f.to))
 
 -- those of all incarnations, those from a place on being left, each in its task's row
-abbrev pub windows_from : Frame → List NameValue → List Late → (place : ℕ) → List Life → List Area
+abbrev pub windows_from : Frame → List NameValue → List Late → (place : ℕ) → List Life → List Bar
 windows_from f names late place [] = []
 windows_from f names late place (l ∷ ls) = life_windows f (row_of names l.name) late place l ++ windows_from f names late (suc place) ls
 
 -- one bar for each window that meets a figure's slots, and no other
-abbrev pub windows : Frame → List NameValue → Told → List Area
+abbrev pub windows : Frame → List NameValue → Told → List Bar
 windows f names told = windows_from f names told.late 0 told.lives

@@ -2,14 +2,13 @@
 
 ghost use Rattle.std.specs.Prelude.{◌≡◌, ◌++◌, IfOk, OnOk};
 ghost use Rattle.pfair_drawing.specs.Frame.{IsFrame};
-ghost use Rattle.pfair_drawing.specs.Marks.{arrows, departure_arrow, departures, held, held_area, held_by, join_arrow, life_arrows};
+ghost use Rattle.pfair_drawing.specs.Marks.{arrows, departure_arrow, departure_caption, departure_mark, departures, held, held_bar, held_by, join_arrow, join_mark, life_arrows};
 
 use crate::frame::Frame;
 use crate::history::{Leave, Life};
-use crate::mark::{Arrow, Mark};
 use crate::names::row_of;
-use crate::shape::{Area, Point};
-use pfair_weight::TaskName;
+use pfair_svg::{Area, Arrow, Bar, Caption, LifeMark, Mark, Point};
+use pfair_weight::{TaskName, Weight};
 use std::alloc::{AllocError, Global};
 
 /// An arrow up for each incarnation that joins in the figure's slots, and one down for each that
@@ -19,7 +18,7 @@ pub(crate) fn arrows_of(
     frame: &Frame,
     names: &[TaskName],
     lives: &[Life],
-) -> Result<Vec<Arrow>, AllocError>
+) -> Result<Vec<LifeMark>, AllocError>
     requires { IsFrame frame.now }
     ensures { IfOk result (λ made. made.items ≡ arrows frame.now names.now lives.now) }
 {
@@ -32,7 +31,7 @@ pub(crate) fn arrows_of(
 
 // Adds the arrows of an incarnation.
 fn add_arrows(
-    arrows: &mut Vec<Arrow>,
+    arrows: &mut Vec<LifeMark>,
     frame: &Frame,
     names: &[TaskName],
     life: &Life,
@@ -42,14 +41,14 @@ fn add_arrows(
 {
     let row = row_of(names, life.name);
     if frame.has_slot(life.joined) {
-        arrows.push(join_arrow(frame, row, life.joined))?;
+        arrows.push(join_mark(frame, row, life.joined, life.weight))?;
     }
     add_departure(arrows, frame, row, life.leave)
 }
 
 // Adds the arrow of a departure, if there is one.
 fn add_departure(
-    arrows: &mut Vec<Arrow>,
+    arrows: &mut Vec<LifeMark>,
     frame: &Frame,
     row: u64,
     leave: Option<Leave>,
@@ -60,11 +59,49 @@ fn add_departure(
     match leave {
         Some(leave) => {
             if frame.has_slot(leave.stamp) {
-                arrows.push(departure_arrow(frame, row, leave.stamp))?;
+                arrows.push(departure_mark(frame, row, &leave))?;
             }
             Ok(())
         }
         None => Ok(()),
+    }
+}
+
+// A join.
+fn join_mark(frame: &Frame, row: u64, slot: u64, weight: Weight) -> LifeMark
+    requires { IsFrame frame.now }
+    ensures { result ≡ join_mark frame.now row slot weight }
+{
+    LifeMark {
+        arrow: join_arrow(frame, row, slot),
+        caption: Caption::Join {
+            row,
+            slot,
+            cost: weight.cost(),
+            period: weight.period(),
+        },
+    }
+}
+
+// A departure.
+fn departure_mark(frame: &Frame, row: u64, leave: &Leave) -> LifeMark
+    requires { IsFrame frame.now }
+    ensures { result ≡ departure_mark frame.now row leave.now }
+{
+    LifeMark {
+        arrow: departure_arrow(frame, row, leave.stamp),
+        caption: departure_caption(row, leave),
+    }
+}
+
+// What is told of a departure, and of the weight that it holds.
+fn departure_caption(row: u64, leave: &Leave) -> Caption
+    ensures { result ≡ departure_caption row leave.now }
+{
+    Caption::Departure {
+        row,
+        slot: leave.stamp,
+        freed_at: leave.freed_at,
     }
 }
 
@@ -107,7 +144,7 @@ pub(crate) fn held_of(
     frame: &Frame,
     names: &[TaskName],
     lives: &[Life],
-) -> Result<Vec<Area>, AllocError>
+) -> Result<Vec<Bar>, AllocError>
     requires { IsFrame frame.now }
     ensures { IfOk result (λ made. made.items ≡ held frame.now names.now lives.now) }
 {
@@ -120,7 +157,7 @@ pub(crate) fn held_of(
 
 // Adds the bar of a departure, if there is one.
 fn add_held(
-    held: &mut Vec<Area>,
+    held: &mut Vec<Bar>,
     frame: &Frame,
     row: u64,
     leave: Option<Leave>,
@@ -131,7 +168,7 @@ fn add_held(
     match leave {
         Some(leave) => {
             if frame.slot_x(leave.stamp) < frame.slot_x(leave.freed_at) {
-                held.push(held_area(frame, row, &leave))?;
+                held.push(held_bar(frame, row, &leave))?;
             }
             Ok(())
         }
@@ -140,15 +177,19 @@ fn add_held(
 }
 
 // The bar of a held weight: both lanes of its row.
-fn held_area(frame: &Frame, row: u64, leave: &Leave) -> Area
+fn held_bar(frame: &Frame, row: u64, leave: &Leave) -> Bar
     requires { IsFrame frame.now }
-    ensures { result ≡ held_area frame.now row leave.now }
+    ensures { result ≡ held_bar frame.now row leave.now }
 {
     let x = frame.slot_x(leave.stamp);
-    Area {
+    let area = Area {
         x,
         y: frame.row_y(row) + frame.sizes.pad,
         width: frame.slot_x(leave.freed_at).saturating_sub(x),
         height: 2 * frame.sizes.lane + 1,
+    };
+    Bar {
+        area,
+        caption: departure_caption(row, leave),
     }
 }

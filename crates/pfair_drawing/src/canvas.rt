@@ -1,16 +1,17 @@
 //! Adding shapes, and keeping them inside their figure.
 
-ghost use Rattle.std.specs.Prelude.{All, IfOk};
+ghost use Rattle.std.specs.Prelude.{◌≡◌, ◌++◌, ◌∷◌, [], All, IfOk, OnOk, map};
+ghost use Rattle.pfair_drawing.specs.Canvas.{cut_area, cut_arrow, cut_label, cut_point, cut_shape, cut_sign};
+ghost use Rattle.pfair_drawing.specs.Ground.{label_shape};
 ghost use Rattle.pfair_drawing.specs.Inside.{AreaLiesIn, ArrowLiesIn, LabelLiesIn, LiesIn, PointLiesIn, SignLiesIn};
 
-use crate::drawing::Sign;
-use crate::mark::Arrow;
-use crate::shape::{Area, Label, Point, Quantum, Shape, Style};
-use crate::words::Words;
+use pfair_svg::{Area, Arrow, Label, Point, Shape, Sign, Style, Words};
 use std::alloc::{AllocError, Global};
 
 /// Adds a shape over the others.
-pub(crate) fn add(shapes: &mut Vec<Shape>, shape: Shape) -> Result<(), AllocError> {
+pub(crate) fn add(shapes: &mut Vec<Shape>, shape: Shape) -> Result<(), AllocError>
+    ensures { OnOk result (shapes.new.items ≡ shapes.old.items ++ shape ∷ []) }
+{
     shapes.push(shape)?;
     Ok(())
 }
@@ -22,7 +23,9 @@ pub(crate) fn add_label(
     y: u64,
     words: Words,
     style: Style,
-) -> Result<(), AllocError> {
+) -> Result<(), AllocError>
+    ensures { OnOk result (shapes.new.items ≡ shapes.old.items ++ label_shape x y words style ∷ []) }
+{
     let at = Point { x, y };
     add(shapes, Shape::Label(Label { at, words, style }))
 }
@@ -34,7 +37,8 @@ pub(crate) fn shown(
     width: u64,
     height: u64,
 ) -> Result<Vec<Shape>, AllocError>
-    ensures { IfOk result (λ kept. All (LiesIn width height) kept.items) }
+    ensures value { IfOk result (λ kept. kept.items ≡ map (cut_shape width height) shapes.now) }
+    ensures inside { IfOk result (λ kept. All (LiesIn width height) kept.items) }
 {
     let mut kept = Vec::with_capacity(alloc, shapes.len())?;
     for shape in shapes {
@@ -50,7 +54,8 @@ pub(crate) fn shown_labels(
     width: u64,
     height: u64,
 ) -> Result<Vec<Label>, AllocError>
-    ensures { IfOk result (λ kept. All (LabelLiesIn width height) kept.items) }
+    ensures value { IfOk result (λ kept. kept.items ≡ map (cut_label width height) labels.now) }
+    ensures inside { IfOk result (λ kept. All (LabelLiesIn width height) kept.items) }
 {
     let mut kept = Vec::with_capacity(alloc, labels.len())?;
     for label in labels {
@@ -66,7 +71,8 @@ pub(crate) fn shown_signs(
     width: u64,
     height: u64,
 ) -> Result<Vec<Sign>, AllocError>
-    ensures { IfOk result (λ kept. All (SignLiesIn width height) kept.items) }
+    ensures value { IfOk result (λ kept. kept.items ≡ map (cut_sign width height) signs.now) }
+    ensures inside { IfOk result (λ kept. All (SignLiesIn width height) kept.items) }
 {
     let mut kept = Vec::with_capacity(alloc, signs.len())?;
     for sign in signs {
@@ -76,7 +82,8 @@ pub(crate) fn shown_signs(
 }
 
 fn shown_shape(shape: Shape, width: u64, height: u64) -> Shape
-    ensures { LiesIn width height result }
+    ensures value { result ≡ cut_shape width height shape }
+    ensures inside { LiesIn width height result }
 {
     match shape {
         Shape::Bar { area, fill } => Shape::Bar {
@@ -93,15 +100,16 @@ fn shown_shape(shape: Shape, width: u64, height: u64) -> Shape
 }
 
 fn shown_sign(sign: Sign, width: u64, height: u64) -> Sign
-    ensures { SignLiesIn width height result }
+    ensures value { result ≡ cut_sign width height sign }
+    ensures inside { SignLiesIn width height result }
 {
     match sign {
         Sign::Window(area) => Sign::Window(shown_area(area, width, height)),
         Sign::Held(area) => Sign::Held(shown_area(area, width, height)),
-        Sign::Quantum(quantum) => Sign::Quantum(Quantum {
-            area: shown_area(quantum.area, width, height),
-            processor: quantum.processor,
-        }),
+        Sign::Colour { area, processor } => Sign::Colour {
+            area: shown_area(area, width, height),
+            processor,
+        },
         Sign::Arrow(arrow) => Sign::Arrow(shown_arrow(arrow, width, height)),
         Sign::Mark { at, mark } => Sign::Mark {
             at: shown_point(at, width, height),
@@ -120,7 +128,8 @@ fn shown_sign(sign: Sign, width: u64, height: u64) -> Sign
 }
 
 fn shown_arrow(arrow: Arrow, width: u64, height: u64) -> Arrow
-    ensures { ArrowLiesIn width height result }
+    ensures value { result ≡ cut_arrow width height arrow }
+    ensures inside { ArrowLiesIn width height result }
 {
     Arrow {
         from: shown_point(arrow.from, width, height),
@@ -131,7 +140,8 @@ fn shown_arrow(arrow: Arrow, width: u64, height: u64) -> Arrow
 }
 
 fn shown_label(label: Label, width: u64, height: u64) -> Label
-    ensures { LabelLiesIn width height result }
+    ensures value { result ≡ cut_label width height label }
+    ensures inside { LabelLiesIn width height result }
 {
     Label {
         at: shown_point(label.at, width, height),
@@ -141,7 +151,8 @@ fn shown_label(label: Label, width: u64, height: u64) -> Label
 }
 
 fn shown_area(area: Area, width: u64, height: u64) -> Area
-    ensures { AreaLiesIn width height result }
+    ensures value { result ≡ cut_area width height area }
+    ensures inside { AreaLiesIn width height result }
 {
     let x = area.x.min(width);
     let y = area.y.min(height);
@@ -154,7 +165,8 @@ fn shown_area(area: Area, width: u64, height: u64) -> Area
 }
 
 fn shown_point(point: Point, width: u64, height: u64) -> Point
-    ensures { PointLiesIn width height result }
+    ensures value { result ≡ cut_point width height point }
+    ensures inside { PointLiesIn width height result }
 {
     Point {
         x: point.x.min(width),

@@ -3,8 +3,8 @@
 ghost use Rattle.std.specs.Prelude.{◌≡◌, ◌≤◌, ◌<◌, ◌^◌, ◌-◌};
 ghost use Rattle.pfair_drawing.specs.Frame.{IsFrame, has_slot, slot_x, lanes_height, row_height, row_y, lane_y, cell_y, bottom, width_of, height_of, lane_area, lane_middle};
 
-use crate::shape::{Area, Point};
 use crate::sizes::{BELOW, BETWEEN, NARROWEST, RIGHT, Sizes, TOP};
+use pfair_svg::{Area, Point};
 
 /// What a figure has room for: its slots, the rows of its tasks and those of its processors.
 #[derive(Clone, Copy, Debug, PartialEq, Eq)]

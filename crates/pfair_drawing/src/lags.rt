@@ -1,24 +1,28 @@
 //! The picture of lags.
 
-ghost use Rattle.std.specs.Prelude.{◌≡◌, ◌≤◌, ◌<◌, ◌+◌, ◌↔◌, [], length, map, min, All, Err, IfOk};
-ghost use Rattle.pfair_drawing.specs.Frame.{IsFrame, height_of, width_of};
-ghost use Rattle.pfair_drawing.specs.Inside.{LiesIn, SignLiesIn};
-ghost use Rattle.pfair_drawing.specs.Lags.{AreLags};
+ghost use Rattle.std.specs.Prelude.{◌≡◌, ◌≤◌, ◌<◌, ◌+◌, ◌-◌, ◌↔◌, ◌++◌, [], count_by, length, map, min, nat_le, nat_lt, All, Err, IfOk, OnOk};
+ghost use Rattle.pfair_drawing.specs.Canvas.{cut_label, cut_shape, cut_sign};
+ghost use Rattle.pfair_drawing.specs.Frame.{IsFrame, IsSizes, bottom, height_of, width_of};
+ghost use Rattle.pfair_drawing.specs.Inside.{LabelLiesIn, LiesIn, SignLiesIn};
+ghost use Rattle.pfair_drawing.specs.Key.{is_beyond, is_far, lag_key, shown_lags_of};
+ghost use Rattle.pfair_drawing.specs.Labels.{weights};
+ghost use Rattle.pfair_drawing.specs.Lags.{AreLags, lag_steps, lags_ground, strip, strips};
 ghost use Rattle.pfair_drawing.specs.Names.{with_names};
 ghost use Rattle.pfair_drawing.specs.Schedule.{AreRefused};
+ghost use Rattle.pfair_drawing.specs.Sizes.{lag_sizes_of, left_of, sizes_of};
 
 use crate::canvas::{add, shown, shown_signs};
-use crate::drawing::{Drawing, Sign};
 use crate::frame::Frame;
-use crate::ground::{add_grid, add_level, add_rows, add_title};
-use crate::history::{History, history_of};
-use crate::key::add_lag_key;
+use crate::ground::{add_frame, add_level, add_rows};
+use crate::history::{History, Life, history_of};
+use crate::key::{ShownLags, add_lag_key};
+use crate::labels::weights_of;
 use crate::names::add_name;
 use crate::schedule::{DrawFault, are_refused, figures_of, frame_of};
-use crate::shape::{Area, Fill, Shape, Stroke};
+use crate::sizes::Sizes;
 use crate::steps::{steps_of, zero_y};
-use crate::words::{Figures, Note};
 use pfair_ready::Ready;
+use pfair_svg::{Area, Content, Drawing, Fill, LagStep, Lags, Shape, Sign, Stroke};
 use pfair_table::Dispatcher;
 use pfair_weight::TaskName;
 use std::alloc::{AllocError, Global};
@@ -26,7 +30,8 @@ use std::alloc::{AllocError, Global};
 /// The picture of the lags in the slots `from` to `to - 1` of what a dispatcher has planned: a row
 /// for each task that was admitted before `to`, with its lag as a line from each time to the next,
 /// counted from its joining slot, between dashed bounds of 1. What is at or past a bound is in
-/// another colour, and a lag further than a quarter past it is drawn there. It costs all slots
+/// another colour, and a lag further than a quarter past it is drawn there with a mark that says so
+/// and, where there is room, the lag itself. It costs all slots
 /// before `to`, and for each that is drawn as many looks at names as there are tasks, for each
 /// task.
 ///
@@ -38,7 +43,7 @@ pub fn lags_drawing<R: Ready>(
     from: u64,
     to: u64,
 ) -> Result<Drawing, DrawFault>
-    ensures picture { IfOk result (AreLags dispatcher.now.decided dispatcher.now.tables from to) }
+    ensures picture { IfOk result (AreLags dispatcher.now.decided dispatcher.now.tables dispatcher.now.settings from to) }
     ensures slots { (result ≡ Err DrawFault.Slots) ↔ AreRefused from to (length dispatcher.now.tables) }
 {
     if are_refused(dispatcher, from, to) {
@@ -59,34 +64,46 @@ fn draw<R: Ready>(
 ) -> Result<Drawing, AllocError>
     requires order { from < to }
     requires slots { to ≤ 1000000 }
-    ensures { IfOk result (AreLags dispatcher.now.decided dispatcher.now.tables from to) }
+    ensures { IfOk result (AreLags dispatcher.now.decided dispatcher.now.tables dispatcher.now.settings from to) }
 {
     let history = history_of(alloc, dispatcher, to)?;
     let names = admitted_of(alloc, &history)?;
     let frame = lag_frame(names.as_slice(), from, to);
-    let figures = figures_of(dispatcher, from, to);
-    let ground = ground_of(alloc, &frame, names.as_slice(), &history, figures)?;
-    let steps = steps_of(alloc, &frame, names.as_slice(), dispatcher)?;
-    let key = key_of(alloc, &frame)?;
+    let lags = content_of(alloc, &frame, names.as_slice(), history.lives(), dispatcher)?;
+    let ground = ground_of(alloc, &frame, names.as_slice(), history.lives())?;
+    let key = key_of(alloc, &frame, &lags)?;
     Ok(Drawing {
         width: frame.width(),
         height: frame.height(),
-        processors: 0,
-        has_outlines: false,
-        has_dots: frame.sizes.slot >= 12,
+        figures: figures_of(dispatcher, from, to),
         names,
         ground,
-        held: Vec::new(alloc),
-        ties: Vec::new(alloc),
-        windows: Vec::new(alloc),
-        quanta: Vec::new(alloc),
-        cells: Vec::new(alloc),
-        labels: Vec::new(alloc),
-        arrows: Vec::new(alloc),
-        late: Vec::new(alloc),
-        refusals: Vec::new(alloc),
-        steps,
+        content: Content::Lags(lags),
         key,
+    })
+}
+
+// What a picture of lags shows.
+fn content_of<R: Ready>(
+    alloc: Global,
+    frame: &Frame,
+    names: &[TaskName],
+    lives: &[Life],
+    dispatcher: &Dispatcher<R>,
+) -> Result<Lags, AllocError>
+    requires { IsFrame frame.now }
+    ensures has_dots { IfOk result (λ lags. lags.has_dots ≡ nat_le 12 frame.now.sizes.slot) }
+    ensures steps { IfOk result (λ lags. lags.steps.items ≡ lag_steps frame.now names.now dispatcher.now.decided dispatcher.now.tables) }
+    ensures labels { IfOk result (λ lags. lags.labels.items ≡ map (cut_label (width_of frame.now) (height_of frame.now)) (weights frame.now names.now lives.now)) }
+    ensures inside { IfOk result (λ lags. All (LabelLiesIn (width_of frame.now) (height_of frame.now)) lags.labels.items) }
+{
+    let steps = steps_of(alloc, frame, names, dispatcher)?;
+    let labels = weights_of(alloc, frame, names, lives)?;
+    let has_dots = frame.sizes.slot >= 12;
+    Ok(Lags {
+        has_dots,
+        labels,
+        steps,
     })
 }
 
@@ -108,13 +125,36 @@ fn lag_frame(names: &[TaskName], from: u64, to: u64) -> Frame
     ensures frame { IsFrame result }
     ensures slots { (result.from ≡ from) × (result.to ≡ to) }
     ensures rows { result.rows ≡ min (length names.now) 1000000 }
+    ensures left { result.left ≡ left_of names.now }
+    ensures sizes { result.sizes ≡ lag_sizes_of (length names.now) (sizes_of (to - from) to) }
 {
-    let mut frame = frame_of(names, 0, from, to);
-    let unit = if names.len() <= 40 { 20 } else { 9 };
-    frame.sizes.lane = unit;
-    frame.sizes.pad = unit / 4;
-    frame.sizes.strip = 3;
-    frame
+    let frame = frame_of(names, 0, from, to);
+    Frame {
+        from: frame.from,
+        to: frame.to,
+        rows: frame.rows,
+        processors: frame.processors,
+        left: frame.left,
+        sizes: lag_sizes(names.len(), frame.sizes),
+    }
+}
+
+// The sizes of a figure of lags.
+fn lag_sizes(rows: usize, sizes: Sizes) -> Sizes
+    requires { IsSizes sizes }
+    ensures value { result ≡ lag_sizes_of rows sizes }
+    ensures within { IsSizes result }
+{
+    let (lane, pad) = if rows <= 40 { (20, 5) } else { (9, 2) };
+    Sizes {
+        slot: sizes.slot,
+        lane,
+        pad,
+        gap: sizes.gap,
+        strip: 3,
+        cell: sizes.cell,
+        step: sizes.step,
+    }
 }
 
 // What lies below the lags.
@@ -122,48 +162,97 @@ fn ground_of(
     alloc: Global,
     frame: &Frame,
     names: &[TaskName],
-    history: &History,
-    figures: Figures,
+    lives: &[Life],
 ) -> Result<Vec<Shape>, AllocError>
     requires { IsFrame frame.now }
-    ensures { IfOk result (λ ground. All (LiesIn (width_of frame.now) (height_of frame.now)) ground.items) }
+    ensures value { IfOk result (λ ground. ground.items ≡ map (cut_shape (width_of frame.now) (height_of frame.now)) (lags_ground frame.now names.now lives.now)) }
+    ensures inside { IfOk result (λ ground. All (LiesIn (width_of frame.now) (height_of frame.now)) ground.items) }
 {
     let mut ground = Vec::new(alloc);
-    add_title(&mut ground, Note::Lags, figures)?;
-    add_rows(&mut ground, frame, names, history.lives())?;
+    add_rows(&mut ground, frame, names, lives)?;
     add_strips(&mut ground, frame)?;
-    add_grid(&mut ground, frame, frame.bottom(), false)?;
+    add_frame(&mut ground, frame, false)?;
     shown(alloc, ground.as_slice(), frame.width(), frame.height())
 }
 
 // The key.
-fn key_of(alloc: Global, frame: &Frame) -> Result<Vec<Sign>, AllocError>
+fn key_of(alloc: Global, frame: &Frame, lags: &Lags) -> Result<Vec<Sign>, AllocError>
     requires { IsFrame frame.now }
-    ensures { IfOk result (λ key. All (SignLiesIn (width_of frame.now) (height_of frame.now)) key.items) }
+    ensures value { IfOk result (λ key. key.items ≡ map (cut_sign (width_of frame.now) (height_of frame.now)) (lag_key (shown_lags_of lags.now) (bottom frame.now + 36))) }
+    ensures inside { IfOk result (λ key. All (SignLiesIn (width_of frame.now) (height_of frame.now)) key.items) }
 {
     let mut key = Vec::new(alloc);
-    add_lag_key(&mut key, frame.bottom() + 36)?;
+    let shown = shown_lags_of(lags);
+    add_lag_key(&mut key, &shown, frame.bottom() + 36)?;
     shown_signs(alloc, key.as_slice(), frame.width(), frame.height())
+}
+
+// What a picture of lags has.
+fn shown_lags_of(lags: &Lags) -> ShownLags
+    ensures { result ≡ shown_lags_of lags.now }
+{
+    let steps = lags.steps.as_slice();
+    ShownLags {
+        outside: has_far(steps),
+        beyond: has_beyond(steps),
+    }
+}
+
+// Whether there is a lag at or past a bound.
+fn has_far(steps: &[LagStep]) -> bool
+    ensures { result ≡ nat_lt 0 (count_by is_far steps.now) }
+{
+    steps.iter().filter(|step| is_far(step)).count() > 0
+}
+
+// Whether there is one further than is drawn.
+fn has_beyond(steps: &[LagStep]) -> bool
+    ensures { result ≡ nat_lt 0 (count_by is_beyond steps.now) }
+{
+    steps.iter().filter(|step| is_beyond(step)).count() > 0
+}
+
+// Whether a lag is at or past a bound, at the one time or at the other.
+fn is_far(step: &LagStep) -> bool
+    ensures { result ≡ is_far step.now }
+{
+    step.was_outside || step.is_outside
+}
+
+// Whether a lag is further than is drawn.
+fn is_beyond(step: &LagStep) -> bool
+    ensures { result ≡ is_beyond step.now }
+{
+    step.beyond.is_some()
 }
 
 // Adds the strip between the bounds of each row, and its three lines.
 fn add_strips(shapes: &mut Vec<Shape>, frame: &Frame) -> Result<(), AllocError>
     requires { IsFrame frame.now }
+    ensures { OnOk result (shapes.new.items ≡ shapes.old.items ++ strips frame.now) }
 {
-    let unit = frame.sizes.lane;
     for row in 0..frame.rows {
-        let zero = zero_y(frame, row);
-        let area = Area {
-            x: frame.left,
-            y: zero - unit,
-            width: frame.slot_x(frame.to) - frame.left,
-            height: 2 * unit,
-        };
-        let fill = Fill::Within;
-        add(shapes, Shape::Bar { area, fill })?;
-        add_level(shapes, frame, zero, Stroke::Zero)?;
-        add_level(shapes, frame, zero - unit, Stroke::Bound)?;
-        add_level(shapes, frame, zero + unit, Stroke::Bound)?;
+        add_strip(shapes, frame, row)?;
     }
     Ok(())
+}
+
+// Adds the strip of a row.
+fn add_strip(shapes: &mut Vec<Shape>, frame: &Frame, row: u64) -> Result<(), AllocError>
+    requires { IsFrame frame.now }
+    ensures { OnOk result (shapes.new.items ≡ shapes.old.items ++ strip frame.now row) }
+{
+    let unit = frame.sizes.lane;
+    let zero = zero_y(frame, row);
+    let area = Area {
+        x: frame.left,
+        y: zero - unit,
+        width: frame.slot_x(frame.to) - frame.left,
+        height: 2 * unit,
+    };
+    let fill = Fill::Within;
+    add(shapes, Shape::Bar { area, fill })?;
+    add_level(shapes, frame, zero, Stroke::Zero)?;
+    add_level(shapes, frame, zero - unit, Stroke::Bound)?;
+    add_level(shapes, frame, zero + unit, Stroke::Bound)
 }

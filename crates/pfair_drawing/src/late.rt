@@ -6,11 +6,9 @@ ghost use Rattle.pfair_drawing.specs.Marks.{is_shown, late_arrow, late_mark, lat
 
 use crate::frame::Frame;
 use crate::history::{History, Late, Life};
-use crate::mark::{Arrow, LateMark, Mark};
 use crate::names::row_of;
-use crate::shape::{Label, Point, Style};
 use crate::windows::opens;
-use crate::words::Words;
+use pfair_svg::{Arrow, Caption, Label, LateMark, Mark, Point, Style, Words};
 use pfair_weight::{MAX_INDEX, TaskName};
 use std::alloc::{AllocError, Global};
 
@@ -83,6 +81,12 @@ fn late_mark(frame: &Frame, row: u64, late: &Late, old: u64) -> LateMark
         more: (has_old && has_room).then_some(more_label(
             frame, row, late.index, old, new, late.by,
         )),
+        caption: Caption::Late {
+            row,
+            slot: late.stamp,
+            index: late.index,
+            by: late.by,
+        },
     }
 }
 

@@ -1,7 +1,9 @@
 //! The laws of pictures.
 //!
 //! Each function states one law and does nothing.
-ghost use Rattle.pfair_drawing.specs.Laws.{AdmissionsHaveArrows, NamesArePlain, RefusalsHaveMarks, RunsHaveRows, TwoLanesAreEnough};
+ghost use Rattle.pfair_drawing.specs.Laws.{AdmissionsHaveArrows, RefusalsHaveMarks, RunsHaveRows, TwoLanesAreEnough};
+
+pub use pfair_svg::laws::names_are_plain;
 
 /// Each task that runs in a slot before a picture's end has its row among those of the names: none
 /// is drawn elsewhere.
@@ -10,13 +12,13 @@ pub fn runs_have_rows()
 {}
 
 /// Each task that is admitted at the boundary of a slot that is shown has an arrow there, in its
-/// row.
+/// row, which tells its weight.
 pub fn admissions_have_arrows()
     ensures { AdmissionsHaveArrows }
 {}
 
 /// Each announcement that is refused at the boundary of a slot that is shown has a mark there, in
-/// its row and with its number.
+/// its row, which tells all that was refused of its task at that slot.
 pub fn refusals_have_marks()
     ensures { RefusalsHaveMarks }
 {}
@@ -25,10 +27,4 @@ pub fn refusals_have_marks()
 /// windows of a lane overlap.
 pub fn two_lanes_are_enough()
     ensures { TwoLanesAreEnough }
-{}
-
-/// A task's name stands in the text of an element as it is: it has none of the characters that are
-/// to be escaped.
-pub fn names_are_plain()
-    ensures { NamesArePlain }
 {}

@@ -2,11 +2,11 @@
 
 ghost use Rattle.std.specs.Prelude.{◌≡◌, IfOk, map};
 ghost use Rattle.pfair_drawing.specs.Frame.{IsFrame};
-ghost use Rattle.pfair_drawing.specs.Quanta.{cell_bar, quantum_bar};
+ghost use Rattle.pfair_drawing.specs.Quanta.{cell_bar, quantum_bar, quantum_caption};
 
 use crate::frame::Frame;
 use crate::runs::Ran;
-use crate::shape::{Area, Quantum};
+use pfair_svg::{Area, Caption, Quantum};
 use std::alloc::{AllocError, Global};
 
 /// A bar for each quantum, in its task's row and its subtask's lane.
@@ -25,6 +25,18 @@ pub(crate) fn quanta_of(
     Ok(quanta)
 }
 
+// What is told of a quantum.
+fn quantum_caption(ran: &Ran) -> Caption
+    ensures { result ≡ quantum_caption ran.now }
+{
+    Caption::Quantum {
+        row: ran.row,
+        index: ran.index,
+        slot: ran.slot,
+        processor: ran.processor,
+    }
+}
+
 // The bar of a quantum: its slot in its subtask's lane, less the gap.
 fn quantum_bar(frame: &Frame, ran: &Ran) -> Quantum
     requires { IsFrame frame.now }
@@ -40,6 +52,7 @@ fn quantum_bar(frame: &Frame, ran: &Ran) -> Quantum
     Quantum {
         area,
         processor: ran.processor,
+        caption: quantum_caption(ran),
     }
 }
 
@@ -73,5 +86,6 @@ fn cell_bar(frame: &Frame, ran: &Ran) -> Quantum
     Quantum {
         area,
         processor: ran.processor,
+        caption: quantum_caption(ran),
     }
 }

@@ -1,34 +1,39 @@
 //! The picture of a schedule.
 
-ghost use Rattle.std.specs.Prelude.{◌≡◌, ◌≤◌, ◌<◌, ◌↔◌, length, All, Err, IfOk, IsTrue, map, min};
-ghost use Rattle.pfair_drawing.specs.Frame.{IsFrame, height_of, width_of};
-ghost use Rattle.pfair_drawing.specs.Inside.{LabelLiesIn, LiesIn, SignLiesIn};
+ghost use Rattle.std.specs.Prelude.{◌≡◌, ◌+◌, ◌-◌, ◌≤◌, ◌<◌, ◌↔◌, count_by, length, nat_lt, All, Err, IfOk, IsTrue, map, min};
+ghost use Rattle.pfair_drawing.specs.Canvas.{cut_shape, cut_sign};
+ghost use Rattle.pfair_drawing.specs.Figures.{figures_of};
+ghost use Rattle.pfair_drawing.specs.Frame.{IsFrame, bottom, height_of, width_of};
+ghost use Rattle.pfair_drawing.specs.Ground.{schedule_ground};
+ghost use Rattle.pfair_drawing.specs.Inside.{LiesIn, SignLiesIn};
+ghost use Rattle.pfair_drawing.specs.Key.{is_departure, is_join, schedule_key, shown_of};
 ghost use Rattle.pfair_drawing.specs.Marks.{arrows, held, late_marks, refusals};
 ghost use Rattle.pfair_drawing.specs.Names.{names_before};
 ghost use Rattle.pfair_drawing.specs.Quanta.{cell_bar, quantum_bar};
+ghost use Rattle.pfair_drawing.specs.Sizes.{left_of, sizes_of};
 ghost use Rattle.pfair_drawing.specs.Windows.{windows};
-ghost use Rattle.pfair_drawing.specs.Schedule.{AreRefused, IsSchedule};
+ghost use Rattle.pfair_drawing.specs.Schedule.{AreLayers, AreRefused, IsSchedule};
 
 use crate::arrows::{arrows_of, held_of};
 use crate::canvas::{shown, shown_signs};
-use crate::drawing::{Drawing, Sign};
 use crate::frame::Frame;
-use crate::ground::{add_grid, add_rows, add_title};
-use crate::history::{History, history_of};
-use crate::key::add_schedule_key;
+use crate::ground::{add_frame, add_rows};
+use crate::history::{History, Life, history_of};
+use crate::key::{Shown, add_schedule_key};
 use crate::labels::labels_of;
 use crate::late::late_marks_of;
-use crate::mark::{Arrow, LateMark, RefusalMark};
 use crate::names::names_of;
 use crate::quanta::{cells_of, quanta_of};
 use crate::refusals::refusals_of;
 use crate::runs::{Ran, runs_of};
-use crate::shape::{Area, Label, Quantum, Shape};
 use crate::sizes::{BESIDE, LETTER, NARROWEST_LEFT, Sizes};
 use crate::ties::ties_of;
 use crate::windows::windows_of;
-use crate::words::{Figures, Note};
 use pfair_ready::Ready;
+use pfair_svg::{
+    Bar, Content, Drawing, Figures, LateMark, LifeMark, Mark, Quantum, RefusalMark, Schedule,
+    Shape, Sign,
+};
 use pfair_table::Dispatcher;
 use pfair_weight::TaskName;
 use std::alloc::{AllocError, Global};
@@ -77,7 +82,7 @@ pub fn schedule_drawing<R: Ready>(
     from: u64,
     to: u64,
 ) -> Result<Drawing, DrawFault>
-    ensures picture { IfOk result (IsSchedule dispatcher.now.decided dispatcher.now.tables dispatcher.now.settings.processors from to) }
+    ensures picture { IfOk result (IsSchedule dispatcher.now.decided dispatcher.now.tables dispatcher.now.settings from to) }
     ensures slots { (result ≡ Err DrawFault.Slots) ↔ AreRefused from to (length dispatcher.now.tables) }
 {
     if are_refused(dispatcher, from, to) {
@@ -98,7 +103,7 @@ fn draw<R: Ready>(
 ) -> Result<Drawing, AllocError>
     requires order { from < to }
     requires slots { to ≤ 1000000 }
-    ensures { IfOk result (IsSchedule dispatcher.now.decided dispatcher.now.tables dispatcher.now.settings.processors from to) }
+    ensures { IfOk result (IsSchedule dispatcher.now.decided dispatcher.now.tables dispatcher.now.settings from to) }
 {
     let names = names_of(alloc, dispatcher, to)?;
     let processors = dispatcher.settings().processors() as u64;
@@ -117,42 +122,62 @@ fn draw_in<R: Ready>(
     requires rows { frame.now.rows ≡ min (length names.items) 1000000 }
     requires names { names.items ≡ names_before dispatcher.now.decided dispatcher.now.tables frame.now.to }
     requires processors { frame.now.processors ≡ dispatcher.now.settings.processors }
-    ensures { IfOk result (IsSchedule dispatcher.now.decided dispatcher.now.tables dispatcher.now.settings.processors frame.now.from frame.now.to) }
+    requires left { frame.now.left ≡ left_of names.items }
+    requires sizes { frame.now.sizes ≡ sizes_of (frame.now.to - frame.now.from) frame.now.to }
+    ensures { IfOk result (IsSchedule dispatcher.now.decided dispatcher.now.tables dispatcher.now.settings frame.now.from frame.now.to) }
 {
-    let (width, height) = (frame.width(), frame.height());
     let rows = names.as_slice();
     let history = history_of(alloc, dispatcher, frame.to)?;
     let runs = runs_of(alloc, dispatcher, rows, frame.from, frame.to)?;
-    let figures = figures_of(dispatcher, frame.from, frame.to);
-    let scenery = scenery_of(alloc, frame, rows, &history, &runs, figures)?;
-    let bars = bars_of(alloc, frame, rows, &history, &runs)?;
-    let marks = marks_of(alloc, frame, rows, &history, dispatcher)?;
+    let schedule = schedule_of(alloc, frame, rows, &history, &runs, dispatcher)?;
+    let ground = ground_of(alloc, frame, rows, history.lives())?;
+    let key = key_of(alloc, frame, &schedule)?;
     Ok(Drawing {
-        width,
-        height,
+        width: frame.width(),
+        height: frame.height(),
+        figures: figures_of(dispatcher, frame.from, frame.to),
+        names,
+        ground,
+        content: Content::Schedule(schedule),
+        key,
+    })
+}
+
+// The layers of a schedule.
+fn schedule_of<R: Ready>(
+    alloc: Global,
+    frame: &Frame,
+    names: &[TaskName],
+    history: &History,
+    runs: &[Ran],
+    dispatcher: &Dispatcher<R>,
+) -> Result<Schedule, AllocError>
+    requires { IsFrame frame.now }
+    ensures { IfOk result (AreLayers frame.now names.now history.now runs.now dispatcher.now.decided) }
+{
+    let bars = bars_of(alloc, frame, names, history, runs)?;
+    let marks = marks_of(alloc, frame, names, history, dispatcher)?;
+    let ties = ties_of(alloc, frame, names, history, runs)?;
+    let labels = labels_of(alloc, frame, names, history.lives(), runs)?;
+    Ok(Schedule {
         processors: frame.processors,
         has_outlines: frame.sizes.slot >= 8,
-        has_dots: false,
-        names,
-        ground: scenery.ground,
         held: marks.held,
-        ties: scenery.ties,
+        ties,
         windows: bars.windows,
         quanta: bars.quanta,
         cells: bars.cells,
-        labels: scenery.labels,
+        labels,
         arrows: marks.arrows,
         late: marks.late,
         refusals: marks.refusals,
-        steps: Vec::new(alloc),
-        key: scenery.key,
     })
 }
 
 // The bars of windows and of quanta.
 #[derive(Drop)]
 struct Bars {
-    windows: Vec<Area>,
+    windows: Vec<Bar>,
     quanta: Vec<Quantum>,
     cells: Vec<Quantum>,
 }
@@ -182,8 +207,8 @@ fn bars_of(
 // The marks of decisions, and the weights that departed tasks hold.
 #[derive(Drop)]
 struct Marks {
-    held: Vec<Area>,
-    arrows: Vec<Arrow>,
+    held: Vec<Bar>,
+    arrows: Vec<LifeMark>,
     late: Vec<LateMark>,
     refusals: Vec<RefusalMark>,
 }
@@ -213,67 +238,87 @@ fn marks_of<R: Ready>(
     })
 }
 
-// What lies round the bars and the marks.
-#[derive(Drop)]
-struct Scenery {
-    ground: Vec<Shape>,
-    ties: Vec<Shape>,
-    labels: Vec<Label>,
-    key: Vec<Sign>,
-}
-
-fn scenery_of(
-    alloc: Global,
-    frame: &Frame,
-    names: &[TaskName],
-    history: &History,
-    runs: &[Ran],
-    figures: Figures,
-) -> Result<Scenery, AllocError>
-    requires { IsFrame frame.now }
-    ensures ground { IfOk result (λ s. All (LiesIn (width_of frame.now) (height_of frame.now)) s.ground.items) }
-    ensures ties { IfOk result (λ s. All (LiesIn (width_of frame.now) (height_of frame.now)) s.ties.items) }
-    ensures labels { IfOk result (λ s. All (LabelLiesIn (width_of frame.now) (height_of frame.now)) s.labels.items) }
-    ensures key { IfOk result (λ s. All (SignLiesIn (width_of frame.now) (height_of frame.now)) s.key.items) }
-{
-    let ground = ground_of(alloc, frame, names, history, figures)?;
-    let ties = ties_of(alloc, frame, names, history, runs)?;
-    let labels = labels_of(alloc, frame, names, runs)?;
-    let key = key_of(alloc, frame)?;
-    Ok(Scenery {
-        ground,
-        ties,
-        labels,
-        key,
-    })
-}
-
 // What lies below all else.
 fn ground_of(
     alloc: Global,
     frame: &Frame,
     names: &[TaskName],
-    history: &History,
-    figures: Figures,
+    lives: &[Life],
 ) -> Result<Vec<Shape>, AllocError>
     requires { IsFrame frame.now }
-    ensures { IfOk result (λ ground. All (LiesIn (width_of frame.now) (height_of frame.now)) ground.items) }
+    ensures value { IfOk result (λ ground. ground.items ≡ map (cut_shape (width_of frame.now) (height_of frame.now)) (schedule_ground frame.now names.now lives.now)) }
+    ensures inside { IfOk result (λ ground. All (LiesIn (width_of frame.now) (height_of frame.now)) ground.items) }
 {
     let mut ground = Vec::new(alloc);
-    add_title(&mut ground, Note::Schedule, figures)?;
-    add_rows(&mut ground, frame, names, history.lives())?;
-    add_grid(&mut ground, frame, frame.bottom(), true)?;
+    add_rows(&mut ground, frame, names, lives)?;
+    add_frame(&mut ground, frame, true)?;
     shown(alloc, ground.as_slice(), frame.width(), frame.height())
 }
 
 // The key.
-fn key_of(alloc: Global, frame: &Frame) -> Result<Vec<Sign>, AllocError>
+fn key_of(alloc: Global, frame: &Frame, schedule: &Schedule) -> Result<Vec<Sign>, AllocError>
     requires { IsFrame frame.now }
-    ensures { IfOk result (λ key. All (SignLiesIn (width_of frame.now) (height_of frame.now)) key.items) }
+    ensures value { IfOk result (λ key. key.items ≡ map (cut_sign (width_of frame.now) (height_of frame.now)) (schedule_key frame.now.processors (shown_of schedule.now) (bottom frame.now + 36))) }
+    ensures inside { IfOk result (λ key. All (SignLiesIn (width_of frame.now) (height_of frame.now)) key.items) }
 {
     let mut key = Vec::new(alloc);
-    add_schedule_key(&mut key, frame.processors, frame.bottom() + 36)?;
+    let shown = shown_of(schedule);
+    add_schedule_key(&mut key, frame.processors, &shown, frame.bottom() + 36)?;
     shown_signs(alloc, key.as_slice(), frame.width(), frame.height())
+}
+
+// What a schedule has.
+fn shown_of(schedule: &Schedule) -> Shown
+    ensures { result ≡ shown_of schedule.now }
+{
+    let arrows = schedule.arrows.as_slice();
+    Shown {
+        windows: has_any(schedule.windows.as_slice()),
+        joins: has_joins(arrows),
+        departures: has_departures(arrows),
+        held: has_any(schedule.held.as_slice()),
+        late: has_any(schedule.late.as_slice()),
+        refusals: has_any(schedule.refusals.as_slice()),
+        quanta: has_any(schedule.quanta.as_slice()),
+    }
+}
+
+// Whether there is any.
+fn has_any<T: Drop>(items: &[T]) -> bool
+    ensures { result ≡ nat_lt 0 (length items.now) }
+{
+    items.len() > 0
+}
+
+// Whether there is a join.
+fn has_joins(arrows: &[LifeMark]) -> bool
+    ensures { result ≡ nat_lt 0 (count_by is_join arrows.now) }
+{
+    arrows.iter().filter(|mark| is_join(mark)).count() > 0
+}
+
+// Whether there is a departure.
+fn has_departures(arrows: &[LifeMark]) -> bool
+    ensures { result ≡ nat_lt 0 (count_by is_departure arrows.now) }
+{
+    arrows.iter().filter(|mark| is_departure(mark)).count() > 0
+}
+
+// Whether a mark stands for a join.
+fn is_join(mark: &LifeMark) -> bool
+    ensures { result ≡ is_join mark.now }
+{
+    match mark.arrow.head {
+        Mark::Join => true,
+        _ => false,
+    }
+}
+
+// Whether it stands for a departure.
+fn is_departure(mark: &LifeMark) -> bool
+    ensures { result ≡ is_departure mark.now }
+{
+    !is_join(mark)
 }
 
 /// Whether no picture shows these slots: they are none, aren't all planned, or are more than
@@ -287,7 +332,9 @@ pub(crate) fn are_refused<R: Ready>(dispatcher: &Dispatcher<R>, from: u64, to: u
 }
 
 /// The figures of a run, and of the slots that are shown of it.
-pub(crate) fn figures_of<R: Ready>(dispatcher: &Dispatcher<R>, from: u64, to: u64) -> Figures {
+pub(crate) fn figures_of<R: Ready>(dispatcher: &Dispatcher<R>, from: u64, to: u64) -> Figures
+    ensures { result ≡ figures_of dispatcher.now.settings from to }
+{
     let settings = dispatcher.settings();
     Figures {
         processors: settings.processors() as u64,
@@ -307,6 +354,8 @@ pub(crate) fn frame_of(names: &[TaskName], processors: u64, from: u64, to: u64) 
     ensures slots { (result.from ≡ from) × (result.to ≡ to) }
     ensures rows { result.rows ≡ min (length names.now) 1000000 }
     ensures processors { result.processors ≡ processors }
+    ensures left { result.left ≡ left_of names.now }
+    ensures sizes { result.sizes ≡ sizes_of (to - from) to }
 {
     Frame {
         from,
@@ -320,6 +369,7 @@ pub(crate) fn frame_of(names: &[TaskName], processors: u64, from: u64, to: u64) 
 
 // The width of the left margin, in which the longest name has room.
 fn left_margin(names: &[TaskName]) -> u64
+    ensures value { result ≡ left_of names.now }
     ensures low { 118 ≤ result }
     ensures high { result ≤ 192 }
 {

@@ -1,7 +1,8 @@
 //! The sizes of a figure, all in one table.
 
-ghost use Rattle.std.specs.Prelude.{◌≤◌};
+ghost use Rattle.std.specs.Prelude.{◌≡◌, ◌≤◌};
 ghost use Rattle.pfair_drawing.specs.Frame.{IsSizes};
+ghost use Rattle.pfair_drawing.specs.Sizes.{sizes, sizes_of};
 
 /// The sizes of a schedule's parts, in pixels.
 #[derive(Clone, Copy, Debug, PartialEq, Eq)]
@@ -44,7 +45,8 @@ pub const NARROWEST_LEFT: u64 = 118;
 impl Sizes {
     /// The sizes of a figure of the slots up to `to`, of so many: the more slots, the narrower.
     pub fn of_slots(slots: u64, to: u64) -> Sizes
-        ensures { IsSizes result }
+        ensures value { result ≡ sizes_of slots to }
+        ensures within { IsSizes result }
     {
         if slots <= 14 {
             Sizes::large(40, 1)
@@ -67,7 +69,8 @@ impl Sizes {
     // A figure in which each quantum has room for more than its colour.
     fn large(slot: u64, step: u64) -> Sizes
         requires { (2 ≤ slot) × (slot ≤ 40) × (4 ≤ slot) × (1 ≤ step) }
-        ensures { IsSizes result }
+        ensures value { result ≡ sizes slot 13 7 2 13 15 step }
+        ensures within { IsSizes result }
     {
         Sizes {
             slot,
@@ -83,7 +86,8 @@ impl Sizes {
     // A figure in which windows can still be told apart.
     fn small(slot: u64, step: u64) -> Sizes
         requires { (2 ≤ slot) × (slot ≤ 40) × (1 ≤ step) }
-        ensures { IsSizes result }
+        ensures value { result ≡ sizes slot 8 3 1 9 7 step }
+        ensures within { IsSizes result }
     {
         Sizes {
             slot,
@@ -98,7 +102,8 @@ impl Sizes {
 
     // A figure of many slots.
     fn dense() -> Sizes
-        ensures { IsSizes result }
+        ensures value { result ≡ sizes 2 5 3 0 9 7 20 }
+        ensures within { IsSizes result }
     {
         Sizes {
             slot: 2,

@@ -3,16 +3,15 @@
 ghost use Rattle.std.specs.Prelude.{◌≡◌, ◌++◌, ◌≤◌, ◌<◌, ◌^◌, ◌+◌, IfOk, OnOk, map};
 ghost use Rattle.pfair_lag.specs.Book.{lag_of, recorded};
 ghost use Rattle.pfair_drawing.specs.Frame.{IsFrame};
-ghost use Rattle.pfair_drawing.specs.Lags.{book_before, is_past, lag_height, lag_step, lag_steps, lag_y, task_step, zero_y};
+ghost use Rattle.pfair_drawing.specs.Lags.{book_before, is_past, beyond_of, beyond_label, beyond_mark, full_height, is_beyond, lag_height, lag_step, lag_steps, lag_y, task_step, zero_y};
 
 use crate::frame::Frame;
-use crate::mark::LagStep;
 use crate::names::row_of;
-use crate::shape::Point;
 use crate::slots::{decided_at, table_at};
 use pfair_lag::{LagBook, MAX_HORIZON};
 use pfair_output::tell_all;
 use pfair_ready::Ready;
+use pfair_svg::{BeyondMark, Caption, Label, LagStep, Mark, Point, Style, Words};
 use pfair_table::{Dispatcher, Pick};
 use pfair_weight::TaskName;
 use std::alloc::{AllocError, Global};
@@ -110,24 +109,91 @@ fn lag_step(frame: &Frame, row: u64, slot: u64, old: (i64, u64), new: (i64, u64)
     requires slot { slot < MAX_HORIZON }
     ensures { result ≡ lag_step frame.now row slot old new }
 {
+    let to = Point {
+        x: frame.slot_x(slot + 1),
+        y: lag_y(frame, row, new),
+    };
     LagStep {
         from: Point {
             x: frame.slot_x(slot),
             y: lag_y(frame, row, old),
         },
-        to: Point {
-            x: frame.slot_x(slot + 1),
-            y: lag_y(frame, row, new),
-        },
+        to,
         was_outside: is_past(old),
         is_outside: is_past(new),
+        beyond: beyond_of(frame, to, new),
+        caption: Caption::Lag {
+            row,
+            time: slot + 1,
+            numerator: new.0,
+            period: new.1,
+        },
     }
+}
+
+// The mark of a lag that is further than is drawn, if it is.
+fn beyond_of(frame: &Frame, at: Point, lag: (i64, u64)) -> Option<BeyondMark>
+    requires frame { IsFrame frame.now }
+    requires below { at.y < 2 ^ 41 }
+    ensures { result ≡ beyond_of frame.now at lag }
+{
+    if !is_beyond(frame, lag) {
+        return None;
+    }
+    Some(BeyondMark {
+        at,
+        mark: beyond_mark(lag.0),
+        number: beyond_label(frame, at, lag),
+    })
+}
+
+// Whether a lag is further than is drawn.
+fn is_beyond(frame: &Frame, lag: (i64, u64)) -> bool
+    requires { IsFrame frame.now }
+    ensures { result ≡ is_beyond frame.now lag }
+{
+    (frame.sizes.lane + frame.sizes.pad) as u128 + 1 <= full_height(frame, lag)
+}
+
+// Which way it lies.
+fn beyond_mark(numerator: i64) -> Mark
+    ensures { result ≡ beyond_mark numerator }
+{
+    if numerator >= 0 {
+        Mark::Above
+    } else {
+        Mark::Below
+    }
+}
+
+// The lag itself, where there is room: below the mark at the upper side, and above it at the lower.
+fn beyond_label(frame: &Frame, at: Point, lag: (i64, u64)) -> Option<Label>
+    requires { at.y < 2 ^ 41 }
+    ensures { result ≡ beyond_label frame.now at lag }
+{
+    if frame.sizes.slot < 28 {
+        return None;
+    }
+    let y = if lag.0 >= 0 {
+        at.y + 10
+    } else {
+        at.y.saturating_sub(5)
+    };
+    Some(Label {
+        at: Point { x: at.x, y },
+        words: Words::Lag {
+            numerator: lag.0,
+            period: lag.1,
+        },
+        style: Style::Beyond,
+    })
 }
 
 // Where a lag lies in a row: up where it is positive.
 fn lag_y(frame: &Frame, row: u64, lag: (i64, u64)) -> u64
     requires { IsFrame frame.now }
-    ensures { result ≡ lag_y frame.now row lag }
+    ensures value { result ≡ lag_y frame.now row lag }
+    ensures within { result < 2 ^ 41 }
 {
     let zero = zero_y(frame, row);
     let height = lag_height(frame, lag);
@@ -155,10 +221,17 @@ fn lag_height(frame: &Frame, lag: (i64, u64)) -> u64
     ensures value { result ≡ lag_height frame.now lag }
     ensures within { result ≤ frame.now.sizes.lane + frame.now.sizes.pad }
 {
-    let (lane, most) = (frame.sizes.lane, frame.sizes.lane + frame.sizes.pad);
+    let most = frame.sizes.lane + frame.sizes.pad;
+    full_height(frame, lag).min(most as u128) as u64
+}
+
+// How high it would lie if all were drawn.
+fn full_height(frame: &Frame, lag: (i64, u64)) -> u128
+    requires { IsFrame frame.now }
+    ensures { result ≡ full_height frame.now lag }
+{
     let size = lag.0.unsigned_abs() as u128;
-    let height = size * lane as u128 / lag.1.max(1) as u128;
-    height.min(most as u128) as u64
+    size * frame.sizes.lane as u128 / lag.1.max(1) as u128
 }
 
 // Whether a lag is at or past a bound.

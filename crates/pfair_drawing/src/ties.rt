@@ -8,8 +8,8 @@ use crate::canvas::{add, shown};
 use crate::frame::Frame;
 use crate::history::{History, Life};
 use crate::runs::Ran;
-use crate::shape::{Shape, Stroke};
 use crate::windows::{closes, opens};
+use pfair_svg::{Shape, Stroke};
 use pfair_weight::{MAX_INDEX, TaskName};
 use std::alloc::{AllocError, Global};
 

@@ -2,14 +2,14 @@
 
 ghost use Rattle.std.specs.Prelude.{◌≡◌, ◌≤◌, ◌<◌, ◌^◌, ◌++◌, ◌∷◌, [], IfOk, OnOk, nat_lt, if◌then◌else◌};
 ghost use Rattle.pfair_weight.specs.Share.{IsWeight};
-ghost use Rattle.pfair_drawing.specs.Frame.{IsFrame, lane_area};
+ghost use Rattle.pfair_drawing.specs.Frame.{IsFrame};
 ghost use Rattle.pfair_drawing.specs.Names.{row_of};
-ghost use Rattle.pfair_drawing.specs.Windows.{closes, cut, ends, life_windows, offset_of, opens, windows};
+ghost use Rattle.pfair_drawing.specs.Windows.{closes, cut, ends, life_windows, offset_of, opens, window_bar, windows};
 
 use crate::frame::Frame;
 use crate::history::{History, Late, Leave, Life};
 use crate::names::row_of;
-use crate::shape::Area;
+use pfair_svg::{Bar, Caption};
 use pfair_weight::{MAX_INDEX, MAX_OFFSET, TaskName, deadline, release};
 use std::alloc::{AllocError, Global};
 
@@ -19,7 +19,7 @@ pub(crate) fn windows_of(
     frame: &Frame,
     names: &[TaskName],
     history: &History,
-) -> Result<Vec<Area>, AllocError>
+) -> Result<Vec<Bar>, AllocError>
     requires { IsFrame frame.now }
     ensures { IfOk result (λ bars. bars.items ≡ windows frame.now names.now history.now) }
 {
@@ -34,7 +34,7 @@ pub(crate) fn windows_of(
 
 // Adds the windows of the incarnation at a place.
 fn add_windows(
-    bars: &mut Vec<Area>,
+    bars: &mut Vec<Bar>,
     frame: &Frame,
     row: u64,
     late: &[Late],
@@ -58,7 +58,7 @@ fn add_windows(
 
 // Adds a window that closes after the figure's beginning.
 fn add_window(
-    bars: &mut Vec<Area>,
+    bars: &mut Vec<Bar>,
     frame: &Frame,
     row: u64,
     index: u64,
@@ -66,12 +66,28 @@ fn add_window(
     closes: u64,
 ) -> Result<(), AllocError>
     requires { IsFrame frame.now }
-    ensures { OnOk result (bars.new.items ≡ bars.old.items ++ (if nat_lt frame.now.from closes then lane_area frame.now row index opens closes ∷ [] else [])) }
+    ensures { OnOk result (bars.new.items ≡ bars.old.items ++ (if nat_lt frame.now.from closes then window_bar frame.now row index opens closes ∷ [] else [])) }
 {
     if frame.from < closes {
-        bars.push(frame.lane_area(row, index, opens, closes))?;
+        bars.push(window_bar(frame, row, index, opens, closes))?;
     }
     Ok(())
+}
+
+// The bar of a window.
+fn window_bar(frame: &Frame, row: u64, index: u64, opens: u64, closes: u64) -> Bar
+    requires { IsFrame frame.now }
+    ensures { result ≡ window_bar frame.now row index opens closes }
+{
+    Bar {
+        area: frame.lane_area(row, index, opens, closes),
+        caption: Caption::Window {
+            row,
+            index,
+            opens,
+            closes,
+        },
+    }
 }
 
 /// Where the window of a subtask of the incarnation at a place opens.

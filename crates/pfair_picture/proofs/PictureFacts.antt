@@ -1,5 +1,5 @@
 -- What is known of the text of a dispatcher that ran a file's script is known of the output of the file.
-use Rattle.std.proofs.Common.{ℕ, List, Option, Result, Ok, Err, ◌≡◌, ◌≢◌, ◌⊎◌, ◌∙◌, ap, inl, inr, refl, subst}
+use Rattle.std.proofs.Common.{ℕ, List, Option, Result, Ok, Err, ◌≡◌, ◌≢◌, ◌⊎◌, ◌∙◌, ap, inl, inr, refl, subst, sym}
 use Rattle.std.proofs.lemmas.Option.{IfSome_then}
 use Rattle.std.specs.Prelude.{IfSome, IsErrAnd, length}
 use Rattle.pfair_text.specs.Input.{TakesOneFile}
@@ -9,14 +9,15 @@ use Rattle.pfair_command.specs.Schedules.{IsScheduleOf}
 use Rattle.pfair_command.specs.declared.fault.ScheduleFault.{ScheduleFault}
 use Rattle.pfair_command.specs.declared.fault.ScheduleFault.TheVariants as schedule
 use Rattle.pfair_command.proofs.CommandFacts.{TakesOver, ends_unwritten, err_is}
-use Rattle.pfair_drawing.specs.declared.drawing.Drawing.{Drawing}
+use Rattle.pfair_svg.specs.declared.drawing.Drawing.{Drawing}
 use Rattle.pfair_drawing.specs.Schedule.{AreRefused}
-use Rattle.pfair_drawing.specs.Svg.{svg_text}
+use Rattle.pfair_svg.specs.Svg.{svg_text}
 use Rattle.pfair_picture.specs.declared.fault.ProgramFault.{ProgramFault}
 use Rattle.pfair_picture.specs.declared.fault.ProgramFault.TheVariants.{Schedule, Memory, Slots, WriteFailed}
+use Rattle.pfair_picture.specs.declared.fault.RefusedSlots.{RefusedSlots}
 use Rattle.pfair_picture.specs.declared.words.Picture.{Picture}
 use Rattle.pfair_picture.specs.Faults.{of_schedule}
-use Rattle.pfair_picture.specs.Pictures.{AreSlotsRefused, IsDrawnOf, IsFaultOfPicture, IsOutputOf, end_of, first_of}
+use Rattle.pfair_picture.specs.Pictures.{AreSlotsRefused, IsDrawnOf, IsFaultOfPicture, IsOutputOf, end_of, first_of, told}
 
 -- a text is that of a picture of what a dispatcher has planned
 abbrev pub IsTextOf : Picture → Option (ℕ × ℕ) → Dispatch → List ℕ → Type 0
@@ -26,9 +27,15 @@ pub output_of : {made shown : List ℕ} (picture : Picture) (slots : Option (ℕ
     → shown ≡ made → (P : List ℕ → Type 0) → P shown → IfSome given (λ bytes. IsOutputOf picture slots bytes P)
 output_of picture slots given d has (drawn, is, same) equal P p = IfSome_then given has (λ bytes run. (d, run, (drawn, is, subst P (equal ∙ same) p)))
 
-pub refused_of : (slots : Option (ℕ × ℕ)) (given : Option (List ℕ)) (d : Dispatch) → IfSome given (λ bytes. IsScheduleOf bytes d) → AreRefused (first_of slots) (end_of slots (length d.tables)) (length d.tables)
-    → IfSome given (AreSlotsRefused slots)
-refused_of slots given d has refused = IfSome_then given has (λ bytes run. (d, run, refused))
+-- slots that are refused are told as they were asked for
+pub refused_of : (slots : Option (ℕ × ℕ)) (given : Option (List ℕ)) (d : Dispatch) (refused : RefusedSlots) (own : ProgramFault) → IfSome given (λ bytes. IsScheduleOf bytes d) → own ≡ Slots refused
+    → (own ≡ Memory) ⊎ (own ≡ Slots (told (first_of slots) (end_of slots (length d.tables)) (length d.tables)))
+    → (own ≡ Slots (told (first_of slots) (end_of slots (length d.tables)) (length d.tables)) → AreRefused (first_of slots) (end_of slots (length d.tables)) (length d.tables))
+    → IfSome given (AreSlotsRefused slots refused)
+refused_of slots given d refused own has is (inl wanting) refusing = absurd (let same : Slots refused ≡ Memory = sym is ∙ wanting in cc same)
+refused_of slots given d refused own has is (inr as_told) refusing =
+    let same : Slots refused ≡ Slots (told (first_of slots) (end_of slots (length d.tables)) (length d.tables)) = sym is ∙ as_told in
+    IfSome_then given has (λ bytes run. (d, run, (refusing as_told, cc same)))
 
 -- the cause that a fault has
 abbrev cause_of : ProgramFault → ScheduleFault
@@ -53,7 +60,7 @@ one_fault r own other is = err_is (λ r. r ≡ Err other → own ≡ other) r ow
 
 -- a command that draws nothing, for want of memory or because its slots are refused
 pub ends_undrawn : {T A E : Type 0} {IsOutput : List ℕ → (List ℕ → Type 0) → Type 0} {given left before : Option (List ℕ)} {long unread memory : E} {a : A}
-    → TakesOneFile long unread memory (Ok a) given left → (r : Result T ProgramFault) (own : ProgramFault) → IsErrAnd r (λ e. e ≡ own) → (own ≡ Memory) ⊎ (own ≡ Slots)
+    → TakesOneFile long unread memory (Ok a) given left → (r : Result T ProgramFault) (own : ProgramFault) → IsErrAnd r (λ e. e ≡ own) → (refused : RefusedSlots) → (own ≡ Memory) ⊎ (own ≡ Slots refused)
     → IsCommandOf of_schedule WriteFailed IsOutput IsFaultOfPicture r given left before before
-ends_undrawn taken r own is (inl wanting) = ends_unwritten takes_over taken r own is (ap cause_of wanting) (λ same. cc (same, wanting)) (inl (schedule.Memory, wanting))
-ends_undrawn taken r own is (inr refused) = ends_unwritten takes_over taken r own is (ap cause_of refused) (λ same. cc (same, refused)) (inr refused)
+ends_undrawn taken r own is told (inl wanting) = ends_unwritten takes_over taken r own is (ap cause_of wanting) (λ same. cc (same, wanting)) (inl (schedule.Memory, wanting))
+ends_undrawn taken r own is told (inr refused) = ends_unwritten takes_over taken r own is (ap cause_of refused) (λ same. cc (same, refused)) (inr (told, refused))

@@ -2,17 +2,18 @@
 
 ghost use Rattle.std.specs.Prelude.{◌≡◌, length, OnOk, IfOk, IfErr, IfSome, IsErrOf, ◌⊎◌};
 ghost use Rattle.pfair_command.specs.Commands.{IsCommandOf};
-ghost use Rattle.pfair_drawing.specs.declared.drawing.Drawing.{Drawing};
+ghost use Rattle.pfair_svg.specs.declared.drawing.Drawing.{Drawing};
 ghost use Rattle.pfair_drawing.specs.Schedule.{AreRefused};
-ghost use Rattle.pfair_drawing.specs.Svg.{svg_text};
+ghost use Rattle.pfair_svg.specs.Svg.{svg_text};
 ghost use Rattle.pfair_picture.specs.Faults.{of_schedule};
-ghost use Rattle.pfair_picture.specs.Pictures.{AreSlotsRefused, IsDrawnBetween, IsDrawnOf, IsFaultOfPicture, IsOutputOf, Shows, end_of, first_of};
+ghost use Rattle.pfair_picture.specs.Pictures.{AreSlotsRefused, IsDrawnBetween, IsDrawnOf, IsFaultOfPicture, IsOutputOf, Shows, end_of, first_of, told};
 ghost use Rattle.pfair_picture.specs.declared.fault.ProgramFault.TheVariants.{Slots, Memory};
+ghost use Rattle.pfair_picture.specs.declared.fault.RefusedSlots.{RefusedSlots};
 
-use crate::fault::ProgramFault;
+use crate::fault::{ProgramFault, RefusedSlots};
 use crate::words::Picture;
 use pfair_command::scheduled;
-use pfair_drawing::{Drawing, lags_drawing, schedule_drawing, svg_of};
+use pfair_drawing::{DrawFault, Drawing, lags_drawing, schedule_drawing, svg_of};
 use pfair_ready::HeapReady;
 use pfair_table::Dispatcher;
 use pfair_text::send;
@@ -41,7 +42,7 @@ pub fn draw<R: Read, W: Write>(
 ) -> Result<(), ProgramFault>
     ensures command { IsCommandOf of_schedule ProgramFault.WriteFailed (IsOutputOf picture slots) IsFaultOfPicture result
         (R.remaining reader.old) (R.remaining reader.new) (W.contents writer.old) (W.contents writer.new) }
-    ensures slots { IsErrOf result Slots → IfSome (R.remaining reader.old) (AreSlotsRefused slots) }
+    ensures slots { (refused : RefusedSlots) → IsErrOf result (Slots refused) → IfSome (R.remaining reader.old) (AreSlotsRefused slots refused) }
 {
     let dispatcher = scheduled(alloc, reader)?;
     let text = text_of(alloc, &dispatcher, picture, slots)?;
@@ -56,8 +57,8 @@ fn text_of(
     slots: Option<(u64, u64)>,
 ) -> Result<Vec<u8>, ProgramFault>
     ensures ok { IfOk result (λ text. (drawn : Drawing) × IsDrawnOf picture slots dispatcher.now drawn × (text.items ≡ svg_text drawn)) }
-    ensures refused { IsErrOf result Slots → AreRefused (first_of slots) (end_of slots (length dispatcher.now.tables)) (length dispatcher.now.tables) }
-    ensures only { IfErr result (λ e. (e ≡ Memory) ⊎ (e ≡ Slots)) }
+    ensures refused { let planned = length dispatcher.now.tables in IsErrOf result (Slots (told (first_of slots) (end_of slots planned) planned)) → AreRefused (first_of slots) (end_of slots planned) planned }
+    ensures only { let planned = length dispatcher.now.tables in IfErr result (λ e. (e ≡ Memory) ⊎ (e ≡ Slots (told (first_of slots) (end_of slots planned) planned))) }
 {
     match slots {
         None => text_between(alloc, dispatcher, picture, 0, dispatcher.next_slot()),
@@ -74,8 +75,8 @@ fn text_between(
     to: u64,
 ) -> Result<Vec<u8>, ProgramFault>
     ensures ok { IfOk result (λ text. (drawn : Drawing) × IsDrawnBetween picture dispatcher.now from to drawn × (text.items ≡ svg_text drawn)) }
-    ensures refused { IsErrOf result Slots → AreRefused from to (length dispatcher.now.tables) }
-    ensures only { IfErr result (λ e. (e ≡ Memory) ⊎ (e ≡ Slots)) }
+    ensures refused { IsErrOf result (Slots (told from to (length dispatcher.now.tables))) → AreRefused from to (length dispatcher.now.tables) }
+    ensures only { IfErr result (λ e. (e ≡ Memory) ⊎ (e ≡ Slots (told from to (length dispatcher.now.tables)))) }
 {
     let drawing = drawing_of(alloc, dispatcher, picture, from, to)?;
     let text = svg_of(alloc, &drawing)?;
@@ -90,14 +91,22 @@ fn drawing_of(
     from: u64,
     to: u64,
 ) -> Result<Drawing, ProgramFault>
-    ensures shows { IfOk result (Shows picture dispatcher.now.decided dispatcher.now.tables dispatcher.now.settings.processors from to) }
+    ensures shows { IfOk result (Shows picture dispatcher.now.decided dispatcher.now.tables dispatcher.now.settings from to) }
     ensures taken { OnOk result (¬ (AreRefused from to (length dispatcher.now.tables))) }
-    ensures refused { IsErrOf result Slots → AreRefused from to (length dispatcher.now.tables) }
-    ensures only { IfErr result (λ e. (e ≡ Memory) ⊎ (e ≡ Slots)) }
+    ensures refused { IsErrOf result (Slots (told from to (length dispatcher.now.tables))) → AreRefused from to (length dispatcher.now.tables) }
+    ensures only { IfErr result (λ e. (e ≡ Memory) ⊎ (e ≡ Slots (told from to (length dispatcher.now.tables)))) }
 {
     let made = match picture {
         Picture::Schedule => schedule_drawing(alloc, dispatcher, from, to),
         Picture::Lags => lags_drawing(alloc, dispatcher, from, to),
     };
-    Ok(made?)
+    match made {
+        Ok(drawing) => Ok(drawing),
+        Err(DrawFault::Slots) => Err(ProgramFault::Slots(RefusedSlots {
+            from,
+            to,
+            planned: dispatcher.next_slot(),
+        })),
+        Err(DrawFault::Memory) => Err(ProgramFault::Memory),
+    }
 }

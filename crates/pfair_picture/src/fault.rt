@@ -1,15 +1,43 @@
 //! The faults of the program: their numbers, texts and exit statuses.
 
 ghost use Rattle.std.specs.Prelude.{◌≡◌};
-ghost use Rattle.pfair_picture.specs.Faults.{number_of, of_drawing, of_schedule, status_of};
+ghost use Rattle.pfair_picture.specs.Faults.{number_of, of_schedule, status_of};
 ghost use Rattle.pfair_picture.specs.declared.fault.ProgramFault.TheVariants.{Memory, WriteFailed};
 
 use pfair_command::{ScheduleFault, write_line};
-use pfair_drawing::DrawFault;
 use pfair_text::WriteFailed;
 use std::alloc::AllocError;
+use std::fmt;
 use std::io::Write;
 use thiserror::Error;
+
+/// Slots that no picture shows.
+#[derive(Clone, Copy, Debug, PartialEq, Eq)]
+pub struct RefusedSlots {
+    /// The first slot that was asked for.
+    pub from: u64,
+    /// The slot after the last one.
+    pub to: u64,
+    /// The slots of the file.
+    pub planned: u64,
+}
+
+impl fmt::Display for RefusedSlots {
+    fn fmt<W: fmt::Write>(&self, f: &mut fmt::Formatter<W>) -> fmt::Result {
+        let (from, to, planned) = (self.from, self.to, self.planned);
+        let last = to.saturating_sub(1);
+        if from >= to {
+            write!(
+                f,
+                "slots from {from} to before {to} refused: there are none"
+            )
+        } else if to > planned {
+            write!(f, "slots {from} to {last} refused: the file has {planned}")
+        } else {
+            write!(f, "slots {from} to {last} refused: 4,096 at most")
+        }
+    }
+}
 
 /// Why a picture was not written.
 #[derive(Debug, Drop, Error)]
@@ -25,8 +53,8 @@ pub enum ProgramFault {
     CommandLine,
     /// Number 81: the slots are none, or some aren't the file's, or they are more than a picture
     /// can have.
-    #[error("slots refused")]
-    Slots,
+    #[error("{0}")]
+    Slots(RefusedSlots),
     /// Number 90: want of memory.
     #[error("out of memory")]
     Memory,
@@ -59,17 +87,6 @@ impl From<WriteFailed> for ProgramFault {
     }
 }
 
-impl From<DrawFault> for ProgramFault {
-    ghost from_gives = { λ fault e. e ≡ of_drawing fault };
-
-    fn from(fault: DrawFault) -> ProgramFault {
-        match fault {
-            DrawFault::Slots => ProgramFault::Slots,
-            DrawFault::Memory => ProgramFault::Memory,
-        }
-    }
-}
-
 impl ProgramFault {
     /// The number of the fault, by which users and scripts know it.
     pub fn number(&self) -> u8
@@ -79,7 +96,7 @@ impl ProgramFault {
             ProgramFault::Schedule(fault) => fault.number(),
             ProgramFault::WriteFailed => 71,
             ProgramFault::CommandLine => 80,
-            ProgramFault::Slots => 81,
+            ProgramFault::Slots(_) => 81,
             ProgramFault::Memory => 90,
         }
     }
@@ -90,7 +107,7 @@ impl ProgramFault {
         ensures { result ≡ status_of self.now }
     {
         match self {
-            ProgramFault::CommandLine | ProgramFault::Slots => 1,
+            ProgramFault::CommandLine | ProgramFault::Slots(_) => 1,
             ProgramFault::Schedule(fault) => fault.status(),
             ProgramFault::Memory => 4,
             ProgramFault::WriteFailed => 5,

@@ -1,7 +1,7 @@
 //! What no contract says: which slots are refused, and that a picture comes out.
 
 use crate::draw::draw;
-use crate::fault::{ProgramFault, write_fault};
+use crate::fault::{ProgramFault, RefusedSlots, write_fault};
 use crate::words::{Asked, Picture, read_words};
 use std::alloc::{AllocError, Global};
 use std::io;
@@ -176,11 +176,29 @@ fn a_writer_that_fails_has_a_prefix(rt: HostRuntime) -> Result<(), Fail> {
 
 #[test]
 fn the_line_of_a_fault(rt: HostRuntime) -> Result<(), Fail> {
-    let mut line: Vec<u8> = Vec::new(rt.alloc());
-    assert_eq!(rt; write_fault(&ProgramFault::Slots, &mut line), 1);
-    assert_eq!(rt;
-        line.as_slice(),
-        b"pfair_picture: 81 slots refused\n".as_slice()
-    );
+    let rows: [(u64, u64, &[u8]); 3] = [
+        (
+            0,
+            5000,
+            b"pfair_picture: 81 slots 0 to 4999 refused: 4,096 at most\n",
+        ),
+        (
+            6,
+            5001,
+            b"pfair_picture: 81 slots 6 to 5000 refused: the file has 5000\n",
+        ),
+        (
+            3,
+            2,
+            b"pfair_picture: 81 slots from 3 to before 2 refused: there are none\n",
+        ),
+    ];
+    for (from, to, wanted) in rows {
+        let planned = 5000;
+        let mut line: Vec<u8> = Vec::new(rt.alloc());
+        let fault = ProgramFault::Slots(RefusedSlots { from, to, planned });
+        assert_eq!(rt; write_fault(&fault, &mut line), 1);
+        assert_eq!(rt; line.as_slice(), wanted);
+    }
     Ok(())
 }

@@ -1,7 +1,7 @@
 use Rattle.std.proofs.Common.{ap, sym, ◌∙◌, ◌+◌, ◌-◌}
 use Rattle.std.specs.List.{range_with_len}
 use Rattle.pfair_drawing.specs.History.{Told, slots_told}
-use Rattle.pfair_drawing.proofs.SlotFacts.{range_first}
+use Rattle.pfair_svg.proofs.RangeFacts.{range_first}
 use Rattle.pfair_drawing.proofs.history.history_of.Goals as goal
 
 pub loop-slot-preserved : goal.loop-slot-preserved

@@ -2,7 +2,7 @@ use Rattle.std.proofs.Common.{◌≡◌, ◌∙◌, ◌++◌, [], List, None, sy
 use Rattle.std.specs.Prelude.{slice_get}
 use Rattle.std.proofs.lemmas.List.{append-nil}
 use Rattle.std.proofs.lemmas.Option.{slice_get_past}
-use Rattle.pfair_drawing.specs.declared.mark.LateMark.{LateMark}
+use Rattle.pfair_svg.specs.declared.mark.LateMark.{LateMark}
 use Rattle.pfair_drawing.specs.Marks.{late_of}
 use Rattle.pfair_drawing.proofs.late.add_late.Goals as goal
 

@@ -2,7 +2,7 @@ use Rattle.std.proofs.Common.{ap, sym, ◌∙◌, ◌+◌, ◌-◌, List}
 use Rattle.std.specs.List.{range_with_len}
 use Rattle.pfair_weight.specs.Name.{NameValue}
 use Rattle.pfair_drawing.specs.Names.{with_slots}
-use Rattle.pfair_drawing.proofs.SlotFacts.{range_first}
+use Rattle.pfair_svg.proofs.RangeFacts.{range_first}
 use Rattle.pfair_drawing.proofs.names.names_of.Goals as goal
 
 pub loop-slot-preserved : goal.loop-slot-preserved

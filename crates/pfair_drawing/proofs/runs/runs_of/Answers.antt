@@ -1,5 +1,5 @@
 use Rattle.pfair_drawing.specs.Quanta.{ran_in, ran_between}
-use Rattle.pfair_drawing.proofs.SlotFacts.{flat_more}
+use Rattle.pfair_svg.proofs.RangeFacts.{flat_more}
 use Rattle.pfair_drawing.proofs.runs.runs_of.Goals as goal
 
 pub loop-slot-preserved : goal.loop-slot-preserved

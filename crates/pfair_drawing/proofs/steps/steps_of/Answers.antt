@@ -4,7 +4,7 @@ use Rattle.pfair_lag.specs.Book.{Book}
 use Rattle.pfair_weight.specs.Name.{NameValue}
 use Rattle.pfair_drawing.specs.declared.frame.Frame.{Frame}
 use Rattle.pfair_drawing.specs.Lags.{book_at, lag_steps, ran_at, slot_steps, task_step}
-use Rattle.pfair_drawing.proofs.SlotFacts.{flat_more}
+use Rattle.pfair_svg.proofs.RangeFacts.{flat_more}
 use Rattle.pfair_drawing.proofs.StepFacts.{book_more, time_at, told_is}
 use Rattle.pfair_drawing.proofs.steps.steps_of.Goals as goal
 

@@ -19,9 +19,9 @@ returns-in_err-dispatcher-clause-command g c =
     ends_refused takes_over c.in_err-dispatcher.ensures.taken c.in_err-dispatcher.ensures.refused _ c.from_residual.ensures.1 (inl (_, refl))
 
 pub returns-in_err-text-clause-command : goal.returns-in_err-text-clause-command
-returns-in_err-text-clause-command g c = ends_undrawn c.in_ok-dispatcher.ensures.taken _ _ c.from_residual-in_err-text.ensures.1 c.in_err-text.ensures.only
+returns-in_err-text-clause-command g c = ends_undrawn c.in_ok-dispatcher.ensures.taken _ _ c.from_residual-in_err-text.ensures.1 _ c.in_err-text.ensures.only
 
 pub returns-in_err-text-clause-slots : goal.returns-in_err-text-clause-slots
-returns-in_err-text-clause-slots g c is =
-    refused_of c.args.slots _ c.in_ok-dispatcher.dispatcher c.in_ok-dispatcher.ensures.ok
-    (c.in_err-text.ensures.refused (ap Err (one_fault c.from_residual-in_err-text.result _ Slots c.from_residual-in_err-text.ensures.1 is)))
+returns-in_err-text-clause-slots g c refused is =
+    refused_of c.args.slots _ c.in_ok-dispatcher.dispatcher refused _ c.in_ok-dispatcher.ensures.ok (one_fault c.from_residual-in_err-text.result _ (Slots refused) c.from_residual-in_err-text.ensures.1 is) c.in_err-text.ensures.only
+    (λ told. c.in_err-text.ensures.refused (ap Err told))

@@ -1,6 +1,6 @@
 use Rattle.std.proofs.Common.{ℕ, Option, sym, subst, IfOk, ◌≡◌}
-use Rattle.pfair_drawing.specs.declared.drawing.Drawing.{Drawing}
-use Rattle.pfair_drawing.specs.Svg.{svg_text}
+use Rattle.pfair_svg.specs.declared.drawing.Drawing.{Drawing}
+use Rattle.pfair_svg.specs.Svg.{svg_text}
 use Rattle.pfair_picture.specs.Pictures.{IsDrawnBetween, IsDrawnOf}
 use Rattle.pfair_picture.proofs.draw.text_of.Goals as goal
 

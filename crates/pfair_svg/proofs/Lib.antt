@@ -1,0 +1,2 @@
+pub mod RangeFacts
+mod TextFacts
