@@ -1,21 +1,22 @@
 /*
- * pfair.h: the Pfair executive for C. Windows of subtasks, and dispatchers behind handles.
+ * pfair.h: the Pfair executive for C. Windows of subtasks, and dispatchers behind handles. It computes schedules; it
+ * does not execute tasks.
  *
- * Build with the flags of `pkg-config --cflags --libs pfair`, once scripts/install has put the library in its place.
- * (The library as rt builds it lacks rattle_alloc, rattle_realloc and rattle_dealloc, which call malloc, realloc and free:
- * the kit's c/liblibc_c.a has them.)
+ * Build with the flags of `pkg-config --cflags --libs pfair`, once scripts/install has installed the library.
+ * (The library as rt builds it lacks rattle_alloc, rattle_realloc and rattle_dealloc, which call malloc, realloc and
+ * free: the kit's c/liblibc_c.a has them.)
  *
- * What C owes, and no call can check:
- *  - each pointer points to a live object of its type, aligned, that no other argument points into; `rows` points to
- *    `room` such objects, and to one that is never touched where `room` is 0;
+ * What the caller has to see to, since no call can check it:
+ *  - each pointer points to a live, aligned object of its type that no other argument points into; `rows` points to
+ *    `room` such objects, or, where `room` is 0, to one that is never touched;
  *  - a handle begins as PFAIR_NONE, and only the calls below change it: no copy of it is used;
- *  - one call at a time has a handle, and all calls on a handle come from the thread that opened it;
+ *  - at most one call at a time uses a handle, and all calls on a handle come from the thread that opened it;
  *  - the two handles of pfair_absorb are different ones;
  *  - malloc, realloc and free belong to one allocator, and align a block to each power of two up to 16 that divides
  *    its size;
- *  - no call comes from a signal handler, or in the child of a fork of a process with threads.
+ *  - no call comes from a signal handler, or from the child of a fork of a process with threads.
  *
- * All else is checked by each call, and answered by a number.
+ * Each call checks everything else, and answers by a number.
  */
 #ifndef PFAIR_H
 #define PFAIR_H
@@ -24,33 +25,35 @@
 #include <stdint.h>
 #include <string.h>
 
+#define PFAIR_VERSION "0.2.0"
+
 #ifdef __cplusplus
 extern "C" {
 #endif
 
-/* The answers: 0, or the number of the first fault that applies. Numbers from 100 on are of this library alone. */
+/* The answers: 0, or the number of the first fault that applies. Numbers from 100 on belong to this library alone. */
 enum pfair_answer {
     PFAIR_DONE = 0,
-    PFAIR_NAME_EMPTY = 1,         /* a name of no byte */
-    PFAIR_NAME_TOO_LONG = 2,      /* of more than 16 */
-    PFAIR_NAME_BAD_BYTE = 3,      /* not a letter a-z, and then letters a-z, digits and underscores */
+    PFAIR_NAME_EMPTY = 1,         /* a name of no bytes */
+    PFAIR_NAME_TOO_LONG = 2,      /* a name of more than 16 bytes */
+    PFAIR_NAME_BAD_BYTE = 3,      /* a name is a letter a-z, then letters a-z, digits and underscores */
     PFAIR_ZERO_COST = 4,          /* a weight of cost 0 */
-    PFAIR_COST_OVER_PERIOD = 5,   /* of more than a whole processor */
+    PFAIR_COST_OVER_PERIOD = 5,   /* a weight of more than a whole processor */
     PFAIR_PERIOD_TOO_LONG = 6,    /* a period of more than 1,000,000,000 slots */
     PFAIR_STAMP_BEFORE_FLOOR = 7, /* an announcement stamped before its entry's floor */
     PFAIR_SLOT_TOO_FAR = 8,       /* a floor or a stamp past slot 1,000,000 */
     PFAIR_BAD_DELAY = 9,          /* a late release by 0 slots, or by more than 1,048,576 */
-    PFAIR_BAD_INDEX = 10,         /* of subtask 0, or past 1,000,000 */
+    PFAIR_BAD_INDEX = 10,         /* a late release of subtask 0, or of one past 1,000,000 */
     PFAIR_NO_SUCH_PROCESSOR = 13, /* the dispatcher has no such processor */
     PFAIR_NO_SUCH_NUMBER = 14,    /* an entry's number is 0 or past the capacity */
-    PFAIR_OTHER_SHAPE = 15,       /* two dispatchers of other numbers of processors, or other capacities */
+    PFAIR_OTHER_SHAPE = 15,       /* two dispatchers with different numbers of processors, or different capacities */
     PFAIR_TORN = 30,              /* two different entries were taken for one number */
     PFAIR_SPENT = 31,             /* memory was refused to a plan; pfair_reopen helps */
     PFAIR_MEMORY = 90,            /* memory was wanted and refused */
     PFAIR_OUT_OF_RANGE = 100,     /* a number is out of the range that its call states */
     PFAIR_OPEN_ALREADY = 101,     /* the handle has a dispatcher */
     PFAIR_NOT_OPEN = 102,         /* a handle has none */
-    PFAIR_NO_ROOM = 103,          /* fewer rows are given than are wanted */
+    PFAIR_NO_ROOM = 103,          /* there is room for fewer rows than there are */
     PFAIR_NOT_PLANNED = 104       /* the slot isn't planned */
 };
 
@@ -70,13 +73,13 @@ struct pfair_window {
  *   5    the cost is over the period
  *   6    the period is over 1,000,000,000
  *   100  the index or the offset is out of its range
- * After any other answer than 0 nothing is written. Cost: constant.
+ * Unless the answer is 0, nothing is written. Cost: constant.
  */
 uint32_t pfair_window(uint64_t cost, uint64_t period, uint64_t index, uint64_t theta, struct pfair_window *window);
 
 /* ---- entries of logs */
 
-/* A task's name: the first `length` bytes. In names that are given out, zeros stand behind them. */
+/* A task's name: the first `length` bytes. In names that the library writes, zeros follow. */
 struct pfair_name {
     uint8_t bytes[16];
     uint64_t length;
@@ -84,19 +87,19 @@ struct pfair_name {
 
 enum pfair_kind { PFAIR_NOTHING = 0, PFAIR_ARRIVE = 1, PFAIR_DEPART = 2, PFAIR_LATE = 3 };
 
-/* What a kind doesn't need isn't looked at. */
+/* Fields that a kind doesn't need are ignored. */
 struct pfair_entry {
     uint64_t floor;         /* from this entry on nothing in its log is stamped before this slot: 0 to 1,000,000 */
     uint64_t kind;          /* what is announced, one of enum pfair_kind */
-    uint64_t at;            /* the stamp: the slot at whose boundary that is decided */
+    uint64_t at;            /* the stamp: the slot at whose boundary the announcement is decided */
     struct pfair_name name; /* of which task */
-    uint64_t cost, period;  /* of an arrival: its weight */
-    uint64_t early;         /* of an arrival: 1 where subtasks may run before their release, as soon as the one before
-                               in the same job has run, else 0 */
-    uint64_t index, by;     /* of a late release: from which subtask on, and by how many slots */
+    uint64_t cost, period;  /* for an arrival: the weight */
+    uint64_t early;         /* for an arrival: 1 where a subtask may run before its release, as soon as the one before
+                               it in the same job has run, else 0 */
+    uint64_t index, by;     /* for a late release: from which subtask on, and by how many slots */
 };
 
-/* The name that a text spells; one that is too long stays so, and is refused where it is used. */
+/* The name that a text spells. A name that is too long keeps its length, and is refused where it is used. */
 static inline struct pfair_name pfair_name_of(const char *text) {
     struct pfair_name name = {{0}, 0};
     name.length = strlen(text);
@@ -106,7 +109,7 @@ static inline struct pfair_name pfair_name_of(const char *text) {
 
 /* ---- dispatchers */
 
-/* A handle. It begins as PFAIR_NONE, and its fields are the library's own. */
+/* A handle. It begins as PFAIR_NONE, and only the library uses its fields. */
 struct pfair_dispatcher {
     bool is_open;
     void *at;
@@ -120,7 +123,7 @@ struct pfair_dispatcher {
  *   90   memory was refused
  *   100  a number is out of its range
  *   101  the handle has a dispatcher already
- * After any other answer than 0 the handle is as before. Cost: the number of processors.
+ * Unless the answer is 0, the handle is as before. Cost: the number of processors.
  */
 uint32_t pfair_open(struct pfair_dispatcher *d, uint8_t processors, uint64_t frame, uint64_t slots, uint32_t capacity);
 
@@ -134,8 +137,8 @@ uint32_t pfair_close(struct pfair_dispatcher *d);
 
 enum pfair_taken {
     PFAIR_NEW = 0,    /* nothing was held under this number; now the entry is */
-    PFAIR_KNOWN = 1,  /* an equal entry was */
-    PFAIR_TORN_NOW = 2 /* another entry was, or it was torn; now it is torn */
+    PFAIR_KNOWN = 1,  /* an equal entry was held */
+    PFAIR_TORN_NOW = 2 /* another entry was held, or it was torn already; now it is torn */
 };
 
 /*
@@ -148,17 +151,17 @@ enum pfair_taken {
  *   7 to 10   what is wrong with floor, stamp, delay or index: 8 first, then 7, 10, 9
  *   13, 14    there is no such processor, no such number
  *   90        memory was refused; only where nothing was held under this number
- * The first that applies, in this order. After any other answer than 0 nothing has changed. Cost: a few look-ups, which
+ * The answer is the first that applies, in this order. Unless it is 0, nothing has changed. Cost: a few look-ups, which
  * grow with the logarithm of the entries held in a log, and one more for each entry by which the run of entries
  * 1, 2, 3 .. of this log grows.
  */
 uint32_t pfair_take(struct pfair_dispatcher *d, uint8_t processor, uint32_t number, const struct pfair_entry *entry, uint64_t *taken);
 
 /*
- * Takes all that another dispatcher holds, which stays as it is.
+ * Takes all that another dispatcher holds; the other stays as it is.
  *   0    done
  *   15   the other has another number of processors, or another capacity; nothing has changed
- *   90   memory was refused; a part is taken, and to absorb the other again gives what one call would have given
+ *   90   memory was refused; a part is taken, and absorbing the other again gives what one call would have given
  *   102  a handle has no dispatcher; nothing has changed
  * Cost: two look-ups for each entry that the other holds, and one for each entry of the logs in which it holds any.
  */
@@ -177,19 +180,19 @@ struct pfair_step {
 };
 
 /*
- * Plans the next slot, where what is held settles it.
+ * Plans the next slot, if what is held settles it.
  *   0    the step is written
  *   30   something held is torn, and the step's processor and number say what; nothing has changed
  *   31   an earlier call was refused memory; nothing has changed
  *   90   memory was refused: the slot isn't planned, what was planned stands, and plans answer 31 until pfair_reopen
  *   102  the handle has no dispatcher
- * The first that applies, in this order. Cost: the number of processors, what is announced for the slot, the logarithm
- * of the number of tasks for each quantum, and what was taken since the last plan; not the entries held.
+ * The answer is the first that applies, in this order. Cost: the number of processors, what is announced for the slot,
+ * the logarithm of the number of tasks for each quantum, and what was taken since the last plan; not the entries held.
  */
 uint32_t pfair_plan_next(struct pfair_dispatcher *d, struct pfair_step *step);
 
 /*
- * After memory was refused to a plan: makes anew what plans need.
+ * After memory was refused to a plan, makes anew what plans need.
  *   0    plans go on as if memory had been ample
  *   30   something held is torn; nothing has changed
  *   90   memory was refused; plans answer 31
@@ -207,16 +210,16 @@ uint32_t pfair_reopen(struct pfair_dispatcher *d);
 uint32_t pfair_frontier(struct pfair_dispatcher *d, uint64_t *slot);
 
 /*
- * The slot that is planned next: so many slots are planned.
+ * The slot that is planned next, which is also the number of planned slots.
  *   0    the slot is written
  *   102  the handle has no dispatcher
  * Cost: constant.
  */
 uint32_t pfair_next_slot(struct pfair_dispatcher *d, uint64_t *slot);
 
-/* ---- what was planned: `count` is how many rows there are, and the first `count` of `rows` are written */
+/* ---- what was planned: `count` is the number of rows, and the first `count` of `rows` are written */
 
-/* A quantum. Rows stand in the PD2 order. */
+/* A quantum. Rows are in the PD2 order. */
 struct pfair_pick {
     struct pfair_name name;
     uint64_t index; /* of the task's subtask, from 1 */
@@ -228,15 +231,16 @@ struct pfair_decided {
     uint64_t outcome;           /* 0 admitted, 1 departing, 2 delayed, else refused:
                                    20 name taken, 21 period outside frame, 22 no room,
                                    23 no such task, 24 already departing, 25 already released */
-    uint64_t freed_at;          /* of a departure: the slot from which weight and name are free; else 0 */
+    uint64_t freed_at;          /* for a departure: the slot from which weight and name are free; else 0 */
 };
 
 /*
- * The table of a slot; its places, for each row of the table the processor that runs it, where a task that goes on
- * running stays; and the decisions at the slot's boundary, in the order of processor and number.
+ * The table of a slot; its places, for each row of the table the processor that runs it (a task that runs in two
+ * consecutive slots stays on its processor); and the decisions at the slot's boundary, in the order of processor and
+ * number.
  *   0    `count` and the rows are written
  *   102  the handle has no dispatcher
- *   103  there are more than `room` rows: `count` is written, and no row
+ *   103  there are more than `room` rows: `count` is written, but no row
  *   104  the slot isn't planned
  * A table has at most as many rows as there are processors. Cost: the number of rows.
  */

@@ -1,7 +1,7 @@
 /*
- * Calls every function of pfair.h with every kind of bad argument that the header allows: each has to answer the number
- * that the header states, write nothing, and leave the dispatcher as it was. Writes how many calls there were; status 1
- * at the first that answered otherwise.
+ * Calls every function of pfair.h with every kind of bad argument that the header allows: each call has to answer the
+ * number that the header states, write nothing, and leave the dispatcher as it was. Prints how many calls there were,
+ * and ends with status 1 at the first one that answers otherwise.
  */
 #include "pfair.h"
 #include <inttypes.h>
@@ -10,7 +10,7 @@
 
 enum { PROCESSORS = 2, SLOTS = 6, CAPACITY = 6, TAKEN = 5, ROOM = 8 };
 
-/* All that a dispatcher shows of itself. */
+/* All that can be read of a dispatcher. */
 struct seen {
     uint64_t frontier, next, table_rows[SLOTS], place_rows[SLOTS], decided_rows[SLOTS];
     struct pfair_pick table[SLOTS][PROCESSORS];
@@ -129,7 +129,7 @@ static void names(void) {
         REFUSED_ENTRY(PFAIR_NAME_TOO_LONG, entry);
         entry.name.length = UINT64_MAX;
         REFUSED_ENTRY(PFAIR_NAME_TOO_LONG, entry);
-        /* what is looked at first: the name, then the weight, then slots and indexes */
+        /* the order of the checks: the name, then the weight, then slots and indexes */
         entry.cost = 0;
         entry.floor = 1000001;
         REFUSED_ENTRY(PFAIR_NAME_TOO_LONG, entry);
@@ -241,7 +241,7 @@ static void reading(void) {
     SAME(pick, kept_pick);
     SAME(places, kept_places);
     SAME(decided, kept_decided);
-    /* rows behind those that are wanted stay as they are */
+    /* rows after the ones that are written stay as they are */
     MUST(pfair_table(&d, 0, &number, pick, ROOM));
     same(pick + number, kept_pick + number, (size_t)(ROOM - number) * sizeof *pick, __LINE__);
 }
@@ -289,7 +289,7 @@ int main(void) {
     keys();
     absorbing();
     reading();
-    /* nothing of all that was taken, and what a kind doesn't need isn't looked at */
+    /* none of the refused entries was taken, and fields that a kind doesn't need are ignored */
     late.early = late.cost = late.period = late.index = late.by = UINT64_MAX;
     MUST(pfair_take(&d, 0, CAPACITY, &late, &taken));
     if (taken != PFAIR_NEW) fail(__LINE__, "a refused entry was taken", 0);

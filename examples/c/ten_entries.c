@@ -4,8 +4,8 @@
  *   ten_entries tables|decisions
  *
  * Each dispatcher takes the log of one processor, in any order; then they absorb one another, and plan the same slots.
- * What it writes are the rows of examples/two_processors.replay and examples/two_processors.decisions. Status 0, 1 where
- * a call answered otherwise, 2 for other words, 4 for want of memory.
+ * The output is the rows of examples/two_processors.replay or examples/two_processors.decisions. Exit status: 0; 1 where
+ * a call answers otherwise; 2 for other words on the command line; 4 for want of memory.
  */
 #include "pfair.h"
 #include <inttypes.h>
@@ -20,7 +20,7 @@ static void close_all(void) {
     for (int k = 0; k < PROCESSORS; k++) pfair_close(&dispatchers[k]);
 }
 
-/* Ends the program where a call didn't answer 0. */
+/* Ends the program if a call didn't answer 0. */
 static void must(uint32_t answer) {
     if (answer == PFAIR_DONE) return;
     fprintf(stderr, "ten_entries: answer %" PRIu32 "\n", answer);
@@ -65,7 +65,7 @@ static void take_logs(void) {
             }
 }
 
-/* Plans all that is settled. Where memory is refused to a plan it is made once more. */
+/* Plans all that is settled. A plan that is refused memory is tried once more. */
 static void plan_all(struct pfair_dispatcher *d) {
     struct pfair_step step = {PFAIR_PLANNED, 0, 0, 0};
     while (step.kind == PFAIR_PLANNED) {

@@ -3,7 +3,8 @@ use Rattle.std.proofs.Common.{ℕ, List, [], ◌∷◌, Option, Some, Ok, Bool, 
 use Rattle.std.proofs.lemmas.Option.{IfSome_then}
 use Rattle.std.specs.Prelude.{IfSome, Vec, min}
 use Rattle.std.specs.declared.alloc.Global.{Global}
-use Rattle.pfair_command.specs.Schedules.{IsScheduleOf}
+use Rattle.pfair_command.specs.Commands.{IsRefusalBy}
+use Rattle.pfair_command.specs.Schedules.{IsRefusalOf, IsScheduleOf}
 use Rattle.pfair_command.specs.declared.fault.ScheduleFault.{ScheduleFault}
 use Rattle.pfair_command.specs.declared.fault.ScheduleFault.TheVariants as schedule
 use Rattle.pfair_command.proofs.CommandFacts.{TakesOver}
@@ -17,11 +18,11 @@ use Rattle.pfair_table.specs.declared.pick.Decided.{Decided}
 use Rattle.pfair_table.specs.declared.pick.Pick.{Pick}
 use Rattle.pfair_table.specs.Script.{LoggedRun}
 use Rattle.pfair_table.specs.ScriptRun.{IsRunOf}
-use Rattle.pfair_board.specs.declared.run.RunFault.{RunFault}
-use Rattle.pfair_board.specs.declared.run.RunFault.TheVariants as run
+use Rattle.pfair_board.specs.declared.fault.RunFault.{RunFault}
+use Rattle.pfair_board.specs.declared.fault.RunFault.TheVariants as run
 use Rattle.pfair_board.specs.RunFaults.{IsRunFaultOf}
 use Rattle.pfair_table.specs.Refinement.{Dispatch}
-use Rattle.pfair_board.specs.declared.run.Run.{Run}
+use Rattle.pfair_table.specs.declared.planned.Run.{Run}
 use Rattle.pfair_table.specs.Planned.{as_tables}
 use Rattle.pfair_output.specs.Replay.{placed_replay_text, placed_text, replay_text}
 use Rattle.pfair_output.specs.Decisions.{decisions_text}
@@ -101,3 +102,15 @@ takes_over = record {
   no_cause = refl;
   no_want = unlike;
 }
+
+-- a run's fault says of the file what its cause says
+pub refused_by_run : (may_give_up : Bool) (given : Option (List ℕ)) (script : LoggedRun) (fault : RunFault) → IfSome given (λ bytes. script_of_file bytes ≡ Ok script) → IsRunFaultOf may_give_up script fault
+    → IfSome given (λ bytes. IsRefusalBy of_schedule bytes (of_run fault))
+refused_by_run may_give_up given script fault read is = IfSome_then given read (λ bytes its cause same.
+    subst (IsRefusalOf bytes) (ap cause_of same ∙ takes_over.same_cause cause) (at bytes its fault is))
+  where
+    at : (bytes : List ℕ) → script_of_file bytes ≡ Ok script → (fault : RunFault) → IsRunFaultOf may_give_up script fault → IsRefusalOf bytes (cause_of (of_run fault))
+    at bytes its run.Memory is = tt
+    at bytes its run.GateGaveUp is = tt
+    at bytes its run.Astray is = tt
+    at bytes its (run.Stalled slot) is = (script, its, is.0, is.1)

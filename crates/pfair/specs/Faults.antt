@@ -1,8 +1,8 @@
 -- The numbers and the exit statuses of the program's faults, and which of them the faults of the crates below are.
 use Rattle.std.specs.Prelude.{ℕ}
 use Rattle.pfair_weight.specs.WeightFault.{weight_fault_number}
-use Rattle.pfair_board.specs.declared.run.RunFault.{RunFault}
-use Rattle.pfair_board.specs.declared.run.RunFault.TheVariants as run
+use Rattle.pfair_board.specs.declared.fault.RunFault.{RunFault}
+use Rattle.pfair_board.specs.declared.fault.RunFault.TheVariants as run
 use Rattle.pfair_command.specs.Faults.{schedule_fault_number, schedule_fault_status}
 use Rattle.pfair_command.specs.declared.fault.ScheduleFault.{ScheduleFault}
 use Rattle.pfair_command.specs.declared.fault.ScheduleFault.TheVariants as schedule

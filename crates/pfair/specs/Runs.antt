@@ -3,7 +3,7 @@ use Rattle.std.specs.Prelude.{ℕ, Bool, true, List, map, min, ◌≡◌, ◌≤
 use Rattle.pfair_replica.specs.Replica.{Replica, frontier, numbers_below}
 use Rattle.pfair_table.specs.Table.{decisions, plan}
 use Rattle.pfair_table.specs.Script.{LoggedRun, replica_of_logs}
-use Rattle.pfair_board.specs.declared.run.Run.{Run}
+use Rattle.pfair_table.specs.declared.planned.Run.{Run}
 use Rattle.pfair_board.specs.Finish.{IsFullRun, IsPlacedRun}
 use Rattle.pfair_output.specs.Replay.{placed_replay_text, replay_text}
 use Rattle.pfair_output.specs.Decisions.{decisions_text}

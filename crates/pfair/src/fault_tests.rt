@@ -5,7 +5,7 @@ use pfair_board::{LookFault, PublishFault};
 use pfair_command::ScheduleFault;
 use pfair_entry::{Entry, EntryFault, NoteFault};
 use pfair_file::{EntryCause, Field, FileFault};
-use pfair_replica::{EntryKey, MergeFault, TakeFault};
+use pfair_replica::{MergeFault, TakeFault};
 use pfair_table::PlanFault;
 use pfair_weight::{NameFault, WeightFault};
 use std::alloc::Global;
@@ -192,10 +192,7 @@ fn assert_text<F: Display>(
 
 #[test]
 fn texts_that_no_run_of_the_program_shows(rt: HostRuntime) -> Result<(), Fail> {
-    let torn = PlanFault::Torn(EntryKey {
-        processor: 1,
-        number: 2,
-    });
+    let torn = PlanFault::Torn { proc: 1, number: 2 };
     for (fault, number, text) in [
         (torn, 30, "entry 2 of processor 1 torn"),
         (PlanFault::Spent, 31, "spent"),

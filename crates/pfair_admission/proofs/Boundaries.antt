@@ -7,7 +7,7 @@ use Rattle.std.proofs.lemmas.List.Sums.{sum_by_push}
 use Rattle.pfair_entry.specs.Entry.{IsWithinLimits}
 use Rattle.pfair_entry.specs.declared.announcement.Announcement.{Announcement}
 use Rattle.pfair_entry.specs.declared.announcement.Announcement.TheVariants.{Arrive, Depart, Late}
-use Rattle.pfair_entry.specs.declared.said.Said.{Said}
+use Rattle.pfair_entry.specs.Said.{Said}
 use Rattle.pfair_admission.specs.declared.decision.Decision.{Decision}
 use Rattle.pfair_admission.specs.declared.decision.Decision.TheVariants.{Admitted, Departing, Delayed, Refused}
 use Rattle.pfair_admission.specs.declared.delay.Delay.{Delay}
@@ -124,21 +124,21 @@ pub length_announcements : (xs : List Said) → length (announcements xs) ≡ le
 length_announcements [] = refl
 length_announcements (x ∷ xs) = ap suc (length_announcements xs)
 
-said_at : (xs : List Said) (i : ℕ) (x : Said) → i < length xs → get_or (announcements xs) i x.announcement ≡ (get_or xs i x).announcement
+said_at : (xs : List Said) (i : ℕ) (x : Said) → i < length xs → get_or (announcements xs) i x.2 ≡ (get_or xs i x).2
 said_at [] i x within = absurd (omega arith)
 said_at (y ∷ xs) zero x within = refl
 said_at (y ∷ xs) (suc i) x within = said_at xs i x (omega arith)
 
-pub said_item : (xs : List Said) (i : ℕ) (x : Said) → i < length xs → x ≡ get_or xs i x → get_or (announcements xs) i x.announcement ≡ x.announcement
-said_item xs i x within is = said_at xs i x within ∙ ap (λ (a : Said). a.announcement) (sym is)
+pub said_item : (xs : List Said) (i : ℕ) (x : Said) → i < length xs → x ≡ get_or xs i x → get_or (announcements xs) i x.2 ≡ x.2
+said_item xs i x within is = said_at xs i x within ∙ ap (λ (a : Said). a.2) (sym is)
 
-limits_at : (xs : List Said) (i : ℕ) (x : Said) → AllByRecursion (λ a. IsWithinLimits a.announcement) xs → i < length xs → IsWithinLimits (get_or xs i x).announcement
+limits_at : (xs : List Said) (i : ℕ) (x : Said) → AllByRecursion (λ a. IsWithinLimits a.2) xs → i < length xs → IsWithinLimits (get_or xs i x).2
 limits_at [] i x h within = absurd (omega arith)
 limits_at (y ∷ xs) zero x h within = h.0
 limits_at (y ∷ xs) (suc i) x h within = limits_at xs i x h.1 (omega arith)
 
-pub limits_item : (xs : List Said) (i : ℕ) (x : Said) → AllByRecursion (λ a. IsWithinLimits a.announcement) xs → i < length xs → x ≡ get_or xs i x → IsWithinLimits x.announcement
-limits_item xs i x h within is = subst (λ (a : Said). IsWithinLimits a.announcement) (sym is) (limits_at xs i x h within)
+pub limits_item : (xs : List Said) (i : ℕ) (x : Said) → AllByRecursion (λ a. IsWithinLimits a.2) xs → i < length xs → x ≡ get_or xs i x → IsWithinLimits x.2
+limits_item xs i x h within is = subst (λ (a : Said). IsWithinLimits a.2) (sym is) (limits_at xs i x h within)
 
 -- what a quantum leaves
 pub ran_settled : (s after : Standing) (name : List ℕ) (b : Bool) → after ≡ (if b then record s { members = ran name s.members } else s) → s.under_way ≡ None → after.under_way ≡ None

@@ -89,7 +89,7 @@ impl Ledger {
         requires settled { self.old.under_way ≡ None }
         requires few { length announced.now ≤ Members.MAX_HEARD }
         requires bounded { EachBounded (Members.MAX_HEARD - length announced.now) self.old.members }
-        requires limits { AllByRecursion (λ a. IsWithinLimits a.announcement) announced.now }
+        requires limits { AllByRecursion (λ a. IsWithinLimits a.2) announced.now }
         ensures decisions { IfOk result (λ all. all.items ≡ boundary_decisions self.old.machine slot self.old.members (announcements announced.now)) }
         ensures members { OnOk result (self.new.members ≡ boundary self.old.machine slot self.old.members (announcements announced.now)) }
         ensures err { OnErr result (LeavesBeginning self.old.machine slot self.old.members (announcements announced.now) self.new.members) }
@@ -148,7 +148,7 @@ impl Ledger {
         requires under_way { self.old.under_way ≡ Some slot }
         requires few { length announced.now ≤ Members.MAX_HEARD }
         requires bounded { EachBounded (Members.MAX_HEARD - length announced.now) self.old.members }
-        requires limits { AllByRecursion (λ a. IsWithinLimits a.announcement) announced.now }
+        requires limits { AllByRecursion (λ a. IsWithinLimits a.2) announced.now }
         ensures decisions { IfOk result (λ all. all.items ≡ all_decisions self.old.machine slot self.old.members (announcements announced.now)) }
         ensures members { OnOk result (self.new ≡ record self.old { members = all_decided self.old.machine slot self.old.members (announcements announced.now) }) }
         ensures err { OnErr result ((k : ℕ) × (self.new ≡ record self.old { members = all_decided self.old.machine slot self.old.members (take k (announcements announced.now)) })) }
@@ -159,7 +159,7 @@ impl Ledger {
     {
         let mut all = Vec::new(alloc);
         for said in announced {
-            all.push(self.decide(alloc, slot, said.announcement)?)?;
+            all.push(self.decide(alloc, slot, said.2)?)?;
         }
         Ok(all)
     }

@@ -52,7 +52,7 @@ impl Members {
     /// Takes no memory.
     pub fn new(alloc: Global, processors: u8, frame: u64) -> Self
         requires some_processor { 1 ≤ processors }
-        requires few_processors { processors ≤ 64 }
+        requires few_processors { processors ≤ Members.MAX_PROCESSORS }
         requires some_slot { 1 ≤ frame }
         requires short_frame { frame ≤ Members.MAX_FRAME }
         ensures { result ≡ record { machine = record { processors = processors; frame = frame }; members = []; heard = 0; last_slot = None } }
@@ -92,7 +92,7 @@ impl Members {
         requires slot { slot ≤ Entry.LAST_SLOT }
         requires order { ForSome self.old.last_slot (λ last. last ≤ slot) }
         requires heard { self.old.heard + length announced.now ≤ Members.MAX_HEARD }
-        requires limits { AllByRecursion (λ a. IsWithinLimits a.announcement) announced.now }
+        requires limits { AllByRecursion (λ a. IsWithinLimits a.2) announced.now }
         ensures decisions { IfOk result (λ all. all.items ≡ boundary_decisions self.old.machine slot self.old.members (announcements announced.now)) }
         ensures members { OnOk result (self.new.members ≡ boundary self.old.machine slot self.old.members (announcements announced.now)) }
         ensures err { OnErr result (LeavesBeginning self.old.machine slot self.old.members (announcements announced.now) self.new.members) }

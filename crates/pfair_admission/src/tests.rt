@@ -12,17 +12,13 @@ use std::process::Abort;
 
 fn said(announcement: Announcement) -> Said
     requires { IsWithinLimits announcement }
-    ensures { IsWithinLimits result.announcement }
+    ensures { IsWithinLimits result.2 }
 {
-    Said {
-        processor: 0,
-        number: 1,
-        announcement,
-    }
+    (0, 1, announcement)
 }
 
 fn arrives(rt: &impl Abort, name: TaskName, cost: u64, period: u64) -> Said
-    ensures { IsWithinLimits result.announcement }
+    ensures { IsWithinLimits result.2 }
 {
     said(Announcement::Arrive {
         name,
@@ -33,7 +29,7 @@ fn arrives(rt: &impl Abort, name: TaskName, cost: u64, period: u64) -> Said
 
 // The decisions at the boundary of a slot.
 fn decided(rt: &impl Abort, members: &mut Members, slot: u64, announced: &[Said]) -> Vec<Decision>
-    requires { AllByRecursion (λ a. IsWithinLimits a.announcement) announced.now }
+    requires { AllByRecursion (λ a. IsWithinLimits a.2) announced.now }
 {
     assert!(rt; slot <= 1_000_000 && members.last_slot().unwrap_or(0) <= slot);
     assert!(rt; announced.len() <= 1000 && members.heard() + announced.len() as u64 <= 262_144);
@@ -81,7 +77,7 @@ fn each_kind_is_heard(rt: HostRuntime) {
 // A task of its own for each place, of the least weight in a frame of 199 slots.
 fn arrives_light(rt: &impl Abort, place: u8) -> Said
     requires { place < 200 }
-    ensures { IsWithinLimits result.announcement }
+    ensures { IsWithinLimits result.2 }
 {
     let text = [
         b't',
@@ -94,7 +90,7 @@ fn arrives_light(rt: &impl Abort, place: u8) -> Said
 }
 
 fn light_arrivals(rt: &impl Abort, alloc: Global) -> Result<Vec<Said>, AllocError>
-    ensures { IfOk result (λ all. AllByRecursion (λ a. IsWithinLimits a.announcement) all.items) }
+    ensures { IfOk result (λ all. AllByRecursion (λ a. IsWithinLimits a.2) all.items) }
 {
     let mut announced = Vec::new(alloc);
     for place in 0..200_u8 {
@@ -105,7 +101,7 @@ fn light_arrivals(rt: &impl Abort, alloc: Global) -> Result<Vec<Said>, AllocErro
 
 // There is room for all tasks but the last one.
 fn hears_many(rt: &impl Abort, members: &mut Members, announced: &[Said])
-    requires { AllByRecursion (λ a. IsWithinLimits a.announcement) announced.now }
+    requires { AllByRecursion (λ a. IsWithinLimits a.2) announced.now }
 {
     let decisions = decided(rt, members, 0, announced);
     assert_eq!(rt; (decisions.len(), members.len()), (200, 199));

@@ -4,19 +4,19 @@ use Rattle.pfair_replica.specs.Replica.{Replica, frontier}
 use Rattle.pfair_table.specs.Table.{Settings}
 use Rattle.pfair_table.specs.Script.{LoggedRun, replica_of_logs}
 use Rattle.pfair_board.specs.declared.worked.Worked.{Worked}
-use Rattle.pfair_board.specs.declared.run.RunFault.{RunFault}
-use Rattle.pfair_board.specs.declared.run.RunFault.TheVariants.{Memory, GateGaveUp, Astray, Stalled}
+use Rattle.pfair_board.specs.declared.fault.RunFault.{RunFault}
+use Rattle.pfair_board.specs.declared.fault.RunFault.TheVariants.{Memory, GateGaveUp, Astray, Stalled}
 use Rattle.pfair_desk.specs.Boards.{BoardFrame}
 use Rattle.pfair_board.specs.Works.{AreWorks}
 use Rattle.pfair_board.specs.FirstFault.{IsFirstFault}
 use Rattle.pfair_board.specs.RunFaults.{IsRunFaultOf}
 
-pub run_fault : (m : Bool) (r : LoggedRun) (b : BoardFrame) (s : Settings) (ws : List Worked) (x : Replica) (slots : ℕ) (f : RunFault)
-    → AreWorks m b s ws → x ≡ replica_of_logs r.logs → slots ≡ r.settings.slots → IsFirstFault ws x slots (Some f) → IsRunFaultOf m r f
-run_fault m r b s ws x slots Memory works whole long is = tt
-run_fault m r b s ws x slots GateGaveUp works whole long is =
+pub run_fault : (m : Bool) (r : LoggedRun) (b : BoardFrame) (ws : List Worked) (f : RunFault)
+    → AreWorks m b r.settings ws → IsFirstFault ws (replica_of_logs r.logs) r.settings.slots (Some f) → IsRunFaultOf m r f
+run_fault m r b ws Memory works is = tt
+run_fault m r b ws GateGaveUp works is =
     let k = is.1.0 in
     let w = is.1.1 in
     subst (λ run. IfErr run (λ f. f ≡ GateGaveUp → m ≡ true)) is.1.3 (works.each k w is.1.2).gate refl
-run_fault m r b s ws x slots Astray works whole long is = tt
-run_fault m r b s ws x slots (Stalled slot) works whole long is = (is.1 ∙ ap frontier whole, subst (λ n. slot < n) long is.2)
+run_fault m r b ws Astray works is = (b, ws, works, is)
+run_fault m r b ws (Stalled slot) works is = (is.1, is.2)

@@ -4,8 +4,8 @@ use Rattle.std.proofs.lemmas.Bool.{true≢false}
 use Rattle.pfair_table.specs.Table.{Settings, plan}
 use Rattle.pfair_table.specs.Script.{LoggedRun}
 use Rattle.pfair_board.specs.declared.worked.Worked.{Worked}
-use Rattle.pfair_board.specs.declared.run.Run.{Run}
-use Rattle.pfair_board.specs.declared.run.RunFault.{RunFault}
+use Rattle.pfair_table.specs.declared.planned.Run.{Run}
+use Rattle.pfair_board.specs.declared.fault.RunFault.{RunFault}
 use Rattle.pfair_desk.specs.Boards.{BoardFrame}
 use Rattle.pfair_desk.specs.Desks.{IsDeskOf}
 use Rattle.pfair_board.specs.Works.{IsWorkOf}

@@ -5,7 +5,7 @@ use Rattle.pfair_replica.specs.Replica.{frontier}
 use Rattle.pfair_table.specs.Table.{plan}
 use Rattle.pfair_table.specs.Places.{places_of}
 use Rattle.pfair_table.specs.Script.{LoggedRun, capacity_of, replica_of_logs}
-use Rattle.pfair_board.specs.declared.run.Run.{Run}
+use Rattle.pfair_table.specs.declared.planned.Run.{Run}
 use Rattle.pfair_board.specs.declared.worked.Worked.{Worked}
 use Rattle.pfair_desk.specs.Boards.{BoardFrame}
 use Rattle.pfair_desk.specs.Desks.{DeskView, IsDeskOf}

@@ -1,11 +1,15 @@
 -- What each fault of a run says.
-use Rattle.std.specs.Prelude.{ℕ, ◌≡◌, ◌<◌, Bool, true, List}
+use Rattle.std.specs.Prelude.{ℕ, ◌≡◌, ◌<◌, Bool, true, List, Some}
 use Rattle.pfair_entry.specs.Entry.{Logged}
 use Rattle.pfair_replica.specs.Replica.{frontier}
 use Rattle.pfair_table.specs.Script.{LoggedRun, replica_of_logs}
-use Rattle.pfair_board.specs.declared.run.RunFault.{RunFault}
-use Rattle.pfair_board.specs.declared.run.RunFault.TheVariants.{Memory, GateGaveUp, Astray, Stalled}
+use Rattle.pfair_board.specs.declared.fault.RunFault.{RunFault}
+use Rattle.pfair_board.specs.declared.fault.RunFault.TheVariants.{Memory, GateGaveUp, Astray, Stalled}
+use Rattle.pfair_desk.specs.Boards.{BoardFrame}
 use Rattle.pfair_desk.specs.Desks.{DeskView}
+use Rattle.pfair_board.specs.declared.worked.Worked.{Worked}
+use Rattle.pfair_board.specs.FirstFault.{IsFirstFault}
+use Rattle.pfair_board.specs.Works.{AreWorks}
 use Rattle.pfair_board.specs.Logs.{IsTaken}
 
 -- why slots aren't planned: the gate's type may give up, or memory was wanted
@@ -22,11 +26,15 @@ IsWorkerFault may_give_up d first log GateGaveUp = may_give_up ≡ true
 IsWorkerFault may_give_up d first log Astray = IsTaken d first log
 IsWorkerFault may_give_up d first log (Stalled slot) = ⊥
 
+-- the work of each row of some board, whose first fault is that some worker doesn't hold what the script says
+abbrev pub WereAstray : (may_give_up : Bool) → LoggedRun → Type 0
+WereAstray may_give_up r = (b : BoardFrame) × (ws : List Worked) × AreWorks may_give_up b r.settings ws × IsFirstFault ws (replica_of_logs r.logs) r.settings.slots (Some Astray)
+
 -- why a run of a script isn't finished: stalled only where its frontier, which is that slot, is below the number of slots
 abbrev pub IsRunFaultOf : (may_give_up : Bool) → LoggedRun → RunFault → Type 0
 IsRunFaultOf may_give_up r Memory = Unit {0}
 IsRunFaultOf may_give_up r GateGaveUp = may_give_up ≡ true
-IsRunFaultOf may_give_up r Astray = Unit {0}
+IsRunFaultOf may_give_up r Astray = WereAstray may_give_up r
 IsRunFaultOf may_give_up r (Stalled slot) = (slot ≡ frontier (replica_of_logs r.logs)) × (slot < r.settings.slots)
 
 -- under which numbers they are reported

@@ -3,7 +3,7 @@ use Rattle.std.specs.Prelude.{ℕ, ◌≡◌, Bool, true, List, length, slice_ge
 use Rattle.pfair_table.specs.Table.{Settings}
 use Rattle.pfair_board.specs.declared.worked.Worked.{Worked}
 use Rattle.pfair_board.specs.declared.workplace.Workplace.{Workplace}
-use Rattle.pfair_board.specs.declared.run.RunFault.TheVariants.{GateGaveUp}
+use Rattle.pfair_board.specs.declared.fault.RunFault.TheVariants.{GateGaveUp}
 use Rattle.pfair_desk.specs.Boards.{BoardFrame}
 use Rattle.pfair_desk.specs.Desks.{IsDeskOf}
 

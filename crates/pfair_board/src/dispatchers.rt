@@ -11,7 +11,7 @@ ghost use Rattle.pfair_board.specs.RunFaults.{IsRunFaultOf};
 ghost use Rattle.pfair_board.specs.declared.worked.Worked.{Worked};
 
 use crate::gate::Gate;
-use crate::run::{Run, RunFault};
+use crate::fault::RunFault;
 use crate::worked::Worked;
 use crate::worker::run_worker;
 use crate::workplace::Workplace;
@@ -19,7 +19,7 @@ use pfair_desk::{Board, Desk};
 use pfair_ready::Ready;
 use pfair_replica::Replica;
 use pfair_replica::laws::least_join;
-use pfair_table::{Script, Settings, take_script};
+use pfair_table::{Run, Script, Settings, take_script};
 use std::alloc::{AllocError, Global};
 use std::marker::PhantomData;
 use std::snapshot::Snapshot;
@@ -43,7 +43,8 @@ pub struct Finished {
 ///
 /// The board has the capacity of the script's longest log, at least 1. At Ok each desk holds the
 /// script's replica, every entry of its logs and nothing else, the tables of each run are the plan
-/// of it, and its places are those of the tables. Nothing rests on hints.
+/// of it, and its places are those of the tables. No table rests on hints, but that a run comes to
+/// Ok does: their end, which each worker awaits, tells that every log stands on the board.
 ///
 /// Each thread costs what [`run_worker`] costs. Beside that the entries of all logs are gone
 /// through once to take the script, and once for each thread, to compare what it holds. While it
@@ -139,7 +140,7 @@ fn work<P: Wait, R: Ready, G: Gate>(
         ..
     } = workplace;
     let settings = script.settings();
-    let log = script.log(desk.processor());
+    let log = script.log(desk.proc());
     let run = run_worker::<P, R, G>(rt, alloc, settings, &mut desk, board, log, hints, gate);
     Worked {
         settings,
@@ -175,7 +176,7 @@ fn run_all<P: Threads + Wait + Sync, R: Ready + Send, G: Gate + Sync>(
                     board: Snapshot::of(board),
                     of: PhantomData,
                     settings,
-                    processor: workplace.desk.processor(),
+                    processor: workplace.desk.proc(),
                 };
                 let started = scope.spawn_with(
                     row,

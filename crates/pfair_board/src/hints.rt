@@ -8,13 +8,14 @@ use std::alloc::{AllocError, Global};
 #[derive(Clone, Copy, Debug, PartialEq, Eq)]
 pub struct Hint {
     /// The processor, counted from 0.
-    pub processor: u8,
+    pub proc: u8,
     /// The entry's number, counted from 1.
     pub number: u32,
 }
 
-/// A worker's end of the hints: a receiver, and a sender to each other worker. Nothing that a run
-/// promises rests on hints.
+/// A worker's end of the hints: a receiver, and a sender to each other worker. What a worker learns
+/// stands on the board, and a hint only says where to look. But once all senders to a worker are
+/// gone, all others have published their logs, and so its last look at the board finds them all.
 #[derive(Drop)]
 pub struct Hints {
     pub(crate) receiver: Receiver<Hint, Global>,

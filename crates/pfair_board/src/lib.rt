@@ -8,19 +8,20 @@
 #![tactic(auto)]
 
 mod dispatchers;
+mod fault;
 mod gate;
 mod hints;
 pub mod laws;
-mod run;
 mod worked;
 mod worker;
 mod workplace;
 
 pub use dispatchers::{Finished, run_dispatchers};
+pub use fault::RunFault;
 pub use gate::{Gate, OpenGate};
 pub use hints::{Hint, Hints};
 pub use pfair_desk::{Board, Desk, LookFault, PublishFault};
-pub use run::{Run, RunFault};
+pub use pfair_table::Run;
 pub use worker::run_worker;
 
 #[cfg(test)]

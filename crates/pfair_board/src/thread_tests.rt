@@ -96,11 +96,10 @@ impl Gate for ShutTo {
     }
 }
 
-// Opens to each of two workers at slots 0, 1, 2 and so on, once for each.
+// Opens to each of three workers at slots 0, 1, 2 and so on, once for each.
 #[derive(Drop)]
 struct InTurn {
-    first: AtomicU64,
-    second: AtomicU64,
+    calls: [AtomicU64; 3],
 }
 
 impl Gate for InTurn {
@@ -109,12 +108,10 @@ impl Gate for InTurn {
     ghost may_give_up = { true };
 
     fn come<P: Wait>(&self, _rt: &P, worker: u8, slot: u64) -> bool {
-        let mine = if worker == 0 {
-            &self.first
-        } else {
-            &self.second
-        };
-        mine.fetch_add(1, Ordering::SeqCst) == slot
+        match self.calls.get(worker as usize) {
+            Some(calls) => calls.fetch_add(1, Ordering::SeqCst) == slot,
+            None => false,
+        }
     }
 }
 
@@ -314,6 +311,14 @@ fn a_script_stalls(rt: HostRuntime) -> Result<(), Fail> {
 }
 
 #[test]
+fn a_script_without_an_entry_stalls_at_once(rt: HostRuntime) -> Result<(), Fail> {
+    let script = of_one_log(&rt, rt.alloc(), 8, Vec::new(rt.alloc()))?;
+    let run = run_dispatchers::<_, HeapReady, _>(&rt, rt.alloc(), &script, &OpenGate);
+    assert!(&rt; matches!(run, Err(RunFault::Stalled { slot: 0 })));
+    Ok(())
+}
+
+#[test]
 fn a_gate_gives_up(rt: HostRuntime) -> Result<(), Fail> {
     let script = sample(&rt, rt.alloc())?;
     let run = run_dispatchers::<_, HeapReady, _>(&rt, rt.alloc(), &script, &ShutGate);
@@ -357,13 +362,15 @@ fn a_shut_gate_comes_before_a_stall(rt: HostRuntime) -> Result<(), Fail> {
 
 #[test]
 fn workers_come_to_each_slot_in_turn(rt: HostRuntime) -> Result<(), Fail> {
-    let script = sample(&rt, rt.alloc())?;
+    let script = silent(&rt, rt.alloc(), 3, 8)?;
     let gate = InTurn {
-        first: AtomicU64::new(0),
-        second: AtomicU64::new(0),
+        calls: [AtomicU64::new(0), AtomicU64::new(0), AtomicU64::new(0)],
     };
     let run = run_dispatchers::<_, HeapReady, _>(&rt, rt.alloc(), &script, &gate);
     assert!(&rt; run.is_ok());
+    for calls in &gate.calls {
+        assert!(&rt; calls.load(Ordering::SeqCst) == 8);
+    }
     Ok(())
 }
 
@@ -435,7 +442,7 @@ fn a_worker_tells_the_others_of_its_log(rt: HostRuntime) -> Result<(), Fail> {
     assert!(&rt; run.tables.is_empty());
     for number in 1..6 {
         let hint = receiver.recv(&rt).expect(&rt, "a hint");
-        assert!(&rt; hint.processor == 0 && hint.number == number);
+        assert!(&rt; hint.proc == 0 && hint.number == number);
     }
     assert!(&rt; receiver.recv(&rt).is_err());
     Ok(())
@@ -445,7 +452,7 @@ fn a_worker_tells_the_others_of_its_log(rt: HostRuntime) -> Result<(), Fail> {
 fn tell_of_all<P: Wait>(rt: &P, senders: &Vec<Sender<Hint, Global>>) -> bool {
     for number in 1..6 {
         let hint = Hint {
-            processor: 1,
+            proc: 1,
             number,
         };
         for sender in senders {
@@ -544,19 +551,24 @@ fn hints_are_planned_before_the_last_refresh(rt: HostRuntime) -> Result<(), Fail
     plans_what_hints_tell(&rt, rt.alloc(), &board, &gate)
 }
 
-// A script of 64 processors that say nothing.
-fn silent(rt: &impl Abort, alloc: Global) -> Result<Script, AllocError> {
+// A script of processors that say nothing.
+fn silent(
+    rt: &impl Abort,
+    alloc: Global,
+    processors: u8,
+    slots: u64,
+) -> Result<Script, AllocError> {
     let mut logs = Vec::new(alloc);
-    for _ in 0..64 {
-        logs.push(vec![in alloc; entry(rt, 2, None)]?)?;
+    for _ in 0..processors {
+        logs.push(vec![in alloc; entry(rt, slots, None)]?)?;
     }
-    let settings = Settings::new(64, 1, 2).expect(rt, "settings");
+    let settings = Settings::new(processors, 1, slots).expect(rt, "settings");
     Ok(Script::new(settings, logs).ok().expect(rt, "a script"))
 }
 
 #[test]
 fn sixty_four_workers(rt: HostRuntime) -> Result<(), Fail> {
-    let script = silent(&rt, rt.alloc())?;
+    let script = silent(&rt, rt.alloc(), 64, 2)?;
     let finished = run_dispatchers::<_, HeapReady, _>(&rt, rt.alloc(), &script, &OpenGate)?;
     assert!(&rt; finished.runs.len() == 64);
     for run in &finished.runs {

@@ -6,9 +6,9 @@ ghost use Rattle.pfair_table.specs.Table.{plan};
 ghost use Rattle.pfair_table.specs.Places.{places_of};
 ghost use Rattle.pfair_table.specs.Planned.{as_tables, as_places};
 
-use crate::run::{Run, RunFault};
+use crate::fault::RunFault;
 use pfair_desk::Desk;
-use pfair_table::Settings;
+use pfair_table::{Run, Settings};
 
 /// A desk, and a fault or the tables, which by this type are the plan of what the desk holds, with
 /// their places.

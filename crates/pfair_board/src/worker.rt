@@ -9,18 +9,18 @@ ghost use Rattle.pfair_table.specs.Refinement.{IsWholePlan};
 ghost use Rattle.pfair_desk.specs.Desks.{IsDeskOf, GrownDesk};
 ghost use Rattle.pfair_board.specs.Logs.{HoldsLog, IsBehind};
 ghost use Rattle.pfair_board.specs.RunFaults.{IsWorkerFault, IsPlanningFault};
-ghost use Rattle.pfair_board.specs.declared.run.RunFault.TheVariants.{Memory};
+ghost use Rattle.pfair_board.specs.declared.fault.RunFault.TheVariants.{Memory};
 
 use crate::gate::Gate;
 use crate::hints::{Hint, Hints};
-use crate::run::{Run, RunFault};
+use crate::fault::RunFault;
 use crossbeam_channel::{Receiver, Sender};
 use pfair_desk::{Board, Desk, PublishFault};
 use pfair_entry::Entry;
 use pfair_ready::Ready;
 use pfair_replica::MergeFault;
 use pfair_replica::laws::{least_join, torn_test};
-use pfair_table::{Dispatcher, PlanFault, Schedule, Settings, Step};
+use pfair_table::{Dispatcher, PlanFault, Run, Settings, Step};
 use std::alloc::{AllocError, Global};
 use std::sync::Wait;
 
@@ -69,9 +69,9 @@ pub fn run_worker<P: Wait, R: Ready, G: Gate>(
     let mut dispatcher = Dispatcher::<R>::new(alloc, settings, board.capacity())?;
     // the dispatcher is taken apart on both ways out, and so given back in one place
     let planned = plan_all(rt, &mut dispatcher, desk, board, &receiver, gate);
-    let Schedule { tables, places } = dispatcher.into_schedule();
+    let run = dispatcher.into_run();
     planned?;
-    Ok(Run { tables, places })
+    Ok(run)
 }
 
 // Publishes a log and tells the other workers of it. Once all have, no hint can come any more.
@@ -117,7 +117,7 @@ fn publish_log<P: Wait>(
                 rt,
                 senders,
                 Hint {
-                    processor: desk.processor(),
+                    proc: desk.proc(),
                     number,
                 },
             )?,
@@ -214,10 +214,10 @@ fn heed<R: Ready>(
     ensures settings { dispatcher.new.settings ≡ dispatcher.old.settings }
     ensures behind { IsBehind dispatcher.new desk.new }
 {
-    let Ok(Some(entry)) = desk.look(board, hint.processor, hint.number) else {
+    let Ok(Some(entry)) = desk.look(board, hint.proc, hint.number) else {
         return Ok(());
     };
-    match dispatcher.take(hint.processor, hint.number, entry) {
+    match dispatcher.take(hint.proc, hint.number, entry) {
         Ok(_) => Ok(()),
         Err(_) => Err(AllocError),
     }
@@ -261,7 +261,7 @@ fn plan_held<P: Wait, R: Ready, G: Gate>(
     torn_test();
     // nothing that a desk holds is torn
     let _held = desk.replica();
-    plan_settled(rt, dispatcher, desk.processor(), gate)
+    plan_settled(rt, dispatcher, desk.proc(), gate)
 }
 
 // Plans every slot that what is held settles. The worker comes to the gate before each.
@@ -307,7 +307,7 @@ fn plan_slot<R: Ready>(dispatcher: &mut Dispatcher<R>) -> Result<(), AllocError>
     match dispatcher.plan_next() {
         Ok(_) => Ok(()),
         Err(PlanFault::Memory) => Err(AllocError),
-        Err(PlanFault::Torn(_)) => unreachable!(),
+        Err(PlanFault::Torn { .. }) => unreachable!(),
         Err(PlanFault::Spent) => unreachable!(),
     }
 }
@@ -324,7 +324,7 @@ fn see_whole<R: Ready>(dispatcher: &mut Dispatcher<R>)
     ensures whole { IsWholePlan dispatcher.new }
 {
     match dispatcher.plan_next() {
-        Ok(Step::Planned { .. }) => unreachable!(),
+        Ok(Step::Planned(_)) => unreachable!(),
         Ok(Step::Waiting { .. }) => {}
         Ok(Step::Done) => {}
         Err(_) => unreachable!(),

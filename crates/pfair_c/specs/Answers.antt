@@ -40,7 +40,7 @@ IsStarted s capacity (Some x) = (course_of x.dispatcher ≡ start s capacity) ×
 abbrev pub IsStepAs : Dispatch → ℕ → ℕ → Type 0
 IsStepAs d zero slot = IsStepOf d (Planned slot)
 IsStepAs d (suc zero) slot = IsStepOf d (Waiting slot)
-IsStepAs d (suc (suc zero)) slot = IsStepOf d Done
+IsStepAs d (suc (suc zero)) slot = (slot ≡ 0) × IsStepOf d Done
 IsStepAs d (suc (suc (suc n))) slot = ⊥
 
 -- the dispatcher d answered with this step, and is e then
@@ -52,4 +52,4 @@ abbrev pub IsRefusedTo : PlanFault → Dispatch → Dispatch → Type 0
 IsRefusedTo f d e = IsPlanFault d f × (e ≡ after_fault d f)
 
 abbrev pub torn_at : PfairStep → PlanFault
-torn_at step = Torn (record { processor = step.processor; number = step.number })
+torn_at step = Torn step.processor step.number

@@ -14,7 +14,7 @@ use crate::answer::{DONE, MEMORY, NOT_OPEN, OPEN_ALREADY, OUT_OF_RANGE};
 use crate::entry::{PfairEntry, read_entry};
 use pfair_handle::{Handle, Served};
 use pfair_replica::{MergeFault, Taken};
-use pfair_table::{Dispatcher, Settings};
+use pfair_table::{Dispatcher, Script, Settings};
 use std::alloc::Global;
 
 /// Makes a dispatcher behind a handle that has none: with 1 to 64 processors, a frame of 1 to
@@ -43,7 +43,7 @@ pub extern "C" fn pfair_open(
     if handle.is_open() {
         return OPEN_ALREADY;
     }
-    if capacity < 1 || capacity > 4096 {
+    if capacity < 1 || capacity as usize > Script::LONGEST_LOG {
         return OUT_OF_RANGE;
     }
     let Some(settings) = Settings::new(processors, frame, slots) else {

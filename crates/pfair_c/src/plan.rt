@@ -50,7 +50,7 @@ pub extern "C" fn pfair_plan_next(alloc: Global, handle: &mut Handle, step: &mut
     let answer = served.dispatcher.plan_next();
     handle.put(served);
     match answer {
-        Ok(Step::Planned { slot }) => {
+        Ok(Step::Planned(slot)) => {
             *step = PfairStep {
                 kind: 0,
                 slot,
@@ -78,9 +78,9 @@ pub extern "C" fn pfair_plan_next(alloc: Global, handle: &mut Handle, step: &mut
             DONE
         }
         Err(fault) => {
-            if let PlanFault::Torn(key) = fault {
-                step.processor = key.processor as u64;
-                step.number = key.number as u64;
+            if let PlanFault::Torn { proc, number } = fault {
+                step.processor = proc as u64;
+                step.number = number as u64;
             }
             fault.number() as u32
         }

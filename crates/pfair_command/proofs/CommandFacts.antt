@@ -48,7 +48,7 @@ module _ {F : Type 0} {of_schedule : ScheduleFault → F} {write_failed : F} (ov
   -- and takes no more than a file may have
   taken_by : {T A E : Type 0} {long unread memory : E} {a : A} {given left : Option (List ℕ)} {e : F} → TakesOneFile long unread memory (Ok a) given left → over.cause_of e ≡ Memory
       → TakesOneFile {T = T} (of_schedule FileTooLong) (of_schedule ReadFailed) (of_schedule Memory) (Err e) given left
-  taken_by taken caused = record { long = λ same. cc (same, caused, over.same_cause FileTooLong); unread = λ same. taken.within; within = tt; within_fault = λ short known. taken.within; most = taken.most }
+  taken_by taken caused = record { long = λ same. cc (same, caused, over.same_cause FileTooLong); unread = λ same. taken.within; within = tt; within_fault = λ short known. taken.within; end = tt; end_fault = λ short read known. taken.end; most = taken.most }
 
   module _ {T : Type 0} {IsOutput : List ℕ → (List ℕ → Type 0) → Type 0} {IsFault : F → Type 0} {given left before : Option (List ℕ)} where
     -- because the file has no schedule,
@@ -65,6 +65,8 @@ module _ {F : Type 0} {of_schedule : ScheduleFault → F} {write_failed : F} (ov
             unread = λ same. taken.unread (ap Err (at ReadFailed (cc same)));
             within = tt;
             within_fault = λ short known. taken.within_fault (λ same. short (ap of_schedule same)) (λ same. known (ap of_schedule same));
+            end = tt;
+            end_fault = λ short read known. taken.end_fault (λ same. short (ap of_schedule same)) (λ same. read (ap of_schedule same)) (λ same. known (ap of_schedule same));
             most = taken.most;
           };
           nothing = λ other. kept before;
@@ -80,7 +82,7 @@ module _ {F : Type 0} {of_schedule : ScheduleFault → F} {write_failed : F} (ov
       ends_well {after = after} x made sent = record {
         ok = made (Appends before after) sent;
         refused = tt;
-        taken = record { long = λ same. cc same; unread = λ same. cc same; within = taken.within; within_fault = tt; most = taken.most };
+        taken = record { long = λ same. cc same; unread = λ same. cc same; within = taken.within; within_fault = tt; end = taken.end; end_fault = tt; most = taken.most };
         nothing = tt;
         cut = λ same. cc same;
         only = tt;

@@ -71,7 +71,7 @@ impl Desk {
     }
 
     /// The processor whose row it is, counted from 0.
-    pub fn processor(&self) -> u8
+    pub fn proc(&self) -> u8
         ensures value { result ≡ self.now.processor }
         ensures row { self.now.processor < self.now.replica.processors }
     {
@@ -111,29 +111,29 @@ impl Desk {
     pub fn look(
         &mut self,
         board: &Board,
-        processor: u8,
+        proc: u8,
         number: u32,
     ) -> Result<Option<Entry>, LookFault>
         requires own { IsDeskOf self.old board.now }
-        ensures some { (e : Logged) → result ≡ Ok (Some e) → state_of self.new ≡ learned (state_of self.old) processor number e }
-        ensures none { result ≡ Ok None → (held self.old.replica processor number ≡ None) × (self.new ≡ self.old) }
-        ensures key { OnOk result (IsKey self.old.replica.processors self.old.replica.capacity processor number) }
-        ensures fault { IfErr result (IsLookFaultOf self.old processor number) }
+        ensures some { (e : Logged) → result ≡ Ok (Some e) → state_of self.new ≡ learned (state_of self.old) proc number e }
+        ensures none { result ≡ Ok None → (held self.old.replica proc number ≡ None) × (self.new ≡ self.old) }
+        ensures key { OnOk result (IsKey self.old.replica.processors self.old.replica.capacity proc number) }
+        ensures fault { IfErr result (IsLookFaultOf self.old proc number) }
         ensures unchanged { OnErr result (self.new ≡ self.old) }
-        ensures held_now { (e : Logged) → result ≡ Ok (Some e) → held self.new.replica processor number ≡ Some (One e) }
+        ensures held_now { (e : Logged) → result ≡ Ok (Some e) → held self.new.replica proc number ≡ Some (One e) }
         ensures kept { GrownDesk self.old self.new }
         ensures own { IsDeskOf self.new board.now }
     {
-        if processor >= self.replica.processors() {
+        if proc >= self.replica.processors() {
             return Err(LookFault::NoSuchProcessor);
         }
         if number == 0 || number > self.replica.capacity() {
             return Err(LookFault::NumberOutOfRange);
         }
-        let place = self.place(processor, number);
+        let place = self.place(proc, number);
         match self.notes.read(board.cell(place), place) {
             None => Ok(None),
-            Some(entry) => match self.replica.take(processor, number, entry) {
+            Some(entry) => match self.replica.take(proc, number, entry) {
                 Ok(_) => Ok(Some(entry)),
                 Err(_) => Err(LookFault::Memory),
             },

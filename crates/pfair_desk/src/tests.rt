@@ -42,7 +42,7 @@ fn publish_look_and_meet(
     assert!(rt; writer.publish(board, entry) == Err(PublishFault::RowFull));
     assert!(rt; reader.look(board, 2, 1) == Err(LookFault::NoSuchProcessor));
     assert!(rt; reader.look(board, 0, 2) == Err(LookFault::NumberOutOfRange));
-    assert!(rt; reader.processor() == 1 && reader.next_number() == 1);
+    assert!(rt; reader.proc() == 1 && reader.next_number() == 1);
     Ok(())
 }
 

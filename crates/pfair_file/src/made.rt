@@ -11,12 +11,13 @@ use crate::field::Field;
 use crate::lookup::{natural_number, number};
 use crate::notice::{Change, Notice, read_notice};
 use pfair_entry::{Announcement, Entry, EntryFault};
+use pfair_table::Script;
 use pfair_weight::{Weight, WeightFault};
 use toml::Table;
 
 /// The most entries that a file can hold of one processor: one less than a log has, which the file's
 /// end closes.
-pub(crate) const MOST_ENTRIES: usize = 4095;
+pub(crate) const MOST_ENTRIES: usize = Script::LONGEST_LOG - 1;
 
 /// What a table makes.
 #[derive(Clone, Copy)]

@@ -34,7 +34,7 @@ freed_slot (Refused refusal) = 0
 
 -- a decision
 abbrev pub decided_row : Decided → PfairDecided
-decided_row d = record { name = name_row (name_of d.announcement); processor = d.processor; number = d.number; outcome = outcome_of d.decision; freed_at = freed_slot d.decision }
+decided_row d = record { name = name_row (name_of d.announcement); processor = d.proc; number = d.number; outcome = outcome_of d.decision; freed_at = freed_slot d.decision }
 
 -- some rows over the first of those that were there
 abbrev pub written_over : {A : Type 0} → List A → List A → List A

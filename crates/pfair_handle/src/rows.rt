@@ -77,7 +77,7 @@ fn decided_row(one: &Decided) -> PfairDecided
     };
     PfairDecided {
         name: name_row(&one.announcement.name()),
-        processor: one.processor as u64,
+        processor: one.proc as u64,
         number: one.number as u64,
         outcome,
         freed_at,

@@ -9,7 +9,7 @@ use Rattle.std.proofs.lemmas.Grind.{flat_map-append}
 use Rattle.pfair_weight.specs.Share.{Share, units_of}
 use Rattle.pfair_entry.specs.declared.announcement.Announcement.{Announcement}
 use Rattle.pfair_entry.specs.declared.announcement.Announcement.TheVariants.{Arrive, Depart, Late}
-use Rattle.pfair_entry.specs.declared.said.Said.{Said}
+use Rattle.pfair_entry.specs.Said.{Said}
 use Rattle.pfair_replica.specs.Replica.{Replica, said, numbers_below}
 use Rattle.pfair_admission.specs.declared.decision.Decision.{Decision}
 use Rattle.pfair_admission.specs.declared.decision.Decision.TheVariants.{Admitted, Departing, Delayed, Refused}
@@ -167,10 +167,10 @@ all_of_slot : (machine : Machine) (t : ℕ) (tables : List Table) (heard : List 
     → (all_told (with_decisions heard (all_decisions machine t ms (announcements heard))) book).entered ≡ shown_all t tables (all_decided machine t ms (announcements heard))
 all_of_slot machine t tables [] ms book long at = at
 all_of_slot machine t tables (a ∷ more) ms book long at =
-    let d : Decision = decision machine t ms a.announcement in
-    let after : List Member = effect t ms a.announcement d in
-    let one : (told a.announcement d book).entered ≡ shown_all t tables after = one_told machine t tables ms a.announcement d book long refl at in
-    all_of_slot machine t tables more (present t after) (told a.announcement d book) long (one ∙ ap (map (shown t tables)) (sym (staying_present t after)))
+    let d : Decision = decision machine t ms a.2 in
+    let after : List Member = effect t ms a.2 d in
+    let one : (told a.2 d book).entered ≡ shown_all t tables after = one_told machine t tables ms a.2 d book long refl at in
+    all_of_slot machine t tables more (present t after) (told a.2 d book) long (one ∙ ap (map (shown t tables)) (sym (staying_present t after)))
 
 -- ---- joining slots
 

@@ -29,7 +29,7 @@ value_of (Refused why) = decimal (refusal_number why)
 -- one announcement at the boundary of a slot
 abbrev pub decision_row : ℕ → Decided → List (List ℕ)
 decision_row slot d =
-    decimal slot ∷ decimal d.processor ∷ decimal d.number ∷ name_of d.announcement ∷ outcome_of d.decision ∷ value_of d.decision ∷ []
+    decimal slot ∷ decimal d.proc ∷ decimal d.number ∷ name_of d.announcement ∷ outcome_of d.decision ∷ value_of d.decision ∷ []
 
 -- the announcements of a slot, as they are decided
 abbrev pub decided_rows : ℕ → List Decided → List (List (List ℕ))

@@ -89,7 +89,7 @@ fn add_decision(
         writer,
         &[
             Buffer::new().format(slot).as_bytes(),
-            Buffer::new().format(decided.processor).as_bytes(),
+            Buffer::new().format(decided.proc).as_bytes(),
             Buffer::new().format(decided.number).as_bytes(),
             decided.announcement.name().as_bytes(),
             outcome(decided.decision).as_bytes(),

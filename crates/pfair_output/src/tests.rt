@@ -3,7 +3,7 @@
 use crate::{decisions_of, lags_of, placed_replay_of, replay_of};
 use pfair_entry::{Announcement, Entry};
 use pfair_ready::{HeapReady, Ready};
-use pfair_table::{Dispatcher, Schedule, Script, Settings, run_script};
+use pfair_table::{Dispatcher, Run, Script, Settings, run_script};
 use pfair_weight::{TaskName, Weight};
 use std::alloc::{AllocError, Global};
 use std::process::Abort;
@@ -41,10 +41,10 @@ fn assert_told<R: Ready>(rt: &impl Abort, alloc: Global, dispatcher: &Dispatcher
 }
 
 // Asserts the texts of its tables, without places and with them.
-fn assert_replayed(rt: &impl Abort, alloc: Global, schedule: &Schedule) {
-    let replay = replay_of(alloc, &schedule.tables).expect(rt, "memory");
+fn assert_replayed(rt: &impl Abort, alloc: Global, run: &Run) {
+    let replay = replay_of(alloc, &run.tables).expect(rt, "memory");
     assert_eq!(rt; replay.as_slice(), REPLAY.as_bytes());
-    let placed = placed_replay_of(alloc, &schedule.tables, &schedule.places).expect(rt, "memory");
+    let placed = placed_replay_of(alloc, &run.tables, &run.places).expect(rt, "memory");
     assert_eq!(rt; placed.as_slice(), PLACED.as_bytes());
 }
 
@@ -55,6 +55,6 @@ fn texts_of_an_early_task(rt: HostRuntime) -> Result<(), Fail> {
         .ok()
         .expect(&rt, "a run");
     assert_told(&rt, rt.alloc(), &dispatcher);
-    assert_replayed(&rt, rt.alloc(), &dispatcher.into_schedule());
+    assert_replayed(&rt, rt.alloc(), &dispatcher.into_run());
     Ok(())
 }

@@ -24,7 +24,7 @@ const RELEASED: Decision = Decision::Refused(Refusal::AlreadyReleased);
 
 // A task of one letter arrives.
 fn arrival(letter: u8, cost: u64, period: u64, early: bool) -> Option<Said>
-    ensures { ForSome result (λ said. IsWithinLimits said.announcement) }
+    ensures { ForSome result (λ said. IsWithinLimits said.2) }
 {
     let name = name(letter)?;
     let weight = Weight::new(cost, period).ok()?;
@@ -37,7 +37,7 @@ fn arrival(letter: u8, cost: u64, period: u64, early: bool) -> Option<Said>
 
 // A task of one letter departs.
 fn departure(letter: u8) -> Option<Said>
-    ensures { ForSome result (λ said. IsWithinLimits said.announcement) }
+    ensures { ForSome result (λ said. IsWithinLimits said.2) }
 {
     let name = name(letter)?;
     said(Announcement::Depart { name })
@@ -45,7 +45,7 @@ fn departure(letter: u8) -> Option<Said>
 
 // Subtask 2 of a task of one letter, and all after it, come late by so many slots.
 fn delay(letter: u8, by: u64) -> Option<Said>
-    ensures { ForSome result (λ said. IsWithinLimits said.announcement) }
+    ensures { ForSome result (λ said. IsWithinLimits said.2) }
 {
     let name = name(letter)?;
     said(Announcement::Late { name, index: 2, by })

@@ -64,7 +64,7 @@ fn first_torn_in(replica: &Replica, processor: u8) -> Option<EntryKey> {
     for before in 0..replica.capacity() {
         let number = before + 1;
         if let Some(Flat::Torn) = replica.get(processor, number) {
-            return Some(EntryKey { processor, number });
+            return Some((processor, number));
         }
     }
     None
@@ -151,13 +151,9 @@ fn tear_and_merge(now: &mut Replica, other: &mut Replica) -> Look {
             return Err(AllocError);
         }
     }
-    let first = EntryKey {
-        processor: 0,
-        number: 1,
-    };
     Ok(
         are_counted(now)
-            && now.first_torn() == Some(first)
+            && now.first_torn() == Some((0, 1))
             && now.mark(0) == 0
             && now.sound_count(1) == 2,
     )
@@ -198,11 +194,11 @@ fn faults_of(replica: &mut Replica) -> Look {
     let is_torn = faults
         .torn
         .iter()
-        .all(|key| key.processor == 1 && key.number == 3);
+        .all(|key| *key == (1, 3));
     let is_fallen = faults
         .fallen
         .iter()
-        .all(|key| key.processor == 0 && key.number == 2);
+        .all(|key| *key == (0, 2));
     Ok(is_torn && faults.torn.len() == 1 && is_fallen && faults.fallen.len() == 1)
 }
 
@@ -216,7 +212,7 @@ fn is_said(replica: &Replica) -> bool {
     match replica.agenda() {
         Ok(agenda) => {
             let heard = agenda.at(0);
-            heard.len() == 3 && heard.iter().all(|one| one.number < 3)
+            heard.len() == 3 && heard.iter().all(|one| one.1 < 3)
         }
         Err(_) => replica.frontier() == 6,
     }

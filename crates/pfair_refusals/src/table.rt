@@ -5,7 +5,7 @@ use crate::entries::{TABLES, is_planned, quiet, ten};
 use crate::replica::{are_counted, are_equal, holding};
 use pfair_entry::Entry;
 use pfair_ready::Ready;
-use pfair_replica::{EntryKey, MergeFault, Replica, TakeFault, Taken};
+use pfair_replica::{MergeFault, Replica, TakeFault, Taken};
 use pfair_table::{
     Dispatcher, Event, PlanFault, Script, ScriptFault, Settings, Step, run_events, run_script,
 };
@@ -61,7 +61,7 @@ fn recovers<R: Ready>(dispatcher: &mut Dispatcher<R>, slot: u64) -> Option<bool>
         return Some(false);
     }
     match dispatcher.plan_next() {
-        Ok(step) => Some(step == Step::Planned { slot }),
+        Ok(step) => Some(step == Step::Planned(slot)),
         Err(PlanFault::Memory) => None,
         Err(_) => Some(false),
     }
@@ -71,7 +71,7 @@ fn recovers<R: Ready>(dispatcher: &mut Dispatcher<R>, slot: u64) -> Option<bool>
 fn plans_rest<R: Ready>(dispatcher: &mut Dispatcher<R>) -> Look {
     for slot in dispatcher.next_slot()..TABLES.len() as u64 {
         match dispatcher.plan_next() {
-            Ok(Step::Planned { slot: planned }) if planned == slot => {}
+            Ok(Step::Planned(planned)) if planned == slot => {}
             Err(PlanFault::Memory) => match recovers(dispatcher, slot) {
                 Some(true) => {}
                 Some(false) => return Ok(false),
@@ -203,14 +203,11 @@ fn tears<R: Ready>(dispatcher: &mut Dispatcher<R>) -> bool {
         return false;
     };
     let slots = match dispatcher.plan_next() {
-        Ok(Step::Planned { slot: 3 }) => 4,
+        Ok(Step::Planned(3)) => 4,
         Err(PlanFault::Memory) if dispatcher.plan_next() == Err(PlanFault::Spent) => 3,
         _ => return false,
     };
-    let torn = PlanFault::Torn(EntryKey {
-        processor: 0,
-        number: 1,
-    });
+    let torn = PlanFault::Torn { proc: 0, number: 1 };
     dispatcher.take(0, 1, other) == Ok(Taken::Torn)
         && dispatcher.plan_next() == Err(torn)
         && dispatcher.reopen() == Err(torn)
@@ -219,9 +216,9 @@ fn tears<R: Ready>(dispatcher: &mut Dispatcher<R>) -> bool {
 
 // The coming of each of the ten entries.
 fn push_ten(events: &mut Vec<Event>) -> Result<(), AllocError> {
-    for (processor, number, entry) in ten().ok_or(AllocError)? {
+    for (proc, number, entry) in ten().ok_or(AllocError)? {
         events.push(Event::Take {
-            processor,
+            proc,
             number,
             entry,
         })?;
@@ -274,7 +271,7 @@ fn push_halves(alloc: Global, events: &mut Vec<Event>) -> Result<(), AllocError>
     let entry = quiet(0).ok_or(AllocError)?;
     push_half(alloc, events, true, false)?;
     events.push(Event::Take {
-        processor: 2,
+        proc: 2,
         number: 1,
         entry,
     })?;

@@ -39,7 +39,7 @@ impl Twins {
     /// memory the members have to be those of a beginning, as their twins were on their way, and
     /// then hear the rest.
     pub(crate) fn hear(&mut self, slot: u64, heard: &[Said], expected: &[Decision]) -> Look
-        requires { AllByRecursion (λ a. IsWithinLimits a.announcement) heard.now }
+        requires { AllByRecursion (λ a. IsWithinLimits a.2) heard.now }
     {
         let (is_counted, answer) = hear_all(&mut self.members, slot, heard);
         if !is_counted || heard.len() != expected.len() {
@@ -72,7 +72,7 @@ impl Twins {
             beginning = Some(0);
         }
         for (place, (said, decision)) in heard.iter().zip(expected.iter()).enumerate() {
-            let (is_counted, answer) = hear_one(&mut self.twins, slot, said.announcement);
+            let (is_counted, answer) = hear_one(&mut self.twins, slot, said.2);
             if !is_counted || answer?.as_slice() != [*decision].as_slice() {
                 return Ok(None);
             }
@@ -86,7 +86,7 @@ impl Twins {
     // The members hear what their beginning lacks, one by one, and are then like their twins.
     fn catch_up(&mut self, slot: u64, heard: &[Said], beginning: usize) -> Look {
         for said in heard.iter().skip(beginning) {
-            let (is_counted, answer) = hear_one(&mut self.members, slot, said.announcement);
+            let (is_counted, answer) = hear_one(&mut self.members, slot, said.2);
             if !is_counted || answer?.len() != 1 {
                 return Ok(false);
             }
@@ -121,7 +121,7 @@ impl Twins {
 
 // The boundary of a slot.
 fn hear_all(members: &mut Members, slot: u64, heard: &[Said]) -> Boundary
-    requires { AllByRecursion (λ a. IsWithinLimits a.announcement) heard.now }
+    requires { AllByRecursion (λ a. IsWithinLimits a.2) heard.now }
 {
     let before = members.heard();
     let count = heard.len() as u64;
@@ -140,15 +140,11 @@ fn hear_all(members: &mut Members, slot: u64, heard: &[Said]) -> Boundary
 
 /// What is said by an announcement, which is within its limits.
 pub(crate) fn said(announcement: Announcement) -> Option<Said>
-    ensures { ForSome result (λ said. IsWithinLimits said.announcement) }
+    ensures { ForSome result (λ said. IsWithinLimits said.2) }
 {
     let entry = Entry::new(0, Some((0, announcement))).ok()?;
     let (_, announcement) = entry.said()?;
-    Some(Said {
-        processor: 0,
-        number: 1,
-        announcement,
-    })
+    Some((0, 1, announcement))
 }
 
 // The boundary of a slot at which one thing is said.

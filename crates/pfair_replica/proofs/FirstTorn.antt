@@ -4,7 +4,7 @@ use Rattle.std.specs.Prelude.{◌⊎◌, find, flat_map, slice_get, IsSomeAnd}
 use Rattle.std.specs.Option.{option_map}
 use Rattle.std.proofs.lemmas.Bool.{cases_eq, cases_lt}
 use Rattle.pfair_lattice.specs.declared.flat.Flat.TheVariants.{Torn}
-use Rattle.pfair_replica.specs.declared.key.EntryKey.{EntryKey}
+use Rattle.pfair_replica.specs.Key.{EntryKey}
 use Rattle.pfair_replica.specs.Replica.{Contents, Replica, IsReplica, is_torn, entry_key, numbers_below, numbers_to, torn_in, torn_keys}
 use Rattle.pfair_replica.specs.Counters.{ComesFirst, IsFirst, IsTornAt, IsFirstTornIn, IsEarlier}
 use Rattle.pfair_replica.proofs.Listing.{find_none, find_first}
@@ -12,7 +12,7 @@ use Rattle.pfair_replica.proofs.TornKeys.{torn_first, flat_none, flat_first, not
 
 -- ---- the first of some keys
 
-comes_later : (a b : EntryKey) (k n : ℕ) → ComesFirst a b.processor b.number → ComesFirst b k n → ComesFirst a k n
+comes_later : (a b : EntryKey) (k n : ℕ) → ComesFirst a b.0 b.1 → ComesFirst b k n → ComesFirst a k n
 comes_later a b k n (inl h) (inl g) = inl (omega (arith, h, g))
 comes_later a b k n (inl h) (inr g) = (let same = g.0 in inl (omega (arith, h, same)))
 comes_later a b k n (inr h) (inl g) = (let same = h.0 in inl (omega (arith, same, g)))
@@ -20,7 +20,7 @@ comes_later a b k n (inr h) (inr g) = (let first = h.1 in let then = g.1 in inr 
 
 pub first_alike : (P R : ℕ → ℕ → Type 0) (first : Option EntryKey) → ((k n : ℕ) → P k n → R k n) → ((k n : ℕ) → R k n → P k n) → IsFirst P first → IsFirst R first
 first_alike P R None to from h = λ k n r. h k n (from k n r)
-first_alike P R (Some key) to from h = (to key.processor key.number h.0, λ k n r. h.1 k n (from k n r))
+first_alike P R (Some key) to from h = (to key.0 key.1 h.0, λ k n r. h.1 k n (from k n r))
 
 first_bounds : (P : ℕ → ℕ → Type 0) (first : Option EntryKey) → IsFirst P first → (k n : ℕ) → P k n → (key : EntryKey) × (first ≡ Some key) × ComesFirst key k n
 first_bounds P None h k n here = absurd (h k n here)
@@ -34,14 +34,14 @@ earlier_first P Q R first other result p q e one two from = by result e.either (
     (λ here. (let f = first_bounds Q other q k n here in later result f.0 k n (e.before_other f.0 f.1) f.2))
     (from k n r))
   where
-    later : (o : Option EntryKey) (f : EntryKey) (k n : ℕ) → IsSomeAnd o (λ key. ComesFirst key f.processor f.number) → ComesFirst f k n → IsSomeAnd o (λ key. ComesFirst key k n)
+    later : (o : Option EntryKey) (f : EntryKey) (k n : ℕ) → IsSomeAnd o (λ key. ComesFirst key f.0 f.1) → ComesFirst f k n → IsSomeAnd o (λ key. ComesFirst key k n)
     later None f k n h g = absurd h
     later (Some key) f k n h g = comes_later key f k n h g
 
     by : (o : Option EntryKey) → (o ≡ first) ⊎ (o ≡ other) → ((k n : ℕ) → R k n → IsSomeAnd o (λ key. ComesFirst key k n)) → IsFirst R o
     by None is h = λ k n r. h k n r
-    by (Some key) (inl is) h = (let own : IsFirst P (Some key) = subst (IsFirst P) (sym is) p in (one key.processor key.number own.0, h))
-    by (Some key) (inr is) h = (let own : IsFirst Q (Some key) = subst (IsFirst Q) (sym is) q in (two key.processor key.number own.0, h))
+    by (Some key) (inl is) h = (let own : IsFirst P (Some key) = subst (IsFirst P) (sym is) p in (one key.0 key.1 own.0, h))
+    by (Some key) (inr is) h = (let own : IsFirst Q (Some key) = subst (IsFirst Q) (sym is) q in (two key.0 key.1 own.0, h))
 
 -- ---- the first torn key of a row
 
@@ -90,21 +90,21 @@ module _ (x : Replica) where
   pub first_listed : IsReplica x → (first : Option EntryKey) → IsFirst (IsTornAt x.at) first → first ≡ slice_get (torn_keys x) 0
   first_listed r None h = sym (ap (λ keys. slice_get keys 0) ((no_key_no_torn x).1 (test_by_untorn x h)))
   first_listed r (Some key) h =
-      let range = r.in_range key.processor key.number Torn h.0 in
+      let range = r.in_range key.0 key.1 Torn h.0 in
       let row = range.0 in
       let low = range.1 in
       let high = range.2 in
-      let number : key.number - 1 + 1 ≡ key.number = omega (arith, low) in
-      let here : is_torn (x.at key.processor (key.number - 1 + 1)) ≡ true = ap (λ n. is_torn (x.at key.processor n)) number ∙ ap is_torn h.0 in
-      let found = find_first (λ n. is_torn (x.at key.processor n)) (key.number - 1) x.capacity (omega (arith, low, high))
-      (none_found key.processor (key.number - 1) (λ n first last torn. not_before n last (h.1 key.processor n torn))) here in
-      sym (flat_first (torn_in x) x.processors key.processor key row (none_before key.processor (λ k n torn. not_above k n (h.1 k n torn)))
-      (torn_first x key.processor ∙ ap (option_map (entry_key key.processor)) found ∙ ap (λ n. Some (entry_key key.processor n)) number))
+      let number : key.1 - 1 + 1 ≡ key.1 = omega (arith, low) in
+      let here : is_torn (x.at key.0 (key.1 - 1 + 1)) ≡ true = ap (λ n. is_torn (x.at key.0 n)) number ∙ ap is_torn h.0 in
+      let found = find_first (λ n. is_torn (x.at key.0 n)) (key.1 - 1) x.capacity (omega (arith, low, high))
+      (none_found key.0 (key.1 - 1) (λ n first last torn. not_before n last (h.1 key.0 n torn))) here in
+      sym (flat_first (torn_in x) x.processors key.0 key row (none_before key.0 (λ k n torn. not_above k n (h.1 k n torn)))
+      (torn_first x key.0 ∙ ap (option_map (entry_key key.0)) found ∙ ap (λ n. Some (entry_key key.0 n)) number))
     where
-      not_above : (k n : ℕ) → ComesFirst key k n → key.processor ≤ k
+      not_above : (k n : ℕ) → ComesFirst key k n → key.0 ≤ k
       not_above k n (inl l) = omega (arith, l)
       not_above k n (inr e) = (let same = e.0 in omega (arith, same))
 
-      not_before : (n : ℕ) → n ≤ key.number - 1 → ComesFirst key key.processor n → ⊥
+      not_before : (n : ℕ) → n ≤ key.1 - 1 → ComesFirst key key.0 n → ⊥
       not_before n last (inl l) = omega (arith, l)
-      not_before n last (inr e) = (let high = e.1 in let low = (r.in_range key.processor key.number Torn h.0).1 in omega (arith, high, last, low))
+      not_before n last (inr e) = (let high = e.1 in let low = (r.in_range key.0 key.1 Torn h.0).1 in omega (arith, high, last, low))

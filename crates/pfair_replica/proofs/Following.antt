@@ -12,7 +12,7 @@ use Rattle.pfair_lattice.specs.HeldLaws.{below_itself}
 use Rattle.pfair_entry.specs.Entry.{Logged}
 use Rattle.pfair_entry.specs.Same.{entry_eq}
 use Rattle.pfair_replica.specs.declared.counters.Beginning.{Beginning}
-use Rattle.pfair_replica.specs.declared.key.EntryKey.{EntryKey}
+use Rattle.pfair_replica.specs.Key.{EntryKey}
 use Rattle.pfair_replica.specs.Replica.{Contents, Replica, IsReplica, goes_on, run_on, run_from, last_floor, sound_beginning, mark, entry_key, only}
 use Rattle.pfair_replica.specs.HeldAfter.{held_after, join_none}
 use Rattle.pfair_replica.specs.Counters.{beginning_in, IsLeftAt, IsTornAt, IsFirstTornIn, IsEarlier, AreCounters, WereBefore, WereApart}

@@ -6,7 +6,7 @@ use Rattle.std.proofs.lemmas.Bool.{true≢false, ltb-true, lt-ltb}
 use Rattle.pfair_lattice.specs.declared.flat.Flat.TheVariants.{One, Torn}
 use Rattle.pfair_lattice.specs.Held.{Held}
 use Rattle.pfair_entry.specs.Entry.{Logged}
-use Rattle.pfair_replica.specs.declared.key.EntryKey.{EntryKey}
+use Rattle.pfair_replica.specs.Key.{EntryKey}
 use Rattle.pfair_replica.specs.Replica.{Replica, IsReplica, sound_beginning, mark, is_torn, entry_key, numbers_below, numbers_to, torn_in, torn_keys, fallen_at, fallen_in, fallen_keys}
 use Rattle.pfair_replica.specs.Laws.{IsListed}
 use Rattle.pfair_replica.specs.Among.{Among, among_contains, contains_among, among_filter, filter_among, among_map, map_among, among_flat, flat_among, below_among}
@@ -28,7 +28,7 @@ module _ (x : Replica) where
       let row = among_flat (torn_in x) (numbers_below x.processors) (entry_key k n) (contains_among (torn_keys x) (entry_key k n) h) in
       let key = among_map (entry_key row.0) (filter (λ i. is_torn (x.at row.0 i)) (numbers_to x.capacity)) (entry_key k n) row.2 in
       let torn = torn_true (x.at row.0 key.0) (among_filter (λ i. is_torn (x.at row.0 i)) (numbers_to x.capacity) key.0 key.1).1 in
-      (λ i. x.at ((ap (λ (e : EntryKey). e.processor) key.2) i) ((ap (λ (e : EntryKey). e.number) key.2) i)) ∙ torn
+      (λ i. x.at ((ap (λ (e : EntryKey). e.0) key.2) i) ((ap (λ (e : EntryKey). e.1) key.2) i)) ∙ torn
 
   torn_to_list : IsReplica x → (k n : ℕ) → x.at k n ≡ Some Torn → Contains (torn_keys x) (entry_key k n)
   torn_to_list r k n torn =
@@ -59,8 +59,8 @@ module _ (x : Replica) where
   fallen_from k n h =
       let row = among_flat (fallen_in x) (numbers_below x.processors) (entry_key k n) (contains_among (fallen_keys x) (entry_key k n) h) in
       let one = fallen_one row.0 (length (sound_beginning x row.0) + 1) (mark x row.0) (x.at row.0 (length (sound_beginning x row.0) + 1)) (entry_key k n) row.2 in
-      let processor : row.0 ≡ k = sym (ap (λ (e : EntryKey). e.processor) one.0) in
-      let number : length (sound_beginning x row.0) + 1 ≡ n = sym (ap (λ (e : EntryKey). e.number) one.0) in
+      let processor : row.0 ≡ k = sym (ap (λ (e : EntryKey). e.0) one.0) in
+      let number : length (sound_beginning x row.0) + 1 ≡ n = sym (ap (λ (e : EntryKey). e.1) one.0) in
       let lower : (e : Logged) × (x.at row.0 n ≡ Some (One e)) × (e.floor < mark x row.0) =
       subst (λ (i : ℕ). (e : Logged) × (x.at row.0 i ≡ Some (One e)) × (e.floor < mark x row.0)) number one.1 in
       subst (λ (j : ℕ). (n ≡ length (sound_beginning x j) + 1) × ((e : Logged) × (x.at j n ≡ Some (One e)) × (e.floor < mark x j))) processor (sym number, lower)

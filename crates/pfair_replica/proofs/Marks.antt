@@ -37,7 +37,7 @@ said_late t k n e stamped late = by e.said stamped
   where
     by : (s : Option (ℕ × Announcement)) → IsStamped (record { floor = e.floor; said = s }) → said_by t k n s ≡ []
     by None h = refl
-    by (Some s) h = ap (λ b. if b then record { processor = k; number = n; announcement = s.1 } ∷ [] else []) (ne_eqb s.0 t (λ e. omega arith))
+    by (Some s) h = ap (λ b. if b then (k, n, s.1) ∷ [] else []) (ne_eqb s.0 t (λ e. omega arith))
 
 -- each entry of a row is stamped at or after its floor
 abbrev Stamped : (ℕ → Held Logged) → Type 0

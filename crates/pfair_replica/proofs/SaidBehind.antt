@@ -1,10 +1,10 @@
 -- What is said in a sound beginning behind some of its entries.
-use Rattle.std.proofs.Common.{ℕ, zero, suc, ◌+◌, ◌≤◌, ◌≡◌, refl, sym, ap, ◌∙◌, subst, arith, List, [], ◌∷◌, ◌++◌, drop, Option, Some, None, append_assoc}
+use Rattle.std.proofs.Common.{ℕ, zero, suc, ◌+◌, ◌≤◌, ◌≡◌, refl, sym, ap, ◌∙◌, subst, arith, List, [], ◌∷◌, ◌++◌, drop, length, Option, Some, None, append_assoc}
 use Rattle.std.specs.Prelude.{◌≢◌, slice_get, IsSome}
-use Rattle.std.proofs.lemmas.List.{drop_more}
+use Rattle.std.proofs.lemmas.List.{append-nil, drop_all, drop_more}
 use Rattle.std.proofs.lemmas.Option.{slice_get_within, get_or_from_slice_get}
 use Rattle.pfair_entry.specs.declared.announcement.Announcement.{Announcement}
-use Rattle.pfair_entry.specs.declared.said.Said.{Said}
+use Rattle.pfair_entry.specs.Said.{Said}
 use Rattle.pfair_entry.specs.Entry.{Logged}
 use Rattle.pfair_replica.specs.Among.{Among}
 use Rattle.pfair_replica.specs.Replica.{Replica, sound_beginning, said_by, said_in, said_behind}
@@ -27,8 +27,14 @@ module _ (x : Replica) (k place : ℕ) where
       ∙ ap (λ xs. now ++ xs) (sym (behind_next t e is))
       ∙ so_far
 
+  -- behind the last entry nothing is left
+  pub all_noted : (t : ℕ) (came all : List Said) → length (sound_beginning x k) ≤ place → came ++ said_behind x t k place ≡ all → came ≡ all
+  all_noted t came all past so_far =
+      let none : said_behind x t k place ≡ [] = ap (said_in t k (place + 1)) (drop_all place (sound_beginning x k) past) in
+      sym (append-nil came) ∙ ap (λ xs. came ++ xs) (sym none) ∙ so_far
+
 still_said : (k n from place : ℕ) (es : List Logged) (e : Logged) (s : ℕ × Announcement) → from ≤ place → slice_get es place ≡ Some e → e.said ≡ Some s → said_in s.0 k n (drop from es) ≢ []
-still_said k n zero place es e s le is says none = subst (λ (l : List Said). Among l (record { processor = k; number = n + place; announcement = s.1 })) none (said_to s.0 k n es place e s.1 is says)
+still_said k n zero place es e s le is says none = subst (λ (l : List Said). Among l (k, n + place, s.1)) none (said_to s.0 k n es place e s.1 is says)
 still_said k n (suc from) place [] e s le is says none = cc
 still_said k n (suc from) zero (d ∷ es) e s le is says none = omega arith
 still_said k n (suc from) (suc place) (d ∷ es) e s le is says none = still_said k n from place es e s (omega arith) is says none

@@ -7,9 +7,9 @@ use Rattle.std.proofs.lemmas.List.{map-append}
 use Rattle.pfair_lattice.specs.declared.flat.Flat.TheVariants.{One, Torn}
 use Rattle.pfair_lattice.specs.Held.{Held}
 use Rattle.pfair_entry.specs.declared.announcement.Announcement.{Announcement}
-use Rattle.pfair_entry.specs.declared.said.Said.{Said}
+use Rattle.pfair_entry.specs.Said.{Said}
 use Rattle.pfair_entry.specs.Entry.{Logged}
-use Rattle.pfair_replica.specs.declared.key.EntryKey.{EntryKey}
+use Rattle.pfair_replica.specs.Key.{EntryKey}
 use Rattle.pfair_replica.specs.Replica.{Replica, sound_beginning, numbers_below, numbers_to, said_by, said_in, said, is_torn, entry_key, torn_in, torn_keys, fallen_at, fallen_in, fallen_keys, mark}
 use Rattle.pfair_replica.specs.SaidAt.{IsSaidAt, ComesBefore, key_of, IsSaid}
 use Rattle.pfair_replica.specs.Among.{Among, among_left, among_right, among_append, among_at, among_contains, contains_among, among_filter, among_map, among_flat, flat_among, below_among, among_below}
@@ -18,42 +18,42 @@ use Rattle.pfair_replica.proofs.Listed.{fallen_one}
 
 -- ---- what one processor says
 
-said_one : (t k n : ℕ) (o : Option (ℕ × Announcement)) (s : Said) → Among (said_by t k n o) s → (s ≡ record { processor = k; number = n; announcement = s.announcement }) × (o ≡ Some (t, s.announcement))
+said_one : (t k n : ℕ) (o : Option (ℕ × Announcement)) (s : Said) → Among (said_by t k n o) s → (s ≡ (k, n, s.2)) × (o ≡ Some (t, s.2))
 said_one t k n None s h = absurd h
 said_one t k n (Some p) s h = by (p.0 == t) refl h
   where
-    by : (b : Bool) → (p.0 == t) ≡ b → Among (cond b (record { processor = k; number = n; announcement = p.1 } ∷ []) []) s
-        → (s ≡ record { processor = k; number = n; announcement = s.announcement }) × (Some p ≡ Some (t, s.announcement))
+    by : (b : Bool) → (p.0 == t) ≡ b → Among (cond b ((k, n, p.1) ∷ []) []) s
+        → (s ≡ (k, n, s.2)) × (Some p ≡ Some (t, s.2))
     by true e (inl is) =
         (let stamp : p.0 ≡ t = eqb-true p.0 t e in
-        let same : p.1 ≡ s.announcement = sym (ap (λ (a : Said). a.announcement) is) in
-        (is ∙ (λ i. record { processor = k; number = n; announcement = same i }), λ i. Some (stamp i, same i)))
+        let same : p.1 ≡ s.2 = sym (ap (λ (a : Said). a.2) is) in
+        (is ∙ (λ i. (k, n, same i)), λ i. Some (stamp i, same i)))
     by true e (inr none) = absurd none
     by false e none = absurd none
 
-said_here : (t k n : ℕ) (o : Option (ℕ × Announcement)) (a : Announcement) → o ≡ Some (t, a) → Among (said_by t k n o) (record { processor = k; number = n; announcement = a })
-said_here t k n o a e = subst (λ (o : Option (ℕ × Announcement)). Among (said_by t k n o) (record { processor = k; number = n; announcement = a })) (sym e)
-    (subst (λ b. Among {A = Said} (cond b (record { processor = k; number = n; announcement = a } ∷ []) []) (record { processor = k; number = n; announcement = a })) (sym (eq-eqb t t refl)) (inl refl))
+said_here : (t k n : ℕ) (o : Option (ℕ × Announcement)) (a : Announcement) → o ≡ Some (t, a) → Among (said_by t k n o) (k, n, a)
+said_here t k n o a e = subst (λ (o : Option (ℕ × Announcement)). Among (said_by t k n o) (k, n, a)) (sym e)
+    (subst (λ b. Among {A = Said} (cond b ((k, n, a) ∷ []) []) (k, n, a)) (sym (eq-eqb t t refl)) (inl refl))
 
-said_from : (t k n : ℕ) (es : List Logged) (s : Said) → Among (said_in t k n es) s → (s.processor ≡ k) × ((i : ℕ) × (e : Logged) × (s.number ≡ n + i) × (slice_get es i ≡ Some e) × (e.said ≡ Some (t, s.announcement)))
+said_from : (t k n : ℕ) (es : List Logged) (s : Said) → Among (said_in t k n es) s → (s.0 ≡ k) × ((i : ℕ) × (e : Logged) × (s.1 ≡ n + i) × (slice_get es i ≡ Some e) × (e.said ≡ Some (t, s.2)))
 said_from t k n [] s h = absurd h
 said_from t k n (e ∷ es) s h = ⊎_elim
     (λ l. (let one = said_one t k n e.said s l in
-    (ap (λ (a : Said). a.processor) one.0, (0, e, ap (λ (a : Said). a.number) one.0 ∙ (let same : n ≡ n + 0 = omega arith in same), refl, one.1))))
+    (ap (λ (a : Said). a.0) one.0, (0, e, ap (λ (a : Said). a.1) one.0 ∙ (let same : n ≡ n + 0 = omega arith in same), refl, one.1))))
     (λ r. (let more = said_from t k (suc n) es s r in let at = more.1 in
     (more.0, (suc at.0, at.1, (let number = at.2 in omega (arith, number)), at.3, at.4))))
     (among_append (said_by t k n e.said) (said_in t k (suc n) es) s h)
 
-pub said_to : (t k n : ℕ) (es : List Logged) (i : ℕ) (e : Logged) (a : Announcement) → slice_get es i ≡ Some e → e.said ≡ Some (t, a) → Among (said_in t k n es) (record { processor = k; number = n + i; announcement = a })
+pub said_to : (t k n : ℕ) (es : List Logged) (i : ℕ) (e : Logged) (a : Announcement) → slice_get es i ≡ Some e → e.said ≡ Some (t, a) → Among (said_in t k n es) (k, n + i, a)
 said_to t k n [] i e a at says = absurd (cc)
 said_to t k n (d ∷ es) zero e a at says =
     (let same : d ≡ e = cc in
     among_left (said_by t k n d.said) (said_in t k (suc n) es) _
-    (subst (λ (m : ℕ). Among (said_by t k n d.said) (record { processor = k; number = m; announcement = a })) (let here : n ≡ n + 0 = omega arith in here)
+    (subst (λ (m : ℕ). Among (said_by t k n d.said) (k, m, a)) (let here : n ≡ n + 0 = omega arith in here)
     (said_here t k n d.said a (ap (λ (l : Logged). l.said) same ∙ says))))
 said_to t k n (d ∷ es) (suc i) e a at says =
     among_right (said_by t k n d.said) (said_in t k (suc n) es) _
-    (subst (λ (m : ℕ). Among (said_in t k (suc n) es) (record { processor = k; number = m; announcement = a })) (let next : suc n + i ≡ n + suc i = omega arith in next)
+    (subst (λ (m : ℕ). Among (said_in t k (suc n) es) (k, m, a)) (let next : suc n + i ≡ n + suc i = omega arith in next)
     (said_to t k (suc n) es i e a at says))
 
 module _ (x : Replica) (t : ℕ) where
@@ -69,10 +69,10 @@ module _ (x : Replica) (t : ℕ) where
 
   members_to : (s : Said) → IsSaidAt x t s → Contains (said x t) s
   members_to s (low, (i, e, number, at, says)) =
-      among_contains (said x t) s (flat_among (λ k. said_in t k 1 (sound_beginning x k)) (numbers_below x.processors) s s.processor (below_among x.processors s.processor low)
-      (subst (λ (m : ℕ). Among (said_in t s.processor 1 (sound_beginning x s.processor)) (record { processor = s.processor; number = m; announcement = s.announcement }))
-      (let same : 1 + i ≡ s.number = omega (arith, number) in same)
-      (said_to t s.processor 1 (sound_beginning x s.processor) i e s.announcement at says)))
+      among_contains (said x t) s (flat_among (λ k. said_in t k 1 (sound_beginning x k)) (numbers_below x.processors) s s.0 (below_among x.processors s.0 low)
+      (subst (λ (m : ℕ). Among (said_in t s.0 1 (sound_beginning x s.0)) ((s.0, m, s.2)))
+      (let same : 1 + i ≡ s.1 = omega (arith, number) in same)
+      (said_to t s.0 1 (sound_beginning x s.0) i e s.2 at says)))
 
 -- ---- the order
 
@@ -98,7 +98,7 @@ module _ {A : Type 0} (key : A → EntryKey) where
   pairs (x ∷ xs) p (suc i) zero d earlier within = absurd (omega arith)
   pairs (x ∷ xs) p (suc i) (suc j) d earlier within = pairs xs p.1 i j d (omega (arith, earlier)) (omega (arith, within))
 
-  module _ (f : ℕ → List A) (own : (k : ℕ) (a : A) → Among (f k) a → (key a).processor ≡ k) (each : (k : ℕ) → InOrder (f k)) where
+  module _ (f : ℕ → List A) (own : (k : ℕ) (a : A) → Among (f k) a → (key a).0 ≡ k) (each : (k : ℕ) → InOrder (f k)) where
     of_each : (m : ℕ) → InOrder (flat_map f (numbers_below m))
     of_each zero = tt
     of_each (suc m) = subst InOrder (sym (flat_more f m)) (joined (flat_map f (numbers_below m)) (f m) (of_each m) (each m)
@@ -115,8 +115,8 @@ said_order t k n (e ∷ es) = joined key_of (said_by t k n e.said) (said_in t k 
     let second = said_from t k (suc n) es b q in
     let at = second.1 in
     let number = at.2 in
-    let here : a.number ≡ n = ap (λ (s : Said). s.number) first.0 in
-    let row : a.processor ≡ k = ap (λ (s : Said). s.processor) first.0 in
+    let here : a.1 ≡ n = ap (λ (s : Said). s.1) first.0 in
+    let row : a.0 ≡ k = ap (λ (s : Said). s.0) first.0 in
     inr (row ∙ sym second.0, omega (arith, number, here))))
   where
     none_after : (s : Said) → AllAfter key_of s []
@@ -126,8 +126,8 @@ said_order t k n (e ∷ es) = joined key_of (said_by t k n e.said) (said_in t k 
     one None = tt
     one (Some p) = by (p.0 == t)
       where
-        by : (b : Bool) → InOrder key_of (cond b (record { processor = k; number = n; announcement = p.1 } ∷ []) [])
-        by true = (none_after (record { processor = k; number = n; announcement = p.1 }), tt)
+        by : (b : Bool) → InOrder key_of (cond b ((k, n, p.1) ∷ []) [])
+        by true = (none_after (k, n, p.1), tt)
         by false = tt
 
 -- ---- the order of keys
@@ -154,11 +154,11 @@ kept_order k p (x ∷ xs) h = by (p x) (kept_order k p xs h.1)
     )
     by false rest = rest
 
-torn_own : (x : Replica) (k : ℕ) (e : EntryKey) → Among (torn_in x k) e → e.processor ≡ k
-torn_own x k e h = ap (λ (e : EntryKey). e.processor) (among_map (entry_key k) (filter (λ n. is_torn (x.at k n)) (numbers_to x.capacity)) e h).2
+torn_own : (x : Replica) (k : ℕ) (e : EntryKey) → Among (torn_in x k) e → e.0 ≡ k
+torn_own x k e h = ap (λ (e : EntryKey). e.0) (among_map (entry_key k) (filter (λ n. is_torn (x.at k n)) (numbers_to x.capacity)) e h).2
 
-fallen_own : (x : Replica) (k : ℕ) (e : EntryKey) → Among (fallen_in x k) e → e.processor ≡ k
-fallen_own x k e h = ap (λ (e : EntryKey). e.processor) (fallen_one k (length (sound_beginning x k) + 1) (mark x k) (x.at k (length (sound_beginning x k) + 1)) e h).0
+fallen_own : (x : Replica) (k : ℕ) (e : EntryKey) → Among (fallen_in x k) e → e.0 ≡ k
+fallen_own x k e h = ap (λ (e : EntryKey). e.0) (fallen_one k (length (sound_beginning x k) + 1) (mark x k) (x.at k (length (sound_beginning x k) + 1)) e h).0
 
 fallen_alone : (k n mark : ℕ) (c : Held Logged) → InOrder (λ e. e) (fallen_at k n mark c)
 fallen_alone k n mark None = tt

@@ -1,9 +1,9 @@
 -- What is said at each slot.
-use Rattle.std.specs.Prelude.{ℕ, ◌==◌, List, [], ◌∷◌, Option, Some, None, Vec, if◌then◌else◌}
+use Rattle.std.specs.Prelude.{ℕ, ◌≡◌, ◌==◌, List, [], ◌∷◌, ◌++◌, Option, Some, None, Vec, if◌then◌else◌}
 use Rattle.std.specs.declared.alloc.Global.{Global}
 use Rattle.std.specs.Ordering.{nat_cmp}
 use Rattle.std.specs.BTreeMap.{BTreeMap, get}
-use Rattle.pfair_entry.specs.declared.said.Said.{Said}
+use Rattle.pfair_entry.specs.Said.{Said}
 use Rattle.pfair_replica.specs.declared.agenda.Agenda.{Agenda}
 
 -- the values of a list, or none
@@ -22,3 +22,7 @@ one_at key value t = if key == t then value ∷ [] else []
 -- what is said at slot t
 abbrev pub said_at : Agenda → ℕ → List Said
 said_at agenda t = listed_at agenda.by_slot t
+
+-- behind what was listed before stands a beginning of what comes
+abbrev pub IsPartOf : (before now coming : List Said) → Type 0
+IsPartOf before now coming = (came : List Said) × (rest : List Said) × (now ≡ before ++ came) × (came ++ rest ≡ coming)

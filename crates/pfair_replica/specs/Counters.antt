@@ -4,7 +4,7 @@ use Rattle.pfair_lattice.specs.declared.flat.Flat.TheVariants.{Torn}
 use Rattle.pfair_lattice.specs.Held.{Held, HeldBelow}
 use Rattle.pfair_entry.specs.Entry.{Logged}
 use Rattle.pfair_replica.specs.declared.counters.Beginning.{Beginning}
-use Rattle.pfair_replica.specs.declared.key.EntryKey.{EntryKey}
+use Rattle.pfair_replica.specs.Key.{EntryKey}
 use Rattle.pfair_replica.specs.Laws.{IsRun}
 use Rattle.pfair_replica.specs.Replica.{Contents, run_from, last_floor}
 use Rattle.pfair_replica.specs.HeldRows.{HeldRows, IsHeldRows, held}
@@ -34,12 +34,12 @@ pub record IsLeftAt (row : ℕ → Held Logged) (number : ℕ) (part : Beginning
 
 -- the key is (k, n) or comes before it
 abbrev pub ComesFirst : EntryKey → ℕ → ℕ → Type 0
-ComesFirst key k n = (key.processor < k) ⊎ ((key.processor ≡ k) × (key.number ≤ n))
+ComesFirst key k n = (key.0 < k) ⊎ ((key.0 ≡ k) × (key.1 ≤ n))
 
 -- the first of the keys of which P holds, or None where it holds of none
 abbrev pub IsFirst : (ℕ → ℕ → Type 0) → Option EntryKey → Type 0
 IsFirst P None = (k n : ℕ) → P k n → ⊥
-IsFirst P (Some key) = P key.processor key.number × ((k n : ℕ) → P k n → ComesFirst key k n)
+IsFirst P (Some key) = P key.0 key.1 × ((k n : ℕ) → P k n → ComesFirst key k n)
 
 abbrev pub IsTornAt : Contents → ℕ → ℕ → Type 0
 IsTornAt at k n = at k n ≡ Some Torn
@@ -51,8 +51,8 @@ IsFirstTornIn at k = IsFirst (λ j n. (j ≡ k) × IsTornAt at j n)
 -- of two keys, where there are so many, that which comes first
 pub record IsEarlier (first other result : Option EntryKey) : Type 0 where
   pub either : (result ≡ first) ⊎ (result ≡ other)
-  pub before_first : (f : EntryKey) → first ≡ Some f → IsSomeAnd result (λ key. ComesFirst key f.processor f.number)
-  pub before_other : (f : EntryKey) → other ≡ Some f → IsSomeAnd result (λ key. ComesFirst key f.processor f.number)
+  pub before_first : (f : EntryKey) → first ≡ Some f → IsSomeAnd result (λ key. ComesFirst key f.0 f.1)
+  pub before_other : (f : EntryKey) → other ≡ Some f → IsSomeAnd result (λ key. ComesFirst key f.0 f.1)
 
 -- the counters of what is held
 pub record AreCounters (capacity : ℕ) (at : Contents) (sound : List Beginning) (first : Option EntryKey) : Type 0 where

@@ -4,6 +4,7 @@ pub mod Counters
 pub mod Faults
 pub mod HeldAfter
 pub mod HeldRows
+pub mod Key
 pub mod Laws
 pub mod Offered
 pub mod Replica

@@ -5,10 +5,10 @@ use Rattle.pfair_lattice.specs.declared.flat.Flat.{Flat}
 use Rattle.pfair_lattice.specs.declared.flat.Flat.TheVariants.{One, Torn}
 use Rattle.pfair_lattice.specs.Held.{Held, held_join, HeldBelow}
 use Rattle.pfair_entry.specs.declared.announcement.Announcement.{Announcement}
-use Rattle.pfair_entry.specs.declared.said.Said.{Said}
+use Rattle.pfair_entry.specs.Said.{Said}
 use Rattle.pfair_entry.specs.Entry.{Logged, IsEntry}
 use Rattle.pfair_entry.specs.Same.{entry_eq}
-use Rattle.pfair_replica.specs.declared.key.EntryKey.{EntryKey}
+use Rattle.pfair_replica.specs.Key.{EntryKey}
 
 -- what is held, by processor and number
 abbrev pub Contents : Type 0
@@ -102,7 +102,7 @@ frontier x = fold min (mark x 0) (map (mark x) (numbers_below x.processors))
 -- entry n of processor k, where it is stamped t
 abbrev pub said_by : (t k n : ℕ) → Option (ℕ × Announcement) → List Said
 said_by t k n None = []
-said_by t k n (Some s) = if s.0 == t then record { processor = k; number = n; announcement = s.1 } ∷ [] else []
+said_by t k n (Some s) = if s.0 == t then (k, n, s.1) ∷ [] else []
 
 -- in a run of processor k that begins at number n
 abbrev pub said_in : (t k n : ℕ) → List Logged → List Said
@@ -128,7 +128,7 @@ abbrev pub has_torn : Replica → Bool
 has_torn x = list_any (λ k. list_any (λ n. is_torn (x.at k (suc n))) (numbers_below x.capacity)) (numbers_below x.processors)
 
 abbrev pub entry_key : ℕ → ℕ → EntryKey
-entry_key k n = record { processor = k; number = n }
+entry_key k n = (k, n)
 
 -- the numbers of a row of that capacity
 abbrev pub numbers_to : ℕ → List ℕ

@@ -49,22 +49,18 @@ impl Agenda {
     pub fn push(
         &mut self,
         slot: u64,
-        processor: u8,
+        proc: u8,
         number: u32,
         announcement: Announcement,
     ) -> Result<(), AllocError>
-        ensures ok { OnOk result ((t : ℕ) → said_at self.new t ≡ said_at self.old t ++ one_at slot (record { processor = processor; number = number; announcement = announcement }) t) }
+        ensures ok { OnOk result ((t : ℕ) → said_at self.new t ≡ said_at self.old t ++ one_at slot (proc, number, announcement) t) }
         ensures err { OnErr result ((t : ℕ) → said_at self.new t ≡ said_at self.old t) }
     {
         push_at(
             self.alloc,
             &mut self.by_slot,
             slot,
-            Said {
-                processor,
-                number,
-                announcement,
-            },
+            (proc, number, announcement),
         )
     }
 }

@@ -59,17 +59,17 @@ impl Counters {
 
     /// Follows the rows after something came at one key: carries the sound beginning on over all
     /// that is held behind it, or takes it back to before the key where that is torn in it.
-    pub fn follow_entry(&mut self, rows: &Rows, capacity: u32, key: EntryKey)
-        requires row { key.processor < length self.old.beginnings.items }
-        requires before { WereBefore capacity key.processor key.number (held_in rows.now) self.old.beginnings.items self.old.torn }
+    pub fn follow_entry(&mut self, rows: &Rows, capacity: u32, processor: u8, number: u32)
+        requires row { processor < length self.old.beginnings.items }
+        requires before { WereBefore capacity processor number (held_in rows.now) self.old.beginnings.items self.old.torn }
         ensures counters { AreCounters capacity (held_in rows.now) self.new.beginnings.items self.new.torn }
         ensures so_many { length self.new.beginnings.items ≡ length self.old.beginnings.items }
     {
-        let row = key.processor as usize;
-        let part = part_left(rows, key, self.beginnings[row]);
-        self.beginnings[row] = carried_on(rows, capacity, key.processor, part);
-        if is_torn(rows, key.processor, key.number) {
-            self.torn = earlier(self.torn, Some(key));
+        let row = processor as usize;
+        let part = part_left(rows, processor, number, self.beginnings[row]);
+        self.beginnings[row] = carried_on(rows, capacity, processor, part);
+        if is_torn(rows, processor, number) {
+            self.torn = earlier(self.torn, Some((processor, number)));
         }
     }
 
@@ -126,26 +126,26 @@ fn carried_on(rows: &Rows, capacity: u32, processor: u8, part: Beginning) -> Beg
 }
 
 // The part of a sound beginning that is left after something came at one key.
-fn part_left(rows: &Rows, key: EntryKey, before: Beginning) -> Beginning
-    requires { IsLeftAt (held_in rows.now key.processor) key.number before }
-    ensures part { IsPart (held_in rows.now key.processor) result }
+fn part_left(rows: &Rows, processor: u8, number: u32, before: Beginning) -> Beginning
+    requires { IsLeftAt (held_in rows.now processor) number before }
+    ensures part { IsPart (held_in rows.now processor) result }
     ensures shorter { result.count ≤ before.count }
 {
-    if key.number <= before.count && is_torn(rows, key.processor, key.number) {
-        part_before(rows, key)
+    if number <= before.count && is_torn(rows, processor, number) {
+        part_before(rows, processor, number)
     } else {
         before
     }
 }
 
 // The part of a sound beginning before an entry in it.
-fn part_before(rows: &Rows, key: EntryKey) -> Beginning
-    requires { IsRunBefore (held_in rows.now key.processor) key.number }
-    ensures part { IsPart (held_in rows.now key.processor) result }
-    ensures count { result.count + 1 ≡ key.number }
+fn part_before(rows: &Rows, processor: u8, number: u32) -> Beginning
+    requires { IsRunBefore (held_in rows.now processor) number }
+    ensures part { IsPart (held_in rows.now processor) result }
+    ensures count { result.count + 1 ≡ number }
 {
-    let count = key.number - 1;
-    let mark = match held_at(rows, key.processor, count) {
+    let count = number - 1;
+    let mark = match held_at(rows, processor, count) {
         Some(Flat::One(entry)) => entry.floor(),
         _ => 0,
     };
@@ -166,10 +166,7 @@ fn first_torn_in(rows: &Rows, capacity: u32, processor: u8) -> Option<EntryKey>
 {
     for before in 0..capacity {
         if is_torn(rows, processor, before + 1) {
-            return Some(EntryKey {
-                processor,
-                number: before + 1,
-            });
+            return Some((processor, before + 1));
         }
     }
     None
@@ -190,8 +187,7 @@ fn earlier(first: Option<EntryKey>, other: Option<EntryKey>) -> Option<EntryKey>
 
 // Whether a key is the other or comes before it.
 fn comes_first(first: EntryKey, key: EntryKey) -> bool
-    ensures { IsTrue result ↔ ComesFirst first key.processor key.number }
+    ensures { IsTrue result ↔ ComesFirst first key.0 key.1 }
 {
-    first.processor < key.processor
-        || (first.processor == key.processor && first.number <= key.number)
+    first.0 < key.0 || (first.0 == key.0 && first.1 <= key.1)
 }

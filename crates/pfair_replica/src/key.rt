@@ -1,13 +1,8 @@
 //! Names of entries.
 
-/// Names one entry of one log.
-#[derive(Clone, Copy, Debug, PartialEq, Eq)]
-pub struct EntryKey {
-    /// The processor whose log it is, counted from 0.
-    pub processor: u8,
-    /// The entry's number in that log, counted from 1.
-    pub number: u32,
-}
+/// Names one entry of one log: the processor whose log it is, counted from 0, and the entry's number
+/// in that log, counted from 1.
+pub type EntryKey = (u8, u32);
 
 /// What is wrong with the logs that a replica holds. Both lists are in order of processors, and of
 /// numbers for each processor.

@@ -9,7 +9,7 @@ ghost use Rattle.std.specs.Prelude.{◌≡◌, ◌≢◌, ◌≤◌, ◌↔◌, 
 ghost use Rattle.pfair_lattice.specs.declared.flat.Flat.TheVariants.{One};
 ghost use Rattle.pfair_entry.specs.Entry.{Logged, IsEntry};
 ghost use Rattle.pfair_replica.specs.Replica.{IsReplica, join, with_entry, empty_replica, Below, sound_beginning, mark, frontier, missing, IsLeastMissing, said_by, said_behind, said, is_torn, has_torn, torn_in, torn_keys, fallen_in, fallen_keys};
-ghost use Rattle.pfair_replica.specs.Agenda.{said_at};
+ghost use Rattle.pfair_replica.specs.Agenda.{IsPartOf, said_at};
 ghost use Rattle.pfair_replica.specs.Offered.{taken, absorbed};
 ghost use Rattle.pfair_replica.specs.HeldRows.{held, replica_of, IsHeldRows, IsShape, SameShape};
 ghost use Rattle.pfair_replica.specs.Faults.{IsKeyOf, IsTakenAs, IsTakeFaultOf, IsMergeFaultOf, IsPartlyMerged};
@@ -88,11 +88,11 @@ impl Replica {
 
     /// What is held at a key: one entry, `Torn`, or `None`. A key that the replica hasn't room for
     /// holds nothing. It costs one look-up.
-    pub fn get(&self, processor: u8, number: u32) -> Option<Flat<Entry>>
-        ensures value { result ≡ held self.now processor number }
+    pub fn get(&self, proc: u8, number: u32) -> Option<Flat<Entry>>
+        ensures value { result ≡ held self.now proc number }
         ensures entry { (e : Logged) → result ≡ Some (One e) → IsEntry e }
     {
-        held_at(&self.rows, processor, number)
+        held_at(&self.rows, proc, number)
     }
 
     /// Takes one entry in, and answers what it met there. What is held afterwards is the join with
@@ -104,17 +104,17 @@ impl Replica {
     /// # Errors
     /// The first of these that applies, and then nothing is changed: `NoSuchProcessor`,
     /// `NumberOutOfRange`, and `Memory`, which comes only where nothing was held at the key.
-    pub fn take(&mut self, processor: u8, number: u32, entry: Entry) -> Result<Taken, TakeFault>
-        ensures taken { OnOk result (replica_of self.new ≡ with_entry (replica_of self.old) processor number entry) }
-        ensures answer { IfOk result (IsTakenAs (held self.old processor number) entry) }
-        ensures key { OnOk result (IsKeyOf self.old processor number) }
-        ensures fault { IfErr result (IsTakeFaultOf self.old processor number) }
+    pub fn take(&mut self, proc: u8, number: u32, entry: Entry) -> Result<Taken, TakeFault>
+        ensures taken { OnOk result (replica_of self.new ≡ with_entry (replica_of self.old) proc number entry) }
+        ensures answer { IfOk result (IsTakenAs (held self.old proc number) entry) }
+        ensures key { OnOk result (IsKeyOf self.old proc number) }
+        ensures fault { IfErr result (IsTakeFaultOf self.old proc number) }
         ensures unchanged { OnErr result (self.new ≡ self.old) }
-        ensures offered { (result ≡ Err TakeFault.Memory → ⊥) → replica_of self.new ≡ taken (replica_of self.old) processor number entry }
+        ensures offered { (result ≡ Err TakeFault.Memory → ⊥) → replica_of self.new ≡ taken (replica_of self.old) proc number entry }
         ensures grows { Below (replica_of self.old) (replica_of self.new) }
         ensures shape { SameShape self.old self.new }
     {
-        if processor >= self.processors {
+        if proc >= self.processors {
             return Err(TakeFault::NoSuchProcessor);
         }
         if number == 0 || number > self.capacity {
@@ -122,14 +122,14 @@ impl Replica {
         }
         // an entry is stamped at or after its floor
         let _floor = entry.floor();
-        let taken = match self.get(processor, number) {
+        let taken = match self.get(proc, number) {
             None => Taken::New,
             Some(held) if held == Flat::One(entry) => Taken::Known,
             Some(_) => Taken::Torn,
         };
-        put_entry(&mut self.rows, processor, number, entry)?;
-        let key = EntryKey { processor, number };
-        self.counters.follow_entry(&self.rows, self.capacity, key);
+        put_entry(&mut self.rows, proc, number, entry)?;
+        self.counters
+            .follow_entry(&self.rows, self.capacity, proc, number);
         Ok(taken)
     }
 
@@ -186,19 +186,19 @@ impl Replica {
 
     /// The slot up to which a processor has committed itself: the last floor of its sound
     /// beginning, or 0 where that is empty. It is kept, not looked for.
-    pub fn mark(&self, processor: u8) -> u64
-        ensures { result ≡ mark (replica_of self.now) processor }
+    pub fn mark(&self, proc: u8) -> u64
+        ensures { result ≡ mark (replica_of self.now) proc }
     {
-        self.sound_beginning(processor).1
+        self.sound_beginning(proc).1
     }
 
     /// How many entries the sound beginning of a processor has: these are its entries 1, 2, 3 and
     /// so on, which `get` gives. It is kept, not counted.
-    pub fn sound_count(&self, processor: u8) -> u32
-        ensures value { result ≡ length (sound_beginning (replica_of self.now) processor) }
+    pub fn sound_count(&self, proc: u8) -> u32
+        ensures value { result ≡ length (sound_beginning (replica_of self.now) proc) }
         ensures within { result ≤ self.now.capacity }
     {
-        self.sound_beginning(processor).0
+        self.sound_beginning(proc).0
     }
 
     /// The least mark of all processors: below this slot every announcement is known. It costs a
@@ -229,12 +229,12 @@ impl Replica {
 
     /// The least number of a processor's log that isn't held, or `None` where all are. What is torn
     /// is held. It costs a look-up for each number up to that one.
-    pub fn missing(&self, processor: u8) -> Option<u32>
-        ensures value { result ≡ missing (replica_of self.now) processor }
-        ensures least { IsLeastMissing (replica_of self.now) processor result }
+    pub fn missing(&self, proc: u8) -> Option<u32>
+        ensures value { result ≡ missing (replica_of self.now) proc }
+        ensures least { IsLeastMissing (replica_of self.now) proc result }
     {
         for before in 0..self.capacity {
-            if self.get(processor, before + 1).is_none() {
+            if self.get(proc, before + 1).is_none() {
                 return Some(before + 1);
             }
         }
@@ -276,14 +276,16 @@ impl Replica {
     ///
     /// # Errors
     /// `AllocError` where memory was wanted and refused, which comes only where something is
-    /// announced there; a part of it may then be noted.
-    pub fn note_said(&self, processor: u8, from: u32, agenda: &mut Agenda) -> Result<(), AllocError>
-        ensures heard { OnOk result ((t : ℕ) → said_at agenda.new t ≡ said_at agenda.old t ++ said_behind (replica_of self.now) t processor from) }
-        ensures wanted { OnErr result ((t : ℕ) × (said_behind (replica_of self.now) t processor from ≢ [])) }
+    /// announced there. At each slot the agenda then says what it said before, and behind it a
+    /// beginning of what the processor announces.
+    pub fn note_said(&self, proc: u8, from: u32, agenda: &mut Agenda) -> Result<(), AllocError>
+        ensures heard { OnOk result ((t : ℕ) → said_at agenda.new t ≡ said_at agenda.old t ++ said_behind (replica_of self.now) t proc from) }
+        ensures wanted { OnErr result ((t : ℕ) × (said_behind (replica_of self.now) t proc from ≢ [])) }
+        ensures part { OnErr result ((t : ℕ) → IsPartOf (said_at agenda.old t) (said_at agenda.new t) (said_behind (replica_of self.now) t proc from)) }
     {
-        for place in from..self.sound_count(processor) {
-            match self.get(processor, place + 1) {
-                Some(Flat::One(entry)) => note_said_by(processor, place + 1, entry, agenda)?,
+        for place in from..self.sound_count(proc) {
+            match self.get(proc, place + 1) {
+                Some(Flat::One(entry)) => note_said_by(proc, place + 1, entry, agenda)?,
                 _ => unreachable!(),
             }
         }
@@ -318,7 +320,7 @@ impl Replica {
         for before in 0..self.capacity {
             let number = before + 1;
             if let Some(Flat::Torn) = self.get(processor, number) {
-                torn.push(EntryKey { processor, number })?;
+                torn.push((processor, number))?;
             }
         }
         Ok(())
@@ -334,7 +336,7 @@ impl Replica {
         match self.get(processor, number) {
             Some(Flat::One(entry)) => {
                 if entry.floor() < mark {
-                    fallen.push(EntryKey { processor, number })?;
+                    fallen.push((processor, number))?;
                 }
             }
             Some(Flat::Torn) => {}
@@ -366,6 +368,7 @@ fn note_said_by(
 ) -> Result<(), AllocError>
     ensures heard { OnOk result ((t : ℕ) → said_at agenda.new t ≡ said_at agenda.old t ++ said_by t processor number entry.said) }
     ensures wanted { OnErr result (IsSome entry.said) }
+    ensures unchanged { OnErr result ((t : ℕ) → said_at agenda.new t ≡ said_at agenda.old t) }
 {
     if let Some((stamp, announcement)) = entry.said() {
         agenda.push(stamp, processor, number, announcement)?;

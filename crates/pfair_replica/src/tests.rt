@@ -22,20 +22,6 @@ struct Row {
     fallen: &'static [EntryKey],
 }
 
-const SECOND: EntryKey = EntryKey {
-    processor: 0,
-    number: 2,
-};
-
-const FOURTH: EntryKey = EntryKey {
-    processor: 0,
-    number: 4,
-};
-
-fn key(processor: u8, number: u32) -> EntryKey {
-    EntryKey { processor, number }
-}
-
 fn floor(rt: &impl Abort, floor: u64) -> Entry {
     Entry::new(floor, None).expect(rt, "an entry")
 }
@@ -79,13 +65,13 @@ fn marks_and_faults(rt: HostRuntime) -> Result<(), Fail> {
             mark: 5,
             missing: Some(3),
             torn: &[],
-            fallen: &[SECOND],
+            fallen: &[(0, 2)],
         },
         Row {
             entries: &[(1, 3), (2, 5), (2, 6), (2, 5)],
             mark: 3,
             missing: Some(3),
-            torn: &[SECOND],
+            torn: &[(0, 2)],
             fallen: &[],
         },
         Row {
@@ -99,7 +85,7 @@ fn marks_and_faults(rt: HostRuntime) -> Result<(), Fail> {
             entries: &[(1, 2), (2, 3), (3, 5), (2, 4)],
             mark: 2,
             missing: Some(4),
-            torn: &[SECOND],
+            torn: &[(0, 2)],
             fallen: &[],
         },
         Row {
@@ -114,7 +100,7 @@ fn marks_and_faults(rt: HostRuntime) -> Result<(), Fail> {
             mark: 5,
             missing: None,
             torn: &[],
-            fallen: &[FOURTH],
+            fallen: &[(0, 4)],
         },
     ] {
         assert_row(&rt, &mut Replica::new(rt.alloc(), 1, 4)?, row)?;
@@ -235,14 +221,14 @@ fn assert_both(rt: &impl Abort, both: &Replica, x: &Replica, y: &Replica) {
     assert!(rt; x.le(both) && both.le(x) && y.le(both));
     assert_eq!(rt;
         (both.first_torn(), both.mark(40)),
-        (Some(key(40, 2)), 5000)
+        (Some((40, 2)), 5000)
     );
     assert_eq!(rt; (both.mark(63), both.frontier()), (5001, 5000));
     let faults = both.faults().expect(rt, "memory");
-    assert_eq!(rt; faults.torn.as_slice(), [key(40, 2)].as_slice());
+    assert_eq!(rt; faults.torn.as_slice(), [(40, 2)].as_slice());
     assert_eq!(rt;
         faults.fallen.as_slice(),
-        [key(0, 3), key(63, 3)].as_slice()
+        [(0, 3), (63, 3)].as_slice()
     );
 }
 
@@ -271,7 +257,7 @@ fn assert_said(rt: &impl Abort, agenda: &Agenda, slot: u64, numbers: &[(u8, u32)
     let said = agenda.at(slot);
     assert_eq!(rt; said.len(), numbers.len());
     for (one, expected) in said.iter().zip(numbers.iter()) {
-        assert_eq!(rt; (one.processor, one.number), *expected);
+        assert_eq!(rt; (one.0, one.1), *expected);
     }
 }
 
@@ -396,7 +382,7 @@ fn scanned(x: &Replica, processor: u8) -> (u32, u64) {
 fn first_scanned(x: &Replica, processor: u8) -> Option<EntryKey> {
     for before in 0..x.capacity() {
         if x.get(processor, before + 1) == Some(Flat::Torn) {
-            return Some(key(processor, before + 1));
+            return Some((processor, before + 1));
         }
     }
     None

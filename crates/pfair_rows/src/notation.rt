@@ -65,7 +65,7 @@ pub(crate) fn push(
         None
     };
     events.push(Event::Take {
-        processor: u8::try_from(number(rt, words, 0)).expect(rt, "a processor"),
+        proc: u8::try_from(number(rt, words, 0)).expect(rt, "a processor"),
         number: u32::try_from(number(rt, words, 1)).expect(rt, "a number"),
         entry: Entry::new(number(rt, words, 2), said).expect(rt, "an entry"),
     })?;

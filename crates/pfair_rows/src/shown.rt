@@ -75,7 +75,7 @@ pub(crate) fn push_decisions<R: Ready>(
             if place > 0 {
                 text.push_str(", ")?;
             }
-            write!(text, "{}.{} ", decided.processor, decided.number)?;
+            write!(text, "{}.{} ", decided.proc, decided.number)?;
             push_name(text, &decided.announcement.name())?;
             text.push(' ')?;
             push_decision(text, decided.decision)?;
@@ -93,10 +93,10 @@ pub(crate) fn push_answer<R: Ready>(
 ) -> Result<(), AllocError> {
     match event {
         Event::Take {
-            processor,
+            proc,
             number,
             entry,
-        } => match dispatcher.take(*processor, *number, *entry) {
+        } => match dispatcher.take(*proc, *number, *entry) {
             Ok(Taken::New) => text.push_str("new")?,
             Ok(Taken::Known) => text.push_str("known")?,
             Ok(Taken::Torn) => text.push_str("torn")?,
@@ -114,10 +114,10 @@ pub(crate) fn push_answer<R: Ready>(
 // Puts what a plan answers behind the text.
 fn push_planned(text: &mut String, answer: Result<Step, PlanFault>) -> Result<(), AllocError> {
     match answer {
-        Ok(Step::Planned { slot }) => write!(text, "slot {slot}")?,
+        Ok(Step::Planned(slot)) => write!(text, "slot {slot}")?,
         Ok(Step::Waiting { frontier }) => write!(text, "waiting {frontier}")?,
         Ok(Step::Done) => text.push_str("done")?,
-        Err(PlanFault::Torn(key)) => write!(text, "fault 30 at {}.{}", key.processor, key.number)?,
+        Err(PlanFault::Torn { proc, number }) => write!(text, "fault 30 at {proc}.{number}")?,
         Err(fault) => write!(text, "fault {}", fault.number())?,
     }
     Ok(())

@@ -14,7 +14,7 @@ use Rattle.pfair_entry.specs.declared.announcement.Announcement.{Announcement}
 use Rattle.pfair_entry.specs.declared.announcement.Announcement.TheVariants.{Arrive, Depart, Late}
 use Rattle.pfair_entry.specs.Exact.{name_exact}
 use Rattle.pfair_replica.specs.Replica.{Replica, said}
-use Rattle.pfair_entry.specs.declared.said.Said.{Said}
+use Rattle.pfair_entry.specs.Said.{Said}
 use Rattle.pfair_admission.specs.Admission.{Machine, is_named, decision, newcomer, change, effect, present, is_freed, decided, all_decided, ran, with_quantum}
 use Rattle.pfair_admission.specs.Member.{Member}
 use Rattle.pfair_admission.specs.declared.decision.Decision.{Decision}

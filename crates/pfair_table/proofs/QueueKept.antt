@@ -17,7 +17,7 @@ use Rattle.pfair_order.specs.declared.Key.{Key}
 use Rattle.pfair_ready.specs.Names.{name_cmp}
 use Rattle.pfair_entry.specs.Same.{name_eq}
 use Rattle.pfair_entry.specs.Names.{name_of}
-use Rattle.pfair_entry.specs.declared.said.Said.{Said}
+use Rattle.pfair_entry.specs.Said.{Said}
 use Rattle.pfair_entry.specs.declared.announcement.Announcement.{Announcement}
 use Rattle.pfair_entry.specs.declared.announcement.Announcement.TheVariants.{Arrive, Depart, Late}
 use Rattle.pfair_entry.specs.Exact.{name_exact, name_itself}
@@ -98,12 +98,12 @@ quiet_effect t name members (Late other index by) (Refused why) e = refl
 quiet_decided : (mc : Machine) (t : ℕ) (name : Name) (heard : List Said) (members : List Member) → NamesApart (λ (m : Member). m.name) members → is_said name heard ≡ false → queued (member_named (all_decided mc t members (announcements heard)) name) ≡ queued (member_named members name)
 quiet_decided mc t name [] members a e = refl
 quiet_decided mc t name (said ∷ heard) members a e =
-    let parts = or_parts (name_eq name (name_of said.announcement)) (is_said name heard) e in
-    let changed = effect t members said.announcement (decision mc t members said.announcement) in
-    let named = apart_effect mc t members said.announcement a in
+    let parts = or_parts (name_eq name (name_of said.2)) (is_said name heard) e in
+    let changed = effect t members said.2 (decision mc t members said.2) in
+    let named = apart_effect mc t members said.2 a in
     quiet_decided mc t name heard (present t changed) (apart_present t changed named) parts.1
     ∙ quiet_present t name changed named
-    ∙ ap queued (quiet_effect t name members said.announcement (decision mc t members said.announcement) parts.0)
+    ∙ ap queued (quiet_effect t name members said.2 (decision mc t members said.2) parts.0)
 
 -- So a queue of the members before a boundary is one of the members after it, but for the names that something was said about.
 pub queue_after_boundary : (mc : Machine) (t : ℕ) (heard : List Said) (members : List Member) (waiting : Queue) → NamesApart (λ (m : Member). m.name) members → IsQueue members waiting → IsQueueBut heard (boundary mc t members (announcements heard)) waiting
@@ -181,11 +181,11 @@ told_next told members m before middle after new from key found stays from_is ke
         ∙ ap (λ b. cond b None (finmap.get before key.name)) (tied_names key.name told ∙ ap (λ n. name_eq n told) named ∙ name_itself told)
 
 -- what was told of one name was one less to tell
-pub told_one : (said : Said) (heard : List Said) (members : List Member) (before after : Queue) → IsQueueBut (said ∷ heard) members before → IsToldOf (name_of said.announcement) members before after → IsQueueBut heard members after
-told_one said heard members before after queue told name e = by (name_eq name (name_of said.announcement)) refl (told name)
+pub told_one : (said : Said) (heard : List Said) (members : List Member) (before after : Queue) → IsQueueBut (said ∷ heard) members before → IsToldOf (name_of said.2) members before after → IsQueueBut heard members after
+told_one said heard members before after queue told name e = by (name_eq name (name_of said.2)) refl (told name)
   where
-    by : (b : Bool) → name_eq name (name_of said.announcement) ≡ b → finmap.get after name ≡ (if b then queued (member_named members (name_of said.announcement)) else finmap.get before name) → finmap.get after name ≡ queued (member_named members name)
-    by true q is = is ∙ ap (λ n. queued (member_named members n)) (sym (name_exact name (name_of said.announcement) q))
+    by : (b : Bool) → name_eq name (name_of said.2) ≡ b → finmap.get after name ≡ (if b then queued (member_named members (name_of said.2)) else finmap.get before name) → finmap.get after name ≡ queued (member_named members name)
+    by true q is = is ∙ ap (λ n. queued (member_named members n)) (sym (name_exact name (name_of said.2) q))
     by false q is = is ∙ queue name (ap (λ b. b || is_said name heard) q ∙ e)
 
 -- the item at a place of a list, and what is left from it on
@@ -194,6 +194,6 @@ drop_item xs i x l e = drop_more xs i x l ∙ ap (λ y. y ∷ drop (i + 1) xs) (
 
 -- one turn of the loop over what was said
 pub told_turn : (heard : List Said) (i : ℕ) (said : Said) (members : List Member) (before after : Queue) → i < length heard → said ≡ get_or heard i said
-    → IsQueueBut (drop i heard) members before → IsToldOf (name_of said.announcement) members before after → IsQueueBut (drop (i + 1) heard) members after
+    → IsQueueBut (drop i heard) members before → IsToldOf (name_of said.2) members before after → IsQueueBut (drop (i + 1) heard) members after
 told_turn heard i said members before after l e queue told =
     told_one said (drop (i + 1) heard) members before after (subst (λ (rest : List Said). IsQueueBut rest members before) (drop_item heard i said l e) queue) told

@@ -5,7 +5,7 @@ use Rattle.std.specs.declared.alloc.AllocError.{AllocError}
 use Rattle.pfair_table.specs.declared.slot.SlotPlan.{SlotPlan}
 use Rattle.std.proofs.lemmas.List.{length-append, map-append}
 use Rattle.pfair_entry.specs.Entry.{Logged}
-use Rattle.pfair_entry.specs.declared.said.Said.{Said}
+use Rattle.pfair_entry.specs.Said.{Said}
 use Rattle.pfair_entry.specs.declared.announcement.Announcement.{Announcement}
 use Rattle.std.proofs.lemmas.Bool.{eqb-true}
 use Rattle.pfair_replica.specs.Replica.{said_by, said_in, sound_beginning, Replica, Below, Untorn, said, frontier, numbers_below}
@@ -172,8 +172,8 @@ said_once k n s zero = (omega arith, λ h. refl)
 said_once k n s (suc m) = by (s.0 == m) refl (said_once k n s m)
   where
     by : (b : Bool) → (s.0 == m) ≡ b → (total (λ t. length (said_by t k n (Some s))) m ≤ 1) × (m ≤ s.0 → total (λ t. length (said_by t k n (Some s))) m ≡ 0)
-        → (total (λ t. length (said_by t k n (Some s))) m + length {A = Said} (if b then record { processor = k; number = n; announcement = s.1 } ∷ [] else []) ≤ 1)
-        × (suc m ≤ s.0 → total (λ t. length (said_by t k n (Some s))) m + length {A = Said} (if b then record { processor = k; number = n; announcement = s.1 } ∷ [] else []) ≡ 0)
+        → (total (λ t. length (said_by t k n (Some s))) m + length {A = Said} (if b then (k, n, s.1) ∷ [] else []) ≤ 1)
+        × (suc m ≤ s.0 → total (λ t. length (said_by t k n (Some s))) m + length {A = Said} (if b then (k, n, s.1) ∷ [] else []) ≡ 0)
     by true p more = (let e = eqb-true s.0 m p in let none = more.1 (omega (arith, e)) in (omega (arith, none), λ h. absurd (omega (arith, h, e))))
     by false p more = (let le = more.0 in (omega (arith, le), λ h. (let none = more.1 (omega (arith, h)) in omega (arith, none))))
 

@@ -4,7 +4,7 @@ use Rattle.std.specs.Option.{ForSome}
 use Rattle.std.specs.List.{AllByRecursion, list_any}
 use Rattle.pfair_entry.specs.Same.{name_eq}
 use Rattle.pfair_entry.specs.Names.{name_of}
-use Rattle.pfair_entry.specs.declared.said.Said.{Said}
+use Rattle.pfair_entry.specs.Said.{Said}
 use Rattle.std.specs.FinMap as finmap
 use Rattle.pfair_weight.specs.Name.{NamesApart}
 use Rattle.pfair_ready.specs.Names.{NameValue as Name}
@@ -34,7 +34,7 @@ pub record IsSteady (slot : ℕ) (roster : Roster) (now : ℕ) (waiting : Queue)
 
 -- some announcement is about the task
 abbrev pub is_said : Name → List Said → Bool
-is_said name announced = list_any (λ a. name_eq name (name_of a.announcement)) announced
+is_said name announced = list_any (λ a. name_eq name (name_of a.2)) announced
 
 -- some key is of the task
 abbrev pub has_key_of : Name → List Key → Bool

@@ -35,7 +35,7 @@ IsStepOf d Done = d.settings.slots ≤ length d.tables
 
 -- why a plan is refused
 abbrev pub IsPlanFault : Dispatch → PlanFault → Type 0
-IsPlanFault d (Torn key) = (has_torn (replica_of d.held) ≡ true) × (slice_get (torn_keys (replica_of d.held)) 0 ≡ Some key)
+IsPlanFault d (Torn proc number) = (has_torn (replica_of d.held) ≡ true) × (slice_get (torn_keys (replica_of d.held)) 0 ≡ Some (proc, number))
 IsPlanFault d Spent = (has_torn (replica_of d.held) ≡ false) × (d.spent ≡ true)
 IsPlanFault d Memory = (d.spent ≡ false) × IsTrue (is_plannable d.settings (replica_of d.held) (length d.tables))
 
@@ -46,7 +46,7 @@ after_fault d _ = d
 
 -- why nothing is reopened
 abbrev pub IsReopenFault : Dispatch → PlanFault → Type 0
-IsReopenFault d (Torn key) = (has_torn (replica_of d.held) ≡ true) × (slice_get (torn_keys (replica_of d.held)) 0 ≡ Some key)
+IsReopenFault d (Torn proc number) = (has_torn (replica_of d.held) ≡ true) × (slice_get (torn_keys (replica_of d.held)) 0 ≡ Some (proc, number))
 IsReopenFault d Spent = ⊥
 IsReopenFault d Memory = has_torn (replica_of d.held) ≡ false
 

@@ -3,17 +3,13 @@
 ghost use Rattle.std.specs.Prelude.{◌≡◌};
 ghost use Rattle.pfair_table.specs.PlanFault.{plan_fault_number};
 
-use pfair_replica::EntryKey;
 use thiserror::Error;
 
 /// What a plan has done.
 #[derive(Clone, Copy, Debug, PartialEq, Eq)]
 pub enum Step {
     /// This slot was planned.
-    Planned {
-        /// The slot.
-        slot: u64,
-    },
+    Planned(u64),
     /// Nothing: the next slot is at or past the frontier, up to which the logs that are held are
     /// settled.
     Waiting {
@@ -29,8 +25,13 @@ pub enum Step {
 pub enum PlanFault {
     /// Two contents of one entry met; this is the least such key. What was planned stands, and no
     /// more is planned.
-    #[error("entry {number} of processor {processor} torn", number = .0.number, processor = .0.processor)]
-    Torn(EntryKey),
+    #[error("entry {number} of processor {proc} torn")]
+    Torn {
+        /// The processor in whose log the entry stands, counted from 0.
+        proc: u8,
+        /// Its number in that log, counted from 1.
+        number: u32,
+    },
     /// A plan has wanted memory: the dispatcher has to be reopened.
     #[error("spent")]
     Spent,
@@ -45,7 +46,7 @@ impl PlanFault {
         ensures { result ≡ plan_fault_number self.now }
     {
         match self {
-            PlanFault::Torn(_) => 30,
+            PlanFault::Torn { .. } => 30,
             PlanFault::Spent => 31,
             PlanFault::Memory => 90,
         }

@@ -20,7 +20,7 @@ ghost use Rattle.pfair_table.specs.Refinement.{IsInStep, course_of, IsStepOf, Is
 use crate::answer::{PlanFault, Step};
 use crate::pick::{Decided, Pick};
 use crate::places::next_places;
-use crate::planned::{Planned, Schedule};
+use crate::planned::{Planned, Run};
 use crate::planner::Planner;
 use crate::script::Script;
 use crate::settings::Settings;
@@ -83,15 +83,15 @@ impl<R: Ready> Dispatcher<R> {
     ///
     /// # Errors
     /// Those of [`Replica::take`]; the dispatcher is then as before.
-    pub fn take(&mut self, processor: u8, number: u32, entry: Entry) -> Result<Taken, TakeFault>
-        ensures answer { IfOk result (IsTakenAs (held self.old.held processor number) entry) }
-        ensures key { OnOk result (IsKeyOf self.old.held processor number) }
-        ensures fault { IfErr result (IsTakeFaultOf self.old.held processor number) }
+    pub fn take(&mut self, proc: u8, number: u32, entry: Entry) -> Result<Taken, TakeFault>
+        ensures answer { IfOk result (IsTakenAs (held self.old.held proc number) entry) }
+        ensures key { OnOk result (IsKeyOf self.old.held proc number) }
+        ensures fault { IfErr result (IsTakeFaultOf self.old.held proc number) }
         ensures unchanged { OnErr result (self.new ≡ self.old) }
-        ensures offered { (result ≡ Err TakeFault.Memory → ⊥) → replica_of self.new.held ≡ taken (replica_of self.old.held) processor number entry }
+        ensures offered { (result ≡ Err TakeFault.Memory → ⊥) → replica_of self.new.held ≡ taken (replica_of self.old.held) proc number entry }
         ensures rest { self.new ≡ record self.old { held = self.new.held } }
     {
-        self.replica.take(processor, number, entry)
+        self.replica.take(proc, number, entry)
     }
 
     /// Takes all that another replica holds, as [`Replica::merge`], and costs what that costs.
@@ -175,11 +175,11 @@ impl<R: Ready> Dispatcher<R> {
     }
 
     /// The tables of all slots that are planned, and their places, with no copy.
-    pub fn into_schedule(self) -> Schedule
+    pub fn into_run(self) -> Run
         ensures tables { as_tables result.tables ≡ self.tables }
         ensures places { as_places result.places ≡ places_of self.tables }
     {
-        self.planned.into_schedule()
+        self.planned.into_run()
     }
 
     /// What is held, with no copy.
@@ -214,8 +214,8 @@ impl<R: Ready> Dispatcher<R> {
         ensures fault { IfErr result (IsPlanFault self.old) }
         ensures after { IfErr result (λ fault. self.new ≡ after_fault self.old fault) }
     {
-        if let Some(torn) = self.replica.first_torn() {
-            return Err(PlanFault::Torn(torn));
+        if let Some((proc, number)) = self.replica.first_torn() {
+            return Err(PlanFault::Torn { proc, number });
         }
         if self.spent {
             return Err(PlanFault::Spent);
@@ -234,7 +234,7 @@ impl<R: Ready> Dispatcher<R> {
             &mut self.planner,
             &mut self.planned,
         ) {
-            Ok(()) => Ok(Step::Planned { slot }),
+            Ok(()) => Ok(Step::Planned(slot)),
             Err(_) => {
                 self.spent = true;
                 Err(PlanFault::Memory)
@@ -254,8 +254,8 @@ impl<R: Ready> Dispatcher<R> {
         ensures fault { IfErr result (IsReopenFault self.old) }
         ensures after { IfErr result (λ fault. self.new ≡ after_fault self.old fault) }
     {
-        if let Some(torn) = self.replica.first_torn() {
-            return Err(PlanFault::Torn(torn));
+        if let Some((proc, number)) = self.replica.first_torn() {
+            return Err(PlanFault::Torn { proc, number });
         }
         let slots = self.planned.len() as u64;
         match self.planner.plan_again(self.settings, &self.replica, slots) {

@@ -9,7 +9,7 @@ pub enum Event {
     /// An entry comes: that of this processor (from 0) with this number (from 1).
     Take {
         /// The processor in whose log it stands.
-        processor: u8,
+        proc: u8,
         /// Its number in that log.
         number: u32,
         /// The entry.

@@ -27,7 +27,7 @@ pub use answer::{PlanFault, Step};
 pub use dispatcher::Dispatcher;
 pub use event::Event;
 pub use pick::{Decided, Pick};
-pub use planned::Schedule;
+pub use planned::Run;
 pub use run::run_events;
 pub use script::Script;
 pub use settings::Settings;

@@ -17,7 +17,7 @@ pub struct Pick {
 #[derive(Clone, Copy, Debug, PartialEq, Eq)]
 pub struct Decided {
     /// The processor in whose log the entry stands, counted from 0.
-    pub processor: u8,
+    pub proc: u8,
     /// The entry's number in that log, counted from 1.
     pub number: u32,
     /// What is announced.

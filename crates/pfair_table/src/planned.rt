@@ -9,9 +9,9 @@ use crate::pick::{Decided, Pick};
 use std::alloc::{AllocError, Global};
 use std::marker::Model;
 
-/// The tables of all slots that are planned, from slot 0 on, and their places.
+/// What a run planned: the tables of all its slots, from slot 0 on, and their places.
 #[derive(Debug, Drop)]
-pub struct Schedule {
+pub struct Run {
     /// The table of each slot: its quanta in the PD2 order.
     pub tables: Vec<Vec<Pick>>,
     /// The places of each slot: for each row of its table the processor that runs it.
@@ -123,11 +123,11 @@ impl Planned {
     }
 
     /// All tables and their places.
-    pub(crate) fn into_schedule(self) -> Schedule
+    pub(crate) fn into_run(self) -> Run
         ensures tables { as_tables result.tables ≡ self.tables }
         ensures places { as_places result.places ≡ places_of self.tables }
     {
-        Schedule {
+        Run {
             tables: self.tables,
             places: self.places,
         }

@@ -62,13 +62,13 @@ fn happen<R: Ready>(dispatcher: &mut Dispatcher<R>, event: &Event) -> Result<(),
 {
     match event {
         Event::Take {
-            processor,
+            proc,
             number,
             entry,
         } => {
             // an entry is within its limits
             let _floor = entry.floor();
-            offer(dispatcher, *processor, *number, *entry)
+            offer(dispatcher, *proc, *number, *entry)
         }
         Event::Absorb(other) => {
             // a replica holds entries of its own logs
@@ -80,7 +80,7 @@ fn happen<R: Ready>(dispatcher: &mut Dispatcher<R>, event: &Event) -> Result<(),
         }
         Event::Plan => match dispatcher.plan_next() {
             Err(PlanFault::Memory) => Err(AllocError),
-            Err(PlanFault::Torn(_)) => Ok(()),
+            Err(PlanFault::Torn { .. }) => Ok(()),
             Err(PlanFault::Spent) => Ok(()),
             Ok(_) => Ok(()),
         },

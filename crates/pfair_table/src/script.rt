@@ -53,13 +53,13 @@ impl Script {
     }
 
     /// The log of a processor, which is one of the run's: its entry n is at place n - 1.
-    pub fn log(&self, processor: u8) -> &[Entry]
-        requires { processor < self.now.settings.processors }
-        ensures value { slice_get self.now.logs processor ≡ Some result.now }
+    pub fn log(&self, proc: u8) -> &[Entry]
+        requires { proc < self.now.settings.processors }
+        ensures value { slice_get self.now.logs proc ≡ Some result.now }
         ensures fits { length result.now ≤ capacity_of self.now.logs }
         ensures run { IsLoggedRun self.now }
     {
-        &self.logs[processor as usize]
+        &self.logs[proc as usize]
     }
 
     /// The numbers that a replica of the logs has room for: the length of the longest, at least 1.

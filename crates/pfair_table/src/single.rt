@@ -126,6 +126,6 @@ fn plan_all<R: Ready>(dispatcher: &mut Dispatcher<R>) -> Result<(), PlanFault>
     ensures held { OnOk result (dispatcher.new.held ≡ dispatcher.old.held) }
     ensures whole { OnOk result (IsWholePlan dispatcher.new) }
 {
-    'slots: while let Step::Planned { .. } = dispatcher.plan_next()? {}
+    'slots: while let Step::Planned(_) = dispatcher.plan_next()? {}
     Ok(())
 }

@@ -37,7 +37,7 @@ pub(crate) fn decide_all(
     requires slot { slot ≤ Entry.LAST_SLOT }
     requires order { ForSome members.old.last_slot (λ last. last ≤ slot) }
     requires heard { members.old.heard + length announced.now ≤ Members.MAX_HEARD }
-    requires limits { AllByRecursion (λ a. IsWithinLimits a.announcement) announced.now }
+    requires limits { AllByRecursion (λ a. IsWithinLimits a.2) announced.now }
     ensures decided { IfOk result (λ all. all.items ≡ with_decisions announced.now (boundary_decisions members.old.machine slot members.old.members (announcements announced.now))) }
     ensures members { OnOk result (members.new ≡ record members.old { members = boundary members.old.machine slot members.old.members (announcements announced.now); heard = members.old.heard + length announced.now; last_slot = Some slot }) }
 {
@@ -46,9 +46,9 @@ pub(crate) fn decide_all(
         .iter()
         .zip(decisions.iter())
         .map(|(said, decision)| Decided {
-            processor: said.processor,
-            number: said.number,
-            announcement: said.announcement,
+            proc: said.0,
+            number: said.1,
+            announcement: said.2,
             decision: *decision,
         })
         .collect(alloc)
@@ -86,7 +86,7 @@ pub(crate) fn tell_ready<R: Ready>(
     ensures time { R.now ready.new ≡ R.now ready.old }
 {
     for said in announced {
-        tell_of(ready, members, &said.announcement.name())?;
+        tell_of(ready, members, &said.2.name())?;
     }
     Ok(())
 }
@@ -153,7 +153,7 @@ pub(crate) fn plan_slot<R: Ready>(
     requires slot { slot < Entry.LAST_SLOT }
     requires steady { IsSteady slot members.old (R.now ready.old) (R.held ready.old) }
     requires heard { members.old.heard + length announced.now ≤ Members.MAX_HEARD }
-    requires limits { AllByRecursion (λ a. IsWithinLimits a.announcement) announced.now }
+    requires limits { AllByRecursion (λ a. IsWithinLimits a.2) announced.now }
     ensures decided { IfOk result (λ p. p.decided.items ≡ with_decisions announced.now (boundary_decisions members.old.machine slot members.old.members (announcements announced.now))) }
     ensures table { IfOk result (λ p. let world = boundary members.old.machine slot members.old.members (announcements announced.now) in p.table.items ≡ map (pick world) (first_by_rank processors (eligible slot world))) }
     ensures members { IfOk result (λ p. members.new.members ≡ all_ran p.table.items (boundary members.old.machine slot members.old.members (announcements announced.now))) }

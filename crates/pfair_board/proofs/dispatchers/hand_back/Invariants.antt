@@ -1,7 +1,7 @@
 use Rattle.std.proofs.Common.{◌≡◌, ◌+◌, ℕ, slice_get, Some, vec_len}
 use Rattle.std.specs.Vec.Iter.{into_iter_items, into_iter_len}
 use Rattle.pfair_board.specs.declared.worked.Worked.{Worked}
-use Rattle.pfair_board.specs.declared.run.Run.{Run}
+use Rattle.pfair_table.specs.declared.planned.Run.{Run}
 use Rattle.pfair_desk.specs.Desks.{DeskView}
 use Rattle.pfair_board.specs.Finish.{IsGood, IsFullDesk, IsFullRun, IsPlacedRun}
 use Rattle.pfair_board.proofs.dispatchers.hand_back.Given as goal

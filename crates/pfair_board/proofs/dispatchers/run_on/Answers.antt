@@ -14,7 +14,7 @@ returns-in-Some-clause-fault g c =
     let first : IsFirstFault works whole script.settings.slots (Some c.in-Some.fault)
     = subst (λ ws. IsFirstFault ws whole script.settings.slots (Some c.in-Some.fault)) c.as_slice.ensures.value
     (subst (IsFirstFault c.as_slice.result.now whole script.settings.slots) c.in-Some.is c.in_ok-fault.ensures) in
-    run_fault _ script _ _ works whole script.settings.slots c.in-Some.fault c.in_ok-works.ensures refl refl first
+    run_fault _ script _ works c.in-Some.fault c.in_ok-works.ensures first
 
 pub returns-in-None-clause-good : goal.returns-in-None-clause-good
 returns-in-None-clause-good g c = λ k w at.

@@ -5,7 +5,7 @@ use Rattle.pfair_board.proofs.worker.heed.Goals as goal
 
 pub returns-in-Ok-clause-behind : goal.returns-in-Ok-clause-behind
 returns-in-Ok-clause-behind g c =
-    behind_taken c.args.dispatcher.now c.take.new.self c.look.new.self c.args.hint.processor c.args.hint.number c.in-Ok-Some.entry
+    behind_taken c.args.dispatcher.now c.take.new.self c.look.new.self c.args.hint.proc c.args.hint.number c.in-Ok-Some.entry
     (behind_grown c.args.dispatcher.now c.args.desk.now c.look.new.self c.requires.behind c.look.ensures.kept)
     (c.look.ensures.held_now c.in-Ok-Some.entry (search rules))
     (ap (λ (d : Dispatch). d.spent) c.take.ensures.rest) (c.in-Ok.ensures.offered (λ e. cc e))

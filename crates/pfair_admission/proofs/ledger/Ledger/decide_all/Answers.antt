@@ -18,7 +18,7 @@ step : (c : After-branch-push) → SoFar c.args.self.now c.args.slot (c.loop-sai
 step c =
     let within : c.loop-said.said-index < length c.args.announced.now = omega (arith, c.loop-said.auto.said-index-end) in
     let inside : c.loop-said.said-index < length (announcements c.args.announced.now) = omega (arith, length_announcements c.args.announced.now) in
-    one_more c.args.self.now c.args.slot c.loop-said.said-index (announcements c.args.announced.now) c.loop-said.self c.decide.new.self c.loop-said.all.items c.said-item.result.announcement c.in_ok-decide.field-0
+    one_more c.args.self.now c.args.slot c.loop-said.said-index (announcements c.args.announced.now) c.loop-said.self c.decide.new.self c.loop-said.all.items c.said-item.result.2 c.in_ok-decide.field-0
     c.loop-said.invariant c.requires.slot (limits_item c.args.announced.now c.loop-said.said-index c.said-item.result c.requires.limits within c.said-item.is) inside
     (said_item c.args.announced.now c.loop-said.said-index c.said-item.result within c.said-item.is) c.in_ok-decide.ensures.decision c.in_ok-decide.ensures.members
 

@@ -1,30 +1,46 @@
-use Rattle.std.proofs.Common.{◌<◌, ◌++◌, sym, ap, ◌∙◌, arith, length, Some}
+use Rattle.std.proofs.Common.{◌+◌, ◌<◌, ◌++◌, refl, sym, ap, ◌∙◌, arith, length, append_assoc, Some}
 use Rattle.pfair_replica.specs.Agenda.{said_at}
 use Rattle.pfair_replica.specs.HeldRows.{replica_of}
-use Rattle.pfair_replica.specs.Replica.{Replica, sound_beginning, said_behind}
+use Rattle.pfair_replica.specs.Replica.{Replica, sound_beginning, said_behind, said_by}
 use Rattle.pfair_replica.proofs.Merging.{on_err_here}
 use Rattle.pfair_replica.proofs.SoundEntries.{entry_there, entry_is}
-use Rattle.pfair_replica.proofs.SaidBehind.{noted_next, some_behind}
+use Rattle.pfair_replica.proofs.SaidBehind.{all_noted, noted_next, some_behind}
 use Rattle.pfair_replica.proofs.replica.Replica.note_said.Goals as goal
 use Rattle.pfair_replica.proofs.replica.Replica.note_said.Goals.{in_default-via-in-Some+in_default, in_default-via-in_default}
 
 pub unreachable-requires : goal.unreachable-requires
 unreachable-requires c =
     let x : Replica = replica_of c.args.self.now in
-    let room : c.loop-place.place < length (sound_beginning x c.args.processor) = omega arith in
-    let held = (entry_there x c.args.processor c.loop-place.place room).2 in
+    let room : c.loop-place.place < length (sound_beginning x c.args.proc) = omega arith in
+    let held = (entry_there x c.args.proc c.loop-place.place room).2 in
     let got = c.get.ensures.value in
     elim c.in_default.branch [ in_default-via-in-Some+in_default w ↦ (let is = w.in_default.is in cc) | in_default-via-in_default w ↦ (let is = w.in_default.is in cc) ]
 
 pub loop-place-preserved : goal.loop-place-preserved
 loop-place-preserved c = λ t.
     (let x : Replica = replica_of c.args.self.now in
-    let is = entry_is x c.args.processor c.loop-place.place c.in-Some-One.entry (omega arith) (sym c.get.ensures.value ∙ c.in-Some-One.is ∙ ap Some c.in-Some-One.field-0-is) in
-    noted_next x c.args.processor c.loop-place.place t c.in-Some-One.entry (said_at c.args.agenda.now t ++ said_behind x t c.args.processor c.args.from) (said_at c.loop-place.agenda t) (said_at c.note_said_by.new.agenda t) is
-    (c.in_ok-note_said_by-in-Some-One.ensures.heard t) (c.loop-place.invariant t))
+    let is = entry_is x c.args.proc c.loop-place.place c.in-Some-One.entry (omega arith) (sym c.get.ensures.value ∙ c.in-Some-One.is ∙ ap Some c.in-Some-One.field-0-is) in
+    let so_far = c.loop-place.invariant t in
+    let next = said_by t c.args.proc (c.loop-place.place + 1) c.in-Some-One.entry.said in
+    (so_far.0 ++ next,
+    c.in_ok-note_said_by-in-Some-One.ensures.heard t ∙ ap (λ xs. xs ++ next) so_far.1 ∙ append_assoc (said_at c.args.agenda.now t) so_far.0 next,
+    noted_next x c.args.proc c.loop-place.place t c.in-Some-One.entry (said_behind x t c.args.proc c.args.from) so_far.0 (so_far.0 ++ next) is refl so_far.2))
+
+pub returns-clause-heard : goal.returns-clause-heard
+returns-clause-heard c = λ t.
+    (let x : Replica = replica_of c.args.self.now in
+    let so_far = c.loop-place.invariant t in
+    so_far.1 ∙ ap (λ xs. said_at c.args.agenda.now t ++ xs) (all_noted x c.args.proc c.loop-place.place t so_far.0 (said_behind x t c.args.proc c.args.from) (omega arith) so_far.2))
 
 pub returns-in_err-note_said_by-in-Some-One-clause-wanted : goal.returns-in_err-note_said_by-in-Some-One-clause-wanted
 returns-in_err-note_said_by-in-Some-One-clause-wanted c =
     let x : Replica = replica_of c.args.self.now in
-    let is = entry_is x c.args.processor c.loop-place.place c.in-Some-One.entry (omega arith) (sym c.get.ensures.value ∙ c.in-Some-One.is ∙ ap Some c.in-Some-One.field-0-is) in
-    on_err_here c.from_residual.result (some_behind x c.args.processor c.args.from c.loop-place.place c.in-Some-One.entry (omega arith) is c.in_err-note_said_by-in-Some-One.ensures.wanted)
+    let is = entry_is x c.args.proc c.loop-place.place c.in-Some-One.entry (omega arith) (sym c.get.ensures.value ∙ c.in-Some-One.is ∙ ap Some c.in-Some-One.field-0-is) in
+    on_err_here c.from_residual.result (some_behind x c.args.proc c.args.from c.loop-place.place c.in-Some-One.entry (omega arith) is c.in_err-note_said_by-in-Some-One.ensures.wanted)
+
+pub returns-in_err-note_said_by-in-Some-One-clause-part : goal.returns-in_err-note_said_by-in-Some-One-clause-part
+returns-in_err-note_said_by-in-Some-One-clause-part c =
+    let x : Replica = replica_of c.args.self.now in
+    on_err_here c.from_residual.result (λ t.
+    let so_far = c.loop-place.invariant t in
+    (so_far.0, said_behind x t c.args.proc c.loop-place.place, c.in_err-note_said_by-in-Some-One.ensures.unchanged t ∙ so_far.1, so_far.2))

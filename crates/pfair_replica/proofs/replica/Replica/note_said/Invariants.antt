@@ -1,8 +1,9 @@
-use Rattle.std.proofs.Common.{ℕ, ◌≡◌, ◌++◌}
+use Rattle.std.proofs.Common.{ℕ, ◌≡◌, ◌++◌, List}
+use Rattle.pfair_entry.specs.Said.{Said}
 use Rattle.pfair_replica.specs.Agenda.{said_at}
 use Rattle.pfair_replica.specs.HeldRows.{replica_of}
 use Rattle.pfair_replica.specs.Replica.{said_behind}
 use Rattle.pfair_replica.proofs.replica.Replica.note_said.Given as goal
 
 abbrev pub invariant-loop-place : goal.invariant-loop-place
-invariant-loop-place l = (t : ℕ) → said_at l.agenda t ++ said_behind (replica_of l.self) t l.processor l.place ≡ said_at l.initial.agenda t ++ said_behind (replica_of l.self) t l.processor l.from
+invariant-loop-place l = (t : ℕ) → (came : List Said) × (said_at l.agenda t ≡ said_at l.initial.agenda t ++ came) × (came ++ said_behind (replica_of l.self) t l.proc l.place ≡ said_behind (replica_of l.self) t l.proc l.from)

@@ -1,5 +1,5 @@
 use Rattle.std.proofs.Common.{List, ◌≤◌, ◌+◌, ◌∙◌, sym, subst, arith, suc, length}
-use Rattle.pfair_entry.specs.declared.said.Said.{Said}
+use Rattle.pfair_entry.specs.Said.{Said}
 use Rattle.pfair_replica.specs.HeldRows.{replica_of}
 use Rattle.pfair_replica.specs.Replica.{Replica}
 use Rattle.pfair_table.specs.Refinement.{heard_before}

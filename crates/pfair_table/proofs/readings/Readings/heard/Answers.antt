@@ -1,6 +1,6 @@
 use Rattle.std.proofs.Common.{◌≡◌, subst, List}
 use Rattle.std.specs.Prelude.{IfOk}
-use Rattle.pfair_entry.specs.declared.said.Said.{Said}
+use Rattle.pfair_entry.specs.Said.{Said}
 use Rattle.pfair_replica.specs.HeldRows.{replica_of}
 use Rattle.pfair_table.proofs.ReadOn.{whole_said}
 use Rattle.pfair_table.proofs.readings.Readings.heard.Goals as goal

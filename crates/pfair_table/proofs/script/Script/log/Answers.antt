@@ -9,6 +9,6 @@ returns-clause-fits c =
     let logs = c.self.inside.logs.items in
     let count : length (lists_of logs) ≡ c.self.inside.settings.processors = c.self.invariant.one_each in
     let same : c.self.inside.settings.processors ≡ c.args.self.now.settings.processors = ap (λ (r : LoggedRun). r.settings.processors) c.self.view_is in
-    let inside : c.args.processor < length logs = omega (arith, c.requires, count, same, length-map logs (λ log. log.items)) in
-    let at : slice_get (lists_of logs) c.args.processor ≡ Some c.deref.result.now = log_at logs c.args.processor c.index.result.now inside c.index.ensures ∙ ap Some (sym c.deref.ensures.value) in
-    rw (← c.self.view_is) (log_fits (lists_of logs) c.args.processor c.deref.result.now at)
+    let inside : c.args.proc < length logs = omega (arith, c.requires, count, same, length-map logs (λ log. log.items)) in
+    let at : slice_get (lists_of logs) c.args.proc ≡ Some c.deref.result.now = log_at logs c.args.proc c.index.result.now inside c.index.ensures ∙ ap Some (sym c.deref.ensures.value) in
+    rw (← c.self.view_is) (log_fits (lists_of logs) c.args.proc c.deref.result.now at)

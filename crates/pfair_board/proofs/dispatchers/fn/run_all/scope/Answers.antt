@@ -33,7 +33,7 @@ loop-workplace-preserved g c =
           let count : length c.loop-workplace.threads.items ≡ started = search rules in
           let first : slice_get (into_iter_items c.loop-workplace.workplace-iterator) 0 ≡ Some c.in-Some.workplace = grind (arith, common_steps) in
           let row = c.in_ok-started.ensures.ok in
-          let processor : c.in_ok-started.started.promise.processor ≡ length c.loop-workplace.threads.items = omega (arith, ap (λ r. r.processor) row, c.processor.ensures.value, (was.left 0 c.in-Some.workplace first).processor) in
+          let processor : c.in_ok-started.started.promise.processor ≡ length c.loop-workplace.threads.items = omega (arith, ap (λ r. r.processor) row, c.proc.ensures.value, (was.left 0 c.in-Some.workplace first).processor) in
           let new : P (length c.loop-workplace.threads.items) c.in_ok-started.started = (ap (λ r. r.board.value) row ∙ c.of.ensures, processor, ap (λ r. r.settings) row) in
           let at' : slice_get (c.loop-workplace.threads.items ++ c.in_ok-started.started ∷ []) k ≡ Some h = rw (← c.in_ok-push.ensures.items) at in
           each_snoc P c.loop-workplace.threads.items c.in_ok-started.started was.promised new k h at');

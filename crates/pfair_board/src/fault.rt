@@ -1,19 +1,9 @@
-//! What a worker answers.
+//! Why a run gave no tables.
 ghost use Rattle.std.specs.Prelude.{◌≡◌};
 ghost use Rattle.pfair_board.specs.RunFaults.{run_fault_number};
 
-use pfair_table::Pick;
 use std::alloc::AllocError;
 use thiserror::Error;
-
-/// What a worker worked out.
-#[derive(Debug, Drop)]
-pub struct Run {
-    /// The table of each slot that was planned, from slot 0 on: its quanta in the PD2 order.
-    pub tables: Vec<Vec<Pick>>,
-    /// The places of each of these slots: for each row of its table the processor that runs it.
-    pub places: Vec<Vec<u8>>,
-}
 
 /// Why a run gave no tables.
 #[derive(Clone, Copy, Debug, PartialEq, Eq, Error)]
@@ -51,7 +41,7 @@ impl RunFault {
 }
 
 impl From<AllocError> for RunFault {
-    ghost use Rattle.pfair_board.specs.declared.run.RunFault.TheVariants.{Memory};
+    ghost use Rattle.pfair_board.specs.declared.fault.RunFault.TheVariants.{Memory};
 
     ghost from_gives = { λ _ r. r ≡ Memory };
 
