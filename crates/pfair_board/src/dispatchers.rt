@@ -10,8 +10,8 @@ ghost use Rattle.pfair_board.specs.FirstFault.{SomeEndsIn, Holds, AllHold, IsFir
 ghost use Rattle.pfair_board.specs.RunFaults.{IsRunFaultOf};
 ghost use Rattle.pfair_board.specs.declared.worked.Worked.{Worked};
 
-use crate::gate::Gate;
 use crate::fault::RunFault;
+use crate::gate::Gate;
 use crate::worked::Worked;
 use crate::worker::run_worker;
 use crate::workplace::Workplace;

@@ -451,10 +451,7 @@ fn a_worker_tells_the_others_of_its_log(rt: HostRuntime) -> Result<(), Fail> {
 // Sends a hint of each entry of the sample's second processor. Answers whether all went well.
 fn tell_of_all<P: Wait>(rt: &P, senders: &Vec<Sender<Hint, Global>>) -> bool {
     for number in 1..6 {
-        let hint = Hint {
-            proc: 1,
-            number,
-        };
+        let hint = Hint { proc: 1, number };
         for sender in senders {
             if sender.send(rt, hint).is_err() {
                 return false;

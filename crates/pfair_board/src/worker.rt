@@ -11,9 +11,9 @@ ghost use Rattle.pfair_board.specs.Logs.{HoldsLog, IsBehind};
 ghost use Rattle.pfair_board.specs.RunFaults.{IsWorkerFault, IsPlanningFault};
 ghost use Rattle.pfair_board.specs.declared.fault.RunFault.TheVariants.{Memory};
 
+use crate::fault::RunFault;
 use crate::gate::Gate;
 use crate::hints::{Hint, Hints};
-use crate::fault::RunFault;
 use crossbeam_channel::{Receiver, Sender};
 use pfair_desk::{Board, Desk, PublishFault};
 use pfair_entry::Entry;

@@ -108,12 +108,7 @@ impl Desk {
     /// # Errors
     /// The first of these that applies, and then the desk is unchanged: `NoSuchProcessor`,
     /// `NumberOutOfRange`, and `Memory`, which comes only where the desk held nothing of that key.
-    pub fn look(
-        &mut self,
-        board: &Board,
-        proc: u8,
-        number: u32,
-    ) -> Result<Option<Entry>, LookFault>
+    pub fn look(&mut self, board: &Board, proc: u8, number: u32) -> Result<Option<Entry>, LookFault>
         requires own { IsDeskOf self.old board.now }
         ensures some { (e : Logged) → result ≡ Ok (Some e) → state_of self.new ≡ learned (state_of self.old) proc number e }
         ensures none { result ≡ Ok None → (held self.old.replica proc number ≡ None) × (self.new ≡ self.old) }

@@ -21,7 +21,13 @@ pub fn read_version(table: &Table) -> Result<u64, FileFault>
 pub fn read_settings(table: &Table) -> Result<Settings, FileFault>
     ensures { result ≡ settings_of (table_view table.now) }
 {
-    let processors = number(table, 0, Field::Processors, 1, Settings::MAX_PROCESSORS as u64)?;
+    let processors = number(
+        table,
+        0,
+        Field::Processors,
+        1,
+        Settings::MAX_PROCESSORS as u64,
+    )?;
     let frame = number(table, 0, Field::Frame, 1, Settings::MAX_FRAME)?;
     let slots = number(table, 0, Field::Slots, 1, Settings::MAX_SLOTS)?;
     match Settings::new(processors as u8, frame, slots) {

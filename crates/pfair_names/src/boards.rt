@@ -2,9 +2,7 @@
 ghost use Rattle.std.specs.Prelude.{◌≡◌, ◌<◌, IfOk};
 ghost use Rattle.pfair_desk.specs.Desks.{IsDeskOf};
 
-use pfair_board::{
-    Board, Desk, Finished, Hints, OpenGate, Run, run_dispatchers, run_worker,
-};
+use pfair_board::{Board, Desk, Finished, Hints, OpenGate, Run, run_dispatchers, run_worker};
 use pfair_entry::Entry;
 use pfair_ready::HeapReady;
 use pfair_table::{Script, Settings};
@@ -77,8 +75,9 @@ fn works<P: Wait + Abort>(
     let settings = Settings::new(1, 2, 3).expect(rt, "settings");
     let log = [Entry::new(3, None)?];
     let gate = OpenGate;
-    let Run { tables, places } =
-        run_worker::<P, HeapReady, OpenGate>(rt, alloc, settings, desk, board, &log, hints, &gate)?;
+    let Run { tables, places } = run_worker::<P, HeapReady, OpenGate>(
+        rt, alloc, settings, desk, board, &log, hints, &gate,
+    )?;
     assert_eq!(rt; (tables.len(), places.len()), (3, 3));
     Ok(())
 }
@@ -94,8 +93,12 @@ fn a_worker(rt: HostRuntime) -> Result<(), Fail> {
 #[test]
 fn dispatcher_threads(rt: HostRuntime) -> Result<(), Fail> {
     let script = quiet(&rt, rt.alloc())?;
-    let Finished { board, desks, runs } =
-        run_dispatchers::<_, HeapReady, _>(&rt, rt.alloc(), &script, &OpenGate)?;
+    let Finished { board, desks, runs } = run_dispatchers::<_, HeapReady, _>(
+        &rt,
+        rt.alloc(),
+        &script,
+        &OpenGate,
+    )?;
     assert_eq!(&rt; (board.capacity(), desks.len(), runs.len()), (1, 1, 1));
     Ok(())
 }

@@ -92,5 +92,9 @@ fn holding_one(rt: &impl Abort, alloc: Global) -> Result<Replica, Fail> {
 fn replicas(rt: HostRuntime) -> Result<(), Fail> {
     let alloc = rt.alloc();
     finds_faults(&rt, &mut Replica::new(alloc, 1, 4)?)?;
-    reads_and_merges(&rt, &mut Replica::new(alloc, 1, 4)?, &holding_one(&rt, alloc)?)
+    reads_and_merges(
+        &rt,
+        &mut Replica::new(alloc, 1, 4)?,
+        &holding_one(&rt, alloc)?,
+    )
 }

@@ -34,7 +34,10 @@ fn arrives_and_runs(rt: &impl Abort, members: &mut Members, name: TaskName) -> R
 // What a fresh member of weight 1/2 answers.
 fn reads(rt: &impl Abort, member: &Incarnation) {
     assert_eq!(rt; (member.weight().period(), member.joined()), (2, 0));
-    assert_eq!(rt; (member.next(), member.theta(1), member.eligible(1)), (1, 0, 0));
+    assert_eq!(rt;
+        (member.next(), member.theta(1), member.eligible(1)),
+        (1, 0, 0)
+    );
     assert!(rt; member.freed_at().is_none() && !member.early());
 }
 
@@ -70,7 +73,10 @@ fn scripts(rt: HostRuntime) -> Result<(), Fail> {
     let mut logs = Vec::new(rt.alloc());
     logs.push(log)?;
     let settings = Settings::new(1, 2, 3).expect(&rt, "settings");
-    assert_eq!(&rt; (settings.processors(), settings.frame(), settings.slots()), (1, 2, 3));
+    assert_eq!(&rt;
+        (settings.processors(), settings.frame(), settings.slots()),
+        (1, 2, 3)
+    );
     let script = Script::new(settings, logs).ok().expect(&rt, "a script");
     assert!(&rt; script.settings() == settings);
     assert!(&rt; script.settings().processors() == 1);

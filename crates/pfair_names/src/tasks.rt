@@ -53,8 +53,12 @@ fn keys(rt: HostRuntime) -> Result<(), Fail> {
 fn schedules_of_one_task(rt: HostRuntime) -> Result<(), Fail> {
     let weight = Weight::new(1, 2)?;
     let picks = [0, 2];
-    assert!(&rt; in_windows(weight, picks.as_slice(), 4)? && lag_within(weight, picks.as_slice(), 4)?);
-    assert!(&rt; meets_deadlines(weight, picks.as_slice(), 4)? && lag_below(weight, picks.as_slice(), 4)?);
+    assert!(&rt;
+        in_windows(weight, picks.as_slice(), 4)? && lag_within(weight, picks.as_slice(), 4)?
+    );
+    assert!(&rt;
+        meets_deadlines(weight, picks.as_slice(), 4)? && lag_below(weight, picks.as_slice(), 4)?
+    );
     assert!(&rt; first_miss(weight, picks.as_slice(), 4)?.is_none());
     assert!(&rt; first_late(weight, picks.as_slice(), 4)?.is_none());
     Ok(())

@@ -191,14 +191,8 @@ fn faults_of(replica: &mut Replica) -> Look {
     let Ok(faults) = replica.faults() else {
         return Ok(replica.mark(0) == 5);
     };
-    let is_torn = faults
-        .torn
-        .iter()
-        .all(|key| *key == (1, 3));
-    let is_fallen = faults
-        .fallen
-        .iter()
-        .all(|key| *key == (0, 2));
+    let is_torn = faults.torn.iter().all(|key| *key == (1, 3));
+    let is_fallen = faults.fallen.iter().all(|key| *key == (0, 2));
     Ok(is_torn && faults.torn.len() == 1 && is_fallen && faults.fallen.len() == 1)
 }
 

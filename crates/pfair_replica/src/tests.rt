@@ -219,17 +219,11 @@ fn fills_other(rt: &impl Abort, y: &mut Replica) -> Result<(), Fail> {
 // What is held of the two, and what is wrong with it.
 fn assert_both(rt: &impl Abort, both: &Replica, x: &Replica, y: &Replica) {
     assert!(rt; x.le(both) && both.le(x) && y.le(both));
-    assert_eq!(rt;
-        (both.first_torn(), both.mark(40)),
-        (Some((40, 2)), 5000)
-    );
+    assert_eq!(rt; (both.first_torn(), both.mark(40)), (Some((40, 2)), 5000));
     assert_eq!(rt; (both.mark(63), both.frontier()), (5001, 5000));
     let faults = both.faults().expect(rt, "memory");
     assert_eq!(rt; faults.torn.as_slice(), [(40, 2)].as_slice());
-    assert_eq!(rt;
-        faults.fallen.as_slice(),
-        [(0, 3), (63, 3)].as_slice()
-    );
+    assert_eq!(rt; faults.fallen.as_slice(), [(0, 3), (63, 3)].as_slice());
 }
 
 fn fill_and_merge(rt: &impl Abort, x: &mut Replica, y: &mut Replica) -> Result<(), Fail> {

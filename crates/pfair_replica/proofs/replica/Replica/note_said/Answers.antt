@@ -21,10 +21,11 @@ loop-place-preserved c = λ t.
     (let x : Replica = replica_of c.args.self.now in
     let is = entry_is x c.args.proc c.loop-place.place c.in-Some-One.entry (omega arith) (sym c.get.ensures.value ∙ c.in-Some-One.is ∙ ap Some c.in-Some-One.field-0-is) in
     let so_far = c.loop-place.invariant t in
-    let next = said_by t c.args.proc (c.loop-place.place + 1) c.in-Some-One.entry.said in
-    (so_far.0 ++ next,
-    c.in_ok-note_said_by-in-Some-One.ensures.heard t ∙ ap (λ xs. xs ++ next) so_far.1 ∙ append_assoc (said_at c.args.agenda.now t) so_far.0 next,
-    noted_next x c.args.proc c.loop-place.place t c.in-Some-One.entry (said_behind x t c.args.proc c.args.from) so_far.0 (so_far.0 ++ next) is refl so_far.2))
+    let next = said_by t c.args.proc (c.loop-place.place + 1) c.in-Some-One.entry.said in (
+      so_far.0 ++ next,
+      c.in_ok-note_said_by-in-Some-One.ensures.heard t ∙ ap (λ xs. xs ++ next) so_far.1 ∙ append_assoc (said_at c.args.agenda.now t) so_far.0 next,
+      noted_next x c.args.proc c.loop-place.place t c.in-Some-One.entry (said_behind x t c.args.proc c.args.from) so_far.0 (so_far.0 ++ next) is refl so_far.2,
+    ))
 
 pub returns-clause-heard : goal.returns-clause-heard
 returns-clause-heard c = λ t.
