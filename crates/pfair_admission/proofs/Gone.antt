@@ -2,7 +2,6 @@
 use Rattle.std.proofs.Common.{◌≡◌, ℕ, ◌+◌, ◌<◌, ◌≤◌, Bool, true, false, cond, List, [], ◌∷◌, ◌++◌, map, Option, Result, Ok, Err, IfOk, OnOk, OnErr, Some, None, refl, sym, ap, subst, ◌∙◌, arith}
 use Rattle.std.specs.Prelude.{not, nat_le, if◌then◌else◌}
 use Rattle.std.specs.List.{AllByRecursion, IsDistinct}
-use Rattle.std.specs.Map.{values_of, remove_entry}
 use Rattle.std.specs.Option.{option_map}
 use Rattle.std.specs.Cmp.Lexicographic.{bytes_decides}
 use Rattle.std.proofs.lemmas.Bool.Decides.{nat_tests}
@@ -18,12 +17,10 @@ use Rattle.pfair_admission.specs.declared.decision.Decision.{Decision}
 use Rattle.pfair_admission.specs.declared.decision.Decision.TheVariants.{Admitted, Departing, Delayed, Refused}
 use Rattle.pfair_admission.specs.Member.{Member}
 use Rattle.pfair_admission.specs.Admission.{Machine, is_named, member_named, claimed, departure, late_release, change, newcomer, with_freeing, with_delay, effect, is_freed, present, decided}
-use Rattle.pfair_admission.specs.Registry.{EachUnderItsName}
 use Rattle.pfair_admission.specs.Removal.{units_named, NoneFreedBefore}
 use Rattle.pfair_admission.specs.Ledger.{counted, standing}
 use Rattle.pfair_admission.specs.Standing.{Standing}
 use Rattle.pfair_admission.proofs.Deciding.{claimed_arrived, claimed_late}
-use Rattle.pfair_admission.proofs.Registers.{Entries}
 use Rattle.pfair_admission.proofs.MemberLists.{present_all, none_freed_present, none_freed_change, claimed_change}
 
 -- who is gone is gone
@@ -124,34 +121,6 @@ first_present first t (m ∷ ms) h =
       | true ↦ first_present first t ms h.1
       | false ↦ (h.0, first_present first t ms h.1)
     ]
-
--- the named one is gone
-pub first_removed : (first : Option ℕ) (name : List ℕ) (es : Entries) → NoneFreedBefore first (values_of es) → NoneFreedBefore first (values_of (remove_entry (name_eq name) es))
-first_removed first name [] h = tt
-first_removed first name (e ∷ es) h =
-    elim (name_eq name e.0) as (λ b. NoneFreedBefore first (values_of (cond b es (e ∷ remove_entry (name_eq name) es)))) [
-      | true ↦ h.1
-      | false ↦ (h.0, first_removed first name es h.1)
-    ]
-
-pub present_removed : (t : ℕ) (name : List ℕ) (es : Entries) → EachUnderItsName es → member_named (present t (values_of es)) name ≡ None → present t (values_of (remove_entry (name_eq name) es)) ≡ present t (values_of es)
-present_removed t name [] h gone = refl
-present_removed t name (e ∷ es) h gone =
-    let rest : Entries = remove_entry (name_eq name) es in
-    let kept : Bool → List Member → List Member = λ g l. cond (not g) (e.1 ∷ l) l in
-    ap (λ b. present t (values_of (cond b es (e ∷ rest)))) (ap (name_eq name) (sym h.0))
-    ∙ (elim (is_named name e.1) as (λ b. is_named name e.1 ≡ b → present t (values_of (cond b es (e ∷ rest))) ≡ kept (is_freed t e.1.freed_at) (present t (values_of es))) [
-      | true ↦ λ named.
-          elim (is_freed t e.1.freed_at) as (λ g. member_named (kept g (present t (values_of es))) name ≡ None → present t (values_of es) ≡ kept g (present t (values_of es))) [
-            | true ↦ λ _. refl
-            | false ↦ λ none. absurd (none-some e.1 (sym none ∙ ap (λ b. cond b (Some e.1) (member_named (present t (values_of es)) name)) named))
-          ] gone
-      | false ↦ λ other.
-          elim (is_freed t e.1.freed_at) as (λ g. member_named (kept g (present t (values_of es))) name ≡ None → kept g (present t (values_of rest)) ≡ kept g (present t (values_of es))) [
-            | true ↦ λ none. present_removed t name es h.1 none
-            | false ↦ λ none. ap (λ (l : List Member). e.1 ∷ l) (present_removed t name es h.1 (sym (ap (λ b. cond b (Some e.1) (member_named (present t (values_of es)) name)) other) ∙ none))
-          ] gone
-    ]) refl
 
 -- a newcomer comes after those that are left
 pub present_entered : (t : ℕ) (name : List ℕ) (w : Share) (early : Bool) (others ms : List Member) → present t others ≡ present t ms → present t (others ++ newcomer t name w early ∷ []) ≡ present t ms ++ newcomer t name w early ∷ []

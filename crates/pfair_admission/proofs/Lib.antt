@@ -6,5 +6,6 @@ mod Gone
 mod Keeping
 mod MemberLists
 pub mod NamesKept
-mod Registers
+mod Rows
+mod Seats
 mod Sums

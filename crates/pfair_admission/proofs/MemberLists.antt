@@ -1,12 +1,12 @@
 -- Lists of members: who is freed, and what they claim.
-use Rattle.std.proofs.Common.{◌≡◌, ℕ, zero, suc, ◌+◌, ◌≤◌, ◌<◌, min, get_or, Bool, true, false, cond, List, [], ◌∷◌, ◌++◌, Option, Some, None, refl, sym, ap, subst, ◌∙◌, arith}
-use Rattle.std.specs.Prelude.{not, nat_le, length, take}
+use Rattle.std.proofs.Common.{◌≡◌, ℕ, ◌+◌, ◌≤◌, true, false, cond, List, [], ◌∷◌, ◌++◌, Option, Some, None, refl, sym, ap, subst, ◌∙◌, arith}
+use Rattle.std.specs.Prelude.{not}
 use Rattle.std.proofs.lemmas.List.Sums.{sum_by-cons}
 use Rattle.std.proofs.lemmas.Bool.Decides.{nat_tests}
 use Rattle.pfair_weight.specs.Share.{Share, units_of}
 use Rattle.pfair_admission.specs.Member.{Member}
 use Rattle.pfair_admission.specs.Admission.{is_named, claimed, change, with_freeing, is_freed, present}
-use Rattle.pfair_admission.specs.Removal.{earlier_of, IsNotBefore, NoneFreedBefore, SomeFreedAt, NoneFreed}
+use Rattle.pfair_admission.specs.Removal.{earlier_of, IsNotBefore, NoneFreedBefore, NoneFreed}
 use Rattle.pfair_admission.proofs.Sums.{sum_filter}
 
 -- ---- who is freed
@@ -57,30 +57,6 @@ not_before_left (Some f) (Some x) (Some s) h = omega arith
 not_before_right : (first : Option ℕ) (slot : ℕ) → IsNotBefore (earlier_of first (Some slot)) (Some slot)
 not_before_right None slot = omega arith
 not_before_right (Some f) slot = omega arith
-
-not_before_itself : (first slot : Option ℕ) → IsNotBefore (earlier_of first slot) slot
-not_before_itself first None = elim first [ None ↦ tt | Some x ↦ tt ]
-not_before_itself first (Some s) = not_before_right first s
-
--- with one member more
-pub first_more : (ms : List Member) (k : ℕ) (m : Member) (first : Option ℕ) → k < length ms → get_or ms k m ≡ m → NoneFreedBefore first (take k ms) → NoneFreedBefore (earlier_of first m.freed_at) (take (suc k) ms)
-first_more [] k m first within at h = absurd (omega arith)
-first_more (x ∷ ms) zero m first within at h = (subst (λ (y : Member). IsNotBefore (earlier_of first m.freed_at) y.freed_at) (sym at) (not_before_itself first m.freed_at), tt)
-first_more (x ∷ ms) (suc k) m first within at h = (not_before_left first m.freed_at x.freed_at h.0, first_more ms k m first (omega arith) at h.1)
-
--- the earlier of two freeing slots is one of them
-pub earlier_freed : (ms : List Member) (k : ℕ) (m : Member) (first other result : Option ℕ) → k < length ms → get_or ms k m ≡ m → other ≡ m.freed_at → result ≡ earlier_of first other → SomeFreedAt first ms → SomeFreedAt result ms
-earlier_freed ms k m first other result within at is r h = subst (λ (o : Option ℕ). SomeFreedAt o ms) (sym r) (by first other (sym is) h)
-  where
-    by : (f o : Option ℕ) → m.freed_at ≡ o → SomeFreedAt f ms → SomeFreedAt (earlier_of f o) ms
-    by None None e g = tt
-    by None (Some b) e g = (k, m, within, at, e)
-    by (Some a) None e g = g
-    by (Some a) (Some b) e g = of_two (nat_le a b) refl
-      where
-        of_two : (t : Bool) → nat_le a b ≡ t → SomeFreedAt (Some (min a b)) ms
-        of_two true less = let least : min a b ≡ a = grind (arith, nat_tests) in subst (λ (s : ℕ). SomeFreedAt (Some s) ms) (sym least) g
-        of_two false more = let least : min a b ≡ b = grind (arith, nat_tests) in subst (λ (s : ℕ). SomeFreedAt (Some s) ms) (sym least) (k, m, within, at, e)
 
 -- with one more who departs
 pub first_departs : (first : Option ℕ) (slot : ℕ) (name : List ℕ) (ms : List Member) → NoneFreedBefore first ms → NoneFreedBefore (earlier_of first (Some slot)) (change name (with_freeing slot) ms)

@@ -1,14 +1,9 @@
 -- Members that go, and when the first of them goes.
-use Rattle.std.specs.Prelude.{ℕ, min, false, ◌≡◌, ◌≤◌, ◌<◌, List, length, slice_get, Option, Some, None, IfSome, Any, ⊤}
+use Rattle.std.specs.Prelude.{ℕ, min, false, ◌≡◌, ◌≤◌, List, Option, Some, None, IfSome, Any, ⊤}
 use Rattle.std.specs.List.{AllByRecursion}
 use Rattle.pfair_weight.specs.Share.{units_of}
 use Rattle.pfair_admission.specs.Member.{Member}
 use Rattle.pfair_admission.specs.Admission.{member_named, is_freed, present}
-
--- the member of that name, unless it is freed by slot t, stands at the place
-pub record StandsAt (members : List Member) (t : ℕ) (name : List ℕ) (place : ℕ) : Type 0 where
-  pub within : place < length members
-  pub there : slice_get members place ≡ member_named (present t members) name
 
 -- the units of the named member
 abbrev pub units_named : ℕ → Option Member → ℕ

@@ -36,8 +36,6 @@ pub(crate) struct Ledger {
     first_freeing: Option<u64>,
     // The slot of the boundary that is under way.
     under_way: Option<u64>,
-    // How many departed in the boundary that is under way and count as gone; for the cost alone.
-    gone: usize,
 }
 
 impl Model for Ledger {
@@ -65,7 +63,6 @@ impl Ledger {
             claim: 0,
             first_freeing: None,
             under_way: None,
-            gone: 0,
         }
     }
 
@@ -111,7 +108,6 @@ impl Ledger {
     {
         self.free(slot);
         self.under_way = Some(slot);
-        self.gone = 0;
     }
 
     // Those whose freeing slot has come go.
@@ -216,8 +212,7 @@ impl Ledger {
     {
         let decision = self.arrival(slot, &name, weight);
         if let Decision::Admitted = decision {
-            let gone = self.registry.make_way(slot, &name, self.gone);
-            self.gone = gone;
+            self.registry.make_way(slot, &name);
             self.registry
                 .enter(Incarnation::new(alloc, name, weight, early, slot))?;
             self.claim += claim_of(weight, self.frame);
@@ -247,7 +242,7 @@ impl Ledger {
         requires { self.now.under_way ≡ Some slot }
         ensures { result ≡ is_some (member_named self.now.members name.now) }
     {
-        self.registry.place_of(slot, name).is_some()
+        self.registry.has(slot, name)
     }
 
     fn depart(&mut self, slot: u64, name: &TaskName) -> Decision
@@ -260,7 +255,6 @@ impl Ledger {
             self.first_freeing = earlier(self.first_freeing, Some(freed_at));
             if freed_at <= slot {
                 self.claim -= self.registry.units_of(name, self.frame);
-                self.gone = self.gone.saturating_add(1);
             }
         }
         decision

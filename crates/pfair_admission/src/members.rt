@@ -70,14 +70,11 @@ impl Members {
     /// are decided one by one in their order. There are at most 262,144 announcements over all
     /// calls.
     ///
-    /// It costs three passes over all members where a freeing slot has come since the last
-    /// boundary, two more where members depart and are freed at this very slot, which are held
-    /// until then, and none where neither is so. Then each announcement costs a look-up of its
-    /// name, and
+    /// It costs four passes over all members where a freeing slot has come since the last boundary,
+    /// three where members depart and are freed at this very slot, and none where neither is so.
+    /// Then each announcement costs a look-up of its name, and
     ///
-    /// - an arrival: two more where it is admitted, and a pass over the members behind it where its
-    ///   name is held for one that is freed at this very slot; where there are several such, all go
-    ///   in one pass over all members;
+    /// - an arrival: three more where it is admitted, whoever had the name before;
     /// - a departure: a pass over the accepted delays of the member where it ran, and a second
     ///   look-up where it is freed at its very stamp;
     /// - a late release: a number of steps that grows with the logarithm of the number of later

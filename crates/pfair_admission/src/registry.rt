@@ -1,11 +1,14 @@
 //! The members by name, in the order of their admission.
-ghost use Rattle.std.specs.Prelude.{◌≡◌, ◌≤◌, ◌<◌, ◌+◌, ◌++◌, ◌∷◌, [], ◌^◌, OnOk, OnErr, IfOk, IfSome, None, Some, is_some, not, map, length, slice_get, if◌then◌else◌};
+ghost use Rattle.std.specs.Prelude.{◌≡◌, ◌≤◌, ◌<◌, ◌+◌, ◌++◌, ◌∷◌, [], ◌^◌, ℕ, OnOk, OnErr, IfOk, IfSome, IfNone, None, Some, is_some, not, false, length, slice_get, if◌then◌else◌};
+ghost use Rattle.std.specs.List.{AllByRecursion};
 ghost use Rattle.std.specs.Option.{ForSome, option_copied, option_map};
+ghost use Rattle.indexmap.specs.IndexMap.{index_map_len, spare};
 ghost use Rattle.pfair_weight.specs.Name.{NamesApart};
 ghost use Rattle.pfair_entry.specs.declared.announcement.Announcement.TheVariants.{Arrive, Depart, Late};
 ghost use Rattle.pfair_admission.specs.Member.{last_offset};
 ghost use Rattle.pfair_admission.specs.Admission.{member_named, departure, late_release, effect, present, claimed, running, ran, quantum_of, is_freed};
-ghost use Rattle.pfair_admission.specs.Removal.{MakesWay, earlier_of, units_named, NoneFreedBefore, SomeFreedAt, StandsAt};
+ghost use Rattle.pfair_admission.specs.Registry.{AreSeats, AreFound, IsSeat, IsTaken, is_taken, place_named, row_freed_at, row_units, seated};
+ghost use Rattle.pfair_admission.specs.Removal.{MakesWay, earlier_of, units_named, NoneFreedBefore, SomeFreedAt};
 ghost use Rattle.pfair_weight.specs.Share.{units_of};
 
 use crate::decision::Decision;
@@ -17,10 +20,21 @@ use pfair_weight::{MAX_INDEX, MAX_OFFSET, TaskName, Weight};
 use std::alloc::{AllocError, Global};
 use std::marker::Model;
 
-/// The members by name, in the order of their admission.
+/// One that was admitted. It is vacated where it is gone and its name was given away, until the rows
+/// are swept.
+#[derive(Drop)]
+pub(crate) struct Row {
+    pub member: Incarnation,
+    pub is_vacated: bool,
+}
+
+/// The members by name, in the order of their admission. Nobody is moved where a name is given away:
+/// its row is vacated, and all such go in one pass when the rows are swept.
 #[derive(Drop)]
 pub(crate) struct Registry {
-    members: IndexMap<TaskName, Incarnation>,
+    rows: Vec<Row>,
+    // Of each name the place of its row.
+    places: IndexMap<TaskName, usize>,
 }
 
 impl Model for Registry {
@@ -41,29 +55,32 @@ impl Registry {
         ensures { result ≡ [] }
     {
         Registry {
-            members: IndexMap::new(alloc),
+            rows: Vec::new(alloc),
+            places: IndexMap::new(alloc),
         }
     }
 
     pub(crate) fn len(&self) -> usize
         ensures { result ≡ length self.now }
     {
-        self.members.len()
+        self.places.len()
     }
 
     /// The member of that name.
     pub(crate) fn get(&self, name: &TaskName) -> Option<&Incarnation>
         ensures { option_copied result ≡ member_named self.now name.now }
     {
-        self.members.get(name)
+        let place = *self.places.get(name)?;
+        Some(&self.rows[place].member)
     }
 
-    /// The member at a place, with its name.
+    /// The member at a place, with its name: at once, unless rows are vacated.
     pub(crate) fn at(&self, place: usize) -> Option<(&TaskName, &Incarnation)>
         ensures name { option_map (λ m. m.0.now) result ≡ option_map (λ m. m.name) (slice_get self.now place) }
         ensures member { option_map (λ m. m.1.now) result ≡ slice_get self.now place }
     {
-        self.members.get_index(place)
+        let row = seat_at(self.rows.as_slice(), self.places.len(), place)?;
+        Some((row.member.name(), &row.member))
     }
 
     /// A member more, after all others.
@@ -72,40 +89,34 @@ impl Registry {
         ensures ok { OnOk result (self.new ≡ self.old ++ newcomer ∷ []) }
         ensures err { OnErr result (self.new ≡ self.old) }
     {
-        let name = *newcomer.name();
-        self.members.insert(name, newcomer)?;
-        Ok(())
-    }
-
-    /// The place of the member of that name, unless it is freed by `slot`.
-    pub(crate) fn place_of(&self, slot: u64, name: &TaskName) -> Option<usize>
-        ensures found { is_some result ≡ is_some (member_named (present slot self.now) name.now) }
-        ensures some { IfSome result (StandsAt self.now slot name.now) }
-    {
-        let place = self.members.get_index_of(name)?;
-        if has_come(self.members[place].freed_at(), slot) {
-            return None;
+        let (name, place) = (*newcomer.name(), self.rows.len());
+        self.places.reserve(1)?;
+        self.rows.push(Row {
+            member: newcomer,
+            is_vacated: false,
+        })?;
+        match self.places.insert(name, place) {
+            Ok(_) => Ok(()),
+            Err(_) => unreachable!(),
         }
-        Some(place)
     }
 
-    /// Where a member that is freed by `slot` has the name, it goes. So many are `gone`, and the
-    /// answer is how many of them are left; nothing but the cost rests on these two: a single one
-    /// is taken out, at a pass over the members behind it, and several go all at once.
-    pub(crate) fn make_way(&mut self, slot: u64, name: &TaskName, gone: usize) -> usize
+    /// Whether a member that isn't freed by `slot` has that name.
+    pub(crate) fn has(&self, slot: u64, name: &TaskName) -> bool
+        ensures { result ≡ is_some (member_named (present slot self.now) name.now) }
+    {
+        seat_of(self.rows.as_slice(), &self.places, slot, name).is_some()
+    }
+
+    /// Where a member that is freed by `slot` has the name, the name is free. It goes through no
+    /// others.
+    pub(crate) fn make_way(&mut self, slot: u64, name: &TaskName)
         requires { member_named (present slot self.old) name.now ≡ None }
-        ensures way { MakesWay slot name.now self.old self.new }
-        ensures left { result ≡ (if is_some (member_named self.old name.now) then 0 else gone) }
+        ensures { MakesWay slot name.now self.old self.new }
     {
-        if !self.members.contains_key(name) {
-            return gone;
+        if let Some(place) = self.places.swap_remove(name) {
+            self.rows[place].is_vacated = true;
         }
-        if gone > 1 {
-            self.keep_present(slot);
-        } else {
-            let _ = self.members.shift_remove(name);
-        }
-        0
     }
 
     /// A member departs, if that isn't refused. Who is freed by `slot` is gone.
@@ -114,10 +125,10 @@ impl Registry {
         ensures members { self.new ≡ effect slot self.old (Depart name.now) result }
         ensures apart { NamesApart (λ m. m.name) self.old }
     {
-        let Some(place) = self.place_of(slot, name) else {
-            return Decision::Refused(Refusal::NoSuchTask);
-        };
-        self.members[place].depart(slot)
+        match seat_of(self.rows.as_slice(), &self.places, slot, name) {
+            Some(place) => self.rows[place].member.depart(slot),
+            None => Decision::Refused(Refusal::NoSuchTask),
+        }
     }
 
     /// A subtask of a member and all after it come later, if that isn't refused. Who is freed by
@@ -136,10 +147,10 @@ impl Registry {
         ensures members { IfOk result (λ d. self.new ≡ effect slot self.old (Late name.now index by) d) }
         ensures err { OnErr result (self.new ≡ self.old) }
     {
-        let Some(place) = self.place_of(slot, name) else {
-            return Ok(Decision::Refused(Refusal::NoSuchTask));
-        };
-        self.members[place].delay(slot, index, by)
+        match seat_of(self.rows.as_slice(), &self.places, slot, name) {
+            Some(place) => self.rows[place].member.delay(slot, index, by),
+            None => Ok(Decision::Refused(Refusal::NoSuchTask)),
+        }
     }
 
     /// A member that isn't departing has one quantum more, and the answer is that quantum.
@@ -148,8 +159,8 @@ impl Registry {
         ensures quantum { result ≡ option_map quantum_of (running (member_named self.old name.now)) }
         ensures members { self.new ≡ (if is_some result then ran name.now self.old else self.old) }
     {
-        let place = self.members.get_index_of(name)?;
-        self.members[place].run_on()
+        let place = *self.places.get(name)?;
+        self.rows[place].member.run_on()
     }
 
     /// The units of the member of that name, and 0 where there is none.
@@ -181,11 +192,12 @@ impl Registry {
     pub(crate) fn keep_present(&mut self, slot: u64)
         ensures { self.new ≡ present slot self.old }
     {
-        self.members.retain(
-            |_name: &TaskName, member: &mut Incarnation| -> bool
-                ensures { (result ≡ not (is_freed slot member.old.freed_at)) × (member.new ≡ member.old) }
-            { !has_come(member.freed_at(), slot) },
+        self.rows.retain(
+            |row: &Row| -> bool
+                ensures { result ≡ is_taken slot row.now }
+            { !row.is_vacated && !has_come(row.member.freed_at(), slot) },
         );
+        seat_all(self.rows.as_slice(), &mut self.places);
     }
 
     /// The units of all members.
@@ -194,8 +206,8 @@ impl Registry {
         ensures { result ≡ claimed frame self.now }
     {
         let mut total = 0;
-        for place in 0..self.members.len() {
-            total += claim_of(self.members[place].weight(), frame);
+        for place in 0..self.rows.len() {
+            total += units_in(&self.rows[place], frame);
         }
         total
     }
@@ -206,10 +218,96 @@ impl Registry {
         ensures freed { SomeFreedAt result self.now }
     {
         let mut first = None;
-        for place in 0..self.members.len() {
-            first = earlier(first, self.members[place].freed_at());
+        for place in 0..self.rows.len() {
+            first = earlier(first, freed_in(&self.rows[place]));
         }
         first
+    }
+}
+
+// The place of the row of that name, unless its member is freed by `slot`.
+fn seat_of(
+    rows: &[Row],
+    places: &IndexMap<TaskName, usize>,
+    slot: u64,
+    name: &TaskName,
+) -> Option<usize>
+    requires { AreSeats rows.now places.now.entries }
+    ensures some { IfSome result (λ place. IsTaken slot rows.now places.now.entries name.now place) }
+    ensures none { IfNone result ((place : ℕ) → IsTaken slot rows.now places.now.entries name.now place → ⊥) }
+{
+    let place = *places.get(name)?;
+    if has_come(rows[place].member.freed_at(), slot) {
+        return None;
+    }
+    Some(place)
+}
+
+// The row of the member at a place, of so many that aren't vacated.
+fn seat_at(rows: &[Row], seats: usize, place: usize) -> Option<&Row>
+    requires { seats ≡ length (seated rows.now) }
+    ensures { option_map (λ r. r.now.member) result ≡ slice_get (seated rows.now) place }
+{
+    if rows.len() == seats {
+        rows.get(place)
+    } else {
+        seat_after(rows, place)
+    }
+}
+
+// The row of the member at a place, where some rows are vacated.
+fn seat_after(rows: &[Row], place: usize) -> Option<&Row>
+    ensures { option_map (λ r. r.now.member) result ≡ slice_get (seated rows.now) place }
+{
+    let mut left = place;
+    for row in rows {
+        if !row.is_vacated {
+            if left == 0 {
+                return Some(row);
+            }
+            left -= 1;
+        }
+    }
+    None
+}
+
+// Gives each name the place of its row, without any memory: there are no more names than before.
+fn seat_all(rows: &[Row], places: &mut IndexMap<TaskName, usize>)
+    requires apart { NamesApart (λ r. r.member.name) rows.now }
+    requires kept { AllByRecursion (λ r. r.is_vacated ≡ false) rows.now }
+    requires few { length rows.now ≤ index_map_len places.old + spare places.old }
+    ensures seats { AreSeats rows.now places.new.entries }
+    ensures found { AreFound rows.now places.new.entries }
+    ensures size { index_map_len places.new ≡ length rows.now }
+{
+    places.clear();
+    for place in 0..rows.len() {
+        match places.insert(*rows[place].member.name(), place) {
+            Ok(_) => {}
+            Err(_) => unreachable!(),
+        }
+    }
+}
+
+// The units of a row's member, and none where it is vacated.
+fn units_in(row: &Row, frame: u64) -> u64
+    ensures { result ≡ row_units frame row.now }
+{
+    if row.is_vacated {
+        0
+    } else {
+        claim_of(row.member.weight(), frame)
+    }
+}
+
+// The freeing slot of a row's member, and none where it is vacated.
+fn freed_in(row: &Row) -> Option<u64>
+    ensures { result ≡ row_freed_at row.now }
+{
+    if row.is_vacated {
+        None
+    } else {
+        row.member.freed_at()
     }
 }
 

@@ -28,8 +28,8 @@ invariant_of-self c =
       few_processors = c.self.invariant.few_processors;
       short_frame = c.self.invariant.short_frame;
       room = c.self.invariant.room;
-      total = c.self.invariant.total ∙ ap (claimed c.self.inside.frame) (one_under_way c.self.inside.under_way c.args.slot c.self.inside.registry e ∙ sym (one_under_way c.self.inside.under_way c.args.slot c.enter.new.self e ∙ ap (present c.args.slot) same ∙ c.make_way-gone.ensures.way.present));
-      first = subst (NoneFreedBefore c.self.inside.first_freeing) (sym same) (c.make_way-gone.ensures.way.first c.self.inside.first_freeing c.self.invariant.first);
+      total = c.self.invariant.total ∙ ap (claimed c.self.inside.frame) (one_under_way c.self.inside.under_way c.args.slot c.self.inside.registry e ∙ sym (one_under_way c.self.inside.under_way c.args.slot c.enter.new.self e ∙ ap (present c.args.slot) same ∙ c.make_way.ensures.present));
+      first = subst (NoneFreedBefore c.self.inside.first_freeing) (sym same) (c.make_way.ensures.first c.self.inside.first_freeing c.self.invariant.first);
     }
 
 pub returns-in_err-enter-clause-err : goal.returns-in_err-enter-clause-err
@@ -37,13 +37,13 @@ returns-in_err-enter-clause-err c =
     let e = ap (λ (s : Standing). s.under_way) c.self.view_is ∙ c.requires.under_way in
     let same = c.in_err-enter.ensures.err in
     on_err c.from_residual.result
-    (is_same (record { processors = c.self.inside.processors; frame = c.self.inside.frame }) c.self.inside.under_way c.args.slot c.self.inside.registry c.enter.new.self e (ap (present c.args.slot) same ∙ c.make_way-gone.ensures.way.present) ∙ c.self.view_is)
+    (is_same (record { processors = c.self.inside.processors; frame = c.self.inside.frame }) c.self.inside.under_way c.args.slot c.self.inside.registry c.enter.new.self e (ap (present c.args.slot) same ∙ c.make_way.ensures.present) ∙ c.self.view_is)
 
 pub invariant_of-self-in-Admitted : goal.invariant_of-self-in-Admitted
 invariant_of-self-in-Admitted c =
     let e = ap (λ (s : Standing). s.under_way) c.self.view_is ∙ c.requires.under_way in
-    let all = entered c.enter.new.self c.make_way-gone.new.self c.new.result (newcomer c.args.slot c.args.name c.args.weight c.args.early) c.in_ok-enter.ensures.ok c.new.ensures in
-    let sum = claimed_entered c.self.inside.frame c.args.slot c.self.inside.under_way c.args.name c.args.weight c.args.early c.make_way-gone.new.self c.self.inside.registry c.enter.new.self e c.make_way-gone.ensures.way.present all in
+    let all = entered c.enter.new.self c.make_way.new.self c.new.result (newcomer c.args.slot c.args.name c.args.weight c.args.early) c.in_ok-enter.ensures.ok c.new.ensures in
+    let sum = claimed_entered c.self.inside.frame c.args.slot c.self.inside.under_way c.args.name c.args.weight c.args.early c.make_way.new.self c.self.inside.registry c.enter.new.self e c.make_way.ensures.present all in
     let fits : claimed c.self.inside.frame (counted c.self.inside.under_way c.self.inside.registry) + units_of c.args.weight c.self.inside.frame ≤ c.self.inside.processors * c.self.inside.frame =
     subst (λ (s : Standing). claimed s.machine.frame s.members + units_of c.args.weight s.machine.frame ≤ s.machine.processors * s.machine.frame) (sym c.self.view_is) (admitted_room c.args.self.now.machine c.args.self.now.members c.args.name c.args.weight c.in-Admitted.ensures) in
     record {
@@ -51,19 +51,19 @@ invariant_of-self-in-Admitted c =
       short_frame = c.self.invariant.short_frame;
       room = omega (arith, fits, c.self.invariant.total, c.claim_of.ensures.value);
       total = omega (arith, sum, c.self.invariant.total, c.claim_of.ensures.value);
-      first = subst (NoneFreedBefore c.self.inside.first_freeing) (sym all) (first_push c.self.inside.first_freeing _ (newcomer c.args.slot c.args.name c.args.weight c.args.early) refl (c.make_way-gone.ensures.way.first c.self.inside.first_freeing c.self.invariant.first));
+      first = subst (NoneFreedBefore c.self.inside.first_freeing) (sym all) (first_push c.self.inside.first_freeing _ (newcomer c.args.slot c.args.name c.args.weight c.args.early) refl (c.make_way.ensures.first c.self.inside.first_freeing c.self.invariant.first));
     }
 
 pub returns-in_ok-enter-clause-members : goal.returns-in_ok-enter-clause-members
 returns-in_ok-enter-clause-members c =
     let machine : Machine = record { processors = c.self.inside.processors; frame = c.self.inside.frame } in
     let e = ap (λ (s : Standing). s.under_way) c.self.view_is ∙ c.requires.under_way in
-    let all = entered c.enter.new.self c.make_way-gone.new.self c.new.result (newcomer c.args.slot c.args.name c.args.weight c.args.early) c.in_ok-enter.ensures.ok c.new.ensures in
+    let all = entered c.enter.new.self c.make_way.new.self c.new.result (newcomer c.args.slot c.args.name c.args.weight c.args.early) c.in_ok-enter.ensures.ok c.new.ensures in
     let is : Admitted ≡ arrival machine (present c.args.slot c.self.inside.registry) c.args.name c.args.weight =
     subst (λ ms. Admitted ≡ arrival machine ms c.args.name c.args.weight) (one_under_way c.self.inside.under_way c.args.slot c.self.inside.registry e) (subst (λ (s : Standing). Admitted ≡ arrival s.machine s.members c.args.name c.args.weight) (sym c.self.view_is) c.in-Admitted.ensures) in
     rw (← c.self.view_is)
     (is_decided machine c.self.inside.under_way c.args.slot c.self.inside.registry c.enter.new.self (Arrive c.args.name c.args.weight c.args.early) e
-    (ap (present c.args.slot) all ∙ present_entered c.args.slot c.args.name c.args.weight c.args.early c.make_way-gone.new.self c.self.inside.registry c.make_way-gone.ensures.way.present
+    (ap (present c.args.slot) all ∙ present_entered c.args.slot c.args.name c.args.weight c.args.early c.make_way.new.self c.self.inside.registry c.make_way.ensures.present
     ∙ arrived machine c.args.slot (present c.args.slot c.self.inside.registry) c.args.name c.args.weight c.args.early (none_freed_present c.args.slot c.self.inside.registry) is))
 
 pub returns-in_default-clause-members : goal.returns-in_default-clause-members

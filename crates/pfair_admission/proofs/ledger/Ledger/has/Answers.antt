@@ -8,5 +8,5 @@ use Rattle.pfair_admission.proofs.ledger.Ledger.has.Goals as goal
 pub returns : goal.returns
 returns c =
     let under_way = ap (λ (s : Standing). s.under_way) c.self.view_is ∙ c.requires in
-    c.is_some.ensures ∙ c.place_of.ensures.found
+    c.has.ensures
     ∙ ap (λ ms. is_some (member_named ms c.args.name.now)) (sym (one_under_way c.self.inside.under_way c.args.slot c.self.inside.registry under_way) ∙ ap (λ (s : Standing). s.members) c.self.view_is)

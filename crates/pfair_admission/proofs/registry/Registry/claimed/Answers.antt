@@ -1,30 +1,23 @@
-use Rattle.std.proofs.Common.{◌≡◌, ◌<◌, List, Some, get_or, length, sym, ap, ◌∙◌, arith}
-use Rattle.std.specs.Prelude.{slice_get}
-use Rattle.std.proofs.lemmas.List.Sums.{sum_by_more, sum_by_more_le}
-use Rattle.pfair_weight.specs.Share.{units_of}
-use Rattle.pfair_admission.specs.Member.{Member}
-use Rattle.pfair_admission.proofs.Registers.{length_values, item_at}
+use Rattle.std.proofs.Common.{◌≡◌, ◌<◌, ℕ, take, length, sum_by, ap, ◌∙◌, arith}
+use Rattle.std.proofs.Math.Seq.{take-length}
+use Rattle.std.proofs.lemmas.List.Sums.{sum_by_more_le}
+use Rattle.pfair_admission.specs.Admission.{claimed}
+use Rattle.pfair_admission.specs.Registry.{row_units}
+use Rattle.pfair_admission.proofs.Rows.{units_seated}
 use Rattle.pfair_admission.proofs.registry.Registry.claimed.Goals as goal
-use Rattle.pfair_admission.proofs.registry.Registry.claimed.Goals.{After-claim_of-total}
-
--- the place is within the members
-within : (c : After-claim_of-total) → c.loop-place.place < length c.args.self.now
-within c = let same = length_values c.self.inside.members.entries in let view = ap (length {A = Member}) c.self.view_is in omega (arith, c.len-place-end.ensures.len, same, view)
-
--- the units of the member there
-units : (c : After-claim_of-total) → c.claim_of-total.result ≡ units_of (get_or c.args.self.now c.loop-place.place c.index.result.now).weight c.args.frame
-units c =
-    let at : slice_get c.args.self.now c.loop-place.place ≡ Some c.index.result.now = ap (λ (ms : List Member). slice_get ms c.loop-place.place) (sym c.self.view_is) ∙ c.index.ensures in
-    c.claim_of-total.ensures.value ∙ ap (λ w. units_of w c.args.frame) c.weight.ensures.value ∙ ap (λ (m : Member). units_of m.weight c.args.frame) (sym (item_at c.args.self.now c.loop-place.place c.index.result.now at))
 
 pub overflow_add-total : goal.overflow_add-total
 overflow_add-total c =
-    let at = (goal.at.overflow_add-total c).After-claim_of-total in
-    let less = sum_by_more_le (λ (m : Member). units_of m.weight c.args.frame) c.args.self.now c.loop-place.place c.index.result.now (within at) in
-    omega (arith, less, units at, c.loop-place.invariant, c.requires)
+    let within : c.loop-place.place < length c.self.inside.rows.items = omega (arith, c.len-place-end.ensures, c.self.inside.rows.ok.0) in
+    let less = sum_by_more_le (row_units c.args.frame) c.self.inside.rows.items c.loop-place.place c.index.result.now within in
+    let units = c.units_in-total.ensures ∙ ap (row_units c.args.frame) c.index.ensures in
+    let whole = units_seated c.args.frame c.self.inside.rows.items ∙ ap (claimed c.args.frame) c.self.view_is in
+    omega (arith, less, units, whole, c.loop-place.invariant, c.requires)
 
-pub loop-place-preserved : goal.loop-place-preserved
-loop-place-preserved c =
-    let at = (goal.at.loop-place-preserved c).After-claim_of-total in
-    let more = sum_by_more (λ (m : Member). units_of m.weight c.args.frame) c.args.self.now c.loop-place.place c.index.result.now (within at) in
-    omega (arith, more, units at, c.loop-place.invariant)
+pub returns : goal.returns
+returns c =
+    let all : c.loop-place.place ≡ length c.self.inside.rows.items = omega (arith, c.len-place-end.ensures, c.self.inside.rows.ok.0) in
+    c.loop-place.invariant
+    ∙ ap (λ (k : ℕ). sum_by (row_units c.args.frame) (take k c.self.inside.rows.items)) all
+    ∙ ap (sum_by (row_units c.args.frame)) (take-length c.self.inside.rows.items)
+    ∙ units_seated c.args.frame c.self.inside.rows.items ∙ ap (claimed c.args.frame) c.self.view_is
