@@ -7,5 +7,8 @@ mod Room
 mod Claims
 mod Executive
 mod InTime
+mod Planned
 mod Passing
 mod Windows
+mod Overload
+mod Served

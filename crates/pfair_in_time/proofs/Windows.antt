@@ -1,11 +1,11 @@
 -- The slots in which a member runs are in its windows.
-use Rattle.std.proofs.Common.{◌≡◌, ℕ, zero, suc, ◌+◌, ◌-◌, ◌<◌, ◌≤◌, Bool, true, false, cond, List, [], length, get_or, drop, arith, ap, refl, sym, ◌∙◌, subst, inl, inr}
+use Rattle.std.proofs.Common.{◌≡◌, ℕ, zero, suc, ◌+◌, ◌-◌, ◌<◌, ◌≤◌, Bool, true, false, [], length, get_or, drop, arith, ap, sym, ◌∙◌, subst, inl, inr}
 use Rattle.std.specs.Prelude.{nat_le, filter, sum_by, count_by}
 use Rattle.std.proofs.lemmas.Bool.{cases_lt}
 use Rattle.pfair_weight.specs.Share.{Share}
 use Rattle.pfair_weight.specs.Window.{release_of, deadline_of}
 use Rattle.pfair_weight.specs.WindowFacts.{deadline_rises}
-use Rattle.pfair_lag.specs.Picks.{ArePicks, InWindows, MeetsDeadlines}
+use Rattle.pfair_lag.specs.Picks.{InWindows, MeetsDeadlines}
 use Rattle.pfair_replica.specs.Among.{Among}
 use Rattle.pfair_replica.specs.Replica.{Replica}
 use Rattle.pfair_admission.specs.Member.{Member, theta, is_departing}
@@ -34,7 +34,7 @@ quanta_passing s x m (suc slot) =
     omega arith
 
 -- without delays the offset is the joining slot
-no_offset : (m : Member) (i : ℕ) → m.delays ≡ [] → theta m i ≡ m.joined
+pub no_offset : (m : Member) (i : ℕ) → m.delays ≡ [] → theta m i ≡ m.joined
 no_offset m i e = ap (λ ds. m.joined + sum_by (λ (d : Delay). d.by) (filter (λ (d : Delay). nat_le d.index i) ds)) e ∙ omega arith
 
 -- a subtask that runs in a slot counted from the joining does so in its window

@@ -1,4 +1,6 @@
 pub mod Descent
+pub mod Dispatched
 pub mod InTime
 pub mod Laws
+pub mod Schedules
 pub mod Windows
