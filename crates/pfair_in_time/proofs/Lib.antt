@@ -10,5 +10,6 @@ mod InTime
 mod Planned
 mod Passing
 mod Windows
+mod Lags
 mod Overload
 mod Served

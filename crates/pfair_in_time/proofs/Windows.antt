@@ -19,11 +19,11 @@ use Rattle.pfair_in_time.proofs.InTime.{none, in_time, released}
 use Rattle.pfair_in_time.proofs.Passing.{passing, one_more, at_place, passing_rise}
 
 -- whether a member runs in a slot that is counted from its joining
-abbrev runs_at : Settings → Replica → Member → ℕ → Bool
+abbrev pub runs_at : Settings → Replica → Member → ℕ → Bool
 runs_at s x m slot = names_task m.name (table s x (m.joined + slot))
 
 -- its quanta are as many as such slots
-quanta_passing : (s : Settings) (x : Replica) (m : Member) (slot : ℕ) → quanta (tables_before s x (m.joined + slot)) m ≡ length (passing (runs_at s x m) slot)
+pub quanta_passing : (s : Settings) (x : Replica) (m : Member) (slot : ℕ) → quanta (tables_before s x (m.joined + slot)) m ≡ length (passing (runs_at s x m) slot)
 quanta_passing s x m zero = (let new = next_new s x (m.joined + 0) m (omega arith) in omega arith)
 quanta_passing s x m (suc slot) =
     let more = next_more s x (m.joined + slot) m (omega arith) in

@@ -3,10 +3,12 @@
 //! Each function states one law and does nothing.
 ghost use Rattle.pfair_in_time.specs.Dispatched.{DispatchersNeverMiss};
 ghost use Rattle.pfair_in_time.specs.InTime.{NoneMisses, EachRunsInTime};
+ghost use Rattle.pfair_in_time.specs.Lags.{LagsStayWithinOne};
 ghost use Rattle.pfair_in_time.specs.Laws.{BoundariesKeepMembers};
 ghost use Rattle.pfair_in_time.specs.Schedules.{ServedWhereThereIsRoom, NoneServesMore};
 ghost use Rattle.pfair_in_time.specs.Windows.{WindowsAreKept, DeadlinesAreKept};
 
+use pfair_lag::laws::{lags_keep_deadlines, lags_keep_windows};
 use pfair_table::laws::one_schedule;
 
 /// No admitted task misses. Whatever a replica holds, by the tables that follow from it the next
@@ -48,6 +50,15 @@ pub fn windows_are_kept()
 pub fn deadlines_are_kept()
     ensures { DeadlinesAreKept }
 {}
+
+/// In the rows that are reported of lags: of a member that isn't departing and has no delay, no
+/// numerator is the period or more and, unless the task is early, none is minus the period or less.
+pub fn lags_stay_within_one()
+    ensures { LagsStayWithinOne }
+{
+    lags_keep_windows();
+    lags_keep_deadlines();
+}
 
 /// Where nothing is said but arrivals at slot 0, under names that differ and with periods that divide
 /// the frame: all are admitted exactly where in a frame they want no more quanta than its slots have on

@@ -20,6 +20,8 @@
 //!   any events bring, and what was planned has the tables of what is held (`served_slot`).
 //! - **In windows** (`proofs/Passing.antt`, `proofs/Windows.antt`). The slots in which a member without
 //!   delays runs, counted from its joining, are in its windows, and none that was due is missing.
+//! - **In the rows of lags** (`proofs/Lags.antt`). The lag that is reported is that of these slots
+//!   (`same_lag`), and so within one.
 //! - **Who can be served** (`proofs/Served.antt`, `proofs/Overload.antt`). Arrivals at slot 0 for which
 //!   there is room are all admitted (`all_join`), and stay (`there`); and each has its last deadline of
 //!   a frame at the frame's end (`last_due`), by which no tables give more quanta than they have rows
