@@ -7,5 +7,9 @@ mod Room
 mod Claims
 mod Executive
 mod InTime
+mod Planned
 mod Passing
 mod Windows
+mod Lags
+mod Overload
+mod Served

@@ -40,7 +40,7 @@ present_room machine t ms room =
     let both = sum_by-filter_both (λ (m : Member). not (is_freed t m.freed_at)) (λ (m : Member). not (not (is_freed t m.freed_at))) (λ m. refl) (λ (m : Member). units_of m.weight machine.frame) ms in
     omega arith
 
-admitted_fits : (machine : Machine) (ms : List Member) (name : List ℕ) (w : Share) → arrival machine ms name w ≡ Admitted → claimed machine.frame ms + units_of w machine.frame ≤ machine.processors * machine.frame
+pub admitted_fits : (machine : Machine) (ms : List Member) (name : List ℕ) (w : Share) → arrival machine ms name w ≡ Admitted → claimed machine.frame ms + units_of w machine.frame ≤ machine.processors * machine.frame
 admitted_fits machine ms name w e = ltb-false (machine.processors * machine.frame) (claimed machine.frame ms + units_of w machine.frame)
     (by (is_some (member_named ms name)) (machine.frame % w.period == 0) (nat_lt (machine.processors * machine.frame) (claimed machine.frame ms + units_of w machine.frame)) e)
   where

@@ -1,11 +1,11 @@
 -- The slots in which a member runs are in its windows.
-use Rattle.std.proofs.Common.{◌≡◌, ℕ, zero, suc, ◌+◌, ◌-◌, ◌<◌, ◌≤◌, Bool, true, false, cond, List, [], length, get_or, drop, arith, ap, refl, sym, ◌∙◌, subst, inl, inr}
+use Rattle.std.proofs.Common.{◌≡◌, ℕ, zero, suc, ◌+◌, ◌-◌, ◌<◌, ◌≤◌, Bool, true, false, [], length, get_or, drop, arith, ap, sym, ◌∙◌, subst, inl, inr}
 use Rattle.std.specs.Prelude.{nat_le, filter, sum_by, count_by}
 use Rattle.std.proofs.lemmas.Bool.{cases_lt}
 use Rattle.pfair_weight.specs.Share.{Share}
 use Rattle.pfair_weight.specs.Window.{release_of, deadline_of}
 use Rattle.pfair_weight.specs.WindowFacts.{deadline_rises}
-use Rattle.pfair_lag.specs.Picks.{ArePicks, InWindows, MeetsDeadlines}
+use Rattle.pfair_lag.specs.Picks.{InWindows, MeetsDeadlines}
 use Rattle.pfair_replica.specs.Among.{Among}
 use Rattle.pfair_replica.specs.Replica.{Replica}
 use Rattle.pfair_admission.specs.Member.{Member, theta, is_departing}
@@ -19,11 +19,11 @@ use Rattle.pfair_in_time.proofs.InTime.{none, in_time, released}
 use Rattle.pfair_in_time.proofs.Passing.{passing, one_more, at_place, passing_rise}
 
 -- whether a member runs in a slot that is counted from its joining
-abbrev runs_at : Settings → Replica → Member → ℕ → Bool
+abbrev pub runs_at : Settings → Replica → Member → ℕ → Bool
 runs_at s x m slot = names_task m.name (table s x (m.joined + slot))
 
 -- its quanta are as many as such slots
-quanta_passing : (s : Settings) (x : Replica) (m : Member) (slot : ℕ) → quanta (tables_before s x (m.joined + slot)) m ≡ length (passing (runs_at s x m) slot)
+pub quanta_passing : (s : Settings) (x : Replica) (m : Member) (slot : ℕ) → quanta (tables_before s x (m.joined + slot)) m ≡ length (passing (runs_at s x m) slot)
 quanta_passing s x m zero = (let new = next_new s x (m.joined + 0) m (omega arith) in omega arith)
 quanta_passing s x m (suc slot) =
     let more = next_more s x (m.joined + slot) m (omega arith) in
@@ -34,7 +34,7 @@ quanta_passing s x m (suc slot) =
     omega arith
 
 -- without delays the offset is the joining slot
-no_offset : (m : Member) (i : ℕ) → m.delays ≡ [] → theta m i ≡ m.joined
+pub no_offset : (m : Member) (i : ℕ) → m.delays ≡ [] → theta m i ≡ m.joined
 no_offset m i e = ap (λ ds. m.joined + sum_by (λ (d : Delay). d.by) (filter (λ (d : Delay). nat_le d.index i) ds)) e ∙ omega arith
 
 -- a subtask that runs in a slot counted from the joining does so in its window

@@ -1,4 +1,7 @@
 pub mod Descent
+pub mod Dispatched
 pub mod InTime
+pub mod Lags
 pub mod Laws
+pub mod Schedules
 pub mod Windows

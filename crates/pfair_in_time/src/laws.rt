@@ -1,9 +1,15 @@
 //! The laws of members over boundaries, and the theorem that no admitted task misses.
 //!
 //! Each function states one law and does nothing.
+ghost use Rattle.pfair_in_time.specs.Dispatched.{DispatchersNeverMiss};
 ghost use Rattle.pfair_in_time.specs.InTime.{NoneMisses, EachRunsInTime};
+ghost use Rattle.pfair_in_time.specs.Lags.{LagsStayWithinOne};
 ghost use Rattle.pfair_in_time.specs.Laws.{BoundariesKeepMembers};
+ghost use Rattle.pfair_in_time.specs.Schedules.{ServedWhereThereIsRoom, NoneServesMore};
 ghost use Rattle.pfair_in_time.specs.Windows.{WindowsAreKept, DeadlinesAreKept};
+
+use pfair_lag::laws::{lags_keep_deadlines, lags_keep_windows};
+use pfair_table::laws::one_schedule;
 
 /// No admitted task misses. Whatever a replica holds, by the tables that follow from it the next
 /// subtask of each member that isn't departing is due after the end of each slot: in a frame of at
@@ -18,6 +24,19 @@ pub fn each_runs_in_time()
     ensures { EachRunsInTime }
 {}
 
+/// No dispatcher misses, whatever has come to it and whatever it was asked to plan: while nothing
+/// that it holds is torn, each slot that it has planned has the table that follows from what it
+/// holds, each row of it is in time, and after it the next subtask of each member that isn't
+/// departing is still to be due.
+///
+/// What comes are entries, replicas and arrivals with weights, as their types see to.
+pub fn dispatchers_never_miss()
+    ensures { DispatchersNeverMiss }
+{
+    // a dispatcher is alike to itself
+    one_schedule();
+}
+
 /// Of a member that isn't departing, isn't early and has no delay, each subtask that has run did so in
 /// its window, counted from the member's joining, and each that was due has run. So its lag
 /// stays strictly between -1 and 1 (`lags_keep_windows` of `pfair_lag`).
@@ -30,6 +49,28 @@ pub fn windows_are_kept()
 /// (`lags_keep_deadlines` of `pfair_lag`).
 pub fn deadlines_are_kept()
     ensures { DeadlinesAreKept }
+{}
+
+/// In the rows that are reported of lags: of a member that isn't departing and has no delay, no
+/// numerator is the period or more and, unless the task is early, none is minus the period or less.
+pub fn lags_stay_within_one()
+    ensures { LagsStayWithinOne }
+{
+    lags_keep_windows();
+    lags_keep_deadlines();
+}
+
+/// Where nothing is said but arrivals at slot 0, under names that differ and with periods that divide
+/// the frame: all are admitted exactly where in a frame they want no more quanta than its slots have on
+/// all processors, and then each has by each of its deadlines the quanta that are due.
+pub fn served_where_there_is_room()
+    ensures { ServedWhereThereIsRoom }
+{}
+
+/// And where they want more, no one serves them: by whatever tables, with no more rows in a slot than
+/// there are processors, some task is late at one of its deadlines up to the end of the frame.
+pub fn none_serves_more()
+    ensures { NoneServesMore }
 {}
 
 /// After a boundary each member is one that was there before, or has joined in it; and each that

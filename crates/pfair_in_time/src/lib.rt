@@ -1,5 +1,5 @@
-//! No admitted task misses its deadline: laws alone, nothing of which is called when the program
-//! runs.
+//! No admitted task misses its deadline: laws, and one function that stands for its clause, nothing
+//! of which is called when the program runs.
 //!
 //! `pfair_optimal` has the theorem of a run as plain data. Here the tables, the members and the
 //! offsets that follow from what a replica holds, up to any slot, are the beginning of such a run.
@@ -16,8 +16,19 @@
 //!   have room, claims are held past busy bounds, and a released subtask without a row sees a full
 //!   table of rows that go before it (`is_run`).
 //! - **In time** (`proofs/InTime.antt`). The theorem in the executive's own words.
+//! - **By dispatchers** (`proofs/Planned.antt`, `src/dispatched.rt`). Arrivals with weights are all that
+//!   any events bring, and what was planned has the tables of what is held (`served_slot`).
 //! - **In windows** (`proofs/Passing.antt`, `proofs/Windows.antt`). The slots in which a member without
 //!   delays runs, counted from its joining, are in its windows, and none that was due is missing.
+//! - **In the rows of lags** (`proofs/Lags.antt`). The lag that is reported is that of these slots
+//!   (`same_lag`), and so within one.
+//! - **Who can be served** (`proofs/Served.antt`, `proofs/Overload.antt`). Arrivals at slot 0 for which
+//!   there is room are all admitted (`all_join`), and stay (`there`); and each has its last deadline of
+//!   a frame at the frame's end (`last_due`), by which no tables give more quanta than they have rows
+//!   (`all_within`).
 #![tactic(auto)]
 
+mod dispatched;
 pub mod laws;
+
+pub use dispatched::never_misses;

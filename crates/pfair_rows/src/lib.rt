@@ -5,6 +5,8 @@
 #![tactic(auto)]
 
 #[cfg(test)]
+mod full_load;
+#[cfg(test)]
 mod notation;
 #[cfg(test)]
 mod run;

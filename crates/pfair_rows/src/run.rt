@@ -44,6 +44,18 @@ fn left_by<R: Ready>(
     run_events(alloc, settings, CAPACITY, events)
 }
 
+/// The dispatcher that the events of a text leave.
+pub(crate) fn left<R: Ready>(
+    rt: &impl Abort,
+    alloc: Global,
+    machine: (u8, u64, u64),
+    text: &str,
+) -> Result<Dispatcher<R>, AllocError> {
+    let mut events = Vec::new(alloc);
+    push_all(rt, alloc, &mut events, text)?;
+    left_by(alloc, settings_of(rt, machine), &events)
+}
+
 /// What a dispatcher holds that took the events of a text.
 pub(crate) fn held(
     rt: &impl Abort,
@@ -51,9 +63,7 @@ pub(crate) fn held(
     machine: (u8, u64, u64),
     text: &str,
 ) -> Result<Replica, AllocError> {
-    let mut events = Vec::new(alloc);
-    push_all(rt, alloc, &mut events, text)?;
-    let left: Dispatcher<HeapReady> = left_by(alloc, settings_of(rt, machine), &events)?;
+    let left: Dispatcher<HeapReady> = left(rt, alloc, machine, text)?;
     Ok(left.into_replica())
 }
 

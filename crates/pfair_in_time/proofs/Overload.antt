@@ -1,0 +1,136 @@
+-- More than there is can't be served: by the end of a frame as many quanta are due as the tasks want.
+use Rattle.std.proofs.Common.{◌≡◌, ℕ, zero, suc, ◌+◌, ◌*◌, ◌/◌, ◌%◌, ◌<◌, ◌≤◌, Bool, true, false, cond, List, [], ◌∷◌, length, arith, ap, refl, sym, ◌∙◌, subst, inl, inr}
+use Rattle.std.specs.Prelude.{◌||◌, sum_by}
+use Rattle.std.specs.Int.{div_ceil}
+use Rattle.std.proofs.lemmas.Bool.{true≢false, cases_lt, cases_Bool}
+use Rattle.std.proofs.lemmas.List.Sums.{sum_by-cons, sum_by_push}
+use Rattle.std.proofs.Math.Nat.{mod-eq-sub-div-mul, div-mul-le_self, mul-suc, mul_assoc, mul_comm}
+use Rattle.pfair_weight.specs.Name.{NamesApart}
+use Rattle.pfair_weight.specs.Share.{Share, IsWeight, units_of}
+use Rattle.pfair_weight.specs.Window.{deadline_of}
+use Rattle.pfair_weight.specs.Rounding.{div_ceil_of_multiple}
+use Rattle.pfair_weight.proofs.NamesApart.{apart_head, apart_tail}
+use Rattle.pfair_entry.specs.Exact.{name_exact, name_itself}
+use Rattle.pfair_entry.specs.Same.{name_eq}
+use Rattle.pfair_replica.specs.Among.{Among, among_all}
+use Rattle.pfair_replica.specs.Replica.{numbers_below}
+use Rattle.pfair_table.specs.declared.pick.Pick.{Pick}
+use Rattle.pfair_table.specs.Table.{Table, names_task}
+use Rattle.pfair_in_time.specs.Schedules.{Arrival, quanta_before, NoneServesMore}
+
+-- ---- sums
+
+-- where one sum is below another, so is one of its parts
+lesser_part : {A : Type 0} (f g : A → ℕ) (xs : List A) → sum_by f xs < sum_by g xs → (x : A) × Among xs x × (f x < g x)
+lesser_part f g [] less = absurd (omega arith)
+lesser_part f g (x ∷ xs) less =
+    let one = sum_by-cons f x xs in
+    let other = sum_by-cons g x xs in
+    elim (cases_lt (f x) (g x)) [
+      | inl here ↦ (x, inl refl, here)
+      | inr after ↦ (let p = lesser_part f g xs (omega arith) in (p.0, inr p.1, p.2))
+    ]
+
+-- parts that are no more than those of two other sums
+parts_within : {A : Type 0} (f g h : A → ℕ) → ((x : A) → f x ≤ g x + h x) → (xs : List A) → sum_by f xs ≤ sum_by g xs + sum_by h xs
+parts_within f g h each [] = omega arith
+parts_within f g h each (x ∷ xs) =
+    let here = each x in
+    let rest = parts_within f g h each xs in
+    let a = sum_by-cons f x xs in
+    let b = sum_by-cons g x xs in
+    let c = sum_by-cons h x xs in
+    omega arith
+
+no_parts : {A : Type 0} (f : A → ℕ) → ((x : A) → f x ≡ 0) → (xs : List A) → sum_by f xs ≡ 0
+no_parts f each [] = omega arith
+no_parts f each (x ∷ xs) = (let here = each x in let rest = no_parts f each xs in let a = sum_by-cons f x xs in omega arith)
+
+-- ---- the rows of one slot
+
+-- whether a row is an arrival's, as a number
+abbrev has_row : Pick → Arrival → ℕ
+has_row p a = cond (name_eq a.name p.name) 1 0
+
+abbrev is_named_in : Table → Arrival → ℕ
+is_named_in rows a = cond (names_task a.name rows) 1 0
+
+-- a row is one arrival's at most
+one_owner : (p : Pick) (arrivals : List Arrival) → NamesApart (λ (a : Arrival). a.name) arrivals → sum_by (has_row p) arrivals ≤ 1
+one_owner p [] apart = omega arith
+one_owner p (a ∷ more) apart =
+    let sum = sum_by-cons (has_row p) a more in
+    let rest = one_owner p more (apart_tail (λ (b : Arrival). b.name) a more apart) in
+    elim (cases_Bool (name_eq a.name p.name)) [
+      | inr other ↦ (let c : has_row p a ≡ 0 = ap (λ b. cond {A = ℕ} b 1 0) other in omega arith)
+      | inl own ↦
+          let c : has_row p a ≡ 1 = ap (λ b. cond {A = ℕ} b 1 0) own in
+          let none = others own more (λ b h. among_all (λ (b : Arrival). name_eq a.name b.name ≡ false) more (apart_head (λ (b : Arrival). b.name) a more apart) b h) in
+          omega arith
+    ]
+  where
+    others : name_eq a.name p.name ≡ true → (bs : List Arrival) → ((b : Arrival) → Among bs b → name_eq a.name b.name ≡ false) → sum_by (has_row p) bs ≡ 0
+    others own [] differ = omega arith
+    others own (b ∷ bs) differ =
+        let sum = sum_by-cons (has_row p) b bs in
+        let rest = others own bs (λ d h. differ d (inr h)) in
+        elim (cases_Bool (name_eq b.name p.name)) [
+          | inr other ↦ (let c : has_row p b ≡ 0 = ap (λ b. cond {A = ℕ} b 1 0) other in omega arith)
+          | inl same ↦ absurd (
+              let names : a.name ≡ b.name = name_exact a.name p.name own ∙ sym (name_exact b.name p.name same) in
+              true≢false (sym (subst (λ (n : List ℕ). name_eq a.name n ≡ true) names (name_itself a.name)) ∙ differ b (inl refl)))
+        ]
+
+row_more : (p : Pick) (rows : Table) (a : Arrival) → is_named_in (p ∷ rows) a ≤ has_row p a + is_named_in rows a
+row_more p rows a = by (name_eq a.name p.name) (names_task a.name rows)
+  where
+    by : (b c : Bool) → cond (b || c) 1 0 ≤ cond b 1 0 + cond c 1 0
+    by true c = omega arith
+    by false c = omega arith
+
+-- so no more arrivals are named in a slot than it has rows
+named_within : (arrivals : List Arrival) → NamesApart (λ (a : Arrival). a.name) arrivals → (rows : Table) → sum_by (is_named_in rows) arrivals ≤ length rows
+named_within arrivals apart [] = (let none = no_parts (is_named_in []) (λ a. refl) arrivals in omega arith)
+named_within arrivals apart (p ∷ rows) =
+    let split = parts_within (is_named_in (p ∷ rows)) (has_row p) (is_named_in rows) (row_more p rows) arrivals in
+    let one = one_owner p arrivals apart in
+    let rest = named_within arrivals apart rows in
+    omega arith
+
+-- ---- all slots
+
+pub quanta_more : (tables : ℕ → Table) (name : List ℕ) (n : ℕ) → quanta_before tables name (suc n) ≡ quanta_before tables name n + cond (names_task name (tables n)) 1 0
+quanta_more tables name n = sum_by_push (λ slot. cond (names_task name (tables slot)) 1 0) (numbers_below n) n
+
+all_within : (processors : ℕ) (tables : ℕ → Table) (arrivals : List Arrival) → NamesApart (λ (a : Arrival). a.name) arrivals
+    → (n : ℕ) → ((t : ℕ) → t < n → length (tables t) ≤ processors) → sum_by (λ a. quanta_before tables a.name n) arrivals ≤ processors * n
+all_within processors tables arrivals apart zero few = (let none = no_parts (λ (a : Arrival). quanta_before tables a.name 0) (λ a. refl) arrivals in omega arith)
+all_within processors tables arrivals apart (suc n) few =
+    let before = all_within processors tables arrivals apart n (λ t less. few t (omega arith)) in
+    let split = parts_within (λ (a : Arrival). quanta_before tables a.name (suc n)) (λ (a : Arrival). quanta_before tables a.name n) (is_named_in (tables n))
+    (λ a. (let more = quanta_more tables a.name n in omega arith)) arrivals in
+    let slot = named_within arrivals apart (tables n) in
+    let rows = few n (omega arith) in
+    let product = mul-suc processors n in
+    omega arith
+
+-- ---- what is due by the end of the frame
+
+-- the deadline of the last subtask that a task wants of a frame is the frame's end
+last_due : (w : Share) (frame : ℕ) → 0 < w.cost → frame % w.period ≡ 0 → deadline_of w (units_of w frame) 0 ≡ frame
+last_due w frame some divides =
+    let rest = mod-eq-sub-div-mul frame w.period in
+    let low = div-mul-le_self frame w.period in
+    let whole : (frame / w.period) * w.period ≡ frame = omega arith in
+    let due : w.cost * (frame / w.period) * w.period ≡ frame * w.cost = mul_assoc w.cost (frame / w.period) w.period ∙ mul_comm w.cost ((frame / w.period) * w.period) ∙ ap (λ n. n * w.cost) whole in
+    let up : div_ceil (w.cost * (frame / w.period) * w.period) w.cost ≡ frame = ap (λ n. div_ceil n w.cost) due ∙ div_ceil_of_multiple frame w.cost some in
+    omega arith
+
+pub none_serves_more : NoneServesMore
+none_serves_more processors frame tables arrivals are few more =
+    let had = all_within processors tables arrivals are.names frame few in
+    let p = lesser_part (λ (a : Arrival). quanta_before tables a.name frame) (λ (a : Arrival). units_of a.weight frame) arrivals (omega arith) in
+    let a = p.0 in
+    let weight = among_all (λ (b : Arrival). IsWeight b.weight.cost b.weight.period) arrivals are.weights a p.1 in
+    let due = last_due a.weight frame weight.some_cost (among_all (λ (b : Arrival). frame % b.weight.period ≡ 0) arrivals are.periods a p.1) in
+    (a, p.1, (units_of a.weight frame, omega arith, subst (λ t. quanta_before tables a.name t < units_of a.weight frame) (sym due) p.2))

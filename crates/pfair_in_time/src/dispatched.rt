@@ -1,0 +1,71 @@
+//! That a dispatcher in hand never misses, whatever was called on it.
+ghost use Rattle.std.specs.Prelude.{◌≡◌, Some};
+ghost use Rattle.pfair_lattice.specs.declared.flat.Flat.TheVariants.{One};
+ghost use Rattle.pfair_weight.specs.Share.{IsWeight};
+ghost use Rattle.pfair_entry.specs.Entry.{Logged};
+ghost use Rattle.pfair_replica.specs.HeldRows.{held};
+ghost use Rattle.pfair_in_time.specs.Descent.{HasWeight};
+ghost use Rattle.pfair_in_time.specs.Dispatched.{AnnouncesWeight, RowHasWeights, NeverMisses};
+
+use pfair_entry::{Announcement, Entry};
+use pfair_lattice::Flat;
+use pfair_ready::Ready;
+use pfair_replica::Replica;
+use pfair_table::Dispatcher;
+use pfair_weight::Weight;
+
+/// No admitted task misses by what this dispatcher has planned: while nothing that it holds is torn,
+/// each of its slots has the table that follows from what it holds, each row of it is in time, and
+/// after it the next subtask of each member that isn't departing is still to be due.
+///
+/// It changes and answers nothing, and a program has no need to call it: it stands for its clause. It
+/// looks once at each key of the replica, since that a weight is one is known of its type alone.
+pub fn never_misses<R: Ready>(dispatcher: &Dispatcher<R>)
+    ensures { NeverMisses dispatcher.now }
+{
+    let _frame = dispatcher.settings().frame();
+    dispatcher.plans_alike(dispatcher);
+    let replica = dispatcher.replica();
+    for proc in 0..replica.processors() {
+        look_at_row(replica, proc);
+    }
+}
+
+// Looks at each entry of a processor.
+fn look_at_row(replica: &Replica, proc: u8)
+    ensures { RowHasWeights replica.now proc replica.now.capacity }
+{
+    for number in 0..replica.capacity() {
+        look_at_key(replica, proc, number + 1);
+    }
+}
+
+fn look_at_key(replica: &Replica, proc: u8, number: u32)
+    ensures { (e : Logged) → held replica.now proc number ≡ Some (One e) → AnnouncesWeight e }
+{
+    if let Some(Flat::One(entry)) = replica.get(proc, number) {
+        look_at_entry(entry);
+    }
+}
+
+fn look_at_entry(entry: Entry)
+    ensures { AnnouncesWeight entry }
+{
+    if let Some((_, announcement)) = entry.said() {
+        look_at_announcement(announcement);
+    }
+}
+
+fn look_at_announcement(announcement: Announcement)
+    ensures { HasWeight announcement }
+{
+    if let Announcement::Arrive { weight, .. } = announcement {
+        look_at_weight(weight);
+    }
+}
+
+fn look_at_weight(weight: Weight)
+    ensures { IsWeight weight.cost weight.period }
+{
+    let _cost = weight.cost();
+}
