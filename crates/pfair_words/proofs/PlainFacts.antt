@@ -17,6 +17,7 @@ use Rattle.pfair_words.specs.declared.words.Asked.TheVariants.{Windows, Replay, 
 use Rattle.pfair_words.specs.declared.words.WordsFault.{WordsFault}
 use Rattle.pfair_words.specs.declared.words.WordsFault.TheVariants.{Weight, Refused, Memory}
 use Rattle.pfair_words.specs.declared.words.TheConstants.{MAX_COUNT}
+use Rattle.pfair_words.proofs.FirstWord.{first_answer}
 use Rattle.pfair_words.proofs.LineFacts as line
 
 abbrev Answer : Type 0
@@ -216,6 +217,7 @@ plain_answer _ r h = record {
   help = λ is. text_answer _ DisplayHelp r line.help_faults (inl refl) (subst (λ ws. IsAnswer ws r) is h);
   version = λ is. text_answer _ DisplayVersion r line.version_faults (inr refl) (subst (λ ws. IsAnswer ws r) is h);
   none = λ is. none_answer r (subst (λ ws. IsAnswer ws r) is h);
+  first = first_answer _ r h;
 }
 
 pub has_count : (words : List Text) (r : Answer) → IsAnswer words r → IfOk r HasCount

@@ -63,6 +63,21 @@ IsRefusal (Err (Weight fault)) = ⊥
 IsRefusal (Err Refused) = ⊤
 IsRefusal (Err Memory) = ⊤
 
+-- the words begin with a name
+abbrev pub Begins : Text → List Text → Type 0
+Begins name words = (rest : List Text) × (words ≡ name ∷ rest)
+
+-- whatever the other words are, the first one names what is answered: no other word is taken for a command
+abbrev pub IsNamedFirst : List Text → Result Asked WordsFault → Type 0
+IsNamedFirst words (Ok (Windows weight count)) = Begins (codes "windows") words
+IsNamedFirst words (Ok (Replay file affinity)) = Begins (codes "replay") words
+IsNamedFirst words (Ok (Decisions file)) = Begins (codes "decisions") words
+IsNamedFirst words (Ok (Lags file)) = Begins (codes "lags") words
+IsNamedFirst words (Ok (Help text)) = ⊤
+IsNamedFirst words (Err (Weight fault)) = Begins (codes "windows") words
+IsNamedFirst words (Err Refused) = ⊤
+IsNamedFirst words (Err Memory) = ⊤
+
 -- what is answered to each form; memory may always be wanting
 pub record IsPlainAnswer (words : List Text) (result : Result Asked WordsFault) : Type 0 where
   pub windows : (e p n : Text) → IsPlain e → IsPlain p → IsPlain n → words ≡ codes "windows" ∷ e ∷ p ∷ n ∷ [] → IsWindowsAnswer e p n result
@@ -74,3 +89,4 @@ pub record IsPlainAnswer (words : List Text) (result : Result Asked WordsFault) 
   pub help : words ≡ codes "--help" ∷ [] → IsTextAnswer result
   pub version : words ≡ codes "--version" ∷ [] → IsTextAnswer result
   pub none : words ≡ [] → IsRefusal result
+  pub first : IsNamedFirst words result
