@@ -1,5 +1,5 @@
 -- The numbers and the exit statuses of the program's faults, and which of them the faults of the crates below are.
-use Rattle.std.specs.Prelude.{ℕ}
+use Rattle.std.specs.Prelude.{ℕ, Result, Ok, Err}
 use Rattle.pfair_weight.specs.WeightFault.{weight_fault_number}
 use Rattle.pfair_board.specs.declared.fault.RunFault.{RunFault}
 use Rattle.pfair_board.specs.declared.fault.RunFault.TheVariants as run
@@ -36,6 +36,11 @@ abbrev pub of_words : WordsFault → ProgramFault
 of_words (words.Weight fault) = Weight fault
 of_words words.Refused = CommandLine
 of_words words.Memory = Memory
+
+-- an answer to the words of the command line
+abbrev pub told : {X : Type 0} → Result X WordsFault → Result X ProgramFault
+told (Ok asked) = Ok asked
+told (Err fault) = Err (of_words fault)
 
 abbrev pub of_schedule : ScheduleFault → ProgramFault
 of_schedule schedule.Memory = Memory

@@ -1,7 +1,9 @@
 //! The words of the command line, with the program's faults.
 
-ghost use Rattle.std.specs.Prelude.{IfOk};
-ghost use Rattle.pfair_words.specs.Asked.{HasCount};
+ghost use Rattle.std.specs.Prelude.{◌≡◌, IfOk};
+ghost use Rattle.pfair_words.specs.Asked.{IsAnswer, texts};
+ghost use Rattle.pfair_words.specs.Plain.{HasCount, IsPlainAnswer};
+ghost use Rattle.pfair.specs.Faults.{told};
 
 use crate::fault::ProgramFault;
 use pfair_words::Asked;
@@ -9,10 +11,15 @@ use std::alloc::Global;
 
 /// Reads the words after the program's name.
 ///
-/// Words that ask for nothing are `CommandLine`, and are found before a refused weight is, which
-/// is `Weight`. Takes memory, and answers `Memory` where it is wanting.
+/// What they ask for is what `read_words` of `pfair_words` says, with the program's faults: words
+/// that ask for nothing are `CommandLine`, and are found before a refused weight is, which is
+/// `Weight`. Takes memory, and answers `Memory` where it is wanting.
 pub fn read_words(alloc: Global, words: &[String]) -> Result<Asked, ProgramFault>
-    ensures { IfOk result HasCount }
+    ensures asked { (answer : _) × (result ≡ told answer) × IsAnswer (texts words.now) answer × IsPlainAnswer (texts words.now) answer }
+    ensures count { IfOk result HasCount }
 {
-    Ok(pfair_words::read_words(alloc, words)?)
+    match pfair_words::read_words(alloc, words) {
+        Ok(asked) => Ok(asked),
+        Err(fault) => Err(ProgramFault::from(fault)),
+    }
 }

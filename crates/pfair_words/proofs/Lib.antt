@@ -1,0 +1,3 @@
+pub mod LineFacts
+pub mod PlainFacts
+pub mod FirstWord

@@ -1,0 +1,234 @@
+-- What is answered to the forms of the commands.
+use Rattle.std.proofs.Common.{rules, ◌≡◌, ◌⊎◌, ℕ, Bool, inl, inr, true, false, refl, sym, ap, subst, ◌∙◌, ◌≤◌, arith, List, [], ◌∷◌, Option, Some, None, IfOk, Result, Ok, Err, codes, true≢false}
+use Rattle.std.specs.Str.{bytes_eq}
+use Rattle.clap.specs.Words.{IsAmong, Row, Text, fault_of, first_of, subcommand_of}
+use Rattle.clap.specs.Walk.{one_of}
+use Rattle.clap.specs.declared.error.kind.ErrorKind.{ErrorKind}
+use Rattle.clap.specs.declared.error.kind.ErrorKind.TheVariants.{DisplayHelp, DisplayVersion, MissingSubcommand, ValueValidation}
+use Rattle.clap.specs.ValueTests.{accepts}
+use Rattle.clap.specs.declared.builder.value_parser.ValueParser.TheVariants.{Unsigned}
+use Rattle.std.specs.Str.Parse.{digits_value, without_leading_plus}
+use Rattle.clap.proofs.ValueTestLemmas.{Accepts-accepts}
+use Rattle.pfair_words.specs.Asked.{AskWindows, IsAnswer, IsFlag, IsAnswerTo, IsAnswerToAny, IsAnswerToKind, IsAnswerToTaken, IsAnswerToUntaken, Named, Spells, SpellsIfAny}
+use Rattle.pfair_words.specs.Line.{line, count}
+use Rattle.pfair_words.specs.Plain.{AskNumbers, HasCount, IsDecisionsAnswer, IsLagsAnswer, IsPlain, IsPlainAnswer, IsRefusal, IsReplayAnswer, IsTextAnswer, IsWindowsAnswer}
+use Rattle.pfair_words.specs.declared.words.Asked.{Asked}
+use Rattle.pfair_words.specs.declared.words.Asked.TheVariants.{Windows, Replay, Decisions, Lags, Help}
+use Rattle.pfair_words.specs.declared.words.WordsFault.{WordsFault}
+use Rattle.pfair_words.specs.declared.words.WordsFault.TheVariants.{Weight, Refused, Memory}
+use Rattle.pfair_words.specs.declared.words.TheConstants.{MAX_COUNT}
+use Rattle.pfair_words.proofs.FirstWord.{first_answer}
+use Rattle.pfair_words.proofs.LineFacts as line
+
+abbrev Answer : Type 0
+Answer = Result Asked WordsFault
+
+-- the parser takes the words, or it doesn't
+parts : (words : List Text) (G : Type 0) (r : Answer) → IsAnswer words r → (r ≡ Err Memory → G) → (IsAnswerToTaken words r → G) → (IsAnswerToUntaken words r → G) → G
+parts words G (Err Memory) h wanting taken untaken = wanting refl
+parts words G (Err Refused) h wanting taken untaken = elim h [ inl x ↦ taken x | inr x ↦ untaken x ]
+parts words G (Err (Weight f)) h wanting taken untaken = elim h [ inl x ↦ taken x | inr x ↦ untaken x ]
+parts words G (Ok a) h wanting taken untaken = elim h [ inl x ↦ taken x | inr x ↦ untaken x ]
+
+-- words that the parser takes are answered by the command that they name
+given : (words : List Text) (named : Named) (r : Answer) → fault_of line words ≡ [] → subcommand_of line words ≡ Some named → IsAnswer words r → IsAnswerTo named r
+given words named r none is h =
+    parts words (IsAnswerTo named r) r h
+    (λ e. subst (IsAnswerTo named) (sym e) tt)
+    (λ taken. subst (λ n. IsAnswerToAny n r) is taken.1)
+    (λ untaken. absurd (subst (IsAmong untaken.0) none untaken.1))
+
+some_inj : {X : Type 0} (x y : X) → Some x ≡ Some y → x ≡ y
+some_inj x y e = ap (λ o. Rattle.std.specs.Option.unwrap_or o x) e
+
+-- two names that differ
+apart : (a b : Text) → bytes_eq a a ≡ true → bytes_eq b a ≡ false → a ≡ b → ⊥
+apart a b same other e = true≢false (sym same ∙ ap (λ t. bytes_eq t a) e ∙ other)
+
+-- ---- decisions, lags and replay
+
+module _ (rows : List Row) (f : Text) (file : first_of (codes "file") rows ≡ Some f) where
+  decisions_answer : (r : Answer) → IsAnswerTo (codes "decisions", rows) r → IsDecisionsAnswer f r
+  decisions_answer (Ok (Decisions name)) h = some_inj _ _ (sym h.1 ∙ file)
+  decisions_answer (Ok (Windows w n)) h = absurd (apart (codes "decisions") (codes "windows") refl refl h.name)
+  decisions_answer (Ok (Replay name set)) h = absurd (apart (codes "decisions") (codes "replay") refl refl h.0.0)
+  decisions_answer (Ok (Lags name)) h = absurd (apart (codes "decisions") (codes "lags") refl refl h.0)
+  decisions_answer (Ok (Help text)) h = absurd h
+  decisions_answer (Err Memory) h = refl
+  decisions_answer (Err Refused) h = absurd (h.no_decisions f (refl, file))
+  decisions_answer (Err (Weight fault)) h = absurd (apart (codes "decisions") (codes "windows") refl refl h.3.name)
+
+  lags_answer : (r : Answer) → IsAnswerTo (codes "lags", rows) r → IsLagsAnswer f r
+  lags_answer (Ok (Lags name)) h = some_inj _ _ (sym h.1 ∙ file)
+  lags_answer (Ok (Windows w n)) h = absurd (apart (codes "lags") (codes "windows") refl refl h.name)
+  lags_answer (Ok (Replay name set)) h = absurd (apart (codes "lags") (codes "replay") refl refl h.0.0)
+  lags_answer (Ok (Decisions name)) h = absurd (apart (codes "lags") (codes "decisions") refl refl h.0)
+  lags_answer (Ok (Help text)) h = absurd h
+  lags_answer (Err Memory) h = refl
+  lags_answer (Err Refused) h = absurd (h.no_lags f (refl, file))
+  lags_answer (Err (Weight fault)) h = absurd (apart (codes "lags") (codes "windows") refl refl h.3.name)
+
+  replay_answer : (set : Bool) → ((flag : Bool) → IsFlag (one_of (codes "affinity") rows) flag → flag ≡ set) → (r : Answer) → IsAnswerTo (codes "replay", rows) r → IsReplayAnswer f set r
+  replay_answer set is (Ok (Replay name flag)) h = (some_inj _ _ (sym h.0.1 ∙ file), is flag h.1)
+  replay_answer set is (Ok (Windows w n)) h = absurd (apart (codes "replay") (codes "windows") refl refl h.name)
+  replay_answer set is (Ok (Decisions name)) h = absurd (apart (codes "replay") (codes "decisions") refl refl h.0)
+  replay_answer set is (Ok (Lags name)) h = absurd (apart (codes "replay") (codes "lags") refl refl h.0)
+  replay_answer set is (Ok (Help text)) h = absurd h
+  replay_answer set is (Err Memory) h = refl
+  replay_answer set is (Err Refused) h = absurd (h.no_replay f (refl, file))
+  replay_answer set is (Err (Weight fault)) h = absurd (apart (codes "replay") (codes "windows") refl refl h.3.name)
+
+-- ---- windows
+
+-- a word that spells a number up to `most` passes
+spelled : (word : Text) (n most : ℕ) → Spells word n → n ≤ most → accepts false (Unsigned 0 most) word ≡ true
+spelled word n most h below =
+    let digits = without_leading_plus word in
+    let range : digits_value 10 digits ≤ most = omega (arith, h.1) in
+    Accepts-accepts false (Unsigned 0 most) word (h.0.0, h.0.1, omega arith, range)
+
+among_refused : (a b c : Bool) (kind : ErrorKind) → IsAmong kind (line.kinds_by a b c) → kind ≡ ValueValidation
+among_refused true true true kind h = absurd h
+among_refused true true false kind (inl e) = e
+among_refused true true false kind (inr h) = absurd h
+among_refused true false c kind (inl e) = e
+among_refused true false c kind (inr h) = absurd h
+among_refused false b c kind (inl e) = e
+among_refused false b c kind (inr h) = absurd h
+
+no_text : (kind : ErrorKind) → kind ≡ ValueValidation → (kind ≡ DisplayHelp) ⊎ (kind ≡ DisplayVersion) → ⊥
+no_text kind e (inl h) = absurd (search rules)
+no_text kind e (inr h) = absurd (search rules)
+
+module _ (e p n : Text) (he : IsPlain e) (hp : IsPlain p) (hn : IsPlain n) where
+  abbrev rows : List Row
+  rows = line.windows_rows_of e p n
+
+  abbrev words : List Text
+  words = codes "windows" ∷ e ∷ p ∷ n ∷ []
+
+  to_spelled : (a b c : ℕ) → AskWindows (codes "windows", rows) a b c → AskNumbers e p n a b c
+  to_spelled a b c h = record {
+    spells_cost = subst (λ o. SpellsIfAny o a) (line.windows_cost e p n he hp hn) h.cost;
+    spells_period = subst (λ o. SpellsIfAny o b) (line.windows_period e p n he hp hn) h.period;
+    spells_count = subst (λ o. SpellsIfAny o c) (line.windows_count e p n he hp hn) h.count;
+    in_range = h.range;
+  }
+
+  to_asked : (a b c : ℕ) → AskNumbers e p n a b c → AskWindows (codes "windows", rows) a b c
+  to_asked a b c h = record {
+    name = refl;
+    cost = subst (λ o. SpellsIfAny o a) (sym (line.windows_cost e p n he hp hn)) h.spells_cost;
+    period = subst (λ o. SpellsIfAny o b) (sym (line.windows_period e p n he hp hn)) h.spells_period;
+    count = subst (λ o. SpellsIfAny o c) (sym (line.windows_count e p n he hp hn)) h.spells_count;
+    range = h.in_range;
+  }
+
+  -- numbers are taken
+  taken : (a b c : ℕ) → AskNumbers e p n a b c → fault_of line words ≡ []
+  taken a b c h =
+      let low : a ≤ 18446744073709551615 = omega (arith, h.spells_cost.0.1, h.spells_cost.1) in
+      let mid : b ≤ 18446744073709551615 = omega (arith, h.spells_period.0.1, h.spells_period.1) in
+      line.windows_taken e p n he hp hn ∙ by (spelled e a _ h.spells_cost low) (spelled p b _ h.spells_period mid) (spelled n c 1000000 h.spells_count h.in_range)
+    where
+      by : {x y z : Bool} → x ≡ true → y ≡ true → z ≡ true → line.kinds_by x y z ≡ []
+      by ex ey ez = rw (ex, ey, ez) refl
+
+  windows_answer : (r : Answer) → IsAnswerTo (codes "windows", rows) r → IsWindowsAnswer e p n r
+  windows_answer (Ok (Windows w count)) h = to_spelled w.cost w.period count h
+  windows_answer (Ok (Replay name set)) h = absurd (apart (codes "windows") (codes "replay") refl refl h.0.0)
+  windows_answer (Ok (Decisions name)) h = absurd (apart (codes "windows") (codes "decisions") refl refl h.0)
+  windows_answer (Ok (Lags name)) h = absurd (apart (codes "windows") (codes "lags") refl refl h.0)
+  windows_answer (Ok (Help text)) h = absurd h
+  windows_answer (Err Memory) h = tt
+  windows_answer (Err Refused) h = λ a b c k. h.no_windows a b c (to_asked a b c k)
+  windows_answer (Err (Weight fault)) h = (h.0, h.1, h.2, to_spelled h.0 h.1 h.2 h.3, h.4)
+
+  windows_refusal : (r : Answer) → IsAnswerToUntaken words r → IsWindowsAnswer e p n r
+  windows_refusal (Ok (Help text)) h = absurd (no_text h.0 (among_refused _ _ _ h.0 (subst (IsAmong h.0) (line.windows_taken e p n he hp hn) h.1)) h.2)
+  windows_refusal (Ok a) h = absurd h.2
+  windows_refusal (Err Memory) h = tt
+  windows_refusal (Err Refused) h = λ a b c k. subst (IsAmong h.0) (taken a b c k) h.1
+  windows_refusal (Err (Weight fault)) h = absurd h.2
+
+  windows_any : (r : Answer) → IsAnswer words r → IsWindowsAnswer e p n r
+  windows_any r h =
+      parts words (IsWindowsAnswer e p n r) r h
+      (λ e. subst (IsWindowsAnswer _ p n) (sym e) tt)
+      (λ taken. windows_answer r (subst (λ m. IsAnswerToAny m r) (line.windows_named e p n) taken.1))
+      (windows_refusal r)
+
+-- ---- texts, and no words
+
+text_of : (kind : ErrorKind) → (kind ≡ DisplayHelp) ⊎ (kind ≡ DisplayVersion) → (r : Answer) → IsAnswerToKind kind r → IsTextAnswer r
+text_of kind text (Ok (Help t)) h = tt
+text_of kind text (Ok a) h = absurd h
+text_of kind text (Err Memory) h = refl
+text_of kind (inl is) (Err Refused) h = absurd (h.0 is)
+text_of kind (inr is) (Err Refused) h = absurd (h.1 is)
+text_of kind text (Err (Weight fault)) h = absurd h
+
+refusal_of : (r : Answer) → IsAnswerToKind MissingSubcommand r → IsRefusal r
+refusal_of (Ok (Help t)) (inl e) = absurd (search rules)
+refusal_of (Ok (Help t)) (inr e) = absurd (search rules)
+refusal_of (Ok a) h = absurd h
+refusal_of (Err Memory) h = tt
+refusal_of (Err Refused) h = tt
+refusal_of (Err (Weight fault)) h = absurd h
+
+-- words that fail by one kind are answered by that kind
+of_kind : (words : List Text) (kind : ErrorKind) (r : Answer) → fault_of line words ≡ kind ∷ [] → IsAnswer words r → (r ≡ Err Memory) ⊎ IsAnswerToKind kind r
+of_kind words kind r is h =
+    parts words ((r ≡ Err Memory) ⊎ IsAnswerToKind kind r) r h
+    (λ e. inl e)
+    (λ taken. absurd (no_nil (sym is ∙ taken.0)))
+    (λ untaken. elim (subst (IsAmong untaken.0) is untaken.1) [
+      | inl e ↦ inr (subst (λ k. IsAnswerToKind k r) e untaken.2)
+      | inr none ↦ absurd none
+    ])
+  where
+    no_nil : kind ∷ [] ≡ [] → ⊥
+    no_nil e = absurd (search rules)
+
+text_answer : (words : List Text) (kind : ErrorKind) (r : Answer) → fault_of line words ≡ kind ∷ [] → (kind ≡ DisplayHelp) ⊎ (kind ≡ DisplayVersion) → IsAnswer words r → IsTextAnswer r
+text_answer words kind r is text h =
+    elim (of_kind words kind r is h) [
+      | inl e ↦ subst IsTextAnswer (sym e) refl
+      | inr k ↦ text_of kind text r k
+    ]
+
+none_answer : (r : Answer) → IsAnswer [] r → IsRefusal r
+none_answer r h =
+    elim (of_kind [] MissingSubcommand r line.no_words_faults h) [
+      | inl e ↦ subst IsRefusal (sym e) tt
+      | inr k ↦ refusal_of r k
+    ]
+
+-- ---- together
+
+pub plain_answer : (words : List Text) (r : Answer) → IsAnswer words r → IsPlainAnswer words r
+plain_answer _ r h = record {
+  windows = λ e p n he hp hn is. windows_any e p n he hp hn r (subst (λ ws. IsAnswer ws r) is h);
+  replay = λ f hf is. replay_answer _ f (line.replay_rows f hf).0 false (λ set on. on.off (line.replay_rows f hf).1) r (given _ _ r (line.replay_taken f hf) (line.replay_named f) (subst (λ ws. IsAnswer ws r) is h));
+  places = λ f hf is. replay_answer _ f (line.flag_rows f hf).0 true (λ set on. on.on (line.flag_rows f hf).1) r (given _ _ r (line.flag_taken f hf) (line.replay_named_two line.flag f) (subst (λ ws. IsAnswer ws r) is h));
+  places_after = λ f hf is. replay_answer _ f (line.after_rows f hf).0 true (λ set on. on.on (line.after_rows f hf).1) r (given _ _ r (line.after_taken f hf) (line.replay_named_two f line.flag) (subst (λ ws. IsAnswer ws r) is h));
+  decisions = λ f hf is. decisions_answer _ f (line.decisions_rows f hf) r (given _ _ r (line.decisions_taken f hf) (line.decisions_named f) (subst (λ ws. IsAnswer ws r) is h));
+  lags = λ f hf is. lags_answer _ f (line.lags_rows f hf) r (given _ _ r (line.lags_taken f hf) (line.lags_named f) (subst (λ ws. IsAnswer ws r) is h));
+  help = λ is. text_answer _ DisplayHelp r line.help_faults (inl refl) (subst (λ ws. IsAnswer ws r) is h);
+  version = λ is. text_answer _ DisplayVersion r line.version_faults (inr refl) (subst (λ ws. IsAnswer ws r) is h);
+  none = λ is. none_answer r (subst (λ ws. IsAnswer ws r) is h);
+  first = first_answer _ r h;
+}
+
+pub has_count : (words : List Text) (r : Answer) → IsAnswer words r → IfOk r HasCount
+has_count words (Err fault) h = tt
+has_count words (Ok (Replay name set)) h = tt
+has_count words (Ok (Decisions name)) h = tt
+has_count words (Ok (Lags name)) h = tt
+has_count words (Ok (Help text)) h = tt
+has_count words (Ok (Windows weight count)) (inl taken) = named (subcommand_of line words) taken.1
+  where
+    named : (n : Option Named) → IsAnswerToAny n (Ok (Windows weight count)) → count ≤ MAX_COUNT
+    named (Some n) h = h.range
+    named None h = absurd (search rules)
+has_count words (Ok (Windows weight count)) (inr untaken) = absurd untaken.2
