@@ -16,16 +16,26 @@ use Rattle.pfair_picture.specs.declared.fault.ProgramFault.{ProgramFault}
 use Rattle.pfair_picture.specs.declared.fault.ProgramFault.TheVariants.{Schedule, Memory, Slots, WriteFailed}
 use Rattle.pfair_picture.specs.declared.fault.RefusedSlots.{RefusedSlots}
 use Rattle.pfair_picture.specs.declared.words.Picture.{Picture}
+use Rattle.pfair_picture.specs.declared.words.Request.{Request}
 use Rattle.pfair_picture.specs.Faults.{of_schedule}
+use Rattle.pfair_picture.specs.Pages.{text_in}
 use Rattle.pfair_picture.specs.Pictures.{AreSlotsRefused, IsDrawnOf, IsFaultOfPicture, IsOutputOf, end_of, first_of, told}
 
 -- a text is that of a picture of what a dispatcher has planned
 abbrev pub IsTextOf : Picture → Option (ℕ × ℕ) → Dispatch → List ℕ → Type 0
 IsTextOf picture slots d made = (drawn : Drawing) × IsDrawnOf picture slots d drawn × (made ≡ svg_text drawn)
 
-pub output_of : {made shown : List ℕ} (picture : Picture) (slots : Option (ℕ × ℕ)) (given : Option (List ℕ)) (d : Dispatch) → IfSome given (λ bytes. IsScheduleOf bytes d) → IsTextOf picture slots d made
-    → shown ≡ made → (P : List ℕ → Type 0) → P shown → IfSome given (λ bytes. IsOutputOf picture slots bytes P)
-output_of picture slots given d has (drawn, is, same) equal P p = IfSome_then given has (λ bytes run. (d, run, (drawn, is, subst P (equal ∙ same) p)))
+-- or that in a form
+abbrev pub IsTextFor : Request → Dispatch → List ℕ → Type 0
+IsTextFor request d made = (drawn : Drawing) × IsDrawnOf request.picture request.slots d drawn × (made ≡ text_in request.form (svg_text drawn))
+
+-- the text of a picture, put into a form
+pub formed_of : {made text : List ℕ} (request : Request) (d : Dispatch) → IsTextOf request.picture request.slots d made → text ≡ text_in request.form made → IsTextFor request d text
+formed_of request d (drawn, is, same) equal = (drawn, is, equal ∙ ap (text_in request.form) same)
+
+pub output_of : {made shown : List ℕ} (request : Request) (given : Option (List ℕ)) (d : Dispatch) → IfSome given (λ bytes. IsScheduleOf bytes d) → IsTextFor request d made
+    → shown ≡ made → (P : List ℕ → Type 0) → P shown → IfSome given (λ bytes. IsOutputOf request bytes P)
+output_of request given d has (drawn, is, same) equal P p = IfSome_then given has (λ bytes run. (d, run, (drawn, is, subst P (equal ∙ same) p)))
 
 -- slots that are refused are told as they were asked for
 pub refused_of : (slots : Option (ℕ × ℕ)) (given : Option (List ℕ)) (d : Dispatch) (refused : RefusedSlots) (own : ProgramFault) → IfSome given (λ bytes. IsScheduleOf bytes d) → own ≡ Slots refused

@@ -15,6 +15,8 @@ use Rattle.pfair_picture.specs.declared.fault.ProgramFault.TheVariants.{Slots}
 use Rattle.pfair_picture.specs.Faults.{of_schedule}
 use Rattle.pfair_picture.specs.declared.words.Picture.{Picture}
 use Rattle.pfair_picture.specs.declared.words.Picture.TheVariants.{Schedule, Lags}
+use Rattle.pfair_picture.specs.declared.words.Request.{Request}
+use Rattle.pfair_picture.specs.Pages.{text_in}
 
 -- the slots that are asked for, or all
 abbrev pub first_of : Option (ℕ × ℕ) → ℕ
@@ -38,9 +40,10 @@ IsDrawnBetween picture d from to drawn = ¬ (AreRefused from to (length d.tables
 abbrev pub IsDrawnOf : Picture → Option (ℕ × ℕ) → Dispatch → Drawing → Type 0
 IsDrawnOf picture slots d drawn = IsDrawnBetween picture d (first_of slots) (end_of slots (length d.tables)) drawn
 
--- the bytes are those of a task file with a schedule, and P holds of the text of a picture of it
-abbrev pub IsOutputOf : Picture → Option (ℕ × ℕ) → List ℕ → (List ℕ → Type 0) → Type 0
-IsOutputOf picture slots bytes P = (d : Dispatch) × IsScheduleOf bytes d × ((drawn : Drawing) × IsDrawnOf picture slots d drawn × P (svg_text drawn))
+-- the bytes are those of a task file with a schedule, and P holds of what is written of a picture of it: its text, or that with the page around it
+abbrev pub IsOutputOf : Request → List ℕ → (List ℕ → Type 0) → Type 0
+IsOutputOf request bytes P =
+    (d : Dispatch) × IsScheduleOf bytes d × ((drawn : Drawing) × IsDrawnOf request.picture request.slots d drawn × P (text_in request.form (svg_text drawn)))
 
 -- what is told of slots that are refused: which were asked for, and how many there are
 abbrev pub told : (from to planned : ℕ) → RefusedSlots

@@ -7,8 +7,11 @@ use Rattle.pfair_picture.specs.declared.fault.ProgramFault.TheVariants.{CommandL
 use Rattle.pfair_picture.specs.declared.help.TheConstants.{HELP, VERSION}
 use Rattle.pfair_picture.specs.declared.words.Asked.{Asked}
 use Rattle.pfair_picture.specs.declared.words.Asked.TheVariants.{Draw, Text}
+use Rattle.pfair_picture.specs.declared.words.Form.{Form}
+use Rattle.pfair_picture.specs.declared.words.Form.TheVariants.{Svg, Html}
 use Rattle.pfair_picture.specs.declared.words.Picture.{Picture}
 use Rattle.pfair_picture.specs.declared.words.Picture.TheVariants.{Schedule, Lags}
+use Rattle.pfair_picture.specs.declared.words.Request.{Request}
 
 -- the bytes of some words
 abbrev pub texts : List (String Global) → List (List ℕ)
@@ -34,21 +37,36 @@ abbrev pub AskVersion : List (List ℕ) → Type 0
 AskVersion (w ∷ []) = w ≡ codes "--version"
 AskVersion _ = ⊥
 
--- a picture of a file: of all its slots, or of those from the first number to the one before the second
-abbrev pub AskPicture : List (List ℕ) → Picture → (file : List ℕ) → Option (ℕ × ℕ) → Type 0
-AskPicture (p ∷ f ∷ []) picture file None = (p ≡ name_of picture) × (f ≡ file) × (f ≢ codes "--help")
-AskPicture (p ∷ f ∷ a ∷ b ∷ []) picture file (Some slots) = (p ≡ name_of picture) × (f ≡ file) × Spells a slots.0 × Spells b slots.1
-AskPicture _ picture file slots = ⊥
+-- a file is not named as the help or the page is asked for
+abbrev pub IsFile : List ℕ → Type 0
+IsFile file = (file ≢ codes "--help") × (file ≢ codes "--html")
+
+-- two words that name a picture and a file
+abbrev pub Names : (name given : List ℕ) → Picture → (file : List ℕ) → Type 0
+Names name given picture file = (name ≡ name_of picture) × (given ≡ file) × IsFile given
+
+-- what two words name, in a form and with some slots
+abbrev pub IsNamed : (name given : List ℕ) → Form → Option (ℕ × ℕ) → Asked → Type 0
+IsNamed name given form slots (Draw file request) = Names name given request.picture (string_bytes file) × (request.form ≡ form) × (request.slots ≡ slots)
+IsNamed name given form slots (Text text) = ⊥
+
+-- a picture of a file, or a page around it: of all slots, or of those from the first number to the one before the second
+abbrev pub AskPicture : List (List ℕ) → Picture → Form → (file : List ℕ) → Option (ℕ × ℕ) → Type 0
+AskPicture (p ∷ f ∷ []) picture Svg file None = Names p f picture file
+AskPicture (p ∷ w ∷ f ∷ []) picture Html file None = (w ≡ codes "--html") × Names p f picture file
+AskPicture (p ∷ f ∷ a ∷ b ∷ []) picture Svg file (Some slots) = Names p f picture file × Spells a slots.0 × Spells b slots.1
+AskPicture (p ∷ w ∷ f ∷ a ∷ b ∷ []) picture Html file (Some slots) = (w ≡ codes "--html") × Names p f picture file × Spells a slots.0 × Spells b slots.1
+AskPicture _ picture form file slots = ⊥
 
 abbrev pub Ask : List (List ℕ) → Asked → Type 0
-Ask words (Draw picture file slots) = AskPicture words picture (string_bytes file) slots
+Ask words (Draw file request) = AskPicture words request.picture request.form (string_bytes file) request.slots
 Ask words (Text text) = (AskHelp words × (text.now ≡ HELP.now)) ⊎ (AskVersion words × (text.now ≡ VERSION.now))
 
 -- none of these
 pub record AskNothing (words : List (List ℕ)) : Type 0 where
   pub no_help : ¬ AskHelp words
   pub no_version : ¬ AskVersion words
-  pub no_picture : (picture : Picture) (file : List ℕ) (slots : Option (ℕ × ℕ)) → ¬ AskPicture words picture file slots
+  pub no_picture : (picture : Picture) (form : Form) (file : List ℕ) (slots : Option (ℕ × ℕ)) → ¬ AskPicture words picture form file slots
 
 abbrev pub IsRefusedAs : List (List ℕ) → ProgramFault → Type 0
 IsRefusedAs words CommandLine = AskNothing words

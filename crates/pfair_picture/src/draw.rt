@@ -6,26 +6,27 @@ ghost use Rattle.pfair_svg.specs.declared.drawing.Drawing.{Drawing};
 ghost use Rattle.pfair_drawing.specs.Schedule.{AreRefused};
 ghost use Rattle.pfair_svg.specs.Svg.{svg_text};
 ghost use Rattle.pfair_picture.specs.Faults.{of_schedule};
+ghost use Rattle.pfair_picture.specs.Pages.{text_in};
 ghost use Rattle.pfair_picture.specs.Pictures.{AreSlotsRefused, IsDrawnBetween, IsDrawnOf, IsFaultOfPicture, IsOutputOf, Shows, end_of, first_of, told};
 ghost use Rattle.pfair_picture.specs.declared.fault.ProgramFault.TheVariants.{Slots, Memory};
 ghost use Rattle.pfair_picture.specs.declared.fault.RefusedSlots.{RefusedSlots};
 
 use crate::fault::{ProgramFault, RefusedSlots};
-use crate::words::Picture;
+use crate::page::page_of;
+use crate::words::{Form, Picture, Request};
 use pfair_command::scheduled;
 use pfair_drawing::{DrawFault, Drawing, lags_drawing, schedule_drawing, svg_of};
 use pfair_ready::HeapReady;
 use pfair_table::Dispatcher;
 use pfair_text::send;
-use std::alloc::Global;
+use std::alloc::{AllocError, Global};
 use std::io::{Read, Write};
 
-/// Writes a picture of the script that a reader's bytes hold: of the given slots, from the first to
-/// the one before the second, or of all.
+/// Writes a picture of the script that a reader's bytes hold, or a page around it: of the given
+/// slots, from the first to the one before the second, or of all.
 ///
-/// The whole picture is made before the first byte goes out. No more than 67,108,864 bytes are
-/// taken from the reader, but where the file is too long or memory was wanting: one more may then
-/// be.
+/// The whole text is made before the first byte goes out. No more than 67,108,864 bytes are taken
+/// from the reader, but where the file is too long or memory was wanting: one more may then be.
 ///
 /// # Errors
 /// [`ProgramFault::Schedule`] with the cause where the file has no schedule, as [`scheduled`] says,
@@ -36,21 +37,45 @@ use std::io::{Read, Write};
 pub fn draw<R: Read, W: Write>(
     alloc: Global,
     reader: &mut R,
-    picture: Picture,
-    slots: Option<(u64, u64)>,
+    request: Request,
     writer: &mut W,
 ) -> Result<(), ProgramFault>
-    ensures command { IsCommandOf of_schedule ProgramFault.WriteFailed (IsOutputOf picture slots) IsFaultOfPicture result
+    ensures command { IsCommandOf of_schedule ProgramFault.WriteFailed (IsOutputOf request) IsFaultOfPicture result
         (R.remaining reader.old) (R.remaining reader.new) (W.contents writer.old) (W.contents writer.new) }
-    ensures slots { (refused : RefusedSlots) → IsErrOf result (Slots refused) → IfSome (R.remaining reader.old) (AreSlotsRefused slots refused) }
+    ensures slots { (refused : RefusedSlots) → IsErrOf result (Slots refused) → IfSome (R.remaining reader.old) (AreSlotsRefused request.slots refused) }
 {
     let dispatcher = scheduled(alloc, reader)?;
-    let text = text_of(alloc, &dispatcher, picture, slots)?;
+    let text = text_of(alloc, &dispatcher, request)?;
     Ok(send(writer, text.as_slice())?)
 }
 
-// The text of the picture that is asked for.
+// What is written of the picture that is asked for.
 fn text_of(
+    alloc: Global,
+    dispatcher: &Dispatcher<HeapReady>,
+    request: Request,
+) -> Result<Vec<u8>, ProgramFault>
+    ensures ok { IfOk result (λ text. (drawn : Drawing) × IsDrawnOf request.picture request.slots dispatcher.now drawn × (text.items ≡ text_in request.form (svg_text drawn))) }
+    ensures refused { let planned = length dispatcher.now.tables in IsErrOf result (Slots (told (first_of request.slots) (end_of request.slots planned) planned)) → AreRefused (first_of request.slots) (end_of request.slots planned) planned }
+    ensures only { let planned = length dispatcher.now.tables in IfErr result (λ e. (e ≡ Memory) ⊎ (e ≡ Slots (told (first_of request.slots) (end_of request.slots planned) planned))) }
+{
+    let picture = picture_text(alloc, dispatcher, request.picture, request.slots)?;
+    let text = formed(alloc, request.form, picture)?;
+    Ok(text)
+}
+
+// A picture's text in a form.
+fn formed(alloc: Global, form: Form, picture: Vec<u8>) -> Result<Vec<u8>, AllocError>
+    ensures { IfOk result (λ text. text.items ≡ text_in form picture.items) }
+{
+    match form {
+        Form::Svg => Ok(picture),
+        Form::Html => page_of(alloc, picture.as_slice()),
+    }
+}
+
+// The text of a picture: of the slots that are asked for, or of all.
+fn picture_text(
     alloc: Global,
     dispatcher: &Dispatcher<HeapReady>,
     picture: Picture,

@@ -6,8 +6,8 @@ pub(crate) const VERSION: &str = "pfair_picture 0.2.0\n";
 /// How the program is used.
 pub(crate) const HELP: &str = "Pictures of Pfair schedules and of lags, in SVG, to standard output
 
-Usage: pfair_picture schedule FILE [FROM TO]
-       pfair_picture lags FILE [FROM TO]
+Usage: pfair_picture schedule [--html] FILE [FROM TO]
+       pfair_picture lags [--html] FILE [FROM TO]
        pfair_picture --help | --version
 
   schedule  a row for each task, in the order in which they are first named: windows as outlined
@@ -15,11 +15,14 @@ Usage: pfair_picture schedule FILE [FROM TO]
             subtask, and what was decided; below, a row for each processor
   lags      a row for each task that was admitted: how far it is from its fluid share, with the
             bounds of -1 and 1
+  --html    a page around the picture: one HTML file with no outside parts, to zoom, pan and point
+            at in a browser, with names and times in sight
   FILE      task file, as `pfair replay --help` describes it
   FROM TO   the slots FROM to TO - 1, at most 4096; without them all slots of the file
 
 Examples:
   pfair_picture schedule examples/two_processors.toml >schedule.svg
+  pfair_picture schedule --html examples/two_processors.toml >schedule.html
   pfair_picture lags long.toml 1000 1048 >lags.svg
 
 A fault is one line on standard error, `pfair_picture: NUMBER TEXT`, with the numbers of `pfair`.

@@ -1,9 +1,11 @@
-//! `pfair_picture`: pictures of the schedules and of the lags of task files, in SVG.
+//! `pfair_picture`: pictures of the schedules and of the lags of task files, in SVG, and pages around
+//! them, in HTML.
 #![tactic(auto)]
 
 mod draw;
 mod fault;
 mod help;
+mod page;
 #[cfg(test)]
 mod tests;
 mod words;
@@ -27,13 +29,9 @@ fn run(rt: &HostRuntime) -> Result<(), ProgramFault> {
     let words = given_words(rt, ProgramFault::CommandLine)?;
     let mut out = rt.stdout();
     match read_words(rt.alloc(), words.as_slice())? {
-        Asked::Draw {
-            picture,
-            file,
-            slots,
-        } => {
+        Asked::Draw { file, request } => {
             let mut reader = opened(rt, &file)?;
-            draw(rt.alloc(), &mut reader, picture, slots, &mut out)
+            draw(rt.alloc(), &mut reader, request, &mut out)
         }
         Asked::Text(text) => Ok(send(&mut out, text.as_bytes())?),
     }

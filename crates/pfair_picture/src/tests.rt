@@ -2,7 +2,7 @@
 
 use crate::draw::draw;
 use crate::fault::{ProgramFault, RefusedSlots, write_fault};
-use crate::words::{Asked, Picture, read_words};
+use crate::words::{Asked, Form, Picture, Request, read_words};
 use std::alloc::{AllocError, Global};
 use std::io;
 use std::io::Write;
@@ -22,32 +22,53 @@ fn has(text: &[u8], part: &[u8]) -> bool {
     false
 }
 
-fn assert_picture(rt: &impl Abort, alloc: Global, picture: Picture, part: &[u8]) {
+// What is asked for where all slots of the file are to be drawn.
+fn whole(picture: Picture, form: Form) -> Request {
+    Request {
+        picture,
+        form,
+        slots: None,
+    }
+}
+
+fn assert_text_of(
+    rt: &impl Abort,
+    alloc: Global,
+    request: Request,
+    part: &[u8],
+    ends: (&[u8], &[u8]),
+) {
     let mut text: Vec<u8> = Vec::new(alloc);
-    let made = draw(alloc, &mut FILE.as_bytes(), picture, None, &mut text);
+    let made = draw(alloc, &mut FILE.as_bytes(), request, &mut text);
     assert!(rt; made.is_ok());
-    assert!(rt; text.as_slice().starts_with(b"<svg "));
-    assert!(rt; text.as_slice().ends_with(b"</svg>\n"));
+    assert!(rt; text.as_slice().starts_with(ends.0));
+    assert!(rt; text.as_slice().ends_with(ends.1));
     assert!(rt; has(text.as_slice(), part));
 }
 
 #[test]
-fn both_pictures_come_out(rt: HostRuntime) {
-    assert_picture(&rt, rt.alloc(), Picture::Schedule, b"class=\"window\"");
-    assert_picture(&rt, rt.alloc(), Picture::Lags, b"class=\"lag\"");
+fn both_pictures_come_out_in_both_forms(rt: HostRuntime) {
+    let rows: [(Picture, &[u8]); 2] = [
+        (Picture::Schedule, b"class=\"window\""),
+        (Picture::Lags, b"class=\"lag\""),
+    ];
+    for (picture, part) in rows {
+        let svg: (&[u8], &[u8]) = (b"<svg ", b"</svg>\n");
+        let html: (&[u8], &[u8]) = (b"<!DOCTYPE html>\n", b"</html>\n");
+        assert_text_of(&rt, rt.alloc(), whole(picture, Form::Svg), part, svg);
+        assert_text_of(&rt, rt.alloc(), whole(picture, Form::Html), part, html);
+    }
 }
 
 // Asserts whether these slots are drawn.
 fn assert_drawn(rt: &impl Abort, alloc: Global, slots: (u64, u64), is_drawn: bool) {
     let mut text: Vec<u8> = Vec::new(alloc);
-    let made = draw(
-        alloc,
-        &mut FILE.as_bytes(),
-        Picture::Schedule,
-        Some(slots),
-        &mut text,
-    );
-    match made {
+    let request = Request {
+        picture: Picture::Schedule,
+        form: Form::Html,
+        slots: Some(slots),
+    };
+    match draw(alloc, &mut FILE.as_bytes(), request, &mut text) {
         Ok(()) => assert!(rt; is_drawn),
         Err(fault) => {
             assert!(rt; !is_drawn && fault.number() == 81 && fault.status() == 1);
@@ -72,20 +93,21 @@ fn slots_outside_the_file_are_refused(rt: HostRuntime) {
 }
 
 // Asserts whether words are taken: as a picture of one file, and of slots where there are four.
+// Asserts that these words ask for a picture of the file `file`, or for nothing.
 fn assert_words(
     rt: &impl Abort,
     alloc: Global,
     given: &[&str],
-    is_taken: bool,
+    wanted: Option<(Form, Option<(u64, u64)>)>,
 ) -> Result<(), Fail> {
     let words = words_of(alloc, given)?;
     match read_words(alloc, words.as_slice()) {
-        Ok(Asked::Draw { file, slots, .. }) => {
-            assert!(rt; is_taken && file.as_str() == "file");
-            assert!(rt; slots == if given.len() == 4 { Some((2, 7)) } else { None });
+        Ok(Asked::Draw { file, request }) => {
+            assert!(rt; file.as_str() == "file");
+            assert!(rt; wanted == Some((request.form, request.slots)));
         }
         Ok(Asked::Text(_)) => assert!(rt; false),
-        Err(fault) => assert!(rt; !is_taken && fault.number() == 80),
+        Err(fault) => assert!(rt; wanted.is_none() && fault.number() == 80),
     }
     Ok(())
 }
@@ -100,18 +122,28 @@ fn words_of(alloc: Global, given: &[&str]) -> Result<Vec<String>, AllocError> {
 
 #[test]
 fn words_are_read(rt: HostRuntime) -> Result<(), Fail> {
-    let rows: [(&[&str], bool); 8] = [
-        (&["lags", "file", "2", "7"], true),
-        (&["schedule", "file"], true),
-        (&["schedule", "file", "2"], false),
-        (&["schedule", "file", "2", "x"], false),
-        (&["replay", "file"], false),
-        (&["lags"], false),
-        (&["--help", "file"], false),
-        (&[], false),
+    let some = Some((2, 7));
+    let rows: [(&[&str], Option<(Form, Option<(u64, u64)>)>); 14] = [
+        (&["lags", "file", "2", "7"], Some((Form::Svg, some))),
+        (&["schedule", "file"], Some((Form::Svg, None))),
+        (&["lags", "--html", "file"], Some((Form::Html, None))),
+        (
+            &["schedule", "--html", "file", "2", "7"],
+            Some((Form::Html, some)),
+        ),
+        (&["schedule", "--html"], None),
+        (&["schedule", "--html", "2", "7"], None),
+        (&["schedule", "--html", "--help"], None),
+        (&["schedule", "file", "--html"], None),
+        (&["schedule", "file", "2"], None),
+        (&["schedule", "file", "2", "x"], None),
+        (&["replay", "file"], None),
+        (&["lags"], None),
+        (&["--help", "file"], None),
+        (&[], None),
     ];
-    for (given, is_taken) in rows {
-        assert_words(&rt, rt.alloc(), given, is_taken)?;
+    for (given, wanted) in rows {
+        assert_words(&rt, rt.alloc(), given, wanted)?;
     }
     Ok(())
 }
@@ -161,14 +193,8 @@ fn a_writer_that_fails_has_a_prefix(rt: HostRuntime) -> Result<(), Fail> {
         taken: Vec::new(rt.alloc()),
         room: 10,
     };
-    let fault = draw(
-        rt.alloc(),
-        &mut FILE.as_bytes(),
-        Picture::Lags,
-        None,
-        &mut writer,
-    )
-    .err();
+    let request = whole(Picture::Lags, Form::Svg);
+    let fault = draw(rt.alloc(), &mut FILE.as_bytes(), request, &mut writer).err();
     assert!(rt; fault.is_some_and(|fault| fault.number() == 71));
     assert_eq!(rt; writer.taken.as_slice(), b"<svg xmlns".as_slice());
     Ok(())

@@ -1,7 +1,8 @@
 //! The words of the command line.
 
-ghost use Rattle.std.specs.Prelude.{◌≡◌, ◌≢◌, ◌∷◌, [], ℕ, MatchOption, slice_get, unwrap_or};
-ghost use Rattle.pfair_picture.specs.Words.{IsAnswerTo, Spells, name_of, texts};
+ghost use Rattle.std.specs.Prelude.{◌≡◌, ◌≢◌, ◌∷◌, [], ◌⊎◌, ℕ, List, IfErr, IfOk, IsErrOf, MatchOption, slice_get, unwrap_or};
+ghost use Rattle.pfair_picture.specs.Words.{IsAnswerTo, IsNamed, Names, Spells, name_of, texts};
+ghost use Rattle.pfair_picture.specs.declared.fault.ProgramFault.TheVariants.{CommandLine, Memory};
 
 use crate::fault::ProgramFault;
 use crate::help::{HELP, VERSION};
@@ -16,27 +17,45 @@ pub enum Picture {
     Lags,
 }
 
+/// What is written of a picture.
+#[derive(Clone, Copy, Debug, PartialEq, Eq)]
+pub enum Form {
+    /// The picture alone, in SVG.
+    Svg,
+    /// A page around the picture, in HTML.
+    Html,
+}
+
+/// What is asked for of a task file.
+#[derive(Clone, Copy, Debug, PartialEq, Eq)]
+pub struct Request {
+    /// Which picture.
+    pub picture: Picture,
+    /// What is written of it.
+    pub form: Form,
+    /// The first slot, and the slot after the last one; or all.
+    pub slots: Option<(u64, u64)>,
+}
+
 /// What a command line asks for.
 #[derive(Debug, Drop)]
 pub enum Asked {
-    /// A picture of some slots of a task file, or of all.
+    /// A picture of a task file.
     Draw {
-        /// Which picture.
-        picture: Picture,
         /// The task file.
         file: String,
-        /// The first slot, and the slot after the last one.
-        slots: Option<(u64, u64)>,
+        /// What is asked for of it.
+        request: Request,
     },
     /// A text about the program.
     Text(&'static str),
 }
 
-/// Reads the words after the program's name: `schedule FILE [FROM TO]`, `lags FILE [FROM TO]`,
-/// `--help`, also behind the name of a picture, or `--version`.
+/// Reads the words after the program's name: `schedule [--html] FILE [FROM TO]`, `lags [--html] FILE
+/// [FROM TO]`, `--help`, also behind the name of a picture, or `--version`.
 ///
-/// FROM and TO are numbers below 2^64 in decimal digits, behind one plus at most; whether a picture
-/// has these slots is seen once the file is known.
+/// FILE is neither `--help` nor `--html`. FROM and TO are numbers below 2^64 in decimal digits, behind
+/// one plus at most; whether a picture has these slots is seen once the file is known.
 ///
 /// # Errors
 /// [`ProgramFault::CommandLine`] exactly where the words have none of these forms, and
@@ -48,7 +67,16 @@ pub fn read_words(alloc: Global, words: &[String]) -> Result<Asked, ProgramFault
     match words.len() {
         1 => about(first),
         2 => whole(alloc, first, word(words, 1)),
+        3 => whole_page(alloc, first, word(words, 1), word(words, 2)),
         4 => part(alloc, first, word(words, 1), word(words, 2), word(words, 3)),
+        5 => part_page(
+            alloc,
+            first,
+            word(words, 1),
+            word(words, 2),
+            word(words, 3),
+            word(words, 4),
+        ),
         _ => Err(ProgramFault::CommandLine),
     }
 }
@@ -71,33 +99,77 @@ fn whole(alloc: Global, name: &str, file: &str) -> Result<Asked, ProgramFault>
     ensures { IsAnswerTo (name.now ∷ file.now ∷ []) result }
 {
     match picture_named(name) {
-        None => Err(ProgramFault::CommandLine),
         Some(_) if file == "--help" => Ok(Asked::Text(HELP)),
-        Some(picture) => Ok(Asked::Draw {
-            picture,
-            file: String::from_str(alloc, file)?,
-            slots: None,
-        }),
+        _ => named(alloc, name, Form::Svg, file, None),
     }
+}
+
+// Three words: a page of all slots of a file.
+fn whole_page(alloc: Global, name: &str, flag: &str, file: &str) -> Result<Asked, ProgramFault>
+    ensures { IsAnswerTo (name.now ∷ flag.now ∷ file.now ∷ []) result }
+{
+    if flag != "--html" {
+        return Err(ProgramFault::CommandLine);
+    }
+    named(alloc, name, Form::Html, file, None)
 }
 
 // Four words: a picture of some slots of a file.
 fn part(alloc: Global, name: &str, file: &str, from: &str, to: &str) -> Result<Asked, ProgramFault>
     ensures { IsAnswerTo (name.now ∷ file.now ∷ from.now ∷ to.now ∷ []) result }
 {
+    let Some(slots) = numbers_spelled(from, to) else {
+        return Err(ProgramFault::CommandLine);
+    };
+    named(alloc, name, Form::Svg, file, Some(slots))
+}
+
+// Five words: a page of some slots of a file.
+fn part_page(
+    alloc: Global,
+    name: &str,
+    flag: &str,
+    file: &str,
+    from: &str,
+    to: &str,
+) -> Result<Asked, ProgramFault>
+    ensures { IsAnswerTo (name.now ∷ flag.now ∷ file.now ∷ from.now ∷ to.now ∷ []) result }
+{
+    if flag != "--html" {
+        return Err(ProgramFault::CommandLine);
+    }
+    let Some(slots) = numbers_spelled(from, to) else {
+        return Err(ProgramFault::CommandLine);
+    };
+    named(alloc, name, Form::Html, file, Some(slots))
+}
+
+// A picture of a file, where the words name both.
+fn named(
+    alloc: Global,
+    name: &str,
+    form: Form,
+    file: &str,
+    slots: Option<(u64, u64)>,
+) -> Result<Asked, ProgramFault>
+    ensures ok { IfOk result (IsNamed name.now file.now form slots) }
+    ensures refused { IsErrOf result CommandLine → (picture : Picture) (kept : List ℕ) → ¬ Names name.now file.now picture kept }
+    ensures only { IfErr result (λ e. (e ≡ Memory) ⊎ (e ≡ CommandLine)) }
+{
     let Some(picture) = picture_named(name) else {
         return Err(ProgramFault::CommandLine);
     };
-    let Some(from) = number_spelled(from) else {
+    if file == "--help" || file == "--html" {
         return Err(ProgramFault::CommandLine);
-    };
-    let Some(to) = number_spelled(to) else {
-        return Err(ProgramFault::CommandLine);
-    };
+    }
+    let file = String::from_str(alloc, file)?;
     Ok(Asked::Draw {
-        picture,
-        file: String::from_str(alloc, file)?,
-        slots: Some((from, to)),
+        file,
+        request: Request {
+            picture,
+            form,
+            slots,
+        },
     })
 }
 
@@ -132,4 +204,11 @@ fn number_spelled(word: &str) -> Option<u64>
         Ok(number) => Some(number),
         Err(_) => None,
     }
+}
+
+// The numbers that two words spell.
+fn numbers_spelled(from: &str, to: &str) -> Option<(u64, u64)>
+    ensures { MatchOption result ((a b : ℕ) → ¬ (Spells from.now a × Spells to.now b)) (λ slots. Spells from.now slots.0 × Spells to.now slots.1) }
+{
+    Some((number_spelled(from)?, number_spelled(to)?))
 }

@@ -7,12 +7,12 @@ use Rattle.pfair_picture.proofs.draw.draw.Goals as goal
 pub returns-clause-command : goal.returns-clause-command
 returns-clause-command g c =
     ends_well takes_over c.in_ok-dispatcher.ensures.taken _
-    (output_of c.args.picture c.args.slots _ c.in_ok-dispatcher.dispatcher c.in_ok-dispatcher.ensures.ok c.in_ok-text.ensures.ok c.as_slice.ensures.value) c.in_ok-send.ensures.ok
+    (output_of c.args.request _ c.in_ok-dispatcher.dispatcher c.in_ok-dispatcher.ensures.ok c.in_ok-text.ensures.ok c.as_slice.ensures.value) c.in_ok-send.ensures.ok
 
 pub returns-in_err-send-clause-command : goal.returns-in_err-send-clause-command
 returns-in_err-send-clause-command g c =
     ends_cut takes_over c.in_ok-dispatcher.ensures.taken _ c.from_residual-in_err-send.ensures.1
-    (output_of c.args.picture c.args.slots _ c.in_ok-dispatcher.dispatcher c.in_ok-dispatcher.ensures.ok c.in_ok-text.ensures.ok c.as_slice.ensures.value) c.in_err-send.ensures.failed
+    (output_of c.args.request _ c.in_ok-dispatcher.dispatcher c.in_ok-dispatcher.ensures.ok c.in_ok-text.ensures.ok c.as_slice.ensures.value) c.in_err-send.ensures.failed
 
 pub returns-in_err-dispatcher-clause-command : goal.returns-in_err-dispatcher-clause-command
 returns-in_err-dispatcher-clause-command g c =
@@ -23,5 +23,5 @@ returns-in_err-text-clause-command g c = ends_undrawn c.in_ok-dispatcher.ensures
 
 pub returns-in_err-text-clause-slots : goal.returns-in_err-text-clause-slots
 returns-in_err-text-clause-slots g c refused is =
-    refused_of c.args.slots _ c.in_ok-dispatcher.dispatcher refused _ c.in_ok-dispatcher.ensures.ok (one_fault c.from_residual-in_err-text.result _ (Slots refused) c.from_residual-in_err-text.ensures.1 is) c.in_err-text.ensures.only
+    refused_of c.args.request.slots _ c.in_ok-dispatcher.dispatcher refused _ c.in_ok-dispatcher.ensures.ok (one_fault c.from_residual-in_err-text.result _ (Slots refused) c.from_residual-in_err-text.ensures.1 is) c.in_err-text.ensures.only
     (λ told. c.in_err-text.ensures.refused (ap Err told))

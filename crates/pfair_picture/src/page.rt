@@ -1,4 +1,36 @@
-<canvas id="times" aria-hidden="true"></canvas><canvas id="names" aria-hidden="true"></canvas>
+//! The page around a picture: to zoom, pan and hover in a browser, with names and times in sight. It
+//! asks for no other file; without JavaScript it scrolls.
+
+ghost use Rattle.std.specs.Prelude.{◌≡◌, ◌++◌, IfOk};
+ghost use Rattle.pfair_picture.specs.Pages.{page_text};
+
+use std::alloc::{AllocError, Global};
+
+/// What stands before the picture.
+pub(crate) const PAGE_HEAD: &str = r##"<!DOCTYPE html>
+<html lang="en">
+<head>
+<meta charset="utf-8">
+<meta name="viewport" content="width=device-width">
+<title>Pfair picture</title>
+<style>
+html, body { margin: 0; height: 100%; background: #fff }
+#view { position: fixed; inset: 0; overflow: auto; outline: none }
+#view > svg { position: absolute; left: 0; top: 0; transform-origin: 0 0 }
+#view > canvas, #glass { position: absolute; left: 0; top: 0 }
+#glass { right: 0; bottom: 0; cursor: grab; touch-action: none }
+#glass.held { cursor: grabbing }
+#box { position: absolute; max-width: 40em; padding: 3px 7px; border-radius: 3px; background: #1f2933; color: #fff; font: 12px sans-serif; white-space: pre-line; pointer-events: none }
+#keys { position: absolute; right: 8px; bottom: 6px; padding: 1px 6px; background: #ffffffd0; color: #5b6673; font: 11px sans-serif }
+</style>
+</head>
+<body>
+<div id="view" tabindex="0">
+"##;
+
+/// What stands behind it.
+pub(crate) const PAGE_TAIL: &str =
+    r##"<canvas id="times" aria-hidden="true"></canvas><canvas id="names" aria-hidden="true"></canvas>
 <div id="glass"></div>
 <div id="keys">drag or arrows: move &#183; wheel or + and -: zoom &#183; 0: as at first</div>
 <div id="box" role="status" hidden></div>
@@ -224,3 +256,22 @@ view.focus();
 </script>
 </body>
 </html>
+"##;
+
+/// The page of a picture. Answers want of memory.
+pub(crate) fn page_of(alloc: Global, picture: &[u8]) -> Result<Vec<u8>, AllocError>
+    ensures { IfOk result (λ page. page.items ≡ page_text picture.now) }
+{
+    between(alloc, PAGE_HEAD.as_bytes(), picture, PAGE_TAIL.as_bytes())
+}
+
+// A text with one before it and one behind it.
+fn between(alloc: Global, before: &[u8], text: &[u8], behind: &[u8]) -> Result<Vec<u8>, AllocError>
+    ensures { IfOk result (λ all. all.items ≡ before.now ++ text.now ++ behind.now) }
+{
+    let mut all = Vec::new(alloc);
+    all.extend_from_slice(before)?;
+    all.extend_from_slice(text)?;
+    all.extend_from_slice(behind)?;
+    Ok(all)
+}
