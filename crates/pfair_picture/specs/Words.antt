@@ -11,7 +11,6 @@ use Rattle.pfair_picture.specs.declared.words.Form.{Form}
 use Rattle.pfair_picture.specs.declared.words.Form.TheVariants.{Svg, Html}
 use Rattle.pfair_picture.specs.declared.words.Picture.{Picture}
 use Rattle.pfair_picture.specs.declared.words.Picture.TheVariants.{Schedule, Lags}
-use Rattle.pfair_picture.specs.declared.words.Request.{Request}
 
 -- the bytes of some words
 abbrev pub texts : List (String Global) → List (List ℕ)

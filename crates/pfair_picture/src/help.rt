@@ -4,7 +4,8 @@
 pub(crate) const VERSION: &str = "pfair_picture 0.2.0\n";
 
 /// How the program is used.
-pub(crate) const HELP: &str = "Pictures of Pfair schedules and of lags, in SVG, to standard output
+pub(crate) const HELP: &str =
+    "Pictures of Pfair schedules and of lags, in SVG or on a page, to standard output
 
 Usage: pfair_picture schedule [--html] FILE [FROM TO]
        pfair_picture lags [--html] FILE [FROM TO]
