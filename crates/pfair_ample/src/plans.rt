@@ -2,11 +2,24 @@
 
 use pfair_entry::{Announcement, Entry};
 use pfair_ready::{HeapReady, PlainReady, Ready};
-use pfair_table::{Dispatcher, Pick, Settings, Step};
+use pfair_table::{Dispatcher, Pick, Run, Settings, Step};
 use pfair_weight::{TaskName, Weight};
 use std::alloc::Global;
 use std::process::Abort;
 use std::test::Fail;
+
+// Slots in which the task of weight 1/2 runs, with the subtask: at the edges of the run, about slot
+// 1,000, and about slots 1,024 and 2,048, where what is planned goes on in another piece.
+const SLOTS: [(u64, u64); 8] = [
+    (0, 1),
+    (998, 500),
+    (1000, 501),
+    (1022, 512),
+    (1024, 513),
+    (2046, 1024),
+    (2048, 1025),
+    (2998, 1500),
+];
 
 // A task of weight 1/2 arrives, and the log settles all slots.
 fn takes_the_log<R: Ready>(
@@ -21,7 +34,7 @@ fn takes_the_log<R: Ready>(
         early,
     };
     let first = dispatcher.take(0, 1, Entry::new(0, Some((0, arrival)))?)?;
-    let second = dispatcher.take(0, 2, Entry::new(2000, None)?)?;
+    let second = dispatcher.take(0, 2, Entry::new(3000, None)?)?;
     assert!(rt; first == second);
     Ok(())
 }
@@ -49,21 +62,39 @@ fn goes_on<R: Ready>(
     plans(rt, dispatcher, 1000)?;
     dispatcher.reopen()?;
     assert_eq!(rt; dispatcher.next_slot(), 1000);
-    plans(rt, dispatcher, 1000)?;
+    plans(rt, dispatcher, 2000)?;
     let none: [Pick; 0] = [];
-    for (slot, index) in [(0, 1), (998, 500), (1000, 501), (1998, 1000)] {
+    for (slot, index) in SLOTS {
         assert!(rt; dispatcher.table(slot) == Some([Pick { name, index }].as_slice()));
+        assert!(rt; dispatcher.places(slot) == Some([0].as_slice()));
         assert!(rt; dispatcher.table(slot + 1) == Some(none.as_slice()));
     }
+    assert!(rt; dispatcher.table(3000).is_none());
     assert!(rt; dispatcher.plan_next()? == Step::Done);
     Ok(())
 }
 
+// All 3,000 tables and their places are handed over, in the order of the slots.
+fn assert_handed_over(rt: &impl Abort, run: &Run, name: TaskName) {
+    assert_eq!(rt; run.tables.len(), 3000);
+    assert_eq!(rt; run.places.len(), 3000);
+    for (slot, index) in SLOTS {
+        let (first, second) = (slot as usize, slot as usize + 1);
+        let rows = run.tables.get(first).map(|rows| rows.as_slice());
+        assert!(rt; rows == Some([Pick { name, index }].as_slice()));
+        let places = run.places.get(first).map(|places| places.as_slice());
+        assert!(rt; places == Some([0].as_slice()));
+        assert!(rt; run.tables.get(second).is_some_and(|rows| rows.is_empty()));
+    }
+}
+
 fn assert_goes_on<R: Ready>(rt: &impl Abort, alloc: Global) -> Result<(), Fail> {
     let name = TaskName::from_bytes(b"a")?;
-    let settings = Settings::new(1, 2, 2000).expect(rt, "settings");
+    let settings = Settings::new(1, 2, 3000).expect(rt, "settings");
     let mut dispatcher = Dispatcher::<R>::new(alloc, settings, 4)?;
-    goes_on(rt, &mut dispatcher, name)
+    goes_on(rt, &mut dispatcher, name)?;
+    assert_handed_over(rt, &dispatcher.into_run()?, name);
+    Ok(())
 }
 
 #[test]

@@ -1,7 +1,5 @@
 -- The first fault of a run is one that the run may end with.
-use Rattle.std.proofs.Common.{◌≡◌, ◌∙◌, ◌<◌, ℕ, ap, subst, refl, Bool, Some, List, IfErr, true}
-use Rattle.pfair_replica.specs.Replica.{Replica, frontier}
-use Rattle.pfair_table.specs.Table.{Settings}
+use Rattle.std.proofs.Common.{◌≡◌, subst, refl, Bool, Some, List, IfErr, true}
 use Rattle.pfair_table.specs.Script.{LoggedRun, replica_of_logs}
 use Rattle.pfair_board.specs.declared.worked.Worked.{Worked}
 use Rattle.pfair_board.specs.declared.fault.RunFault.{RunFault}

@@ -2,4 +2,5 @@ mod FirstFaults
 mod Following
 mod Planning
 mod Rows
+mod Whole
 mod Working

@@ -85,8 +85,8 @@ fn run_on<P: Threads + Wait + Sync, R: Ready + Send, G: Gate + Sync>(
     ensures fault { IfErr result (IsRunFaultOf G.may_give_up script.now) }
 {
     least_join();
-    // what every script keeps comes with the contract of its reader
-    let _settings = script.settings();
+    // the board has a row for each log of the script
+    prove!(script.settings().processors() == board.processors());
     let works = run_all::<P, R, G>(rt, alloc, script, board, gate)?;
     match fault_of::<R>(alloc, script, works.as_slice())? {
         Some(fault) => Err(fault),

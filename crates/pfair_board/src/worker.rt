@@ -1,7 +1,7 @@
 //! What each worker does.
 ghost use Rattle.std.specs.Prelude.{◌≡◌, ◌<◌, ◌≤◌, ◌+◌, length, IfOk, IfErr, OnOk, false};
 ghost use Rattle.pfair_replica.specs.HeldRows.{replica_of};
-ghost use Rattle.pfair_replica.specs.Replica.{frontier, has_torn};
+ghost use Rattle.pfair_replica.specs.Replica.{Agree, frontier, has_torn};
 ghost use Rattle.pfair_table.specs.Table.{plan};
 ghost use Rattle.pfair_table.specs.Places.{places_of};
 ghost use Rattle.pfair_table.specs.Planned.{as_tables, as_places};
@@ -19,8 +19,8 @@ use pfair_desk::{Board, Desk, PublishFault};
 use pfair_entry::Entry;
 use pfair_ready::Ready;
 use pfair_replica::MergeFault;
-use pfair_replica::laws::{least_join, torn_test};
-use pfair_table::{Dispatcher, PlanFault, Run, Settings, Step};
+use pfair_replica::laws::{agreement, least_join, marks_never_fall, torn_test};
+use pfair_table::{Dispatcher, PlanFault, Run, Settings};
 use std::alloc::{AllocError, Global};
 use std::sync::Wait;
 
@@ -38,7 +38,8 @@ use std::sync::Wait;
 /// again to take over the entry; a look-up for each processor where no further hint waits; and a
 /// refresh at the end. Before the first hint and after the refresh the dispatcher takes over all
 /// that the desk holds, at a look-up for each number of each row. So what is done for a hint grows
-/// with the entries held no more than a look does. The tables and the places aren't copied.
+/// with the entries held no more than a look does. At the end each table and its places are moved
+/// into the answer, and none is copied.
 ///
 /// # Errors
 /// `Memory` where memory was wanted and refused. `GateGaveUp` only where the gate's type may give
@@ -71,7 +72,7 @@ pub fn run_worker<P: Wait, R: Ready, G: Gate>(
     let planned = plan_all(rt, &mut dispatcher, desk, board, &receiver, gate);
     let run = dispatcher.into_run();
     planned?;
-    Ok(run)
+    Ok(run?)
 }
 
 // Publishes a log and tells the other workers of it. Once all have, no hint can come any more.
@@ -258,9 +259,11 @@ fn plan_held<P: Wait, R: Ready, G: Gate>(
     ensures whole { OnOk result (IsWholePlan dispatcher.new) }
     ensures fault { IfErr result (IsPlanningFault G.may_give_up) }
 {
+    agreement();
     torn_test();
+    marks_never_fall();
     // nothing that a desk holds is torn
-    let _held = desk.replica();
+    prove!(desk.replica().first_torn().is_none());
     plan_settled(rt, dispatcher, desk.proc(), gate)
 }
 
@@ -272,7 +275,10 @@ fn plan_settled<P: Wait, R: Ready, G: Gate>(
     gate: &G,
 ) -> Result<(), RunFault>
     requires whole { has_torn (replica_of dispatcher.old.held) ≡ false }
+    requires agree { Agree (replica_of dispatcher.old.held) (replica_of dispatcher.old.held) }
     requires able { dispatcher.old.spent ≡ false }
+    requires early { length dispatcher.old.tables ≤ frontier (replica_of dispatcher.old.held) }
+    requires wanted { length dispatcher.old.tables ≤ dispatcher.old.settings.slots }
     ensures settings { dispatcher.new.settings ≡ dispatcher.old.settings }
     ensures held { dispatcher.new.held ≡ dispatcher.old.held }
     ensures able { OnOk result (dispatcher.new.spent ≡ false) }
@@ -289,7 +295,9 @@ fn plan_settled<P: Wait, R: Ready, G: Gate>(
         }
         plan_slot(dispatcher)?;
     }
-    see_whole(dispatcher);
+    // each settled slot is planned, and has the table that a dispatcher's own contract gives it
+    prove!(dispatcher.next_slot() == settled);
+    dispatcher.plans_alike(dispatcher);
     Ok(())
 }
 
@@ -309,24 +317,5 @@ fn plan_slot<R: Ready>(dispatcher: &mut Dispatcher<R>) -> Result<(), AllocError>
         Err(PlanFault::Memory) => Err(AllocError),
         Err(PlanFault::Torn { .. }) => unreachable!(),
         Err(PlanFault::Spent) => unreachable!(),
-    }
-}
-
-// Asks for the step after the last slot that what is held settles, which is no plan: so the tables
-// are the whole plan.
-fn see_whole<R: Ready>(dispatcher: &mut Dispatcher<R>)
-    requires whole { has_torn (replica_of dispatcher.old.held) ≡ false }
-    requires able { dispatcher.old.spent ≡ false }
-    requires done { (length dispatcher.old.tables < frontier (replica_of dispatcher.old.held)) × (length dispatcher.old.tables < dispatcher.old.settings.slots) → ⊥ }
-    ensures settings { dispatcher.new.settings ≡ dispatcher.old.settings }
-    ensures held { dispatcher.new.held ≡ dispatcher.old.held }
-    ensures able { dispatcher.new.spent ≡ false }
-    ensures whole { IsWholePlan dispatcher.new }
-{
-    match dispatcher.plan_next() {
-        Ok(Step::Planned(_)) => unreachable!(),
-        Ok(Step::Waiting { .. }) => {}
-        Ok(Step::Done) => {}
-        Err(_) => unreachable!(),
     }
 }

@@ -93,8 +93,8 @@ impl Desk {
         ensures rows { IsHeldRows self.now.replica }
         ensures whole { Untorn (replica_of self.now.replica) }
     {
-        // what every replica keeps comes with the contract of its reader
-        let _processors = self.replica.processors();
+        // a replica has a row for each of its processors, and has some
+        prove!(self.replica.processors() >= 1);
         &self.replica
     }
 

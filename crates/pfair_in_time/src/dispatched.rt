@@ -11,7 +11,7 @@ use pfair_entry::{Announcement, Entry};
 use pfair_lattice::Flat;
 use pfair_ready::Ready;
 use pfair_replica::Replica;
-use pfair_table::Dispatcher;
+use pfair_table::{Dispatcher, Settings};
 use pfair_weight::Weight;
 
 /// No admitted task misses by what this dispatcher has planned: while nothing that it holds is torn,
@@ -23,7 +23,7 @@ use pfair_weight::Weight;
 pub fn never_misses<R: Ready>(dispatcher: &Dispatcher<R>)
     ensures { NeverMisses dispatcher.now }
 {
-    let _frame = dispatcher.settings().frame();
+    prove!(dispatcher.settings().frame() <= Settings::MAX_FRAME);
     dispatcher.plans_alike(dispatcher);
     let replica = dispatcher.replica();
     for proc in 0..replica.processors() {
@@ -67,5 +67,5 @@ fn look_at_announcement(announcement: Announcement)
 fn look_at_weight(weight: Weight)
     ensures { IsWeight weight.cost weight.period }
 {
-    let _cost = weight.cost();
+    prove!(weight.cost() <= weight.period());
 }

@@ -122,7 +122,7 @@ impl<K: Exact + Ord, V: Join> Join for JoinMap<K, V> {
 
     fn join(&mut self, other: &JoinMap<K, V>) -> Result<(), AllocError> {
         // the keys of this map are in order
-        let _ = self.len();
+        prove!(self.len() == self.map.len());
         for (key, value) in &other.map {
             self.put(*key, value)?;
         }
@@ -131,7 +131,7 @@ impl<K: Exact + Ord, V: Join> Join for JoinMap<K, V> {
 
     fn le(&self, other: &JoinMap<K, V>) -> bool {
         // the keys of the other map are in order
-        let _ = other.len();
+        prove!(other.len() == other.map.len());
         for (key, value) in &self.map {
             match other.map.get(key) {
                 Some(held) => {

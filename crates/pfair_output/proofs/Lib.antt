@@ -3,4 +3,4 @@ mod PlacedFacts
 mod SignedFacts
 pub mod SlotFacts
 pub mod ToldFacts
-mod WorldFacts
+pub mod WorldFacts

@@ -1,8 +1,8 @@
 -- The rows of a book that is told one slot after another.
-use Rattle.std.proofs.Common.{ℕ, ◌+◌, ◌<◌, ◌≤◌, ◌≡◌, refl, sym, ap, ◌∙◌, true, false, cond, List, [], ◌∷◌, ◌++◌, Some, map, length, drop, append_assoc}
+use Rattle.std.proofs.Common.{ℕ, suc, ◌+◌, ◌-◌, ◌<◌, ◌≤◌, ◌≡◌, refl, sym, ap, ◌∙◌, arith, true, false, cond, List, [], ◌∷◌, ◌++◌, Some, map, length, min, take, drop, append_assoc}
 use Rattle.std.specs.Prelude.{slice_get, is_some, ℤ}
 use Rattle.std.specs.Option.{option_map}
-use Rattle.std.proofs.lemmas.List.{append-nil, drop_all}
+use Rattle.std.proofs.lemmas.List.{append-nil, drop_all, length-drop, length-take}
 use Rattle.std.proofs.lemmas.Option.{same_Some}
 use Rattle.std.specs.Fmt.{decimal, signed_decimal}
 use Rattle.pfair_text.specs.Rows.{line, lines_text}
@@ -14,8 +14,9 @@ use Rattle.pfair_admission.specs.declared.decision.Decision.{Decision}
 use Rattle.pfair_table.specs.declared.pick.Decided.{Decided}
 use Rattle.pfair_table.specs.Table.{Table}
 use Rattle.pfair_weight.specs.Name.{NameValue}
-use Rattle.pfair_lag.specs.Book.{Tally, Book, tally_of, lag_of, entered_with, left}
-use Rattle.pfair_output.specs.Told.{is_admitted, is_leave, told, all_told, slot_told, tally_row, book_rows, rows_told}
+use Rattle.pfair_lag.specs.Book.{Tally, Book, empty_book, tally_of, lag_of, entered_with, left}
+use Rattle.pfair_output.specs.Lags.{lags_header}
+use Rattle.pfair_output.specs.Told.{is_admitted, is_leave, told, all_told, slot_told, all_slots_told, tally_row, book_rows, rows_told}
 use Rattle.pfair_output.proofs.SlotFacts.{first_left}
 
 -- ---- time
@@ -91,3 +92,47 @@ told_time ds ts slot book book' inside inside' moved =
 -- after the last slot nothing is left
 pub told_done : (ds : List (List Decided)) (ts : List Table) (slot : ℕ) (book : Book) (text : List ℕ) → length ds ≤ slot → text ++ lines_text (rows_told book (drop slot ds) (drop slot ts)) ≡ text
 told_done ds ts slot book text past = ap (λ (l : List (List Decided)). text ++ lines_text (rows_told book l (drop slot ts))) (drop_all slot ds past) ∙ append-nil text
+
+-- ---- the book, slot after slot
+
+pub over_more : (ds : List (List Decided)) (ts : List Table) (slot : ℕ) (book book' : Book) → slot < length ds → slot < length ts
+    → ((d : List Decided) (t : Table) → slice_get ds slot ≡ Some d → slice_get ts slot ≡ Some t → book' ≡ slot_told d t book)
+    → all_slots_told book' (drop (slot + 1) ds) (drop (slot + 1) ts) ≡ all_slots_told book (drop slot ds) (drop slot ts)
+over_more ds ts slot book book' inside inside' moved =
+    let d = first_left ds slot inside in
+    let t = first_left ts slot inside' in
+    ap (λ (b : Book). all_slots_told b (drop (slot + 1) ds) (drop (slot + 1) ts)) (moved d.0 t.0 d.1 t.1)
+    ∙ ap (λ (l : List (List Decided)). all_slots_told book l (t.0 ∷ drop (slot + 1) ts)) (sym d.2)
+    ∙ ap (λ (l : List Table). all_slots_told book (drop slot ds) l) (sym t.2)
+
+pub over_done : (ds : List (List Decided)) (ts : List Table) (slot : ℕ) (book : Book) → length ds ≤ slot → all_slots_told book (drop slot ds) (drop slot ts) ≡ book
+over_done ds ts slot book past = ap (λ (l : List (List Decided)). all_slots_told book l (drop slot ts)) (drop_all slot ds past)
+
+-- of the slots up to `to` some are left
+pub over_more_to : (ds : List (List Decided)) (ts : List Table) (slot to : ℕ) (book book' : Book) → slot < to → slot < length ds → slot < length ts
+    → ((d : List Decided) (t : Table) → slice_get ds slot ≡ Some d → slice_get ts slot ≡ Some t → book' ≡ slot_told d t book)
+    → all_slots_told book' (take (to - (slot + 1)) (drop (slot + 1) ds)) (take (to - (slot + 1)) (drop (slot + 1) ts)) ≡ all_slots_told book (take (to - slot) (drop slot ds)) (take (to - slot) (drop slot ts))
+over_more_to ds ts slot to book book' early inside inside' moved =
+    let d = first_left ds slot inside in
+    let t = first_left ts slot inside' in
+    let n : ℕ = to - (slot + 1) in
+    let next : to - slot ≡ suc n = omega arith in
+    ap (λ (b : Book). all_slots_told b (take n (drop (slot + 1) ds)) (take n (drop (slot + 1) ts))) (moved d.0 t.0 d.1 t.1)
+    ∙ ap (λ (l : List (List Decided)). all_slots_told book (take (suc n) l) (take (suc n) (t.0 ∷ drop (slot + 1) ts))) (sym d.2)
+    ∙ ap (λ (l : List Table). all_slots_told book (take (suc n) (drop slot ds)) (take (suc n) l)) (sym t.2)
+    ∙ ap (λ (m : ℕ). all_slots_told book (take m (drop slot ds)) (take m (drop slot ts))) (sym next)
+
+pub over_done_to : (ds : List (List Decided)) (ts : List Table) (slot to : ℕ) (book : Book) → min (length ds) to ≤ slot
+    → all_slots_told book (take (to - slot) (drop slot ds)) (take (to - slot) (drop slot ts)) ≡ book
+over_done_to ds ts slot to book past = none (take (to - slot) (drop slot ds)) (take (to - slot) (drop slot ts)) (length-take (to - slot) (drop slot ds) ∙ (let size = length-drop slot ds in let zero_left : min (to - slot) (length (drop slot ds)) ≡ 0 = omega arith in zero_left))
+  where
+    none : (ds : List (List Decided)) (ts : List Table) → length ds ≡ 0 → all_slots_told book ds ts ≡ book
+    none [] ts e = refl
+    none (d ∷ ds) ts e = absurd (omega arith)
+
+-- a text that begins with a header, and then has the rows of a new book
+pub told_from_start : (ds : List (List Decided)) (ts : List Table) (book : Book) → book ≡ empty_book → (empty headed whole : List ℕ) → empty ≡ [] → headed ≡ empty ++ line lags_header
+    → whole ≡ headed ++ lines_text (rows_told book (drop book.time ds) (drop book.time ts)) → whole ≡ lines_text (lags_header ∷ rows_told empty_book ds ts)
+told_from_start ds ts book fresh empty headed whole e h w =
+    w ∙ ap (λ (b : Book). headed ++ lines_text (rows_told b (drop b.time ds) (drop b.time ts))) fresh
+    ∙ ap (λ (start : List ℕ). start ++ lines_text (rows_told empty_book ds ts)) (h ∙ ap (λ (start : List ℕ). start ++ line lags_header) e)

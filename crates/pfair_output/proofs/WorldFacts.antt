@@ -1,6 +1,6 @@
 -- A book that is told a whole plan has the members that stay, with their lags.
 use Rattle.std.proofs.Common.{ℕ, zero, suc, ◌+◌, ◌-◌, ◌≤◌, ◌≡◌, refl, sym, ap, subst, ◌∙◌, arith, Bool, true, false, cond, not, ◌||◌, List, [], ◌∷◌, ◌++◌, Option, Some, None, map, length, drop, length-append, append_assoc}
-use Rattle.std.specs.Prelude.{is_some, filter, count_by, nat_lt, nat_le, ◌==◌, ◌%◌, ◌*◌}
+use Rattle.std.specs.Prelude.{is_some, filter, count_by, min, nat_lt, nat_le, ◌==◌, ◌%◌, ◌*◌}
 use Rattle.std.specs.List.{AllByRecursion, flat_map}
 use Rattle.std.specs.Map.{lookup}
 use Rattle.std.proofs.lemmas.List.{map-append, drop-append-le, drop_all, append-nil}
@@ -10,7 +10,9 @@ use Rattle.pfair_weight.specs.Share.{Share, units_of}
 use Rattle.pfair_entry.specs.declared.announcement.Announcement.{Announcement}
 use Rattle.pfair_entry.specs.declared.announcement.Announcement.TheVariants.{Arrive, Depart, Late}
 use Rattle.pfair_entry.specs.Said.{Said}
-use Rattle.pfair_replica.specs.Replica.{Replica, said, numbers_below}
+use Rattle.pfair_replica.specs.Replica.{Replica, frontier, said, numbers_below}
+use Rattle.pfair_replica.specs.HeldRows.{replica_of}
+use Rattle.pfair_table.specs.Refinement.{Dispatch, IsWholePlan}
 use Rattle.pfair_admission.specs.declared.decision.Decision.{Decision}
 use Rattle.pfair_admission.specs.declared.decision.Decision.TheVariants.{Admitted, Departing, Delayed, Refused}
 use Rattle.pfair_admission.specs.declared.refusal.Refusal.{Refusal}
@@ -23,7 +25,7 @@ use Rattle.pfair_table.specs.Table.{Settings, Table, machine, names_task, quanta
 use Rattle.pfair_weight.specs.Name.{NameValue, name_eq}
 use Rattle.pfair_lag.specs.Book.{Tally, Book, empty_book, tally_of, has_run, entered_with, slot_more}
 use Rattle.pfair_output.specs.Lags.{is_staying, lag_row, lag_rows}
-use Rattle.pfair_output.specs.Told.{told, all_told, slot_told, tally_row, book_rows, rows_told}
+use Rattle.pfair_output.specs.Told.{told, all_told, slot_told, all_slots_told, tally_row, book_rows, rows_told}
 use Rattle.pfair_output.proofs.ToldFacts.{time-all_told}
 
 -- what a book has of a member
@@ -306,23 +308,17 @@ module _ (s : Settings) (x : Replica) where
 
 -- ---- the whole
 
--- the book after the slots of two lists
-abbrev book_over : Book → List (List Decided) → List Table → Book
-book_over book [] ts = book
-book_over book (d ∷ ds) [] = book
-book_over book (d ∷ ds) (t ∷ ts) = book_over (slot_told d t book) ds ts
-
 rows_push : (book : Book) (ds : List (List Decided)) (ts : List Table) (d : List Decided) (t : Table) → length ds ≡ length ts
-    → rows_told book (ds ++ d ∷ []) (ts ++ t ∷ []) ≡ rows_told book ds ts ++ book_rows (slot_told d t (book_over book ds ts))
+    → rows_told book (ds ++ d ∷ []) (ts ++ t ∷ []) ≡ rows_told book ds ts ++ book_rows (slot_told d t (all_slots_told book ds ts))
 rows_push book [] [] d t e = append-nil (book_rows (slot_told d t book))
 rows_push book [] (u ∷ ts) d t e = absurd (omega arith)
 rows_push book (c ∷ ds) [] d t e = absurd (omega arith)
 rows_push book (c ∷ ds) (u ∷ ts) d t e =
     ap (λ l. book_rows (slot_told c u book) ++ l) (rows_push (slot_told c u book) ds ts d t (omega arith))
-    ∙ sym (append_assoc (book_rows (slot_told c u book)) (rows_told (slot_told c u book) ds ts) (book_rows (slot_told d t (book_over (slot_told c u book) ds ts))))
+    ∙ sym (append_assoc (book_rows (slot_told c u book)) (rows_told (slot_told c u book) ds ts) (book_rows (slot_told d t (all_slots_told (slot_told c u book) ds ts))))
 
 over_push : (book : Book) (ds : List (List Decided)) (ts : List Table) (d : List Decided) (t : Table) → length ds ≡ length ts
-    → book_over book (ds ++ d ∷ []) (ts ++ t ∷ []) ≡ slot_told d t (book_over book ds ts)
+    → all_slots_told book (ds ++ d ∷ []) (ts ++ t ∷ []) ≡ slot_told d t (all_slots_told book ds ts)
 over_push book [] [] d t e = refl
 over_push book [] (u ∷ ts) d t e = absurd (omega arith)
 over_push book (c ∷ ds) [] d t e = absurd (omega arith)
@@ -333,13 +329,13 @@ same_length f g [] = refl
 same_length f g (y ∷ ys) = ap suc (same_length f g ys)
 
 module _ (s : Settings) (x : Replica) where
-  over_slots : (n : ℕ) → book_over empty_book (map (decisions s x) (numbers_below n)) (map (table s x) (numbers_below n)) ≡ book_after s x n
+  over_slots : (n : ℕ) → all_slots_told empty_book (map (decisions s x) (numbers_below n)) (map (table s x) (numbers_below n)) ≡ book_after s x n
   over_slots zero = refl
   over_slots (suc n) =
       let ds : List (List Decided) = map (decisions s x) (numbers_below n) in
       let ts : List Table = map (table s x) (numbers_below n) in
-      ap (λ l. book_over empty_book l (map (table s x) (numbers_below (suc n)))) (map-append (decisions s x) (numbers_below n) (n ∷ []))
-      ∙ ap (book_over empty_book (ds ++ decisions s x n ∷ [])) (map-append (table s x) (numbers_below n) (n ∷ []))
+      ap (λ l. all_slots_told empty_book l (map (table s x) (numbers_below (suc n)))) (map-append (decisions s x) (numbers_below n) (n ∷ []))
+      ∙ ap (all_slots_told empty_book (ds ++ decisions s x n ∷ [])) (map-append (table s x) (numbers_below n) (n ∷ []))
       ∙ over_push empty_book ds ts (decisions s x n) (table s x n) (same_length (decisions s x) (table s x) (numbers_below n))
       ∙ ap (slot_told (decisions s x n) (table s x n)) (over_slots n)
 
@@ -352,7 +348,15 @@ module _ (s : Settings) (x : Replica) where
       ap (λ l. rows_told empty_book l (map (table s x) (numbers_below (suc n)))) (map-append (decisions s x) (numbers_below n) (n ∷ []))
       ∙ ap (rows_told empty_book (ds ++ decisions s x n ∷ [])) (map-append (table s x) (numbers_below n) (n ∷ []))
       ∙ rows_push empty_book ds ts (decisions s x n) (table s x n) (same_length (decisions s x) (table s x) (numbers_below n))
-      ∙ ap (λ l. l ++ book_rows (slot_told (decisions s x n) (table s x n) (book_over empty_book ds ts))) (rows_of_slots n)
+      ∙ ap (λ l. l ++ book_rows (slot_told (decisions s x n) (table s x n) (all_slots_told empty_book ds ts))) (rows_of_slots n)
       ∙ ap (λ (b : Book). flat_map (lag_rows s x) (numbers_below n) ++ book_rows (slot_told (decisions s x n) (table s x n) b)) (over_slots n)
       ∙ ap (λ l. flat_map (lag_rows s x) (numbers_below n) ++ l) (rows_after s x n ∙ sym (append-nil (lag_rows s x n)))
       ∙ sym (flat_map-append (lag_rows s x) (numbers_below n) (n ∷ []))
+
+-- the rows of a whole plan
+pub whole_rows : (d : Dispatch) → IsWholePlan d → rows_told empty_book d.decided d.tables ≡ flat_map (lag_rows d.settings (replica_of d.held)) (numbers_below (min (frontier (replica_of d.held)) d.settings.slots))
+whole_rows d whole =
+    let n : ℕ = min (frontier (replica_of d.held)) d.settings.slots in
+    ap (λ (ds : List (List Decided)). rows_told empty_book ds d.tables) whole.decided_are
+    ∙ ap (λ (ts : List Table). rows_told empty_book (map (decisions d.settings (replica_of d.held)) (numbers_below n)) ts) whole.tables_are
+    ∙ rows_of_slots d.settings (replica_of d.held) n

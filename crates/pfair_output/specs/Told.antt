@@ -36,6 +36,12 @@ all_told (d ∷ more) book = all_told more (told d.announcement d.decision book)
 abbrev pub slot_told : List Decided → Table → Book → Book
 slot_told decided table book = recorded (map (λ p. p.name) table) (all_told decided book)
 
+-- slot after slot
+abbrev pub all_slots_told : Book → List (List Decided) → List Table → Book
+all_slots_told book [] tables = book
+all_slots_told book (d ∷ ds) [] = book
+all_slots_told book (d ∷ ds) (t ∷ ts) = all_slots_told (slot_told d t book) ds ts
+
 abbrev pub tally_row : ℕ → NameValue × Tally → List (List ℕ)
 tally_row time e = decimal time ∷ e.0 ∷ signed_decimal (lag_of e.1).0 ∷ decimal (lag_of e.1).1 ∷ []
 

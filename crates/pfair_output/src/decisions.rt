@@ -1,9 +1,10 @@
 //! Decisions as rows: slot, processor, number, task, outcome, value.
 
-ghost use Rattle.std.specs.Prelude.{◌≡◌, ◌++◌, ◌∷◌, [], map, OnOk, IfOk, IsTrue, List, Some, slice_get};
+ghost use Rattle.std.specs.Prelude.{◌≡◌, ◌++◌, ◌∷◌, [], drop, map, OnOk, IfOk, IsTrue, List, Some, slice_get};
 ghost use Rattle.pfair_text.specs.Rows.{IsOpen, is_plain, line, lines_text, text_so_far};
 ghost use Rattle.pfair_table.specs.declared.pick.Decided.{Decided};
-ghost use Rattle.pfair_output.specs.Decisions.{decided_rows, decision_row, decisions_text, outcome_of, value_of};
+ghost use Rattle.pfair_output.specs.Slots.{slots_from};
+ghost use Rattle.pfair_output.specs.Decisions.{decided_rows, decision_row, decisions_header, decisions_text, outcome_of, value_of};
 
 use csv::Writer;
 use itoa::Buffer;
@@ -25,8 +26,22 @@ pub fn decisions_of<R: Ready>(
     ensures { IfOk result (λ text. text.items ≡ decisions_text dispatcher.now.decided) }
 {
     let mut writer = new_text(alloc);
+    add_decisions_header(&mut writer)?;
+    add_decisions_from(&mut writer, dispatcher, 0)?;
+    finish(writer)
+}
+
+/// Adds the header of decisions as rows.
+///
+/// # Errors
+/// `AllocError` where memory was wanted and refused.
+pub fn add_decisions_header(writer: &mut Writer<Vec<u8>>) -> Result<(), AllocError>
+    requires { IsOpen writer.old }
+    ensures open { OnOk result (IsOpen writer.new) }
+    ensures text { OnOk result (text_so_far writer.new ≡ text_so_far writer.old ++ line decisions_header) }
+{
     add_row(
-        &mut writer,
+        writer,
         &[
             b"slot",
             b"processor",
@@ -35,11 +50,28 @@ pub fn decisions_of<R: Ready>(
             b"outcome",
             b"value",
         ],
-    )?;
-    for slot in 0..dispatcher.next_slot() {
-        add_slot(&mut writer, dispatcher, slot)?;
+    )
+}
+
+/// Adds a row for each announcement that was decided at the boundaries of the slots that a
+/// dispatcher has planned, from a slot on. It costs the rows.
+///
+/// # Errors
+/// `AllocError` where memory was wanted and refused.
+pub fn add_decisions_from<R: Ready>(
+    writer: &mut Writer<Vec<u8>>,
+    dispatcher: &Dispatcher<R>,
+    from: u64,
+) -> Result<(), AllocError>
+    requires { IsOpen writer.old }
+    ensures open { OnOk result (IsOpen writer.new) }
+    ensures text { OnOk result (text_so_far writer.new ≡ text_so_far writer.old
+        ++ lines_text (slots_from decided_rows from (drop from dispatcher.now.decided))) }
+{
+    for slot in from..dispatcher.next_slot() {
+        add_slot(writer, dispatcher, slot)?;
     }
-    finish(writer)
+    Ok(())
 }
 
 // Adds the rows of a slot that is planned.

@@ -1,6 +1,6 @@
 //! Lags as rows: time, task, numerator, period.
 
-ghost use Rattle.std.specs.Prelude.{◌≡◌, ◌<◌, ◌++◌, ◌∷◌, [], OnOk, IfOk, List, Some, slice_get};
+ghost use Rattle.std.specs.Prelude.{◌≡◌, ◌≤◌, ◌<◌, ◌-◌, ◌++◌, ◌∷◌, [], OnOk, IfOk, List, Some, drop, slice_get, take};
 ghost use Rattle.pfair_text.specs.Rows.{IsOpen, line, lines_text, text_so_far};
 ghost use Rattle.pfair_replica.specs.HeldRows.{replica_of};
 ghost use Rattle.pfair_weight.specs.Name.{NameValue};
@@ -10,7 +10,7 @@ ghost use Rattle.pfair_table.specs.Table.{Table};
 ghost use Rattle.pfair_table.specs.Refinement.{IsWholePlan};
 ghost use Rattle.std.specs.Fmt.{decimal, signed_decimal};
 ghost use Rattle.pfair_output.specs.Lags.{lags_header, lags_text};
-ghost use Rattle.pfair_output.specs.Told.{told, all_told, slot_told, tally_row, book_rows, rows_told};
+ghost use Rattle.pfair_output.specs.Told.{told, all_told, slot_told, all_slots_told, tally_row, book_rows, rows_told};
 
 use csv::Writer;
 use itoa::Buffer;
@@ -40,12 +40,63 @@ pub fn lags_of<R: Ready>(alloc: Global, dispatcher: &Dispatcher<R>) -> Result<Ve
         lines_text (lags_header ∷ rows_told empty_book dispatcher.now.decided dispatcher.now.tables)) }
 {
     let mut writer = new_text(alloc);
-    add_row(&mut writer, &[b"time", b"task", b"numerator", b"period"])?;
-    let mut book = LagBook::new(alloc);
-    for slot in 0..dispatcher.next_slot() {
-        add_slot(&mut writer, &mut book, dispatcher, slot)?;
-    }
+    add_lags_header(&mut writer)?;
+    add_lags_from(&mut writer, &mut LagBook::new(alloc), dispatcher)?;
     finish(writer)
+}
+
+/// Adds the header of lags as rows.
+///
+/// # Errors
+/// `AllocError` where memory was wanted and refused.
+pub fn add_lags_header(writer: &mut Writer<Vec<u8>>) -> Result<(), AllocError>
+    requires { IsOpen writer.old }
+    ensures open { OnOk result (IsOpen writer.new) }
+    ensures text { OnOk result (text_so_far writer.new ≡ text_so_far writer.old ++ line lags_header) }
+{
+    add_row(writer, &[b"time", b"task", b"numerator", b"period"])
+}
+
+/// Tells a book the slots that a dispatcher has planned, from the book's time on, and adds the rows
+/// after each. It costs the rows, and what [`tell_all`] and [`LagBook::record`] cost for each slot.
+///
+/// # Errors
+/// `AllocError` where memory was wanted and refused; the book is then told a part of this.
+pub fn add_lags_from<R: Ready>(
+    writer: &mut Writer<Vec<u8>>,
+    book: &mut LagBook,
+    dispatcher: &Dispatcher<R>,
+) -> Result<(), AllocError>
+    requires { IsOpen writer.old }
+    ensures open { OnOk result (IsOpen writer.new) }
+    ensures book { OnOk result (book.new ≡ all_slots_told book.old (drop book.old.time dispatcher.now.decided) (drop book.old.time dispatcher.now.tables)) }
+    ensures text { OnOk result (text_so_far writer.new ≡ text_so_far writer.old
+        ++ lines_text (rows_told book.old (drop book.old.time dispatcher.now.decided) (drop book.old.time dispatcher.now.tables))) }
+{
+    for slot in book.time()..dispatcher.next_slot() {
+        add_slot(writer, book, dispatcher, slot)?;
+    }
+    Ok(())
+}
+
+/// Tells a book the slots that a dispatcher has planned, from the book's time up to a slot, as far
+/// as they are planned. It costs what [`tell_all`] and [`LagBook::record`] cost for each slot.
+///
+/// # Errors
+/// `AllocError` where memory was wanted and refused; the book is then told a part of this.
+pub fn tell_slots<R: Ready>(
+    book: &mut LagBook,
+    dispatcher: &Dispatcher<R>,
+    to: u64,
+) -> Result<(), AllocError>
+    requires { book.old.time ≤ to }
+    ensures { OnOk result (book.new ≡ all_slots_told book.old
+        (take (to - book.old.time) (drop book.old.time dispatcher.now.decided)) (take (to - book.old.time) (drop book.old.time dispatcher.now.tables))) }
+{
+    for slot in book.time()..dispatcher.next_slot().min(to) {
+        tell_slot(book, dispatcher, slot)?;
+    }
+    Ok(())
 }
 
 // Tells the book a slot that is planned, and adds the rows after it.
@@ -65,6 +116,21 @@ fn add_slot<R: Ready>(
         → slice_get dispatcher.now.decided slot ≡ Some decided → slice_get dispatcher.now.tables slot ≡ Some table
         → text_so_far writer.new ≡ text_so_far writer.old ++ lines_text (book_rows (slot_told decided table book.old))) }
 {
+    tell_slot(book, dispatcher, slot)?;
+    add_lags(writer, book)
+}
+
+// Tells the book a slot that is planned: its decisions, and then its table.
+fn tell_slot<R: Ready>(
+    book: &mut LagBook,
+    dispatcher: &Dispatcher<R>,
+    slot: u64,
+) -> Result<(), AllocError>
+    requires { book.old.time < MAX_HORIZON }
+    ensures { OnOk result ((decided : List Decided) (table : Table)
+        → slice_get dispatcher.now.decided slot ≡ Some decided → slice_get dispatcher.now.tables slot ≡ Some table
+        → book.new ≡ slot_told decided table book.old) }
+{
     let Some(decided) = dispatcher.decisions(slot) else {
         return Ok(());
     };
@@ -73,7 +139,7 @@ fn add_slot<R: Ready>(
     };
     tell_all(book, decided)?;
     book.record(table);
-    add_lags(writer, book)
+    Ok(())
 }
 
 /// Tells a book of lags who enters and who leaves at the boundary of a slot: who is admitted, and

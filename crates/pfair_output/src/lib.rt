@@ -7,6 +7,9 @@ mod replay;
 #[cfg(test)]
 mod tests;
 
-pub use decisions::decisions_of;
-pub use lags::{lags_of, tell_all};
-pub use replay::{placed_replay_of, replay_of};
+pub use decisions::{add_decisions_from, add_decisions_header, decisions_of};
+pub use lags::{add_lags_from, add_lags_header, lags_of, tell_all, tell_slots};
+pub use replay::{
+    add_placed_header, add_placed_tables_from, add_replay_header, add_tables_from,
+    placed_replay_of, replay_of,
+};

@@ -1,14 +1,16 @@
 //! Tables as rows: slot, processor, task, index, and in a text with places the place.
 
-ghost use Rattle.std.specs.Prelude.{◌≡◌, ◌<◌, ◌++◌, ◌∷◌, [], OnOk, IfOk, IsTrue, length, map, slice_get};
-ghost use Rattle.std.specs.List.{list_all};
-ghost use Rattle.pfair_text.specs.Rows.{IsOpen, is_plain, line, lines_text, text_so_far};
+ghost use Rattle.std.specs.Prelude.{◌≡◌, ◌++◌, OnOk, IfOk, Some, drop, map, slice_get};
+ghost use Rattle.pfair_text.specs.Rows.{IsOpen, line, lines_text, text_so_far};
+ghost use Rattle.pfair_table.specs.Places.{places_of};
+ghost use Rattle.pfair_table.specs.Table.{Table};
 ghost use Rattle.pfair_output.specs.Slots.{slots_from};
-ghost use Rattle.pfair_output.specs.Replay.{placed_row, placed_rows_from, placed_table_rows, placed_text, places_at, replay_text};
+ghost use Rattle.pfair_output.specs.Replay.{placed_header, placed_row, placed_rows_from, placed_table_rows, placed_text, places_at, replay_header, replay_text, table_rows};
 
 use csv::Writer;
 use itoa::Buffer;
-use pfair_table::Pick;
+use pfair_ready::Ready;
+use pfair_table::{Dispatcher, Pick};
 use pfair_text::{add_row, finish, new_text};
 use std::alloc::{AllocError, Global};
 
@@ -20,12 +22,10 @@ use std::alloc::{AllocError, Global};
 pub fn replay_of(alloc: Global, tables: &[Vec<Pick>]) -> Result<Vec<u8>, AllocError>
     ensures { IfOk result (λ text. text.items ≡ replay_text (map (λ t. t.items) tables.now)) }
 {
-    text_of(
-        alloc,
-        &[b"slot", b"processor", b"task", b"index"],
-        tables,
-        &[],
-    )
+    let mut writer = new_text(alloc);
+    add_replay_header(&mut writer)?;
+    add_all(&mut writer, tables, &[])?;
+    finish(writer)
 }
 
 /// The tables of a run as rows that end with their places: row k of a slot's table with the k-th of
@@ -43,32 +43,140 @@ pub fn placed_replay_of(
 ) -> Result<Vec<u8>, AllocError>
     ensures { IfOk result (λ text. text.items ≡ placed_text (map (λ t. t.items) tables.now) (map (λ p. p.items) places.now)) }
 {
-    text_of(
-        alloc,
+    let mut writer = new_text(alloc);
+    add_placed_header(&mut writer)?;
+    add_all(&mut writer, tables, places)?;
+    finish(writer)
+}
+
+/// Adds the header of tables as rows.
+///
+/// # Errors
+/// `AllocError` where memory was wanted and refused.
+pub fn add_replay_header(writer: &mut Writer<Vec<u8>>) -> Result<(), AllocError>
+    requires { IsOpen writer.old }
+    ensures open { OnOk result (IsOpen writer.new) }
+    ensures text { OnOk result (text_so_far writer.new ≡ text_so_far writer.old ++ line replay_header) }
+{
+    add_row(writer, &[b"slot", b"processor", b"task", b"index"])
+}
+
+/// Adds the header of tables as rows that end with their places.
+///
+/// # Errors
+/// `AllocError` where memory was wanted and refused.
+pub fn add_placed_header(writer: &mut Writer<Vec<u8>>) -> Result<(), AllocError>
+    requires { IsOpen writer.old }
+    ensures open { OnOk result (IsOpen writer.new) }
+    ensures text { OnOk result (text_so_far writer.new ≡ text_so_far writer.old ++ line placed_header) }
+{
+    add_row(
+        writer,
         &[b"slot", b"processor", b"task", b"index", b"place"],
-        tables,
-        places,
     )
 }
 
-// A header, and a row for each quantum of the tables, which ends with its place where it has one.
-fn text_of(
-    alloc: Global,
-    header: &[&[u8]],
+/// Adds a row for each quantum of the tables that a dispatcher has planned, from a slot on, under
+/// the header of [`add_replay_header`]. It costs the rows.
+///
+/// # Errors
+/// `AllocError` where memory was wanted and refused.
+pub fn add_tables_from<R: Ready>(
+    writer: &mut Writer<Vec<u8>>,
+    dispatcher: &Dispatcher<R>,
+    from: u64,
+) -> Result<(), AllocError>
+    requires { IsOpen writer.old }
+    ensures open { OnOk result (IsOpen writer.new) }
+    ensures text { OnOk result (text_so_far writer.new ≡ text_so_far writer.old
+        ++ lines_text (slots_from table_rows from (drop from dispatcher.now.tables))) }
+{
+    for slot in from..dispatcher.next_slot() {
+        add_slot(writer, dispatcher, slot)?;
+    }
+    Ok(())
+}
+
+/// Adds the same rows, each with its place at the end, under the header of [`add_placed_header`].
+///
+/// # Errors
+/// `AllocError` where memory was wanted and refused.
+pub fn add_placed_tables_from<R: Ready>(
+    writer: &mut Writer<Vec<u8>>,
+    dispatcher: &Dispatcher<R>,
+    from: u64,
+) -> Result<(), AllocError>
+    requires { IsOpen writer.old }
+    ensures open { OnOk result (IsOpen writer.new) }
+    ensures text { OnOk result (text_so_far writer.new ≡ text_so_far writer.old
+        ++ lines_text (slots_from (placed_table_rows (places_of dispatcher.now.tables)) from (drop from dispatcher.now.tables))) }
+{
+    for slot in from..dispatcher.next_slot() {
+        add_placed_slot(writer, dispatcher, slot)?;
+    }
+    Ok(())
+}
+
+// Adds the rows of a slot that is planned.
+fn add_slot<R: Ready>(
+    writer: &mut Writer<Vec<u8>>,
+    dispatcher: &Dispatcher<R>,
+    slot: u64,
+) -> Result<(), AllocError>
+    requires { IsOpen writer.old }
+    ensures open { OnOk result (IsOpen writer.new) }
+    ensures text { OnOk result ((table : Table) → slice_get dispatcher.now.tables slot ≡ Some table
+        → text_so_far writer.new ≡ text_so_far writer.old ++ lines_text (table_rows slot table)) }
+{
+    match dispatcher.table(slot) {
+        Some(table) => add_table(writer, slot, table, &[]),
+        None => Ok(()),
+    }
+}
+
+// Adds the rows of a slot that is planned, each with its place.
+fn add_placed_slot<R: Ready>(
+    writer: &mut Writer<Vec<u8>>,
+    dispatcher: &Dispatcher<R>,
+    slot: u64,
+) -> Result<(), AllocError>
+    requires { IsOpen writer.old }
+    ensures open { OnOk result (IsOpen writer.new) }
+    ensures text { OnOk result ((table : Table) → slice_get dispatcher.now.tables slot ≡ Some table
+        → text_so_far writer.new ≡ text_so_far writer.old ++ lines_text (placed_table_rows (places_of dispatcher.now.tables) slot table)) }
+{
+    match dispatcher.table(slot) {
+        Some(table) => add_table(writer, slot, table, planned_places(dispatcher, slot)),
+        None => Ok(()),
+    }
+}
+
+// The places of a slot, where it is planned.
+fn planned_places<R: Ready>(dispatcher: &Dispatcher<R>, slot: u64) -> &[u8]
+    ensures { result.now ≡ places_at (places_of dispatcher.now.tables) slot }
+{
+    match dispatcher.places(slot) {
+        Some(here) => here,
+        None => &[],
+    }
+}
+
+// Adds a row for each quantum of the tables, that of slot k at place k, which ends with its place
+// where it has one.
+fn add_all(
+    writer: &mut Writer<Vec<u8>>,
     tables: &[Vec<Pick>],
     places: &[Vec<u8>],
-) -> Result<Vec<u8>, AllocError>
-    requires some { 0 < length header.now }
-    requires plain { IsTrue (list_all is_plain (map (λ f. f.now) header.now)) }
-    ensures { IfOk result (λ text. text.items ≡ lines_text (map (λ f. f.now) header.now
-        ∷ slots_from (placed_table_rows (map (λ p. p.items) places.now)) 0 (map (λ t. t.items) tables.now))) }
+) -> Result<(), AllocError>
+    requires { IsOpen writer.old }
+    ensures open { OnOk result (IsOpen writer.new) }
+    ensures text { OnOk result (text_so_far writer.new ≡ text_so_far writer.old
+        ++ lines_text (slots_from (placed_table_rows (map (λ p. p.items) places.now)) 0 (map (λ t. t.items) tables.now))) }
 {
-    let mut writer = new_text(alloc);
-    add_row(&mut writer, header)?;
     for (slot, table) in tables.iter().enumerate() {
-        add_table(&mut writer, slot as u64, table, slot_places(places, slot))?;
+        add_table(writer, slot as u64, table, slot_places(places, slot))?;
     }
-    finish(writer)
+    Ok(())
 }
 
 // The places of a slot, where it has some.

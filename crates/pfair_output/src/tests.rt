@@ -55,6 +55,7 @@ fn texts_of_an_early_task(rt: HostRuntime) -> Result<(), Fail> {
         .ok()
         .expect(&rt, "a run");
     assert_told(&rt, rt.alloc(), &dispatcher);
-    assert_replayed(&rt, rt.alloc(), &dispatcher.into_run());
+    let run = dispatcher.into_run().expect(&rt, "memory");
+    assert_replayed(&rt, rt.alloc(), &run);
     Ok(())
 }

@@ -2,7 +2,7 @@
 
 use pfair_entry::{Announcement, Entry};
 use pfair_ready::Ready;
-use pfair_table::{Dispatcher, Pick};
+use pfair_table::{Dispatcher, Pick, Run};
 use pfair_weight::{TaskName, Weight};
 
 /// The picks of each of the six slots: the letter of the task, and the index of its subtask.
@@ -75,6 +75,25 @@ pub(crate) fn is_planned<R: Ready>(dispatcher: &Dispatcher<R>, slots: u64) -> bo
         }
     }
     true
+}
+
+/// Whether a run has the tables and the places of all six slots.
+pub(crate) fn is_whole(run: &Run) -> bool {
+    for (table, known) in run.tables.iter().zip(TABLES.iter()) {
+        if !are_picks(table, known) {
+            return false;
+        }
+    }
+    run.tables.len() == TABLES.len() && are_placed(&run.places)
+}
+
+fn are_placed(places: &[Vec<u8>]) -> bool {
+    for (here, known) in places.iter().zip(PLACES.iter()) {
+        if here.as_slice() != *known {
+            return false;
+        }
+    }
+    places.len() == PLACES.len()
 }
 
 // Whether a table has these picks: each by the letter of its task and the index of its subtask.

@@ -1,7 +1,7 @@
 //! Dispatchers: plans, reopening, and runs of events.
 
 use crate::Look;
-use crate::entries::{TABLES, is_planned, quiet, ten};
+use crate::entries::{TABLES, is_planned, is_whole, quiet, ten};
 use crate::replica::{are_counted, are_equal, holding};
 use pfair_entry::Entry;
 use pfair_ready::Ready;
@@ -329,7 +329,15 @@ pub(crate) fn script<R: Ready>(alloc: Global) -> Look {
 fn is_run<R: Ready>(alloc: Global, script: &Script) -> bool {
     let run: Result<Dispatcher<R>, ScriptFault> = run_script(alloc, script);
     match run {
-        Ok(dispatcher) => is_planned(&dispatcher, 6),
+        Ok(dispatcher) => is_planned(&dispatcher, 6) && is_handed_over(dispatcher),
         Err(fault) => fault == ScriptFault::Memory,
+    }
+}
+
+// Whether all that was planned is handed over, or memory refused.
+fn is_handed_over<R: Ready>(dispatcher: Dispatcher<R>) -> bool {
+    match dispatcher.into_run() {
+        Ok(run) => is_whole(&run),
+        Err(_) => true,
     }
 }

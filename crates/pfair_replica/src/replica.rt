@@ -121,7 +121,7 @@ impl Replica {
             return Err(TakeFault::NumberOutOfRange);
         }
         // an entry is stamped at or after its floor
-        let _floor = entry.floor();
+        prove!(entry.floor() <= Entry::LAST_SLOT);
         let taken = match self.get(proc, number) {
             None => Taken::New,
             Some(held) if held == Flat::One(entry) => Taken::Known,

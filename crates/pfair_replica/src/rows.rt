@@ -75,8 +75,8 @@ pub(crate) fn row_le(rows: &Rows, other: &Rows, processor: u8) -> bool
         Some(row) => match other.get(&processor) {
             Some(held) => {
                 // the keys of both rows are in order
-                let _ = row.len();
-                let _ = held.len();
+                prove!((row.len() > 0) | row.get(&1).is_none());
+                prove!((held.len() > 0) | held.get(&1).is_none());
                 row.le(held)
             }
             None => row.len() == 0,

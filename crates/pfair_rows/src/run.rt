@@ -40,7 +40,7 @@ fn left_by<R: Ready>(
     events: &[Event],
 ) -> Result<Dispatcher<R>, AllocError> {
     // settings have 1 to 64 processors
-    let _processors = settings.processors();
+    prove!(settings.processors() <= Settings::MAX_PROCESSORS);
     run_events(alloc, settings, CAPACITY, events)
 }
 
@@ -132,7 +132,7 @@ fn assert_stepped<R: Ready>(
 ) -> Result<(), AllocError> {
     let settings = settings_of(rt, run.machine);
     // settings have 1 to 64 processors
-    let _processors = settings.processors();
+    prove!(settings.processors() <= Settings::MAX_PROCESSORS);
     let mut dispatcher: Dispatcher<R> = Dispatcher::new(alloc, settings, CAPACITY)?;
     assert_steps(rt, &mut dispatcher, &mut String::new(alloc), events, run)
 }

@@ -19,3 +19,4 @@ mod Alike
 mod ReadOn
 mod Bucketed
 mod Least
+mod Pieced

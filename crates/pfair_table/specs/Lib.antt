@@ -15,3 +15,4 @@ pub mod Planned
 pub mod Refinement
 pub mod PlaceLaws
 pub mod Readings
+pub mod Pieces

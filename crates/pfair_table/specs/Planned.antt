@@ -18,10 +18,6 @@ as_tables tables = map (λ (t : Vec Pick Global). t.items) tables.items
 abbrev pub as_places : Vec (Vec ℕ Global) Global → List (List ℕ)
 as_places places = map (λ (p : Vec ℕ Global). p.items) places.items
 
--- decisions, slot by slot
-abbrev pub decided_rows : Vec (Vec Decided Global) Global → List (List Decided)
-decided_rows decided = map (λ (d : Vec Decided Global). d.items) decided.items
-
 -- the last of a list, or d where it is empty
 abbrev pub last_or : {A : Type 0} → A → List A → A
 last_or d [] = d

@@ -131,8 +131,8 @@ impl<R: Ready> Dispatcher<R> {
         ensures planned { HavePlannedAlike self.now other.now }
         ensures placed { HavePlacedAlike self.now other.now }
     {
-        let _ = self.replica.processors();
-        let _ = other.replica.processors();
+        prove!(self.replica.processors() >= 1);
+        prove!(other.replica.processors() >= 1);
     }
 
     /// The slot that is planned next: so many slots are planned, at most as many as the run has.
@@ -142,7 +142,7 @@ impl<R: Ready> Dispatcher<R> {
         ensures few { result ≤ Settings.MAX_SLOTS }
     {
         // a run has at most 1,000,000 slots
-        let _slots = self.settings.slots();
+        prove!(self.settings.slots() <= Settings::MAX_SLOTS);
         self.planned.len() as u64
     }
 
@@ -174,10 +174,14 @@ impl<R: Ready> Dispatcher<R> {
         self.planned.decided(slot as usize)
     }
 
-    /// The tables of all slots that are planned, and their places, with no copy.
-    pub fn into_run(self) -> Run
-        ensures tables { as_tables result.tables ≡ self.tables }
-        ensures places { as_places result.places ≡ places_of self.tables }
+    /// The tables of all slots that are planned, and their places. Each is moved, and none is copied:
+    /// it costs the number of those slots.
+    ///
+    /// # Errors
+    /// `AllocError` where memory was wanted and refused.
+    pub fn into_run(self) -> Result<Run, AllocError>
+        ensures tables { IfOk result (λ run. as_tables run.tables ≡ self.tables) }
+        ensures places { IfOk result (λ run. as_places run.places ≡ places_of self.tables) }
     {
         self.planned.into_run()
     }
@@ -198,7 +202,8 @@ impl<R: Ready> Dispatcher<R> {
     /// It costs a look-up for each processor; what is said at the slot, and for each of its quanta
     /// a number of steps that grows with the logarithm of the number of tasks; and the entries that
     /// have come into sound beginnings since the last slot was planned, each of which is looked at
-    /// once over all plans. It doesn't grow with the entries held.
+    /// once over all plans. It doesn't grow with the entries held. Every 1,024 slots memory is asked
+    /// for the slots that come, and nothing that was planned before is copied.
     ///
     /// # Errors
     /// Looked at first, in this order: [`PlanFault::Torn`] exactly where something held is torn,

@@ -13,6 +13,7 @@ mod dispatcher;
 mod event;
 pub mod laws;
 mod pick;
+mod pieces;
 mod places;
 mod planned;
 mod planner;

@@ -1,11 +1,12 @@
 //! What is planned so far.
 
-ghost use Rattle.std.specs.Prelude.{◌≡◌, ◌++◌, ◌∷◌, [], OnOk, OnErr, length, slice_get};
+ghost use Rattle.std.specs.Prelude.{◌≡◌, ◌++◌, ◌∷◌, [], IfOk, OnOk, OnErr, length, map, slice_get};
 ghost use Rattle.std.specs.Option.{option_map};
 ghost use Rattle.pfair_table.specs.Places.{places_of};
 ghost use Rattle.pfair_table.specs.Planned.{last_or, as_tables, as_places};
 
 use crate::pick::{Decided, Pick};
+use crate::pieces::Pieces;
 use std::alloc::{AllocError, Global};
 use std::marker::Model;
 
@@ -18,25 +19,31 @@ pub struct Run {
     pub places: Vec<Vec<u8>>,
 }
 
+// The table of a slot with its places, and the decisions at its boundary.
+#[derive(Drop)]
+struct PlannedSlot {
+    table: Vec<Pick>,
+    places: Vec<u8>,
+    decided: Vec<Decided>,
+}
+
 /// The table of each slot that is planned, from slot 0 on, with its places, and the decisions at
 /// its boundary.
 #[derive(Drop)]
 pub(crate) struct Planned {
-    tables: Vec<Vec<Pick>>,
-    places: Vec<Vec<u8>>,
-    decided: Vec<Vec<Decided>>,
+    slots: Pieces<PlannedSlot>,
 }
 
 impl Model for Planned {
-    ghost use Rattle.std.specs.Prelude.{◌≡◌, length};
+    ghost use Rattle.std.specs.Prelude.{◌≡◌, map};
     ghost use Rattle.pfair_table.specs.Places.{places_of};
-    ghost use Rattle.pfair_table.specs.Planned.{PlannedSlots, as_tables, as_places, decided_rows};
+    ghost use Rattle.pfair_table.specs.Planned.{PlannedSlots};
 
     ghost Value = { PlannedSlots };
 
-    ghost view = { λ p. record { tables = as_tables p.tables; decided = decided_rows p.decided } };
+    ghost view = { λ p. record { tables = map (λ s. s.table.items) p.slots; decided = map (λ s. s.decided.items) p.slots } };
 
-    ghost invariant = { λ p. (length p.tables.items ≡ length p.decided.items) × (as_places p.places ≡ places_of (as_tables p.tables)) };
+    ghost invariant = { λ p. map (λ s. s.places.items) p.slots ≡ places_of (map (λ s. s.table.items) p.slots) };
 }
 
 impl Planned {
@@ -45,9 +52,7 @@ impl Planned {
         ensures { result ≡ record { tables = []; decided = [] } }
     {
         Planned {
-            tables: Vec::new(alloc),
-            places: Vec::new(alloc),
-            decided: Vec::new(alloc),
+            slots: Pieces::new(alloc),
         }
     }
 
@@ -56,39 +61,39 @@ impl Planned {
         ensures tables { result ≡ length self.now.tables }
         ensures decided { result ≡ length self.now.decided }
     {
-        self.tables.len()
+        self.slots.len()
     }
 
     /// The table of a slot.
     pub(crate) fn table(&self, slot: usize) -> Option<&[Pick]>
         ensures { option_map (λ rows. rows.now) result ≡ slice_get self.now.tables slot }
     {
-        let table = self.tables.get(slot)?;
-        Some(table)
+        let planned = self.slots.get(slot)?;
+        Some(&planned.table)
     }
 
     /// The places of a slot.
     pub(crate) fn places(&self, slot: usize) -> Option<&[u8]>
         ensures { option_map (λ places. places.now) result ≡ slice_get (places_of self.now.tables) slot }
     {
-        let places = self.places.get(slot)?;
-        Some(places)
+        let planned = self.slots.get(slot)?;
+        Some(&planned.places)
     }
 
     /// The decisions at the boundary of a slot.
     pub(crate) fn decided(&self, slot: usize) -> Option<&[Decided]>
         ensures { option_map (λ rows. rows.now) result ≡ slice_get self.now.decided slot }
     {
-        let decided = self.decided.get(slot)?;
-        Some(decided)
+        let planned = self.slots.get(slot)?;
+        Some(&planned.decided)
     }
 
     /// The table of the last slot, or no rows where nothing is planned.
     pub(crate) fn last_table(&self) -> &[Pick]
         ensures { result.now ≡ last_or [] self.now.tables }
     {
-        match self.tables.last() {
-            Some(table) => table,
+        match self.slots.last() {
+            Some(planned) => &planned.table,
             None => &[],
         }
     }
@@ -97,8 +102,8 @@ impl Planned {
     pub(crate) fn last_places(&self) -> &[u8]
         ensures { result.now ≡ last_or [] (places_of self.now.tables) }
     {
-        match self.places.last() {
-            Some(places) => places,
+        match self.slots.last() {
+            Some(planned) => &planned.places,
             None => &[],
         }
     }
@@ -114,22 +119,33 @@ impl Planned {
         ensures ok { OnOk result (self.new ≡ record { tables = self.old.tables ++ table.items ∷ []; decided = self.old.decided ++ decided.items ∷ [] }) }
         ensures err { OnErr result (self.new ≡ self.old) }
     {
-        self.tables.reserve(1)?;
-        self.places.reserve(1)?;
-        self.decided.push(decided)?;
-        self.tables.push(table)?;
-        self.places.push(places)?;
-        Ok(())
+        self.slots.push(PlannedSlot {
+            table,
+            places,
+            decided,
+        })
     }
 
-    /// All tables and their places.
-    pub(crate) fn into_run(self) -> Run
-        ensures tables { as_tables result.tables ≡ self.tables }
-        ensures places { as_places result.places ≡ places_of self.tables }
+    /// All tables and their places: each is moved, and none is copied.
+    pub(crate) fn into_run(self) -> Result<Run, AllocError>
+        ensures tables { IfOk result (λ run. as_tables run.tables ≡ self.tables) }
+        ensures places { IfOk result (λ run. as_places run.places ≡ places_of self.tables) }
     {
-        Run {
-            tables: self.tables,
-            places: self.places,
-        }
+        run_of(self.slots.into_list()?)
     }
+}
+
+// The tables and the places of some slots, each moved.
+fn run_of(slots: Vec<PlannedSlot>) -> Result<Run, AllocError>
+    ensures tables { IfOk result (λ run. as_tables run.tables ≡ map (λ s. s.table.items) slots.items) }
+    ensures places { IfOk result (λ run. as_places run.places ≡ map (λ s. s.places.items) slots.items) }
+{
+    let alloc = *slots.allocator();
+    let mut tables = Vec::with_capacity(alloc, slots.len())?;
+    let mut places = Vec::with_capacity(alloc, slots.len())?;
+    for slot in slots {
+        tables.push(slot.table)?;
+        places.push(slot.places)?;
+    }
+    Ok(Run { tables, places })
 }

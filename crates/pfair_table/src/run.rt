@@ -67,12 +67,12 @@ fn happen<R: Ready>(dispatcher: &mut Dispatcher<R>, event: &Event) -> Result<(),
             entry,
         } => {
             // an entry is within its limits
-            let _floor = entry.floor();
+            prove!(entry.floor() <= Entry::LAST_SLOT);
             offer(dispatcher, *proc, *number, *entry)
         }
         Event::Absorb(other) => {
             // a replica holds entries of its own logs
-            let _processors = other.processors();
+            prove!(other.processors() >= 1);
             match dispatcher.absorb(other) {
                 Err(MergeFault::Memory) => Err(AllocError),
                 _ => Ok(()),

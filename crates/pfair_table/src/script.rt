@@ -69,7 +69,7 @@ impl Script {
         ensures shape { IsShape self.now.settings.processors (capacity_of self.now.logs) }
     {
         // settings have 1 to 64 processors
-        let _processors = self.settings.processors();
+        prove!(self.settings.processors() <= Settings::MAX_PROCESSORS);
         longest(&self.logs) as u32
     }
 }

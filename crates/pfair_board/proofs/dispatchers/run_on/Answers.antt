@@ -1,4 +1,4 @@
-use Rattle.std.proofs.Common.{◌≡◌, ◌∙◌, sym, subst, refl, slice_get, Some, length}
+use Rattle.std.proofs.Common.{◌≡◌, ◌∙◌, sym, subst, slice_get, Some, length}
 use Rattle.pfair_replica.specs.HeldRows.{replica_of}
 use Rattle.pfair_table.specs.Script.{capacity_of, replica_of_logs}
 use Rattle.pfair_board.specs.FirstFault.{IsFirstFault}
@@ -23,7 +23,7 @@ returns-in-None-clause-good g c = λ k w at.
     let there : slice_get c.as_slice.result.now k ≡ Some w = rw c.as_slice.ensures.value at in
     let none = subst (IsFirstFault c.as_slice.result.now (replica_of_logs script.logs) script.settings.slots) c.in-None.is c.in_ok-fault.ensures in
     let held = none.0 k w there in
-    let rows : w.desk.replica.processors ≡ length script.logs = work.desk.processors ∙ c.requires.processors ∙ sym c.settings-settings.ensures.run.one_each in
+    let rows : w.desk.replica.processors ≡ length script.logs = work.desk.processors ∙ c.requires.processors ∙ sym c.settings.ensures.run.one_each in
     let row : w.desk.replica.capacity ≡ capacity_of script.logs = work.desk.capacity ∙ c.requires.capacity in
     record {
       desk = record {

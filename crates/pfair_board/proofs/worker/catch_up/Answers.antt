@@ -14,7 +14,7 @@ plan_held-requires g c =
     c.in-Ok.ensures.offered (λ e. cc e)
     ∙ ap (λ (y : HeldRows). absorbed (replica_of c.args.dispatcher.now.held) (replica_of y)) c.replica.ensures.value
     ∙ absorbed_all c.least_join.ensures c.args.dispatcher.now.held c.args.desk.now.replica c.requires.behind.shape c.requires.behind.below in
-    record { behind = behind_same c.absorb.new.self c.args.desk.now (ap (λ (d : Dispatch). d.spent) c.absorb.ensures.rest ∙ c.requires.behind.able) held_is }
+    record { behind = behind_same c.args.dispatcher.now c.absorb.new.self c.args.desk.now c.requires.behind c.absorb.ensures.rest held_is }
 
 pub returns-in-Ok-clause-plan : goal.returns-in-Ok-clause-plan
 returns-in-Ok-clause-plan g c =

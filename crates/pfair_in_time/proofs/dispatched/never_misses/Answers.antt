@@ -14,7 +14,7 @@ returns g c =
     let each : (k : ℕ) → k < c.replica-replica.result.now.processors → RowHasWeights c.replica-replica.result.now k c.replica-replica.result.now.capacity =
     λ k less. c.loop-proc.invariant k (omega (arith, less, many, ended)) in
     never_misses c.args.dispatcher.now
-    (subst IsSettings c.settings.ensures c.frame-frame.ensures.limits)
+    (subst IsSettings c.settings.ensures c.frame.ensures.limits)
     c.plans_alike.ensures.planned
     (subst (λ (x : HeldRows). IsReplica (replica_of x)) held c.processors-proc-end.ensures.rows.entries)
     (subst (λ (x : HeldRows). (k : ℕ) → k < x.processors → RowHasWeights x k x.capacity) held each)

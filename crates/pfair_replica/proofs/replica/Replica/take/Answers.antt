@@ -10,7 +10,7 @@ follow_entry-requires-clause-before c =
     let x = replica_of (record { processors = c.self.inside.processors; capacity = c.self.inside.capacity; rows = c.self.inside.rows }) in
     before_entry x c.self.inside.counters.beginnings.items c.self.inside.counters.torn c.self.invariant.counters c.args.proc c.args.number c.args.entry (held_in c.put_entry.new.rows) (omega arith)
     (replica_taken x c.args.proc c.args.number c.args.entry (held_in c.put_entry.new.rows)
-    c.self.invariant.rows.entries c.floor-floor.ensures.entry (omega arith) (omega arith) (omega arith) c.in_ok-put_entry.ensures.joined)
+    c.self.invariant.rows.entries c.floor.ensures.entry (omega arith) (omega arith) (omega arith) c.in_ok-put_entry.ensures.joined)
     c.in_ok-put_entry.ensures.joined
 
 pub invariant_of-self-2 : goal.invariant_of-self-2
@@ -21,7 +21,7 @@ invariant_of-self-2 c =
         shape = c.self.invariant.rows.shape;
         full = c.put_entry.ensures.full c.self.inside.processors c.self.invariant.rows.full;
         entries = replica_taken x c.args.proc c.args.number c.args.entry (held_in c.put_entry.new.rows)
-            c.self.invariant.rows.entries c.floor-floor.ensures.entry (omega arith) (omega arith) (omega arith) c.in_ok-put_entry.ensures.joined;
+            c.self.invariant.rows.entries c.floor.ensures.entry (omega arith) (omega arith) (omega arith) c.in_ok-put_entry.ensures.joined;
       };
       so_many = c.follow_entry.ensures.so_many ∙ c.self.invariant.so_many;
       counters = c.follow_entry.ensures.counters;

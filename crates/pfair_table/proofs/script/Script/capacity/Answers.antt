@@ -12,7 +12,7 @@ overflow_cast-result c =
 
 pub returns-clause-shape : goal.returns-clause-shape
 returns-clause-shape c =
-    let limits = c.processors-processors.ensures.limits.processors in
+    let limits = c.processors.ensures.limits.processors in
     let some = limits.0 in
     let few = limits.1 in
     subst (λ (r : LoggedRun). IsShape r.settings.processors (capacity_of r.logs)) c.self.view_is (record {

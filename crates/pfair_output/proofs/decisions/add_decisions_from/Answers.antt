@@ -1,8 +1,8 @@
-use Rattle.std.proofs.Common.{◌≡◌, ◌<◌, ◌≤◌, ◌∙◌, sym, arith, length, subst, IfOk, List, ℕ}
+use Rattle.std.proofs.Common.{◌<◌, ◌≤◌, ◌∙◌, sym, arith, length}
 use Rattle.pfair_text.specs.Rows.{text_so_far}
 use Rattle.pfair_output.specs.Decisions.{decided_rows}
 use Rattle.pfair_output.proofs.SlotFacts.{slot_more, slots_done}
-use Rattle.pfair_output.proofs.decisions.decisions_of.Goals as goal
+use Rattle.pfair_output.proofs.decisions.add_decisions_from.Goals as goal
 
 pub loop-slot-preserved : goal.loop-slot-preserved
 loop-slot-preserved g c =
@@ -11,8 +11,7 @@ loop-slot-preserved g c =
       slot_more decided_rows c.args.dispatcher.now.decided c.loop-slot.slot (text_so_far c.loop-slot.writer) (text_so_far c.add_slot.new.writer) inside c.in_ok-add_slot.ensures.text ∙ c.loop-slot.invariant.1,
     )
 
-pub returns : goal.returns
-returns g c =
+pub returns-clause-text : goal.returns-clause-text
+returns-clause-text g c =
     let past : length c.args.dispatcher.now.decided ≤ c.loop-slot.slot = omega (arith, c.loop-slot-test.false, c.loop-slot.auto.slot-end, c.next_slot-slot-end.ensures.decided) in
-    subst (λ (whole : List ℕ). IfOk c.finish.result (λ text. text.items ≡ whole))
-    (sym (slots_done decided_rows c.args.dispatcher.now.decided c.loop-slot.slot (text_so_far c.loop-slot.writer) past) ∙ c.loop-slot.invariant.1) c.finish.ensures
+    sym (slots_done decided_rows c.args.dispatcher.now.decided c.loop-slot.slot (text_so_far c.loop-slot.writer) past) ∙ c.loop-slot.invariant.1

@@ -8,7 +8,7 @@ use Rattle.pfair_text.specs.Rows.{lines_text, text_so_far}
 use Rattle.pfair_table.specs.declared.pick.Pick.{Pick}
 use Rattle.pfair_output.specs.Replay.{placed_rows_from, placed_table_rows}
 use Rattle.pfair_output.proofs.SlotFacts.{slot_more}
-use Rattle.pfair_output.proofs.replay.text_of.Goals as goal
+use Rattle.pfair_output.proofs.replay.add_all.Goals as goal
 
 pub loop-slot-preserved : goal.loop-slot-preserved
 loop-slot-preserved c =

@@ -1,0 +1,27 @@
+use Rattle.std.proofs.Common.{◌+◌, ◌<◌, ◌≤◌, ◌∙◌, sym, ap, arith, length}
+use Rattle.pfair_text.specs.Rows.{text_so_far}
+use Rattle.pfair_output.proofs.ToldFacts.{told_more, told_time, told_done, over_more, over_done}
+use Rattle.pfair_output.proofs.lags.add_lags_from.Goals as goal
+
+pub loop-slot-preserved : goal.loop-slot-preserved
+loop-slot-preserved g c =
+    let ds = c.args.dispatcher.now.decided in
+    let ts = c.args.dispatcher.now.tables in
+    let inside : c.loop-slot.slot < length ds = omega (arith, c.loop-slot-test.true, c.loop-slot.auto.slot-end, c.next_slot-slot-end.ensures.decided) in
+    let inside' : c.loop-slot.slot < length ts = omega (arith, c.loop-slot-test.true, c.loop-slot.auto.slot-end, c.next_slot-slot-end.ensures.value) in (
+      c.in_ok-add_slot.ensures.open,
+      told_more ds ts c.loop-slot.slot c.loop-slot.book c.add_slot.new.book (text_so_far c.loop-slot.writer) (text_so_far c.add_slot.new.writer) inside inside' c.in_ok-add_slot.ensures.book c.in_ok-add_slot.ensures.text
+          ∙ c.loop-slot.invariant.1,
+      told_time ds ts c.loop-slot.slot c.loop-slot.book c.add_slot.new.book inside inside' c.in_ok-add_slot.ensures.book ∙ ap (λ n. n + 1) c.loop-slot.invariant.2,
+      over_more ds ts c.loop-slot.slot c.loop-slot.book c.add_slot.new.book inside inside' c.in_ok-add_slot.ensures.book ∙ c.loop-slot.invariant.3,
+    )
+
+pub returns-clause-book : goal.returns-clause-book
+returns-clause-book g c =
+    let past : length c.args.dispatcher.now.decided ≤ c.loop-slot.slot = omega (arith, c.loop-slot-test.false, c.loop-slot.auto.slot-end, c.next_slot-slot-end.ensures.decided) in
+    sym (over_done c.args.dispatcher.now.decided c.args.dispatcher.now.tables c.loop-slot.slot c.loop-slot.book past) ∙ c.loop-slot.invariant.3
+
+pub returns-clause-text : goal.returns-clause-text
+returns-clause-text g c =
+    let past : length c.args.dispatcher.now.decided ≤ c.loop-slot.slot = omega (arith, c.loop-slot-test.false, c.loop-slot.auto.slot-end, c.next_slot-slot-end.ensures.decided) in
+    sym (told_done c.args.dispatcher.now.decided c.args.dispatcher.now.tables c.loop-slot.slot c.loop-slot.book (text_so_far c.loop-slot.writer) past) ∙ c.loop-slot.invariant.1

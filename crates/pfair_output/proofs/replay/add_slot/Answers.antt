@@ -1,0 +1,14 @@
+use Rattle.std.proofs.Common.{◌≡◌, ◌++◌, ◌∙◌, subst}
+use Rattle.std.proofs.lemmas.Option.{same_Some}
+use Rattle.std.proofs.lemmas.Result.{on_ok_weaker}
+use Rattle.pfair_text.specs.Rows.{lines_text, text_so_far}
+use Rattle.pfair_table.specs.Table.{Table}
+use Rattle.pfair_output.specs.Replay.{table_rows}
+use Rattle.pfair_output.proofs.replay.add_slot.Goals as goal
+
+pub returns-in-Some-clause-text : goal.returns-in-Some-clause-text
+returns-in-Some-clause-text g c =
+    on_ok_weaker c.add_table.result
+    (λ told table at. subst (λ (t : Table). text_so_far c.add_table.new.writer ≡ text_so_far c.args.writer.now ++ lines_text (table_rows c.args.slot t))
+    (same_Some c.in-Some.table.now table (c.in-Some.ensures ∙ at)) told)
+    c.add_table.ensures.text
