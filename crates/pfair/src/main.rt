@@ -1,36 +1,18 @@
 //! `pfair`: windows of Pfair tasks, and the tables, decisions and lags of task files.
 #![tactic(auto)]
 
-mod decisions;
-mod dispatchers;
-#[cfg(test)]
-mod failure_tests;
-mod fault;
-#[cfg(test)]
-mod fault_tests;
-mod lags;
-mod replay;
-mod replay_placed;
-#[cfg(test)]
-mod run_tests;
 #[cfg(test)]
 mod tests;
-mod windows;
 mod words;
 
-use decisions::decisions;
-use fault::{ProgramFault, write_fault};
-use lags::lags;
 use pfair_board::OpenGate;
 use pfair_command::{given_words, opened};
+use pfair_reports::{ProgramFault, decisions, lags, replay, replay_placed, windows, write_fault};
 use pfair_text::send;
 use pfair_words::Asked;
-use replay::replay;
-use replay_placed::replay_placed;
 use std::process::ExitCode;
 use std::sync::Wait;
 use std::thread::Threads;
-use windows::windows;
 use words::read_words;
 
 fn main(rt: HostRuntime) -> ExitCode {

@@ -3,10 +3,10 @@
 ghost use Rattle.std.specs.Prelude.{◌≡◌, IfOk};
 ghost use Rattle.pfair_words.specs.Asked.{IsAnswer, texts};
 ghost use Rattle.pfair_words.specs.Plain.{HasCount, IsPlainAnswer};
-ghost use Rattle.pfair.specs.Faults.{told};
+ghost use Rattle.pfair.specs.Faults.{of_words, told};
 
-use crate::fault::ProgramFault;
-use pfair_words::Asked;
+use pfair_reports::ProgramFault;
+use pfair_words::{Asked, WordsFault};
 use std::alloc::Global;
 
 /// Reads the words after the program's name.
@@ -20,6 +20,17 @@ pub fn read_words(alloc: Global, words: &[String]) -> Result<Asked, ProgramFault
 {
     match pfair_words::read_words(alloc, words) {
         Ok(asked) => Ok(asked),
-        Err(fault) => Err(ProgramFault::from(fault)),
+        Err(fault) => Err(refusal(fault)),
+    }
+}
+
+// The program's fault where the words ask for nothing.
+fn refusal(fault: WordsFault) -> ProgramFault
+    ensures { result ≡ of_words fault }
+{
+    match fault {
+        WordsFault::Weight(fault) => ProgramFault::Weight(fault),
+        WordsFault::Refused => ProgramFault::CommandLine,
+        WordsFault::Memory => ProgramFault::Memory,
     }
 }

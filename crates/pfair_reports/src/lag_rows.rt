@@ -1,0 +1,38 @@
+//! The command `lags`: the lags of the tasks of a task file.
+
+ghost use Rattle.pfair_command.specs.Commands.{IsCommandOf, IsFaultBy};
+ghost use Rattle.pfair_reports.specs.Faults.{of_schedule};
+ghost use Rattle.pfair_reports.specs.Runs.{IsOutputOf, lags_of_run};
+
+use crate::fault::ProgramFault;
+use pfair_command::scheduled;
+use pfair_output::lags_of;
+use pfair_text::send;
+use std::alloc::Global;
+use std::io::{Read, Write};
+
+/// Writes the lags of the script that a reader's bytes hold: a header, and for each slot t, slots
+/// in order, a row for each member that isn't departing after the boundary of t, in the order of
+/// admission: the time t + 1, the task, and its lag at that time as a numerator over its period,
+/// counted from its joining slot.
+///
+/// The whole run is made before the first byte goes out. No more than 67,108,864 bytes are taken
+/// from the reader, but where the file is too long or memory was wanting: one more may then be.
+///
+/// # Errors
+/// [`ProgramFault::Schedule`] with the cause where the file has no schedule, as [`scheduled`] says,
+/// and [`ProgramFault::Memory`] where memory was wanted and refused: nothing has then been written.
+/// [`ProgramFault::WriteFailed`] where the writer answered an error, or took nothing; a prefix of
+/// the text has then gone out.
+pub fn lags<R: Read, W: Write>(
+    alloc: Global,
+    reader: &mut R,
+    writer: &mut W,
+) -> Result<(), ProgramFault>
+    ensures { IsCommandOf of_schedule ProgramFault.WriteFailed (IsOutputOf lags_of_run) (IsFaultBy of_schedule) result
+        (R.remaining reader.old) (R.remaining reader.new) (W.contents writer.old) (W.contents writer.new) }
+{
+    let dispatcher = scheduled(alloc, reader)?;
+    let text = lags_of(alloc, &dispatcher)?;
+    Ok(send(writer, text.as_slice())?)
+}

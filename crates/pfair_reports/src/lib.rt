@@ -1,0 +1,26 @@
+//! What the commands of `pfair` write, over any reader and writer: the tables, decisions and lags of
+//! task files, and the windows of a weight.
+#![tactic(auto)]
+
+mod decided;
+mod dispatchers;
+#[cfg(test)]
+mod failure_tests;
+mod fault;
+#[cfg(test)]
+mod fault_tests;
+mod lag_rows;
+mod placed_tables;
+#[cfg(test)]
+mod run_tests;
+mod tables;
+#[cfg(test)]
+mod tests;
+mod window_rows;
+
+pub use decided::decisions;
+pub use fault::{ProgramFault, write_fault};
+pub use lag_rows::lags;
+pub use placed_tables::replay_placed;
+pub use tables::replay;
+pub use window_rows::windows;

@@ -1,0 +1,49 @@
+//! The command `replay`: the tables of a task file, worked out by a dispatcher for each processor
+//! in a thread of its own.
+
+ghost use Rattle.pfair_command.specs.Commands.{IsCommandOf};
+ghost use Rattle.pfair_reports.specs.Faults.{of_schedule};
+ghost use Rattle.pfair_reports.specs.Runs.{IsFaultOfReplay, IsOutputOf, replay_of_run};
+
+use crate::dispatchers::first_run;
+use crate::fault::ProgramFault;
+use pfair_board::Gate;
+use pfair_output::replay_of;
+use pfair_text::send;
+use std::alloc::Global;
+use std::io::{Read, Write};
+use std::sync::Wait;
+use std::thread::Threads;
+
+/// Writes the tables of the script that a reader's bytes hold: a header, and for each quantum a row
+/// of its slot, the row of the slot's table, the task and the index of the subtask. Slots stand in
+/// order, and an empty table has no row.
+///
+/// Each processor's dispatcher runs in a thread of its own and works out every slot by itself, from
+/// the entries that all publish on one board; each comes to the gate before each slot. The tables
+/// are the first one's. The whole run is made before the first byte goes out. No more than
+/// 67,108,864 bytes are taken from the reader, but where the file is too long or memory was
+/// wanting: one more may then be.
+///
+/// # Errors
+/// [`ProgramFault::Schedule`] with the cause where the file has no schedule, as
+/// [`scheduled`](pfair_command::scheduled) says, [`ProgramFault::Memory`] where memory was wanted
+/// and refused or a thread couldn't be started, [`ProgramFault::GateGaveUp`] only where the gate's
+/// type may give up, and [`ProgramFault::Astray`] where a worker learned something else than the
+/// logs say: nothing has then been written.
+/// [`ProgramFault::WriteFailed`] where the writer answered an error, or took nothing; a prefix of
+/// the text has then gone out.
+pub fn replay<P: Threads + Wait + Sync, R: Read, W: Write, G: Gate + Sync>(
+    rt: &P,
+    alloc: Global,
+    reader: &mut R,
+    writer: &mut W,
+    gate: &G,
+) -> Result<(), ProgramFault>
+    ensures { IsCommandOf of_schedule ProgramFault.WriteFailed (IsOutputOf replay_of_run) (IsFaultOfReplay G.may_give_up) result
+        (R.remaining reader.old) (R.remaining reader.new) (W.contents writer.old) (W.contents writer.new) }
+{
+    let run = first_run(rt, alloc, reader, gate)?;
+    let text = replay_of(alloc, run.tables.as_slice())?;
+    Ok(send(writer, text.as_slice())?)
+}
