@@ -1,0 +1,89 @@
+-- Rows as lines of a text.
+use Rattle.std.proofs.Common.{ℕ, Bool, true, false, List, [], ◌∷◌, ◌++◌, ◌≡◌, ◌≢◌, ◌<◌, ◌==◌, ◌^◌, refl, ap, ◌∙◌, sym, zero, suc, arith, length, map, Option, None, Some, append_assoc}
+use Rattle.std.specs.Prelude.{◌||◌, ◌&&◌, codes, not}
+use Rattle.std.specs.List.{All, AllByRecursion, join_with_byte, list_all, list_any, slice_split}
+use Rattle.std.specs.Fmt.{decimal}
+use Rattle.std.proofs.lemmas.Bool.{and_from, and_parts, eqb-false, ne_eqb, not-true, or_parts}
+use Rattle.std.proofs.lemmas.List.Splits.{slice_split_at}
+use Rattle.pfair_entry.specs.Entry.{Logged}
+use Rattle.pfair_entry.specs.declared.announcement.Announcement.{Announcement}
+use Rattle.pfair_entry.specs.declared.announcement.Announcement.TheVariants.{Arrive, Depart, Late}
+use Rattle.pfair_text.specs.Rows.{is_mark, is_plain}
+use Rattle.pfair_text.proofs.RowFacts.{is_plain-decimal}
+use Rattle.pfair_entry_row.specs.Laws.{Keyed, RowsAreLines, TextsAreRows, entries_text}
+use Rattle.pfair_entry_row.specs.Row.{truth, announced_fields, said_fields, entry_fields, entry_row, IsEntryAt, IsNamed, IsSpelled, IsSpelledOut, IsWellSaid}
+use Rattle.pfair_entry_row.proofs.Names.{is_plain-name}
+use Rattle.pfair_entry_row.proofs.Refused.{sayable}
+
+-- no line ends in these bytes
+abbrev pub IsOneLine : List ℕ → Type 0
+IsOneLine bytes = AllByRecursion (λ b. b ≢ 10) bytes
+
+both_lines : (xs ys : List ℕ) → IsOneLine xs → IsOneLine ys → IsOneLine (xs ++ ys)
+both_lines [] ys h k = k
+both_lines (x ∷ xs) ys h k = (h.0, both_lines xs ys h.1 k)
+
+unmarked : (bytes : List ℕ) → list_any is_mark bytes ≡ false → IsOneLine bytes
+unmarked [] h = tt
+unmarked (b ∷ bytes) h =
+    let parts = or_parts (is_mark b) (list_any is_mark bytes) h in
+    let last = or_parts ((b == 44) || (b == 34) || (b == 13)) (b == 10) parts.0 in
+    (eqb-false b 10 last.1, unmarked bytes parts.1)
+
+plain : (field : List ℕ) → is_plain field ≡ true → IsOneLine field
+plain field h = unmarked field (not-true (list_any is_mark field) (and_parts (not (length field == 0)) (not (list_any is_mark field)) h).1)
+
+joined : (fields : List (List ℕ)) → list_all is_plain fields ≡ true → IsOneLine (join_with_byte 44 fields)
+joined [] h = tt
+joined (f ∷ []) h = plain f (and_parts (is_plain f) true h).0
+joined (f ∷ g ∷ fs) h =
+    let parts = and_parts (is_plain f) (list_all is_plain (g ∷ fs)) h in
+    both_lines f (44 ∷ join_with_byte 44 (g ∷ fs)) (plain f parts.0) (eqb-false 44 10 refl, joined (g ∷ fs) parts.1)
+
+-- ---- the fields of an entry are plain
+
+truth_is_plain : (b : Bool) → is_plain (truth b) ≡ true
+truth_is_plain true = refl
+truth_is_plain false = refl
+
+announced : (a : Announcement) → IsNamed a → IsSpelled a → list_all is_plain (announced_fields a) ≡ true
+announced (Arrive name weight early) named s =
+    let first = is_plain-name name named in
+    let cost = is_plain-decimal weight.cost s.1 in
+    let period = is_plain-decimal weight.period s.2 in
+    let word = truth_is_plain early in
+    rw (first, cost, period, word) refl
+announced (Depart name) named s = let first = is_plain-name name named in rw first refl
+announced (Late name index by) named s =
+    let first = is_plain-name name named in
+    let from = is_plain-decimal index s.1 in
+    let delay = is_plain-decimal by s.2 in
+    rw (first, from, delay) refl
+
+said : (s : Option (ℕ × Announcement)) → IsWellSaid s → IsSpelledOut s → list_all is_plain (said_fields s) ≡ true
+said None well spelled = refl
+said (Some s) well spelled = and_from _ _ (is_plain-decimal s.0 spelled.0) (announced s.1 well.0 spelled.1)
+
+fields_are_plain : (p n : ℕ) (e : Logged) → IsEntryAt p n e → list_all is_plain (entry_fields p n e) ≡ true
+fields_are_plain p n e h =
+    let fits = sayable p n e h in
+    and_from _ _ (is_plain-decimal p fits.processor_fits) (and_from _ _ (is_plain-decimal n fits.number_fits)
+    (and_from _ _ (is_plain-decimal e.floor fits.floor_fits) (said e.said h.loggable.well_said fits.spelled)))
+
+pub rows_are_lines : RowsAreLines
+rows_are_lines p n e h = joined (entry_fields p n e) (fields_are_plain p n e h)
+
+-- ---- texts
+
+at_each : (bytes : List ℕ) → IsOneLine bytes → All (λ b. (b == 10) ≡ false) bytes
+at_each [] h k d inside = absurd (omega arith)
+at_each (b ∷ bytes) h zero d inside = ne_eqb b 10 h.0
+at_each (b ∷ bytes) h (suc k) d inside = at_each bytes h.1 k d (omega arith)
+
+pub texts_are_rows : TextsAreRows
+texts_are_rows [] h = refl
+texts_are_rows (x ∷ entries) h =
+    let row = entry_row x.0 x.1 x.2 in
+    ap (slice_split (λ b. b == 10)) (append_assoc row (10 ∷ []) (entries_text entries))
+    ∙ slice_split_at (λ b. b == 10) row 10 (entries_text entries) (at_each row (rows_are_lines x.0 x.1 x.2 h.0)) refl
+    ∙ ap (λ rows. row ∷ rows) (texts_are_rows entries h.1)

@@ -1,0 +1,52 @@
+-- What the fields of a row hold, as an entry that no rule has looked at.
+use Rattle.std.specs.Prelude.{ℕ, ◌≡◌, ◌≢◌, List, [], ◌∷◌, Option, option_map}
+use Rattle.pfair_entry.specs.Entry.{Logged}
+use Rattle.pfair_entry.specs.declared.announcement.Announcement.{Announcement}
+use Rattle.pfair_entry.specs.declared.announcement.Announcement.TheVariants as said
+use Rattle.pfair_entry_row.specs.declared.fields.Fields.{Fields}
+use Rattle.pfair_entry_row.specs.declared.line.Change.{Change}
+use Rattle.pfair_entry_row.specs.declared.line.Change.TheVariants.{Arrive, Depart, Late}
+use Rattle.pfair_entry_row.specs.declared.line.Notice.{Notice}
+use Rattle.pfair_entry_row.specs.declared.line.Line.{Line}
+use Rattle.pfair_entry_row.specs.Row.{dash, announced_fields, said_fields, IsSpelled, IsSpelledOut}
+
+abbrev pub announced : List ℕ → Change → Announcement
+announced name (Arrive cost period early) = said.Arrive name (record { cost = cost; period = period }) early
+announced name Depart = said.Depart name
+announced name (Late index by) = said.Late name index by
+
+abbrev pub noticed : Notice → ℕ × Announcement
+noticed n = (n.at, announced n.name.now n.change)
+
+abbrev pub logged : Line → Logged
+logged l = record { floor = l.floor; said = option_map noticed l.notice }
+
+-- ---- what the fields from the kind on, and from the stamp on, are the text of
+
+abbrev pub announced_texts : Fields → List (List ℕ)
+announced_texts f = f.kind.now ∷ f.name.now ∷ f.cost.now ∷ f.period.now ∷ f.early.now ∷ f.index.now ∷ f.by.now ∷ []
+
+abbrev pub Announces : Fields → Change → Type 0
+Announces f c = IsSpelled (announced f.name.now c) × (announced_texts f ≡ announced_fields (announced f.name.now c))
+
+abbrev pub AnnouncesNothing : Fields → Type 0
+AnnouncesNothing f = (a : Announcement) → IsSpelled a → announced_texts f ≢ announced_fields a
+
+abbrev pub said_texts : Fields → List (List ℕ)
+said_texts f = f.at.now ∷ announced_texts f
+
+abbrev pub Notes : Fields → Option (ℕ × Announcement) → Type 0
+Notes f s = IsSpelledOut s × (said_texts f ≡ said_fields s)
+
+abbrev pub NotesNothing : Fields → Type 0
+NotesNothing f = (s : Option (ℕ × Announcement)) → IsSpelledOut s → said_texts f ≢ said_fields s
+
+-- nothing beside the kind
+pub record AreDashes (f : Fields) : Type 0 where
+  pub at : f.at.now ≡ dash
+  pub name : f.name.now ≡ dash
+  pub cost : f.cost.now ≡ dash
+  pub period : f.period.now ≡ dash
+  pub early : f.early.now ≡ dash
+  pub index : f.index.now ≡ dash
+  pub by : f.by.now ≡ dash

@@ -1,0 +1,87 @@
+-- Followers that go on, one step after another.
+use Rattle.std.proofs.Common.{ℕ, ◌≡◌, ◌≤◌, inl, refl, sym, ap, subst, ◌∙◌, arith, List, [], ◌++◌, length, Option, Some, None}
+use Rattle.std.specs.Prelude.{max}
+use Rattle.std.specs.Io.KnownBytes.{Appends, Keeps}
+use Rattle.std.proofs.lemmas.List.{append-nil, length-map, length-append}
+use Rattle.csv.proofs.WriteFacts.{appends-more}
+use Rattle.pfair_text.specs.Rows.{lines_text}
+use Rattle.pfair_text.proofs.RowFacts.{lines_text-append}
+use Rattle.pfair_replica.specs.HeldRows.{replica_of}
+use Rattle.pfair_table.specs.declared.pick.Decided.{Decided}
+use Rattle.pfair_table.specs.Laws.{IsPrefixOf}
+use Rattle.pfair_table.specs.Table.{Table, decisions, table}
+use Rattle.pfair_table.specs.Refinement.{Dispatch, IsWholePlan}
+use Rattle.pfair_stream.specs.declared.output.Output.{Output}
+use Rattle.pfair_stream.specs.Follow.{Follow, news}
+use Rattle.pfair_stream.specs.Rows.{rows_from}
+use Rattle.pfair_stream.proofs.Going.{none_behind, rows_go_on}
+use Rattle.pfair_stream.proofs.Plans.{grown_same, prefix_trans}
+use Rattle.pfair_feed.specs.Feeding.{HasGoneOn, HasStood, IsCaughtUp}
+
+even : (d : Dispatch) → IsWholePlan d → length d.tables ≡ length d.decided
+even d whole =
+    ap (λ (ts : List Table). length ts) whole.tables_are ∙ length-map _ (table d.settings (replica_of d.held))
+    ∙ sym (length-map _ (decisions d.settings (replica_of d.held))) ∙ sym (ap (λ (ds : List (List Decided)). length ds) whole.decided_are)
+
+pub keeps_all : (old new : Option (List ℕ)) (bs : List ℕ) → bs ≡ [] → Keeps old new → Appends old new bs
+keeps_all None new bs e k = tt
+keeps_all (Some xs) None bs e k = k
+keeps_all (Some xs) (Some ys) bs e k = k ∙ sym (append-nil xs) ∙ ap (λ l. xs ++ l) (sym e)
+
+pub keeps_self : (w : Option (List ℕ)) → Keeps w w
+keeps_self None = tt
+keeps_self (Some xs) = refl
+
+-- nothing happens
+pub stays : (f : Follow) (old new : Option (List ℕ)) → IsCaughtUp f → Keeps old new → HasGoneOn f f old new
+stays f old new caught k = record {
+  output_is = refl;
+  grown = grown_same f.dispatch f.dispatch refl;
+  caught_up = caught;
+  told_is = (let h = caught.all_told in omega (arith, h));
+  sound = λ none. none;
+  written = keeps_all old new (news f f) (ap lines_text (none_behind f.output f.told f.dispatch.tables f.dispatch.decided (even f.dispatch caught.whole) caught.all_told)) k;
+}
+
+longer : {A : Type 0} (xs ys : List A) → IsPrefixOf xs ys → length xs ≤ length ys
+longer xs ys p = let l = length-append xs p.0 in let e = ap length p.1 in omega (arith, l, e)
+
+news_more : (f g h : Follow) → g.output ≡ f.output → g.told ≡ max f.told (length g.dispatch.tables) → length g.dispatch.tables ≡ length g.dispatch.decided
+    → IsPrefixOf g.dispatch.tables h.dispatch.tables → IsPrefixOf g.dispatch.decided h.dispatch.decided → news f g ++ news g h ≡ news f h
+news_more f g h output told same p q =
+    let first : List (List (List ℕ)) = rows_from f.output f.told g.dispatch.tables g.dispatch.decided in
+    ap (λ (o : Output). lines_text first ++ lines_text (rows_from o g.told h.dispatch.tables h.dispatch.decided)) output
+    ∙ ap (λ (n : ℕ). lines_text first ++ lines_text (rows_from f.output n h.dispatch.tables h.dispatch.decided)) told
+    ∙ sym (lines_text-append first (rows_from f.output (max f.told (length g.dispatch.tables)) h.dispatch.tables h.dispatch.decided))
+    ∙ ap lines_text (sym (whole h.dispatch.tables h.dispatch.decided p.1 q.1))
+  where
+    whole : (ts : List Table) (ds : List (List Decided)) → g.dispatch.tables ++ p.0 ≡ ts → g.dispatch.decided ++ q.0 ≡ ds
+        → rows_from f.output f.told ts ds ≡ rows_from f.output f.told g.dispatch.tables g.dispatch.decided ++ rows_from f.output (max f.told (length g.dispatch.tables)) ts ds
+    whole ts ds e e' = subst (λ (us : List Table). rows_from f.output f.told us ds ≡ rows_from f.output f.told g.dispatch.tables g.dispatch.decided ++ rows_from f.output (max f.told (length g.dispatch.tables)) us ds) e
+        (subst (λ (es : List (List Decided)). rows_from f.output f.told (g.dispatch.tables ++ p.0) es ≡ rows_from f.output f.told g.dispatch.tables g.dispatch.decided ++ rows_from f.output (max f.told (length g.dispatch.tables)) (g.dispatch.tables ++ p.0) es) e'
+        (rows_go_on f.output f.told g.dispatch.tables p.0 g.dispatch.decided q.0 same))
+
+-- one step more
+pub gone_trans : (f g h : Follow) (u v w : Option (List ℕ)) → HasGoneOn f g u v → HasGoneOn g h v w → HasGoneOn f h u w
+gone_trans f g h u v w a b =
+    let long = longer g.dispatch.tables h.dispatch.tables b.grown.tables_go_on in
+    let told : h.told ≡ max f.told (length h.dispatch.tables) = (let s = a.told_is in let t = b.told_is in omega (arith, long, s, t)) in
+    record {
+      output_is = b.output_is ∙ a.output_is;
+      grown = record {
+        settings_are = b.grown.settings_are ∙ a.grown.settings_are;
+        held_are = refl;
+        tables_go_on = prefix_trans f.dispatch.tables g.dispatch.tables h.dispatch.tables a.grown.tables_go_on b.grown.tables_go_on;
+        decided_go_on = prefix_trans f.dispatch.decided g.dispatch.decided h.dispatch.decided a.grown.decided_go_on b.grown.decided_go_on;
+      };
+      caught_up = b.caught_up;
+      told_is = told;
+      sound = λ none. b.sound (a.sound none);
+      written = subst (λ (text : List ℕ). Appends u w text)
+          (news_more f g h a.output_is a.told_is (even g.dispatch a.caught_up.whole) b.grown.tables_go_on b.grown.decided_go_on)
+          (appends-more u v w (news f g) (news g h) a.written b.written);
+    }
+
+-- nothing has changed of a follower at which a fault came
+pub stood_same : (line : List ℕ) (f g : Follow) → g ≡ f → HasStood line f g
+stood_same line f g same = subst (λ (h : Follow). HasStood line f h) (sym same) (record { output_is = refl; told_is = refl; grown = grown_same f.dispatch f.dispatch refl; held_is = inl refl })

@@ -1,0 +1,5 @@
+mod Going
+mod Lines
+mod Numbered
+mod Orders
+mod Reading

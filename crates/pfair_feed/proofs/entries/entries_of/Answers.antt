@@ -1,0 +1,26 @@
+use Rattle.std.proofs.Common.{ℕ, List, ◌≡◌, ◌<◌, ◌≤◌, ◌++◌, ◌∙◌, sym, ap, arith, length, subst, IfOk}
+use Rattle.std.proofs.lemmas.Option.{same_Some}
+use Rattle.pfair_entry.specs.Entry.{Logged}
+use Rattle.pfair_text.specs.Rows.{lines_text, text_so_far}
+use Rattle.pfair_table.specs.Table.{Settings}
+use Rattle.pfair_output.proofs.SlotFacts.{slot_more, slots_done}
+use Rattle.pfair_feed.specs.Entries.{log_rows}
+use Rattle.pfair_feed.proofs.entries.entries_of.Goals as goal
+
+pub loop-processor-preserved : goal.loop-processor-preserved
+loop-processor-preserved c =
+    let processor = c.loop-processor.processor in
+    let all : c.processors-processor-end.result ≡ length c.args.script.now.logs = c.processors-processor-end.ensures.value ∙ ap (λ (s : Settings). s.processors) c.settings.ensures.value ∙ sym c.settings.ensures.run.one_each in
+    let inside : processor < length c.args.script.now.logs = omega (arith, all, c.loop-processor-test.true) in (
+      c.in_ok-add_log.ensures.open,
+      slot_more log_rows c.args.script.now.logs processor (text_so_far c.loop-processor.writer) (text_so_far c.add_log.new.writer) inside
+          (λ log at. subst (λ (l : List Logged). text_so_far c.add_log.new.writer ≡ text_so_far c.loop-processor.writer ++ lines_text (log_rows processor l)) (same_Some _ _ (sym c.log.ensures.value ∙ at)) c.in_ok-add_log.ensures.text)
+          ∙ c.loop-processor.invariant.1,
+    )
+
+pub returns : goal.returns
+returns c =
+    let all : c.processors-processor-end.result ≡ length c.args.script.now.logs = c.processors-processor-end.ensures.value ∙ ap (λ (s : Settings). s.processors) c.settings.ensures.value ∙ sym c.settings.ensures.run.one_each in
+    let past : length c.args.script.now.logs ≤ c.loop-processor.processor = omega (arith, all, c.loop-processor-test.false) in
+    subst (λ (whole : List ℕ). IfOk c.finish.result (λ text. text.items ≡ whole))
+    (sym (slots_done log_rows c.args.script.now.logs c.loop-processor.processor (text_so_far c.loop-processor.writer) past) ∙ c.loop-processor.invariant.1) c.finish.ensures

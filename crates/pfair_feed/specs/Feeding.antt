@@ -1,0 +1,144 @@
+-- What lines bring to a follower, and what is written of it.
+use Rattle.std.specs.Prelude.{ℕ, false, true, ◌≡◌, ◌≢◌, ◌≤◌, ◌<◌, ◌⊎◌, List, [], ◌∷◌, ◌++◌, length, max, take, Option}
+use Rattle.std.specs.List.{AllByRecursion, flat_map}
+use Rattle.std.specs.Io.KnownBytes.{Appends, Keeps}
+use Rattle.pfair_entry.specs.Entry.{Logged}
+use Rattle.pfair_entry_row.specs.Row.{entry_row, IsEntryAt}
+use Rattle.pfair_replica.specs.HeldRows.{replica_of}
+use Rattle.pfair_replica.specs.Offered.{taken}
+use Rattle.pfair_replica.specs.Replica.{Replica, has_torn}
+use Rattle.pfair_table.specs.Refinement.{IsWholePlan}
+use Rattle.pfair_text.specs.Output.{TakesPrefix}
+use Rattle.pfair_stream.specs.declared.fault.FollowFault.TheVariants.{Memory, WriteFailed}
+use Rattle.pfair_entry_row.specs.declared.fault.RowFault.TheVariants.{NoRow}
+use Rattle.pfair_feed.specs.Faults.{IsCauseIn, is_refusal}
+use Rattle.pfair_feed.specs.declared.fault.FeedFault.{FeedFault}
+use Rattle.pfair_feed.specs.declared.fault.FeedFault.TheVariants.{Follow as Fault, ReadFailed, Row}
+use Rattle.pfair_stream.specs.Follow.{Follow, IsGrown, news}
+
+-- ---- lines
+
+-- a line with its end
+abbrev pub ended : List ℕ → List ℕ
+ended line = line ++ 10 ∷ []
+
+-- no line ends in it
+abbrev pub IsOneLine : List ℕ → Type 0
+IsOneLine bytes = AllByRecursion (λ b. b ≢ 10) bytes
+
+-- the bytes are these lines, and then the beginning of one
+pub record AreLines (bytes : List ℕ) (lines : List (List ℕ)) (rest : List ℕ) : Type 0 where
+  pub bytes_are : bytes ≡ flat_map ended lines ++ rest
+  pub whole : AllByRecursion IsOneLine lines
+  pub open_end : IsOneLine rest
+
+-- ---- what is held
+
+-- the entry whose row a line is, is taken; any other line brings nothing
+pub record IsTakenFrom (line : List ℕ) (before after : Replica) : Type 0 where
+  pub row : (processor number : ℕ) (e : Logged) → IsEntryAt processor number e → line ≡ entry_row processor number e → after ≡ taken before processor number e
+  pub other : ((processor number : ℕ) (e : Logged) → IsEntryAt processor number e → line ≢ entry_row processor number e) → after ≡ before
+
+-- line by line
+abbrev pub AreTakenFrom : List (List ℕ) → Replica → Replica → Type 0
+AreTakenFrom [] before after = after ≡ before
+AreTakenFrom (line ∷ lines) before after = (mid : Replica) × IsTakenFrom line before mid × AreTakenFrom lines mid after
+
+-- ---- what is planned and written
+
+-- the plan is whole, and all of it is told
+pub record IsCaughtUp (f : Follow) : Type 0 where
+  pub whole : IsWholePlan f.dispatch
+  pub all_told : length f.dispatch.tables ≤ f.told
+
+-- more is planned and told, the writer has gained the rows of what is new, and nothing has become torn
+pub record HasGoneOn (before after : Follow) (old new : Option (List ℕ)) : Type 0 where
+  pub output_is : after.output ≡ before.output
+  pub grown : IsGrown (record before.dispatch { held = after.dispatch.held }) after.dispatch
+  pub caught_up : IsCaughtUp after
+  pub told_is : after.told ≡ max before.told (length after.dispatch.tables)
+  pub sound : has_torn (replica_of before.dispatch.held) ≡ false → has_torn (replica_of after.dispatch.held) ≡ false
+  pub written : Appends old new (news before after)
+
+pub record IsFedLine (line : List ℕ) (before after : Follow) (old new : Option (List ℕ)) : Type 0 where
+  pub held_is : IsTakenFrom line (replica_of before.dispatch.held) (replica_of after.dispatch.held)
+  pub gone_on : HasGoneOn before after old new
+
+pub record AreFedLines (lines : List (List ℕ)) (before after : Follow) (old new : Option (List ℕ)) : Type 0 where
+  pub held_is : AreTakenFrom lines (replica_of before.dispatch.held) (replica_of after.dispatch.held)
+  pub gone_on : HasGoneOn before after old new
+
+-- these bytes were fed, up to a line that is still open
+pub record AreFedBytes (bytes : List ℕ) (before after : Follow) (old new : Option (List ℕ)) (rest : List ℕ) : Type 0 where
+  pub lines : List (List ℕ)
+  pub are_lines : AreLines bytes lines rest
+  pub fed : AreFedLines lines before after old new
+
+-- ---- lines that no one refuses
+
+-- the row of an entry at a key of so many logs with room for so many entries
+pub record IsRowAt (processors capacity : ℕ) (line : List ℕ) : Type 0 where
+  pub processor : ℕ
+  pub number : ℕ
+  pub entry : Logged
+  pub is_entry : IsEntryAt processor number entry
+  pub row_is : line ≡ entry_row processor number entry
+  pub key : (processor < processors) × (1 ≤ number) × (number ≤ capacity)
+
+-- the line `?`
+abbrev pub question : List ℕ
+question = 63 ∷ []
+
+abbrev pub IsWelcome : (processors capacity : ℕ) → List ℕ → Type 0
+IsWelcome processors capacity line = IsRowAt processors capacity line ⊎ (line ≡ question)
+
+-- each line of these bytes is such a row or the question
+pub record AreWelcome (processors capacity : ℕ) (bytes rest : List ℕ) : Type 0 where
+  pub lines : List (List ℕ)
+  pub are_lines : AreLines bytes lines rest
+  pub each : AllByRecursion (IsWelcome processors capacity) lines
+
+-- ---- one byte after another, of which only the first of an open line are kept
+
+-- a line that is kept whole is fed; one that is longer brings nothing
+pub record IsFedKept (kept : List ℕ) (before after : Follow) (old new : Option (List ℕ)) : Type 0 where
+  pub short : length kept ≤ 256 → IsFedLine kept before after old new
+  pub long : 256 < length kept → (after ≡ before) × Keeps old new
+
+pub record IsFedByte (byte : ℕ) (kept kept' : List ℕ) (before after : Follow) (old new : Option (List ℕ)) : Type 0 where
+  pub inside : byte ≢ 10 → (kept' ≡ take 257 (kept ++ byte ∷ [])) × (after ≡ before) × Keeps old new
+  pub at_end : byte ≡ 10 → (kept' ≡ []) × IsFedKept kept before after old new
+
+-- why a line that is kept so far isn't taken, or no more is read
+abbrev pub IsCauseAt : Follow → (kept : List ℕ) → FeedFault → Type 0
+IsCauseAt f kept e = (e ≡ ReadFailed) ⊎ (e ≡ Fault Memory) ⊎ ((length kept ≤ 256) × IsCauseIn f kept e) ⊎ ((256 < length kept) × (e ≡ Row NoRow))
+
+-- What stands of a follower after a fault at a line: more may be planned, no row counts as told, and what is held is as before, or with the
+-- entry whose row the line is.
+pub record HasStood (line : List ℕ) (before after : Follow) : Type 0 where
+  pub output_is : after.output ≡ before.output
+  pub told_is : after.told ≡ before.told
+  pub grown : IsGrown (record before.dispatch { held = after.dispatch.held }) after.dispatch
+  pub held_is : (replica_of after.dispatch.held ≡ replica_of before.dispatch.held) ⊎ IsTakenFrom line (replica_of before.dispatch.held) (replica_of after.dispatch.held)
+
+-- what a fault leaves: the writer was not written to, or has a part of what is new
+pub record IsLeft (kept : List ℕ) (e : FeedFault) (before after : Follow) (old new : Option (List ℕ)) : Type 0 where
+  pub cause : IsCauseAt before kept e
+  pub nothing : e ≢ Fault WriteFailed → Keeps old new
+  pub cut : e ≡ Fault WriteFailed → TakesPrefix old new (news before after)
+  pub stood : HasStood kept before after
+
+-- What had been fed of some bytes when a fault came: all of them where the reader failed, else all but a part of what one read gave. The
+-- question is never refused.
+pub record IsStopped (bytes : List ℕ) (e : FeedFault) (before after : Follow) (old new : Option (List ℕ)) : Type 0 where
+  pub fed : List ℕ
+  pub more : List ℕ
+  pub rest : List ℕ
+  pub mid : Follow
+  pub reached : Option (List ℕ)
+  pub bytes_are : bytes ≡ fed ++ more
+  pub near : length more ≤ 4096
+  pub all_read : e ≡ ReadFailed → more ≡ []
+  pub are_fed : AreFedBytes fed before mid old reached rest
+  pub left : IsLeft (take 257 rest) e mid after reached new
+  pub asked : is_refusal e ≡ true → rest ≢ question

@@ -1,0 +1,60 @@
+//! What is told of lines that are refused, and of logs that are short.
+
+ghost use Rattle.std.specs.Prelude.{◌≡◌, ◌↔◌, true};
+ghost use Rattle.pfair_feed.specs.Feeding.{question};
+
+use crate::fault::FeedFault;
+use pfair_ready::Ready;
+use pfair_stream::Follower;
+use std::io::Write;
+
+// Room for the line of any refusal with the whole of a row.
+const LINE_ROOM: usize = 512;
+
+/// Writes the line of a refusal, `pfair_follow: NUMBER TEXT: LINE`, as far as the writer takes it.
+///
+/// It goes out in one write, as far as there is room for it, and with a question mark in place of
+/// each byte that is no printed character of ASCII. It takes no memory.
+pub fn tell_refused<E: Write>(complaints: &mut E, fault: &FeedFault, line: &[u8]) {
+    let mut text = [0; LINE_ROOM];
+    let mut room = &mut text[..];
+    let number = fault.number();
+    let _ = write!(&mut room, "pfair_follow: {number} {fault}: ");
+    for byte in line {
+        let is_shown = byte.is_ascii_graphic() || *byte == b' ';
+        let shown = if is_shown { *byte } else { b'?' };
+        let _ = room.write_all(&[shown]);
+    }
+    let _ = room.write_all(b"\n");
+    let length = LINE_ROOM.saturating_sub(room.len());
+    let _ = complaints.write_all(&text[..length]);
+}
+
+/// Writes a line `missing PROCESSOR,NUMBER` for each log of which [`Follower::missing`] names the
+/// entry that would settle more, in order of processors, as far as the writer takes them.
+pub fn tell_missing<R: Ready, E: Write>(follower: &Follower<R>, complaints: &mut E) {
+    for processor in 0..follower.dispatcher().settings().processors() {
+        if let Some(number) = follower.missing(processor) {
+            let _ = writeln!(complaints, "missing {processor},{number}");
+        }
+    }
+}
+
+// Tells of a line that was refused, or what it asks for where it is a question, and says whether it
+// is one.
+pub(crate) fn complain<R: Ready, E: Write>(
+    follower: &Follower<R>,
+    complaints: &mut E,
+    fault: &FeedFault,
+    line: &[u8],
+) -> bool
+    ensures { (result ≡ true) ↔ (line.now ≡ question) }
+{
+    let is_question = line == b"?".as_slice();
+    if is_question {
+        tell_missing(follower, complaints);
+    } else {
+        tell_refused(complaints, fault, line);
+    }
+    is_question
+}

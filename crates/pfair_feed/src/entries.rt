@@ -1,0 +1,43 @@
+//! The entries of a script as rows.
+
+ghost use Rattle.std.specs.Prelude.{◌≡◌, ◌<◌, ◌≤◌, ◌++◌, IfOk, OnOk, Some, length, slice_get};
+ghost use Rattle.pfair_entry.specs.Entry.{Logged};
+ghost use Rattle.pfair_text.specs.Rows.{IsOpen, lines_text, text_so_far};
+ghost use Rattle.pfair_feed.specs.Entries.{entries_text, log_rows};
+
+use csv::Writer;
+use pfair_entry::Entry;
+use pfair_entry_row::add_entry;
+use pfair_table::Script;
+use pfair_text::{finish, new_text};
+use std::alloc::{AllocError, Global};
+
+/// The entries of a script as rows: the logs in order of processors, and in each its entries, from
+/// number 1 on. It costs the rows.
+///
+/// # Errors
+/// `AllocError` where memory was wanted and refused.
+pub fn entries_of(alloc: Global, script: &Script) -> Result<Vec<u8>, AllocError>
+    ensures { IfOk result (λ text. text.items ≡ entries_text script.now.logs) }
+{
+    // no log has more entries than a log has room for
+    prove!(script.capacity() as usize <= Script::LONGEST_LOG);
+    let mut writer = new_text(alloc);
+    for processor in 0..script.settings().processors() {
+        add_log(&mut writer, processor, script.log(processor))?;
+    }
+    finish(writer)
+}
+
+// Adds the rows of the entries of one log.
+fn add_log(writer: &mut Writer<Vec<u8>>, processor: u8, log: &[Entry]) -> Result<(), AllocError>
+    requires open { IsOpen writer.old }
+    requires short { length log.now ≤ 4096 }
+    ensures open { OnOk result (IsOpen writer.new) }
+    ensures text { OnOk result (text_so_far writer.new ≡ text_so_far writer.old ++ lines_text (log_rows processor log.now)) }
+{
+    for (index, entry) in log.iter().enumerate() {
+        add_entry(writer, processor, index as u32 + 1, entry)?;
+    }
+    Ok(())
+}

@@ -1,0 +1,224 @@
+//! What no contract says: that memory suffices, what is told of refusals, and the rows of a run that
+//! was worked out by hand.
+
+ghost use Rattle.pfair_feed.specs.Feeding.{IsCaughtUp};
+
+use crate::{FeedFault, entries_of, follow, tell_missing};
+use pfair_entry::{Announcement, Entry};
+use pfair_entry_row::RowFault;
+use pfair_ready::HeapReady;
+use pfair_stream::{FollowFault, Follower, Output};
+use pfair_table::{Script, Settings};
+use pfair_weight::{TaskName, Weight};
+use std::alloc::Global;
+use std::io;
+use std::io::Read;
+use std::process::Abort;
+use std::test::Fail;
+
+// A task of weight 2/4 that may run ahead of its windows, and the end of the log.
+const FIRST: &str = "0,1,0,0,arrive,a,2,4,true,-,-\n";
+
+const LAST: &str = "0,2,4,-,-,-,-,-,-,-,-\n";
+
+const WHOLE: &str = "0,0,a,1\n1,0,a,2\n";
+
+// One processor for four slots.
+fn follower(rt: &impl Abort, alloc: Global) -> Follower<HeapReady>
+    ensures { IsCaughtUp result }
+{
+    let settings = Settings::new(1, 4, 4).expect(rt, "settings");
+    Follower::new(alloc, settings, 4096, Output::Tables, 0).expect(rt, "memory")
+}
+
+// Gives so many bytes at a time, and then ends or fails.
+#[derive(Drop)]
+struct Pipe {
+    text: &'static str,
+    given: usize,
+    at_once: usize,
+    fails: bool,
+}
+
+impl Read for Pipe {
+    fn read(&mut self, buf: &mut [u8]) -> io::Result<usize> {
+        let left = &self.text.as_bytes()[self.given.min(self.text.len())..];
+        if left.is_empty() && self.fails {
+            return Err(io::Error::from(io::ErrorKind::Interrupted));
+        }
+        let count = buf.len().min(self.at_once).min(left.len());
+        buf[..count].copy_from_slice(&left[..count]);
+        self.given = self.given.saturating_add(count);
+        Ok(count)
+    }
+}
+
+// What comes out of some lines, on both ways, how it ends, and what is then missing.
+#[derive(Drop)]
+struct End {
+    rows: Vec<u8>,
+    told: Vec<u8>,
+    fault: Option<FeedFault>,
+    missing: Option<u32>,
+    asked: Vec<u8>,
+}
+
+// The follower is made here and dropped here, where nothing returns early.
+fn feed_all<I: Read>(rt: &impl Abort, alloc: Global, reader: &mut I, is_strict: bool) -> End {
+    let mut follower = follower(rt, alloc);
+    let mut rows = Vec::new(alloc);
+    let mut told = Vec::new(alloc);
+    let mut asked = Vec::new(alloc);
+    let fault = follow(
+        alloc,
+        &mut follower,
+        reader,
+        &mut rows,
+        &mut told,
+        is_strict,
+    )
+    .err();
+    tell_missing(&follower, &mut asked);
+    End {
+        rows,
+        told,
+        fault,
+        missing: follower.missing(0),
+        asked,
+    }
+}
+
+fn pipe_of(text: &'static str, at_once: usize) -> Pipe {
+    Pipe {
+        text,
+        given: 0,
+        at_once,
+        fails: false,
+    }
+}
+
+#[test]
+fn rows_in_any_order_and_pieces(rt: HostRuntime) -> Result<(), Fail> {
+    let texts = [
+        "0,1,0,0,arrive,a,2,4,true,-,-\n0,2,4,-,-,-,-,-,-,-,-\n",
+        "0,2,4,-,-,-,-,-,-,-,-\n0,2,4,-,-,-,-,-,-,-,-\n0,1,0,0,arrive,a,2,4,true,-,-\n",
+    ];
+    for text in texts {
+        for at_once in [1, 2, 7, 30, 4096] {
+            let end = feed_all(&rt, rt.alloc(), &mut pipe_of(text, at_once), true);
+            assert!(rt; end.fault == None && end.told.is_empty());
+            assert_eq!(rt; end.rows.as_slice(), WHOLE.as_bytes());
+        }
+    }
+    Ok(())
+}
+
+#[test]
+fn a_row_that_is_cut_is_not_taken(rt: HostRuntime) -> Result<(), Fail> {
+    let last = LAST.as_bytes();
+    for length in 0..last.len() {
+        let mut text: Vec<u8> = Vec::new(rt.alloc());
+        text.extend_from_slice(FIRST.as_bytes())?;
+        text.extend_from_slice(&last[..length])?;
+        let end = feed_all(&rt, rt.alloc(), &mut text.as_slice(), true);
+        assert!(rt; end.fault == None && end.rows.is_empty() && end.missing == Some(2));
+    }
+    Ok(())
+}
+
+#[test]
+fn refused_rows_are_told_and_skipped(rt: HostRuntime) -> Result<(), Fail> {
+    let text =
+        "x\u{7}\n0,1,0,0,arrive,a,2,4,true,-,-\n1,1,0,-,-,-,-,-,-,-,-\n?\n0,2,4,-,-,-,-,-,-,-,-\n?\n";
+    let end = feed_all(&rt, rt.alloc(), &mut pipe_of(text, 4096), false);
+    assert!(rt; end.fault == None);
+    assert_eq!(rt; end.rows.as_slice(), WHOLE.as_bytes());
+    let told =
+        "pfair_follow: 67 no entry's row: x?\npfair_follow: 13 no such processor: 1,1,0,-,-,-,-,-,-,-,-\nmissing 0,2\n";
+    assert_eq!(rt; end.told.as_slice(), told.as_bytes());
+    let strict = feed_all(&rt, rt.alloc(), &mut pipe_of(text, 4096), true);
+    assert!(rt; strict.fault == Some(FeedFault::Row(RowFault::NoRow)));
+    assert!(rt; strict.rows.is_empty());
+    assert_eq!(rt;
+        strict.told.as_slice(),
+        b"pfair_follow: 67 no entry's row: x?\n".as_slice()
+    );
+    Ok(())
+}
+
+#[test]
+fn a_long_row_is_refused(rt: HostRuntime) -> Result<(), Fail> {
+    let mut text: Vec<u8> = Vec::new(rt.alloc());
+    for _ in 0..100_000 {
+        text.push(b'1')?;
+    }
+    text.push(b'\n')?;
+    text.extend_from_slice(FIRST.as_bytes())?;
+    text.extend_from_slice(LAST.as_bytes())?;
+    let end = feed_all(&rt, rt.alloc(), &mut text.as_slice(), false);
+    assert!(rt; end.fault == None);
+    assert_eq!(rt; end.rows.as_slice(), WHOLE.as_bytes());
+    assert!(rt;
+        end.told
+            .as_slice()
+            .starts_with(b"pfair_follow: 67 no entry's row: 111")
+    );
+    assert_eq!(rt; end.told.len(), 33 + 257 + 1);
+    Ok(())
+}
+
+#[test]
+fn what_ends_the_input(rt: HostRuntime) -> Result<(), Fail> {
+    let torn = "0,1,4,-,-,-,-,-,-,-,-\n0,1,5,-,-,-,-,-,-,-,-\n0,2,6,-,-,-,-,-,-,-,-\n";
+    let end = feed_all(&rt, rt.alloc(), &mut pipe_of(torn, 5), false);
+    let fault = FollowFault::Torn { proc: 0, number: 1 };
+    assert!(rt; end.fault == Some(FeedFault::Follow(fault)));
+    assert!(rt; end.missing == None);
+    let mut failing = pipe_of(FIRST, 7);
+    failing.fails = true;
+    let end = feed_all(&rt, rt.alloc(), &mut failing, false);
+    assert!(rt; end.fault == Some(FeedFault::ReadFailed));
+    assert_eq!(rt; end.asked.as_slice(), b"missing 0,2\n".as_slice());
+    Ok(())
+}
+
+#[test]
+fn faults_have_their_numbers(rt: HostRuntime) -> Result<(), Fail> {
+    let faults = [
+        (FeedFault::Row(RowFault::NoRow), 67, true),
+        (FeedFault::Follow(FollowFault::NoSuchProcessor), 13, true),
+        (FeedFault::Follow(FollowFault::NumberOutOfRange), 14, true),
+        (FeedFault::Follow(FollowFault::Spent), 31, false),
+        (FeedFault::Follow(FollowFault::WriteFailed), 71, false),
+        (FeedFault::ReadFailed, 70, false),
+    ];
+    for (fault, number, is_refusal) in faults {
+        assert!(rt; fault.number() == number && fault.is_refusal() == is_refusal);
+    }
+    Ok(())
+}
+
+// The script of `FIRST` and `LAST`.
+fn script(rt: &impl Abort, alloc: Global) -> Script {
+    let arrives = Announcement::Arrive {
+        name: TaskName::from_bytes(b"a").expect(rt, "a name"),
+        weight: Weight::new(2, 4).expect(rt, "a weight"),
+        early: true,
+    };
+    let first = Entry::new(0, Some((0, arrives))).expect(rt, "an entry");
+    let last = Entry::new(4, None).expect(rt, "an entry");
+    let log = vec![in alloc; first, last].expect(rt, "memory");
+    let logs = vec![in alloc; log].expect(rt, "memory");
+    let settings = Settings::new(1, 4, 4).expect(rt, "settings");
+    Script::new(settings, logs).ok().expect(rt, "a script")
+}
+
+#[test]
+fn entries_of_a_script_are_fed_again(rt: HostRuntime) -> Result<(), Fail> {
+    let text = entries_of(rt.alloc(), &script(&rt, rt.alloc())).expect(&rt, "memory");
+    let rows = [FIRST, LAST];
+    assert!(rt; text.as_slice().starts_with(rows[0].as_bytes()));
+    assert!(rt; text.as_slice().ends_with(rows[1].as_bytes()));
+    assert_eq!(rt; text.len(), FIRST.len() + LAST.len());
+    Ok(())
+}

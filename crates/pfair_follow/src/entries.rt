@@ -1,0 +1,37 @@
+//! The command `entries`: the entries of a task file as rows.
+
+ghost use Rattle.pfair_command.specs.Commands.{IsCommandOf, IsFaultBy};
+ghost use Rattle.pfair_follow.specs.Faults.{of_schedule};
+ghost use Rattle.pfair_follow.specs.Entries.{IsOutputOf};
+
+use crate::fault::ProgramFault;
+use pfair_command::read_script;
+use pfair_feed::entries_of;
+use pfair_text::send;
+use std::alloc::Global;
+use std::io::{Read, Write};
+
+/// Writes the entries of the script that a reader's bytes hold, each as a row: the logs in order of
+/// processors, and in each its entries from number 1 on, with the one that closes it. No header
+/// stands before them.
+///
+/// The whole text is made before the first byte goes out. No more than 67,108,864 bytes are taken
+/// from the reader, but where the file is too long or memory was wanting: one more may then be.
+///
+/// # Errors
+/// [`ProgramFault::Schedule`] with the cause where the file has no script, as
+/// [`read_script`](pfair_command::read_script) says, and [`ProgramFault::Memory`] where memory was
+/// wanted and refused: nothing has then been written. [`ProgramFault::WriteFailed`] where the writer
+/// answered an error, or took nothing; a prefix of the text has then gone out.
+pub fn entries<R: Read, W: Write>(
+    alloc: Global,
+    reader: &mut R,
+    writer: &mut W,
+) -> Result<(), ProgramFault>
+    ensures { IsCommandOf of_schedule ProgramFault.WriteFailed IsOutputOf (IsFaultBy of_schedule) result
+        (R.remaining reader.old) (R.remaining reader.new) (W.contents writer.old) (W.contents writer.new) }
+{
+    let script = read_script(alloc, reader)?;
+    let text = entries_of(alloc, &script)?;
+    Ok(send(writer, text.as_slice())?)
+}

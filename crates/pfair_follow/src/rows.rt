@@ -1,0 +1,120 @@
+//! The commands `replay`, `decisions` and `lags`: rows of a run that is fed by a reader.
+
+ghost use Rattle.std.specs.Prelude.{ℕ, List, true, false, ◌≡◌, ◌≢◌, ◌⊎◌, ◌<◌, ◌≤◌, IfErr, IsErrOf, OnOk, length};
+ghost use Rattle.std.specs.Io.KnownBytes.{Appends, Consumes, Keeps};
+ghost use Rattle.pfair_text.specs.Output.{TakesPrefix};
+ghost use Rattle.pfair_stream.specs.declared.fault.FollowFault.TheVariants as follow;
+ghost use Rattle.pfair_feed.specs.Feeding.{AreWelcome, IsCaughtUp};
+ghost use Rattle.pfair_follow.specs.Faults.{is_row_fault, stalled};
+ghost use Rattle.pfair_follow.specs.Runs.{AreTakenAll, IsEndOf, IsFed, IsFedEndOf, IsFollowed, IsSettled, head_from};
+
+use crate::fault::ProgramFault;
+use pfair_command::ScheduleFault;
+use pfair_feed::laws::text_is_whole;
+use pfair_feed::{follow, tell_missing};
+use pfair_follow_words::Run;
+use pfair_ready::{HeapReady, Ready};
+use pfair_stream::{FollowFault, Follower, Output};
+use std::alloc::Global;
+use std::io::{Read, Write};
+
+// How many entries of one log are taken: those of a task file, with the one that closes the log.
+const LOG: u32 = 4096;
+
+/// Reads rows of entries to the reader's end, and writes the rows of each slot as soon as what was
+/// read settles it, flushed before more is read; before them the header, where `run.from` is 0.
+///
+/// What is written is what `pfair` writes of a task file with the same entries, from slot `run.from`
+/// on. A row that is refused costs a line to `complaints`, and is skipped unless `run.is_strict`;
+/// the line `?` asks for the keys of the entries that would settle more. It costs what
+/// [`follow`](pfair_feed::follow) costs.
+///
+/// # Errors
+/// [`ProgramFault::Schedule`] with `Stalled` and the first slot that isn't settled, where the input
+/// ends before all are: the rows of those before it are written, and `complaints` has the keys. Else
+/// the fault at which the follower stopped: [`ProgramFault::Feed`] with a torn entry, or with a
+/// refused row where `run.is_strict`; [`ProgramFault::Schedule`] with `ReadFailed`;
+/// [`ProgramFault::WriteFailed`]; [`ProgramFault::Memory`] where memory was wanted and refused. The
+/// writer has then the rows of what was read before, and after `WriteFailed` a prefix of those of
+/// the last row.
+pub fn follow_rows<I: Read, W: Write, E: Write>(
+    alloc: Global,
+    output: Output,
+    run: &Run,
+    reader: &mut I,
+    writer: &mut W,
+    complaints: &mut E,
+) -> Result<(), ProgramFault>
+    ensures settled { OnOk result (IsFollowed output run.now (IsSettled run.now.settings) (I.remaining reader.old) (I.remaining reader.new) (W.contents writer.old) (W.contents writer.new)) }
+    ensures strict { OnOk result (run.now.is_strict ≡ true → AreTakenAll run.now.settings (I.remaining reader.old) (I.remaining reader.new)) }
+    ensures lenient { IfErr result (λ e. run.now.is_strict ≡ false → is_row_fault e ≡ false) }
+    ensures ended { IfErr result (IsEndOf output run.now (I.remaining reader.old) (I.remaining reader.new) (W.contents writer.old) (W.contents writer.new)) }
+{
+    // what a follower has written from the first slot on is what is written at once
+    text_is_whole();
+    prove!(run.settings.processors() >= 1);
+    let mut follower: Follower<HeapReady> = Follower::new(
+        alloc,
+        run.settings,
+        LOG,
+        output,
+        run.from,
+    )?;
+    feed_all(
+        alloc,
+        &mut follower,
+        reader,
+        writer,
+        complaints,
+        run.is_strict,
+    )
+}
+
+// Feeds a follower that is new with all that a reader has.
+fn feed_all<R: Ready, I: Read, W: Write, E: Write>(
+    alloc: Global,
+    follower: &mut Follower<R>,
+    reader: &mut I,
+    writer: &mut W,
+    complaints: &mut E,
+    is_strict: bool,
+) -> Result<(), ProgramFault>
+    requires { IsCaughtUp follower.old }
+    ensures fed { OnOk result (IsFed follower.old follower.new (I.remaining reader.old) (I.remaining reader.new) (W.contents writer.old) (W.contents writer.new)) }
+    ensures settled { OnOk result (follower.new.dispatch.settings.slots ≤ length follower.new.dispatch.tables) }
+    ensures strict { OnOk result (is_strict ≡ true → (bytes rest : List ℕ) × Consumes (I.remaining reader.old) (I.remaining reader.new) bytes
+        × AreWelcome follower.old.dispatch.held.processors follower.old.dispatch.held.capacity bytes rest) }
+    ensures lenient { IfErr result (λ e. is_strict ≡ false → is_row_fault e ≡ false) }
+    ensures ended { IfErr result (IsFedEndOf follower.old follower.new (I.remaining reader.old) (I.remaining reader.new) (W.contents writer.old) (W.contents writer.new)) }
+{
+    begin(follower, writer)?;
+    follow(alloc, follower, reader, writer, complaints, is_strict)?;
+    end(follower, complaints)
+}
+
+// Writes the header, unless rows are left out.
+fn begin<R: Ready, W: Write>(follower: &Follower<R>, writer: &mut W) -> Result<(), FollowFault>
+    ensures written { OnOk result (Appends (W.contents writer.old) (W.contents writer.new) (head_from follower.now.output follower.now.told)) }
+    ensures cut { IsErrOf result follow.WriteFailed → TakesPrefix (W.contents writer.old) (W.contents writer.new) (head_from follower.now.output follower.now.told) }
+    ensures nothing { IfErr result (λ e. e ≢ follow.WriteFailed → Keeps (W.contents writer.old) (W.contents writer.new)) }
+    ensures cause { IfErr result (λ e. (e ≡ follow.WriteFailed) ⊎ (e ≡ follow.Memory)) }
+{
+    if follower.told() == 0 {
+        follower.write_header(writer)
+    } else {
+        Ok(())
+    }
+}
+
+// Whether all slots are settled; the keys that are missing are told where they aren't.
+fn end<R: Ready, E: Write>(follower: &Follower<R>, complaints: &mut E) -> Result<(), ProgramFault>
+    ensures settled { OnOk result (follower.now.dispatch.settings.slots ≤ length follower.now.dispatch.tables) }
+    ensures short { IfErr result (λ e. (e ≡ stalled (length follower.now.dispatch.tables)) × (length follower.now.dispatch.tables < follower.now.dispatch.settings.slots)) }
+{
+    let slot = follower.dispatcher().next_slot();
+    if slot < follower.dispatcher().settings().slots() {
+        tell_missing(follower, complaints);
+        return Err(ProgramFault::Schedule(ScheduleFault::Stalled { slot }));
+    }
+    Ok(())
+}

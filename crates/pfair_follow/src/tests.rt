@@ -1,0 +1,260 @@
+//! What no contract says: that memory suffices, what is complained of, and the rows of runs that were
+//! worked out by hand.
+
+use crate::entries::entries;
+use crate::fault::{ProgramFault, write_fault};
+use crate::rows::follow_rows;
+use pfair_command::ScheduleFault;
+use pfair_entry_row::RowFault;
+use pfair_feed::FeedFault;
+use pfair_follow_words::Run;
+use pfair_stream::{FollowFault, Output};
+use pfair_table::Settings;
+use std::alloc::Global;
+use std::io;
+use std::io::{Read, Write};
+use std::process::Abort;
+use std::test::Fail;
+
+// One processor for four slots, with one task of weight 2/4 that may run ahead of its windows.
+const FILE: &str =
+    "version = 2\nprocessors = 1\nframe = 4\nslots = 4\nentry = [{ processor = 0, floor = 0, kind = \"arrive\", at = 0, name = \"a\", cost = 2, period = 4, early = true }]\n";
+
+const ROWS: &str = "0,1,0,0,arrive,a,2,4,true,-,-\n0,2,4,-,-,-,-,-,-,-,-\n";
+
+const BACKWARDS: &str =
+    "0,2,4,-,-,-,-,-,-,-,-\n0,2,4,-,-,-,-,-,-,-,-\n0,1,0,0,arrive,a,2,4,true,-,-\n";
+
+const REFUSED: &str = "?\n0,2,4,-,-,-,-,-,-,-,-\nx\n0,1,0,0,arrive,a,2,4,true,-,-\n";
+
+const TORN: &str = "0,1,0,0,arrive,a,2,4,true,-,-\n0,1,0,-,-,-,-,-,-,-,-\n";
+
+const SHORT: &str = "0,1,0,0,arrive,a,2,4,true,-,-\n0,2,1,-,-,-,-,-,-,-,-\n0,3,4,-,-,-";
+
+const TABLES: &str = "slot,processor,task,index\n0,0,a,1\n1,0,a,2\n";
+
+const PLACED: &str = "slot,processor,task,index,place\n0,0,a,1,0\n1,0,a,2,0\n";
+
+const DECISIONS: &str = "slot,processor,number,task,outcome,value\n0,0,1,a,admitted,-\n";
+
+const LAGS: &str = "time,task,numerator,period\n1,a,-2,4\n2,a,-4,4\n3,a,-2,4\n4,a,0,4\n";
+
+// What is written, from which slot on, whether strictly, of which input; what comes out, what is
+// told, and the number of the fault, or 0.
+const RUNS: [(Output, u64, bool, &str, &str, &str, u8); 11] = [
+    (Output::Tables, 0, true, ROWS, TABLES, "", 0),
+    (Output::Tables, 0, false, BACKWARDS, TABLES, "", 0),
+    (Output::PlacedTables, 0, true, BACKWARDS, PLACED, "", 0),
+    (Output::Decisions, 0, true, BACKWARDS, DECISIONS, "", 0),
+    (Output::Lags, 0, true, BACKWARDS, LAGS, "", 0),
+    (Output::Lags, 2, true, ROWS, "3,a,-2,4\n4,a,0,4\n", "", 0),
+    (Output::Tables, 4, true, ROWS, "", "", 0),
+    (
+        Output::Tables,
+        0,
+        false,
+        REFUSED,
+        TABLES,
+        "missing 0,1\npfair_follow: 67 no entry's row: x\n",
+        0,
+    ),
+    (
+        Output::Tables,
+        0,
+        true,
+        REFUSED,
+        "slot,processor,task,index\n",
+        "missing 0,1\npfair_follow: 67 no entry's row: x\n",
+        67,
+    ),
+    (
+        Output::Tables,
+        0,
+        false,
+        TORN,
+        "slot,processor,task,index\n",
+        "",
+        30,
+    ),
+    (
+        Output::Tables,
+        0,
+        false,
+        SHORT,
+        "slot,processor,task,index\n0,0,a,1\n",
+        "missing 0,3\n",
+        52,
+    ),
+];
+
+// Takes so many bytes, and then fails.
+#[derive(Drop)]
+struct Room {
+    taken: Vec<u8>,
+    left: usize,
+}
+
+impl Write for Room {
+    fn write(&mut self, buf: &[u8]) -> io::Result<usize> {
+        let count = buf.len().min(self.left);
+        self.taken.extend_from_slice(&buf[..count])?;
+        self.left -= count;
+        Ok(count)
+    }
+
+    fn flush(&mut self) -> io::Result<()> {
+        Ok(())
+    }
+}
+
+// Gives so many bytes at a time, and fails at its end.
+#[derive(Drop)]
+struct Failing {
+    text: &'static [u8],
+}
+
+impl Read for Failing {
+    fn read(&mut self, buf: &mut [u8]) -> io::Result<usize> {
+        if self.text.is_empty() {
+            return Err(io::Error::from(io::ErrorKind::Interrupted));
+        }
+        let count = buf.len().min(7).min(self.text.len());
+        buf[..count].copy_from_slice(&self.text[..count]);
+        self.text = &self.text[count..];
+        Ok(count)
+    }
+}
+
+fn run_from(rt: &impl Abort, from: u64, is_strict: bool) -> Run {
+    Run {
+        settings: Settings::new(1, 4, 4).expect(rt, "settings"),
+        from,
+        is_strict,
+    }
+}
+
+// The number of the fault, or 0.
+fn number_of(end: &Result<(), ProgramFault>) -> u8 {
+    match end {
+        Ok(()) => 0,
+        Err(fault) => fault.number(),
+    }
+}
+
+#[test]
+fn rows_of_runs_that_are_fed(rt: HostRuntime) -> Result<(), Fail> {
+    for (output, from, is_strict, input, rows, complaints, number) in RUNS {
+        let run = run_from(&rt, from, is_strict);
+        let mut out: Vec<u8> = Vec::new(rt.alloc());
+        let mut told: Vec<u8> = Vec::new(rt.alloc());
+        let mut reader = input.as_bytes();
+        let end = follow_rows(rt.alloc(), output, &run, &mut reader, &mut out, &mut told);
+        assert_eq!(rt; out.as_slice(), rows.as_bytes());
+        assert_eq!(rt; told.as_slice(), complaints.as_bytes());
+        assert_eq!(rt; number_of(&end), number);
+    }
+    Ok(())
+}
+
+#[test]
+fn a_writer_or_a_reader_that_fails(rt: HostRuntime) -> Result<(), Fail> {
+    let run = run_from(&rt, 0, false);
+    for left in 0..TABLES.len() {
+        let mut out = Room {
+            taken: Vec::new(rt.alloc()),
+            left,
+        };
+        let mut told: Vec<u8> = Vec::new(rt.alloc());
+        let mut reader = BACKWARDS.as_bytes();
+        let end = follow_rows(
+            rt.alloc(),
+            Output::Tables,
+            &run,
+            &mut reader,
+            &mut out,
+            &mut told,
+        );
+        assert!(rt; number_of(&end) == 71 && told.is_empty());
+        assert_eq!(rt; out.taken.as_slice(), &TABLES.as_bytes()[..left]);
+    }
+    let mut out: Vec<u8> = Vec::new(rt.alloc());
+    let mut told: Vec<u8> = Vec::new(rt.alloc());
+    let mut reader = Failing {
+        text: ROWS.as_bytes(),
+    };
+    let end = follow_rows(
+        rt.alloc(),
+        Output::Tables,
+        &run,
+        &mut reader,
+        &mut out,
+        &mut told,
+    );
+    assert!(rt; number_of(&end) == 70 && told.is_empty());
+    assert_eq!(rt; out.as_slice(), TABLES.as_bytes());
+    Ok(())
+}
+
+// The rows of a file and the number of its fault.
+fn entries_in(alloc: Global, file: &str) -> (Vec<u8>, u8) {
+    let mut out: Vec<u8> = Vec::new(alloc);
+    let end = entries(alloc, &mut file.as_bytes(), &mut out);
+    (out, number_of(&end))
+}
+
+#[test]
+fn entries_of_files(rt: HostRuntime) -> Result<(), Fail> {
+    let (rows, number) = entries_in(rt.alloc(), FILE);
+    assert!(rt; number == 0 && rows.as_slice() == ROWS.as_bytes());
+    for (file, number) in [("x", 60), ("", 61), ("version = 3", 65)] {
+        let (rows, seen) = entries_in(rt.alloc(), file);
+        assert!(rt; seen == number && rows.is_empty());
+    }
+    Ok(())
+}
+
+#[test]
+fn faults_have_lines_and_statuses(rt: HostRuntime) -> Result<(), Fail> {
+    let torn = FollowFault::Torn { proc: 2, number: 7 };
+    let faults = [
+        (
+            ProgramFault::Schedule(ScheduleFault::Stalled { slot: 3 }),
+            "pfair_follow: 52 stalled at slot 3\n",
+            3,
+        ),
+        (
+            ProgramFault::Schedule(ScheduleFault::ReadFailed),
+            "pfair_follow: 70 reading failed\n",
+            5,
+        ),
+        (
+            ProgramFault::Feed(FeedFault::Follow(torn)),
+            "pfair_follow: 30 entry 7 of processor 2 torn\n",
+            3,
+        ),
+        // its line was written with the row
+        (ProgramFault::Feed(FeedFault::Row(RowFault::NoRow)), "", 2),
+        (
+            ProgramFault::Feed(FeedFault::Follow(FollowFault::NoSuchProcessor)),
+            "",
+            2,
+        ),
+        (
+            ProgramFault::WriteFailed,
+            "pfair_follow: 71 writing failed\n",
+            5,
+        ),
+        (
+            ProgramFault::CommandLine,
+            "pfair_follow: 80 command line refused\n",
+            1,
+        ),
+        (ProgramFault::Memory, "pfair_follow: 90 out of memory\n", 4),
+    ];
+    for (fault, line, status) in faults {
+        let mut text: Vec<u8> = Vec::new(rt.alloc());
+        assert_eq!(rt; write_fault(&fault, &mut text), status);
+        assert_eq!(rt; text.as_slice(), line.as_bytes());
+    }
+    Ok(())
+}

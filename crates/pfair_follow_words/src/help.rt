@@ -1,0 +1,114 @@
+//! The texts of help. Each line of them has at most 100 characters.
+
+pub(crate) const ABOUT: &str =
+    "Plans Pfair schedules from rows of entries as they come, in any order, slot by slot";
+
+pub(crate) const ENTRIES_ABOUT: &str =
+    "Prints the entries of a task file as rows, one for each entry of each log";
+
+pub(crate) const REPLAY_ABOUT: &str =
+    "Reads rows of entries, and prints the schedule slot by slot as soon as it is settled";
+
+pub(crate) const DECISIONS_ABOUT: &str =
+    "Reads rows of entries, and prints who is admitted or refused and who departs";
+
+pub(crate) const LAGS_ABOUT: &str =
+    "Reads rows of entries, and prints how far each task is from its fluid share";
+
+pub(crate) const PROCESSORS_HELP: &str = "How many processors, and so how many logs: 1 to 64";
+
+pub(crate) const FRAME_HELP: &str =
+    "Slots of a frame, which each period has to divide: 1 to 1000000000";
+
+pub(crate) const SLOTS_HELP: &str = "How many slots are planned: 1 to 1000000";
+
+pub(crate) const FROM_HELP: &str = "First slot with rows; no header unless it is 0: 0 to 1000000";
+
+pub(crate) const STRICT_HELP: &str = "End with status 2 at the first row that is refused";
+
+pub(crate) const AFFINITY_HELP: &str = "End each row with its place, the processor that runs it";
+
+pub(crate) const AFTER: &str = "Examples:
+  pfair_follow entries examples/two_processors.toml
+  pfair_follow entries examples/two_processors.toml |
+    pfair_follow replay --processors 2 --frame 6 --slots 6
+
+What `replay`, `decisions` and `lags` have printed when their input ends is what `pfair` prints of a
+task file with the same entries. Each command has help of its own.
+
+A fault is one line on standard error, `pfair_follow: NUMBER TEXT`.
+
+Exit status, by the numbers of the faults:
+  0  done: all slots are settled, and their rows are printed
+  1  refused: the command line (80)
+  2  refused: the task file (60 to 66), or with --strict a row (1 to 10, 13, 14, 67)
+  3  two contents of one entry met (30), or the input ended before all slots were settled (52)
+  4  out of memory (90)
+  5  reading or writing failed (70, 71)
+
+Documents of the repository:
+  docs/SPECIFICATION.md  the model, rows of entries, each fault
+  docs/PROOFS.md         what is proved, and what isn't";
+
+pub(crate) const ENTRIES_AFTER: &str = "Columns, of which no header is printed:
+  processor,number,floor,at,kind,name,cost,period,early,index,by
+The logs come in order of processors, and each is closed by an entry with floor `slots`, as the
+reader of task files closes it. `pfair replay --help` shows a task file. Where an entry has nothing
+stands a dash.
+
+Example: pfair_follow entries examples/two_processors.toml";
+
+// What the commands that read rows share, behind the columns of each.
+macro_rules! with_rows {
+    ($columns:literal) => {
+        concat!(
+            $columns,
+            "
+
+Input: rows of entries, in any order and as often as they like, as `pfair_follow entries` prints
+them; a row ends with its newline.
+  0,1,0,0,arrive,video,2,3,false,-,-   of processor 0 entry 1, from floor 0: at 0 video arrives,
+                                       2 quanta in each 3 slots, not early
+  1,3,3,4,late,video,-,-,-,4,2         at 4 its subtasks from 4 on are put off by 2 slots
+  0,2,2,2,depart,video,-,-,-,-,-       at 2 it departs
+  0,3,6,-,-,-,-,-,-,-,-                a floor alone: nothing more comes before slot 6
+  ?                                    asks which entries would settle more
+
+The rows of a slot are printed as soon as what was read settles it, and flushed before more is read.
+A row that is refused costs a line on standard error, `pfair_follow: NUMBER TEXT: ROW`, and is
+skipped, unless --strict is set. For `?`, and where the input ends too early, the lines
+`missing PROCESSOR,NUMBER` on standard error name the entries that would settle more.
+Where two contents of one entry meet, the run ends at once (30).
+
+Restart: a reader that has the rows of all slots below S asks with `--from S` for the rest."
+        )
+    };
+}
+
+pub(crate) const REPLAY_AFTER: &str = with_rows!(
+    "Columns:
+  slot       the slot, from 0; a slot in which nobody runs has no row
+  processor  the row of the slot's table, from 0, in the PD2 order: not a log, nor where it runs
+  task       the task that has the quantum
+  index      the index of its subtask, from 1
+  place      (--affinity) the processor that runs it"
+);
+
+pub(crate) const DECISIONS_AFTER: &str = with_rows!(
+    "Columns:
+  slot       the slot of the stamp, at whose beginning it is decided
+  processor  the processor whose log says it
+  number     the number of the entry in that log, from 1
+  task       the task that it names
+  outcome    `admitted`, `departing`, `delayed`, or `refused`
+  value      departing: the slot from which its weight and its name are free; refused: the number
+             of the refusal, as `pfair decisions --help` lists them; else -"
+);
+
+pub(crate) const LAGS_AFTER: &str = with_rows!(
+    "Columns:
+  time       the end of a slot: the slot, and 1
+  task       a task that is there and doesn't depart
+  numerator  cost * (time since it joined) - period * (quanta that it had)
+  period     its period: the lag is the numerator over the period, positive where it is behind"
+);

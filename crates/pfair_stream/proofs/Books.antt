@@ -1,0 +1,126 @@
+-- Books of lags that are told some slots, and then more.
+use Rattle.std.proofs.Common.{ℕ, ◌+◌, ◌-◌, ◌≤◌, ◌≡◌, refl, sym, ap, subst, ◌∙◌, arith, inl, inr, List, [], ◌∷◌, ◌++◌, length, min, take, drop, append_assoc}
+use Rattle.std.specs.Prelude.{max}
+use Rattle.std.proofs.Math.Seq.{take-add}
+use Rattle.std.proofs.lemmas.Bool.{cases_order}
+use Rattle.std.proofs.lemmas.List.{drop_all, length-take, take_all, take-append-drop, take-append-le}
+use Rattle.pfair_lag.specs.Book.{Book, empty_book}
+use Rattle.pfair_table.specs.declared.pick.Decided.{Decided}
+use Rattle.pfair_table.specs.Laws.{IsPrefixOf}
+use Rattle.pfair_table.specs.Table.{Table}
+use Rattle.pfair_table.specs.Refinement.{Dispatch}
+use Rattle.pfair_stream.specs.Follow.{IsGrown}
+use Rattle.pfair_output.specs.Told.{all_slots_told, book_rows, rows_told, slot_told}
+use Rattle.pfair_output.proofs.ToldFacts.{time-all_told}
+use Rattle.pfair_stream.specs.declared.output.Output.TheVariants.{Lags}
+use Rattle.pfair_stream.specs.Rows.{IsBookOf, book_before, rows_from}
+
+pub told-append : (book : Book) (ds es : List (List Decided)) (ts us : List Table) → length ds ≡ length ts
+    → all_slots_told book (ds ++ es) (ts ++ us) ≡ all_slots_told (all_slots_told book ds ts) es us
+told-append book [] es [] us e = refl
+told-append book [] es (t ∷ ts) us e = absurd (omega arith)
+told-append book (d ∷ ds) es [] us e = absurd (omega arith)
+told-append book (d ∷ ds) es (t ∷ ts) us e = told-append (slot_told d t book) ds es ts us (omega arith)
+
+pub rows-append : (book : Book) (ds es : List (List Decided)) (ts us : List Table) → length ds ≡ length ts
+    → rows_told book (ds ++ es) (ts ++ us) ≡ rows_told book ds ts ++ rows_told (all_slots_told book ds ts) es us
+rows-append book [] es [] us e = refl
+rows-append book [] es (t ∷ ts) us e = absurd (omega arith)
+rows-append book (d ∷ ds) es [] us e = absurd (omega arith)
+rows-append book (d ∷ ds) es (t ∷ ts) us e =
+    ap (λ rows. book_rows (slot_told d t book) ++ rows) (rows-append (slot_told d t book) ds es ts us (omega arith))
+    ∙ sym (append_assoc (book_rows (slot_told d t book)) (rows_told (slot_told d t book) ds ts) (rows_told (all_slots_told (slot_told d t book) ds ts) es us))
+
+time-told : (book : Book) (ds : List (List Decided)) (ts : List Table) → length ds ≡ length ts → (all_slots_told book ds ts).time ≡ book.time + length ds
+time-told book [] [] e = omega arith
+time-told book [] (t ∷ ts) e = absurd (omega arith)
+time-told book (d ∷ ds) [] e = absurd (omega arith)
+time-told book (d ∷ ds) (t ∷ ts) e =
+    let rest = time-told (slot_told d t book) ds ts (omega arith) in
+    let one : (slot_told d t book).time ≡ book.time + 1 = ap (λ n. n + 1) (time-all_told d book) in
+    omega (arith, rest, one)
+
+-- the first slots, and those from there up to a later one
+joined : {A : Type 0} (xs : List A) (early late : ℕ) → early ≤ late → take early xs ++ take (late - early) (drop early xs) ≡ take late xs
+joined xs early late h = sym (take-add early (late - early) xs) ∙ ap (λ n. take n xs) (let e : early + (late - early) ≡ late = omega arith in e)
+
+-- where no slot is behind a place, the place doesn't matter
+left_at : {A : Type 0} (xs : List A) (n slot : ℕ) → n ≡ min slot (length xs) → drop n xs ≡ drop slot xs
+left_at xs n slot e =
+    elim (cases_order slot (length xs)) [
+      | inl same ↦ ap (λ k. drop k xs) (let k : n ≡ slot = omega (arith, e, same) in k)
+      | inr (inl less) ↦ ap (λ k. drop k xs) (let k : n ≡ slot = omega (arith, e, less) in k)
+      | inr (inr more) ↦ drop_all n xs (omega (arith, e, more)) ∙ sym (drop_all slot xs (omega (arith, more)))
+    ]
+
+pub book_fresh : (slot : ℕ) (ts : List Table) (ds : List (List Decided)) → IsBookOf slot ts ds empty_book
+book_fresh slot ts ds = record { early = omega arith; there = omega arith; told_is = refl }
+
+pub book_later : (slot : ℕ) (ts : List Table) (ds : List (List Decided)) (book : Book) → IsBookOf slot ts ds book → IsBookOf (max slot (length ts)) ts ds book
+book_later slot ts ds book b = record { early = (let e = b.early in omega arith); there = b.there; told_is = b.told_is }
+
+pub book_grown : (slot : ℕ) (ts us : List Table) (ds es : List (List Decided)) (book : Book) → length ts ≡ length ds → IsPrefixOf ts us → IsPrefixOf ds es → IsBookOf slot ts ds book → IsBookOf slot us es book
+book_grown slot ts us ds es book same more_ts more_ds b =
+    let there : book.time ≤ length ts = b.there in
+    let there' : book.time ≤ length ds = omega arith in
+    let tables : take book.time ts ≡ take book.time us = sym (take-append-le book.time ts more_ts.0 there) ∙ ap (take book.time) more_ts.1 in
+    let decided : take book.time ds ≡ take book.time es = sym (take-append-le book.time ds more_ds.0 there') ∙ ap (take book.time) more_ds.1 in
+    let long : length ts ≤ length us = longer ts us more_ts in
+    record { early = b.early; there = omega arith; told_is = b.told_is ∙ (λ i. all_slots_told empty_book (decided i) (tables i)) }
+  where
+    longer : {A : Type 0} (xs ys : List A) → IsPrefixOf xs ys → length xs ≤ length ys
+    longer [] ys p = omega arith
+    longer (x ∷ xs) ys p = subst (λ (l : List _). length (x ∷ xs) ≤ length l) p.1 (let h = longer xs (xs ++ p.0) (p.0, refl) in omega arith)
+
+-- an entry was taken, and more is planned
+pub book_after_plans : (slot : ℕ) (d taken after : Dispatch) (book : Book) → length d.tables ≡ length d.decided → taken ≡ record d { held = taken.held } → IsGrown taken after
+    → IsBookOf slot d.tables d.decided book → IsBookOf slot after.tables after.decided book
+book_after_plans slot d taken after book same rest grown b =
+    book_grown slot d.tables after.tables d.decided after.decided book same
+    (subst (λ (l : List Table). IsPrefixOf l after.tables) (ap (λ (x : Dispatch). x.tables) rest) grown.tables_go_on)
+    (subst (λ (l : List (List Decided)). IsPrefixOf l after.decided) (ap (λ (x : Dispatch). x.decided) rest) grown.decided_go_on) b
+
+module _ (ds : List (List Decided)) (ts : List Table) (same : length ts ≡ length ds) where
+  -- a book that catches up to a slot
+  pub caught_up : (slot : ℕ) (b0 b1 : Book) → IsBookOf slot ts ds b0 → b1 ≡ all_slots_told b0 (take (slot - b0.time) (drop b0.time ds)) (take (slot - b0.time) (drop b0.time ts)) → b1 ≡ book_before slot ts ds
+  caught_up slot b0 b1 b e = e ∙ ap (λ (book : Book). all_slots_told book (take (slot - b0.time) (drop b0.time ds)) (take (slot - b0.time) (drop b0.time ts))) b.told_is ∙ from b0.time b.early
+    where
+      from : (early : ℕ) → early ≤ slot → all_slots_told (book_before early ts ds) (take (slot - early) (drop early ds)) (take (slot - early) (drop early ts)) ≡ book_before slot ts ds
+      from early h =
+          let n = length-take early ds in
+          let m = length-take early ts in
+          sym (told-append empty_book (take early ds) (take (slot - early) (drop early ds)) (take early ts) (take (slot - early) (drop early ts)) (omega arith))
+          ∙ (λ i. all_slots_told empty_book (joined ds early slot h i) (joined ts early slot h i))
+
+  time_before : (slot : ℕ) → (book_before slot ts ds).time ≡ min slot (length ts)
+  time_before slot =
+      let n = length-take slot ds in
+      let m = length-take slot ts in
+      let t = time-told empty_book (take slot ds) (take slot ts) (omega arith) in
+      omega arith
+
+  -- the rows from there on
+  pub rows_on : (slot : ℕ) (b1 : Book) → b1 ≡ book_before slot ts ds → rows_told b1 (drop b1.time ds) (drop b1.time ts) ≡ rows_from Lags slot ts ds
+  rows_on slot b1 e =
+      let time : b1.time ≡ min slot (length ts) = ap (λ (b : Book). b.time) e ∙ time_before slot in
+      let time' : b1.time ≡ min slot (length ds) = omega arith in
+      (λ i. rows_told (e i) (left_at ds b1.time slot time' i) (left_at ts b1.time slot time i))
+
+  -- the book after all slots
+  pub all_told_before : (slot : ℕ) → all_slots_told (book_before slot ts ds) (drop slot ds) (drop slot ts) ≡ all_slots_told empty_book ds ts
+  all_told_before slot =
+      let n = length-take slot ds in
+      let m = length-take slot ts in
+      sym (told-append empty_book (take slot ds) (drop slot ds) (take slot ts) (drop slot ts) (omega arith))
+      ∙ (λ i. all_slots_told empty_book (take-append-drop slot ds i) (take-append-drop slot ts i))
+
+  pub book_whole : (slot : ℕ) (b1 b2 : Book) → b1 ≡ book_before slot ts ds → b2 ≡ all_slots_told b1 (drop b1.time ds) (drop b1.time ts) → IsBookOf (max slot (length ts)) ts ds b2
+  book_whole slot b1 b2 e e' =
+      let time : b1.time ≡ min slot (length ts) = ap (λ (b : Book). b.time) e ∙ time_before slot in
+      let time' : b1.time ≡ min slot (length ds) = omega arith in
+      let whole : b2 ≡ all_slots_told empty_book ds ts = e' ∙ (λ i. all_slots_told (e i) (left_at ds b1.time slot time' i) (left_at ts b1.time slot time i)) ∙ all_told_before slot in
+      let full = time-told empty_book ds ts (sym same) in
+      let long : b2.time ≡ length ts = ap (λ (b : Book). b.time) whole ∙ full ∙ (let l : 0 + length ds ≡ length ts = omega arith in l) in
+      let decided : take b2.time ds ≡ ds = take_all b2.time ds (omega arith) in
+      let tables : take b2.time ts ≡ ts = take_all b2.time ts (omega arith) in
+      record { early = omega arith; there = omega arith; told_is = whole ∙ (λ i. all_slots_told empty_book (sym decided i) (sym tables i)) }

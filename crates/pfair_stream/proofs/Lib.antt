@@ -1,0 +1,5 @@
+mod Books
+pub mod Plans
+pub mod Going
+mod Alike
+mod Starting

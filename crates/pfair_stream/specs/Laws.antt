@@ -1,0 +1,34 @@
+-- What holds of rows that are written slot after slot.
+use Rattle.std.specs.Prelude.{ℕ, ◌≡◌, List, ◌∷◌, ◌++◌, length, map, max, min}
+use Rattle.pfair_text.specs.Rows.{lines_text}
+use Rattle.pfair_replica.specs.HeldRows.{replica_of}
+use Rattle.pfair_replica.specs.Replica.{Replica, frontier, numbers_below}
+use Rattle.pfair_table.specs.declared.pick.Decided.{Decided}
+use Rattle.pfair_table.specs.Table.{Settings, Table, decisions, plan}
+use Rattle.pfair_table.specs.Refinement.{Dispatch, IsWholePlan}
+use Rattle.pfair_output.specs.Replay.{placed_replay_text, replay_text}
+use Rattle.pfair_output.specs.Decisions.{decisions_text}
+use Rattle.pfair_output.specs.Lags.{lags_text}
+use Rattle.pfair_stream.specs.declared.output.Output.{Output}
+use Rattle.pfair_stream.specs.declared.output.Output.TheVariants.{Tables, PlacedTables, Decisions, Lags}
+use Rattle.pfair_stream.specs.Rows.{header_of, rows_from}
+
+-- The rows of slots and of more behind them, from a slot on, are those of the slots, and then those of the rest.
+abbrev pub RowsGoOn : Type 0
+RowsGoOn =
+    (output : Output) (slot : ℕ) (tables more : List Table) (decided rest : List (List Decided)) → length tables ≡ length decided
+    → rows_from output slot (tables ++ more) (decided ++ rest)
+    ≡ rows_from output slot tables decided ++ rows_from output (max slot (length tables)) (tables ++ more) (decided ++ rest)
+
+-- the text that is written at once of what is held
+abbrev pub text_of : Output → Settings → Replica → List ℕ
+text_of Tables s x = replay_text (plan s x)
+text_of PlacedTables s x = placed_replay_text (plan s x)
+text_of Decisions s x = decisions_text (map (decisions s x) (numbers_below (min (frontier x) s.slots)))
+text_of Lags s x = lags_text s x
+
+-- The header and the rows of a whole plan are that text.
+abbrev pub WholeRows : Type 0
+WholeRows =
+    (output : Output) (d : Dispatch) → IsWholePlan d
+    → lines_text (header_of output ∷ rows_from output 0 d.tables d.decided) ≡ text_of output d.settings (replica_of d.held)

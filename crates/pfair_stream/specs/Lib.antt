@@ -1,0 +1,4 @@
+pub mod Faults
+pub mod Follow
+pub mod Laws
+pub mod Rows

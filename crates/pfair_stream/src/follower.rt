@@ -1,0 +1,220 @@
+//! The follower.
+
+ghost use Rattle.std.specs.Prelude.{◌≡◌, ◌≢◌, ◌⊎◌, ◌<◌, ◌&&◌, Err, IfErr, IfOk, IsErrOf, None, OnErr, OnOk, false, length, max};
+ghost use Rattle.std.specs.Io.KnownBytes.{Appends, Keeps};
+ghost use Rattle.pfair_text.specs.Output.{TakesPrefix};
+ghost use Rattle.pfair_text.specs.Rows.{line};
+ghost use Rattle.pfair_replica.specs.HeldRows.{IsShape, held, replica_of};
+ghost use Rattle.pfair_replica.specs.Offered.{taken};
+ghost use Rattle.pfair_replica.specs.Replica.{has_torn};
+ghost use Rattle.pfair_replica.specs.Faults.{IsKeyOf, IsTakenAs};
+ghost use Rattle.pfair_table.specs.Events.{start};
+ghost use Rattle.pfair_table.specs.Refinement.{IsWholePlan, course_of};
+ghost use Rattle.pfair_stream.specs.Rows.{header_of};
+ghost use Rattle.pfair_stream.specs.Follow.{HaveToldAlike, IsGrown, IsRefusal, IsStopOf, missing_of, news};
+ghost use Rattle.pfair_stream.specs.declared.fault.FollowFault.TheVariants.{Memory, WriteFailed};
+
+use crate::fault::FollowFault;
+use crate::output::{Output, write_header, write_rows};
+use crate::planning::plan_all;
+use pfair_entry::Entry;
+use pfair_lag::LagBook;
+use pfair_ready::Ready;
+use pfair_replica::Taken;
+use pfair_table::{Dispatcher, Settings};
+use std::alloc::{AllocError, Global};
+use std::io::Write;
+use std::marker::Model;
+
+/// A dispatcher that is fed one entry after another, and writes the rows of each slot as soon as
+/// what it holds settles it.
+#[derive(Drop)]
+pub struct Follower<R: Ready> {
+    alloc: Global,
+    output: Output,
+    dispatcher: Dispatcher<R>,
+    told: u64,
+    book: LagBook,
+}
+
+impl<R: Ready> Model for Follower<R> {
+    ghost use Rattle.pfair_stream.specs.Rows.{IsBookOf};
+    ghost use Rattle.pfair_stream.specs.Follow.{Follow};
+
+    ghost Value = { Follow };
+
+    ghost view = { λ a. record { output = a.output; dispatch = a.dispatcher; told = a.told } };
+
+    ghost invariant = { λ a. IsBookOf a.told a.dispatcher.tables a.dispatcher.decided a.book };
+}
+
+impl<R: Ready> Follower<R> {
+    /// A follower that holds nothing, has planned nothing and written nothing, with room for logs
+    /// of `capacity` entries, 1 to 4,096. It writes the rows of slot `from` and of those after it;
+    /// those before are left out. It costs the number of processors.
+    ///
+    /// # Errors
+    /// `AllocError` where memory was wanted and refused.
+    pub fn new(
+        alloc: Global,
+        settings: Settings,
+        capacity: u32,
+        output: Output,
+        from: u64,
+    ) -> Result<Self, AllocError>
+        requires { IsShape settings.processors capacity }
+        ensures output { IfOk result (λ f. f.output ≡ output) }
+        ensures settings { IfOk result (λ f. f.dispatch.settings ≡ settings) }
+        ensures course { IfOk result (λ f. course_of f.dispatch ≡ start settings capacity) }
+        ensures spent { IfOk result (λ f. f.dispatch.spent ≡ false) }
+        ensures nothing { IfOk result (λ f. length f.dispatch.tables ≡ 0) }
+        ensures whole { IfOk result (λ f. IsWholePlan f.dispatch) }
+        ensures told { IfOk result (λ f. f.told ≡ from) }
+    {
+        Ok(Follower {
+            alloc,
+            output,
+            dispatcher: Dispatcher::new(alloc, settings, capacity)?,
+            told: from,
+            book: LagBook::new(alloc),
+        })
+    }
+
+    /// Writes the header of the rows, and flushes it.
+    ///
+    /// # Errors
+    /// [`FollowFault::Memory`] where memory was wanted and refused, and nothing is then written;
+    /// [`FollowFault::WriteFailed`] where the writer failed, and has then a part of the line.
+    pub fn write_header<W: Write>(&self, writer: &mut W) -> Result<(), FollowFault>
+        ensures written { OnOk result (Appends (W.contents writer.old) (W.contents writer.new) (line (header_of self.now.output))) }
+        ensures cut { IsErrOf result WriteFailed → TakesPrefix (W.contents writer.old) (W.contents writer.new) (line (header_of self.now.output)) }
+        ensures nothing { IfErr result (λ e. e ≢ WriteFailed → Keeps (W.contents writer.old) (W.contents writer.new)) }
+        ensures cause { IfErr result (λ e. (e ≡ WriteFailed) ⊎ (e ≡ Memory)) }
+    {
+        write_header(self.alloc, self.output, writer)
+    }
+
+    /// Takes entry `number` (from 1) of the log of `processor` (from 0), plans all that is then
+    /// settled, and writes the rows of the slots that are new, flushed before it returns; where
+    /// none is new, it writes nothing and flushes nothing.
+    ///
+    /// It costs what [`Dispatcher::take`] and [`Dispatcher::plan_next`] cost for each new slot, and
+    /// the new rows.
+    ///
+    /// # Errors
+    /// [`FollowFault::NoSuchProcessor`] and [`FollowFault::NumberOutOfRange`] exactly where the key
+    /// is none of the logs': nothing has then changed. [`FollowFault::Torn`] exactly where something
+    /// is then torn, else [`FollowFault::Spent`] exactly where a plan wanted memory before: the entry
+    /// is taken, and nothing planned or written. [`FollowFault::Memory`] where memory was wanted and
+    /// refused: slots may have been planned, and nothing is written. [`FollowFault::WriteFailed`]
+    /// where the writer failed: all is planned, and the writer has a part of the new rows. After
+    /// these two no row counts as told, so that a later call would write the rows from the first of
+    /// them on.
+    pub fn take<W: Write>(
+        &mut self,
+        writer: &mut W,
+        proc: u8,
+        number: u32,
+        entry: Entry,
+    ) -> Result<Taken, FollowFault>
+        ensures answer { IfOk result (IsTakenAs (held self.old.dispatch.held proc number) entry) }
+        ensures key { OnOk result (IsKeyOf self.old.dispatch.held proc number) }
+        ensures offered { (result ≡ Err Memory → ⊥) → replica_of self.new.dispatch.held ≡ taken (replica_of self.old.dispatch.held) proc number entry }
+        ensures wanted { result ≡ Err Memory → (self.new.dispatch.held ≡ self.old.dispatch.held) ⊎ (replica_of self.new.dispatch.held ≡ taken (replica_of self.old.dispatch.held) proc number entry) }
+        ensures grown { IsGrown (record self.old.dispatch { held = self.new.dispatch.held }) self.new.dispatch }
+        ensures whole { OnOk result (IsWholePlan self.new.dispatch) }
+        ensures sound { OnOk result ((has_torn (replica_of self.new.dispatch.held) ≡ false) × (self.old.dispatch.spent ≡ false) × (self.new.dispatch.spent ≡ false)) }
+        ensures output { self.new.output ≡ self.old.output }
+        ensures written { OnOk result (Appends (W.contents writer.old) (W.contents writer.new) (news self.old self.new)) }
+        ensures told { OnOk result (self.new.told ≡ max self.old.told (length self.new.dispatch.tables)) }
+        ensures fault { IfErr result (IsStopOf self.old.dispatch proc number entry) }
+        ensures refused { IfErr result (λ e. IsRefusal e → self.new ≡ self.old) }
+        ensures stands { OnErr result (self.new.told ≡ self.old.told) }
+        ensures cut { IsErrOf result WriteFailed → IsWholePlan self.new.dispatch × TakesPrefix (W.contents writer.old) (W.contents writer.new) (news self.old self.new) }
+        ensures nothing { IfErr result (λ e. e ≢ WriteFailed → Keeps (W.contents writer.old) (W.contents writer.new)) }
+    {
+        // as many slots have decisions as have tables
+        prove!(self.dispatcher.next_slot() <= Settings::MAX_SLOTS);
+        let taken = self.dispatcher.take(proc, number, entry)?;
+        plan_all(&mut self.dispatcher)?;
+        self.tell(writer)?;
+        Ok(taken)
+    }
+
+    // Writes the rows of the slots that are planned and not told.
+    fn tell<W: Write>(&mut self, writer: &mut W) -> Result<(), FollowFault>
+        ensures rest { self.new ≡ record self.old { told = self.new.told } }
+        ensures told { OnOk result (self.new.told ≡ max self.old.told (length self.old.dispatch.tables)) }
+        ensures stands { OnErr result (self.new ≡ self.old) }
+        ensures written { OnOk result (Appends (W.contents writer.old) (W.contents writer.new) (news self.old self.old)) }
+        ensures cut { IsErrOf result WriteFailed → TakesPrefix (W.contents writer.old) (W.contents writer.new) (news self.old self.old) }
+        ensures nothing { IfErr result (λ e. e ≢ WriteFailed → Keeps (W.contents writer.old) (W.contents writer.new)) }
+        ensures cause { IfErr result (λ e. (e ≡ WriteFailed) ⊎ (e ≡ Memory)) }
+    {
+        let next = self.dispatcher.next_slot();
+        if next <= self.told {
+            return Ok(());
+        }
+        let written = write_rows(
+            self.alloc,
+            self.output,
+            &self.dispatcher,
+            self.told,
+            &mut self.book,
+            writer,
+        );
+        match written {
+            Ok(()) => {
+                self.told = next;
+                Ok(())
+            }
+            Err(fault) => {
+                // the book was told some of the slots: it is told all of them anew when it is wanted
+                self.book = LagBook::new(self.alloc);
+                Err(fault)
+            }
+        }
+    }
+
+    /// What it holds and has planned.
+    pub fn dispatcher(&self) -> &Dispatcher<R>
+        ensures { result.now ≡ self.now.dispatch }
+    {
+        &self.dispatcher
+    }
+
+    /// The first slot whose rows are still to be written.
+    pub fn told(&self) -> u64
+        ensures { result ≡ self.now.told }
+    {
+        self.told
+    }
+
+    /// The number of the entry that would settle more of the log of a processor: the one right
+    /// behind the log's sound beginning, where its last floor is below the number of slots and
+    /// nothing is held there. `None` where the log settles all slots, where the entry behind its
+    /// beginning is held but its floor fell, and where the log has no room for one more.
+    pub fn missing(&self, proc: u8) -> Option<u32>
+        ensures { result ≡ missing_of self.now.dispatch.settings (replica_of self.now.dispatch.held) proc }
+    {
+        let replica = self.dispatcher.replica();
+        let capacity = replica.capacity();
+        let number = replica.sound_count(proc) + 1;
+        let is_wanted = replica.mark(proc) < self.dispatcher.settings().slots()
+            && number <= capacity
+            && replica.get(proc, number).is_none();
+        if is_wanted { Some(number) } else { None }
+    }
+
+    /// The law of two followers, whatever was called on either: where their settings and outputs
+    /// are equal and what they hold agrees, what one has planned has rows that begin those of the
+    /// other, from any slot on. It does nothing.
+    pub fn tells_alike<Q: Ready>(&self, other: &Follower<Q>)
+        ensures { HaveToldAlike self.now other.now }
+    {
+        // as many slots have decisions as have tables
+        prove!(self.dispatcher.next_slot() <= Settings::MAX_SLOTS);
+        prove!(other.dispatcher.next_slot() <= Settings::MAX_SLOTS);
+        self.dispatcher.plans_alike(&other.dispatcher);
+    }
+}

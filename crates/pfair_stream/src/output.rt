@@ -1,0 +1,146 @@
+//! What is written of a run, and the rows of it that are new.
+
+ghost use Rattle.std.specs.Prelude.{◌≡◌, ◌⊎◌, ◌++◌, ◌≢◌, IfErr, IfOk, IsErrOf, OnOk, length, max};
+ghost use Rattle.std.specs.Io.KnownBytes.{Appends, Keeps};
+ghost use Rattle.pfair_text.specs.Output.{TakesPrefix};
+ghost use Rattle.pfair_text.specs.Rows.{IsOpen, line, lines_text, text_so_far};
+ghost use Rattle.pfair_stream.specs.Rows.{IsBookOf, header_of, rows_from};
+ghost use Rattle.pfair_stream.specs.declared.fault.FollowFault.TheVariants.{Memory, WriteFailed};
+
+use crate::fault::FollowFault;
+use csv::Writer;
+use pfair_lag::LagBook;
+use pfair_output::{
+    add_decisions_from, add_decisions_header, add_lags_from, add_lags_header, add_placed_header,
+    add_placed_tables_from, add_replay_header, add_tables_from, tell_slots,
+};
+use pfair_ready::Ready;
+use pfair_table::{Dispatcher, Settings};
+use pfair_text::{finish, new_text, send};
+use std::alloc::{AllocError, Global};
+use std::io::Write;
+
+/// What is written of a run.
+#[derive(Clone, Copy, Debug, PartialEq, Eq)]
+pub enum Output {
+    /// The tables: a row for each quantum.
+    Tables,
+    /// The tables: a row for each quantum, with its place.
+    PlacedTables,
+    /// The decisions: a row for each announcement.
+    Decisions,
+    /// The lags: a row for each task that stays, after each slot.
+    Lags,
+}
+
+/// Writes the header, and flushes it.
+pub(crate) fn write_header<W: Write>(
+    alloc: Global,
+    output: Output,
+    writer: &mut W,
+) -> Result<(), FollowFault>
+    ensures written { OnOk result (Appends (W.contents writer.old) (W.contents writer.new) (line (header_of output))) }
+    ensures cut { IsErrOf result WriteFailed → TakesPrefix (W.contents writer.old) (W.contents writer.new) (line (header_of output)) }
+    ensures nothing { IfErr result (λ e. e ≢ WriteFailed → Keeps (W.contents writer.old) (W.contents writer.new)) }
+    ensures cause { IfErr result (λ e. (e ≡ WriteFailed) ⊎ (e ≡ Memory)) }
+{
+    let mut text = new_text(alloc);
+    add_header(&mut text, output)?;
+    let text = finish(text)?;
+    send_now(writer, text.as_slice())
+}
+
+// Adds the header.
+fn add_header(text: &mut Writer<Vec<u8>>, output: Output) -> Result<(), AllocError>
+    requires { IsOpen text.old }
+    ensures open { OnOk result (IsOpen text.new) }
+    ensures text { OnOk result (text_so_far text.new ≡ text_so_far text.old ++ line (header_of output)) }
+{
+    match output {
+        Output::Tables => add_replay_header(text),
+        Output::PlacedTables => add_placed_header(text),
+        Output::Decisions => add_decisions_header(text),
+        Output::Lags => add_lags_header(text),
+    }
+}
+
+/// Writes the rows of the slots that are planned, from a slot on, and flushes them. The book of
+/// lags, which was told slots before that one, is then told all that are planned; after a fault it
+/// is told some.
+pub(crate) fn write_rows<R: Ready, W: Write>(
+    alloc: Global,
+    output: Output,
+    dispatcher: &Dispatcher<R>,
+    from: u64,
+    book: &mut LagBook,
+    writer: &mut W,
+) -> Result<(), FollowFault>
+    requires { IsBookOf from dispatcher.now.tables dispatcher.now.decided book.old }
+    ensures book { OnOk result (IsBookOf (max from (length dispatcher.now.tables)) dispatcher.now.tables dispatcher.now.decided book.new) }
+    ensures written { OnOk result (Appends (W.contents writer.old) (W.contents writer.new) (lines_text (rows_from output from dispatcher.now.tables dispatcher.now.decided))) }
+    ensures cut { IsErrOf result WriteFailed → TakesPrefix (W.contents writer.old) (W.contents writer.new) (lines_text (rows_from output from dispatcher.now.tables dispatcher.now.decided)) }
+    ensures nothing { IfErr result (λ e. e ≢ WriteFailed → Keeps (W.contents writer.old) (W.contents writer.new)) }
+    ensures cause { IfErr result (λ e. (e ≡ WriteFailed) ⊎ (e ≡ Memory)) }
+{
+    let mut text = new_text(alloc);
+    add_rows(&mut text, output, dispatcher, from, book)?;
+    let text = finish(text)?;
+    send_now(writer, text.as_slice())
+}
+
+// Adds the rows of the slots that are planned, from a slot on, and tells the book of lags all of
+// them.
+fn add_rows<R: Ready>(
+    text: &mut Writer<Vec<u8>>,
+    output: Output,
+    dispatcher: &Dispatcher<R>,
+    from: u64,
+    book: &mut LagBook,
+) -> Result<(), AllocError>
+    requires open { IsOpen text.old }
+    requires book { IsBookOf from dispatcher.now.tables dispatcher.now.decided book.old }
+    ensures open { OnOk result (IsOpen text.new) }
+    ensures book { OnOk result (IsBookOf (max from (length dispatcher.now.tables)) dispatcher.now.tables dispatcher.now.decided book.new) }
+    ensures text { OnOk result (text_so_far text.new ≡ text_so_far text.old
+        ++ lines_text (rows_from output from dispatcher.now.tables dispatcher.now.decided)) }
+{
+    match output {
+        Output::Tables => add_tables_from(text, dispatcher, from),
+        Output::PlacedTables => add_placed_tables_from(text, dispatcher, from),
+        Output::Decisions => add_decisions_from(text, dispatcher, from),
+        Output::Lags => add_lags(text, dispatcher, from, book),
+    }
+}
+
+// Adds the rows of lags after each slot that is planned, from a slot on.
+fn add_lags<R: Ready>(
+    text: &mut Writer<Vec<u8>>,
+    dispatcher: &Dispatcher<R>,
+    from: u64,
+    book: &mut LagBook,
+) -> Result<(), AllocError>
+    requires open { IsOpen text.old }
+    requires book { IsBookOf from dispatcher.now.tables dispatcher.now.decided book.old }
+    ensures open { OnOk result (IsOpen text.new) }
+    ensures book { OnOk result (IsBookOf (max from (length dispatcher.now.tables)) dispatcher.now.tables dispatcher.now.decided book.new) }
+    ensures text { OnOk result (text_so_far text.new ≡ text_so_far text.old
+        ++ lines_text (rows_from Output.Lags from dispatcher.now.tables dispatcher.now.decided)) }
+{
+    // as many slots have decisions as have tables
+    prove!(dispatcher.next_slot() <= Settings::MAX_SLOTS);
+    tell_slots(book, dispatcher, from)?;
+    add_lags_from(text, book, dispatcher)
+}
+
+// Sends a text, and flushes it.
+fn send_now<W: Write>(writer: &mut W, text: &[u8]) -> Result<(), FollowFault>
+    ensures written { OnOk result (Appends (W.contents writer.old) (W.contents writer.new) text.now) }
+    ensures cut { IfErr result (λ _. TakesPrefix (W.contents writer.old) (W.contents writer.new) text.now) }
+    ensures cause { IfErr result (λ e. e ≡ WriteFailed) }
+{
+    send(writer, text)?;
+    match writer.flush() {
+        Ok(()) => Ok(()),
+        Err(_) => Err(FollowFault::WriteFailed),
+    }
+}

@@ -1,0 +1,289 @@
+//! What no contract says: that memory suffices, that rows are flushed at once, and the rows of runs
+//! that were worked out by hand.
+
+use crate::{FollowFault, Follower, Output};
+use pfair_entry::{Announcement, Entry};
+use pfair_ready::HeapReady;
+use pfair_replica::Taken;
+use pfair_table::Settings;
+use pfair_weight::{TaskName, Weight};
+use std::alloc::Global;
+use std::io;
+use std::io::Write;
+use std::process::Abort;
+use std::test::Fail;
+
+const LOG: u32 = 4096;
+
+// The whole of each output of the run of `first_entry` and `last_entry`.
+const WHOLE: [(Output, &str); 4] = [
+    (
+        Output::Tables,
+        "slot,processor,task,index\n0,0,a,1\n1,0,a,2\n",
+    ),
+    (
+        Output::PlacedTables,
+        "slot,processor,task,index,place\n0,0,a,1,0\n1,0,a,2,0\n",
+    ),
+    (
+        Output::Decisions,
+        "slot,processor,number,task,outcome,value\n0,0,1,a,admitted,-\n",
+    ),
+    (
+        Output::Lags,
+        "time,task,numerator,period\n1,a,-2,4\n2,a,-4,4\n3,a,-2,4\n4,a,0,4\n",
+    ),
+];
+
+// One processor for four slots, with one task of weight 2/4 that may run ahead of its windows.
+fn settings(rt: &impl Abort) -> Settings {
+    Settings::new(1, 4, 4).expect(rt, "settings")
+}
+
+fn first_entry(rt: &impl Abort) -> Entry {
+    let arrives = Announcement::Arrive {
+        name: TaskName::from_bytes(b"a").expect(rt, "a name"),
+        weight: Weight::new(2, 4).expect(rt, "a weight"),
+        early: true,
+    };
+    Entry::new(0, Some((0, arrives))).expect(rt, "an entry")
+}
+
+fn closing_entry(rt: &impl Abort, floor: u64) -> Entry {
+    Entry::new(floor, None).expect(rt, "an entry")
+}
+
+fn follower(rt: &impl Abort, alloc: Global, output: Output, from: u64) -> Follower<HeapReady> {
+    Follower::new(alloc, settings(rt), LOG, output, from).expect(rt, "memory")
+}
+
+// Gives out what it was given only when it is flushed, and fails once its room is used up.
+#[derive(Drop)]
+struct Terminal {
+    held: Vec<u8>,
+    shown: Vec<u8>,
+    room: usize,
+}
+
+impl Terminal {
+    fn new(alloc: Global, room: usize) -> Terminal {
+        Terminal {
+            held: Vec::new(alloc),
+            shown: Vec::new(alloc),
+            room,
+        }
+    }
+}
+
+impl Write for Terminal {
+    fn write(&mut self, buf: &[u8]) -> io::Result<usize> {
+        let count = buf.len().min(self.room).min(7);
+        self.held.extend_from_slice(&buf[..count])?;
+        self.room -= count;
+        Ok(count)
+    }
+
+    fn flush(&mut self) -> io::Result<()> {
+        self.shown.extend_from_slice(&self.held)?;
+        self.held.clear();
+        Ok(())
+    }
+}
+
+#[test]
+fn rows_come_out_once_they_are_settled(rt: HostRuntime) -> Result<(), Fail> {
+    for (output, whole) in WHOLE {
+        let mut terminal = Terminal::new(rt.alloc(), 1000);
+        let mut follower = follower(&rt, rt.alloc(), output, 0);
+        rows_once_settled(&rt, &mut follower, &mut terminal, whole)?;
+    }
+    Ok(())
+}
+
+// Each function with the looks is lent what it looks at, so that none owns a follower where it
+// returns early.
+fn rows_once_settled(
+    rt: &impl Abort,
+    follower: &mut Follower<HeapReady>,
+    terminal: &mut Terminal,
+    whole: &str,
+) -> Result<(), Fail> {
+    assert!(rt; follower.write_header(terminal).is_ok());
+    let header = terminal.shown.len();
+    assert!(rt; whole.as_bytes().starts_with(terminal.shown.as_slice()));
+    let last = follower.take(terminal, 0, 2, closing_entry(rt, 4));
+    assert!(rt; last == Ok(Taken::New) && terminal.shown.len() == header);
+    let first = follower.take(terminal, 0, 1, first_entry(rt));
+    assert!(rt; first == Ok(Taken::New));
+    assert_eq!(rt; terminal.shown.as_slice(), whole.as_bytes());
+    let again = follower.take(terminal, 0, 1, first_entry(rt));
+    assert!(rt; again == Ok(Taken::Known));
+    assert_eq!(rt; terminal.shown.as_slice(), whole.as_bytes());
+    assert!(rt; follower.told() == 4 && follower.dispatcher().next_slot() == 4);
+    Ok(())
+}
+
+#[test]
+fn rows_come_out_slot_by_slot(rt: HostRuntime) -> Result<(), Fail> {
+    for (output, whole) in WHOLE {
+        let mut terminal = Terminal::new(rt.alloc(), 1000);
+        let mut follower = follower(&rt, rt.alloc(), output, 0);
+        rows_by_slot(&rt, &mut follower, &mut terminal, whole)?;
+    }
+    Ok(())
+}
+
+fn rows_by_slot(
+    rt: &impl Abort,
+    follower: &mut Follower<HeapReady>,
+    terminal: &mut Terminal,
+    whole: &str,
+) -> Result<(), Fail> {
+    assert!(rt; follower.write_header(terminal).is_ok());
+    assert!(rt; follower.take(terminal, 0, 1, first_entry(rt)).is_ok());
+    for slot in 1..5u32 {
+        let closing = closing_entry(rt, slot as u64);
+        assert!(rt; follower.take(terminal, 0, slot + 1, closing).is_ok());
+        assert!(rt; follower.told() == slot as u64 && terminal.held.is_empty());
+        assert!(rt; whole.as_bytes().starts_with(terminal.shown.as_slice()));
+    }
+    assert_eq!(rt; terminal.shown.as_slice(), whole.as_bytes());
+    Ok(())
+}
+
+#[test]
+fn rows_of_a_later_slot_on(rt: HostRuntime) -> Result<(), Fail> {
+    let rows = [
+        (Output::Tables, "1,0,a,2\n"),
+        (Output::PlacedTables, "1,0,a,2,0\n"),
+        (Output::Decisions, ""),
+        (Output::Lags, "2,a,-4,4\n3,a,-2,4\n4,a,0,4\n"),
+    ];
+    for (output, rows) in rows {
+        let mut terminal = Terminal::new(rt.alloc(), 1000);
+        let mut follower = follower(&rt, rt.alloc(), output, 1);
+        later_rows(&rt, &mut follower, &mut terminal, rows)?;
+    }
+    Ok(())
+}
+
+fn later_rows(
+    rt: &impl Abort,
+    follower: &mut Follower<HeapReady>,
+    terminal: &mut Terminal,
+    rows: &str,
+) -> Result<(), Fail> {
+    assert!(rt; follower.take(terminal, 0, 1, first_entry(rt)).is_ok());
+    assert!(rt; follower.take(terminal, 0, 2, closing_entry(rt, 1)).is_ok());
+    assert!(rt; terminal.shown.is_empty() && follower.told() == 1);
+    assert!(rt; follower.take(terminal, 0, 3, closing_entry(rt, 9)).is_ok());
+    assert_eq!(rt; terminal.shown.as_slice(), rows.as_bytes());
+    Ok(())
+}
+
+#[test]
+fn refused_entries_change_nothing(rt: HostRuntime) -> Result<(), Fail> {
+    let mut out: Vec<u8> = Vec::new(rt.alloc());
+    let mut follower = follower(&rt, rt.alloc(), Output::Tables, 0);
+    refused_entries(&rt, &mut follower, &mut out)
+}
+
+fn refused_entries(
+    rt: &impl Abort,
+    follower: &mut Follower<HeapReady>,
+    out: &mut Vec<u8>,
+) -> Result<(), Fail> {
+    let no_processor = follower.take(out, 1, 1, first_entry(rt)).err();
+    assert!(rt; no_processor == Some(FollowFault::NoSuchProcessor));
+    for number in [0, LOG + 1] {
+        let no_number = follower.take(out, 0, number, first_entry(rt)).err();
+        assert!(rt; no_number == Some(FollowFault::NumberOutOfRange));
+    }
+    assert!(rt; follower.missing(0) == Some(1));
+    assert!(rt; follower.take(out, 0, 1, first_entry(rt)).is_ok());
+    assert!(rt; follower.missing(0) == Some(2) && out.is_empty());
+    let torn = follower.take(out, 0, 1, closing_entry(rt, 4)).err();
+    assert!(rt; torn == Some(FollowFault::Torn { proc: 0, number: 1 }));
+    assert!(rt; follower.told() == 0 && out.is_empty());
+    Ok(())
+}
+
+#[test]
+fn no_entry_is_missing_of_a_log_that_is_closed(rt: HostRuntime) -> Result<(), Fail> {
+    let mut follower = follower(&rt, rt.alloc(), Output::Tables, 0);
+    let mut closed = follower_of_one(&rt, rt.alloc());
+    let mut out: Vec<u8> = Vec::new(rt.alloc());
+    missing_entries(&rt, &mut follower, &mut closed, &mut out)
+}
+
+fn missing_entries(
+    rt: &impl Abort,
+    follower: &mut Follower<HeapReady>,
+    closed: &mut Follower<HeapReady>,
+    out: &mut Vec<u8>,
+) -> Result<(), Fail> {
+    assert!(rt; follower.take(out, 0, 1, closing_entry(rt, 3)).is_ok());
+    assert!(rt; follower.missing(0) == Some(2));
+    // the floor falls, so that nothing at the key behind it can settle more
+    assert!(rt; follower.take(out, 0, 2, closing_entry(rt, 2)).is_ok());
+    assert!(rt; follower.missing(0) == None);
+    assert!(rt; closed.take(out, 0, 1, closing_entry(rt, 3)).is_ok());
+    assert!(rt; closed.missing(0) == None);
+    Ok(())
+}
+
+// A follower whose logs have room for one entry.
+fn follower_of_one(rt: &impl Abort, alloc: Global) -> Follower<HeapReady> {
+    Follower::new(alloc, settings(rt), 1, Output::Tables, 0).expect(rt, "memory")
+}
+
+#[test]
+fn a_writer_that_fails(rt: HostRuntime) -> Result<(), Fail> {
+    for (output, whole) in WHOLE {
+        for room in 0..whole.len() {
+            let mut terminal = Terminal::new(rt.alloc(), room);
+            let mut follower = follower(&rt, rt.alloc(), output, 0);
+            failing_writer(&rt, &mut follower, &mut terminal, whole)?;
+        }
+    }
+    Ok(())
+}
+
+fn failing_writer(
+    rt: &impl Abort,
+    follower: &mut Follower<HeapReady>,
+    terminal: &mut Terminal,
+    whole: &str,
+) -> Result<(), Fail> {
+    let mut fault = follower.write_header(terminal).err();
+    if fault.is_none() {
+        assert!(rt; follower.take(terminal, 0, 1, first_entry(rt)).is_ok());
+        fault = follower.take(terminal, 0, 2, closing_entry(rt, 4)).err();
+    }
+    assert!(rt; fault == Some(FollowFault::WriteFailed) && follower.told() == 0);
+    assert!(rt; terminal.room == 0);
+    assert!(rt;
+        whole.as_bytes().starts_with(terminal.held.as_slice())
+            || whole.as_bytes().starts_with(terminal.shown.as_slice())
+    );
+    Ok(())
+}
+
+#[test]
+fn faults_have_their_numbers(rt: HostRuntime) -> Result<(), Fail> {
+    let torn = FollowFault::Torn { proc: 2, number: 7 };
+    let faults = [
+        (FollowFault::NoSuchProcessor, 13, "no such processor"),
+        (FollowFault::NumberOutOfRange, 14, "number out of range"),
+        (torn, 30, "entry 7 of processor 2 torn"),
+        (FollowFault::Spent, 31, "spent"),
+        (FollowFault::WriteFailed, 71, "writing failed"),
+        (FollowFault::Memory, 90, "out of memory"),
+    ];
+    for (fault, number, text) in faults {
+        let mut line: Vec<u8> = Vec::new(rt.alloc());
+        assert!(rt; fault.number() == number && write!(&mut line, "{fault}").is_ok());
+        assert_eq!(rt; line.as_slice(), text.as_bytes());
+    }
+    Ok(())
+}
