@@ -2,21 +2,31 @@
  * pfair.h: the Pfair executive for C. Windows of subtasks, and dispatchers behind handles. It computes schedules; it
  * does not execute tasks.
  *
- * Build with the flags of `pkg-config --cflags --libs pfair`, once scripts/install has installed the library.
- * (The library as rt builds it lacks rattle_alloc, rattle_realloc and rattle_dealloc, which call malloc, realloc and
- * free: the kit's c/liblibc_c.a has them.)
+ * Build with the flags of `pkg-config --cflags --libs pfair`, once scripts/install has installed the library: they take
+ * the shared one, libpfair.so, and with -static or -Wl,-Bstatic before them the static one, libpfair.a.
+ *
+ * Without a C library. The archive as rt builds it wants rattle_alloc, rattle_realloc and rattle_dealloc, which call
+ * malloc, realloc and free (the kit's c/liblibc_c.a has them; the installed archive too), and memcpy, memmove, memset and
+ * __udivti3 (of libgcc). Its code is for x86-64-v2, with the SSE registers enabled. A call takes 5 KB of stack at most
+ * (measured: a plan with 64 processors and 800 tasks), but pfair_read_file: 11 KB for a common file, and 110 KB where keys
+ * are nested as deep as can be read, 79. Nothing of it belongs to a thread, and it has no state of its own.
  *
  * What the caller has to see to, since no call can check it:
  *  - each pointer points to a live, aligned object of its type that no other argument points into; `rows` points to
- *    `room` such objects, or, where `room` is 0, to one that is never touched;
+ *    `room` such objects, and may be NULL where `room` is 0;
  *  - a handle begins as PFAIR_NONE, and only the calls below change it: no copy of it is used;
- *  - at most one call at a time uses a handle, and all calls on a handle come from the thread that opened it;
- *  - the two handles of pfair_absorb are different ones;
+ *  - at most one call at a time uses a handle. A handle may go from one thread to another: each call on it begins after
+ *    the one before has ended, in the sense of the memory model (a lock, a join or a message between the threads);
  *  - malloc, realloc and free belong to one allocator, and align a block to each power of two up to 16 that divides
  *    its size;
  *  - no call comes from a signal handler, or from the child of a fork of a process with threads.
  *
- * Each call checks everything else, and answers by a number.
+ * Each call checks everything else, and answers by a number. A list of answers is in the order of the checks: the answer
+ * is the first that applies, and 0 where none does. What a call writes it writes after 0, and after no other answer but
+ * those that say so.
+ *
+ * A dispatcher that holds something torn, or to which memory was refused, goes on taking entries and telling what it
+ * holds and has planned; only plans are refused.
  */
 #ifndef PFAIR_H
 #define PFAIR_H
@@ -26,12 +36,13 @@
 #include <string.h>
 
 #define PFAIR_VERSION "0.2.0"
+#define PFAIR_VERSION_NUMBER 200
 
 #ifdef __cplusplus
 extern "C" {
 #endif
 
-/* The answers: 0, or the number of the first fault that applies. Numbers from 100 on belong to this library alone. */
+/* The answers. Numbers from 100 on belong to this library alone. */
 enum pfair_answer {
     PFAIR_DONE = 0,
     PFAIR_NAME_EMPTY = 1,         /* a name of no bytes */
@@ -49,6 +60,12 @@ enum pfair_answer {
     PFAIR_OTHER_SHAPE = 15,       /* two dispatchers with different numbers of processors, or different capacities */
     PFAIR_TORN = 30,              /* two different entries were taken for one number */
     PFAIR_SPENT = 31,             /* memory was refused to a plan; pfair_reopen helps */
+    PFAIR_FILE_NOT_TOML = 60,     /* a task file is no TOML document */
+    PFAIR_FILE_MISSING = 61,      /* a key isn't there */
+    PFAIR_FILE_WRONG_KIND = 62,   /* what stands at a key is of another kind than the key asks for */
+    PFAIR_FILE_RANGE = 63,        /* what stands at a key is out of its range */
+    PFAIR_FILE_ENTRY = 64,        /* the keys of a table are in order, and make no entry */
+    PFAIR_FILE_VERSION = 65,      /* the file's version is none of 1 and 2 */
     PFAIR_MEMORY = 90,            /* memory was wanted and refused */
     PFAIR_OUT_OF_RANGE = 100,     /* a number is out of the range that its call states */
     PFAIR_OPEN_ALREADY = 101,     /* the handle has a dispatcher */
@@ -56,6 +73,10 @@ enum pfair_answer {
     PFAIR_NO_ROOM = 103,          /* there is room for fewer rows than there are */
     PFAIR_NOT_PLANNED = 104       /* the slot isn't planned */
 };
+
+/* The number of the library's own version, 10,000 times its first part and 100 times its second added to the third: a
+   shared library can have another than this header, PFAIR_VERSION_NUMBER. */
+uint32_t pfair_version(void);
 
 /* ---- windows */
 
@@ -68,14 +89,25 @@ struct pfair_window {
 
 /*
  * The window of subtask `index` (1 to 1,000,001) of the weight cost/period at the offset `theta` (0 to 2^40).
- *   0    the window is written
  *   4    the cost is 0
  *   5    the cost is over the period
  *   6    the period is over 1,000,000,000
  *   100  the index or the offset is out of its range
- * Unless the answer is 0, nothing is written. Cost: constant.
+ *   0    the window is written
+ * Cost: constant.
  */
 uint32_t pfair_window(uint64_t cost, uint64_t period, uint64_t index, uint64_t theta, struct pfair_window *window);
+
+/*
+ * The windows of the `count` subtasks from `first` on (each of 1 to 1,000,001) of the weight cost/period at the offset
+ * `theta` (0 to 2^40), one after another.
+ *   4 to 6  as pfair_window
+ *   100     `first` is 0, first + count is over 1,000,002, or the offset is out of its range
+ *   103     there are fewer than `count` rows
+ *   0       the first `count` rows are written
+ * Cost: the rows.
+ */
+uint32_t pfair_windows(uint64_t cost, uint64_t period, uint64_t first, uint64_t count, uint64_t theta, struct pfair_window *rows, size_t room);
 
 /* ---- entries of logs */
 
@@ -119,21 +151,76 @@ struct pfair_dispatcher {
 /*
  * Makes a dispatcher that holds nothing: 1 to 64 processors, a frame of 1 to 1,000,000,000 slots, which each arrival's
  * period has to divide, 1 to 1,000,000 slots to plan, and logs of 1 to 4,096 entries.
- *   0    the handle has it
- *   90   memory was refused
- *   100  a number is out of its range
  *   101  the handle has a dispatcher already
+ *   100  a number is out of its range
+ *   90   memory was refused
+ *   0    the handle has it
  * Unless the answer is 0, the handle is as before. Cost: the number of processors.
  */
 uint32_t pfair_open(struct pfair_dispatcher *d, uint8_t processors, uint64_t frame, uint64_t slots, uint32_t capacity);
 
+/* The keys of a task file. */
+enum pfair_key_of_file {
+    PFAIR_KEY_VERSION = 1,
+    PFAIR_KEY_PROCESSORS = 2,
+    PFAIR_KEY_FRAME = 3,
+    PFAIR_KEY_SLOTS = 4,
+    PFAIR_KEY_ENTRY = 5,
+    PFAIR_KEY_PROCESSOR = 6,
+    PFAIR_KEY_FLOOR = 7,
+    PFAIR_KEY_KIND = 8,
+    PFAIR_KEY_AT = 9,
+    PFAIR_KEY_NAME = 10,
+    PFAIR_KEY_COST = 11,
+    PFAIR_KEY_PERIOD = 12,
+    PFAIR_KEY_EARLY = 13,
+    PFAIR_KEY_INDEX = 14,
+    PFAIR_KEY_BY = 15
+};
+
+/* Where a task file is at fault. What an answer doesn't say is 0. */
+struct pfair_file_fault {
+    uint64_t place;     /* after 61 to 63: the number of the entry's table, from 1, or 0 for the file's own keys */
+    uint64_t field;     /* after 61 to 63: which key, one of enum pfair_key_of_file */
+    uint64_t processor; /* after 64: of which processor's log, from 0, */
+    uint64_t number;    /* the entry under which number there, from 1, */
+    uint64_t cause;     /* is wrong for this: 12 where the log is full (4,095 entries), or 1 to 10 */
+};
+
+/*
+ * Reads a task file, as the command `pfair replay` takes it, and makes a dispatcher for it, with the processors, the
+ * frame and the slots that the file names. It has taken every entry of the file, and for each log whose last floor is
+ * below the number of slots one more, with that floor; and it has planned nothing. The capacity is the length of the
+ * longest log.
+ *   101       the handle has a dispatcher already
+ *   60 to 65  the file's first fault, and `fault` says where: 60 first, then key by key and table by table
+ *   90        memory was refused; at any place
+ *   0         the handle has it
+ * `fault` is written after 60 to 65 alone. Unless the answer is 0, the handle is as before. Cost: the bytes, and for each
+ * entry that of pfair_take.
+ */
+uint32_t pfair_read_file(struct pfair_dispatcher *d, struct pfair_file_fault *fault, const uint8_t *bytes, size_t length);
+
 /*
  * Frees the dispatcher; the handle is PFAIR_NONE again.
- *   0    done
  *   102  the handle has no dispatcher
+ *   0    done
  * Cost: the entries held, the tasks, and the quanta and decisions of the planned slots.
  */
 uint32_t pfair_close(struct pfair_dispatcher *d);
+
+/* What was said where a dispatcher was opened. */
+struct pfair_settings {
+    uint64_t processors, frame, slots, capacity;
+};
+
+/*
+ * What the dispatcher plans for.
+ *   102  the handle has no dispatcher
+ *   0    the settings are written
+ * Cost: constant.
+ */
+uint32_t pfair_settings(struct pfair_dispatcher *d, struct pfair_settings *settings);
 
 enum pfair_taken {
     PFAIR_NEW = 0,    /* nothing was held under this number; now the entry is */
@@ -143,7 +230,6 @@ enum pfair_taken {
 
 /*
  * Takes entry `number` (1 to the capacity) of the log of `processor` (from 0).
- *   0         it is taken, and `taken` says what it met, one of enum pfair_taken
  *   102       the handle has no dispatcher
  *   100       the kind is over 3, or an arrival's `early` is over 1
  *   1 to 3    what is wrong with the name
@@ -151,21 +237,112 @@ enum pfair_taken {
  *   7 to 10   what is wrong with floor, stamp, delay or index: 8 first, then 7, 10, 9
  *   13, 14    there is no such processor, no such number
  *   90        memory was refused; only where nothing was held under this number
- * The answer is the first that applies, in this order. Unless it is 0, nothing has changed. Cost: a few look-ups, which
- * grow with the logarithm of the entries held in a log, and one more for each entry by which the run of entries
- * 1, 2, 3 .. of this log grows.
+ *   0         it is taken, and `taken` says what it met, one of enum pfair_taken
+ * Unless the answer is 0, nothing has changed. Cost: a few look-ups, which grow with the logarithm of the entries held in
+ * a log, and one more for each entry by which the run of entries 1, 2, 3 .. of this log grows.
  */
 uint32_t pfair_take(struct pfair_dispatcher *d, uint8_t processor, uint32_t number, const struct pfair_entry *entry, uint64_t *taken);
 
+/* How many entries a call took, and how many of them met what, as enum pfair_taken has it: the last three make the first. */
+struct pfair_taken_log {
+    uint64_t taken, fresh, known, torn;
+};
+
+/*
+ * Takes `length` entries of the log of `processor`, one after another, under the numbers `first`, `first` + 1 and so on,
+ * each as pfair_take does. At the first that is refused it stops.
+ *   102  the handle has no dispatcher
+ *   100, 1 to 10, 13, 14, 90  as pfair_take, of the first entry that is refused
+ *   0    all are taken
+ * But after 102 `counted` is written: the first `taken` entries are taken and stand, and after another answer than 0 it is
+ * the next one that is refused. Cost: that of pfair_take for each.
+ */
+uint32_t pfair_take_log(struct pfair_dispatcher *d, uint8_t processor, uint32_t first, struct pfair_taken_log *counted, const struct pfair_entry *entries, size_t length);
+
 /*
  * Takes all that another dispatcher holds; the other stays as it is.
- *   0    done
+ *   100  the two handles are one; nothing has changed
+ *   102  a handle has no dispatcher; nothing has changed
  *   15   the other has another number of processors, or another capacity; nothing has changed
  *   90   memory was refused; a part is taken, and absorbing the other again gives what one call would have given
- *   102  a handle has no dispatcher; nothing has changed
+ *   0    done
  * Cost: two look-ups for each entry that the other holds, and one for each entry of the logs in which it holds any.
+ *
+ * (The handles are compared here: the library itself takes them for two.)
  */
 uint32_t pfair_absorb(struct pfair_dispatcher *d, struct pfair_dispatcher *other);
+static inline uint32_t pfair_absorb_another(struct pfair_dispatcher *d, struct pfair_dispatcher *other) {
+    return d == other ? 100 : pfair_absorb(d, other);
+}
+#define pfair_absorb pfair_absorb_another
+
+/* ---- what is held: to send logs on, to ask for what was lost, to write a dispatcher down */
+
+enum pfair_held_kind {
+    PFAIR_HELD_NOTHING = 0, /* nothing is held under this number */
+    PFAIR_HELD_ENTRY = 1,   /* one entry */
+    PFAIR_HELD_TORN = 2     /* two different entries were taken for it */
+};
+
+/*
+ * What is held at entry `number` (1 to the capacity) of the log of `processor` (from 0).
+ *   102     the handle has no dispatcher
+ *   13, 14  there is no such processor, no such number
+ *   0       `kind` says what is held, one of enum pfair_held_kind; where it is an entry, that is written, with zeros in
+ *           the fields that its kind doesn't need
+ * Cost: a look-up, which grows with the logarithm of the entries held in the log.
+ */
+uint32_t pfair_held(struct pfair_dispatcher *d, uint8_t processor, uint32_t number, uint64_t *kind, struct pfair_entry *entry);
+
+/*
+ * How far a processor has committed itself: its sound beginning is the longest run of held entries 1, 2, 3 .., none
+ * torn, whose floors never fall.
+ *   102  the handle has no dispatcher
+ *   13   there is no such processor
+ *   0    `slot` is the floor of the last entry of the sound beginning, or 0, and `count` how many entries that has
+ * Cost: constant.
+ */
+uint32_t pfair_mark(struct pfair_dispatcher *d, uint8_t processor, uint64_t *slot, uint64_t *count);
+
+/*
+ * The least number of a processor's log that isn't held (what is torn is held).
+ *   102  the handle has no dispatcher
+ *   13   there is no such processor
+ *   0    the number is written, or 0 where all are held
+ * Cost: a look-up for each number up to that one.
+ */
+uint32_t pfair_missing(struct pfair_dispatcher *d, uint8_t processor, uint64_t *number);
+
+/* An entry's key: in which log it stands, and where. */
+struct pfair_key {
+    uint64_t processor, number;
+};
+
+/*
+ * What is wrong with the logs: the keys that are torn, and behind these the entries right after a sound beginning whose
+ * floor is lower; each by processors and numbers. `torn` and `fallen` are how many there are of each.
+ *   102  the handle has no dispatcher
+ *   90   memory was refused; only where there is such a key
+ *   103  there are more than `room` keys: the two numbers are written, but no row
+ *   0    the two numbers and the first `torn` + `fallen` rows are written
+ * Cost: a look-up for each number of each log.
+ */
+uint32_t pfair_faults(struct pfair_dispatcher *d, uint64_t *torn, uint64_t *fallen, struct pfair_key *rows, size_t room);
+
+/*
+ * Whether another dispatcher holds all that this one holds, each key with the same entry or torn.
+ *   100  the two handles are one
+ *   102  a handle has no dispatcher
+ *   0    `is_below` is 1 or 0
+ * Cost: a look-up there for each entry that is held here.
+ */
+uint32_t pfair_below(struct pfair_dispatcher *d, struct pfair_dispatcher *other, uint64_t *is_below);
+static inline uint32_t pfair_below_another(struct pfair_dispatcher *d, struct pfair_dispatcher *other, uint64_t *is_below) {
+    return d == other ? 100 : pfair_below(d, other, is_below);
+}
+#define pfair_below pfair_below_another
+
+/* ---- plans */
 
 enum pfair_step_kind {
     PFAIR_PLANNED = 0,    /* `slot` was planned */
@@ -173,46 +350,58 @@ enum pfair_step_kind {
     PFAIR_ALL_PLANNED = 2 /* all slots of the run are planned */
 };
 
+/* After 0 all four are written, after 30 the last two alone, and after any other answer none. */
 struct pfair_step {
-    uint64_t kind;              /* after 0: one of enum pfair_step_kind */
-    uint64_t slot;              /* after 0 */
-    uint64_t processor, number; /* after 30: which entry is torn, the least */
+    uint64_t kind;              /* one of enum pfair_step_kind */
+    uint64_t slot;              /* as the kind says; 0 where all slots are planned */
+    uint64_t processor, number; /* after 30 which entry is torn, the least; after 0 both are 0 */
 };
 
 /*
  * Plans the next slot, if what is held settles it.
- *   0    the step is written
+ *   102  the handle has no dispatcher
  *   30   something held is torn, and the step's processor and number say what; nothing has changed
  *   31   an earlier call was refused memory; nothing has changed
  *   90   memory was refused: the slot isn't planned, what was planned stands, and plans answer 31 until pfair_reopen
- *   102  the handle has no dispatcher
- * The answer is the first that applies, in this order. Cost: the number of processors, what is announced for the slot,
- * the logarithm of the number of tasks for each quantum, and what was taken since the last plan; not the entries held.
+ *   0    the step is written
+ * Cost: the number of processors, what is announced for the slot, the logarithm of the number of tasks for each quantum,
+ * and what was taken since the last plan; not the entries held. Every 1,024 slots a block of some 72 KB is asked of
+ * malloc for what is planned next, and nothing of what was planned is copied.
  */
 uint32_t pfair_plan_next(struct pfair_dispatcher *d, struct pfair_step *step);
 
 /*
+ * Plans until `until` slots are planned, or the next one isn't settled, or none is left.
+ *   102  the handle has no dispatcher
+ *   100  `until` is 0
+ *   30, 31, 90  as pfair_plan_next, where fewer than `until` slots are planned; those planned before that stand
+ *   0    the step is written: PFAIR_PLANNED with slot `until` - 1, planned now or before; or why the plans ended
+ * Cost: what the plans of the slots cost.
+ */
+uint32_t pfair_plan_to(struct pfair_dispatcher *d, uint64_t until, struct pfair_step *step);
+
+/*
  * After memory was refused to a plan, makes anew what plans need.
- *   0    plans go on as if memory had been ample
+ *   102  the handle has no dispatcher
  *   30   something held is torn; nothing has changed
  *   90   memory was refused; plans answer 31
- *   102  the handle has no dispatcher
+ *   0    plans go on as if memory had been ample
  * Cost: what the plans of all slots so far cost.
  */
 uint32_t pfair_reopen(struct pfair_dispatcher *d);
 
 /*
- * The frontier: below this slot every announcement is known.
- *   0    the slot is written
+ * The frontier: below this slot every announcement is known. It falls where an entry of a sound beginning is torn.
  *   102  the handle has no dispatcher
+ *   0    the slot is written
  * Cost: the number of processors.
  */
 uint32_t pfair_frontier(struct pfair_dispatcher *d, uint64_t *slot);
 
 /*
  * The slot that is planned next, which is also the number of planned slots.
- *   0    the slot is written
  *   102  the handle has no dispatcher
+ *   0    the slot is written
  * Cost: constant.
  */
 uint32_t pfair_next_slot(struct pfair_dispatcher *d, uint64_t *slot);
@@ -238,15 +427,69 @@ struct pfair_decided {
  * The table of a slot; its places, for each row of the table the processor that runs it (a task that runs in two
  * consecutive slots stays on its processor); and the decisions at the slot's boundary, in the order of processor and
  * number.
- *   0    `count` and the rows are written
  *   102  the handle has no dispatcher
- *   103  there are more than `room` rows: `count` is written, but no row
  *   104  the slot isn't planned
+ *   103  there are more than `room` rows: `count` is written, but no row
+ *   0    `count` and the rows are written
  * A table has at most as many rows as there are processors. Cost: the number of rows.
  */
 uint32_t pfair_table(struct pfair_dispatcher *d, uint64_t slot, uint64_t *count, struct pfair_pick *rows, size_t room);
 uint32_t pfair_places(struct pfair_dispatcher *d, uint64_t slot, uint64_t *count, uint8_t *rows, size_t room);
 uint32_t pfair_decisions(struct pfair_dispatcher *d, uint64_t slot, uint64_t *count, struct pfair_decided *rows, size_t room);
+
+/* A quantum of one of several slots. */
+struct pfair_quantum {
+    uint64_t slot, row, place; /* the row of the slot's table, and the processor that runs it, both from 0 */
+    struct pfair_name name;
+    uint64_t index; /* of the task's subtask, from 1 */
+};
+
+/*
+ * The quanta of the slots `from` to `to` - 1: slot by slot, each slot's in the order of its table. There are none where
+ * `from` isn't below `to`.
+ *   102  the handle has no dispatcher
+ *   104  slot `to` - 1 isn't planned
+ *   103  there are more than `room` rows: `count` is written, but no row
+ *   0    `count` and the rows are written
+ * Cost: the slots and the rows.
+ */
+uint32_t pfair_quanta(struct pfair_dispatcher *d, uint64_t from, uint64_t to, uint64_t *count, struct pfair_quantum *rows, size_t room);
+
+/* A decision at the boundary of one of several slots. */
+struct pfair_decision {
+    uint64_t slot;
+    struct pfair_decided decided;
+};
+
+/*
+ * The decisions at the boundaries of the slots `from` to `to` - 1: slot by slot, each slot's in the order of processor
+ * and number. There are none where `from` isn't below `to`. The answers are those of pfair_quanta.
+ * Cost: the slots and the rows.
+ */
+uint32_t pfair_decisions_of(struct pfair_dispatcher *d, uint64_t from, uint64_t to, uint64_t *count, struct pfair_decision *rows, size_t room);
+
+/* The lag of a task at a time: its fluid share of the slots since it joined, less the quanta that it had, in quanta:
+   numerator/period. Without late releases a task's lag stays below 1, and above -1 unless the task is early. */
+struct pfair_lag {
+    uint64_t time; /* the end of slot `time` - 1 */
+    struct pfair_name name;
+    int64_t numerator;
+    uint64_t period; /* of the task */
+};
+
+/*
+ * The lags in the slots `from` to `to` - 1: after each slot t those of the tasks that are admitted, and not departing
+ * after the boundary of t, at the time t + 1; slot by slot, each slot's in the order of admission. There are none where
+ * `from` isn't below `to`.
+ *   102  the handle has no dispatcher
+ *   104  slot `to` - 1 isn't planned
+ *   90   memory was refused, which a few words for each task need; the rows of some first slots may be written
+ *   103  there are more than `room` rows: `count` is written, but no row
+ *   0    `count` and the rows are written
+ * Cost: the rows, and twice the slots, decisions and quanta of slots 0 to `to` - 1, with a look-up for each decision and
+ * quantum and a pass over the tasks for each departure: lags are counted from slot 0 on in each call, whatever `from` is.
+ */
+uint32_t pfair_lags(struct pfair_dispatcher *d, uint64_t from, uint64_t to, uint64_t *count, struct pfair_lag *rows, size_t room);
 
 #ifdef __cplusplus
 }

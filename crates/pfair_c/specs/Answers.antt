@@ -1,8 +1,6 @@
 -- What the calls of the C library answer.
-use Rattle.std.specs.Prelude.{ℕ, zero, suc, ◌≡◌, ◌≤◌, false, ◌&&◌, nat_eq, nat_lt, nat_le, if◌then◌else◌}
+use Rattle.std.specs.Prelude.{ℕ, zero, suc, ◌+◌, ◌≡◌, ◌≤◌, false, ◌&&◌, nat_eq, nat_lt, nat_le, if◌then◌else◌}
 use Rattle.std.specs.declared.option.Option.TheVariants.{None, Some}
-use Rattle.pfair_weight.specs.Share.{Share}
-use Rattle.pfair_weight.specs.Window.{release_of, deadline_of, b_bit_of, group_deadline_of}
 use Rattle.pfair_table.specs.Refinement.{Dispatch, course_of, IsStepOf, IsPlanFault, after_fault}
 use Rattle.pfair_table.specs.declared.answer.Step.TheVariants.{Planned, Waiting, Done}
 use Rattle.pfair_table.specs.declared.answer.PlanFault.TheVariants.{Torn}
@@ -12,7 +10,7 @@ use Rattle.pfair_table.specs.Table.{Settings}
 use Rattle.pfair_table.specs.Limits.{IsSettings}
 use Rattle.pfair_table.specs.Events.{start, happens}
 use Rattle.pfair_handle.specs.Kept.{Kept}
-use Rattle.pfair_c.specs.declared.window.PfairWindow.{PfairWindow}
+use Rattle.pfair_handle.specs.Planning.{IsPlannedOn, IsStopOf}
 use Rattle.pfair_c.specs.declared.plan.PfairStep.{PfairStep}
 
 -- the answer of `pfair_window`: 4 to 6 where there is no such weight, 100 where the subtask or the offset is out of range
@@ -23,9 +21,14 @@ window_answer cost period index theta =
     else (if nat_lt 1000000000 period then 6
     else (if nat_le 1 index && nat_le index 1000001 && nat_le theta 1099511627776 then 0 else 100)))
 
--- the window of a subtask, by the formulas
-abbrev pub window_of : Share → ℕ → ℕ → PfairWindow
-window_of w i theta = record { release = release_of w i theta; deadline = deadline_of w i theta; b_bit = b_bit_of w i; group_deadline = group_deadline_of w i theta }
+-- the answer of `pfair_windows`: 4 to 6 where there is no such weight, 100 where a subtask or the offset is out of range, 103 where
+-- there are fewer rows than windows
+abbrev pub windows_answer : (cost period first count theta room : ℕ) → ℕ
+windows_answer cost period first count theta room =
+    if nat_eq cost 0 then 4
+    else (if nat_lt period cost then 5
+    else (if nat_lt 1000000000 period then 6
+    else (if nat_le 1 first && nat_le (first + count) 1000002 && nat_le theta 1099511627776 then (if nat_le count room then 0 else 103) else 100)))
 
 -- settings and a capacity that a dispatcher can have
 abbrev pub IsOpenable : Settings → ℕ → Type 0
@@ -46,6 +49,17 @@ IsStepAs d (suc (suc (suc n))) slot = ⊥
 -- the dispatcher d answered with this step, and is e then
 abbrev pub IsPlannedTo : PfairStep → Dispatch → Dispatch → Type 0
 IsPlannedTo step d e = IsStepAs d step.kind step.slot × (course_of e ≡ happens d.settings (course_of d) Plan)
+
+-- where several plans ended, as C has it: by the kind of the last step and its slot
+abbrev pub IsStopAs : ℕ → Dispatch → ℕ → ℕ → Type 0
+IsStopAs until e zero slot = IsStopOf until e (Planned slot)
+IsStopAs until e (suc zero) slot = IsStopOf until e (Waiting slot)
+IsStopAs until e (suc (suc zero)) slot = (slot ≡ 0) × IsStopOf until e Done
+IsStopAs until e (suc (suc (suc n))) slot = ⊥
+
+-- the dispatcher d planned on, answered with this step, and is e then
+abbrev pub IsPlannedUpTo : ℕ → PfairStep → Dispatch → Dispatch → Type 0
+IsPlannedUpTo until step d e = IsPlannedOn until d e × IsStopAs until e step.kind step.slot
 
 -- the dispatcher d refused for this cause, and is e then
 abbrev pub IsRefusedTo : PlanFault → Dispatch → Dispatch → Type 0

@@ -1,3 +1,4 @@
 pub mod Answers
-pub mod Entries
+pub mod Files
+pub mod Held
 pub mod Rows

@@ -6,13 +6,12 @@ ghost use Rattle.pfair_replica.specs.Faults.{IsKeyOf, IsTakenAs, IsTakeFaultOf, 
 ghost use Rattle.pfair_replica.specs.declared.answer.Taken.TheVariants.{New, Known, Torn};
 ghost use Rattle.pfair_replica.specs.declared.answer.TakeFault.TheVariants.{NoSuchProcessor, NumberOutOfRange, Memory as WantOfMemory};
 ghost use Rattle.pfair_handle.specs.Kept.{is_kept};
-ghost use Rattle.pfair_c.specs.Entries.{logged_of, IsMeant, IsEntryFault};
+ghost use Rattle.pfair_handle.specs.Entries.{logged_of, IsMeant, IsEntryFault};
 ghost use Rattle.pfair_handle.specs.Behind.{Of, Between, IsAbsorbedTo, IsPartlyAbsorbedTo};
 ghost use Rattle.pfair_c.specs.Answers.{IsOpenable, IsStarted};
 
-use crate::answer::{DONE, MEMORY, NOT_OPEN, OPEN_ALREADY, OUT_OF_RANGE};
-use crate::entry::{PfairEntry, read_entry};
-use pfair_handle::{Handle, Served};
+use pfair_handle::answer::{DONE, MEMORY, NOT_OPEN, OPEN_ALREADY, OUT_OF_RANGE};
+use pfair_handle::{Handle, PfairEntry, Served, read_entry};
 use pfair_replica::{MergeFault, Taken};
 use pfair_table::{Dispatcher, Script, Settings};
 use std::alloc::Global;

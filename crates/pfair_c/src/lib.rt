@@ -5,15 +5,30 @@
 //! open, and answers by a number.
 #![tactic(auto)]
 
-mod answer;
+mod decisions;
 mod dispatcher;
-mod entry;
+mod file;
+mod held;
+mod lags;
 mod plan;
+mod plan_to;
+mod quanta;
 mod rows;
+mod take_log;
+mod version;
 mod window;
 
+pub use decisions::pfair_decisions_of;
 pub use dispatcher::{pfair_absorb, pfair_close, pfair_open, pfair_take};
-pub use entry::PfairEntry;
+pub use file::{PfairFileFault, pfair_read_file};
+pub use held::{
+    PfairSettings, pfair_below, pfair_faults, pfair_held, pfair_mark, pfair_missing, pfair_settings,
+};
+pub use lags::pfair_lags;
 pub use plan::{PfairStep, pfair_frontier, pfair_next_slot, pfair_plan_next, pfair_reopen};
+pub use plan_to::pfair_plan_to;
+pub use quanta::pfair_quanta;
 pub use rows::{pfair_decisions, pfair_places, pfair_table};
-pub use window::{PfairWindow, pfair_window};
+pub use take_log::pfair_take_log;
+pub use version::pfair_version;
+pub use window::{pfair_window, pfair_windows};

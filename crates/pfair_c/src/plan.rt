@@ -6,8 +6,8 @@ ghost use Rattle.pfair_handle.specs.Kept.{is_kept};
 ghost use Rattle.pfair_handle.specs.Behind.{Of, Between};
 ghost use Rattle.pfair_c.specs.Answers.{IsPlannedTo, IsRefusedTo, torn_at};
 
-use crate::answer::{DONE, NOT_OPEN};
 use pfair_handle::Handle;
+use pfair_handle::answer::{DONE, NOT_OPEN};
 use pfair_table::{PlanFault, Step};
 use std::alloc::Global;
 
@@ -41,6 +41,8 @@ pub extern "C" fn pfair_plan_next(alloc: Global, handle: &mut Handle, step: &mut
     ensures spent { result ≡ 31 → Between handle.old.owner.kept handle.new.owner.kept (IsRefusedTo PlanFault.Spent) }
     ensures memory { result ≡ 90 → Between handle.old.owner.kept handle.new.owner.kept (IsRefusedTo PlanFault.Memory) }
     ensures only { (result ≡ 0 → ⊥) → (result ≡ 30 → ⊥) → (result ≡ 31 → ⊥) → (result ≡ 90 → ⊥) → (result ≡ 102) × (handle.old.owner.kept ≡ None) }
+    ensures no_key { result ≡ 0 → (step.new.processor ≡ 0) × (step.new.number ≡ 0) }
+    ensures key_alone { result ≡ 30 → (step.new.kind ≡ step.old.kind) × (step.new.slot ≡ step.old.slot) }
     ensures untold { (result ≡ 0 → ⊥) → (result ≡ 30 → ⊥) → step.new ≡ step.old }
 {
     if !handle.is_open() {
@@ -51,30 +53,15 @@ pub extern "C" fn pfair_plan_next(alloc: Global, handle: &mut Handle, step: &mut
     handle.put(served);
     match answer {
         Ok(Step::Planned(slot)) => {
-            *step = PfairStep {
-                kind: 0,
-                slot,
-                processor: 0,
-                number: 0,
-            };
+            *step = step_of(0, slot);
             DONE
         }
         Ok(Step::Waiting { frontier }) => {
-            *step = PfairStep {
-                kind: 1,
-                slot: frontier,
-                processor: 0,
-                number: 0,
-            };
+            *step = step_of(1, frontier);
             DONE
         }
         Ok(Step::Done) => {
-            *step = PfairStep {
-                kind: 2,
-                slot: 0,
-                processor: 0,
-                number: 0,
-            };
+            *step = step_of(2, 0);
             DONE
         }
         Err(fault) => {
@@ -84,6 +71,18 @@ pub extern "C" fn pfair_plan_next(alloc: Global, handle: &mut Handle, step: &mut
             }
             fault.number() as u32
         }
+    }
+}
+
+/// A step with no torn entry.
+pub(crate) fn step_of(kind: u64, slot: u64) -> PfairStep
+    ensures { result ≡ record { kind = kind; slot = slot; processor = 0; number = 0 } }
+{
+    PfairStep {
+        kind,
+        slot,
+        processor: 0,
+        number: 0,
     }
 }
 

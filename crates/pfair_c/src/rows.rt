@@ -11,7 +11,7 @@ ghost use Rattle.pfair_handle.specs.Rows.{pick_row, decided_row};
 ghost use Rattle.pfair_handle.specs.Behind.{Of};
 ghost use Rattle.pfair_c.specs.Rows.{rows_answer, rows_count, rows_after, places_after};
 
-use crate::answer::{DONE, NO_ROOM, NOT_OPEN, NOT_PLANNED};
+use pfair_handle::answer::{DONE, NO_ROOM, NOT_OPEN, NOT_PLANNED};
 use pfair_handle::{Handle, PfairDecided, PfairPick, write_decisions, write_places, write_table};
 use pfair_table::{Decided, Pick};
 use std::alloc::Global;

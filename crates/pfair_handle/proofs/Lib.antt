@@ -1,4 +1,9 @@
 mod AsBox
 mod Found
+mod LagFacts
+mod Onward
+mod SlotRows
+mod TakingFacts
 mod Values
+mod WindowRows
 mod Written

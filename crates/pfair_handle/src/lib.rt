@@ -3,26 +3,45 @@
 //! The proofs by hand stand here alone: a box as its pointer, and the pointer without its type.
 #![tactic(auto)]
 
-ghost use Rattle.std.specs.Prelude.{◌≡◌, true, None, Some, IfOk, IfErr, OnOk, OnErr, Err};
+ghost use Rattle.std.specs.Prelude.{◌≡◌, true, false, None, Some, IfOk, IfErr, OnOk, OnErr, Err};
 ghost use Rattle.pfair_replica.specs.HeldRows.{held, replica_of, SameShape};
+ghost use Rattle.pfair_replica.specs.Replica.{Below};
 ghost use Rattle.pfair_replica.specs.Offered.{taken as offered_to};
 ghost use Rattle.pfair_replica.specs.Faults.{IsKeyOf, IsTakenAs, IsTakeFaultOf, IsMergeFaultOf};
 ghost use Rattle.pfair_handle.specs.Kept.{is_kept};
 ghost use Rattle.pfair_handle.specs.Behind.{Of, Between, IsAbsorbedTo, IsPartlyAbsorbedTo};
 
+pub mod answer;
+mod decisions;
+mod entry;
+mod lags;
 mod loose;
 mod owner;
+mod planning;
+mod quanta;
 mod rows;
 mod served;
+mod taking;
+mod windows;
 
+pub use decisions::{PfairDecision, count_decisions, write_several};
+pub use entry::{PfairEntry, entry_row, read_entry};
+pub use lags::{PfairLag, count_lags, write_lags};
 use loose::Loose;
 pub use owner::Owner;
 use pfair_entry::Entry;
 use pfair_replica::{MergeFault, TakeFault, Taken};
-pub use rows::{PfairDecided, PfairName, PfairPick, write_decisions, write_places, write_table};
+pub use planning::plan_to;
+pub use quanta::{PfairQuantum, count_quanta, write_quanta};
+pub use rows::{
+    PfairDecided, PfairKey, PfairName, PfairPick, name_row, write_decisions, write_faults,
+    write_places, write_table,
+};
 pub use served::Served;
 use std::alloc::Global;
 use std::mem::replace;
+pub use taking::{PfairTakenLog, take_entries};
+pub use windows::{PfairWindow, window_row, write_windows};
 
 /// A dispatcher of C's, or none. C keeps it, and hands its address to each call.
 #[repr(C)]
@@ -115,5 +134,23 @@ impl Handle {
         self.put(served);
         other.put(from);
         answer
+    }
+
+    /// Whether the other holds all that this dispatcher holds, as
+    /// [`Replica::le`](pfair_replica::Replica::le).
+    pub fn le(&mut self, alloc: Global, other: &mut Handle) -> bool
+        requires open { is_kept self.old.owner.kept ≡ true }
+        requires other_open { is_kept other.old.owner.kept ≡ true }
+        ensures below { result ≡ true → Between self.old.owner.kept other.old.owner.kept (λ d o. Below (replica_of d.held) (replica_of o.held)) }
+        ensures not_below { result ≡ false → Between self.old.owner.kept other.old.owner.kept (λ d o. Below (replica_of d.held) (replica_of o.held) → ⊥) }
+        ensures unchanged { self.new.owner.kept ≡ self.old.owner.kept }
+        ensures other { other.new.owner.kept ≡ other.old.owner.kept }
+    {
+        let served = self.take(alloc);
+        let beside = other.take(alloc);
+        let below = served.dispatcher.replica().le(beside.dispatcher.replica());
+        self.put(served);
+        other.put(beside);
+        below
     }
 }

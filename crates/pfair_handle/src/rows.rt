@@ -1,8 +1,9 @@
 //! Rows, as C has them: names, the quanta of a table, places and decisions.
-ghost use Rattle.std.specs.Prelude.{◌≡◌, ◌≤◌, length, map};
-ghost use Rattle.pfair_handle.specs.Rows.{name_row, pick_row, decided_row, written_over};
+ghost use Rattle.std.specs.Prelude.{◌≡◌, ◌≤◌, ◌++◌, length, map};
+ghost use Rattle.pfair_handle.specs.Rows.{name_row, pick_row, decided_row, key_row, written_over};
 
 use pfair_admission::Decision;
+use pfair_replica::{EntryKey, Faults};
 use pfair_table::{Decided, Pick};
 use pfair_weight::TaskName;
 
@@ -42,8 +43,8 @@ pub struct PfairDecided {
     pub freed_at: u64,
 }
 
-// The name as C has it.
-fn name_row(name: &TaskName) -> PfairName
+/// A name as C has it.
+pub fn name_row(name: &TaskName) -> PfairName
     ensures { result ≡ name_row name.now }
 {
     let mut bytes = [0; 16];
@@ -53,6 +54,16 @@ fn name_row(name: &TaskName) -> PfairName
         bytes,
         length: own.len() as u64,
     }
+}
+
+/// Under which processor and number an entry is held.
+#[repr(C)]
+#[derive(Clone, Copy)]
+pub struct PfairKey {
+    /// The processor, counted from 0.
+    pub processor: u64,
+    /// The number in its log, counted from 1.
+    pub number: u64,
 }
 
 // The quantum as C has it.
@@ -65,8 +76,8 @@ fn pick_row(pick: &Pick) -> PfairPick
     }
 }
 
-// The decision as C has it.
-fn decided_row(one: &Decided) -> PfairDecided
+/// The decision as C has it.
+pub(crate) fn decided_row(one: &Decided) -> PfairDecided
     ensures { result ≡ decided_row one.now }
 {
     let (outcome, freed_at) = match one.decision {
@@ -109,5 +120,34 @@ pub fn write_decisions(decisions: &[Decided], rows: &mut [PfairDecided])
 {
     for (place, one) in decisions.iter().enumerate() {
         rows[place] = decided_row(one);
+    }
+}
+
+// The key as C has it.
+fn key_row(key: &EntryKey) -> PfairKey
+    ensures { result ≡ key_row key.now }
+{
+    PfairKey {
+        processor: key.0 as u64,
+        number: key.1 as u64,
+    }
+}
+
+/// Writes the torn keys over the first rows, and the fallen ones behind them.
+pub fn write_faults(faults: &Faults, rows: &mut [PfairKey])
+    requires { length (faults.now.torn.items ++ faults.now.fallen.items) ≤ length rows.old }
+    ensures { rows.new ≡ written_over (map key_row (faults.now.torn.items ++ faults.now.fallen.items)) rows.old }
+{
+    write_keys(&faults.torn, rows);
+    write_keys(&faults.fallen, &mut rows[faults.torn.len()..]);
+}
+
+// Writes keys over the first rows.
+fn write_keys(keys: &[EntryKey], rows: &mut [PfairKey])
+    requires { length keys.now ≤ length rows.old }
+    ensures { rows.new ≡ written_over (map key_row keys.now) rows.old }
+{
+    for (place, key) in keys.iter().enumerate() {
+        rows[place] = key_row(key);
     }
 }

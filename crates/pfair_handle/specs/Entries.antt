@@ -10,7 +10,7 @@ use Rattle.pfair_entry.specs.EntryFault as entry
 use Rattle.pfair_entry.specs.declared.entry.EntryFault.TheVariants.{StampTooFar, StampBeforeFloor, BadIndex, BadDelay}
 use Rattle.pfair_entry.specs.declared.announcement.Announcement.TheVariants.{Arrive, Depart, Late}
 use Rattle.pfair_handle.specs.declared.rows.PfairName.{PfairName}
-use Rattle.pfair_c.specs.declared.entry.PfairEntry.{PfairEntry}
+use Rattle.pfair_handle.specs.declared.entry.PfairEntry.{PfairEntry}
 
 -- the bytes of a name
 abbrev pub spelled : PfairName → List ℕ

@@ -3,11 +3,12 @@ ghost use Rattle.std.specs.Prelude.{◌≡◌, ◌≤◌, ◌<◌, IfOk, IfErr, 
 ghost use Rattle.pfair_weight.specs.Share.{IsWeight};
 ghost use Rattle.pfair_entry.specs.Entry.{IsEntry};
 ghost use Rattle.pfair_entry.specs.declared.announcement.Announcement.TheVariants.{Arrive as Arrival};
-ghost use Rattle.pfair_c.specs.Entries.{spelled, logged_of, IsInRange, IsMeant, IsNamed, IsNameFault, IsWeightFault, IsLoggedFault, IsArrivalFault, IsEntryFault};
+ghost use Rattle.pfair_handle.specs.EntryRows.{entry_row, silent_row, announced_row};
+ghost use Rattle.pfair_handle.specs.Entries.{spelled, logged_of, IsInRange, IsMeant, IsNamed, IsNameFault, IsWeightFault, IsLoggedFault, IsArrivalFault, IsEntryFault};
 
 use crate::answer::OUT_OF_RANGE;
+use crate::rows::{PfairName, name_row};
 use pfair_entry::{Announcement, Entry};
-use pfair_handle::PfairName;
 use pfair_weight::{TaskName, Weight};
 
 /// An entry of a log.
@@ -36,7 +37,7 @@ pub struct PfairEntry {
 
 /// The entry, or the number of what is wrong with it: a number out of its range, then the name's
 /// fault, the weight's, the entry's.
-pub(crate) fn read_entry(entry: &PfairEntry) -> Result<Entry, u32>
+pub fn read_entry(entry: &PfairEntry) -> Result<Entry, u32>
     ensures ok { IfOk result (λ read. read ≡ logged_of entry.now) }
     ensures meant { OnOk result (IsMeant entry.now) }
     ensures err { IfErr result (IsEntryFault entry.now) }
@@ -112,4 +113,70 @@ fn make_entry(floor: u64, said: Option<(u64, Announcement)>) -> Result<Entry, u3
     ensures numbered { IfErr result (λ number. (6 < number) × (number < 11)) }
 {
     Entry::new(floor, said).map_err(|fault| fault.number() as u32)
+}
+
+/// The entry as C has it, with zeros in the fields that its kind doesn't need.
+pub fn entry_row(entry: &Entry) -> PfairEntry
+    ensures { result ≡ entry_row entry.now }
+{
+    match entry.said() {
+        None => silent_row(entry.floor()),
+        Some((at, announcement)) => announced_row(entry.floor(), at, announcement),
+    }
+}
+
+// An entry that announces nothing.
+fn silent_row(floor: u64) -> PfairEntry
+    ensures { result ≡ silent_row floor }
+{
+    PfairEntry {
+        floor,
+        kind: 0,
+        at: 0,
+        name: PfairName {
+            bytes: [0; 16],
+            length: 0,
+        },
+        cost: 0,
+        period: 0,
+        early: 0,
+        index: 0,
+        by: 0,
+    }
+}
+
+// An entry that announces this, stamped `at`.
+fn announced_row(floor: u64, at: u64, announcement: Announcement) -> PfairEntry
+    ensures { result ≡ announced_row floor at announcement }
+{
+    let silent = silent_row(floor);
+    match announcement {
+        Announcement::Arrive {
+            name,
+            weight,
+            early,
+        } => PfairEntry {
+            kind: 1,
+            at,
+            name: name_row(&name),
+            cost: weight.cost(),
+            period: weight.period(),
+            early: if early { 1 } else { 0 },
+            ..silent
+        },
+        Announcement::Depart { name } => PfairEntry {
+            kind: 2,
+            at,
+            name: name_row(&name),
+            ..silent
+        },
+        Announcement::Late { name, index, by } => PfairEntry {
+            kind: 3,
+            at,
+            name: name_row(&name),
+            index,
+            by,
+            ..silent
+        },
+    }
 }

@@ -2,22 +2,28 @@
 //! which begin at 100.
 
 /// The call did what it says.
-pub(crate) const DONE: u32 = 0;
+pub const DONE: u32 = 0;
+
+/// There is no such processor.
+pub const NO_SUCH_PROCESSOR: u32 = 13;
+
+/// No log has an entry of such a number.
+pub const NO_SUCH_NUMBER: u32 = 14;
 
 /// Memory was wanted and refused.
-pub(crate) const MEMORY: u32 = 90;
+pub const MEMORY: u32 = 90;
 
 /// A number is out of its range.
-pub(crate) const OUT_OF_RANGE: u32 = 100;
+pub const OUT_OF_RANGE: u32 = 100;
 
 /// The handle has a dispatcher already.
-pub(crate) const OPEN_ALREADY: u32 = 101;
+pub const OPEN_ALREADY: u32 = 101;
 
 /// The handle has no dispatcher.
-pub(crate) const NOT_OPEN: u32 = 102;
+pub const NOT_OPEN: u32 = 102;
 
 /// There are fewer rows than are wanted.
-pub(crate) const NO_ROOM: u32 = 103;
+pub const NO_ROOM: u32 = 103;
 
 /// The slot isn't planned.
-pub(crate) const NOT_PLANNED: u32 = 104;
+pub const NOT_PLANNED: u32 = 104;

@@ -1,0 +1,59 @@
+-- Task files, read into dispatchers.
+use Rattle.std.specs.Prelude.{ℕ, ◌≡◌, List, [], false, Ok, Err}
+use Rattle.pfair_replica.specs.HeldRows.{replica_of}
+use Rattle.pfair_table.specs.Script.{LoggedRun, replica_of_logs}
+use Rattle.pfair_table.specs.Refinement.{Dispatch}
+use Rattle.pfair_file.specs.Documents.{script_of_file}
+use Rattle.pfair_file.specs.Faults.{cause_number, file_fault_number}
+use Rattle.pfair_file.specs.declared.field.Field.{Field}
+use Rattle.pfair_file.specs.declared.field.Field.TheVariants as field
+use Rattle.pfair_file.specs.declared.fault.FileFault.{FileFault}
+use Rattle.pfair_file.specs.declared.fault.FileFault.TheVariants as fault
+use Rattle.pfair_c.specs.declared.file.PfairFileFault.{PfairFileFault}
+
+-- a new dispatcher that has taken all entries of a script's logs, and no more
+abbrev pub IsStartedWith : LoggedRun → Dispatch → Type 0
+IsStartedWith script d = (d.settings ≡ script.settings) × (replica_of d.held ≡ replica_of_logs script.logs) × (d.tables ≡ []) × (d.spent ≡ false)
+
+-- what a file says, in such a dispatcher
+abbrev pub IsReadFrom : List ℕ → Dispatch → Type 0
+IsReadFrom bytes d = (script : LoggedRun) × (script_of_file bytes ≡ Ok script) × IsStartedWith script d
+
+-- under which number a key is told: in the order of the fields
+abbrev pub field_number : Field → ℕ
+field_number field.Version = 1
+field_number field.Processors = 2
+field_number field.Frame = 3
+field_number field.Slots = 4
+field_number field.Entries = 5
+field_number field.Processor = 6
+field_number field.Floor = 7
+field_number field.Kind = 8
+field_number field.At = 9
+field_number field.Name = 10
+field_number field.Cost = 11
+field_number field.Period = 12
+field_number field.Early = 13
+field_number field.Index = 14
+field_number field.By = 15
+
+-- nowhere, at a key, and at an entry
+abbrev pub nowhere : PfairFileFault
+nowhere = record { place = 0; field = 0; processor = 0; number = 0; cause = 0 }
+
+abbrev pub at_key : ℕ → Field → PfairFileFault
+at_key place f = record { place = place; field = field_number f; processor = 0; number = 0; cause = 0 }
+
+-- where a file is at fault, as C has it
+abbrev pub fault_row : FileFault → PfairFileFault
+fault_row fault.NotToml = nowhere
+fault_row (fault.Missing place f) = at_key place f
+fault_row (fault.WrongKind place f) = at_key place f
+fault_row (fault.Range place f) = at_key place f
+fault_row (fault.Entry processor number cause) = record { place = 0; field = 0; processor = processor; number = number; cause = cause_number cause }
+fault_row fault.Version = nowhere
+fault_row fault.Memory = nowhere
+
+-- the file's first fault, by its number, and where it is
+abbrev pub IsFileFault : List ℕ → ℕ → PfairFileFault → Type 0
+IsFileFault bytes answer row = (f : FileFault) × (script_of_file bytes ≡ Err f) × (answer ≡ file_fault_number f) × (row ≡ fault_row f)

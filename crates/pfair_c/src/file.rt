@@ -1,0 +1,148 @@
+//! Task files, read into dispatchers.
+ghost use Rattle.std.specs.Prelude.{◌≡◌, ◌⊎◌, None, true};
+ghost use Rattle.pfair_handle.specs.Kept.{is_kept};
+ghost use Rattle.pfair_handle.specs.Behind.{Of};
+ghost use Rattle.pfair_c.specs.Files.{IsReadFrom, IsStartedWith, IsFileFault, at_key, fault_row, field_number};
+
+use pfair_file::{Field, FileFault, read_file};
+use pfair_handle::answer::{DONE, MEMORY, OPEN_ALREADY};
+use pfair_handle::{Handle, Served};
+use pfair_table::{Script, take_script};
+use std::alloc::Global;
+
+/// Where a task file is at fault.
+#[repr(C)]
+#[derive(Clone, Copy)]
+pub struct PfairFileFault {
+    /// After 61 to 63 the number of the entry's table in the file, counted from 1, or 0 for the
+    /// file's own keys; else 0.
+    pub place: u64,
+    /// After 61 to 63 which key: 1 to 15, in the order in which [`Field`] has them; else 0.
+    pub field: u64,
+    /// After 64 the processor, counted from 0; else 0.
+    pub processor: u64,
+    /// After 64 the number that the entry would have in its log, counted from 1; else 0.
+    pub number: u64,
+    /// After 64 why there is no such entry: 12 where the log is full, or what is wrong with it, 1
+    /// to 10; else 0.
+    pub cause: u64,
+}
+
+// Where there is no place.
+const NOWHERE: PfairFileFault = PfairFileFault {
+    place: 0,
+    field: 0,
+    processor: 0,
+    number: 0,
+    cause: 0,
+};
+
+/// Makes a dispatcher behind a handle that has none, with the settings of a task file, which has
+/// taken all entries of the file's logs and planned nothing. Its logs have room for as many entries
+/// as the longest of the file. It costs what [`read_file`] and [`take_script`] cost.
+///
+/// It answers 0; 101 where the handle has a dispatcher; 60 to 65 for the file's first fault, and
+/// then it writes where that is; or 90. The handle is as before but after 0.
+#[unsafe(no_mangle)]
+pub extern "C" fn pfair_read_file(
+    alloc: Global,
+    handle: &mut Handle,
+    fault: &mut PfairFileFault,
+    bytes: &[u8],
+) -> u32
+    ensures already { is_kept handle.old.owner.kept ≡ true → result ≡ 101 }
+    ensures read { result ≡ 0 → Of handle.new.owner.kept (IsReadFrom bytes.now) }
+    ensures fault { (result ≡ 0 → ⊥) → (result ≡ 90 → ⊥) → (result ≡ 101 → ⊥) → IsFileFault bytes.now result fault.new }
+    ensures only { result ≡ 101 → is_kept handle.old.owner.kept ≡ true }
+    ensures unchanged { (result ≡ 0 → ⊥) → handle.new.owner.kept ≡ handle.old.owner.kept }
+    ensures untold { (result ≡ 0) ⊎ ((result ≡ 90) ⊎ (result ≡ 101)) → fault.new ≡ fault.old }
+{
+    if handle.is_open() {
+        return OPEN_ALREADY;
+    }
+    match read_file(alloc, bytes) {
+        Ok(script) => keep(alloc, handle, &script),
+        Err(FileFault::Memory) => MEMORY,
+        Err(refused) => {
+            *fault = fault_row(refused);
+            refused.number() as u32
+        }
+    }
+}
+
+// Puts a dispatcher that has taken a script's logs behind a handle that has none.
+fn keep(alloc: Global, handle: &mut Handle, script: &Script) -> u32
+    requires { handle.old.owner.kept ≡ None }
+    ensures done { result ≡ 0 → Of handle.new.owner.kept (IsStartedWith script.now) }
+    ensures only { (result ≡ 0 → ⊥) → (result ≡ 90) × (handle.new.owner.kept ≡ None) }
+{
+    let dispatcher = match take_script(alloc, script) {
+        Ok(dispatcher) => dispatcher,
+        Err(_) => return MEMORY,
+    };
+    match Box::new(alloc, Served { dispatcher }) {
+        Ok(served) => {
+            handle.put(served);
+            DONE
+        }
+        Err(_) => MEMORY,
+    }
+}
+
+// Where the fault is, as C has it.
+fn fault_row(fault: FileFault) -> PfairFileFault
+    ensures { result ≡ fault_row fault }
+{
+    match fault {
+        FileFault::Missing { place, field } => at_key(place, field),
+        FileFault::WrongKind { place, field } => at_key(place, field),
+        FileFault::Range { place, field } => at_key(place, field),
+        FileFault::Entry {
+            processor,
+            number,
+            cause,
+        } => PfairFileFault {
+            processor: processor as u64,
+            number: number as u64,
+            cause: cause.number() as u64,
+            ..NOWHERE
+        },
+        FileFault::NotToml => NOWHERE,
+        FileFault::Version => NOWHERE,
+        FileFault::Memory => NOWHERE,
+    }
+}
+
+// At a key.
+fn at_key(place: u64, field: Field) -> PfairFileFault
+    ensures { result ≡ at_key place field }
+{
+    PfairFileFault {
+        place,
+        field: field_number(field),
+        ..NOWHERE
+    }
+}
+
+// Under which number a key is told.
+fn field_number(field: Field) -> u64
+    ensures { result ≡ field_number field }
+{
+    match field {
+        Field::Version => 1,
+        Field::Processors => 2,
+        Field::Frame => 3,
+        Field::Slots => 4,
+        Field::Entries => 5,
+        Field::Processor => 6,
+        Field::Floor => 7,
+        Field::Kind => 8,
+        Field::At => 9,
+        Field::Name => 10,
+        Field::Cost => 11,
+        Field::Period => 12,
+        Field::Early => 13,
+        Field::Index => 14,
+        Field::By => 15,
+    }
+}

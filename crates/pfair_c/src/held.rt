@@ -1,0 +1,262 @@
+//! What a dispatcher holds, and what it plans for.
+ghost use Rattle.std.specs.Prelude.{◌≡◌, ◌≢◌, ◌≤◌, ◌⊎◌, [], ◌++◌, Some, None, true, length};
+ghost use Rattle.pfair_replica.specs.HeldRows.{held, replica_of};
+ghost use Rattle.pfair_replica.specs.Replica.{Below, mark, missing, sound_beginning, torn_keys, fallen_keys};
+ghost use Rattle.pfair_handle.specs.Kept.{is_kept};
+ghost use Rattle.pfair_handle.specs.Rows.{key_row};
+ghost use Rattle.pfair_handle.specs.Behind.{Of, Between};
+ghost use Rattle.pfair_c.specs.Held.{log_answer, key_answer, held_kind, entry_after, number_or_0, faulty_keys, settings_row};
+ghost use Rattle.pfair_c.specs.Rows.{rows_answer, rows_after};
+
+use pfair_handle::answer::{DONE, MEMORY, NO_ROOM, NO_SUCH_NUMBER, NO_SUCH_PROCESSOR, NOT_OPEN};
+use pfair_handle::{Handle, PfairEntry, PfairKey, entry_row, write_faults};
+use pfair_lattice::Flat;
+use pfair_replica::{Faults, Replica};
+use std::alloc::Global;
+
+/// What a dispatcher plans for, and how large its logs can be.
+#[repr(C)]
+#[derive(Clone, Copy)]
+pub struct PfairSettings {
+    /// The processors.
+    pub processors: u64,
+    /// The frame, in slots.
+    pub frame: u64,
+    /// The slots of the run.
+    pub slots: u64,
+    /// How many entries a log can have.
+    pub capacity: u64,
+}
+
+/// What was said where the dispatcher was opened.
+///
+/// It answers 0, or 102 where the handle has no dispatcher, and then nothing is written.
+#[unsafe(no_mangle)]
+pub extern "C" fn pfair_settings(
+    alloc: Global,
+    handle: &mut Handle,
+    settings: &mut PfairSettings,
+) -> u32
+    ensures closed { handle.old.owner.kept ≡ None → (result ≡ 102) × (settings.new ≡ settings.old) }
+    ensures open { is_kept handle.old.owner.kept ≡ true → (result ≡ 0) × Of handle.old.owner.kept (λ d. settings.new ≡ settings_row d) }
+    ensures unchanged { handle.new.owner.kept ≡ handle.old.owner.kept }
+{
+    if !handle.is_open() {
+        return NOT_OPEN;
+    }
+    let served = handle.take(alloc);
+    let planned_for = served.dispatcher.settings();
+    *settings = PfairSettings {
+        processors: planned_for.processors() as u64,
+        frame: planned_for.frame(),
+        slots: planned_for.slots(),
+        capacity: served.dispatcher.replica().capacity() as u64,
+    };
+    handle.put(served);
+    DONE
+}
+
+/// What is held at number `number` (from 1) of the log of `processor` (from 0): 0 nothing, 1 one
+/// entry, which is then written, 2 two different ones, so that the number is torn. It costs a
+/// look-up.
+///
+/// It answers 0; 102 where the handle has no dispatcher; 13 or 14 where there is no such processor
+/// or number: then nothing is written.
+#[unsafe(no_mangle)]
+pub extern "C" fn pfair_held(
+    alloc: Global,
+    handle: &mut Handle,
+    processor: u8,
+    number: u32,
+    kind: &mut u64,
+    entry: &mut PfairEntry,
+) -> u32
+    ensures closed { handle.old.owner.kept ≡ None → result ≡ 102 }
+    ensures answer { is_kept handle.old.owner.kept ≡ true → Of handle.old.owner.kept (λ d. result ≡ key_answer d.held processor number) }
+    ensures kind { result ≡ 0 → Of handle.old.owner.kept (λ d. kind.new ≡ held_kind (held d.held processor number)) }
+    ensures entry { result ≡ 0 → Of handle.old.owner.kept (λ d. entry.new ≡ entry_after (held d.held processor number) entry.old) }
+    ensures untold { (result ≡ 0 → ⊥) → (kind.new ≡ kind.old) × (entry.new ≡ entry.old) }
+    ensures unchanged { handle.new.owner.kept ≡ handle.old.owner.kept }
+{
+    if !handle.is_open() {
+        return NOT_OPEN;
+    }
+    let served = handle.take(alloc);
+    let answer = find_held(served.dispatcher.replica(), processor, number, kind, entry);
+    handle.put(served);
+    answer
+}
+
+/// How far a processor has committed itself: the floor of the last entry of its sound beginning,
+/// and how many entries that has. Both are kept, not counted.
+///
+/// It answers 0; 102 where the handle has no dispatcher; 13 where there is no such processor: then
+/// nothing is written.
+#[unsafe(no_mangle)]
+pub extern "C" fn pfair_mark(
+    alloc: Global,
+    handle: &mut Handle,
+    processor: u8,
+    slot: &mut u64,
+    count: &mut u64,
+) -> u32
+    ensures closed { handle.old.owner.kept ≡ None → result ≡ 102 }
+    ensures answer { is_kept handle.old.owner.kept ≡ true → Of handle.old.owner.kept (λ d. result ≡ log_answer d.held processor) }
+    ensures slot { result ≡ 0 → Of handle.old.owner.kept (λ d. slot.new ≡ mark (replica_of d.held) processor) }
+    ensures count { result ≡ 0 → Of handle.old.owner.kept (λ d. count.new ≡ length (sound_beginning (replica_of d.held) processor)) }
+    ensures untold { (result ≡ 0 → ⊥) → (slot.new ≡ slot.old) × (count.new ≡ count.old) }
+    ensures unchanged { handle.new.owner.kept ≡ handle.old.owner.kept }
+{
+    if !handle.is_open() {
+        return NOT_OPEN;
+    }
+    let served = handle.take(alloc);
+    let replica = served.dispatcher.replica();
+    let has_log = processor < replica.processors();
+    if has_log {
+        *slot = replica.mark(processor);
+        *count = replica.sound_count(processor) as u64;
+    }
+    handle.put(served);
+    if has_log { DONE } else { NO_SUCH_PROCESSOR }
+}
+
+/// The least number of a processor's log that isn't held, or 0 where all are. It costs a look-up
+/// for each number up to that one.
+///
+/// It answers 0; 102 where the handle has no dispatcher; 13 where there is no such processor: then
+/// nothing is written.
+#[unsafe(no_mangle)]
+pub extern "C" fn pfair_missing(
+    alloc: Global,
+    handle: &mut Handle,
+    processor: u8,
+    number: &mut u64,
+) -> u32
+    ensures closed { handle.old.owner.kept ≡ None → result ≡ 102 }
+    ensures answer { is_kept handle.old.owner.kept ≡ true → Of handle.old.owner.kept (λ d. result ≡ log_answer d.held processor) }
+    ensures number { result ≡ 0 → Of handle.old.owner.kept (λ d. number.new ≡ number_or_0 (missing (replica_of d.held) processor)) }
+    ensures untold { (result ≡ 0 → ⊥) → number.new ≡ number.old }
+    ensures unchanged { handle.new.owner.kept ≡ handle.old.owner.kept }
+{
+    if !handle.is_open() {
+        return NOT_OPEN;
+    }
+    let served = handle.take(alloc);
+    let replica = served.dispatcher.replica();
+    let has_log = processor < replica.processors();
+    if has_log {
+        *number = match replica.missing(processor) {
+            Some(number) => number as u64,
+            None => 0,
+        };
+    }
+    handle.put(served);
+    if has_log { DONE } else { NO_SUCH_PROCESSOR }
+}
+
+/// What is wrong with the logs that are held: the keys that are torn, and after these the entries
+/// that end a sound beginning because their floor is lower. It costs a look-up for each number
+/// of each log.
+///
+/// It answers 0 with the two counts and the keys; 102 where the handle has no dispatcher; 103 with
+/// the counts where there are fewer rows than keys; or 90. Nothing else is written.
+#[unsafe(no_mangle)]
+pub extern "C" fn pfair_faults(
+    alloc: Global,
+    handle: &mut Handle,
+    torn: &mut u64,
+    fallen: &mut u64,
+    rows: &mut [PfairKey],
+) -> u32
+    ensures closed { handle.old.owner.kept ≡ None → (result ≡ 102) × (torn.new ≡ torn.old) × (fallen.new ≡ fallen.old) × (rows.new ≡ rows.old) }
+    ensures memory { result ≡ 90 → (torn.new ≡ torn.old) × (fallen.new ≡ fallen.old) × (rows.new ≡ rows.old) × Of handle.old.owner.kept (λ d. (torn_keys (replica_of d.held) ≢ []) ⊎ (fallen_keys (replica_of d.held) ≢ [])) }
+    ensures answer { is_kept handle.old.owner.kept ≡ true → (result ≡ 90 → ⊥) → Of handle.old.owner.kept (λ d. result ≡ rows_answer (Some (faulty_keys d)) (length rows.old)) }
+    ensures torn { is_kept handle.old.owner.kept ≡ true → (result ≡ 90 → ⊥) → Of handle.old.owner.kept (λ d. torn.new ≡ length (torn_keys (replica_of d.held))) }
+    ensures fallen { is_kept handle.old.owner.kept ≡ true → (result ≡ 90 → ⊥) → Of handle.old.owner.kept (λ d. fallen.new ≡ length (fallen_keys (replica_of d.held))) }
+    ensures rows { is_kept handle.old.owner.kept ≡ true → (result ≡ 90 → ⊥) → Of handle.old.owner.kept (λ d. rows.new ≡ rows_after key_row (Some (faulty_keys d)) rows.old) }
+    ensures unchanged { handle.new.owner.kept ≡ handle.old.owner.kept }
+{
+    if !handle.is_open() {
+        return NOT_OPEN;
+    }
+    let served = handle.take(alloc);
+    let found = served.dispatcher.replica().faults();
+    handle.put(served);
+    match found {
+        Ok(faults) => copy_faults(faults, torn, fallen, rows),
+        Err(_) => MEMORY,
+    }
+}
+
+/// Whether the other holds all that this dispatcher holds: each key, with the same entry or torn.
+/// It costs a look-up there for each entry that is held here.
+///
+/// It answers 0 with 1 or 0, or 102 where a handle has no dispatcher, and then nothing is written.
+#[unsafe(no_mangle)]
+pub extern "C" fn pfair_below(
+    alloc: Global,
+    handle: &mut Handle,
+    other: &mut Handle,
+    is_below: &mut u64,
+) -> u32
+    ensures closed { handle.old.owner.kept ≡ None → result ≡ 102 }
+    ensures other_closed { other.old.owner.kept ≡ None → result ≡ 102 }
+    ensures open { is_kept handle.old.owner.kept ≡ true → is_kept other.old.owner.kept ≡ true → (result ≡ 0) × (is_below.new ≤ 1) }
+    ensures below { result ≡ 0 → is_below.new ≡ 1 → Between handle.old.owner.kept other.old.owner.kept (λ d o. Below (replica_of d.held) (replica_of o.held)) }
+    ensures not_below { result ≡ 0 → is_below.new ≡ 0 → Between handle.old.owner.kept other.old.owner.kept (λ d o. Below (replica_of d.held) (replica_of o.held) → ⊥) }
+    ensures untold { (result ≡ 0 → ⊥) → (result ≡ 102) × (is_below.new ≡ is_below.old) }
+    ensures unchanged { (handle.new.owner.kept ≡ handle.old.owner.kept) × (other.new.owner.kept ≡ other.old.owner.kept) }
+{
+    if !handle.is_open() || !other.is_open() {
+        return NOT_OPEN;
+    }
+    *is_below = if handle.le(alloc, other) { 1 } else { 0 };
+    DONE
+}
+
+// What a replica holds at a key, and the entry where it is one.
+fn find_held(
+    replica: &Replica,
+    processor: u8,
+    number: u32,
+    kind: &mut u64,
+    entry: &mut PfairEntry,
+) -> u32
+    ensures answer { result ≡ key_answer replica.now processor number }
+    ensures kind { result ≡ 0 → kind.new ≡ held_kind (held replica.now processor number) }
+    ensures entry { result ≡ 0 → entry.new ≡ entry_after (held replica.now processor number) entry.old }
+    ensures untold { (result ≡ 0 → ⊥) → (kind.new ≡ kind.old) × (entry.new ≡ entry.old) }
+{
+    if processor >= replica.processors() {
+        return NO_SUCH_PROCESSOR;
+    }
+    if number == 0 || number > replica.capacity() {
+        return NO_SUCH_NUMBER;
+    }
+    *kind = match replica.get(processor, number) {
+        None => 0,
+        Some(Flat::One(held)) => {
+            *entry = entry_row(&held);
+            1
+        }
+        Some(Flat::Torn) => 2,
+    };
+    DONE
+}
+
+// The counts and, where there is room, the keys.
+fn copy_faults(faults: Faults, torn: &mut u64, fallen: &mut u64, rows: &mut [PfairKey]) -> u32
+    ensures answer { result ≡ rows_answer (Some (faults.torn.items ++ faults.fallen.items)) (length rows.old) }
+    ensures torn { torn.new ≡ length faults.torn.items }
+    ensures fallen { fallen.new ≡ length faults.fallen.items }
+    ensures rows { rows.new ≡ rows_after key_row (Some (faults.torn.items ++ faults.fallen.items)) rows.old }
+{
+    *torn = faults.torn.len() as u64;
+    *fallen = faults.fallen.len() as u64;
+    if faults.torn.len() + faults.fallen.len() > rows.len() {
+        return NO_ROOM;
+    }
+    write_faults(&faults, rows);
+    DONE
+}

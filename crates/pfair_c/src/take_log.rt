@@ -1,0 +1,43 @@
+//! Several entries of one log at once.
+ghost use Rattle.std.specs.Prelude.{◌≡◌, ◌+◌, None, true, length};
+ghost use Rattle.pfair_handle.specs.Kept.{is_kept};
+ghost use Rattle.pfair_handle.specs.Behind.{Of, Between};
+ghost use Rattle.pfair_handle.specs.TakenLog.{IsTakenTo, IsRefusedAt};
+
+use pfair_handle::answer::{DONE, NOT_OPEN};
+use pfair_handle::{Handle, PfairEntry, PfairTakenLog, take_entries};
+use std::alloc::Global;
+
+/// Takes entries of the log of `processor` (from 0), one after another, the first of them under the
+/// number `first` and each next one under the next, each as [`pfair_take`](crate::pfair_take); at
+/// the first that is refused it stops. It costs what these calls cost.
+///
+/// It answers 0; 102 where the handle has no dispatcher; or that with which [`pfair_take`] refuses
+/// the entry after those that were taken. But after 102 it writes how many were taken, which stand,
+/// and how many of them met nothing, an equal entry, and anything else.
+#[unsafe(no_mangle)]
+pub extern "C" fn pfair_take_log(
+    alloc: Global,
+    handle: &mut Handle,
+    processor: u8,
+    first: u32,
+    counted: &mut PfairTakenLog,
+    entries: &[PfairEntry],
+) -> u32
+    ensures closed { handle.old.owner.kept ≡ None → (result ≡ 102) × (counted.new ≡ counted.old) × (handle.new.owner.kept ≡ None) }
+    ensures open { is_kept handle.old.owner.kept ≡ true → result ≡ 102 → ⊥ }
+    ensures taken { is_kept handle.old.owner.kept ≡ true → Between handle.old.owner.kept handle.new.owner.kept (IsTakenTo processor first entries.now counted.new) }
+    ensures all { result ≡ 0 → counted.new.taken ≡ length entries.now }
+    ensures refused { (result ≡ 0 → ⊥) → (result ≡ 102 → ⊥) → Of handle.new.owner.kept (λ d. IsRefusedAt d.held processor (first + counted.new.taken) entries.now counted.new.taken result) }
+{
+    if !handle.is_open() {
+        return NOT_OPEN;
+    }
+    let mut served = handle.take(alloc);
+    let answer = take_entries(&mut served.dispatcher, processor, first, entries, counted);
+    handle.put(served);
+    match answer {
+        Ok(()) => DONE,
+        Err(number) => number,
+    }
+}

@@ -1,0 +1,119 @@
+-- A book of lags that is told slot by slot, and its rows.
+use Rattle.std.proofs.Common.{◌≡◌, ◌∙◌, ◌+◌, ◌-◌, ℕ, zero, suc, ◌<◌, ◌≤◌, ◌++◌, ◌∷◌, [], List, Some, length, map, min, take, drop, set, slice_get, ap, sym, refl, arith}
+use Rattle.std.proofs.lemmas.List.{length-map}
+use Rattle.std.proofs.lemmas.Option.{get_or_from_slice_get}
+use Rattle.pfair_weight.specs.Name.{NameValue}
+use Rattle.pfair_lag.specs.Book.{Tally, Book, empty_book}
+use Rattle.pfair_table.specs.declared.pick.Decided.{Decided}
+use Rattle.pfair_table.specs.Table.{Table}
+use Rattle.pfair_output.specs.Told.{slot_told, all_slots_told}
+use Rattle.pfair_output.proofs.SlotFacts.{first_left}
+use Rattle.pfair_output.proofs.ToldFacts.{time-all_told}
+use Rattle.pfair_handle.specs.Rows.{rows_of, written_over}
+use Rattle.pfair_handle.specs.declared.lags.PfairLag.{PfairLag}
+use Rattle.pfair_handle.specs.Lags.{book_after, book_rows, lag_row, lags_at}
+use Rattle.pfair_handle.proofs.SlotRows.{room-for, slot-written}
+use Rattle.pfair_handle.proofs.Written.{one-more}
+
+-- ---- what the book is told
+
+no_decisions : (b : Book) (n : ℕ) (ts : List Table) → all_slots_told b (take n []) ts ≡ b
+no_decisions b zero ts = refl
+no_decisions b (suc n) ts = refl
+
+no_tables : (b : Book) (n : ℕ) (ds : List (List Decided)) → all_slots_told b ds (take n []) ≡ b
+no_tables b n [] = refl
+no_tables b zero (d ∷ ds) = refl
+no_tables b (suc n) (d ∷ ds) = refl
+
+-- the slots before m, and then n more
+told_on : (ds : List (List Decided)) (ts : List Table) (b : Book) (m n k : ℕ) → k ≡ m + n
+    → all_slots_told (all_slots_told b (take m ds) (take m ts)) (take n (drop m ds)) (take n (drop m ts)) ≡ all_slots_told b (take k ds) (take k ts)
+told_on ds ts b zero n k is =
+    let same : n ≡ k = omega arith in
+    ap (λ i. all_slots_told b (take i ds) (take i ts)) same
+told_on ds ts b (suc m) n zero is = absurd (omega arith)
+told_on [] ts b (suc m) n (suc k) is = no_decisions b n (take n (drop (suc m) ts))
+told_on (d ∷ ds) [] b (suc m) n (suc k) is = no_tables b n (take n (drop m ds))
+told_on (d ∷ ds) (t ∷ ts) b (suc m) n (suc k) is = told_on ds ts (slot_told d t b) m n k (omega arith)
+
+time_after : (ds : List (List Decided)) (ts : List Table) (b : Book) (n : ℕ) → n ≤ length ds → n ≤ length ts
+    → (all_slots_told b (take n ds) (take n ts)).time ≡ b.time + n
+time_after ds ts b zero enough enough' = omega arith
+time_after [] ts b (suc n) enough enough' = absurd (omega arith)
+time_after (d ∷ ds) [] b (suc n) enough enough' = absurd (omega arith)
+time_after (d ∷ ds) (t ∷ ts) b (suc n) enough enough' =
+    let rest = time_after ds ts (slot_told d t b) n (omega arith) (omega arith) in
+    let here = time-all_told d b in
+    rest ∙ omega arith
+
+pub book_time : (ds : List (List Decided)) (ts : List Table) (n : ℕ) (book : Book) → n ≤ length ds → n ≤ length ts → book ≡ book_after ds ts n → book.time ≡ n
+book_time ds ts n book enough enough' is =
+    let there = time_after ds ts empty_book n enough enough' in
+    let end : 0 + n ≡ n = omega arith in
+    ap (λ (b : Book). b.time) is ∙ there ∙ end
+
+pub first_told : (ds : List (List Decided)) (ts : List Table) (from : ℕ) (new book : Book) → new ≡ empty_book
+    → book ≡ all_slots_told new (take (from - new.time) (drop new.time ds)) (take (from - new.time) (drop new.time ts))
+    → book ≡ book_after ds ts from
+first_told ds ts from new book fresh is =
+    let all : from - 0 ≡ from = omega arith in
+    is ∙ ap (λ (b : Book). all_slots_told b (take (from - b.time) (drop b.time ds)) (take (from - b.time) (drop b.time ts))) fresh
+    ∙ ap (λ n. all_slots_told empty_book (take n ds) (take n ts)) all
+
+pub next_told : (ds : List (List Decided)) (ts : List Table) (slot : ℕ) (book next : Book) → slot < length ds → slot < length ts → book ≡ book_after ds ts slot
+    → next ≡ all_slots_told book (take (slot + 1 - book.time) (drop book.time ds)) (take (slot + 1 - book.time) (drop book.time ts))
+    → next ≡ book_after ds ts (slot + 1)
+next_told ds ts slot book next inside inside' before is =
+    let time : book.time ≡ slot = book_time ds ts slot book (omega arith) (omega arith) before in
+    is ∙ ap (λ n. all_slots_told book (take (slot + 1 - n) (drop n ds)) (take (slot + 1 - n) (drop n ts))) time
+    ∙ ap (λ (b : Book). all_slots_told b (take (slot + 1 - slot) (drop slot ds)) (take (slot + 1 - slot) (drop slot ts))) before
+    ∙ told_on ds ts empty_book slot (slot + 1 - slot) (slot + 1) (omega arith)
+
+-- ---- rows
+
+pub as-many-lags : (ds : List (List Decided)) (ts : List Table) (slot : ℕ) (book : Book) → book ≡ book_after ds ts (slot + 1)
+    → length book.entered ≡ length (lags_at ds ts slot)
+as-many-lags ds ts slot book is =
+    let there : Book = book_after ds ts (slot + 1) in
+    ap (λ (b : Book). length b.entered) is ∙ sym (length-map there.entered (lag_row there.time))
+
+pub rows-at : (ds : List (List Decided)) (ts : List Table) (slot : ℕ) (book : Book) → book ≡ book_after ds ts (slot + 1) → book_rows book ≡ lags_at ds ts slot
+rows-at ds ts slot book is = ap book_rows is
+
+pub one-lag-more : (time : ℕ) (es : List (NameValue × Tally)) (old rows new : List PfairLag) (i : ℕ) → i < length es → length es ≤ length old
+    → rows ≡ map (lag_row time) (take i es) ++ drop i old
+    → ((e : NameValue × Tally) → slice_get es i ≡ Some e → new ≡ set rows i (lag_row time e))
+    → new ≡ map (lag_row time) (take (i + 1) es) ++ drop (i + 1) old
+one-lag-more time es old rows new i inside room before written =
+    let here = first_left es i inside in
+    written here.0 here.1
+    ∙ ap (λ (r : List PfairLag). set r i (lag_row time here.0)) before
+    ∙ one-more (lag_row time) es old i here.0 inside room (sym (get_or_from_slice_get es i here.0 here.0 here.1))
+    ∙ (let further : suc i ≡ i + 1 = omega arith in ap (λ n. map (lag_row time) (take n es) ++ drop n old) further)
+
+-- no more than fit are counted
+pub counted-within : (rows more all most counted next : ℕ) → counted ≡ min rows most → next ≡ min (counted + more) most → all ≡ rows + more → next ≡ min all most
+counted-within rows more all most counted next before is whole = omega arith
+
+-- ---- the lags of one slot more, where rows are written over others
+
+pub room-for-lags : (ds : List (List Decided)) (ts : List Table) (from to slot at : ℕ) (book : Book) (old : List PfairLag) → from ≤ slot → slot < to
+    → book ≡ book_after ds ts (slot + 1) → at ≡ length (rows_of (lags_at ds ts) from (slot - from))
+    → length (rows_of (lags_at ds ts) from (to - from)) ≤ length old → at + length book.entered ≤ length old
+room-for-lags ds ts from to slot at book old after before told at_is room =
+    let enough = room-for (lags_at ds ts) from to slot old after before room in
+    let many = as-many-lags ds ts slot book told in
+    omega arith
+
+pub lags-written : (ds : List (List Decided)) (ts : List Table) (from to slot at : ℕ) (book : Book) (old rows new : List PfairLag) → from ≤ slot → slot < to
+    → book ≡ book_after ds ts (slot + 1) → at ≡ length (rows_of (lags_at ds ts) from (slot - from))
+    → length (rows_of (lags_at ds ts) from (to - from)) ≤ length old
+    → rows ≡ written_over (rows_of (lags_at ds ts) from (slot - from)) old
+    → new ≡ take at rows ++ written_over (book_rows book) (drop at rows)
+    → new ≡ written_over (rows_of (lags_at ds ts) from (slot + 1 - from)) old
+lags-written ds ts from to slot at book old rows new after before told at_is room rows_are new_are =
+    let enough = room-for (lags_at ds ts) from to slot old after before room in
+    let within : length (rows_of (lags_at ds ts) from (slot - from)) ≤ length old = omega arith in
+    slot-written (lags_at ds ts) from slot at old rows new after at_is within rows_are
+    (new_are ∙ ap (λ (b : Book). take at rows ++ written_over (book_rows b) (drop at rows)) told)

@@ -1,0 +1,38 @@
+use Rattle.std.proofs.Common.{◌≡◌, ◌-◌, ◌∙◌, ap, sym, arith, length, List, ℕ}
+use Rattle.std.proofs.lemmas.List.{length-map}
+use Rattle.pfair_handle.specs.Rows.{decisions_at, decision_row, rows_of, slot_of, written_over}
+use Rattle.pfair_handle.specs.declared.decisions.PfairDecision.{PfairDecision}
+use Rattle.pfair_table.specs.declared.pick.Decided.{Decided}
+use Rattle.pfair_handle.proofs.SlotRows.{room-for, slot-counted, slot-written}
+use Rattle.pfair_handle.proofs.decisions.write_several.Goals as goal
+
+as-many : (decided : List (List Decided)) (slot : ℕ) → length (decisions_at decided slot) ≡ length (slot_of decided slot)
+as-many decided slot = length-map (slot_of decided slot) (decision_row slot)
+
+pub write_slot-at-requires : goal.write_slot-at-requires
+write_slot-at-requires g c =
+    let decided : List (List Decided) = c.args.dispatcher.now.decided in
+    let room = room-for (decisions_at decided) c.args.from c.args.to c.loop-slot.slot c.args.rows.now c.loop-slot.invariant.0 c.loop-slot-test.true c.requires in
+    let many = as-many decided c.loop-slot.slot in
+    let at = c.loop-slot.invariant.2 in
+    let rows = c.loop-slot.auto.rows in
+    omega arith
+
+pub loop-slot-preserved : goal.loop-slot-preserved
+loop-slot-preserved g c =
+    let decided : List (List Decided) = c.args.dispatcher.now.decided in
+    let rows_at : ℕ → List PfairDecision = decisions_at decided in
+    let after = c.loop-slot.invariant.0 in
+    let room = room-for rows_at c.args.from c.args.to c.loop-slot.slot c.args.rows.now after c.loop-slot-test.true c.requires in
+    let next = slot-counted rows_at c.args.from c.loop-slot.slot c.loop-slot.at (length (slot_of decided c.loop-slot.slot)) after c.loop-slot.invariant.2 (sym (as-many decided c.loop-slot.slot)) in (
+      omega arith,
+      omega arith,
+      c.write_slot-at.ensures.next ∙ next,
+      slot-written rows_at c.args.from c.loop-slot.slot c.loop-slot.at c.args.rows.now c.loop-slot.rows c.write_slot-at.new.rows after c.loop-slot.invariant.2 (omega arith) c.loop-slot.invariant.3 c.write_slot-at.ensures.rows,
+    )
+
+pub returns : goal.returns
+returns g c =
+    let rows_at : ℕ → List PfairDecision = decisions_at c.args.dispatcher.now.decided in
+    let all : c.loop-slot.slot - c.args.from ≡ c.args.to - c.args.from = omega arith in
+    c.loop-slot.invariant.3 ∙ ap (λ n. written_over (rows_of rows_at c.args.from n) c.args.rows.now) all

@@ -1,0 +1,34 @@
+use Rattle.std.proofs.Common.{◌≡◌, ◌-◌, ◌∙◌, ap, sym, arith, length, List, ℕ}
+use Rattle.pfair_handle.specs.Rows.{quanta_at, rows_of, slot_of, written_over}
+use Rattle.pfair_handle.specs.declared.quanta.PfairQuantum.{PfairQuantum}
+use Rattle.pfair_table.specs.Table.{Table}
+use Rattle.pfair_handle.proofs.SlotRows.{as-many-at, room-for, slot-counted, slot-written}
+use Rattle.pfair_handle.proofs.quanta.write_quanta.Goals as goal
+
+pub write_slot-at-requires : goal.write_slot-at-requires
+write_slot-at-requires g c =
+    let tables : List Table = c.args.dispatcher.now.tables in
+    let room = room-for (quanta_at tables) c.args.from c.args.to c.loop-slot.slot c.args.rows.now c.loop-slot.invariant.0 c.loop-slot-test.true c.requires in
+    let many = as-many-at tables c.loop-slot.slot in
+    let at = c.loop-slot.invariant.2 in
+    let rows = c.loop-slot.auto.rows in
+    omega arith
+
+pub loop-slot-preserved : goal.loop-slot-preserved
+loop-slot-preserved g c =
+    let tables : List Table = c.args.dispatcher.now.tables in
+    let rows_at : ℕ → List PfairQuantum = quanta_at tables in
+    let after = c.loop-slot.invariant.0 in
+    let room = room-for rows_at c.args.from c.args.to c.loop-slot.slot c.args.rows.now after c.loop-slot-test.true c.requires in
+    let next = slot-counted rows_at c.args.from c.loop-slot.slot c.loop-slot.at (length (slot_of tables c.loop-slot.slot)) after c.loop-slot.invariant.2 (sym (as-many-at tables c.loop-slot.slot)) in (
+      omega arith,
+      omega arith,
+      c.write_slot-at.ensures.next ∙ next,
+      slot-written rows_at c.args.from c.loop-slot.slot c.loop-slot.at c.args.rows.now c.loop-slot.rows c.write_slot-at.new.rows after c.loop-slot.invariant.2 (omega arith) c.loop-slot.invariant.3 c.write_slot-at.ensures.rows,
+    )
+
+pub returns : goal.returns
+returns g c =
+    let rows_at : ℕ → List PfairQuantum = quanta_at c.args.dispatcher.now.tables in
+    let all : c.loop-slot.slot - c.args.from ≡ c.args.to - c.args.from = omega arith in
+    c.loop-slot.invariant.3 ∙ ap (λ n. written_over (rows_of rows_at c.args.from n) c.args.rows.now) all

@@ -1,0 +1,121 @@
+//! The lags in several slots, as C has them.
+ghost use Rattle.std.specs.Prelude.{◌≡◌, ◌≤◌, ◌+◌, ◌++◌, ℕ, length, min, take, drop, set, slice_get, IfOk, IfErr, OnOk};
+ghost use Rattle.pfair_weight.specs.Name.{NameValue};
+ghost use Rattle.pfair_lag.specs.Book.{Tally};
+ghost use Rattle.pfair_handle.specs.Lags.{lag_row, lags_at, book_rows, lags_of};
+ghost use Rattle.pfair_handle.specs.Rows.{rows_of, written_over};
+
+use crate::rows::{PfairName, name_row};
+use pfair_lag::LagBook;
+use pfair_output::tell_slots;
+use pfair_ready::Ready;
+use pfair_table::Dispatcher;
+use std::alloc::{AllocError, Global};
+
+/// The lag of a task at a time.
+#[repr(C)]
+#[derive(Clone, Copy)]
+pub struct PfairLag {
+    /// The time: the end of slot `time` - 1.
+    pub time: u64,
+    /// The task.
+    pub name: PfairName,
+    /// The lag, as a numerator over the period.
+    pub numerator: i64,
+    /// The task's period.
+    pub period: u64,
+}
+
+/// How many lags the slots `from` to `to` - 1 have; no more than fit into 64 bits. It costs what it
+/// costs to tell a book the slots 0 to `to` - 1.
+///
+/// # Errors
+/// `AllocError` where memory was wanted and refused.
+pub fn count_lags<R: Ready>(
+    alloc: Global,
+    dispatcher: &Dispatcher<R>,
+    from: u64,
+    to: u64,
+) -> Result<u64, AllocError>
+    requires planned { to ≤ length dispatcher.now.tables }
+    requires forward { from ≤ to }
+    ensures { IfOk result (λ count. count ≡ min (length (lags_of dispatcher.now.decided dispatcher.now.tables from to)) 18446744073709551615) }
+{
+    // as many slots have decisions as have tables
+    prove!(to <= dispatcher.next_slot());
+    let mut book = LagBook::new(alloc);
+    tell_slots(&mut book, dispatcher, from)?;
+    let mut count: u64 = 0;
+    for slot in from..to {
+        tell_slots(&mut book, dispatcher, slot + 1)?;
+        count = count.saturating_add(book.len() as u64);
+    }
+    Ok(count)
+}
+
+/// Writes the lags in the slots `from` to `to` - 1 over the first rows: after each slot those of the
+/// tasks that stay, in the order of admission. It costs the rows, and what it costs to tell a book
+/// the slots 0 to `to` - 1.
+///
+/// # Errors
+/// `AllocError` where memory was wanted and refused; the lags of some first slots may be written
+/// then.
+pub fn write_lags<R: Ready>(
+    alloc: Global,
+    dispatcher: &Dispatcher<R>,
+    from: u64,
+    to: u64,
+    rows: &mut [PfairLag],
+) -> Result<(), AllocError>
+    requires planned { to ≤ length dispatcher.now.tables }
+    requires forward { from ≤ to }
+    requires room { length (lags_of dispatcher.now.decided dispatcher.now.tables from to) ≤ length rows.old }
+    ensures written { OnOk result (rows.new ≡ written_over (lags_of dispatcher.now.decided dispatcher.now.tables from to) rows.old) }
+    ensures partly { IfErr result (λ _. (slots : ℕ) × (rows.new ≡ written_over (rows_of (lags_at dispatcher.now.decided dispatcher.now.tables) from slots) rows.old)) }
+{
+    // as many slots have decisions as have tables
+    prove!(to <= dispatcher.next_slot());
+    let mut book = LagBook::new(alloc);
+    tell_slots(&mut book, dispatcher, from)?;
+    let mut at = 0;
+    for slot in from..to {
+        tell_slots(&mut book, dispatcher, slot + 1)?;
+        at = write_book(&book, at, rows);
+    }
+    Ok(())
+}
+
+// Writes the lags of a book over the rows from `at` on, and says where the next ones stand.
+fn write_book(book: &LagBook, at: usize, rows: &mut [PfairLag]) -> usize
+    requires { at + length book.now.entered ≤ length rows.old }
+    ensures rows { rows.new ≡ take at rows.old ++ written_over (book_rows book.now) (drop at rows.old) }
+    ensures next { result ≡ at + length book.now.entered }
+{
+    write_rows(book, &mut rows[at..]);
+    at + book.len()
+}
+
+// Writes the lags of a book over the first rows.
+fn write_rows(book: &LagBook, rows: &mut [PfairLag])
+    requires { length book.now.entered ≤ length rows.old }
+    ensures { rows.new ≡ written_over (book_rows book.now) rows.old }
+{
+    for place in 0..book.len() {
+        write_row(book, place, rows);
+    }
+}
+
+// Writes the lag of the task at a place of the book over the row at that place.
+fn write_row(book: &LagBook, place: usize, rows: &mut [PfairLag])
+    requires { place + 1 ≤ length rows.old }
+    ensures { (task : NameValue × Tally) → slice_get book.now.entered place ≡ Some task → rows.new ≡ set rows.old place (lag_row book.now.time task) }
+{
+    if let Some((name, (numerator, period))) = book.row_at(place) {
+        rows[place] = PfairLag {
+            time: book.time(),
+            name: name_row(name),
+            numerator,
+            period,
+        };
+    }
+}

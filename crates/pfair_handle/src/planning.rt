@@ -1,0 +1,28 @@
+//! Several plans at once.
+ghost use Rattle.std.specs.Prelude.{◌≤◌, IfOk, IfErr, OnOk};
+ghost use Rattle.pfair_handle.specs.Planning.{IsPlannedOn, IsStopOf, IsStoppedBy};
+
+use pfair_ready::Ready;
+use pfair_table::{Dispatcher, PlanFault, Step};
+
+/// Plans until `until` slots are planned (1 or more), or the next one isn't settled, or none is
+/// left. [`Step::Planned`] has the last slot below `until`, also where it was planned before. It
+/// costs what the plans cost.
+///
+/// # Errors
+/// Those of [`Dispatcher::plan_next`], where fewer than `until` slots are planned; what was planned
+/// before the fault stands.
+pub fn plan_to<R: Ready>(dispatcher: &mut Dispatcher<R>, until: u64) -> Result<Step, PlanFault>
+    requires { 1 ≤ until }
+    ensures planned { OnOk result (IsPlannedOn until dispatcher.old dispatcher.new) }
+    ensures step { IfOk result (IsStopOf until dispatcher.new) }
+    ensures fault { IfErr result (λ fault. IsStoppedBy until fault dispatcher.old dispatcher.new) }
+{
+    'slots: while dispatcher.next_slot() < until {
+        match dispatcher.plan_next()? {
+            Step::Planned(_) => {}
+            last => return Ok(last),
+        }
+    }
+    Ok(Step::Planned(until - 1))
+}

@@ -1,0 +1,113 @@
+//! The quanta of several slots, as C has them.
+ghost use Rattle.std.specs.Prelude.{◌≡◌, ◌≤◌, ◌+◌, ◌++◌, length, take, drop, slice_get};
+ghost use Rattle.pfair_handle.specs.Rows.{slot_of, quantum_row, quanta_in, quanta_at, quanta_of, written_over};
+
+use crate::rows::{PfairName, name_row};
+use pfair_ready::Ready;
+use pfair_table::{Dispatcher, Pick, Settings};
+
+/// A quantum of one of several slots.
+#[repr(C)]
+#[derive(Clone, Copy)]
+pub struct PfairQuantum {
+    /// The slot.
+    pub slot: u64,
+    /// The row of the slot's table, counted from 0.
+    pub row: u64,
+    /// The processor that runs it, counted from 0.
+    pub place: u64,
+    /// The task.
+    pub name: PfairName,
+    /// Its subtask, counted from 1.
+    pub index: u64,
+}
+
+/// How many quanta the slots `from` to `to` - 1 have, where they are planned. It costs the slots.
+pub fn count_quanta<R: Ready>(dispatcher: &Dispatcher<R>, from: u64, to: u64) -> u64
+    requires { to ≤ Settings.MAX_SLOTS }
+    ensures { result ≡ length (quanta_of dispatcher.now.tables from to) }
+{
+    let mut count = 0;
+    for slot in from..to {
+        count += count_slot(dispatcher, slot);
+    }
+    count
+}
+
+/// Writes the quanta of the slots `from` to `to` - 1 over the first rows, slot by slot, each slot's
+/// in the order of its table. It costs the slots and the quanta.
+pub fn write_quanta<R: Ready>(
+    dispatcher: &Dispatcher<R>,
+    from: u64,
+    to: u64,
+    rows: &mut [PfairQuantum],
+)
+    requires { length (quanta_of dispatcher.now.tables from to) ≤ length rows.old }
+    ensures { rows.new ≡ written_over (quanta_of dispatcher.now.tables from to) rows.old }
+{
+    let mut at = 0;
+    for slot in from..to {
+        at = write_slot(dispatcher, slot, at, rows);
+    }
+}
+
+// How many quanta a slot has.
+fn count_slot<R: Ready>(dispatcher: &Dispatcher<R>, slot: u64) -> u64
+    ensures value { result ≡ length (slot_of dispatcher.now.tables slot) }
+    ensures few { result ≤ 64 }
+{
+    // the contract of places bounds the rows of all tables by the processors
+    prove!(dispatcher.settings().processors() <= 64);
+    prove!(dispatcher.places(slot).is_some() || dispatcher.places(slot).is_none());
+    match dispatcher.table(slot) {
+        Some(table) => table.len() as u64,
+        None => 0,
+    }
+}
+
+// Writes the quanta of a slot over the rows from `at` on, and says where the next ones stand.
+fn write_slot<R: Ready>(
+    dispatcher: &Dispatcher<R>,
+    slot: u64,
+    at: usize,
+    rows: &mut [PfairQuantum],
+) -> usize
+    requires { at + length (slot_of dispatcher.now.tables slot) ≤ length rows.old }
+    ensures rows { rows.new ≡ take at rows.old ++ written_over (quanta_at dispatcher.now.tables slot) (drop at rows.old) }
+    ensures next { result ≡ at + length (slot_of dispatcher.now.tables slot) }
+{
+    let places = dispatcher.places(slot).unwrap_or(&[]);
+    let table = dispatcher.table(slot).unwrap_or(&[]);
+    write_rows(slot, table, places, &mut rows[at..]);
+    at + table.len()
+}
+
+// Writes the quanta of a table over the first rows.
+fn write_rows(slot: u64, table: &[Pick], places: &[u8], rows: &mut [PfairQuantum])
+    requires { length table.now ≤ length rows.old }
+    ensures { rows.new ≡ written_over (quanta_in places.now slot 0 table.now) rows.old }
+{
+    for (row, pick) in table.iter().enumerate() {
+        rows[row] = quantum_row(slot, row, pick, row_place(places, row));
+    }
+}
+
+// The place of a table's row, where it has one.
+fn row_place(places: &[u8], row: usize) -> Option<u8>
+    ensures { result ≡ slice_get places.now row }
+{
+    places.get(row).copied()
+}
+
+// The quantum of a row, with its place.
+fn quantum_row(slot: u64, row: usize, pick: &Pick, place: Option<u8>) -> PfairQuantum
+    ensures { result ≡ quantum_row slot row pick.now place }
+{
+    PfairQuantum {
+        slot,
+        row: row as u64,
+        place: place.unwrap_or(0) as u64,
+        name: name_row(&pick.name),
+        index: pick.index,
+    }
+}
