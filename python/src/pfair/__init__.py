@@ -1,0 +1,26 @@
+"""The Pfair executive for Python: windows of subtasks, dispatchers, schedules, and sets of tasks to study.
+
+It computes schedules by the PD2 order of Anderson and Srinivasan over the Pfair model of Baruah, Cohen, Plaxton and Varvel; it does not
+execute tasks. What plans is a library in C whose every call is proved to meet its contract. Times are in slots, and each task runs in
+quanta of one slot.
+"""
+from . import study as study
+from ._dispatcher import OUTCOMES, Dispatcher, Faults, Planned, TakenCounts, windows
+from ._entries import Entry, Script, arrive, depart, late, promise
+from ._errors import (
+    BY_NUMBER, BadDelay, BadIndex, CostOverPeriod, EntryRefused, FileTooLong, KeyMissing, KeyOutOfRange, KeyWrongKind, NameBadByte, NameEmpty,
+    NameTooLong, NoSuchNumber, NoSuchProcessor, NotOpen, NotPlanned, NotToml, OtherShape, OutOfMemory, OutOfRange, PeriodTooLong, PfairError,
+    SlotTooFar, Spent, Stalled, StampBeforeFloor, TaskFileError, Torn, UnknownVersion, ZeroCost,
+)
+from ._library import DECISION, LAG, QUANTUM, VERSION, WINDOW
+from ._schedule import Counts, Schedule, read_task_file, schedule
+
+__all__ = [
+    "BY_NUMBER", "DECISION", "LAG", "OUTCOMES", "QUANTUM", "WINDOW", "Counts", "Dispatcher", "Entry", "Faults", "Planned", "Schedule", "Script",
+    "TakenCounts", "arrive", "depart", "late", "promise", "read_task_file", "schedule", "study", "windows",
+    "BadDelay", "BadIndex", "CostOverPeriod", "EntryRefused", "FileTooLong", "KeyMissing", "KeyOutOfRange", "KeyWrongKind", "NameBadByte",
+    "NameEmpty", "NameTooLong", "NoSuchNumber", "NoSuchProcessor", "NotOpen", "NotPlanned", "NotToml", "OtherShape", "OutOfMemory",
+    "OutOfRange", "PeriodTooLong", "PfairError", "SlotTooFar", "Spent", "Stalled", "StampBeforeFloor", "TaskFileError", "Torn",
+    "UnknownVersion", "ZeroCost",
+]
+__version__ = VERSION

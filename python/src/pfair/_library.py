@@ -1,0 +1,96 @@
+"""The shared library: its structs as ctypes and numpy see them, and its calls."""
+from __future__ import annotations
+
+import ctypes as c
+import os
+import pathlib
+from typing import Any
+
+import numpy as np
+
+#: The version of this package, and of the library that it goes with.
+VERSION = "0.2.0"
+
+
+class Handle(c.Structure):
+    _fields_ = [("is_open", c.c_bool), ("at", c.c_void_p)]
+
+
+class Step(c.Structure):
+    _fields_ = [("kind", c.c_uint64), ("slot", c.c_uint64), ("processor", c.c_uint64), ("number", c.c_uint64)]
+
+
+class Settings(c.Structure):
+    _fields_ = [("processors", c.c_uint64), ("frame", c.c_uint64), ("slots", c.c_uint64), ("capacity", c.c_uint64)]
+
+
+class TakenLog(c.Structure):
+    _fields_ = [("taken", c.c_uint64), ("fresh", c.c_uint64), ("known", c.c_uint64), ("torn", c.c_uint64)]
+
+
+class FileFault(c.Structure):
+    _fields_ = [("place", c.c_uint64), ("field", c.c_uint64), ("processor", c.c_uint64), ("number", c.c_uint64), ("cause", c.c_uint64)]
+
+
+# Arrays have the layout of the library's structs: a name is 16 bytes and its length, of which users see the bytes alone, since no
+# name has a zero in it and zeros follow it.
+_NAME, _NUMBER = ("S16", 24), ("u8", 8)
+
+
+def _rows(**fields: tuple[str, int]) -> np.dtype[Any]:
+    """Rows of these fields, each with its format and the bytes that it takes."""
+    offsets, end = [], 0
+    for _, size in fields.values():
+        offsets.append(end)
+        end += size
+    return np.dtype({"names": list(fields), "formats": [kind for kind, _ in fields.values()], "offsets": offsets, "itemsize": end})
+
+
+#: The window of a subtask: slots, and b_bit 0 or 1; group_deadline is 0 for a weight below 1/2.
+WINDOW = _rows(release=_NUMBER, deadline=_NUMBER, b_bit=_NUMBER, group_deadline=_NUMBER)
+#: A quantum: `row` of the slot's table, in the PD2 order, `place` the processor that runs it, `index` that of the task's subtask, from 1.
+QUANTUM = _rows(slot=_NUMBER, row=_NUMBER, place=_NUMBER, task=_NAME, index=_NUMBER)
+#: A decision on an announcement; OUTCOMES says what an outcome is, and `freed_at` is the slot from which a departing task's weight is free.
+DECISION = _rows(slot=_NUMBER, task=_NAME, processor=_NUMBER, number=_NUMBER, outcome=_NUMBER, freed_at=_NUMBER)
+#: A lag: of the task at a time (the end of slot `time` - 1), in quanta, numerator/period.
+LAG = _rows(time=_NUMBER, task=_NAME, numerator=("i8", 8), period=_NUMBER)
+# as the library reads it, the length of the name included
+ENTRY = np.dtype(
+    [("floor", "u8"), ("kind", "u8"), ("at", "u8"), ("name", "S16"), ("length", "u8"), ("cost", "u8"), ("period", "u8"), ("early", "u8"), ("index", "u8"), ("by", "u8")]
+)
+KEY = _rows(processor=_NUMBER, number=_NUMBER)
+
+library = c.CDLL(os.environ.get("PFAIR_LIBRARY") or str(pathlib.Path(__file__).with_name("libpfair.so")))
+
+_handle, _u8, _u32, _u64, _size, _array = c.POINTER(Handle), c.c_uint8, c.c_uint32, c.c_uint64, c.c_size_t, c.c_void_p
+_number, _step = c.POINTER(c.c_uint64), c.POINTER(Step)
+_CALLS: dict[str, list[Any]] = {
+    "pfair_version": [],
+    "pfair_windows": [_u64, _u64, _u64, _u64, _u64, _array, _size],
+    "pfair_open": [_handle, _u8, _u64, _u64, _u32],
+    "pfair_read_file": [_handle, c.POINTER(FileFault), c.c_char_p, _size],
+    "pfair_close": [_handle],
+    "pfair_settings": [_handle, c.POINTER(Settings)],
+    "pfair_take": [_handle, _u8, _u32, _array, _number],
+    "pfair_take_log": [_handle, _u8, _u32, c.POINTER(TakenLog), _array, _size],
+    "pfair_absorb": [_handle, _handle],
+    "pfair_held": [_handle, _u8, _u32, _number, _array],
+    "pfair_mark": [_handle, _u8, _number, _number],
+    "pfair_missing": [_handle, _u8, _number],
+    "pfair_faults": [_handle, _number, _number, _array, _size],
+    "pfair_below": [_handle, _handle, _number],
+    "pfair_plan_to": [_handle, _u64, _step],
+    "pfair_reopen": [_handle],
+    "pfair_frontier": [_handle, _number],
+    "pfair_next_slot": [_handle, _number],
+    "pfair_quanta": [_handle, _u64, _u64, _number, _array, _size],
+    "pfair_decisions_of": [_handle, _u64, _u64, _number, _array, _size],
+    "pfair_lags": [_handle, _u64, _u64, _number, _array, _size],
+}
+for _call, _types in _CALLS.items():
+    getattr(library, _call).argtypes = _types
+    getattr(library, _call).restype = _u32
+
+_parts = [int(part) for part in VERSION.split(".")]
+if library.pfair_version() != 10_000 * _parts[0] + 100 * _parts[1] + _parts[2]:
+    raise ImportError(f"the shared library has version number {library.pfair_version()}, and this package is {VERSION}")

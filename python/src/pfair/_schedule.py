@@ -1,0 +1,172 @@
+"""The schedule of a script: all its slots, planned by one dispatcher."""
+from __future__ import annotations
+
+import os
+from dataclasses import asdict
+from typing import Any, Iterator, NamedTuple, Optional, TextIO, Union
+
+import numpy as np
+import numpy.typing as npt
+
+from ._dispatcher import LONGEST_FILE, OUTCOMES, Dispatcher
+from ._entries import Entry, Rows, Script, promise
+from ._errors import Stalled
+from ._trace import Decided, Lag, Quantum, Source, quanta_of, words_of, write_trace
+
+
+# as many lags are looked at at once
+_LAGS_AT_ONCE = 1 << 21
+
+
+class Counts(NamedTuple):
+    """What a schedule has of each: `preemptions` are quanta of a job that come after a gap, `moves` quanta on another processor than
+    the task's one before, and `behind` the lags, of a task after a slot, that are 1 or more."""
+
+    arrivals: int
+    refused: int
+    quanta: int
+    preemptions: int
+    moves: int
+    behind: int
+
+
+class Schedule:
+    """All slots of a script. `quanta` and `decisions` are arrays of the dtypes QUANTUM and DECISION."""
+
+    def __init__(self, script: Script) -> None:
+        self.script = script
+        logs = [script.closed(processor) for processor in range(script.processors)]
+        self._dispatcher = Dispatcher(script.processors, script.frame, script.slots, max(map(len, logs), default=1))
+        for processor, log in enumerate(logs):
+            self._dispatcher.take_log(processor, log)
+        planned = self._dispatcher.plan()
+        if planned.kind == "waiting":
+            raise Stalled(f"{Stalled.__doc__}: {planned.slot}", frontier=planned.slot)
+        self.quanta: Rows = self._dispatcher.quanta()
+        self.decisions: Rows = self._dispatcher.decisions()
+
+    def lags(self, start: int = 0, stop: Optional[int] = None) -> Rows:
+        """The lags after each of slots `start` to `stop - 1`: an array of the dtype LAG."""
+        return self._dispatcher.lags(start, stop)
+
+    def counts(self) -> Counts:
+        """Arrivals and refused ones, quanta, preemptions, moves, and lags of 1 or more."""
+        arrivals = [row for row in self.decisions if self._entry(row).kind == "arrive"]
+        rows, incarnations = self.quanta, self._incarnations()
+        order = np.lexsort((rows["slot"], incarnations))
+        rows, incarnations = rows[order], incarnations[order]
+        same = incarnations[1:] == incarnations[:-1]
+        after_a_gap = rows["slot"][1:] - rows["slot"][:-1] > 1
+        costs = np.array([self._entry(row).cost for row in arrivals if row["outcome"] == 0], np.uint64)
+        in_a_job = (rows["index"][1:] - 1) % costs[incarnations[1:]] != 0 if len(rows) else same
+        moved = rows["place"][1:] != rows["place"][:-1]
+        refused = sum(1 for row in arrivals if row["outcome"] != 0)
+        return Counts(len(arrivals), refused, len(rows), int((same & after_a_gap & in_a_job).sum()), int((same & moved).sum()), self._behind())
+
+    def _behind(self) -> int:
+        return sum(int((rows["numerator"] >= rows["period"].astype(np.int64)).sum()) for rows in self._lags_by_pieces())
+
+    def _lags_by_pieces(self) -> Iterator[Rows]:
+        admitted = int((self.decisions["outcome"] == 0).sum())
+        step = max(1, _LAGS_AT_ONCE // max(1, admitted))
+        return (self.lags(start, min(start + step, self.script.slots)) for start in range(0, self.script.slots, step))
+
+    def _entry(self, decision: Any) -> Any:
+        return self.script.log(int(decision["processor"]))[int(decision["number"]) - 1]
+
+    def _incarnations(self) -> npt.NDArray[np.int64]:
+        """Of each quantum, which admitted arrival it belongs to: the last of its name that was admitted in or before its slot."""
+        joined: dict[bytes, list[tuple[int, int]]] = {}
+        place = 0
+        for row in self.decisions:
+            if row["outcome"] == 0:
+                joined.setdefault(bytes(row["task"]), []).append((int(row["slot"]), place))
+                place += 1
+        found = np.empty(len(self.quanta), np.int64)
+        codes, names = numbered(self.quanta["task"])
+        for code, name in enumerate(names):
+            own = np.flatnonzero(codes == code)
+            slots, places = (np.array(column) for column in zip(*joined[name]))
+            found[own] = places[np.searchsorted(slots, self.quanta["slot"][own].astype(np.int64), side="right") - 1]
+        return found
+
+    def write_trace(self, out: TextIO, format: str = "json", slot: float = 1.0) -> None:
+        """Writes a trace for a viewer: "json", the Trace Event Format of Perfetto and chrome://tracing, or "vcd", a value change dump for
+        GTKWave. In it a slot takes `slot` milliseconds."""
+        write_trace(_Source(self), format, slot, out)
+
+    def to_pandas(self) -> Any:
+        """The quanta and the decisions as two DataFrames, with the tasks as categories. Wants pandas."""
+        import pandas
+
+        def frame(rows: Rows) -> Any:
+            codes, names = numbered(rows["task"])
+            made = pandas.DataFrame({key: rows[key] for key in rows.dtype.names or () if key != "task"})
+            made.insert(0, "task", pandas.Categorical.from_codes(codes, [name.decode() for name in names]))
+            return made
+
+        return frame(self.quanta), frame(self.decisions)
+
+
+class _Source(Source):
+    """A schedule, as traces are made of it."""
+
+    def __init__(self, schedule: Schedule) -> None:
+        self.schedule, self.processors, self.slots = schedule, schedule.script.processors, schedule.script.slots
+
+    def _decided(self) -> Iterator[tuple[int, int, int, str, str, int, Entry]]:
+        for row in self.schedule.decisions:
+            outcome = int(row["outcome"])
+            word, value = (OUTCOMES[outcome], int(row["freed_at"])) if outcome < 20 else ("refused", outcome)
+            yield int(row["slot"]), int(row["processor"]), int(row["number"]), row["task"].decode(), word, value, self.schedule._entry(row)
+
+    def names(self) -> list[str]:
+        return list(dict.fromkeys(task for _, _, _, task, outcome, _, _ in self._decided() if outcome == "admitted"))
+
+    def decisions(self) -> Iterator[Decided]:
+        for slot, processor, number, task, outcome, value, entry in self._decided():
+            yield Decided(slot, processor, number, task, words_of(entry.kind or "", task, outcome, value, asdict(entry)))
+
+    def quanta(self) -> Iterator[Quantum]:
+        rows = ((int(row["slot"]), int(row["place"]), row["task"].decode(), int(row["index"])) for row in self.schedule.quanta)
+        return quanta_of(rows, ((slot, task, outcome, asdict(entry)) for slot, _, _, task, outcome, _, entry in self._decided()))
+
+    def lags(self) -> Iterator[Lag]:
+        for rows in self.schedule._lags_by_pieces():
+            for row in rows:
+                yield Lag(int(row["time"]), row["task"].decode(), int(row["numerator"]), int(row["period"]))
+
+
+def numbered(names: npt.NDArray[np.bytes_]) -> tuple[npt.NDArray[np.int64], list[bytes]]:
+    """A number for each name, from 0, and the names by their numbers. They are compared as two words, which is quicker than as text."""
+    words = np.ascontiguousarray(names).view(np.uint64).reshape(-1, 2)
+    head, heads = np.unique(words[:, 0], return_inverse=True)
+    tail, tails = np.unique(words[:, 1], return_inverse=True)
+    both = heads if len(tail) <= 1 else heads * len(tail) + tails
+    _, first, codes = np.unique(both, return_index=True, return_inverse=True)
+    return codes.reshape(-1), [bytes(names[at]) for at in first]
+
+
+def read_task_file(file: Union[str, "os.PathLike[str]", bytes]) -> Script:
+    """The script of a task file, given by its path or by its bytes, as the programs read it. What is wrong with it is raised as one of
+    the exceptions below TaskFileError."""
+    if isinstance(file, bytes):
+        text = file
+    else:
+        with open(file, "rb") as opened:
+            text = opened.read(LONGEST_FILE + 1)
+    with Dispatcher.of_file(text) as dispatcher:
+        logs = [_log_of(dispatcher, processor) for processor in range(dispatcher.processors)]
+        return Script(dispatcher.processors, dispatcher.frame, dispatcher.slots, logs)
+
+
+def _log_of(dispatcher: Dispatcher, processor: int) -> list[Entry]:
+    """The entries of a log, without the promise that closes it."""
+    held = (dispatcher.held(processor, number) for number in range(1, dispatcher.capacity + 1))
+    log = [entry for entry in held if entry is not None]
+    return log[:-1] if log and log[-1] == promise(dispatcher.slots) else log
+
+
+def schedule(given: Union[Script, str, "os.PathLike[str]", bytes]) -> Schedule:
+    """The schedule of a script, or of a task file, given by its path or by its bytes."""
+    return Schedule(given if isinstance(given, Script) else read_task_file(given))
