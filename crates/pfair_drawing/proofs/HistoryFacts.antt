@@ -21,15 +21,14 @@ past_is change (l ∷ ls) (suc k) past = ap (λ (ms : List Life). l ∷ ms) (pas
 abbrev made : List Life → List Late → Told
 made lives late = record { lives = lives; late = late }
 
-module _ (change : Life → Life) (name : NameValue) (items shown : List Life) (late : List Late) (k : ℕ) (h : Told) where
-  latest_is : k ≡ latest shown name → shown ≡ items → made items late ≡ h → made (on_place change k items) late ≡ on_latest change name h
-  latest_is place same is =
-      ap (λ (j : ℕ). made (on_place change j items) late) (place ∙ ap (λ (ls : List Life). latest ls name) same) ∙ ap (on_latest change name) is
+module _ (change : Life → Life) (name : NameValue) (items : List Life) (late : List Late) (k : ℕ) (h : Told) where
+  latest_is : k ≡ latest items name → made items late ≡ h → made (on_place change k items) late ≡ on_latest change name h
+  latest_is place is = ap (λ (j : ℕ). made (on_place change j items) late) place ∙ ap (on_latest change name) is
 
   -- the last incarnation is written over
-  pub told_set : (x : Life) → k < length items → x ≡ get_or items k x → k ≡ latest shown name → shown ≡ items → made items late ≡ h → made (set items k (change x)) late ≡ on_latest change name h
-  told_set x inside read place same is = ap (λ (ls : List Life). made ls late) (set_is change items k x inside read) ∙ latest_is place same is
+  pub told_set : (x : Life) → k < length items → x ≡ get_or items k x → k ≡ latest items name → made items late ≡ h → made (set items k (change x)) late ≡ on_latest change name h
+  told_set x inside read place is = ap (λ (ls : List Life). made ls late) (set_is change items k x inside read) ∙ latest_is place is
 
   -- there is none
-  pub told_past : length items ≤ k → k ≡ latest shown name → shown ≡ items → made items late ≡ h → h ≡ on_latest change name h
-  told_past past place same is = sym is ∙ ap (λ (ls : List Life). made ls late) (past_is change items k past) ∙ latest_is place same is
+  pub told_past : length items ≤ k → k ≡ latest items name → made items late ≡ h → h ≡ on_latest change name h
+  told_past past place is = sym is ∙ ap (λ (ls : List Life). made ls late) (past_is change items k past) ∙ latest_is place is

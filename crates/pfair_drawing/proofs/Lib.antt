@@ -1,7 +1,11 @@
 mod DecisionFacts
 mod HistoryFacts
 mod InsideFacts
+mod LastFacts
 mod MarkFacts
+mod MemberFacts
+mod MemberSteps
+mod NameFacts
 mod RowFacts
 mod ScheduleFacts
 mod StepFacts

@@ -1,6 +1,6 @@
 -- Marks and steps of lags lie inside their figure.
 use Rattle.std.proofs.Common.{ℕ, ◌+◌, ◌-◌, ◌*◌, ◌/◌, ◌%◌, ◌≤◌, arith, Bool, true, false, cond, List, [], ◌∷◌, ◌++◌, Option, None, Some, ℤ}
-use Rattle.std.specs.Prelude.{min, max, count_by, nat_eq, nat_le, nat_lt, ◌&&◌, All, IfSome, slice_get, slice_index_or, int_le, pos, unsigned_abs}
+use Rattle.std.specs.Prelude.{min, max, nat_eq, nat_le, nat_lt, ◌&&◌, All, IfSome, slice_get, slice_index_or, int_le, pos}
 use Rattle.std.specs.List.{flat_map, range_with_len}
 use Rattle.std.proofs.lemmas.List.Elements.{All-nil, All-cons, All-append, All-map}
 use Rattle.pfair_admission.specs.declared.decision.Decision.{Decision}
@@ -12,8 +12,6 @@ use Rattle.pfair_lag.specs.Book.{lag_of, slot_more}
 use Rattle.pfair_svg.specs.declared.caption.Refusals.{Refusals}
 use Rattle.pfair_svg.specs.declared.mark.LifeMark.{LifeMark}
 use Rattle.pfair_svg.specs.declared.shape.Bar.{Bar}
-use Rattle.pfair_svg.specs.declared.shape.Label.{Label}
-use Rattle.pfair_svg.specs.declared.shape.Point.{Point}
 use Rattle.pfair_drawing.specs.declared.frame.Frame.{Frame}
 use Rattle.pfair_drawing.specs.declared.history.Life.{Life}
 use Rattle.pfair_drawing.specs.declared.history.Late.{Late}
@@ -22,8 +20,8 @@ use Rattle.pfair_drawing.specs.Frame.{IsFrame, has_slot, slot_x, row_y, lanes_he
 use Rattle.pfair_drawing.specs.Inside.{AreaLiesIn, ArrowLiesIn, BeyondLiesIn, LabelLiesIn, LateLiesIn, PointLiesIn, RefusalLiesIn, StepLiesIn}
 use Rattle.pfair_weight.specs.Name.{NameValue}
 use Rattle.pfair_drawing.specs.Names.{row_of}
-use Rattle.pfair_drawing.specs.Marks.{arrows, departures, departure_arrow, departure_mark, held, held_bar, held_by, is_shown, join_arrow, join_mark, late_after, late_arrow, late_mark, late_of, late_of_life, life_arrows, more_label, refusal_label, refusal_mark, refusal_of, refusal_words, refusal_x, refusal_y, refusals, refusals_among, refusals_by, refusals_in}
-use Rattle.pfair_drawing.specs.Lags.{beyond_label, beyond_mark, beyond_of, book_at, full_height, is_beyond, lag_step, lag_steps, lag_y, ran_at, slot_steps, task_step}
+use Rattle.pfair_drawing.specs.Marks.{arrows, departures, departure_arrow, departure_mark, held, held_bar, held_by, is_shown, join_arrow, join_mark, late_after, late_arrow, late_mark, late_of, late_of_life, life_arrows, more_label, refusal_mark, refusal_of, refusals, refusals_by, refusals_in}
+use Rattle.pfair_drawing.specs.Lags.{beyond_label, beyond_of, book_at, full_height, is_beyond, lag_step, lag_steps, lag_y, ran_at, slot_steps, task_step}
 use Rattle.pfair_drawing.specs.Slots.{decided_at}
 use Rattle.pfair_drawing.specs.Windows.{opens}
 use Rattle.pfair_entry.specs.Names.{name_of}

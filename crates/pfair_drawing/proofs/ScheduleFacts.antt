@@ -18,7 +18,7 @@ use Rattle.pfair_drawing.specs.Ground.{schedule_ground}
 use Rattle.pfair_drawing.specs.History.{Told, told_before}
 use Rattle.pfair_drawing.specs.Inside.{ContentLiesIn, LabelLiesIn, LagsLieIn, LiesIn, ScheduleLiesIn, SignLiesIn}
 use Rattle.pfair_drawing.specs.Key.{lag_key, schedule_key, shown_lags_of, shown_of}
-use Rattle.pfair_drawing.specs.Labels.{labels, weights}
+use Rattle.pfair_drawing.specs.Labels.{weights}
 use Rattle.pfair_drawing.specs.Names.{names_before}
 use Rattle.pfair_drawing.specs.Quanta.{cell_bar, quantum_bar, ran_between}
 use Rattle.pfair_drawing.specs.Lags.{AreLags, admitted_before, lag_steps, lags_ground}

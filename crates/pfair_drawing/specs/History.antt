@@ -1,5 +1,6 @@
 -- What became of each task, as the decisions and tables of slot after slot tell it.
-use Rattle.std.specs.Prelude.{ℕ, zero, suc, if◌then◌else◌, List, [], ◌∷◌, ◌++◌, length, Some, None}
+use Rattle.std.specs.Prelude.{ℕ, zero, suc, ◌≡◌, Bool, if◌then◌else◌, List, [], ◌∷◌, ◌++◌, length, Option, Some, None, unwrap_or}
+use Rattle.std.specs.Option.{option_or}
 use Rattle.std.specs.List.{range_with_len}
 use Rattle.pfair_weight.specs.Share.{Share}
 use Rattle.pfair_entry.specs.declared.announcement.Announcement.{Announcement}
@@ -22,14 +23,22 @@ pub record Told : Type 0 where
 abbrev pub nothing_told : Told
 nothing_told = record { lives = []; late = [] }
 
--- the place of the last incarnation of a name, those from place k on being left to look at
-abbrev pub latest_from : (k found : ℕ) → List Life → NameValue → ℕ
-latest_from k found [] name = found
-latest_from k found (l ∷ ls) name = latest_from (suc k) (if name_eq l.name name then k else found) ls name
+-- whether an incarnation is of that name
+abbrev pub is_named : NameValue → Life → Bool
+is_named name l = name_eq l.name name
 
--- or, where there is none, the place after the last
+-- the last place of an incarnation that passes a test, those from place k on being left to look at
+abbrev pub last_from : (Life → Bool) → ℕ → List Life → Option ℕ
+last_from test k [] = None
+last_from test k (l ∷ ls) = option_or (last_from test (suc k) ls) (if test l then Some k else None)
+
+-- the place of the last incarnation of a name, or where there is none the place after the last
 abbrev pub latest : List Life → NameValue → ℕ
-latest lives name = latest_from 0 (length lives) lives name
+latest lives name = unwrap_or (last_from (is_named name) 0 lives) (length lives)
+
+-- how the last incarnation of each name is looked up
+abbrev pub IsLookUp : List Life → (NameValue → Option ℕ) → Type 0
+IsLookUp lives place_of = (name : NameValue) → place_of name ≡ last_from (is_named name) 0 lives
 
 -- the incarnation at a place changed
 abbrev pub on_place : (Life → Life) → ℕ → List Life → List Life

@@ -1,5 +1,7 @@
 -- The laws of pictures.
-use Rattle.std.specs.Prelude.{ℕ, ◌≡◌, ◌+◌, ◌≤◌, ◌<◌, Bool, List, Some, slice_get, Contains}
+use Rattle.std.specs.Prelude.{ℕ, ◌≡◌, ◌+◌, ◌≤◌, ◌<◌, Bool, List, Some, map, sum_by, slice_get, Contains}
+use Rattle.std.specs.List.{AllByRecursion}
+use Rattle.std.specs.Option.{option_map}
 use Rattle.pfair_weight.specs.Name.{NameValue}
 use Rattle.pfair_weight.specs.Share.{Share, IsWeight}
 use Rattle.pfair_weight.specs.Window.{release_of, deadline_of}
@@ -9,9 +11,13 @@ use Rattle.pfair_admission.specs.declared.decision.Decision.TheVariants.{Admitte
 use Rattle.pfair_admission.specs.declared.refusal.Refusal.{Refusal}
 use Rattle.pfair_table.specs.declared.pick.Pick.{Pick}
 use Rattle.pfair_table.specs.declared.pick.Decided.{Decided}
-use Rattle.pfair_table.specs.Table.{Table}
+use Rattle.pfair_admission.specs.Member.{Member, theta}
+use Rattle.pfair_replica.specs.Replica.{Replica, numbers_below}
+use Rattle.pfair_table.specs.Table.{Settings, Table, counted, decisions, history, table}
 use Rattle.pfair_drawing.specs.declared.frame.Frame.{Frame}
-use Rattle.pfair_drawing.specs.History.{told_before}
+use Rattle.pfair_drawing.specs.declared.history.Life.{Life}
+use Rattle.pfair_drawing.specs.History.{Told, is_named, last_from, told_before}
+use Rattle.pfair_drawing.specs.Windows.{put_off_by}
 use Rattle.pfair_drawing.specs.Marks.{arrows, join_mark, refusal_mark, refusals, refusals_by}
 use Rattle.pfair_drawing.specs.Names.{row_of, names_before}
 use Rattle.pfair_drawing.specs.Slots.{decided_at}
@@ -36,6 +42,28 @@ RefusalsHaveMarks =
     (f : Frame) (names : List NameValue) (decided : List (List Decided)) (slot k : ℕ) (d : Decided) (why : Refusal)
     → f.from ≤ slot → slot < f.to → slice_get (decided_at decided slot) k ≡ Some d → d.decision ≡ Refused why
     → Contains (refusals f names decided) (refusal_mark f (row_of names (name_of d.announcement)) slot (refusals_by (name_of d.announcement) (decided_at decided slot)) why)
+
+-- What is told of a member, a task from its joining slot to its freeing slot: by the last incarnation of its name, its weight and its joining
+-- slot; the subtask before its next one as the last that ran; where it is departing its freeing slot; and, by the late releases of that
+-- incarnation, the offset of each of its subtasks.
+pub record TellsMember (told : Told) (m : Member) : Type 0 where
+  pub place : ℕ
+  pub life : Life
+  pub last : last_from (is_named m.name) 0 told.lives ≡ Some place
+  pub here : slice_get told.lives place ≡ Some life
+  pub weight : life.weight ≡ m.weight
+  pub joined : life.joined ≡ m.joined
+  pub ran : life.ran + 1 ≡ m.next
+  pub leaving : option_map (λ leave. leave.freed_at) life.leave ≡ m.freed_at
+  pub offsets : (i : ℕ) → life.joined + sum_by (put_off_by place i) told.late ≡ theta m i
+
+-- The decisions and tables of n slots tell of each member that there is after `to` of them what the plan's own definition has of it, with the
+-- quanta that it has had.
+abbrev pub HistoriesTellMembers : Type 0
+HistoriesTellMembers =
+    (s : Settings) (x : Replica) (n to : ℕ) → to ≤ n
+    → let told = told_before (map (decisions s x) (numbers_below n)) (map (table s x) (numbers_below n)) to in
+    AllByRecursion (TellsMember told) (counted (history s x to).tables (history s x to).members)
 
 -- Two lanes are enough: the window of the next subtask in the same lane opens where this one's closes, or later, also where it is put off.
 abbrev pub TwoLanesAreEnough : Type 0

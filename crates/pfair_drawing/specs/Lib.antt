@@ -14,4 +14,5 @@ pub mod Quanta
 pub mod Schedule
 pub mod Sizes
 pub mod Slots
+pub mod Ties
 pub mod Windows

@@ -20,6 +20,7 @@ use Rattle.pfair_drawing.specs.History.{Told, told_before}
 use Rattle.pfair_drawing.specs.Marks.{arrows, held, late_marks, refusals}
 use Rattle.pfair_drawing.specs.Quanta.{cell_bar, quantum_bar, ran_between}
 use Rattle.pfair_drawing.specs.Sizes.{left_of, sizes_of}
+use Rattle.pfair_drawing.specs.Ties.{ties}
 use Rattle.pfair_drawing.specs.Windows.{windows}
 
 -- slots that no picture shows: none, some that aren't planned, or more than 4,096
@@ -35,6 +36,8 @@ pub record AreLayers (f : Frame) (names : List NameValue) (told : Told) (runs : 
   pub windows_are : s.windows.items ≡ windows f names told
   pub quanta_are : s.quanta.items ≡ map (quantum_bar f) runs
   pub cells_are : s.cells.items ≡ map (cell_bar f) runs
+  -- a line for each quantum that lies outside its window, and no other
+  pub ties_are : s.ties.items ≡ map (cut_shape (width_of f) (height_of f)) (ties f names told runs)
   -- one mark for each decision, inside its slot: an arrow for each join and each departure, with the weight that it holds until it is free,
   -- each late release from its stamp, and each refusal
   pub arrows_are : s.arrows.items ≡ arrows f names told.lives

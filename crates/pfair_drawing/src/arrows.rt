@@ -6,9 +6,9 @@ ghost use Rattle.pfair_drawing.specs.Marks.{arrows, departure_arrow, departure_c
 
 use crate::frame::Frame;
 use crate::history::{Leave, Life};
-use crate::names::row_of;
+use crate::names::Names;
 use pfair_svg::{Area, Arrow, Bar, Caption, LifeMark, Mark, Point};
-use pfair_weight::{TaskName, Weight};
+use pfair_weight::Weight;
 use std::alloc::{AllocError, Global};
 
 /// An arrow up for each incarnation that joins in the figure's slots, and one down for each that
@@ -16,7 +16,7 @@ use std::alloc::{AllocError, Global};
 pub(crate) fn arrows_of(
     alloc: Global,
     frame: &Frame,
-    names: &[TaskName],
+    names: &Names,
     lives: &[Life],
 ) -> Result<Vec<LifeMark>, AllocError>
     requires { IsFrame frame.now }
@@ -33,13 +33,13 @@ pub(crate) fn arrows_of(
 fn add_arrows(
     arrows: &mut Vec<LifeMark>,
     frame: &Frame,
-    names: &[TaskName],
+    names: &Names,
     life: &Life,
 ) -> Result<(), AllocError>
     requires { IsFrame frame.now }
     ensures { OnOk result (arrows.new.items ≡ arrows.old.items ++ life_arrows frame.now names.now life.now) }
 {
-    let row = row_of(names, life.name);
+    let row = names.row_of(&life.name);
     if frame.has_slot(life.joined) {
         arrows.push(join_mark(frame, row, life.joined, life.weight))?;
     }
@@ -142,7 +142,7 @@ fn departure_arrow(frame: &Frame, row: u64, slot: u64) -> Arrow
 pub(crate) fn held_of(
     alloc: Global,
     frame: &Frame,
-    names: &[TaskName],
+    names: &Names,
     lives: &[Life],
 ) -> Result<Vec<Bar>, AllocError>
     requires { IsFrame frame.now }
@@ -150,7 +150,7 @@ pub(crate) fn held_of(
 {
     let mut held = Vec::new(alloc);
     for life in lives {
-        add_held(&mut held, frame, row_of(names, life.name), life.leave)?;
+        add_held(&mut held, frame, names.row_of(&life.name), life.leave)?;
     }
     Ok(held)
 }

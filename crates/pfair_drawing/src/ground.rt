@@ -6,7 +6,7 @@ ghost use Rattle.pfair_drawing.specs.Ground.{axis, band, frame_shapes, grid, is_
 
 use crate::canvas::{add, add_label};
 use crate::frame::Frame;
-use crate::history::{Life, latest};
+use crate::history::History;
 use crate::sizes::TOP;
 use pfair_svg::{Area, Fill, Note, Point, Shape, Stroke, Style, Words};
 use pfair_weight::TaskName;
@@ -20,13 +20,13 @@ pub(crate) fn add_rows(
     shapes: &mut Vec<Shape>,
     frame: &Frame,
     names: &[TaskName],
-    lives: &[Life],
+    history: &History,
 ) -> Result<(), AllocError>
     requires { IsFrame frame.now }
-    ensures { OnOk result (shapes.new.items ≡ shapes.old.items ++ rows_from frame.now lives.now 0 names.now) }
+    ensures { OnOk result (shapes.new.items ≡ shapes.old.items ++ rows_from frame.now history.now.lives 0 names.now) }
 {
     for (row, name) in names.iter().enumerate() {
-        add_row(shapes, frame, lives, row as u64, *name)?;
+        add_row(shapes, frame, history, row as u64, *name)?;
     }
     Ok(())
 }
@@ -35,24 +35,24 @@ pub(crate) fn add_rows(
 fn add_row(
     shapes: &mut Vec<Shape>,
     frame: &Frame,
-    lives: &[Life],
+    history: &History,
     row: u64,
     name: TaskName,
 ) -> Result<(), AllocError>
     requires { IsFrame frame.now }
-    ensures { OnOk result (shapes.new.items ≡ shapes.old.items ++ (band frame.now row ++ name_shape frame.now lives.now row name ∷ [])) }
+    ensures { OnOk result (shapes.new.items ≡ shapes.old.items ++ (band frame.now row ++ name_shape frame.now history.now.lives row name ∷ [])) }
 {
     add_band(shapes, frame, row)?;
     let middle = frame.row_y(row) + frame.lanes_height() / 2 + 4;
-    let style = name_style(lives, name);
+    let style = name_style(history, name);
     add_label(shapes, frame.left - 46, middle, Words::Name(row), style)
 }
 
 // How the name of a row stands.
-fn name_style(lives: &[Life], name: TaskName) -> Style
-    ensures { result ≡ name_style lives.now name }
+fn name_style(history: &History, name: TaskName) -> Style
+    ensures { result ≡ name_style history.now.lives name }
 {
-    if latest(lives, name) < lives.len() {
+    if history.has_joined(&name) {
         Style::Name
     } else {
         Style::Absent

@@ -1,10 +1,13 @@
 //! What became of each task: when it joined, when its releases were put off, how far it ran, and
 //! when it left.
 
-ghost use Rattle.std.specs.Prelude.{◌≡◌, ◌≤◌, IfOk, OnOk, length};
-ghost use Rattle.pfair_drawing.specs.History.{all_told, latest, on_latest, ran, slot_told, told, told_before};
+ghost use Rattle.std.specs.Prelude.{◌≡◌, IfOk, OnOk};
+ghost use Rattle.indexmap.specs.IndexMap.{get};
+ghost use Rattle.pfair_weight.specs.Name.{name_eq};
+ghost use Rattle.pfair_drawing.specs.History.{IsLookUp, all_told, latest, on_latest, ran, slot_told, told, told_before};
 
 use crate::slots::{decided_at, table_at};
+use indexmap::IndexMap;
 use pfair_admission::Decision;
 use pfair_entry::Announcement;
 use pfair_ready::Ready;
@@ -52,18 +55,24 @@ pub struct Life {
 
 /// The incarnations of all tasks, in the order in which they joined, and the late releases that
 /// were accepted, in order.
-#[derive(Debug, Drop)]
+#[derive(Drop)]
 pub(crate) struct History {
     lives: Vec<Life>,
     late: Vec<Late>,
+    // the place of the last incarnation of each name
+    last: IndexMap<TaskName, usize>,
 }
 
 impl Model for History {
-    ghost use Rattle.pfair_drawing.specs.History.{Told};
+    ghost use Rattle.indexmap.specs.IndexMap.{get};
+    ghost use Rattle.pfair_weight.specs.Name.{name_eq};
+    ghost use Rattle.pfair_drawing.specs.History.{Told, IsLookUp};
 
     ghost Value = { Told };
 
     ghost view = { λ a. record { lives = a.lives.items; late = a.late.items } };
+
+    ghost invariant = { λ a. IsLookUp a.lives.items (get name_eq a.last) };
 }
 
 /// What the slots before `to` tell of a dispatcher's tasks.
@@ -138,8 +147,8 @@ fn tell_table(history: &mut History, table: &[Pick])
 }
 
 impl History {
-    ghost use Rattle.std.specs.Prelude.{◌∷◌, [], ◌++◌, None, Some};
-    ghost use Rattle.pfair_drawing.specs.History.{nothing_told};
+    ghost use Rattle.std.specs.Prelude.{◌∷◌, [], ◌++◌, None, Some, length, nat_lt};
+    ghost use Rattle.pfair_drawing.specs.History.{is_named, last_from, nothing_told};
 
     // Nothing is told yet.
     fn new(alloc: Global) -> History
@@ -148,6 +157,7 @@ impl History {
         History {
             lives: Vec::new(alloc),
             late: Vec::new(alloc),
+            last: IndexMap::new(alloc),
         }
     }
 
@@ -165,17 +175,33 @@ impl History {
         self.late.as_slice()
     }
 
+    /// Whether a task of that name has joined.
+    pub(crate) fn has_joined(&self, name: &TaskName) -> bool
+        ensures { result ≡ nat_lt (latest self.now.lives name.now) (length self.now.lives) }
+    {
+        latest(&self.last, &self.lives, name) < self.lives.len()
+    }
+
+    /// The place of the last incarnation of a name, if there is one.
+    pub(crate) fn last_place(&self, name: &TaskName) -> Option<usize>
+        ensures { result ≡ last_from (is_named name.now) 0 self.now.lives }
+    {
+        self.last.get(name).copied()
+    }
+
     // A task joins.
     fn join(&mut self, name: TaskName, weight: Weight, slot: u64) -> Result<(), AllocError>
         ensures { OnOk result (self.new ≡ record self.old { lives = self.old.lives ++ record { name = name; weight = weight; joined = slot; ran = 0; leave = None } ∷ [] }) }
     {
-        self.lives.push(Life {
+        self.lives.reserve(1)?;
+        self.last.insert(name, self.lives.len())?;
+        self.lives.push_reserved(Life {
             name,
             weight,
             joined: slot,
             ran: 0,
             leave: None,
-        })?;
+        });
         Ok(())
     }
 
@@ -183,9 +209,9 @@ impl History {
     fn put_off(&mut self, name: TaskName, index: u64, by: u64, slot: u64) -> Result<(), AllocError>
         ensures { OnOk result (self.new ≡ record self.old { late = self.old.late ++ record { life = latest self.old.lives name; stamp = slot; index = index; by = by } ∷ [] }) }
     {
-        let life = latest(self.lives.as_slice(), name) as u64;
+        let life = latest(&self.last, &self.lives, &name);
         self.late.push(Late {
-            life,
+            life: life as u64,
             stamp: slot,
             index,
             by,
@@ -197,7 +223,7 @@ impl History {
     fn leave(&mut self, name: TaskName, stamp: u64, freed_at: u64)
         ensures { self.new ≡ on_latest (λ l. record l { leave = Some (record { stamp = stamp; freed_at = freed_at }) }) name self.old }
     {
-        let place = latest(self.lives.as_slice(), name);
+        let place = latest(&self.last, &self.lives, &name);
         if place < self.lives.len() {
             self.lives[place].leave = Some(Leave { stamp, freed_at });
         }
@@ -207,23 +233,20 @@ impl History {
     fn run(&mut self, pick: &Pick)
         ensures { self.new ≡ on_latest (λ l. record l { ran = pick.now.index }) pick.now.name self.old }
     {
-        let place = latest(self.lives.as_slice(), pick.name);
+        let place = latest(&self.last, &self.lives, &pick.name);
         if place < self.lives.len() {
             self.lives[place].ran = pick.index;
         }
     }
 }
 
-/// The place of the last incarnation of a name, or where there is none the place after the last.
-pub(crate) fn latest(lives: &[Life], name: TaskName) -> usize
-    ensures value { result ≡ latest lives.now name }
-    ensures within { result ≤ length lives.now }
+// The place of the last incarnation of a name, or where there is none the place after the last.
+fn latest(last: &IndexMap<TaskName, usize>, lives: &[Life], name: &TaskName) -> usize
+    requires { IsLookUp lives.now (get name_eq last.now) }
+    ensures { result ≡ latest lives.now name.now }
 {
-    let mut found = lives.len();
-    for (place, life) in lives.iter().enumerate() {
-        if life.name == name {
-            found = place;
-        }
+    match last.get(name) {
+        Some(place) => *place,
+        None => lives.len(),
     }
-    found
 }

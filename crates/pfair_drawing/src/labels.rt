@@ -10,7 +10,7 @@ ghost use Rattle.pfair_drawing.specs.Labels.{cell_label, digits_of, fits_both, f
 use crate::canvas::shown_labels;
 use crate::frame::Frame;
 use crate::history::{Leave, Life};
-use crate::names::row_of;
+use crate::names::Names;
 use crate::runs::Ran;
 use pfair_svg::{Label, Point, Style, Words};
 use pfair_weight::TaskName;
@@ -22,7 +22,7 @@ use std::alloc::{AllocError, Global};
 pub(crate) fn labels_of(
     alloc: Global,
     frame: &Frame,
-    names: &[TaskName],
+    names: &Names,
     lives: &[Life],
     runs: &[Ran],
 ) -> Result<Vec<Label>, AllocError>
@@ -32,7 +32,7 @@ pub(crate) fn labels_of(
 {
     let mut labels = Vec::new(alloc);
     add_processors(&mut labels, frame)?;
-    add_quanta(&mut labels, frame, names, runs)?;
+    add_quanta(&mut labels, frame, names.as_slice(), runs)?;
     add_weights(&mut labels, frame, names, lives)?;
     shown_labels(alloc, labels.as_slice(), frame.width(), frame.height())
 }
@@ -41,7 +41,7 @@ pub(crate) fn labels_of(
 pub(crate) fn weights_of(
     alloc: Global,
     frame: &Frame,
-    names: &[TaskName],
+    names: &Names,
     lives: &[Life],
 ) -> Result<Vec<Label>, AllocError>
     requires { IsFrame frame.now }
@@ -214,7 +214,7 @@ fn add_on_cell(
 fn add_weights(
     labels: &mut Vec<Label>,
     frame: &Frame,
-    names: &[TaskName],
+    names: &Names,
     lives: &[Life],
 ) -> Result<(), AllocError>
     requires { IsFrame frame.now }
@@ -230,7 +230,7 @@ fn add_weights(
 fn add_weight(
     labels: &mut Vec<Label>,
     frame: &Frame,
-    names: &[TaskName],
+    names: &Names,
     life: &Life,
 ) -> Result<(), AllocError>
     requires { IsFrame frame.now }
@@ -240,7 +240,7 @@ fn add_weight(
         return Ok(());
     }
     let x = frame.slot_x(life.joined) + 5;
-    let y = frame.row_y(row_of(names, life.name)) + 6;
+    let y = frame.row_y(names.row_of(&life.name)) + 6;
     let (cost, period) = (life.weight.cost(), life.weight.period());
     add(labels, x, y, Words::Share { cost, period }, Style::Weight)
 }

@@ -17,7 +17,7 @@ use crate::ground::{add_frame, add_level, add_rows};
 use crate::history::{History, Life, history_of};
 use crate::key::{ShownLags, add_lag_key};
 use crate::labels::weights_of;
-use crate::names::add_name;
+use crate::names::Names;
 use crate::schedule::{DrawFault, are_refused, figures_of, frame_of};
 use crate::sizes::Sizes;
 use crate::steps::{steps_of, zero_y};
@@ -31,9 +31,8 @@ use std::alloc::{AllocError, Global};
 /// for each task that was admitted before `to`, with its lag as a line from each time to the next,
 /// counted from its joining slot, between dashed bounds of 1. What is at or past a bound is in
 /// another colour, and a lag further than a quarter past it is drawn there with a mark that says so
-/// and, where there is room, the lag itself. It costs all slots
-/// before `to`, and for each that is drawn as many looks at names as there are tasks, for each
-/// task.
+/// and, where there is room, the lag itself. It costs all slots before `to`, with a look-up for each
+/// announcement and quantum, and for each slot that is drawn a look-up for each task.
 ///
 /// # Errors
 /// As [`crate::schedule_drawing`].
@@ -69,14 +68,14 @@ fn draw<R: Ready>(
     let history = history_of(alloc, dispatcher, to)?;
     let names = admitted_of(alloc, &history)?;
     let frame = lag_frame(names.as_slice(), from, to);
-    let lags = content_of(alloc, &frame, names.as_slice(), history.lives(), dispatcher)?;
-    let ground = ground_of(alloc, &frame, names.as_slice(), history.lives())?;
+    let lags = content_of(alloc, &frame, &names, history.lives(), dispatcher)?;
+    let ground = ground_of(alloc, &frame, names.as_slice(), &history)?;
     let key = key_of(alloc, &frame, &lags)?;
     Ok(Drawing {
         width: frame.width(),
         height: frame.height(),
         figures: figures_of(dispatcher, from, to),
-        names,
+        names: names.to_vec(alloc)?,
         ground,
         content: Content::Lags(lags),
         key,
@@ -87,7 +86,7 @@ fn draw<R: Ready>(
 fn content_of<R: Ready>(
     alloc: Global,
     frame: &Frame,
-    names: &[TaskName],
+    names: &Names,
     lives: &[Life],
     dispatcher: &Dispatcher<R>,
 ) -> Result<Lags, AllocError>
@@ -108,12 +107,12 @@ fn content_of<R: Ready>(
 }
 
 // The names of the tasks that were admitted, each once.
-fn admitted_of(alloc: Global, history: &History) -> Result<Vec<TaskName>, AllocError>
-    ensures { IfOk result (λ names. names.items ≡ with_names [] (map (λ life. life.name) history.now.lives)) }
+fn admitted_of(alloc: Global, history: &History) -> Result<Names, AllocError>
+    ensures { IfOk result (λ names. names ≡ with_names [] (map (λ life. life.name) history.now.lives)) }
 {
-    let mut names = Vec::new(alloc);
+    let mut names = Names::new(alloc);
     for life in history.lives() {
-        add_name(&mut names, life.name)?;
+        names.add(life.name)?;
     }
     Ok(names)
 }
@@ -162,14 +161,14 @@ fn ground_of(
     alloc: Global,
     frame: &Frame,
     names: &[TaskName],
-    lives: &[Life],
+    history: &History,
 ) -> Result<Vec<Shape>, AllocError>
     requires { IsFrame frame.now }
-    ensures value { IfOk result (λ ground. ground.items ≡ map (cut_shape (width_of frame.now) (height_of frame.now)) (lags_ground frame.now names.now lives.now)) }
+    ensures value { IfOk result (λ ground. ground.items ≡ map (cut_shape (width_of frame.now) (height_of frame.now)) (lags_ground frame.now names.now history.now.lives)) }
     ensures inside { IfOk result (λ ground. All (LiesIn (width_of frame.now) (height_of frame.now)) ground.items) }
 {
     let mut ground = Vec::new(alloc);
-    add_rows(&mut ground, frame, names, lives)?;
+    add_rows(&mut ground, frame, names, history)?;
     add_strips(&mut ground, frame)?;
     add_frame(&mut ground, frame, false)?;
     shown(alloc, ground.as_slice(), frame.width(), frame.height())

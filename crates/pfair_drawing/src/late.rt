@@ -6,17 +6,17 @@ ghost use Rattle.pfair_drawing.specs.Marks.{is_shown, late_arrow, late_mark, lat
 
 use crate::frame::Frame;
 use crate::history::{History, Late, Life};
-use crate::names::row_of;
+use crate::names::Names;
 use crate::windows::opens;
 use pfair_svg::{Arrow, Caption, Label, LateMark, Mark, Point, Style, Words};
-use pfair_weight::{MAX_INDEX, TaskName};
+use pfair_weight::MAX_INDEX;
 use std::alloc::{AllocError, Global};
 
 /// A mark for each late release that is accepted at the boundary of one of the figure's slots.
 pub(crate) fn late_marks_of(
     alloc: Global,
     frame: &Frame,
-    names: &[TaskName],
+    names: &Names,
     history: &History,
 ) -> Result<Vec<LateMark>, AllocError>
     requires { IsFrame frame.now }
@@ -34,7 +34,7 @@ pub(crate) fn late_marks_of(
 fn add_late(
     marks: &mut Vec<LateMark>,
     frame: &Frame,
-    names: &[TaskName],
+    names: &Names,
     lives: &[Life],
     before: &[Late],
     late: &Late,
@@ -48,7 +48,7 @@ fn add_late(
     match lives.get(late.life as usize) {
         Some(life) => {
             let old = opens(before, late.life, life, late.index);
-            marks.push(late_mark(frame, row_of(names, life.name), late, old))?;
+            marks.push(late_mark(frame, names.row_of(&life.name), late, old))?;
             Ok(())
         }
         None => Ok(()),

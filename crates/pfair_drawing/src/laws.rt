@@ -1,9 +1,10 @@
 //! The laws of pictures.
 //!
 //! Each function states one law and does nothing.
-ghost use Rattle.pfair_drawing.specs.Laws.{AdmissionsHaveArrows, RefusalsHaveMarks, RunsHaveRows, TwoLanesAreEnough};
+ghost use Rattle.pfair_drawing.specs.Laws.{AdmissionsHaveArrows, HistoriesTellMembers, RefusalsHaveMarks, RunsHaveRows, TwoLanesAreEnough};
 
 pub use pfair_svg::laws::names_are_plain;
+use pfair_table::laws::{runs_are_counted, tables_are_ordered};
 
 /// Each task that runs in a slot before a picture's end has its row among those of the names: none
 /// is drawn elsewhere.
@@ -16,6 +17,17 @@ pub fn runs_have_rows()
 pub fn admissions_have_arrows()
     ensures { AdmissionsHaveArrows }
 {}
+
+/// What the decisions and tables of some slots tell of a task that is a member after them is what
+/// the plan's own definition has of it: its weight and joining slot, its next subtask, its offsets,
+/// and its freeing slot where it is departing. So windows are drawn by the very numbers that the
+/// plan goes by.
+pub fn histories_tell_members()
+    ensures { HistoriesTellMembers }
+{
+    runs_are_counted();
+    tables_are_ordered();
+}
 
 /// Each announcement that is refused at the boundary of a slot that is shown has a mark there, in
 /// its row, which tells all that was refused of its task at that slot.

@@ -6,7 +6,7 @@ ghost use Rattle.pfair_drawing.specs.Frame.{IsFrame};
 ghost use Rattle.pfair_drawing.specs.Marks.{is_number, is_refusal, is_refused, is_refused_by, refusal_label, refusal_mark, refusal_of, refusal_words, refusals, refusals_among, refusals_by};
 
 use crate::frame::Frame;
-use crate::names::row_of;
+use crate::names::Names;
 use crate::slots::decided_at;
 use pfair_admission::{Decision, Refusal};
 use pfair_ready::Ready;
@@ -24,7 +24,7 @@ const ROOMY: u64 = 28;
 pub(crate) fn refusals_of<R: Ready>(
     alloc: Global,
     frame: &Frame,
-    names: &[TaskName],
+    names: &Names,
     dispatcher: &Dispatcher<R>,
 ) -> Result<Vec<RefusalMark>, AllocError>
     requires { IsFrame frame.now }
@@ -41,7 +41,7 @@ pub(crate) fn refusals_of<R: Ready>(
 fn add_slot(
     marks: &mut Vec<RefusalMark>,
     frame: &Frame,
-    names: &[TaskName],
+    names: &Names,
     slot: u64,
     decided: &[Decided],
 ) -> Result<(), AllocError>
@@ -58,7 +58,7 @@ fn add_slot(
 fn add_refusal(
     marks: &mut Vec<RefusalMark>,
     frame: &Frame,
-    names: &[TaskName],
+    names: &Names,
     slot: u64,
     all: &[Decided],
     one: &Decided,
@@ -70,7 +70,7 @@ fn add_refusal(
         Decision::Refused(why) => {
             let name = one.announcement.name();
             let refusals = refusals_by(all, name);
-            let row = row_of(names, name);
+            let row = names.row_of(&name);
             add_mark(marks, refusal_mark(frame, row, slot, refusals, why))
         }
         _ => Ok(()),

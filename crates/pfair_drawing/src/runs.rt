@@ -3,11 +3,10 @@
 ghost use Rattle.std.specs.Prelude.{◌≡◌, ◌-◌, ◌++◌, IfOk, OnOk};
 ghost use Rattle.pfair_drawing.specs.Quanta.{place_at, ran_between, ran_from, ran_in};
 
-use crate::names::row_of;
+use crate::names::Names;
 use crate::slots::{places_at, table_at};
 use pfair_ready::Ready;
 use pfair_table::{Dispatcher, Pick};
-use pfair_weight::TaskName;
 use std::alloc::{AllocError, Global};
 
 /// A quantum that is planned.
@@ -28,7 +27,7 @@ pub struct Ran {
 pub(crate) fn runs_of<R: Ready>(
     alloc: Global,
     dispatcher: &Dispatcher<R>,
-    names: &[TaskName],
+    names: &Names,
     from: u64,
     to: u64,
 ) -> Result<Vec<Ran>, AllocError>
@@ -45,7 +44,7 @@ pub(crate) fn runs_of<R: Ready>(
 fn add_slot<R: Ready>(
     runs: &mut Vec<Ran>,
     dispatcher: &Dispatcher<R>,
-    names: &[TaskName],
+    names: &Names,
     slot: u64,
 ) -> Result<(), AllocError>
     ensures { OnOk result (runs.new.items ≡ runs.old.items ++ ran_in names.now dispatcher.now.tables slot) }
@@ -57,7 +56,7 @@ fn add_slot<R: Ready>(
 // Adds the quanta of a table.
 fn add_table(
     runs: &mut Vec<Ran>,
-    names: &[TaskName],
+    names: &Names,
     slot: u64,
     table: &[Pick],
     places: &[u8],
@@ -68,7 +67,7 @@ fn add_table(
         runs.push(Ran {
             slot,
             processor: row_place(places, place),
-            row: row_of(names, pick.name),
+            row: names.row_of(&pick.name),
             index: pick.index,
         })?;
     }

@@ -22,7 +22,7 @@ use crate::history::{History, Life, history_of};
 use crate::key::{Shown, add_schedule_key};
 use crate::labels::labels_of;
 use crate::late::late_marks_of;
-use crate::names::names_of;
+use crate::names::{Names, names_of};
 use crate::quanta::{cells_of, quanta_of};
 use crate::refusals::refusals_of;
 use crate::runs::{Ran, runs_of};
@@ -69,8 +69,9 @@ impl From<AllocError> for DrawFault {
 ///
 /// Windows are those that the decisions tell: of each incarnation, at its joining slot, put off by
 /// the late releases that were accepted; and the window of a subtask that hasn't run ends where its
-/// task departs. It costs all slots before `to`, each with as many looks at names as there are
-/// tasks.
+/// task departs. It costs all slots before `to`, with a look-up for each announcement and quantum;
+/// for each window up to the picture's end a look at each late release; and for each quantum that is
+/// shown one at the last incarnation of its task, or at all incarnations where that joined later.
 ///
 /// # Errors
 /// [`DrawFault::Slots`] exactly where `from` isn't below `to`, `to` is past the slots that are
@@ -108,7 +109,7 @@ fn draw<R: Ready>(
     let names = names_of(alloc, dispatcher, to)?;
     let processors = dispatcher.settings().processors() as u64;
     let frame = frame_of(names.as_slice(), processors, from, to);
-    draw_in(alloc, dispatcher, &frame, names)
+    draw_in(alloc, dispatcher, &frame, &names)
 }
 
 // Draws the slots of a figure that has a row for each name.
@@ -116,27 +117,26 @@ fn draw_in<R: Ready>(
     alloc: Global,
     dispatcher: &Dispatcher<R>,
     frame: &Frame,
-    names: Vec<TaskName>,
+    names: &Names,
 ) -> Result<Drawing, AllocError>
     requires frame { IsFrame frame.now }
-    requires rows { frame.now.rows ≡ min (length names.items) 1000000 }
-    requires names { names.items ≡ names_before dispatcher.now.decided dispatcher.now.tables frame.now.to }
+    requires rows { frame.now.rows ≡ min (length names.now) 1000000 }
+    requires names { names.now ≡ names_before dispatcher.now.decided dispatcher.now.tables frame.now.to }
     requires processors { frame.now.processors ≡ dispatcher.now.settings.processors }
-    requires left { frame.now.left ≡ left_of names.items }
+    requires left { frame.now.left ≡ left_of names.now }
     requires sizes { frame.now.sizes ≡ sizes_of (frame.now.to - frame.now.from) frame.now.to }
     ensures { IfOk result (IsSchedule dispatcher.now.decided dispatcher.now.tables dispatcher.now.settings frame.now.from frame.now.to) }
 {
-    let rows = names.as_slice();
     let history = history_of(alloc, dispatcher, frame.to)?;
-    let runs = runs_of(alloc, dispatcher, rows, frame.from, frame.to)?;
-    let schedule = schedule_of(alloc, frame, rows, &history, &runs, dispatcher)?;
-    let ground = ground_of(alloc, frame, rows, history.lives())?;
+    let runs = runs_of(alloc, dispatcher, names, frame.from, frame.to)?;
+    let schedule = schedule_of(alloc, frame, names, &history, &runs, dispatcher)?;
+    let ground = ground_of(alloc, frame, names.as_slice(), &history)?;
     let key = key_of(alloc, frame, &schedule)?;
     Ok(Drawing {
         width: frame.width(),
         height: frame.height(),
         figures: figures_of(dispatcher, frame.from, frame.to),
-        names,
+        names: names.to_vec(alloc)?,
         ground,
         content: Content::Schedule(schedule),
         key,
@@ -147,7 +147,7 @@ fn draw_in<R: Ready>(
 fn schedule_of<R: Ready>(
     alloc: Global,
     frame: &Frame,
-    names: &[TaskName],
+    names: &Names,
     history: &History,
     runs: &[Ran],
     dispatcher: &Dispatcher<R>,
@@ -157,7 +157,7 @@ fn schedule_of<R: Ready>(
 {
     let bars = bars_of(alloc, frame, names, history, runs)?;
     let marks = marks_of(alloc, frame, names, history, dispatcher)?;
-    let ties = ties_of(alloc, frame, names, history, runs)?;
+    let ties = ties_of(alloc, frame, names.as_slice(), history, runs)?;
     let labels = labels_of(alloc, frame, names, history.lives(), runs)?;
     Ok(Schedule {
         processors: frame.processors,
@@ -185,7 +185,7 @@ struct Bars {
 fn bars_of(
     alloc: Global,
     frame: &Frame,
-    names: &[TaskName],
+    names: &Names,
     history: &History,
     runs: &[Ran],
 ) -> Result<Bars, AllocError>
@@ -216,7 +216,7 @@ struct Marks {
 fn marks_of<R: Ready>(
     alloc: Global,
     frame: &Frame,
-    names: &[TaskName],
+    names: &Names,
     history: &History,
     dispatcher: &Dispatcher<R>,
 ) -> Result<Marks, AllocError>
@@ -243,14 +243,14 @@ fn ground_of(
     alloc: Global,
     frame: &Frame,
     names: &[TaskName],
-    lives: &[Life],
+    history: &History,
 ) -> Result<Vec<Shape>, AllocError>
     requires { IsFrame frame.now }
-    ensures value { IfOk result (λ ground. ground.items ≡ map (cut_shape (width_of frame.now) (height_of frame.now)) (schedule_ground frame.now names.now lives.now)) }
+    ensures value { IfOk result (λ ground. ground.items ≡ map (cut_shape (width_of frame.now) (height_of frame.now)) (schedule_ground frame.now names.now history.now.lives)) }
     ensures inside { IfOk result (λ ground. All (LiesIn (width_of frame.now) (height_of frame.now)) ground.items) }
 {
     let mut ground = Vec::new(alloc);
-    add_rows(&mut ground, frame, names, lives)?;
+    add_rows(&mut ground, frame, names, history)?;
     add_frame(&mut ground, frame, true)?;
     shown(alloc, ground.as_slice(), frame.width(), frame.height())
 }

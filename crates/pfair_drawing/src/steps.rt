@@ -6,14 +6,13 @@ ghost use Rattle.pfair_drawing.specs.Frame.{IsFrame};
 ghost use Rattle.pfair_drawing.specs.Lags.{book_before, is_past, beyond_of, beyond_label, beyond_mark, full_height, is_beyond, lag_height, lag_step, lag_steps, lag_y, task_step, zero_y};
 
 use crate::frame::Frame;
-use crate::names::row_of;
+use crate::names::Names;
 use crate::slots::{decided_at, table_at};
 use pfair_lag::{LagBook, MAX_HORIZON};
 use pfair_output::tell_all;
 use pfair_ready::Ready;
 use pfair_svg::{BeyondMark, Caption, Label, LagStep, Mark, Point, Style, Words};
 use pfair_table::{Dispatcher, Pick};
-use pfair_weight::TaskName;
 use std::alloc::{AllocError, Global};
 
 /// A step for each of the figure's slots and each task that is a member in it and isn't departing,
@@ -22,7 +21,7 @@ use std::alloc::{AllocError, Global};
 pub(crate) fn steps_of<'a, R: Ready>(
     alloc: Global,
     frame: &'a Frame,
-    names: &'a [TaskName],
+    names: &'a Names,
     dispatcher: &Dispatcher<R>,
 ) -> Result<Vec<LagStep>, AllocError>
     requires { IsFrame frame.now }
@@ -63,7 +62,7 @@ fn book_before<R: Ready>(
 #[derive(Drop)]
 struct Steps<'a> {
     frame: &'a Frame,
-    names: &'a [TaskName],
+    names: &'a Names,
     book: LagBook,
     made: Vec<LagStep>,
 }
@@ -82,7 +81,7 @@ impl<'a> Steps<'a> {
         self.book.record(table);
         for (place, old) in before.iter().enumerate() {
             if let Some((name, new)) = self.book.row_at(place) {
-                let row = row_of(self.names, *name);
+                let row = self.names.row_of(name);
                 self.made.push(lag_step(self.frame, row, slot, *old, new))?;
             }
         }

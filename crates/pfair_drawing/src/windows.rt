@@ -8,16 +8,16 @@ ghost use Rattle.pfair_drawing.specs.Windows.{closes, cut, ends, life_windows, o
 
 use crate::frame::Frame;
 use crate::history::{History, Late, Leave, Life};
-use crate::names::row_of;
+use crate::names::Names;
 use pfair_svg::{Bar, Caption};
-use pfair_weight::{MAX_INDEX, MAX_OFFSET, TaskName, deadline, release};
+use pfair_weight::{MAX_INDEX, MAX_OFFSET, deadline, release};
 use std::alloc::{AllocError, Global};
 
 /// A bar for each window that meets the figure's slots, in its task's row and its subtask's lane.
 pub(crate) fn windows_of(
     alloc: Global,
     frame: &Frame,
-    names: &[TaskName],
+    names: &Names,
     history: &History,
 ) -> Result<Vec<Bar>, AllocError>
     requires { IsFrame frame.now }
@@ -26,7 +26,7 @@ pub(crate) fn windows_of(
     let mut bars = Vec::new(alloc);
     let late = history.late();
     for (place, life) in history.lives().iter().enumerate() {
-        let row = row_of(names, life.name);
+        let row = names.row_of(&life.name);
         add_windows(&mut bars, frame, row, late, place as u64, life)?;
     }
     Ok(bars)

@@ -1,4 +1,4 @@
-use Rattle.std.proofs.Common.{◌++◌, ◌+◌, ◌/◌, ◌-◌}
+use Rattle.std.proofs.Common.{◌++◌}
 use Rattle.pfair_drawing.specs.Ground.{number_at, numbers}
 use Rattle.pfair_svg.proofs.RangeFacts.{flat_more}
 use Rattle.pfair_drawing.proofs.ground.add_numbers.Goals as goal

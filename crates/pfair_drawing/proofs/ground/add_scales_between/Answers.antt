@@ -1,4 +1,4 @@
-use Rattle.std.proofs.Common.{◌++◌, ◌+◌}
+use Rattle.std.proofs.Common.{◌++◌}
 use Rattle.pfair_drawing.specs.Ground.{scale_above, scales_between}
 use Rattle.pfair_svg.proofs.RangeFacts.{flat_more}
 use Rattle.pfair_drawing.proofs.ground.add_scales_between.Goals as goal

@@ -1,4 +1,4 @@
-use Rattle.std.proofs.Common.{◌++◌, ◌+◌, ◌/◌, ◌-◌}
+use Rattle.std.proofs.Common.{◌++◌}
 use Rattle.pfair_drawing.specs.Labels.{processor_label, processor_labels}
 use Rattle.pfair_svg.proofs.RangeFacts.{flat_more}
 use Rattle.pfair_drawing.proofs.labels.add_processors.Goals as goal

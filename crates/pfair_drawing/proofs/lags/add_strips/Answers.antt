@@ -1,4 +1,4 @@
-use Rattle.std.proofs.Common.{◌++◌, ◌+◌, ◌/◌, ◌-◌}
+use Rattle.std.proofs.Common.{◌++◌}
 use Rattle.pfair_drawing.specs.Lags.{strip, strips}
 use Rattle.pfair_svg.proofs.RangeFacts.{flat_more}
 use Rattle.pfair_drawing.proofs.lags.add_strips.Goals as goal

@@ -1,4 +1,4 @@
-use Rattle.std.proofs.Common.{◌≡◌, ◌-◌, ap, refl, ◌∙◌, [], List, length, map}
+use Rattle.std.proofs.Common.{sym, ◌≡◌, ◌-◌, ap, refl, ◌∙◌, [], List, length, map}
 use Rattle.std.specs.Prelude.{min}
 use Rattle.pfair_weight.specs.Name.{NameValue}
 use Rattle.pfair_drawing.specs.declared.history.Life.{Life}
@@ -16,20 +16,21 @@ pub returns : goal.returns
 returns g c =
     let d = c.args.dispatcher.now in
     let f = c.lag_frame-frame.result in
-    let names : List NameValue = c.in_ok-names.names.items in
+    let names : List NameValue = c.in_ok-to_vec.field-0.items in
+    let copied : names ≡ c.in_ok-names.names = c.in_ok-to_vec.ensures in
     let told = told_before d.decided d.tables c.args.to in
     let history : c.in_ok-history.history ≡ told = c.in_ok-history.ensures in
-    let names_are : names ≡ admitted_before d.decided d.tables c.args.to = c.in_ok-names.ensures ∙ ap (λ (h : Told). with_names [] (map (λ life. life.name) h.lives)) history in
-    let rows : f.rows ≡ min (length names) 1000000 = c.lag_frame-frame.ensures.rows ∙ ap (λ (n : List NameValue). min (length n) 1000000) c.as_slice.ensures.value in
-    let left : f.left ≡ left_of names = c.lag_frame-frame.ensures.left ∙ ap left_of c.as_slice.ensures.value in
+    let names_are : names ≡ admitted_before d.decided d.tables c.args.to = copied ∙ c.in_ok-names.ensures ∙ ap (λ (h : Told). with_names [] (map (λ life. life.name) h.lives)) history in
+    let rows : f.rows ≡ min (length names) 1000000 = c.lag_frame-frame.ensures.rows ∙ ap (λ (n : List NameValue). min (length n) 1000000) (c.as_slice.ensures ∙ sym copied) in
+    let left : f.left ≡ left_of names = c.lag_frame-frame.ensures.left ∙ ap left_of (c.as_slice.ensures ∙ sym copied) in
     let sizes : f.sizes ≡ lag_sizes_of (length names) (sizes_of (c.args.to - c.args.from) c.args.to) =
-    c.lag_frame-frame.ensures.sizes ∙ ap (λ (n : List NameValue). lag_sizes_of (length n) (sizes_of (c.args.to - c.args.from) c.args.to)) c.as_slice.ensures.value in
-    let steps : c.in_ok-lags.lags.steps.items ≡ lag_steps f names d.decided d.tables = c.in_ok-lags.ensures.steps ∙ ap (λ (n : List NameValue). lag_steps f n d.decided d.tables) c.as_slice-2.ensures.value in
+    c.lag_frame-frame.ensures.sizes ∙ ap (λ (n : List NameValue). lag_sizes_of (length n) (sizes_of (c.args.to - c.args.from) c.args.to)) (c.as_slice.ensures ∙ sym copied) in
+    let steps : c.in_ok-lags.lags.steps.items ≡ lag_steps f names d.decided d.tables = c.in_ok-lags.ensures.steps ∙ ap (λ (n : List NameValue). lag_steps f n d.decided d.tables) (sym copied) in
     let labels : c.in_ok-lags.lags.labels.items ≡ map (cut_label (width_of f) (height_of f)) (weights f names told.lives) =
-    c.in_ok-lags.ensures.labels ∙ ap (λ (n : List NameValue). map (cut_label (width_of f) (height_of f)) (weights f n c.lives.result.now)) c.as_slice-2.ensures.value
+    c.in_ok-lags.ensures.labels ∙ ap (λ (n : List NameValue). map (cut_label (width_of f) (height_of f)) (weights f n c.lives.result.now)) (sym copied)
     ∙ ap (λ (l : List Life). map (cut_label (width_of f) (height_of f)) (weights f names l)) (c.lives.ensures ∙ ap (λ (h : Told). h.lives) history) in
     let ground : c.in_ok-ground.ground.items ≡ map (cut_shape (width_of f) (height_of f)) (lags_ground f names told.lives) =
-    c.in_ok-ground.ensures.value ∙ ap (λ (n : List NameValue). map (cut_shape (width_of f) (height_of f)) (lags_ground f n c.lives-2.result.now)) c.as_slice-3.ensures.value
-    ∙ ap (λ (l : List Life). map (cut_shape (width_of f) (height_of f)) (lags_ground f names l)) (c.lives-2.ensures ∙ ap (λ (h : Told). h.lives) history) in
+    c.in_ok-ground.ensures.value ∙ ap (λ (n : List NameValue). map (cut_shape (width_of f) (height_of f)) (lags_ground f n c.in_ok-history.history.lives)) (c.as_slice-2.ensures ∙ sym copied)
+    ∙ ap (λ (h : Told). map (cut_shape (width_of f) (height_of f)) (lags_ground f names h.lives)) history in
     lags_are d.decided d.tables d.settings c.args.from c.args.to f _ c.in_ok-lags.lags c.lag_frame-frame.ensures.frame c.lag_frame-frame.ensures.slots.0 c.lag_frame-frame.ensures.slots.1 names_are rows left sizes
     c.width.ensures.value c.height.ensures.value c.figures_of.ensures refl c.in_ok-lags.ensures.has_dots steps labels ground c.in_ok-key.ensures.value c.in_ok-lags.ensures.inside c.in_ok-ground.ensures.inside c.in_ok-key.ensures.inside

@@ -10,5 +10,5 @@ loop-slot-preserved g c =
     let d = c.args.dispatcher.now in
     let slot = c.loop-slot.slot in
     ap (λ (names : List NameValue). with_slots d.decided d.tables names (range_with_len (slot + 1) (c.args.to - (slot + 1)))) c.in_ok-add_slot.ensures
-    ∙ ap (with_slots d.decided d.tables c.loop-slot.names.items) (sym (range_first slot c.args.to c.loop-slot-test.true))
+    ∙ ap (with_slots d.decided d.tables c.loop-slot.names) (sym (range_first slot c.args.to c.loop-slot-test.true))
     ∙ c.loop-slot.invariant

@@ -6,4 +6,4 @@ use Rattle.pfair_drawing.proofs.names.names_of.Given as goal
 -- the names so far, with those of the slots that are left, are the whole
 abbrev pub invariant-loop-slot : goal.invariant-loop-slot
 invariant-loop-slot g l =
-    with_slots l.dispatcher.decided l.dispatcher.tables l.names.items (range_with_len l.slot (l.to - l.slot)) ≡ names_before l.dispatcher.decided l.dispatcher.tables l.to
+    with_slots l.dispatcher.decided l.dispatcher.tables l.names (range_with_len l.slot (l.to - l.slot)) ≡ names_before l.dispatcher.decided l.dispatcher.tables l.to

@@ -1,4 +1,4 @@
-use Rattle.std.proofs.Common.{ℕ, ◌≤◌, arith, List, [], ◌∷◌}
+use Rattle.std.proofs.Common.{◌≤◌, arith, List, [], ◌∷◌}
 use Rattle.pfair_weight.specs.Name.{NameValue}
 use Rattle.pfair_drawing.specs.Sizes.{left_of}
 use Rattle.pfair_drawing.proofs.schedule.left_margin.Goals as goal
