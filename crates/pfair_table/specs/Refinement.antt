@@ -3,6 +3,7 @@ use Rattle.std.specs.Prelude.{ℕ, zero, suc, ◌+◌, ◌≡◌, ◌≤◌, ◌
 use Rattle.pfair_replica.specs.HeldRows.{HeldRows, replica_of}
 use Rattle.pfair_replica.specs.Replica.{Replica, Below, Untorn, Agree, frontier, has_torn, torn_keys, said, numbers_below}
 use Rattle.pfair_ready.specs.Queue.{Queue}
+use Rattle.pfair_admission.specs.Member.{Member}
 use Rattle.pfair_admission.specs.Roster.{Roster}
 use Rattle.pfair_table.specs.declared.pick.Decided.{Decided}
 use Rattle.pfair_table.specs.declared.answer.Step.{Step}
@@ -75,6 +76,16 @@ pub record IsPlanOf (s : Settings) (held of : Replica) (tables : List Table) (de
   pub tables_are : tables ≡ (history s of (length tables)).tables
   pub decided_are : decided ≡ map (decisions s of) (numbers_below (length tables))
 
+-- the members after slots 0 to n - 1, counted by the tables of these
+abbrev pub members_after : Settings → Replica → ℕ → List Member
+members_after s x n = counted (history s x n).tables (history s x n).members
+
+-- the members after the tables so far, of a replica whose plan these are
+pub record AreMembersOf (d : Dispatch) (members : List Member) : Type 0 where
+  pub of : Replica
+  pub plan : IsPlanOf d.settings (replica_of d.held) of d.tables d.decided
+  pub members_are : members ≡ members_after d.settings of (length d.tables)
+
 -- how many announcements are said before slot n
 abbrev pub heard_before : Replica → ℕ → ℕ
 heard_before x zero = 0
@@ -83,7 +94,7 @@ heard_before x (suc n) = heard_before x n + length (said x n)
 -- The members are those of the definition after n slots, counted by the tables so far; and the ready structure waits for slot n.
 pub record IsInStep (s : Settings) (of : Replica) (n : ℕ) (roster : Roster) (now : ℕ) (waiting : Queue) : Type 0 where
   pub machine_is : roster.machine ≡ machine s
-  pub members_are : roster.members ≡ counted (history s of n).tables (history s of n).members
+  pub members_are : roster.members ≡ members_after s of n
   pub heard_is : roster.heard ≡ heard_before of n
   pub steady : IsSteady n roster now waiting
 

@@ -1,6 +1,6 @@
 //! The dispatcher.
 
-ghost use Rattle.std.specs.Prelude.{◌≡◌, ◌≤◌, ◌<◌, ◌++◌, ◌∷◌, [], true, false, IfOk, IfErr, OnOk, OnErr, Err, length, slice_get};
+ghost use Rattle.std.specs.Prelude.{◌≡◌, ◌≤◌, ◌<◌, ◌++◌, ◌∷◌, [], true, false, IfOk, IfErr, IfSome, IfNone, OnOk, OnErr, Err, length, slice_get};
 ghost use Rattle.std.specs.Option.{option_map};
 ghost use Rattle.pfair_replica.specs.Replica.{Untorn, has_torn};
 ghost use Rattle.pfair_replica.specs.Offered.{taken, absorbed};
@@ -15,7 +15,7 @@ ghost use Rattle.pfair_table.specs.Planned.{as_tables, as_places};
 ghost use Rattle.pfair_table.specs.Places.{places_of};
 ghost use Rattle.pfair_table.specs.PlaceLaws.{IsFit, HavePlacedAlike};
 ghost use Rattle.pfair_table.specs.Readings.{AreReadingsOf};
-ghost use Rattle.pfair_table.specs.Refinement.{IsInStep, course_of, IsStepOf, IsPlanFault, after_fault, IsReopenFault, IsLast, IsWholePlan, HavePlannedAlike};
+ghost use Rattle.pfair_table.specs.Refinement.{AreMembersOf, IsInStep, course_of, members_after, IsStepOf, IsPlanFault, after_fault, IsReopenFault, IsLast, IsWholePlan, HavePlannedAlike};
 
 use crate::answer::{PlanFault, Step};
 use crate::pick::{Decided, Pick};
@@ -24,6 +24,7 @@ use crate::planned::{Planned, Run};
 use crate::planner::Planner;
 use crate::script::Script;
 use crate::settings::Settings;
+use pfair_admission::Members;
 use pfair_entry::Entry;
 use pfair_ready::Ready;
 use pfair_replica::{MergeFault, Replica, TakeFault, Taken};
@@ -172,6 +173,21 @@ impl<R: Ready> Dispatcher<R> {
         ensures { option_map (λ rows. rows.now) result ≡ slice_get self.now.decided slot }
     {
         self.planned.decided(slot as usize)
+    }
+
+    /// The members after the slots that are planned: in the order of admission the tasks that were
+    /// admitted and aren't freed at the boundary of the last of these, each with the subtask that is
+    /// next after its table. `None` exactly where the dispatcher is spent. It costs nothing.
+    pub fn members(&self) -> Option<&Members>
+        ensures none { IfNone result (self.now.spent ≡ true) }
+        ensures some { IfSome result (λ members. self.now.spent ≡ false) }
+        ensures members { IfSome result (λ members. AreMembersOf self.now members.now.members) }
+        ensures whole { IfSome result (λ members. has_torn (replica_of self.now.held) ≡ false → members.now.members ≡ members_after self.now.settings (replica_of self.now.held) (length self.now.tables)) }
+    {
+        if self.spent {
+            return None;
+        }
+        Some(self.planner.members())
     }
 
     /// The tables of all slots that are planned, and their places. Each is moved, and none is copied:

@@ -44,6 +44,13 @@ impl<R: Ready> Planner<R> {
         })
     }
 
+    /// The members after the slots that were planned last.
+    pub(crate) fn members(&self) -> &Members
+        ensures { result.now ≡ self.now.members }
+    {
+        &self.members
+    }
+
     /// Plans slot n of the replica, in step with the n slots before it.
     pub(crate) fn plan(
         &mut self,
