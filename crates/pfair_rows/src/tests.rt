@@ -1,6 +1,8 @@
 //! The runs.
 
-use crate::run::{Run, assert_runs};
+use crate::run::{Run, assert_runs, left};
+use pfair_ready::HeapReady;
+use pfair_table::Dispatcher;
 use std::alloc::AllocError;
 
 #[test]
@@ -272,6 +274,18 @@ fn leavers(rt: HostRuntime) -> Result<(), AllocError> {
             },
         ],
     )
+}
+
+#[test]
+fn members_after_the_planned_slots(rt: HostRuntime) -> Result<(), AllocError> {
+    let events = "0 1 0 0 arrive a 1 2; 0 2 0 0 early b 2 4; 0 3 2 2 depart a; 0 4 4; plan 3";
+    let dispatcher: Dispatcher<HeapReady> = left(&rt, rt.alloc(), (1, 4, 4), events)?;
+    let members = dispatcher.members().expect(&rt, "members");
+    let (_, a) = members.at(0).expect(&rt, "a member");
+    let (_, b) = members.at(1).expect(&rt, "another");
+    assert_eq!(&rt; (members.len(), a.next(), b.next()), (2, 2, 3));
+    assert_eq!(&rt; (a.freed_at(), b.freed_at()), (Some(3), None));
+    Ok(())
 }
 
 #[test]

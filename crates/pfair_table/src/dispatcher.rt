@@ -187,6 +187,7 @@ impl<R: Ready> Dispatcher<R> {
         if self.spent {
             return None;
         }
+        prove!(self.replica.processors() >= 1);
         Some(self.planner.members())
     }
 
