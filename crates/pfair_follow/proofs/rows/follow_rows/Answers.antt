@@ -24,4 +24,4 @@ returns-clause-strict g c =
     let new = c.in_ok-follower.ensures in
     let fresh : IsFresh c.args.output c.args.run.now c.in_ok-follower.follower = record { output_is = new.output; settings_are = new.settings; course_is = new.course; told_is = new.told } in
     on_ok_then c.feed_all.result c.feed_all.ensures.strict (λ welcome is.
-        taken_all c.args.output c.args.run.now c.in_ok-follower.follower fresh (g.I.Read.remaining c.args.reader.now) (g.I.Read.remaining c.feed_all.new.reader) (welcome is))
+    taken_all c.args.output c.args.run.now c.in_ok-follower.follower fresh (g.I.Read.remaining c.args.reader.now) (g.I.Read.remaining c.feed_all.new.reader) (welcome is))
