@@ -98,11 +98,11 @@ fn fault_row(fault: FileFault) -> PfairFileFault
         FileFault::WrongKind { place, field } => at_key(place, field),
         FileFault::Range { place, field } => at_key(place, field),
         FileFault::Entry {
-            processor,
+            proc,
             number,
             cause,
         } => PfairFileFault {
-            processor: processor as u64,
+            processor: proc as u64,
             number: number as u64,
             cause: cause.number() as u64,
             ..NOWHERE

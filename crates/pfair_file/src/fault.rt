@@ -72,10 +72,10 @@ pub enum FileFault {
         field: Field,
     },
     /// Number 64: the keys of a table are in order, and make no entry.
-    #[error("entry {number} of processor {processor} refused: {} {cause}", .cause.number())]
+    #[error("entry {number} of processor {proc} refused: {} {cause}", .cause.number())]
     Entry {
         /// The processor, counted from 0.
-        processor: u8,
+        proc: u8,
         /// The number that the entry would have in the processor's log, counted from 1.
         number: u32,
         /// Why there is no such entry.

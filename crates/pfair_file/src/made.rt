@@ -45,7 +45,7 @@ pub fn append(
             Err(_) => Err(FileFault::Memory),
         },
         Err(cause) => Err(FileFault::Entry {
-            processor,
+            proc: processor,
             number: log.len() as u32 + 1,
             cause,
         }),

@@ -42,7 +42,7 @@ fn of_file(fault: FileFault) -> ProgramFault {
 // A table's fault, with the greatest processor and number that its type can hold.
 fn refused(cause: EntryCause) -> ProgramFault {
     of_file(FileFault::Entry {
-        processor: u8::MAX,
+        proc: u8::MAX,
         number: u32::MAX,
         cause,
     })
