@@ -55,8 +55,8 @@ pub struct Finished {
 /// couldn't be started. `GateGaveUp`, only where the gate's type may give up. `Astray`, of a
 /// worker, or where a worker's replica isn't the script's. `Stalled` only where the script's
 /// frontier, which is that slot, is below the number of slots.
-pub fn run_dispatchers<P: Threads + Wait + Sync, R: Ready + Send, G: Gate + Sync>(
-    rt: &P,
+pub fn run_dispatchers<R: Ready + Send, G: Gate + Sync>(
+    rt: &(impl Threads + Wait + Sync),
     alloc: Global,
     script: &Script,
     gate: &G,
@@ -65,7 +65,7 @@ pub fn run_dispatchers<P: Threads + Wait + Sync, R: Ready + Send, G: Gate + Sync
     ensures fault { IfErr result (IsRunFaultOf G.may_give_up script.now) }
 {
     let board = Board::new(alloc, script.settings().processors(), script.capacity())?;
-    let works = run_on::<P, R, G>(rt, alloc, script, &board, gate)?;
+    let works = run_on::<_, R, G>(rt, alloc, script, &board, gate)?;
     Ok(hand_back(alloc, script, board, works)?)
 }
 
@@ -141,7 +141,7 @@ fn work<P: Wait, R: Ready, G: Gate>(
     } = workplace;
     let settings = script.settings();
     let log = script.log(desk.proc());
-    let run = run_worker::<P, R, G>(rt, alloc, settings, &mut desk, board, log, hints, gate);
+    let run = run_worker::<R, G>(rt, alloc, settings, &mut desk, board, log, hints, gate);
     Worked {
         settings,
         desk,

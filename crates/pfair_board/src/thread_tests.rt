@@ -293,7 +293,7 @@ fn two_workers_meet(rt: HostRuntime) -> Result<(), Fail> {
         first: AtomicU64::new(0),
         second: AtomicU64::new(0),
     };
-    let finished = run_dispatchers::<_, HeapReady, _>(&rt, rt.alloc(), &script, &gate)?;
+    let finished = run_dispatchers::<HeapReady, _>(&rt, rt.alloc(), &script, &gate)?;
     assert!(&rt; finished.runs.len() == 2 && finished.runs.iter().all(is_sample));
     assert!(&rt; gate.first.load(Ordering::SeqCst) == 6);
     assert!(&rt; gate.second.load(Ordering::SeqCst) == 6);
@@ -305,7 +305,7 @@ fn two_workers_meet(rt: HostRuntime) -> Result<(), Fail> {
 fn a_script_stalls(rt: HostRuntime) -> Result<(), Fail> {
     let log = vec![in rt.alloc(); entry(&rt, 5, None), entry(&rt, 4, None)]?;
     let script = of_one_log(&rt, rt.alloc(), 8, log)?;
-    let run = run_dispatchers::<_, HeapReady, _>(&rt, rt.alloc(), &script, &OpenGate);
+    let run = run_dispatchers::<HeapReady, _>(&rt, rt.alloc(), &script, &OpenGate);
     assert!(&rt; matches!(run, Err(RunFault::Stalled { slot: 5 })));
     Ok(())
 }
@@ -313,7 +313,7 @@ fn a_script_stalls(rt: HostRuntime) -> Result<(), Fail> {
 #[test]
 fn a_script_without_an_entry_stalls_at_once(rt: HostRuntime) -> Result<(), Fail> {
     let script = of_one_log(&rt, rt.alloc(), 8, Vec::new(rt.alloc()))?;
-    let run = run_dispatchers::<_, HeapReady, _>(&rt, rt.alloc(), &script, &OpenGate);
+    let run = run_dispatchers::<HeapReady, _>(&rt, rt.alloc(), &script, &OpenGate);
     assert!(&rt; matches!(run, Err(RunFault::Stalled { slot: 0 })));
     Ok(())
 }
@@ -321,7 +321,7 @@ fn a_script_without_an_entry_stalls_at_once(rt: HostRuntime) -> Result<(), Fail>
 #[test]
 fn a_gate_gives_up(rt: HostRuntime) -> Result<(), Fail> {
     let script = sample(&rt, rt.alloc())?;
-    let run = run_dispatchers::<_, HeapReady, _>(&rt, rt.alloc(), &script, &ShutGate);
+    let run = run_dispatchers::<HeapReady, _>(&rt, rt.alloc(), &script, &ShutGate);
     assert!(&rt; matches!(run, Err(RunFault::GateGaveUp)));
     Ok(())
 }
@@ -334,7 +334,7 @@ fn a_gate_tires(rt: HostRuntime) -> Result<(), Fail> {
             calls: AtomicU64::new(0),
             good,
         };
-        let run = run_dispatchers::<_, HeapReady, _>(&rt, rt.alloc(), &script, &gate);
+        let run = run_dispatchers::<HeapReady, _>(&rt, rt.alloc(), &script, &gate);
         assert!(&rt; matches!(run, Err(RunFault::GateGaveUp)));
     }
     Ok(())
@@ -345,7 +345,7 @@ fn a_gate_is_shut_to_one_worker(rt: HostRuntime) -> Result<(), Fail> {
     let script = sample(&rt, rt.alloc())?;
     for worker in 0..2u8 {
         let gate = ShutTo { worker };
-        let run = run_dispatchers::<_, HeapReady, _>(&rt, rt.alloc(), &script, &gate);
+        let run = run_dispatchers::<HeapReady, _>(&rt, rt.alloc(), &script, &gate);
         assert!(&rt; matches!(run, Err(RunFault::GateGaveUp)));
     }
     Ok(())
@@ -355,7 +355,7 @@ fn a_gate_is_shut_to_one_worker(rt: HostRuntime) -> Result<(), Fail> {
 fn a_shut_gate_comes_before_a_stall(rt: HostRuntime) -> Result<(), Fail> {
     let log = vec![in rt.alloc(); entry(&rt, 5, None), entry(&rt, 4, None)]?;
     let script = of_one_log(&rt, rt.alloc(), 8, log)?;
-    let run = run_dispatchers::<_, HeapReady, _>(&rt, rt.alloc(), &script, &ShutGate);
+    let run = run_dispatchers::<HeapReady, _>(&rt, rt.alloc(), &script, &ShutGate);
     assert!(&rt; matches!(run, Err(RunFault::GateGaveUp)));
     Ok(())
 }
@@ -366,7 +366,7 @@ fn workers_come_to_each_slot_in_turn(rt: HostRuntime) -> Result<(), Fail> {
     let gate = InTurn {
         calls: [AtomicU64::new(0), AtomicU64::new(0), AtomicU64::new(0)],
     };
-    let run = run_dispatchers::<_, HeapReady, _>(&rt, rt.alloc(), &script, &gate);
+    let run = run_dispatchers::<HeapReady, _>(&rt, rt.alloc(), &script, &gate);
     assert!(&rt; run.is_ok());
     for calls in &gate.calls {
         assert!(&rt; calls.load(Ordering::SeqCst) == 8);
@@ -411,7 +411,7 @@ fn works_without_hints<P: Wait + Abort>(
     let hints = Hints::all(alloc, 1)?.pop().expect(rt, "hints");
     let settings = Settings::new(2, 6, 6).expect(rt, "settings");
     let log = second_log(rt);
-    let run = run_worker::<_, HeapReady, _>(
+    let run = run_worker::<HeapReady, _>(
         rt, alloc, settings, second, board, &log, hints, &OpenGate,
     )?;
     assert!(rt; is_sample(&run));
@@ -436,7 +436,7 @@ fn a_worker_tells_the_others_of_its_log(rt: HostRuntime) -> Result<(), Fail> {
     let hints = all.pop().expect(&rt, "hints");
     let settings = Settings::new(2, 6, 6).expect(&rt, "settings");
     let log = first_log(&rt);
-    let run = run_worker::<_, HeapReady, _>(
+    let run = run_worker::<HeapReady, _>(
         &rt, alloc, settings, &mut desk, &board, &log, hints, &OpenGate,
     )?;
     assert!(&rt; run.tables.is_empty());
@@ -504,7 +504,7 @@ fn works_with_hints<P: Wait>(
     let Some(settings) = Settings::new(2, 6, 6) else {
         return false;
     };
-    match run_worker::<P, HeapReady, Counting>(
+    match run_worker::<HeapReady, Counting>(
         rt, alloc, settings, &mut desk, board, log, hints, gate,
     ) {
         Ok(run) => is_sample(&run),
@@ -566,7 +566,7 @@ fn silent(
 #[test]
 fn sixty_four_workers(rt: HostRuntime) -> Result<(), Fail> {
     let script = silent(&rt, rt.alloc(), 64, 2)?;
-    let finished = run_dispatchers::<_, HeapReady, _>(&rt, rt.alloc(), &script, &OpenGate)?;
+    let finished = run_dispatchers::<HeapReady, _>(&rt, rt.alloc(), &script, &OpenGate)?;
     assert!(&rt; finished.runs.len() == 64);
     for run in &finished.runs {
         assert!(&rt; run.tables.len() == 2);
@@ -593,7 +593,7 @@ fn works_alone<P: Wait>(
     let Some(settings) = Settings::new(2, 6, 6) else {
         return false;
     };
-    let Ok(run) = run_worker::<P, HeapReady, Meeting>(
+    let Ok(run) = run_worker::<HeapReady, Meeting>(
         rt, alloc, settings, &mut desk, board, log, hints, gate,
     ) else {
         return false;
@@ -664,9 +664,7 @@ fn goes_astray<P: Wait + Abort>(
     let hints = Hints::all(alloc, 1)?.pop().expect(rt, "hints");
     let settings = Settings::new(1, 1, 1).expect(rt, "settings");
     let log = [entry(rt, 2, None)];
-    let run = run_worker::<_, HeapReady, _>(
-        rt, alloc, settings, desk, board, &log, hints, &OpenGate,
-    );
+    let run = run_worker::<HeapReady, _>(rt, alloc, settings, desk, board, &log, hints, &OpenGate);
     assert!(rt; matches!(run, Err(RunFault::Astray)));
     assert!(rt; desk.replica().get(0, 1) == Some(Flat::One(standing)));
     Ok(())
@@ -706,7 +704,7 @@ fn busy(rt: &impl Abort, alloc: Global) -> Result<Script, AllocError> {
 // Asserts that ten runs of a script, in threads, end well.
 fn ten_runs<P: Threads + Wait + Abort + Sync>(rt: &P, alloc: Global, script: &Script) {
     for _ in 0..10 {
-        let run = run_dispatchers::<P, HeapReady, OpenGate>(rt, alloc, script, &OpenGate);
+        let run = run_dispatchers::<HeapReady, OpenGate>(rt, alloc, script, &OpenGate);
         assert!(rt; run.is_ok());
     }
 }

@@ -45,8 +45,8 @@ use std::sync::Wait;
 /// `Memory` where memory was wanted and refused. `GateGaveUp` only where the gate's type may give
 /// up. `Astray` only where the desk's row has another entry at a number of the log. After each the
 /// desk holds all that it held, and what it learned.
-pub fn run_worker<P: Wait, R: Ready, G: Gate>(
-    rt: &P,
+pub fn run_worker<R: Ready, G: Gate>(
+    rt: &impl Wait,
     alloc: Global,
     settings: Settings,
     desk: &mut Desk,

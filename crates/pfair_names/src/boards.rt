@@ -2,7 +2,7 @@
 ghost use Rattle.std.specs.Prelude.{◌≡◌, ◌<◌, IfOk};
 ghost use Rattle.pfair_desk.specs.Desks.{IsDeskOf};
 
-use pfair_board::{Board, Desk, Finished, Hints, OpenGate, Run, run_dispatchers, run_worker};
+use pfair_board::{Board, Desk, Finished, Gate, Hints, OpenGate, Run, run_dispatchers, run_worker};
 use pfair_entry::Entry;
 use pfair_ready::HeapReady;
 use pfair_table::{Script, Settings};
@@ -10,6 +10,20 @@ use std::alloc::{AllocError, Global};
 use std::process::Abort;
 use std::sync::Wait;
 use std::test::Fail;
+
+// A gate of a user's own, which lets every worker pass.
+#[derive(Drop)]
+struct WideGate;
+
+impl Gate for WideGate {
+    ghost use Rattle.std.specs.Prelude.{false};
+
+    ghost may_give_up = { false };
+
+    fn come<P: Wait>(&self, rt: &P, worker: u8, slot: u64) -> bool {
+        OpenGate.come(rt, worker, slot)
+    }
+}
 
 // The desk of a row, one of a new set.
 fn row(board: &Board, proc: u8) -> Result<Desk, AllocError>
@@ -74,8 +88,8 @@ fn works<P: Wait + Abort>(
 {
     let settings = Settings::new(1, 2, 3).expect(rt, "settings");
     let log = [Entry::new(3, None)?];
-    let gate = OpenGate;
-    let Run { tables, places } = run_worker::<P, HeapReady, OpenGate>(
+    let gate = WideGate;
+    let Run { tables, places } = run_worker::<HeapReady, WideGate>(
         rt, alloc, settings, desk, board, &log, hints, &gate,
     )?;
     assert_eq!(rt; (tables.len(), places.len()), (3, 3));
@@ -93,7 +107,7 @@ fn a_worker(rt: HostRuntime) -> Result<(), Fail> {
 #[test]
 fn dispatcher_threads(rt: HostRuntime) -> Result<(), Fail> {
     let script = quiet(&rt, rt.alloc())?;
-    let Finished { board, desks, runs } = run_dispatchers::<_, HeapReady, _>(
+    let Finished { board, desks, runs } = run_dispatchers::<HeapReady, _>(
         &rt,
         rt.alloc(),
         &script,

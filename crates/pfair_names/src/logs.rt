@@ -1,16 +1,21 @@
 //! Joins, entries, writers and replicas.
 
 use pfair_entry::{Announcement, Entry, Writer};
-use pfair_lattice::{Flat, Join, JoinMap};
+use pfair_lattice::{Exact, Flat, Join, JoinMap};
 use pfair_replica::{Faults, Replica, TakeFault, Taken};
 use pfair_weight::{TaskName, Weight};
 use std::alloc::{AllocError, Global};
 use std::process::Abort;
 use std::test::Fail;
 
+// The one content of a number.
+fn one<T: Exact>(content: T) -> Flat<T> {
+    Flat::One(content)
+}
+
 // A map joined with itself and with a copy.
 fn joins(rt: &impl Abort, map: &mut JoinMap<u32, Flat<u8>>) -> Result<(), AllocError> {
-    map.put(1, &Flat::One(5))?;
+    map.put(1, &one(5))?;
     let copy = map.copy()?;
     map.join(&copy)?;
     assert!(rt; map.le(&copy) && map.len() == 1);

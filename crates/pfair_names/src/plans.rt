@@ -27,7 +27,9 @@ fn arrives_and_runs(rt: &impl Abort, members: &mut Members, name: TaskName) -> R
     let (first, member) = members.at(0).expect(rt, "a member");
     assert!(rt; *first == name);
     reads(rt, member);
-    assert!(rt; members.get(&name).is_some());
+    let member = members.get(&name).expect(rt, "a member");
+    assert!(rt; member.next() <= 1_000_000);
+    assert_eq!(rt; members.ran(&name), Some(1));
     Ok(())
 }
 
@@ -80,6 +82,7 @@ fn scripts(rt: HostRuntime) -> Result<(), Fail> {
     let script = Script::new(settings, logs).ok().expect(&rt, "a script");
     assert!(&rt; script.settings() == settings);
     assert!(&rt; script.settings().processors() == 1);
+    assert_eq!(&rt; script.log(0).len(), 1);
     Ok(())
 }
 

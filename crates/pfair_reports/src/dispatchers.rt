@@ -20,8 +20,8 @@ use std::sync::Wait;
 use std::thread::Threads;
 
 /// The run of the first processor's dispatcher, of the script that a reader's bytes hold.
-pub(crate) fn first_run<P: Threads + Wait + Sync, R: Read, G: Gate + Sync>(
-    rt: &P,
+pub(crate) fn first_run<R: Read, G: Gate + Sync>(
+    rt: &(impl Threads + Wait + Sync),
     alloc: Global,
     reader: &mut R,
     gate: &G,
@@ -34,6 +34,6 @@ pub(crate) fn first_run<P: Threads + Wait + Sync, R: Read, G: Gate + Sync>(
     let script = read_script(alloc, reader)?;
     // settings have a processor, so that there is a run
     prove!(script.settings().processors() >= 1);
-    let mut finished = run_dispatchers::<P, HeapReady, G>(rt, alloc, &script, gate)?;
+    let mut finished = run_dispatchers::<HeapReady, G>(rt, alloc, &script, gate)?;
     Ok(finished.runs.swap_remove(0))
 }

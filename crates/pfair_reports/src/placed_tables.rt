@@ -26,8 +26,8 @@ use std::thread::Threads;
 ///
 /// # Errors
 /// Those of [`replay`](crate::tables::replay).
-pub fn replay_placed<P: Threads + Wait + Sync, R: Read, W: Write, G: Gate + Sync>(
-    rt: &P,
+pub fn replay_placed<R: Read, W: Write, G: Gate + Sync>(
+    rt: &(impl Threads + Wait + Sync),
     alloc: Global,
     reader: &mut R,
     writer: &mut W,

@@ -33,8 +33,8 @@ use std::thread::Threads;
 /// logs say: nothing has then been written.
 /// [`ProgramFault::WriteFailed`] where the writer answered an error, or took nothing; a prefix of
 /// the text has then gone out.
-pub fn replay<P: Threads + Wait + Sync, R: Read, W: Write, G: Gate + Sync>(
-    rt: &P,
+pub fn replay<R: Read, W: Write, G: Gate + Sync>(
+    rt: &(impl Threads + Wait + Sync),
     alloc: Global,
     reader: &mut R,
     writer: &mut W,
