@@ -2,8 +2,8 @@
 
 ghost use Rattle.std.specs.Prelude.{◌≡◌, ◌⊎◌, IfErr, alloc_error};
 
+use crate::memory::is_want_of_memory;
 use std::alloc::{AllocError, AllocGlobal};
-use std::io;
 use std::rt::Env;
 
 /// The words after the program's name.
@@ -19,7 +19,7 @@ pub fn given_words<P: Env + AllocGlobal, F: From<AllocError> + Drop>(
 {
     match std::env::args(rt) {
         Ok(args) => Ok(args.skip(1).collect(rt.alloc())?),
-        Err(error) if error.kind() == io::ErrorKind::OutOfMemory => Err(F::from(AllocError)),
+        Err(error) if is_want_of_memory(&error) => Err(F::from(AllocError)),
         Err(_) => Err(no_text),
     }
 }

@@ -7,6 +7,7 @@ mod given;
 #[cfg(test)]
 mod given_tests;
 mod line;
+mod memory;
 mod schedule;
 #[cfg(test)]
 mod tests;

@@ -7,13 +7,13 @@ ghost use Rattle.pfair_command.specs.Schedules.{IsRefusalOf, IsScheduleOf};
 ghost use Rattle.pfair_command.specs.declared.fault.ScheduleFault.TheVariants.{FileTooLong, ReadFailed, Memory};
 
 use crate::fault::ScheduleFault;
+use crate::memory::is_want_of_memory;
 use pfair_file::read_file;
 use pfair_ready::HeapReady;
 use pfair_table::{Dispatcher, Script, run_script};
 use pfair_text::read_bytes;
 use std::alloc::Global;
 use std::fs::{File, Files};
-use std::io;
 use std::io::Read;
 
 /// A task file, opened for reading.
@@ -25,7 +25,7 @@ pub fn opened<P: Files>(rt: &P, file: &str) -> Result<P::File, ScheduleFault>
 {
     match File::open(rt, file) {
         Ok(reader) => Ok(reader),
-        Err(error) if error.kind() == io::ErrorKind::OutOfMemory => Err(ScheduleFault::Memory),
+        Err(error) if is_want_of_memory(&error) => Err(ScheduleFault::Memory),
         Err(_) => Err(ScheduleFault::ReadFailed),
     }
 }
