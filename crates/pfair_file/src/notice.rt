@@ -93,7 +93,7 @@ fn read_name(table: &Table, place: u64) -> Result<Result<TaskName, NameFault>, F
     Ok(checked_name(name.as_bytes()))
 }
 
-// The name that these bytes checked_name, or the first of its faults.
+// The name that these bytes spell, or the first of their faults.
 fn checked_name(bytes: &[u8]) -> Result<TaskName, NameFault>
     ensures { result ≡ task_name_of bytes.now }
 {

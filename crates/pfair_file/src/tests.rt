@@ -151,6 +151,9 @@ const CHANGES: &[(&str, &str, &str)] = &[
     ("slots = 6", "slots = 1000001", "63 slots out of range at 0"),
     ("at = 2", "at = -1", "63 at out of range at 3"),
     ("at = 2", "ab = 2", "61 missing at at 3"),
+    ("cost = 2", "cost = -1", "63 cost out of range at 2"),
+    ("index = 4", "indes = 4", "61 missing index at 8"),
+    ("by = 2", "by = true", "62 by of wrong kind at 8"),
     (
         "kind = \"depart\"",
         "kind = 3",
