@@ -5,6 +5,8 @@
 #[cfg(test)]
 mod announcements;
 #[cfg(test)]
+mod boards;
+#[cfg(test)]
 mod plans;
 #[cfg(test)]
 mod replicas;
