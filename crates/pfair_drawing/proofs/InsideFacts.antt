@@ -53,7 +53,7 @@ lane_inside f row index from to h =
     within : (a b c : ℕ) → a ≤ c → b ≤ c → a + (b - a) ≤ max (c + 40) 640
     within a b c h k = omega arith
 
-    below : (a b c : ℕ) → a ≤ b + 48 → a ≤ b + 12 + c + 4 + 98
+    below : (a b c : ℕ) → a ≤ b + 48 → a ≤ b + 12 + c + 4 + 118
     below a b c h = omega arith
 
 quantum_inside : (f : Frame) (r : Ran) → IsFrame f → InFrame f (quantum_bar f r).area
@@ -67,7 +67,7 @@ quantum_inside f r h =
     within : (a c s g : ℕ) → a ≤ c → s ≤ 40 → 2 * g ≤ s → a + g + (s - 2 * g) ≤ max (c + 40) 640
     within a c s g h k j = omega arith
 
-    below : (a l g b c : ℕ) → a + l ≤ b + 48 → g ≤ 2 → 5 ≤ l → a + g + (l - 2 * g) ≤ b + 12 + c + 4 + 98
+    below : (a l g b c : ℕ) → a + l ≤ b + 48 → g ≤ 2 → 5 ≤ l → a + g + (l - 2 * g) ≤ b + 12 + c + 4 + 118
     below a l g b c h k j = omega arith
 
 cell_inside : (f : Frame) (r : Ran) → IsFrame f → InFrame f (cell_bar f r).area
@@ -81,7 +81,7 @@ cell_inside f r h =
     within : (a c s : ℕ) → a ≤ c → s ≤ 40 → 2 ≤ s → a + (s - 1) ≤ max (c + 40) 640
     within a c s h k j = omega arith
 
-    below : (a c s b : ℕ) → a ≤ c → s ≤ 15 → 7 ≤ s → b + 12 + a + 1 + (s - 2) ≤ b + 12 + c + 4 + 98
+    below : (a c s b : ℕ) → a ≤ c → s ≤ 15 → 7 ≤ s → b + 12 + a + 1 + (s - 2) ≤ b + 12 + c + 4 + 118
     below a c s b h k j = omega arith
 
 life_inside : (f : Frame) (row : ℕ) (late : List Late) (place : ℕ) (life : Life) → IsFrame f → All (λ b. InFrame f b.area) (life_windows f row late place life)

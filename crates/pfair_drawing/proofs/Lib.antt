@@ -1,6 +1,7 @@
 mod DecisionFacts
 mod HistoryFacts
 mod InsideFacts
+mod KeyFacts
 mod LastFacts
 mod MarkFacts
 mod MemberFacts

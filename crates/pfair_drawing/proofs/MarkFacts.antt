@@ -62,7 +62,7 @@ module _ (f : Frame) (h : IsFrame f) where
       right : (a c : ℕ) → a ≤ c → a ≤ max (c + 40) 640
       right a c h = omega arith
 
-      down : (y b c : ℕ) → y ≤ b + 68 → y ≤ b + 12 + c + 4 + 98
+      down : (y b c : ℕ) → y ≤ b + 68 → y ≤ b + 12 + c + 4 + 118
       down y b c h = omega arith
 
   -- ---- joins, departures and held weights
@@ -124,7 +124,7 @@ module _ (f : Frame) (h : IsFrame f) where
       within : (a b c : ℕ) → a ≤ c → b ≤ c → a + (b - a) ≤ max (c + 40) 640
       within a b c h k = omega arith
 
-      below : (a b c l p : ℕ) → a ≤ b → l ≤ 20 → p ≤ 7 → a + p + (2 * l + 1) ≤ b + 12 + c + 4 + 98
+      below : (a b c l p : ℕ) → a ≤ b → l ≤ 20 → p ≤ 7 → a + p + (2 * l + 1) ≤ b + 12 + c + 4 + 118
       below a b c l p h k j = omega arith
 
   held_by_inside : (row : ℕ) (leave : Option Leave) → All BarInside (held_by f row leave)
@@ -162,7 +162,7 @@ module _ (f : Frame) (h : IsFrame f) where
       within : (a b c : ℕ) → a ≤ c → b ≤ c → a + (b - a) / 2 ≤ max (c + 40) 640
       within a b c h k = omega arith
 
-      below : (odd : Bool) (y b c : ℕ) → y + 11 ≤ b + 68 → cond odd (y - 4) (y + 11) ≤ b + 12 + c + 4 + 98
+      below : (odd : Bool) (y b c : ℕ) → y + 11 ≤ b + 68 → cond odd (y - 4) (y + 11) ≤ b + 12 + c + 4 + 118
       below true y b c h = omega arith
       below false y b c h = omega arith
 
@@ -194,7 +194,7 @@ module _ (f : Frame) (h : IsFrame f) where
       right : (a c s : ℕ) → a ≤ c → a + min 7 (s / 2) + 6 ≤ max (c + 40) 640
       right a c s h = omega arith
 
-      below : (a b c l s : ℕ) → a ≤ b → l ≤ 55 → s ≤ 13 → a + l + s / 2 - 3 + 4 ≤ b + 12 + c + 4 + 98
+      below : (a b c l s : ℕ) → a ≤ b → l ≤ 55 → s ≤ 13 → a + l + s / 2 - 3 + 4 ≤ b + 12 + c + 4 + 118
       below a b c l s h k j = omega arith
 
   refusal_inside : (row slot : ℕ) (refusals : Refusals) (why : Refusal) → RefusalLiesIn (width_of f) (height_of f) (refusal_mark f row slot refusals why)
@@ -206,7 +206,7 @@ module _ (f : Frame) (h : IsFrame f) where
       right : (a c s : ℕ) → a ≤ c → a + min 7 (s / 2) ≤ max (c + 40) 640
       right a c s h = omega arith
 
-      below : (a b c l s : ℕ) → a ≤ b → l ≤ 55 → s ≤ 13 → a + l + s / 2 - 3 ≤ b + 12 + c + 4 + 98
+      below : (a b c l s : ℕ) → a ≤ b → l ≤ 55 → s ≤ 13 → a + l + s / 2 - 3 ≤ b + 12 + c + 4 + 118
       below a b c l s h k j = omega arith
 
   refusal_of_inside : (names : List NameValue) (slot : ℕ) (all : List Decided) (name : NameValue) (d : Decision) → All (RefusalLiesIn (width_of f) (height_of f)) (refusal_of f names slot all name d)

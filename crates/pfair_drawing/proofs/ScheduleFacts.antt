@@ -17,7 +17,8 @@ use Rattle.pfair_drawing.specs.Frame.{IsFrame, bottom, width_of, height_of}
 use Rattle.pfair_drawing.specs.Ground.{schedule_ground}
 use Rattle.pfair_drawing.specs.History.{Told, told_before}
 use Rattle.pfair_drawing.specs.Inside.{ContentLiesIn, LabelLiesIn, LagsLieIn, LiesIn, ScheduleLiesIn, SignLiesIn}
-use Rattle.pfair_drawing.specs.Key.{lag_key, schedule_key, shown_lags_of, shown_of}
+use Rattle.pfair_drawing.specs.Key.{lag_key, schedule_key}
+use Rattle.pfair_drawing.specs.Kinds.{shown_lags_of, shown_of}
 use Rattle.pfair_drawing.specs.Labels.{weights}
 use Rattle.pfair_drawing.specs.Names.{names_before}
 use Rattle.pfair_drawing.specs.Quanta.{cell_bar, quantum_bar, ran_between}
@@ -55,7 +56,7 @@ module _ (decided : List (List Decided)) (tables : List Table) (settings : Setti
       → f.rows ≡ min (length d.names.items) 1000000 → f.left ≡ left_of d.names.items → f.sizes ≡ sizes_of (to - from) to → d.width ≡ width_of f → d.height ≡ height_of f → d.figures ≡ figures_of settings from to → d.content ≡ content.Schedule s
       → AreLayers f d.names.items (told_before decided tables to) (ran_between d.names.items tables from to) decided s
       → d.ground.items ≡ map (cut_shape (width_of f) (height_of f)) (schedule_ground f d.names.items (told_before decided tables to).lives)
-      → d.key.items ≡ map (cut_sign (width_of f) (height_of f)) (schedule_key f.processors (shown_of s) (bottom f + 36))
+      → d.key.items ≡ map (cut_sign (width_of f) (height_of f)) (schedule_key s.quanta.items (shown_of s d.ground.items) (bottom f + 36))
       → All (LiesIn (width_of f) (height_of f)) d.ground.items → All (SignLiesIn (width_of f) (height_of f)) d.key.items
       → IsSchedule decided tables settings from to d
   schedule_is s is_frame first end processors_are names rows left sizes width height figures content layers ground key ground_in key_in = record {
@@ -75,9 +76,7 @@ module _ (decided : List (List Decided)) (tables : List Table) (settings : Setti
     content = content;
     layers = layers;
     ground_is = rw (width, height) ground;
-    key_is =
-        recut cut_sign d.key.items (schedule_key f.processors (shown_of s) (bottom f + 36)) d.width d.height (width_of f) (height_of f) key width height
-        ∙ ap (λ (n : ℕ). map (cut_sign d.width d.height) (schedule_key n (shown_of s) (bottom f + 36))) processors_are;
+    key_is = recut cut_sign d.key.items (schedule_key s.quanta.items (shown_of s d.ground.items) (bottom f + 36)) d.width d.height (width_of f) (height_of f) key width height;
     inside = record {
       ground = rw (width, height) ground_in;
       content = subst (λ (x : Content). ContentLiesIn d.width d.height x) (sym content)
@@ -91,7 +90,7 @@ module _ (decided : List (List Decided)) (tables : List Table) (settings : Setti
       → l.has_dots ≡ nat_le 12 f.sizes.slot → l.steps.items ≡ lag_steps f d.names.items decided tables
       → l.labels.items ≡ map (cut_label (width_of f) (height_of f)) (weights f d.names.items (told_before decided tables to).lives)
       → d.ground.items ≡ map (cut_shape (width_of f) (height_of f)) (lags_ground f d.names.items (told_before decided tables to).lives)
-      → d.key.items ≡ map (cut_sign (width_of f) (height_of f)) (lag_key (shown_lags_of l) (bottom f + 36))
+      → d.key.items ≡ map (cut_sign (width_of f) (height_of f)) (lag_key (shown_lags_of l d.ground.items) (bottom f + 36))
       → All (LabelLiesIn (width_of f) (height_of f)) l.labels.items → All (LiesIn (width_of f) (height_of f)) d.ground.items → All (SignLiesIn (width_of f) (height_of f)) d.key.items
       → AreLags decided tables settings from to d
   lags_are l is_frame first end names rows left sizes width height figures content dots steps labels_are ground key labels_in ground_in key_in = record {
@@ -112,7 +111,7 @@ module _ (decided : List (List Decided)) (tables : List Table) (settings : Setti
     steps_are = steps;
     labels_are = rw (width, height) labels_are;
     ground_is = rw (width, height) ground;
-    key_is = recut cut_sign d.key.items (lag_key (shown_lags_of l) (bottom f + 36)) d.width d.height (width_of f) (height_of f) key width height;
+    key_is = recut cut_sign d.key.items (lag_key (shown_lags_of l d.ground.items) (bottom f + 36)) d.width d.height (width_of f) (height_of f) key width height;
     inside = record {
       ground = rw (width, height) ground_in;
       content = subst (λ (x : Content). ContentLiesIn d.width d.height x) (sym content)

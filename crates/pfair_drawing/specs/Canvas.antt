@@ -27,11 +27,12 @@ abbrev pub cut_arrow : (width height : ℕ) → Arrow → Arrow
 cut_arrow width height a = record { from = cut_point width height a.from; to = cut_point width height a.to; tip = cut_point width height a.tip; head = a.head }
 
 abbrev pub cut_sign : (width height : ℕ) → Sign → Sign
-cut_sign width height (sign.Window area) = sign.Window (cut_area width height area)
+cut_sign width height (sign.Window area has_outline) = sign.Window (cut_area width height area) has_outline
+cut_sign width height (sign.Tie from to) = sign.Tie (cut_point width height from) (cut_point width height to)
 cut_sign width height (sign.Held area) = sign.Held (cut_area width height area)
 cut_sign width height (sign.Colour area processor) = sign.Colour (cut_area width height area) processor
 cut_sign width height (sign.Arrow arrow) = sign.Arrow (cut_arrow width height arrow)
 cut_sign width height (sign.Mark at mark) = sign.Mark (cut_point width height at) mark
-cut_sign width height (sign.Lag from to) = sign.Lag (cut_point width height from) (cut_point width height to)
+cut_sign width height (sign.Lag from to is_outside) = sign.Lag (cut_point width height from) (cut_point width height to) is_outside
 cut_sign width height (sign.Bound from to) = sign.Bound (cut_point width height from) (cut_point width height to)
 cut_sign width height (sign.Label label) = sign.Label (cut_label width height label)

@@ -62,7 +62,7 @@ abbrev pub width_of : Frame → ℕ
 width_of f = max (slot_x f f.to + 40) 640
 
 abbrev pub height_of : Frame → ℕ
-height_of f = bottom f + 98
+height_of f = bottom f + 118
 
 -- from slot to slot in the lane of a subtask
 abbrev pub lane_area : Frame → (row index from to : ℕ) → Area

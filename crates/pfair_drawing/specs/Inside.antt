@@ -58,12 +58,13 @@ pub record StepLiesIn (width height : ℕ) (s : LagStep) : Type 0 where
   pub beyond : IfSome s.beyond (BeyondLiesIn width height)
 
 abbrev pub SignLiesIn : (width height : ℕ) → Sign → Type 0
-SignLiesIn width height (sign.Window area) = AreaLiesIn width height area
+SignLiesIn width height (sign.Window area has_outline) = AreaLiesIn width height area
+SignLiesIn width height (sign.Tie from to) = PointLiesIn width height from × PointLiesIn width height to
 SignLiesIn width height (sign.Held area) = AreaLiesIn width height area
 SignLiesIn width height (sign.Colour area processor) = AreaLiesIn width height area
 SignLiesIn width height (sign.Arrow arrow) = ArrowLiesIn width height arrow
 SignLiesIn width height (sign.Mark at mark) = PointLiesIn width height at
-SignLiesIn width height (sign.Lag from to) = PointLiesIn width height from × PointLiesIn width height to
+SignLiesIn width height (sign.Lag from to is_outside) = PointLiesIn width height from × PointLiesIn width height to
 SignLiesIn width height (sign.Bound from to) = PointLiesIn width height from × PointLiesIn width height to
 SignLiesIn width height (sign.Label label) = LabelLiesIn width height label
 

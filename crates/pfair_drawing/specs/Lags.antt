@@ -27,7 +27,8 @@ use Rattle.pfair_drawing.specs.Canvas.{cut_label, cut_shape, cut_sign}
 use Rattle.pfair_drawing.specs.Figures.{figures_of}
 use Rattle.pfair_drawing.specs.Frame.{IsFrame, slot_x, row_y, bottom, width_of, height_of}
 use Rattle.pfair_drawing.specs.Ground.{frame_shapes, level, rows_from}
-use Rattle.pfair_drawing.specs.Key.{lag_key, shown_lags_of}
+use Rattle.pfair_drawing.specs.Key.{lag_key}
+use Rattle.pfair_drawing.specs.Kinds.{shown_lags_of}
 use Rattle.pfair_drawing.specs.Labels.{weights}
 use Rattle.pfair_drawing.specs.Sizes.{lag_sizes_of, left_of, sizes_of}
 use Rattle.pfair_drawing.specs.Inside.{LieInside}
@@ -147,9 +148,10 @@ pub record AreLags (decided : List (List Decided)) (tables : List Table) (settin
   pub content : d.content ≡ content.Lags lags
   pub has_dots : lags.has_dots ≡ nat_le 12 frame.sizes.slot
   pub steps_are : lags.steps.items ≡ lag_steps frame d.names.items decided tables
-  -- the weight of each incarnation where it joins; the names, the strips and the scales; the key of what there is
+  -- the weight of each incarnation where it joins; the names, the strips and the scales; the key, with an entry for each kind of thing that
+  -- there is, and no other
   pub labels_are : lags.labels.items ≡ map (cut_label d.width d.height) (weights frame d.names.items (told_before decided tables to).lives)
   pub ground_is : d.ground.items ≡ map (cut_shape d.width d.height) (lags_ground frame d.names.items (told_before decided tables to).lives)
-  pub key_is : d.key.items ≡ map (cut_sign d.width d.height) (lag_key (shown_lags_of lags) (bottom frame + 36))
+  pub key_is : d.key.items ≡ map (cut_sign d.width d.height) (lag_key (shown_lags_of lags d.ground.items) (bottom frame + 36))
   -- and all shapes inside
   pub inside : LieInside d

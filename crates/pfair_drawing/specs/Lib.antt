@@ -5,6 +5,7 @@ pub mod Ground
 pub mod History
 pub mod Inside
 pub mod Key
+pub mod Kinds
 pub mod Labels
 pub mod Lags
 pub mod Laws

@@ -13,7 +13,8 @@ use Rattle.pfair_drawing.specs.Figures.{figures_of}
 use Rattle.pfair_drawing.specs.Frame.{IsFrame, bottom, width_of, height_of}
 use Rattle.pfair_drawing.specs.Ground.{schedule_ground}
 use Rattle.pfair_drawing.specs.Inside.{LieInside, ScheduleLiesIn}
-use Rattle.pfair_drawing.specs.Key.{schedule_key, shown_of}
+use Rattle.pfair_drawing.specs.Key.{schedule_key}
+use Rattle.pfair_drawing.specs.Kinds.{shown_of}
 use Rattle.pfair_drawing.specs.Labels.{labels}
 use Rattle.pfair_drawing.specs.Names.{names_before}
 use Rattle.pfair_drawing.specs.History.{Told, told_before}
@@ -36,7 +37,7 @@ pub record AreLayers (f : Frame) (names : List NameValue) (told : Told) (runs : 
   pub windows_are : s.windows.items ≡ windows f names told
   pub quanta_are : s.quanta.items ≡ map (quantum_bar f) runs
   pub cells_are : s.cells.items ≡ map (cell_bar f) runs
-  -- a line for each quantum that lies outside its window, and no other
+  -- a line for each quantum that lies outside its window with slots between them, and no other
   pub ties_are : s.ties.items ≡ map (cut_shape (width_of f) (height_of f)) (ties f names told runs)
   -- one mark for each decision, inside its slot: an arrow for each join and each departure, with the weight that it holds until it is free,
   -- each late release from its stamp, and each refusal
@@ -67,8 +68,8 @@ pub record IsSchedule (decided : List (List Decided)) (tables : List Table) (set
   pub schedule : Schedule
   pub content : d.content ≡ content.Schedule schedule
   pub layers : AreLayers frame d.names.items (told_before decided tables to) (ran_between d.names.items tables from to) decided schedule
-  -- the names and the scales; the key of what there is
+  -- the names and the scales; the key, with an entry for each kind of thing that the layers and the ground have, and no other
   pub ground_is : d.ground.items ≡ map (cut_shape d.width d.height) (schedule_ground frame d.names.items (told_before decided tables to).lives)
-  pub key_is : d.key.items ≡ map (cut_sign d.width d.height) (schedule_key settings.processors (shown_of schedule) (bottom frame + 36))
+  pub key_is : d.key.items ≡ map (cut_sign d.width d.height) (schedule_key schedule.quanta.items (shown_of schedule d.ground.items) (bottom frame + 36))
   -- and all shapes inside
   pub inside : LieInside d

@@ -1,4 +1,4 @@
--- The lines that join quanta to their windows: one for each that lies outside, and no other.
+-- The lines that join quanta to their windows: one for each that lies outside with slots between them, and no other.
 use Rattle.std.specs.Prelude.{ℕ, ◌+◌, ◌&&◌, nat_le, nat_lt, Bool, if◌then◌else◌, List, [], ◌∷◌, Option, None, Some, slice_get}
 use Rattle.std.specs.List.{flat_map}
 use Rattle.pfair_weight.specs.declared.window.TheConstants.{MAX_INDEX}

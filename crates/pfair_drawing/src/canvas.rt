@@ -104,7 +104,14 @@ fn shown_sign(sign: Sign, width: u64, height: u64) -> Sign
     ensures inside { SignLiesIn width height result }
 {
     match sign {
-        Sign::Window(area) => Sign::Window(shown_area(area, width, height)),
+        Sign::Window { area, has_outline } => Sign::Window {
+            area: shown_area(area, width, height),
+            has_outline,
+        },
+        Sign::Tie { from, to } => Sign::Tie {
+            from: shown_point(from, width, height),
+            to: shown_point(to, width, height),
+        },
         Sign::Held(area) => Sign::Held(shown_area(area, width, height)),
         Sign::Colour { area, processor } => Sign::Colour {
             area: shown_area(area, width, height),
@@ -115,9 +122,14 @@ fn shown_sign(sign: Sign, width: u64, height: u64) -> Sign
             at: shown_point(at, width, height),
             mark,
         },
-        Sign::Lag { from, to } => Sign::Lag {
+        Sign::Lag {
+            from,
+            to,
+            is_outside,
+        } => Sign::Lag {
             from: shown_point(from, width, height),
             to: shown_point(to, width, height),
+            is_outside,
         },
         Sign::Bound { from, to } => Sign::Bound {
             from: shown_point(from, width, height),

@@ -7,7 +7,7 @@ ghost use Rattle.pfair_drawing.specs.Ground.{axis, band, frame_shapes, grid, is_
 use crate::canvas::{add, add_label};
 use crate::frame::Frame;
 use crate::history::History;
-use crate::sizes::TOP;
+use crate::sizes::{OUTLINED, TOP};
 use pfair_svg::{Area, Fill, Note, Point, Shape, Stroke, Style, Words};
 use pfair_weight::TaskName;
 use std::alloc::AllocError;
@@ -113,7 +113,7 @@ fn add_upright(
     requires { IsFrame frame.now }
     ensures { OnOk result (shapes.new.items ≡ shapes.old.items ++ upright frame.now bottom time) }
 {
-    if is_labelled(frame, time) || frame.sizes.slot >= 8 {
+    if is_labelled(frame, time) || frame.sizes.slot >= OUTLINED {
         let x = frame.slot_x(time);
         let from = Point { x, y: TOP };
         let to = Point { x, y: bottom };

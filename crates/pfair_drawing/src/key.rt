@@ -1,147 +1,175 @@
-//! The keys of pictures: what is told of the colours and the signs that a picture has, and of no
-//! other.
+//! The key of a schedule: an entry for each kind of thing that it has, and no other.
 
-ghost use Rattle.std.specs.Prelude.{◌≡◌, ◌+◌, ◌≤◌, ◌<◌, ◌^◌, ◌++◌, ◌∷◌, [], OnOk, if◌then◌else◌, nat_lt, min};
+ghost use Rattle.std.specs.Prelude.{◌≡◌, ◌+◌, ◌≤◌, ◌<◌, ◌^◌, ◌++◌, OnOk, count_by, nat_lt};
 ghost use Rattle.std.specs.List.{flat_map, range_with_len};
-ghost use Rattle.pfair_drawing.specs.Key.{after_departures, after_held, after_joins, after_windows, beyond_entry, colour_line, colour_sign, decision_line, departure_entry, held_entry, if_has, join_entry, lag_key, lag_line, late_entry, later_sign, mark_sign, note_sign, outside_entry, refusal_entry, refusal_line, sample, schedule_key, upright_sign, width_if, window_entry};
+ghost use Rattle.pfair_drawing.specs.Key.{colour_entry, colour_line, colour_sign, departure_entry, has_colour, held_entry, if_has, is_coloured, join_entry, late_entries, late_entry, later_entry, life_line, refusal_entries, refusal_entry, schedule_key, tie_entry, window_entry, window_line};
 
-use crate::sizes::LEFT;
-use pfair_svg::{Area, Arrow, Label, Mark, Note, Point, Sign, Style, Words};
+use crate::kinds::Shown;
+use crate::samples::{
+    add, add_later, add_mark, add_note, add_note_if, add_tie, add_upright, sample, width_if,
+};
+use crate::sizes::{COLOURS, KEY_LINE, LEFT};
+use pfair_svg::{Label, Mark, Note, Point, Quantum, Sign, Style, Words};
 use std::alloc::AllocError;
 
-/// What a schedule has.
-#[derive(Clone, Copy, Debug, PartialEq, Eq)]
-pub struct Shown {
-    /// Windows.
-    pub windows: bool,
-    /// Joins.
-    pub joins: bool,
-    /// Departures.
-    pub departures: bool,
-    /// Weights that are held.
-    pub held: bool,
-    /// Late releases.
-    pub late: bool,
-    /// Refusals.
-    pub refusals: bool,
-    /// Quanta.
-    pub quanta: bool,
-}
-
-/// What a picture of lags has.
-#[derive(Clone, Copy, Debug, PartialEq, Eq)]
-pub struct ShownLags {
-    /// Lags at or past a bound.
-    pub outside: bool,
-    /// Lags further than is drawn.
-    pub beyond: bool,
-}
-
-/// Adds the key of a schedule, below `y`.
+/// Adds the key of a schedule with some quanta, below `y`.
 pub(crate) fn add_schedule_key(
     key: &mut Vec<Sign>,
-    processors: u64,
+    quanta: &[Quantum],
     shown: &Shown,
     y: u64,
 ) -> Result<(), AllocError>
     requires y { (2 ≤ y) × (y < 2 ^ 40) }
-    ensures { OnOk result (key.new.items ≡ key.old.items ++ schedule_key processors shown.now y) }
+    ensures { OnOk result (key.new.items ≡ key.old.items ++ schedule_key quanta.now shown.now y) }
 {
-    add_colours(key, processors, y)?;
-    add_decisions(key, shown, y + 20)?;
-    add_refusals(key, shown, y + 40)
+    add_colours(key, quanta, shown, y)?;
+    add_windows(key, shown, y + KEY_LINE)?;
+    add_lives(key, shown, y + 2 * KEY_LINE)?;
+    add_late_releases(key, shown, y + 3 * KEY_LINE)?;
+    add_refusals(key, shown, y + 3 * KEY_LINE)
 }
 
 // Adds the line of colours.
-fn add_colours(key: &mut Vec<Sign>, processors: u64, y: u64) -> Result<(), AllocError>
+fn add_colours(
+    key: &mut Vec<Sign>,
+    quanta: &[Quantum],
+    shown: &Shown,
+    y: u64,
+) -> Result<(), AllocError>
     requires y { y < 2 ^ 41 }
-    ensures { OnOk result (key.new.items ≡ key.old.items ++ colour_line processors y) }
+    ensures { OnOk result (key.new.items ≡ key.old.items ++ colour_line quanta.now shown.now y) }
 {
-    add_note(key, LEFT, y + 9, Note::Processor)?;
-    add_each_colour(key, processors.min(8), y)?;
-    add_repeat(key, processors, y)
+    let repeats = 244;
+    let places = repeats + width_if(shown.repeats, 210);
+    add_note_if(key, shown.quanta, LEFT, y, Note::Processor)?;
+    add_each_colour(key, quanta, y)?;
+    add_note_if(key, shown.repeats, repeats, y, Note::Repeat)?;
+    add_note_if(key, shown.places, places, y, Note::Place)
 }
 
-// Adds the colours of the first processors.
-fn add_each_colour(key: &mut Vec<Sign>, count: u64, y: u64) -> Result<(), AllocError>
+// Adds the colours that some quanta have.
+fn add_each_colour(key: &mut Vec<Sign>, quanta: &[Quantum], y: u64) -> Result<(), AllocError>
     requires y { y < 2 ^ 41 }
-    requires few { count ≤ 8 }
-    ensures { OnOk result (key.new.items ≡ key.old.items ++ flat_map (colour_sign y) (range_with_len 0 count)) }
+    ensures { OnOk result (key.new.items ≡ key.old.items ++ flat_map (colour_entry quanta.now y) (range_with_len 0 8)) }
 {
-    for processor in 0..count {
-        add_colour(key, processor, y)?;
+    for colour in 0..COLOURS {
+        add_colour_entry(key, quanta, colour, y)?;
     }
     Ok(())
 }
 
-// Adds the colour of a processor, with its number.
-fn add_colour(key: &mut Vec<Sign>, processor: u64, y: u64) -> Result<(), AllocError>
+// Adds a colour, if some quantum has it.
+fn add_colour_entry(
+    key: &mut Vec<Sign>,
+    quanta: &[Quantum],
+    colour: u64,
+    y: u64,
+) -> Result<(), AllocError>
     requires y { y < 2 ^ 41 }
-    requires few { processor ≤ 8 }
-    ensures { OnOk result (key.new.items ≡ key.old.items ++ colour_sign y processor) }
+    requires few { colour ≤ 8 }
+    ensures { OnOk result (key.new.items ≡ key.old.items ++ colour_entry quanta.now y colour) }
 {
-    let area = sample(76 + 20 * processor, y, 16);
-    add(key, Sign::Colour { area, processor })?;
-    add(
-        key,
-        Sign::Label(Label {
-            at: Point {
-                x: 84 + 20 * processor,
-                y: y + 9,
-            },
-            words: Words::Number(processor),
-            style: Style::On(processor),
-        }),
-    )
-}
-
-// Adds how colours repeat, if they do.
-fn add_repeat(key: &mut Vec<Sign>, processors: u64, y: u64) -> Result<(), AllocError>
-    requires y { y < 2 ^ 41 }
-    ensures { OnOk result (key.new.items ≡ key.old.items ++ if_has (nat_lt 8 processors) (note_sign 244 (y + 9) Note.Repeat ∷ [])) }
-{
-    if processors > 8 {
-        add_note(key, 244, y + 9, Note::Repeat)
+    if has_colour(quanta, colour) {
+        add_colour(key, colour, y)
     } else {
         Ok(())
     }
 }
 
-// Adds the line of windows and decisions.
-fn add_decisions(key: &mut Vec<Sign>, shown: &Shown, y: u64) -> Result<(), AllocError>
-    requires y { (2 ≤ y) × (y < 2 ^ 41) }
-    ensures { OnOk result (key.new.items ≡ key.old.items ++ decision_line shown.now y) }
+// Whether some quantum has a colour.
+fn has_colour(quanta: &[Quantum], colour: u64) -> bool
+    ensures { result ≡ has_colour quanta.now colour }
 {
-    let joins = LEFT + width_if(shown.windows, 86);
-    let departures = joins + width_if(shown.joins, 52);
-    let held = departures + width_if(shown.departures, 64);
-    let late = held + width_if(shown.held, 168);
-    add_window(key, shown.windows, LEFT, y)?;
-    add_join(key, shown.joins, joins, y)?;
-    add_departure(key, shown.departures, departures, y)?;
-    add_held(key, shown.held, held, y)?;
-    add_late(key, shown.late, late, y)
+    quanta.iter().filter(|one| is_coloured(one, colour)).count() > 0
 }
 
-// How wide an entry is, if there is one.
-fn width_if(has: bool, width: u64) -> u64
-    ensures value { result ≡ width_if has width }
-    ensures within { result ≤ width }
+// Whether a quantum has it.
+fn is_coloured(quantum: &Quantum, colour: u64) -> bool
+    ensures { result ≡ is_coloured colour quantum.now }
 {
-    if has { width } else { 0 }
+    quantum.processor % COLOURS == colour
+}
+
+// Adds a colour, with the number of its first processor.
+fn add_colour(key: &mut Vec<Sign>, colour: u64, y: u64) -> Result<(), AllocError>
+    requires y { y < 2 ^ 41 }
+    requires few { colour ≤ 8 }
+    ensures { OnOk result (key.new.items ≡ key.old.items ++ colour_sign y colour) }
+{
+    let area = sample(76 + 20 * colour, y, 16);
+    let processor = colour;
+    add(key, Sign::Colour { area, processor })?;
+    let at = Point {
+        x: 84 + 20 * colour,
+        y: y + 9,
+    };
+    let label = Label {
+        at,
+        words: Words::Number(processor),
+        style: Style::On(processor),
+    };
+    add(key, Sign::Label(label))
+}
+
+// Adds the line of windows, of the lines from quanta to them, and of the numbers of subtasks.
+fn add_windows(key: &mut Vec<Sign>, shown: &Shown, y: u64) -> Result<(), AllocError>
+    requires y { y < 2 ^ 41 }
+    ensures { OnOk result (key.new.items ≡ key.old.items ++ window_line shown.now y) }
+{
+    let ties = LEFT + width_if(shown.windows, 86);
+    let indices = ties + width_if(shown.ties, 216);
+    add_window(key, shown.windows, shown.has_outlines, LEFT, y)?;
+    add_tie_entry(key, shown.ties, ties, y)?;
+    add_note_if(key, shown.indices, indices, y, Note::Index)
 }
 
 // Adds what is told of windows.
-fn add_window(key: &mut Vec<Sign>, has: bool, x: u64, y: u64) -> Result<(), AllocError>
+fn add_window(
+    key: &mut Vec<Sign>,
+    has: bool,
+    has_outline: bool,
+    x: u64,
+    y: u64,
+) -> Result<(), AllocError>
     requires x { x < 2 ^ 40 }
     requires y { y < 2 ^ 41 }
-    ensures { OnOk result (key.new.items ≡ key.old.items ++ if_has has (window_entry x y)) }
+    ensures { OnOk result (key.new.items ≡ key.old.items ++ if_has has (window_entry has_outline x y)) }
 {
     if !has {
         return Ok(());
     }
-    add(key, Sign::Window(sample(x, y, 24)))?;
+    let area = sample(x, y, 24);
+    add(key, Sign::Window { area, has_outline })?;
     add_note(key, x + 30, y + 9, Note::Window)
+}
+
+// Adds what is told of lines that join quanta to their windows.
+fn add_tie_entry(key: &mut Vec<Sign>, has: bool, x: u64, y: u64) -> Result<(), AllocError>
+    requires x { x < 2 ^ 40 }
+    requires y { y < 2 ^ 41 }
+    ensures { OnOk result (key.new.items ≡ key.old.items ++ if_has has (tie_entry x y)) }
+{
+    if !has {
+        return Ok(());
+    }
+    add_tie(key, x, y + 6)?;
+    add_note(key, x + 30, y + 9, Note::Tie)
+}
+
+// Adds the line of joins and departures, of weights, and of names.
+fn add_lives(key: &mut Vec<Sign>, shown: &Shown, y: u64) -> Result<(), AllocError>
+    requires y { (2 ≤ y) × (y < 2 ^ 41) }
+    ensures { OnOk result (key.new.items ≡ key.old.items ++ life_line shown.now y) }
+{
+    let departures = LEFT + width_if(shown.joins, 52);
+    let held = departures + width_if(shown.departures, 64);
+    let weights = held + width_if(shown.held, 168);
+    let absent = weights + width_if(shown.weights, 106);
+    add_join(key, shown.joins, LEFT, y)?;
+    add_departure(key, shown.departures, departures, y)?;
+    add_held(key, shown.held, held, y)?;
+    add_note_if(key, shown.weights, weights, y, Note::Weight)?;
+    add_note_if(key, shown.absent, absent, y, Note::Absent)
 }
 
 // Adds what is told of joins.
@@ -183,7 +211,19 @@ fn add_held(key: &mut Vec<Sign>, has: bool, x: u64, y: u64) -> Result<(), AllocE
     add_note(key, x + 26, y + 9, Note::Held)
 }
 
-// Adds what is told of late releases.
+// Adds the entries of late releases.
+fn add_late_releases(key: &mut Vec<Sign>, shown: &Shown, y: u64) -> Result<(), AllocError>
+    requires y { y < 2 ^ 41 }
+    ensures { OnOk result (key.new.items ≡ key.old.items ++ late_entries shown.now y) }
+{
+    let later = LEFT + width_if(shown.late, 98);
+    let more = later + width_if(shown.later, 148);
+    add_late(key, shown.late, LEFT, y)?;
+    add_later_entry(key, shown.later, later, y)?;
+    add_note_if(key, shown.more, more, y, Note::More)
+}
+
+// Adds what is told of their stamps.
 fn add_late(key: &mut Vec<Sign>, has: bool, x: u64, y: u64) -> Result<(), AllocError>
     requires x { x < 2 ^ 40 }
     requires y { y < 2 ^ 41 }
@@ -192,19 +232,36 @@ fn add_late(key: &mut Vec<Sign>, has: bool, x: u64, y: u64) -> Result<(), AllocE
     if !has {
         return Ok(());
     }
-    add_mark(key, x + 3, y + 6, Mark::Stamp)?;
-    add_later(key, x + 3, y + 6)?;
-    add_note(key, x + 34, y + 9, Note::Late)
+    add_mark(key, x + 4, y + 6, Mark::Stamp)?;
+    add_note(key, x + 12, y + 9, Note::Late)
 }
 
-// Adds the line of refusals, and of the numbers of quanta.
+// Adds what is told of their arrows.
+fn add_later_entry(key: &mut Vec<Sign>, has: bool, x: u64, y: u64) -> Result<(), AllocError>
+    requires x { x < 2 ^ 40 }
+    requires y { y < 2 ^ 41 }
+    ensures { OnOk result (key.new.items ≡ key.old.items ++ if_has has (later_entry x y)) }
+{
+    if !has {
+        return Ok(());
+    }
+    add_later(key, x, y + 6)?;
+    add_note(key, x + 30, y + 9, Note::Later)
+}
+
+// Adds the entries of refusals, behind those of late releases.
 fn add_refusals(key: &mut Vec<Sign>, shown: &Shown, y: u64) -> Result<(), AllocError>
     requires y { y < 2 ^ 41 }
-    ensures { OnOk result (key.new.items ≡ key.old.items ++ refusal_line shown.now y) }
+    ensures { OnOk result (key.new.items ≡ key.old.items ++ refusal_entries shown.now y) }
 {
-    add_refusal(key, shown.refusals, LEFT, y)?;
-    let x = LEFT + width_if(shown.refusals, 330);
-    add_index(key, shown.quanta, x, y)
+    let later = LEFT + width_if(shown.late, 98);
+    let more = later + width_if(shown.later, 148);
+    let refusals = more + width_if(shown.more, 98);
+    let reasons = refusals + width_if(shown.refusals, 70);
+    let times = reasons + width_if(shown.reasons, 98);
+    add_refusal(key, shown.refusals, refusals, y)?;
+    add_note_if(key, shown.reasons, reasons, y, Note::Reason)?;
+    add_note_if(key, shown.times, times, y, Note::Times)
 }
 
 // Adds what is told of refusals.
@@ -218,141 +275,4 @@ fn add_refusal(key: &mut Vec<Sign>, has: bool, x: u64, y: u64) -> Result<(), All
     }
     add_mark(key, x + 5, y + 6, Mark::Refusal)?;
     add_note(key, x + 14, y + 9, Note::Refused)
-}
-
-// Adds what is told of the numbers of quanta.
-fn add_index(key: &mut Vec<Sign>, has: bool, x: u64, y: u64) -> Result<(), AllocError>
-    requires y { y < 2 ^ 41 }
-    ensures { OnOk result (key.new.items ≡ key.old.items ++ if_has has (note_sign x (y + 9) Note.Index ∷ [])) }
-{
-    if has {
-        add_note(key, x, y + 9, Note::Index)
-    } else {
-        Ok(())
-    }
-}
-
-/// Adds the key of lags, below `y`.
-pub(crate) fn add_lag_key(key: &mut Vec<Sign>, shown: &ShownLags, y: u64) -> Result<(), AllocError>
-    requires y { y < 2 ^ 40 }
-    ensures { OnOk result (key.new.items ≡ key.old.items ++ lag_key shown.now y) }
-{
-    add_lags(key, y)?;
-    add_outside(key, shown.outside, y + 20)?;
-    add_beyond(key, shown.beyond, y + 40)
-}
-
-// Adds the line of lags and their bounds.
-fn add_lags(key: &mut Vec<Sign>, y: u64) -> Result<(), AllocError>
-    requires y { y < 2 ^ 41 }
-    ensures { OnOk result (key.new.items ≡ key.old.items ++ lag_line y) }
-{
-    let from = Point { x: 16, y: y + 6 };
-    let to = Point { x: 40, y: y + 6 };
-    add(key, Sign::Lag { from, to })?;
-    add_mark(key, 40, y + 6, Mark::Inside)?;
-    add_note(key, 48, y + 9, Note::Lag)?;
-    let from = Point { x: 246, y: y + 6 };
-    let to = Point { x: 270, y: y + 6 };
-    add(key, Sign::Bound { from, to })?;
-    add_note(key, 276, y + 9, Note::Bounds)
-}
-
-// Adds what is told of lags at or past a bound.
-fn add_outside(key: &mut Vec<Sign>, has: bool, y: u64) -> Result<(), AllocError>
-    requires y { y < 2 ^ 41 }
-    ensures { OnOk result (key.new.items ≡ key.old.items ++ if_has has (outside_entry y)) }
-{
-    if !has {
-        return Ok(());
-    }
-    add_mark(key, 28, y + 6, Mark::Outside)?;
-    add_note(key, 48, y + 9, Note::Outside)
-}
-
-// Adds what is told of lags further than is drawn.
-fn add_beyond(key: &mut Vec<Sign>, has: bool, y: u64) -> Result<(), AllocError>
-    requires y { y < 2 ^ 41 }
-    ensures { OnOk result (key.new.items ≡ key.old.items ++ if_has has (beyond_entry y)) }
-{
-    if !has {
-        return Ok(());
-    }
-    add_mark(key, 24, y + 6, Mark::Above)?;
-    add_mark(key, 36, y + 6, Mark::Below)?;
-    add_note(key, 48, y + 9, Note::Beyond)
-}
-
-// Adds a sample.
-fn add(key: &mut Vec<Sign>, sign: Sign) -> Result<(), AllocError>
-    ensures { OnOk result (key.new.items ≡ key.old.items ++ sign ∷ []) }
-{
-    key.push(sign)?;
-    Ok(())
-}
-
-// Adds an arrow up or down.
-fn add_upright(
-    key: &mut Vec<Sign>,
-    x: u64,
-    top: u64,
-    bottom: u64,
-    tip: u64,
-    head: Mark,
-) -> Result<(), AllocError>
-    ensures { OnOk result (key.new.items ≡ key.old.items ++ upright_sign x top bottom tip head ∷ []) }
-{
-    let arrow = Arrow {
-        from: Point { x, y: top },
-        to: Point { x, y: bottom },
-        tip: Point { x, y: tip },
-        head,
-    };
-    add(key, Sign::Arrow(arrow))
-}
-
-// Adds the arrow of a late release.
-fn add_later(key: &mut Vec<Sign>, x: u64, y: u64) -> Result<(), AllocError>
-    requires { x < 2 ^ 41 }
-    ensures { OnOk result (key.new.items ≡ key.old.items ++ later_sign x y ∷ []) }
-{
-    let arrow = Arrow {
-        from: Point { x, y },
-        to: Point { x: x + 18, y },
-        tip: Point { x: x + 24, y },
-        head: Mark::Later,
-    };
-    add(key, Sign::Arrow(arrow))
-}
-
-// The bar of a sample.
-fn sample(x: u64, y: u64, width: u64) -> Area
-    ensures { result ≡ sample x y width }
-{
-    Area {
-        x,
-        y,
-        width,
-        height: 11,
-    }
-}
-
-// Adds a mark.
-fn add_mark(key: &mut Vec<Sign>, x: u64, y: u64, mark: Mark) -> Result<(), AllocError>
-    ensures { OnOk result (key.new.items ≡ key.old.items ++ mark_sign x y mark ∷ []) }
-{
-    let at = Point { x, y };
-    add(key, Sign::Mark { at, mark })
-}
-
-// Adds a note.
-fn add_note(key: &mut Vec<Sign>, x: u64, y: u64, note: Note) -> Result<(), AllocError>
-    ensures { OnOk result (key.new.items ≡ key.old.items ++ note_sign x y note ∷ []) }
-{
-    let label = Label {
-        at: Point { x, y },
-        words: Words::Note(note),
-        style: Style::Key,
-    };
-    add(key, Sign::Label(label))
 }

@@ -12,6 +12,7 @@ use crate::frame::Frame;
 use crate::history::{Leave, Life};
 use crate::names::Names;
 use crate::runs::Ran;
+use crate::sizes::COLOURS;
 use pfair_svg::{Label, Point, Style, Words};
 use pfair_weight::TaskName;
 use std::alloc::{AllocError, Global};
@@ -116,7 +117,7 @@ fn add_index(labels: &mut Vec<Label>, frame: &Frame, ran: &Ran) -> Result<(), Al
     ensures { OnOk result (labels.new.items ≡ labels.old.items ++ index_label frame.now ran.now) }
 {
     let (index, processor) = (ran.index, ran.processor);
-    if frame.processors > 8 && fits_both(frame, ran) {
+    if frame.processors > COLOURS && fits_both(frame, ran) {
         add_on_quantum(labels, frame, ran, Words::Quantum { index, processor })
     } else if fits_index(frame, ran) {
         add_on_quantum(labels, frame, ran, Words::Number(index))

@@ -1,10 +1,11 @@
 //! The picture of lags.
 
-ghost use Rattle.std.specs.Prelude.{◌≡◌, ◌≤◌, ◌<◌, ◌+◌, ◌-◌, ◌↔◌, ◌++◌, [], count_by, length, map, min, nat_le, nat_lt, All, Err, IfOk, OnOk};
+ghost use Rattle.std.specs.Prelude.{◌≡◌, ◌≤◌, ◌<◌, ◌+◌, ◌-◌, ◌↔◌, ◌++◌, [], length, map, min, nat_le, All, Err, IfOk, OnOk};
 ghost use Rattle.pfair_drawing.specs.Canvas.{cut_label, cut_shape, cut_sign};
 ghost use Rattle.pfair_drawing.specs.Frame.{IsFrame, IsSizes, bottom, height_of, width_of};
 ghost use Rattle.pfair_drawing.specs.Inside.{LabelLiesIn, LiesIn, SignLiesIn};
-ghost use Rattle.pfair_drawing.specs.Key.{is_beyond, is_far, lag_key, shown_lags_of};
+ghost use Rattle.pfair_drawing.specs.Key.{lag_key};
+ghost use Rattle.pfair_drawing.specs.Kinds.{shown_lags_of};
 ghost use Rattle.pfair_drawing.specs.Labels.{weights};
 ghost use Rattle.pfair_drawing.specs.Lags.{AreLags, lag_steps, lags_ground, strip, strips};
 ghost use Rattle.pfair_drawing.specs.Names.{with_names};
@@ -15,14 +16,15 @@ use crate::canvas::{add, shown, shown_signs};
 use crate::frame::Frame;
 use crate::ground::{add_frame, add_level, add_rows};
 use crate::history::{History, Life, history_of};
-use crate::key::{ShownLags, add_lag_key};
+use crate::kinds::shown_lags_of;
 use crate::labels::weights_of;
+use crate::lag_key::add_lag_key;
 use crate::names::Names;
 use crate::schedule::{DrawFault, are_refused, figures_of, frame_of};
-use crate::sizes::Sizes;
+use crate::sizes::{ABOVE_KEY, DOTTED, HIGH_ROWS, Sizes};
 use crate::steps::{steps_of, zero_y};
 use pfair_ready::Ready;
-use pfair_svg::{Area, Content, Drawing, Fill, LagStep, Lags, Shape, Sign, Stroke};
+use pfair_svg::{Area, Content, Drawing, Fill, Lags, Shape, Sign, Stroke};
 use pfair_table::Dispatcher;
 use pfair_weight::TaskName;
 use std::alloc::{AllocError, Global};
@@ -70,7 +72,7 @@ fn draw<R: Ready>(
     let frame = lag_frame(names.as_slice(), from, to);
     let lags = content_of(alloc, &frame, &names, history.lives(), dispatcher)?;
     let ground = ground_of(alloc, &frame, names.as_slice(), &history)?;
-    let key = key_of(alloc, &frame, &lags)?;
+    let key = key_of(alloc, &frame, &lags, ground.as_slice())?;
     Ok(Drawing {
         width: frame.width(),
         height: frame.height(),
@@ -98,7 +100,7 @@ fn content_of<R: Ready>(
 {
     let steps = steps_of(alloc, frame, names, dispatcher)?;
     let labels = weights_of(alloc, frame, names, lives)?;
-    let has_dots = frame.sizes.slot >= 12;
+    let has_dots = frame.sizes.slot >= DOTTED;
     Ok(Lags {
         has_dots,
         labels,
@@ -144,7 +146,7 @@ fn lag_sizes(rows: usize, sizes: Sizes) -> Sizes
     ensures value { result ≡ lag_sizes_of rows sizes }
     ensures within { IsSizes result }
 {
-    let (lane, pad) = if rows <= 40 { (20, 5) } else { (9, 2) };
+    let (lane, pad) = if rows <= HIGH_ROWS { (20, 5) } else { (9, 2) };
     Sizes {
         slot: sizes.slot,
         lane,
@@ -174,55 +176,21 @@ fn ground_of(
     shown(alloc, ground.as_slice(), frame.width(), frame.height())
 }
 
-// The key.
-fn key_of(alloc: Global, frame: &Frame, lags: &Lags) -> Result<Vec<Sign>, AllocError>
+// The key of lags, over their ground.
+fn key_of(
+    alloc: Global,
+    frame: &Frame,
+    lags: &Lags,
+    ground: &[Shape],
+) -> Result<Vec<Sign>, AllocError>
     requires { IsFrame frame.now }
-    ensures value { IfOk result (λ key. key.items ≡ map (cut_sign (width_of frame.now) (height_of frame.now)) (lag_key (shown_lags_of lags.now) (bottom frame.now + 36))) }
+    ensures value { IfOk result (λ key. key.items ≡ map (cut_sign (width_of frame.now) (height_of frame.now)) (lag_key (shown_lags_of lags.now ground.now) (bottom frame.now + 36))) }
     ensures inside { IfOk result (λ key. All (SignLiesIn (width_of frame.now) (height_of frame.now)) key.items) }
 {
     let mut key = Vec::new(alloc);
-    let shown = shown_lags_of(lags);
-    add_lag_key(&mut key, &shown, frame.bottom() + 36)?;
+    let shown = shown_lags_of(lags, ground);
+    add_lag_key(&mut key, &shown, frame.bottom() + ABOVE_KEY)?;
     shown_signs(alloc, key.as_slice(), frame.width(), frame.height())
-}
-
-// What a picture of lags has.
-fn shown_lags_of(lags: &Lags) -> ShownLags
-    ensures { result ≡ shown_lags_of lags.now }
-{
-    let steps = lags.steps.as_slice();
-    ShownLags {
-        outside: has_far(steps),
-        beyond: has_beyond(steps),
-    }
-}
-
-// Whether there is a lag at or past a bound.
-fn has_far(steps: &[LagStep]) -> bool
-    ensures { result ≡ nat_lt 0 (count_by is_far steps.now) }
-{
-    steps.iter().filter(|step| is_far(step)).count() > 0
-}
-
-// Whether there is one further than is drawn.
-fn has_beyond(steps: &[LagStep]) -> bool
-    ensures { result ≡ nat_lt 0 (count_by is_beyond steps.now) }
-{
-    steps.iter().filter(|step| is_beyond(step)).count() > 0
-}
-
-// Whether a lag is at or past a bound, at the one time or at the other.
-fn is_far(step: &LagStep) -> bool
-    ensures { result ≡ is_far step.now }
-{
-    step.was_outside || step.is_outside
-}
-
-// Whether a lag is further than is drawn.
-fn is_beyond(step: &LagStep) -> bool
-    ensures { result ≡ is_beyond step.now }
-{
-    step.beyond.is_some()
 }
 
 // Adds the strip between the bounds of each row, and its three lines.

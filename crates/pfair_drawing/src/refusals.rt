@@ -7,6 +7,7 @@ ghost use Rattle.pfair_drawing.specs.Marks.{is_number, is_refusal, is_refused, i
 
 use crate::frame::Frame;
 use crate::names::Names;
+use crate::sizes::ROOMY;
 use crate::slots::decided_at;
 use pfair_admission::{Decision, Refusal};
 use pfair_ready::Ready;
@@ -14,9 +15,6 @@ use pfair_svg::{Caption, Label, Point, RefusalMark, Refusals, Style, Words};
 use pfair_table::{Decided, Dispatcher};
 use pfair_weight::TaskName;
 use std::alloc::{AllocError, Global};
-
-// The narrowest slots that have room for a number.
-const ROOMY: u64 = 28;
 
 /// A mark for each announcement that is refused at the boundary of one of the figure's slots, in
 /// the strip of its row and inside its slot. Those of one task at one slot lie on each other, and

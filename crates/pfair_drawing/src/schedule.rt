@@ -1,12 +1,13 @@
 //! The picture of a schedule.
 
-ghost use Rattle.std.specs.Prelude.{◌≡◌, ◌+◌, ◌-◌, ◌≤◌, ◌<◌, ◌↔◌, count_by, length, nat_lt, All, Err, IfOk, IsTrue, map, min};
+ghost use Rattle.std.specs.Prelude.{◌≡◌, ◌+◌, ◌-◌, ◌≤◌, ◌<◌, ◌↔◌, length, All, Err, IfOk, IsTrue, map, min};
 ghost use Rattle.pfair_drawing.specs.Canvas.{cut_shape, cut_sign};
 ghost use Rattle.pfair_drawing.specs.Figures.{figures_of};
 ghost use Rattle.pfair_drawing.specs.Frame.{IsFrame, bottom, height_of, width_of};
 ghost use Rattle.pfair_drawing.specs.Ground.{schedule_ground};
 ghost use Rattle.pfair_drawing.specs.Inside.{LiesIn, SignLiesIn};
-ghost use Rattle.pfair_drawing.specs.Key.{is_departure, is_join, schedule_key, shown_of};
+ghost use Rattle.pfair_drawing.specs.Key.{schedule_key};
+ghost use Rattle.pfair_drawing.specs.Kinds.{shown_of};
 ghost use Rattle.pfair_drawing.specs.Marks.{arrows, held, late_marks, refusals};
 ghost use Rattle.pfair_drawing.specs.Names.{names_before};
 ghost use Rattle.pfair_drawing.specs.Quanta.{cell_bar, quantum_bar};
@@ -19,20 +20,20 @@ use crate::canvas::{shown, shown_signs};
 use crate::frame::Frame;
 use crate::ground::{add_frame, add_rows};
 use crate::history::{History, Life, history_of};
-use crate::key::{Shown, add_schedule_key};
+use crate::key::add_schedule_key;
+use crate::kinds::shown_of;
 use crate::labels::labels_of;
 use crate::late::late_marks_of;
 use crate::names::{Names, names_of};
 use crate::quanta::{cells_of, quanta_of};
 use crate::refusals::refusals_of;
 use crate::runs::{Ran, runs_of};
-use crate::sizes::{BESIDE, LETTER, NARROWEST_LEFT, Sizes};
+use crate::sizes::{ABOVE_KEY, BESIDE, LETTER, NARROWEST_LEFT, OUTLINED, Sizes};
 use crate::ties::ties_of;
 use crate::windows::windows_of;
 use pfair_ready::Ready;
 use pfair_svg::{
-    Bar, Content, Drawing, Figures, LateMark, LifeMark, Mark, Quantum, RefusalMark, Schedule,
-    Shape, Sign,
+    Bar, Content, Drawing, Figures, LateMark, LifeMark, Quantum, RefusalMark, Schedule, Shape, Sign,
 };
 use pfair_table::Dispatcher;
 use pfair_weight::TaskName;
@@ -40,6 +41,9 @@ use std::alloc::{AllocError, Global};
 
 /// The most slots of one picture.
 pub const MAX_SLOTS: u64 = 4096;
+
+// The most letters of a name.
+const LONGEST: u64 = TaskName::MAX_LEN as u64;
 
 // The most rows of tasks of one picture, more than a run can have.
 const MAX_ROWS: u64 = 1_000_000;
@@ -131,7 +135,7 @@ fn draw_in<R: Ready>(
     let runs = runs_of(alloc, dispatcher, names, frame.from, frame.to)?;
     let schedule = schedule_of(alloc, frame, names, &history, &runs, dispatcher)?;
     let ground = ground_of(alloc, frame, names.as_slice(), &history)?;
-    let key = key_of(alloc, frame, &schedule)?;
+    let key = key_of(alloc, frame, &schedule, ground.as_slice())?;
     Ok(Drawing {
         width: frame.width(),
         height: frame.height(),
@@ -161,7 +165,7 @@ fn schedule_of<R: Ready>(
     let labels = labels_of(alloc, frame, names, history.lives(), runs)?;
     Ok(Schedule {
         processors: frame.processors,
-        has_outlines: frame.sizes.slot >= 8,
+        has_outlines: frame.sizes.slot >= OUTLINED,
         held: marks.held,
         ties,
         windows: bars.windows,
@@ -255,70 +259,22 @@ fn ground_of(
     shown(alloc, ground.as_slice(), frame.width(), frame.height())
 }
 
-// The key.
-fn key_of(alloc: Global, frame: &Frame, schedule: &Schedule) -> Result<Vec<Sign>, AllocError>
+// The key of a schedule, over its ground.
+fn key_of(
+    alloc: Global,
+    frame: &Frame,
+    schedule: &Schedule,
+    ground: &[Shape],
+) -> Result<Vec<Sign>, AllocError>
     requires { IsFrame frame.now }
-    ensures value { IfOk result (λ key. key.items ≡ map (cut_sign (width_of frame.now) (height_of frame.now)) (schedule_key frame.now.processors (shown_of schedule.now) (bottom frame.now + 36))) }
+    ensures value { IfOk result (λ key. key.items ≡ map (cut_sign (width_of frame.now) (height_of frame.now)) (schedule_key schedule.now.quanta.items (shown_of schedule.now ground.now) (bottom frame.now + 36))) }
     ensures inside { IfOk result (λ key. All (SignLiesIn (width_of frame.now) (height_of frame.now)) key.items) }
 {
     let mut key = Vec::new(alloc);
-    let shown = shown_of(schedule);
-    add_schedule_key(&mut key, frame.processors, &shown, frame.bottom() + 36)?;
+    let shown = shown_of(schedule, ground);
+    let quanta = schedule.quanta.as_slice();
+    add_schedule_key(&mut key, quanta, &shown, frame.bottom() + ABOVE_KEY)?;
     shown_signs(alloc, key.as_slice(), frame.width(), frame.height())
-}
-
-// What a schedule has.
-fn shown_of(schedule: &Schedule) -> Shown
-    ensures { result ≡ shown_of schedule.now }
-{
-    let arrows = schedule.arrows.as_slice();
-    Shown {
-        windows: has_any(schedule.windows.as_slice()),
-        joins: has_joins(arrows),
-        departures: has_departures(arrows),
-        held: has_any(schedule.held.as_slice()),
-        late: has_any(schedule.late.as_slice()),
-        refusals: has_any(schedule.refusals.as_slice()),
-        quanta: has_any(schedule.quanta.as_slice()),
-    }
-}
-
-// Whether there is any.
-fn has_any<T: Drop>(items: &[T]) -> bool
-    ensures { result ≡ nat_lt 0 (length items.now) }
-{
-    items.len() > 0
-}
-
-// Whether there is a join.
-fn has_joins(arrows: &[LifeMark]) -> bool
-    ensures { result ≡ nat_lt 0 (count_by is_join arrows.now) }
-{
-    arrows.iter().filter(|mark| is_join(mark)).count() > 0
-}
-
-// Whether there is a departure.
-fn has_departures(arrows: &[LifeMark]) -> bool
-    ensures { result ≡ nat_lt 0 (count_by is_departure arrows.now) }
-{
-    arrows.iter().filter(|mark| is_departure(mark)).count() > 0
-}
-
-// Whether a mark stands for a join.
-fn is_join(mark: &LifeMark) -> bool
-    ensures { result ≡ is_join mark.now }
-{
-    match mark.arrow.head {
-        Mark::Join => true,
-        _ => false,
-    }
-}
-
-// Whether it stands for a departure.
-fn is_departure(mark: &LifeMark) -> bool
-    ensures { result ≡ is_departure mark.now }
-{
-    !is_join(mark)
 }
 
 /// Whether no picture shows these slots: they are none, aren't all planned, or are more than
@@ -375,7 +331,7 @@ fn left_margin(names: &[TaskName]) -> u64
 {
     let mut margin = NARROWEST_LEFT;
     for name in names {
-        margin = margin.max(BESIDE + LETTER * (name.as_bytes().len() as u64).min(16));
+        margin = margin.max(BESIDE + LETTER * (name.as_bytes().len() as u64).min(LONGEST));
     }
     margin
 }

@@ -31,8 +31,22 @@ pub const LEFT: u64 = 16;
 pub const RIGHT: u64 = 40;
 /// Between the rows of tasks and those of processors.
 pub const BETWEEN: u64 = 12;
-/// Below the last row: the scale, and the key.
-pub const BELOW: u64 = 98;
+/// Below the last row: the scale, and the key of four lines.
+pub const BELOW: u64 = 118;
+/// From the scale's top to the key's.
+pub const ABOVE_KEY: u64 = 36;
+/// From one line of the key to the next.
+pub const KEY_LINE: u64 = 20;
+/// How many colours processors have; from there on they repeat.
+pub const COLOURS: u64 = 8;
+/// The narrowest slots that have a line each, and outlines of windows.
+pub const OUTLINED: u64 = 8;
+/// The narrowest slots in which lags have dots.
+pub const DOTTED: u64 = 12;
+/// The narrowest slots that have room for a number beside a mark.
+pub const ROOMY: u64 = 28;
+/// The most rows in which lags are drawn high.
+pub const HIGH_ROWS: usize = 40;
 /// The narrowest figure, in which the key has room.
 pub const NARROWEST: u64 = 640;
 /// Left of the slots, beside the name: the weight and the spaces.

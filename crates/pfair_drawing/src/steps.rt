@@ -7,6 +7,7 @@ ghost use Rattle.pfair_drawing.specs.Lags.{book_before, is_past, beyond_of, beyo
 
 use crate::frame::Frame;
 use crate::names::Names;
+use crate::sizes::ROOMY;
 use crate::slots::{decided_at, table_at};
 use pfair_lag::{LagBook, MAX_HORIZON};
 use pfair_output::tell_all;
@@ -170,7 +171,7 @@ fn beyond_label(frame: &Frame, at: Point, lag: (i64, u64)) -> Option<Label>
     requires { at.y < 2 ^ 41 }
     ensures { result ≡ beyond_label frame.now at lag }
 {
-    if frame.sizes.slot < 28 {
+    if frame.sizes.slot < ROOMY {
         return None;
     }
     let y = if lag.0 >= 0 {

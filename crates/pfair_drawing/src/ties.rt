@@ -16,7 +16,8 @@ use pfair_svg::{Shape, Stroke};
 use pfair_weight::{MAX_INDEX, TaskName};
 use std::alloc::{AllocError, Global};
 
-/// A line for each quantum that lies outside its window, from the quantum to the window.
+/// A line for each quantum that lies outside its window with slots between them, from the quantum to
+/// the window.
 pub(crate) fn ties_of(
     alloc: Global,
     frame: &Frame,
@@ -127,7 +128,7 @@ fn add_tie(
     }
 }
 
-// Adds the line of a quantum that lies outside its window.
+// Adds the line of a quantum that is apart from its window.
 fn add_life_tie(
     shapes: &mut Vec<Shape>,
     frame: &Frame,

@@ -1,2 +1,3 @@
+mod CaptionFacts
 pub mod RangeFacts
 mod TextFacts

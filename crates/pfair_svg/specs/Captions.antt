@@ -53,3 +53,17 @@ caption_text names (Departure row slot freed_at) = departure_text names row slot
 caption_text names (Late row slot index by) = late_caption_text names row slot index by
 caption_text names (Refusal row slot refusals) = refused_text names row slot refusals
 caption_text names (Lag row time numerator period) = lag_caption_text names row time numerator period
+
+-- what is told of windows, quanta and lags, and what of decisions: of each caption one of the two is all that is told
+abbrev pub work_text : List NameValue → Caption → List ℕ
+work_text names (Window row index opens closes) = window_caption_text names row index opens closes
+work_text names (Quantum row index slot processor) = quantum_caption_text names row index slot processor
+work_text names (Lag row time numerator period) = lag_caption_text names row time numerator period
+work_text names _ = []
+
+abbrev pub decided_text : List NameValue → Caption → List ℕ
+decided_text names (Join row slot cost period) = join_text names row slot cost period
+decided_text names (Departure row slot freed_at) = departure_text names row slot freed_at
+decided_text names (Late row slot index by) = late_caption_text names row slot index by
+decided_text names (Refusal row slot refusals) = refused_text names row slot refusals
+decided_text names _ = []

@@ -187,19 +187,20 @@ step_text names has_dots s = group_text names s.caption ++ lag_shapes_text names
 
 -- ---- the key
 
-abbrev pub bare_window_text : Area → List ℕ
-bare_window_text area = area_text area ++ window_class true ++ codes "/>\n"
+abbrev pub bare_window_text : Area → (has_outline : Bool) → List ℕ
+bare_window_text area has_outline = area_text area ++ window_class has_outline ++ codes "/>\n"
 
 abbrev pub colour_sign_text : Area → ℕ → List ℕ
 colour_sign_text area processor = area_text area ++ colour_class processor ++ codes "/>\n"
 
 abbrev pub sign_text : List NameValue → Sign → List ℕ
-sign_text names (sign.Window area) = bare_window_text area
+sign_text names (sign.Window area has_outline) = bare_window_text area has_outline
+sign_text names (sign.Tie from to) = line_text from to (stroke_class Edge)
 sign_text names (sign.Held area) = bar_text area (codes "held")
 sign_text names (sign.Colour area processor) = colour_sign_text area processor
 sign_text names (sign.Arrow arrow) = arrow_text arrow
 sign_text names (sign.Mark at mark) = mark_text at mark
-sign_text names (sign.Lag from to) = line_text from to (lag_class false)
+sign_text names (sign.Lag from to is_outside) = line_text from to (lag_class is_outside)
 sign_text names (sign.Bound from to) = line_text from to (stroke_class Bound)
 sign_text names (sign.Label label) = label_text names label
 

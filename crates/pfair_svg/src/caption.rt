@@ -1,7 +1,7 @@
 //! What a viewer shows where a shape is pointed at.
 
 ghost use Rattle.std.specs.Prelude.{◌≡◌, ◌++◌, OnOk};
-ghost use Rattle.pfair_svg.specs.Captions.{caption_text, counted_text, departure_text, join_text, lag_caption_text, late_caption_text, quantum_caption_text, refused_text, refusals_text, times_text, window_caption_text};
+ghost use Rattle.pfair_svg.specs.Captions.{caption_text, counted_text, decided_text, departure_text, join_text, lag_caption_text, late_caption_text, quantum_caption_text, refused_text, refusals_text, times_text, window_caption_text, work_text};
 
 use crate::label::{add_lag, add_name};
 use crate::text::{add_field, add_text};
@@ -113,6 +113,14 @@ pub(crate) fn add_caption(
 ) -> Result<(), AllocError>
     ensures { OnOk result (text.new.items ≡ text.old.items ++ caption_text names.now caption) }
 {
+    add_work(text, names, caption)?;
+    add_decided(text, names, caption)
+}
+
+// Adds what is told of a window, a quantum or a lag.
+fn add_work(text: &mut Vec<u8>, names: &[TaskName], caption: Caption) -> Result<(), AllocError>
+    ensures { OnOk result (text.new.items ≡ text.old.items ++ work_text names.now caption) }
+{
     match caption {
         Caption::Window {
             row,
@@ -126,6 +134,21 @@ pub(crate) fn add_caption(
             slot,
             processor,
         } => add_quantum(text, names, row, index, slot, processor),
+        Caption::Lag {
+            row,
+            time,
+            numerator,
+            period,
+        } => add_lag_caption(text, names, row, time, numerator, period),
+        _ => Ok(()),
+    }
+}
+
+// Adds what is told of a decision.
+fn add_decided(text: &mut Vec<u8>, names: &[TaskName], caption: Caption) -> Result<(), AllocError>
+    ensures { OnOk result (text.new.items ≡ text.old.items ++ decided_text names.now caption) }
+{
+    match caption {
         Caption::Join {
             row,
             slot,
@@ -148,12 +171,7 @@ pub(crate) fn add_caption(
             slot,
             refusals,
         } => add_refused(text, names, row, slot, refusals),
-        Caption::Lag {
-            row,
-            time,
-            numerator,
-            period,
-        } => add_lag_caption(text, names, row, time, numerator, period),
+        _ => Ok(()),
     }
 }
 

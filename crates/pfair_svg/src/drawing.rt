@@ -9,7 +9,19 @@ use pfair_weight::TaskName;
 #[derive(Clone, Copy, Debug, PartialEq, Eq)]
 pub enum Sign {
     /// A window.
-    Window(Area),
+    Window {
+        /// Where.
+        area: Area,
+        /// Whether it has an outline.
+        has_outline: bool,
+    },
+    /// A line that joins a quantum to its window.
+    Tie {
+        /// Where it begins.
+        from: Point,
+        /// Where it ends.
+        to: Point,
+    },
     /// The weight of a departing task, held until it is free.
     Held(Area),
     /// The colour of a processor.
@@ -34,6 +46,8 @@ pub enum Sign {
         from: Point,
         /// Where it ends.
         to: Point,
+        /// Whether it is at or past a bound.
+        is_outside: bool,
     },
     /// A line of a bound.
     Bound {

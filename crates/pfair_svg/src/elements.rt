@@ -293,23 +293,28 @@ pub(crate) fn add_sign(text: &mut Vec<u8>, names: &[TaskName], sign: Sign) -> Re
     ensures { OnOk result (text.new.items ≡ text.old.items ++ sign_text names.now sign) }
 {
     match sign {
-        Sign::Window(area) => add_bare_window(text, area),
+        Sign::Window { area, has_outline } => add_bare_window(text, area, has_outline),
+        Sign::Tie { from, to } => add_line(text, from, to, b"edge"),
         Sign::Held(area) => add_bar(text, area, b"held"),
         Sign::Colour { area, processor } => add_colour_sign(text, area, processor),
         Sign::Arrow(arrow) => add_arrow(text, arrow),
         Sign::Mark { at, mark } => add_mark(text, at, mark),
-        Sign::Lag { from, to } => add_line(text, from, to, b"lag"),
+        Sign::Lag {
+            from,
+            to,
+            is_outside,
+        } => add_line(text, from, to, lag_class(is_outside)),
         Sign::Bound { from, to } => add_line(text, from, to, b"bound"),
         Sign::Label(label) => add_label(text, names, label),
     }
 }
 
 // Adds the sample of a window.
-fn add_bare_window(text: &mut Vec<u8>, area: Area) -> Result<(), AllocError>
-    ensures { OnOk result (text.new.items ≡ text.old.items ++ bare_window_text area) }
+fn add_bare_window(text: &mut Vec<u8>, area: Area, has_outline: bool) -> Result<(), AllocError>
+    ensures { OnOk result (text.new.items ≡ text.old.items ++ bare_window_text area has_outline) }
 {
     add_area(text, area)?;
-    add_text(text, window_class(true))?;
+    add_text(text, window_class(has_outline))?;
     add_text(text, b"/>\n")
 }
 

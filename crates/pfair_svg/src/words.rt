@@ -18,8 +18,14 @@ pub enum Note {
     Processor,
     /// In the key, where colours repeat.
     Repeat,
+    /// In the key, where processors are beside subtasks.
+    Place,
     /// In the key.
     Window,
+    /// In the key, of a line that joins a quantum to its window.
+    Tie,
+    /// In the key, of the numbers on quanta.
+    Index,
     /// In the key.
     Joins,
     /// In the key.
@@ -27,11 +33,21 @@ pub enum Note {
     /// In the key.
     Held,
     /// In the key.
+    Weight,
+    /// In the key, of the names of tasks that were never admitted.
+    Absent,
+    /// In the key, of the stamp of a late release.
     Late,
+    /// In the key, of the arrow of a late release.
+    Later,
+    /// In the key, of by how many slots a release is later.
+    More,
     /// In the key.
     Refused,
-    /// In the key.
-    Index,
+    /// In the key, of the number beside a refusal.
+    Reason,
+    /// In the key, of how many refusals a mark stands for.
+    Times,
     /// In the key of lags.
     Lag,
     /// In the key of lags.
@@ -39,6 +55,10 @@ pub enum Note {
     /// In the key of lags.
     Outside,
     /// In the key of lags.
+    Above,
+    /// In the key of lags.
+    Below,
+    /// In the key of lags, of the numbers of lags that are further than is drawn.
     Beyond,
 }
 
@@ -53,18 +73,28 @@ impl Note {
             Note::Slot => "slot",
             Note::Time => "time",
             Note::Processor => "processor",
-            Note::Repeat => "8 has the colour of 0, 9 that of 1, and so on; p12 is processor 12",
+            Note::Repeat => "8 has the colour of 0, and so on",
+            Note::Place => "p12 is processor 12",
             Note::Window => "window",
+            Note::Tie => "from a quantum to its window",
+            Note::Index => "the number in a quantum is that of its subtask",
             Note::Joins => "joins",
             Note::Departs => "departs",
             Note::Held => "weight held until freed",
-            Note::Late => "late release, from its stamp",
-            Note::Refused => "refused, by its number; x3 stands for three at once",
-            Note::Index => "the number in a quantum is that of its subtask",
+            Note::Weight => "1/2 is a weight",
+            Note::Absent => "a grey name: not admitted",
+            Note::Late => "late release",
+            Note::Later => "to its new window",
+            Note::More => "+3: by 3 slots",
+            Note::Refused => "refused",
+            Note::Reason => "22: its number",
+            Note::Times => "x3: three at once",
             Note::Lag => "lag, from each time to the next",
             Note::Bounds => "the bounds of 1 on both sides",
             Note::Outside => "at or past a bound (late releases are not taken into account)",
-            Note::Beyond => "past what is drawn, with the lag itself",
+            Note::Above => "above what is drawn",
+            Note::Below => "below what is drawn",
+            Note::Beyond => "with the lag itself",
         }
     }
 }

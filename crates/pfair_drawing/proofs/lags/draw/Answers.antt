@@ -1,9 +1,12 @@
-use Rattle.std.proofs.Common.{sym, ◌≡◌, ◌-◌, ap, refl, ◌∙◌, [], List, length, map}
+use Rattle.std.proofs.Common.{sym, ◌≡◌, ◌+◌, ◌-◌, ap, refl, ◌∙◌, [], List, length, map}
 use Rattle.std.specs.Prelude.{min}
 use Rattle.pfair_weight.specs.Name.{NameValue}
 use Rattle.pfair_drawing.specs.declared.history.Life.{Life}
-use Rattle.pfair_drawing.specs.Canvas.{cut_label, cut_shape}
-use Rattle.pfair_drawing.specs.Frame.{width_of, height_of}
+use Rattle.pfair_svg.specs.declared.shape.Shape.{Shape}
+use Rattle.pfair_drawing.specs.Canvas.{cut_label, cut_shape, cut_sign}
+use Rattle.pfair_drawing.specs.Frame.{bottom, width_of, height_of}
+use Rattle.pfair_drawing.specs.Key.{lag_key}
+use Rattle.pfair_drawing.specs.Kinds.{shown_lags_of}
 use Rattle.pfair_drawing.specs.Labels.{weights}
 use Rattle.pfair_drawing.specs.Names.{with_names}
 use Rattle.pfair_drawing.specs.Sizes.{lag_sizes_of, left_of, sizes_of}
@@ -32,5 +35,8 @@ returns g c =
     let ground : c.in_ok-ground.ground.items ≡ map (cut_shape (width_of f) (height_of f)) (lags_ground f names told.lives) =
     c.in_ok-ground.ensures.value ∙ ap (λ (n : List NameValue). map (cut_shape (width_of f) (height_of f)) (lags_ground f n c.in_ok-history.history.lives)) (c.as_slice-2.ensures ∙ sym copied)
     ∙ ap (λ (h : Told). map (cut_shape (width_of f) (height_of f)) (lags_ground f names h.lives)) history in
+    let key : c.in_ok-key.key.items ≡ map (cut_sign (width_of f) (height_of f)) (lag_key (shown_lags_of c.in_ok-lags.lags c.in_ok-ground.ground.items) (bottom f + 36)) =
+    c.in_ok-key.ensures.value
+    ∙ ap (λ (g : List Shape). map (cut_sign (width_of f) (height_of f)) (lag_key (shown_lags_of c.in_ok-lags.lags g) (bottom f + 36))) c.as_slice-3.ensures.value in
     lags_are d.decided d.tables d.settings c.args.from c.args.to f _ c.in_ok-lags.lags c.lag_frame-frame.ensures.frame c.lag_frame-frame.ensures.slots.0 c.lag_frame-frame.ensures.slots.1 names_are rows left sizes
-    c.width.ensures.value c.height.ensures.value c.figures_of.ensures refl c.in_ok-lags.ensures.has_dots steps labels ground c.in_ok-key.ensures.value c.in_ok-lags.ensures.inside c.in_ok-ground.ensures.inside c.in_ok-key.ensures.inside
+    c.width.ensures.value c.height.ensures.value c.figures_of.ensures refl c.in_ok-lags.ensures.has_dots steps labels ground key c.in_ok-lags.ensures.inside c.in_ok-ground.ensures.inside c.in_ok-key.ensures.inside

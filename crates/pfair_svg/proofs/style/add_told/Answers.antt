@@ -1,5 +1,4 @@
 use Rattle.std.proofs.lemmas.Result.{on_ok_weaker}
-use Rattle.std.proofs.Common.{refl}
 use Rattle.pfair_svg.specs.Svg.{told_text}
 use Rattle.pfair_svg.proofs.TextFacts.{five_is}
 use Rattle.pfair_svg.proofs.style.add_told.Goals as goal
