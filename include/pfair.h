@@ -5,7 +5,8 @@
  * Build with the flags of `pkg-config --cflags --libs pfair`, once scripts/install has installed the library: they take
  * the shared one, libpfair.so, and with -static or -Wl,-Bstatic before them the static one, libpfair.a.
  *
- * Without a C library. The archive as rt builds it wants rattle_alloc, rattle_realloc and rattle_dealloc, which call
+ * Without a C library. This header wants <stdbool.h>, <stddef.h> and <stdint.h>, which each compiler brings, and nothing
+ * else. The archive as rt builds it wants rattle_alloc, rattle_realloc and rattle_dealloc, which call
  * malloc, realloc and free (the kit's c/liblibc_c.a has them; the installed archive too), and memcpy, memmove, memset and
  * __udivti3 (of libgcc). Its code is for x86-64-v2, with the SSE registers enabled. A call takes 5 KB of stack at most
  * (measured: a plan with 64 processors and 800 tasks), but pfair_read_file: 11 KB for a common file, and 110 KB where keys
@@ -33,7 +34,6 @@
 #include <stdbool.h>
 #include <stddef.h>
 #include <stdint.h>
-#include <string.h>
 
 #define PFAIR_VERSION "0.2.0"
 #define PFAIR_VERSION_NUMBER 200
@@ -134,8 +134,8 @@ struct pfair_entry {
 /* The name that a text spells. A name that is too long keeps its length, and is refused where it is used. */
 static inline struct pfair_name pfair_name_of(const char *text) {
     struct pfair_name name = {{0}, 0};
-    name.length = strlen(text);
-    memcpy(name.bytes, text, name.length < 16 ? (size_t)name.length : 16);
+    for (; text[name.length] != 0; name.length++)
+        if (name.length < sizeof name.bytes) name.bytes[name.length] = (uint8_t)text[name.length];
     return name;
 }
 
