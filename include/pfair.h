@@ -5,7 +5,8 @@
  * Build with the flags of `pkg-config --cflags --libs pfair`, once scripts/install has installed the library: they take
  * the shared one, libpfair.so, and with -static or -Wl,-Bstatic before them the static one, libpfair.a.
  *
- * Without a C library. The archive as rt builds it wants rattle_alloc, rattle_realloc and rattle_dealloc, which call
+ * Without a C library. This header wants <stdbool.h>, <stddef.h> and <stdint.h>, which each compiler brings, and nothing
+ * else. The archive as rt builds it wants rattle_alloc, rattle_realloc and rattle_dealloc, which call
  * malloc, realloc and free (the kit's c/liblibc_c.a has them; the installed archive too), and memcpy, memmove, memset and
  * __udivti3 (of libgcc). Its code is for x86-64-v2, with the SSE registers enabled. A call takes 5 KB of stack at most
  * (measured: a plan with 64 processors and 800 tasks), but pfair_read_file: 11 KB for a common file, and 110 KB where keys
@@ -33,7 +34,6 @@
 #include <stdbool.h>
 #include <stddef.h>
 #include <stdint.h>
-#include <string.h>
 
 #define PFAIR_VERSION "0.2.0"
 #define PFAIR_VERSION_NUMBER 200
@@ -59,13 +59,14 @@ enum pfair_answer {
     PFAIR_NO_SUCH_NUMBER = 14,    /* an entry's number is 0 or past the capacity */
     PFAIR_OTHER_SHAPE = 15,       /* two dispatchers with different numbers of processors, or different capacities */
     PFAIR_TORN = 30,              /* two different entries were taken for one number */
-    PFAIR_SPENT = 31,             /* memory was refused to a plan; pfair_reopen helps */
+    PFAIR_SPENT = 31,             /* memory was refused to a plan, and the dispatcher is spent; pfair_reopen helps */
     PFAIR_FILE_NOT_TOML = 60,     /* a task file is no TOML document */
     PFAIR_FILE_MISSING = 61,      /* a key isn't there */
     PFAIR_FILE_WRONG_KIND = 62,   /* what stands at a key is of another kind than the key asks for */
     PFAIR_FILE_RANGE = 63,        /* what stands at a key is out of its range */
     PFAIR_FILE_ENTRY = 64,        /* the keys of a table are in order, and make no entry */
     PFAIR_FILE_VERSION = 65,      /* the file's version is none of 1 and 2 */
+    PFAIR_FILE_TOO_LONG = 66,     /* a task file of more than 67,108,864 bytes */
     PFAIR_MEMORY = 90,            /* memory was wanted and refused */
     PFAIR_OUT_OF_RANGE = 100,     /* a number is out of the range that its call states */
     PFAIR_OPEN_ALREADY = 101,     /* the handle has a dispatcher */
@@ -134,8 +135,8 @@ struct pfair_entry {
 /* The name that a text spells. A name that is too long keeps its length, and is refused where it is used. */
 static inline struct pfair_name pfair_name_of(const char *text) {
     struct pfair_name name = {{0}, 0};
-    name.length = strlen(text);
-    memcpy(name.bytes, text, name.length < 16 ? (size_t)name.length : 16);
+    for (; text[name.length] != 0; name.length++)
+        if (name.length < sizeof name.bytes) name.bytes[name.length] = (uint8_t)text[name.length];
     return name;
 }
 
@@ -193,6 +194,7 @@ struct pfair_file_fault {
  * below the number of slots one more, with that floor; and it has planned nothing. The capacity is the length of the
  * longest log.
  *   101       the handle has a dispatcher already
+ *   66        there are more than 67,108,864 bytes
  *   60 to 65  the file's first fault, and `fault` says where: 60 first, then key by key and table by table
  *   90        memory was refused; at any place
  *   0         the handle has it
@@ -251,9 +253,10 @@ struct pfair_taken_log {
 /*
  * Takes `length` entries of the log of `processor`, one after another, under the numbers `first`, `first` + 1 and so on,
  * each as pfair_take does. At the first that is refused it stops.
- *   102  the handle has no dispatcher
- *   100, 1 to 10, 13, 14, 90  as pfair_take, of the first entry that is refused
- *   0    all are taken
+ *   102     the handle has no dispatcher
+ *   13, 14  there is no such processor, no such number as `first` (1 to the capacity); also where `length` is 0
+ *   100, 1 to 10, 14, 90  as pfair_take, of the first entry that is refused
+ *   0       all are taken
  * But after 102 `counted` is written: the first `taken` entries are taken and stand, and after another answer than 0 it is
  * the next one that is refused. Cost: that of pfair_take for each.
  */
@@ -376,6 +379,8 @@ uint32_t pfair_plan_next(struct pfair_dispatcher *d, struct pfair_step *step);
  *   100  `until` is 0
  *   30, 31, 90  as pfair_plan_next, where fewer than `until` slots are planned; those planned before that stand
  *   0    the step is written: PFAIR_PLANNED with slot `until` - 1, planned now or before; or why the plans ended
+ * Where fewer than `until` slots are planned, one that holds something torn, or is spent, is told by 30 or 31, and never
+ * as waiting or as done.
  * Cost: what the plans of the slots cost.
  */
 uint32_t pfair_plan_to(struct pfair_dispatcher *d, uint64_t until, struct pfair_step *step);
@@ -483,13 +488,38 @@ struct pfair_lag {
  * `from` isn't below `to`.
  *   102  the handle has no dispatcher
  *   104  slot `to` - 1 isn't planned
- *   90   memory was refused, which a few words for each task need; the rows of some first slots may be written
+ *   90   memory was refused, which a few words for each task need; the rows of some first ones of these slots may be
+ *        written
  *   103  there are more than `room` rows: `count` is written, but no row
  *   0    `count` and the rows are written
  * Cost: the rows, and twice the slots, decisions and quanta of slots 0 to `to` - 1, with a look-up for each decision and
  * quantum and a pass over the tasks for each departure: lags are counted from slot 0 on in each call, whatever `from` is.
  */
 uint32_t pfair_lags(struct pfair_dispatcher *d, uint64_t from, uint64_t to, uint64_t *count, struct pfair_lag *rows, size_t room);
+
+/* A member: a task that was admitted and isn't freed. */
+struct pfair_member {
+    struct pfair_name name;
+    uint64_t cost, period; /* the weight */
+    uint64_t early;        /* 1 where its subtasks may run early, else 0 */
+    uint64_t joined;       /* the slot at whose boundary it was admitted */
+    uint64_t next;         /* its next subtask: the first that has not run, from 1 */
+    uint64_t theta;        /* the offset of that subtask's window, as pfair_window takes it: the slot in which it joined, and
+                              by how much the late releases up to this subtask put it off */
+    uint64_t is_departing; /* 1 where it is departing, and gets no more quanta, else 0 */
+    uint64_t freed_at;     /* where it is departing: the slot from which weight and name are free; else 0 */
+};
+
+/*
+ * The members after the planned slots: the tasks that were admitted and aren't freed at the boundary of the last of these,
+ * in the order of admission, as they are after that slot's table.
+ *   102  the handle has no dispatcher
+ *   31   memory was refused to a plan: the members are known again after pfair_reopen
+ *   103  there are more than `room` rows: `count` is written, but no row
+ *   0    `count` and the rows are written
+ * Cost: the rows, and a look at each late release that was accepted of these tasks.
+ */
+uint32_t pfair_members(struct pfair_dispatcher *d, uint64_t *count, struct pfair_member *rows, size_t room);
 
 #ifdef __cplusplus
 }

@@ -7,6 +7,7 @@
 #include <inttypes.h>
 #include <stdio.h>
 #include <stdlib.h>
+#include <string.h>
 
 enum { PROCESSORS = 2, SLOTS = 6, CAPACITY = 6, TAKEN = 5, ROOM = 8 };
 

@@ -11,6 +11,7 @@
 #include <inttypes.h>
 #include <stdio.h>
 #include <stdlib.h>
+#include <string.h>
 
 enum { PROCESSORS = 2, FRAME = 6, SLOTS = 6, CAPACITY = 5, ROOM = 8 };
 

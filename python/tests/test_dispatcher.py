@@ -124,6 +124,20 @@ def test_what_is_held():
         assert refused.value.found == {"processor": 0, "number": 2} and one.held(0, 1) == pfair.promise(1)
 
 
+def test_members():
+    with pfair.Dispatcher(1, 6, 9) as one:
+        assert one.members().tolist() == []
+        log = [pfair.arrive("z", 1, 2), pfair.late("z", 2, 3, at=1), pfair.arrive("b", 1, 3, at=2, early=True), pfair.depart("b", 4), pfair.arrive("c", 1, 4, at=4)]
+        one.take_log(0, [*log, pfair.promise(9)])
+        known = {1: [(b"z", 1, 2, 0, 0, 2, 0, 0, 0)], 5: [(b"z", 1, 2, 0, 0, 2, 3, 0, 0), (b"b", 1, 3, 1, 2, 2, 2, 1, 5)], 6: [(b"z", 1, 2, 0, 0, 3, 3, 0, 0)]}
+        for slots, members in known.items():
+            one.plan(slots)
+            assert one.members().tolist() == members and one.members().dtype == pfair.MEMBER
+        weight, number, theta = (one.members()[0][list(keys)].tolist() for keys in (("cost", "period"), ("next",), ("theta",)))
+        assert pfair.windows(*weight, 1, *number, *theta)["release"] == 7
+        assert one.take(0, 9, pfair.promise(8)) == "new" and one.take(0, 9, pfair.promise(9)) == "torn" and one.members().tolist() == known[6]
+
+
 WEIGHTS = [(pfair.ZeroCost, (0, 1, 1)), (pfair.CostOverPeriod, (2, 1, 1)), (pfair.PeriodTooLong, (1, 10**9 + 1, 1))]
 RANGES = [(1, 2, 1, 0), (1, 2, -1), (-1, 2, 1), (2**64, 2, 1), (1, 2, 2, 1_000_001), (1, 2, 1, 1, 2**40 + 1)]
 SETTINGS = [(0, 1, 1), (65, 1, 1), (256, 1, 1), (257, 1, 1), (-1, 1, 1), (1, 0, 1), (1, 10**9 + 1, 1), (1, 1, 0), (1, 1, 10**6 + 1), (1, 1, 1, 0), (1, 1, 1, 4097), (1, 2**64, 1)]
@@ -155,6 +169,10 @@ def test_refusals():
         with pytest.raises(kind):
             one.take(0, 1, entry)
         assert one.held(0, 1) is None
+    for kind, *given in ((pfair.NoSuchProcessor, 1), (pfair.NoSuchProcessor, 255), (pfair.NoSuchNumber, 0, 0), (pfair.NoSuchNumber, 0, 4097)):
+        for entries in ([], [pfair.promise(1)]):
+            with pytest.raises(kind):
+                one.take_log(given[0], entries, *given[1:])
     for kind, key in ((pfair.NoSuchProcessor, (1, 1)), (pfair.NoSuchNumber, (0, 0)), (pfair.NoSuchNumber, (0, 4097)), (pfair.OutOfRange, (256, 1)), (pfair.OutOfRange, (0, 2**32))):
         with pytest.raises(kind):
             one.take(*key, pfair.promise(1))
@@ -169,7 +187,7 @@ def test_refusals():
         one.plan(0)
     one.close()
     one.close()
-    for call in (one.plan, one.quanta, one.faults, lambda: one.take(0, 1, pfair.promise(1)), lambda: one.planned, lambda: one.absorb(pfair.Dispatcher(1, 6, 6)), one.lags, one.decisions):
+    for call in (one.plan, one.quanta, one.faults, lambda: one.take(0, 1, pfair.promise(1)), lambda: one.planned, lambda: one.absorb(pfair.Dispatcher(1, 6, 6)), one.lags, one.decisions, one.members):
         with pytest.raises(pfair.NotOpen):
             call()
 

@@ -586,6 +586,55 @@ static void planned_to(void) {
     ANSWERS(0, pfair_close(&d));
 }
 
+/* Neither the one nor the other is told as waiting or as done. */
+static void refused_to(struct pfair_dispatcher *d, uint32_t answer, uint64_t number, int line) {
+    for (int next = 0; next < 2; next++) {
+        struct pfair_step s = {7, 7, 7, 7};
+        uint32_t got = next ? pfair_plan_next(d, &s) : pfair_plan_to(d, UINT64_MAX, &s);
+        CHECK(got == answer, "answered %" PRIu32 ", line %d", got, line);
+        CHECK(s.kind == 7 && s.slot == 7 && s.processor == (number ? 0 : 7) && s.number == (number ? number : 7),
+              "the step, line %d", line);
+    }
+}
+
+static void neither_torn_nor_spent(void) {
+    static const uint64_t floors[] = {3, 6};
+    for (int is_done = 0; is_done < 2; is_done++) {
+        struct pfair_dispatcher d = PFAIR_NONE;
+        struct pfair_step s;
+        uint64_t taken, kind = is_done ? PFAIR_ALL_PLANNED : PFAIR_WAITING;
+        ANSWERS(0, pfair_open(&d, 1, 6, 6, 5));
+        ANSWERS(0, take(&d, 0, 1, arrive("a", 1, 2, 0), &taken));
+        ANSWERS(0, take(&d, 0, 2, nothing(floors[is_done]), &taken));
+        ANSWERS(0, pfair_plan_to(&d, UINT64_MAX, &s));
+        CHECK(s.kind == kind, "as far as it comes");
+        /* spent */
+        refuse(1, 1000000);
+        ANSWERS(90, pfair_reopen(&d));
+        ample();
+        refused_to(&d, 31, 0, __LINE__);
+        ANSWERS(0, pfair_plan_to(&d, floors[is_done], &s));
+        CHECK(s.kind == PFAIR_PLANNED && s.slot == floors[is_done] - 1, "planned before");
+        /* torn goes before spent */
+        ANSWERS(0, take(&d, 0, 4, nothing(8), &taken));
+        ANSWERS(0, take(&d, 0, 4, nothing(9), &taken));
+        CHECK(taken == PFAIR_TORN_NOW, "torn");
+        refused_to(&d, 30, 4, __LINE__);
+        ANSWERS(30, pfair_reopen(&d));
+        refused_to(&d, 30, 4, __LINE__);
+        ANSWERS(0, pfair_close(&d));
+        /* torn */
+        ANSWERS(0, pfair_open(&d, 1, 6, 6, 5));
+        ANSWERS(0, take(&d, 0, 1, nothing(floors[is_done]), &taken));
+        ANSWERS(0, pfair_plan_to(&d, UINT64_MAX, &s));
+        CHECK(s.kind == kind, "as far as it comes");
+        ANSWERS(0, take(&d, 0, 3, nothing(8), &taken));
+        ANSWERS(0, take(&d, 0, 3, nothing(9), &taken));
+        refused_to(&d, 30, 3, __LINE__);
+        ANSWERS(0, pfair_close(&d));
+    }
+}
+
 static void several_slots(void) {
     struct pfair_dispatcher d = PFAIR_NONE;
     struct pfair_step s;
@@ -648,6 +697,7 @@ int main(void) {
     below();
     opened_with();
     planned_to();
+    neither_torn_nor_spent();
     several_slots();
     CHECK(blocks == at_first, "%ld blocks not freed", blocks - at_first);
     return told();

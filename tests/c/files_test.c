@@ -132,6 +132,21 @@ static void refused_files(void) {
     CHECK(s.capacity == 4096, "a full log, and the entry that closes it");
     ANSWERS(0, pfair_close(&d));
     free(text);
+    /* of bytes that no file can have none is looked at */
+    size_t longest = 67108864;
+    text = malloc(longest + 1);
+    memset(text, ' ', longest + 1);
+    memcpy(text, HEAD, length);
+    text[length - 1] = ' ';
+    text[longest] = text[longest - 1] = '\n';
+    fault = (struct pfair_file_fault){7, 7, 7, 7, 7};
+    ANSWERS(66, pfair_read_file(&d, &fault, (const uint8_t *)text, longest + 1));
+    ANSWERS(66, pfair_read_file(&d, &fault, (const uint8_t *)text, SIZE_MAX / 2));
+    same_fault(fault, 7, 7, 7, 7, 7);
+    ANSWERS(0, pfair_read_file(&d, &fault, (const uint8_t *)text, longest));
+    ANSWERS(101, pfair_read_file(&d, &fault, (const uint8_t *)text, longest + 1));
+    ANSWERS(0, pfair_close(&d));
+    free(text);
 }
 
 /* ---- memory refused at each place */

@@ -1,6 +1,6 @@
 /*
  * The calls that give or take several rows at once: windows and entries of a log, beside the calls that give or take
- * one, and lags. It counts what holds and prints what doesn't.
+ * one, lags, and members. It counts what holds and prints what doesn't.
  */
 #include "checks.h"
 
@@ -66,13 +66,25 @@ static void whole_logs(void) {
     same_counts(counted, 7, 7, 7, 7);
     ANSWERS(0, pfair_open(&d, 2, 6, 6, 5));
     ANSWERS(0, pfair_open(&o, 2, 6, 6, 5));
-    ANSWERS(0, pfair_take_log(&d, 9, 0, &counted, NULL, 0));
-    same_counts(counted, 0, 0, 0, 0);
-    ANSWERS(13, pfair_take_log(&d, 2, 1, &counted, log, 4));
-    ANSWERS(14, pfair_take_log(&d, 1, 0, &counted, log, 4));
-    ANSWERS(14, pfair_take_log(&d, 1, 6, &counted, log, 4));
-    ANSWERS(14, pfair_take_log(&d, 1, UINT32_MAX, &counted, log, 4));
-    same_counts(counted, 0, 0, 0, 0);
+    /* a log or a number that isn't there, with entries and with none */
+    for (size_t length = 0; length < 5; length += 4) {
+        static const struct {
+            uint32_t answer, first;
+            uint8_t processor;
+        } absent[] = {{13, 1, 2}, {13, 1, 255}, {13, 0, 2}, {13, 6, 9},         {14, 0, 0},
+                      {14, 0, 1}, {14, 6, 0},   {14, 6, 1}, {14, UINT32_MAX, 1}};
+        for (size_t k = 0; k < sizeof absent / sizeof *absent; k++) {
+            counted = (struct pfair_taken_log){7, 7, 7, 7};
+            ANSWERS(absent[k].answer,
+                    pfair_take_log(&d, absent[k].processor, absent[k].first, &counted, length ? log : NULL, length));
+            same_counts(counted, 0, 0, 0, 0);
+        }
+    }
+    for (uint32_t first = 1; first < 6; first++) {
+        counted = (struct pfair_taken_log){7, 7, 7, 7};
+        ANSWERS(0, pfair_take_log(&d, first % 2, first, &counted, NULL, 0));
+        same_counts(counted, 0, 0, 0, 0);
+    }
     ANSWERS(0, pfair_below(&d, &o, &is));
     CHECK(is == 1, "nothing was taken");
     /* as one call for each entry */
@@ -103,8 +115,14 @@ static void whole_logs(void) {
     CHECK(taken == PFAIR_NEW, "the refused one wasn't taken");
     ANSWERS(100, pfair_take_log(&o, 0, 4, &counted, bad + 3, 1));
     same_counts(counted, 0, 0, 0, 0);
-    /* an entry is looked at before its number */
-    ANSWERS(100, pfair_take_log(&o, 9, 0, &counted, bad + 3, 1));
+    /* the log and its first number are looked at before an entry */
+    ANSWERS(13, pfair_take_log(&o, 9, 0, &counted, bad + 3, 1));
+    ANSWERS(14, pfair_take_log(&o, 0, 6, &counted, bad + 3, 1));
+    /* and an entry before its own number */
+    ANSWERS(0, pfair_take_log(&o, 0, 5, &counted, log + 3, 1));
+    struct pfair_entry last[] = {log[3], bad[3]};
+    ANSWERS(100, pfair_take_log(&o, 0, 5, &counted, last, 2));
+    same_counts(counted, 1, 0, 1, 0);
     CHECK(!memcmp(kept, log, sizeof log), "the entries were written");
     ANSWERS(0, pfair_close(&d));
     ANSWERS(0, pfair_close(&o));
@@ -121,8 +139,10 @@ static void whole_logs(void) {
         uint32_t n = (uint32_t)counted.taken;
         ANSWERS(0, pfair_missing(&d, 0, &is));
         CHECK(is == (n == 64 ? 0 : n + 1), "those before stand");
-        ANSWERS(0, pfair_take_log(&d, 0, n + 1, &counted, many + n, 64 - n));
-        same_counts(counted, 64 - n, 64 - n, 0, 0);
+        if (n < 64) {
+            ANSWERS(0, pfair_take_log(&d, 0, n + 1, &counted, many + n, 64 - n));
+            same_counts(counted, 64 - n, 64 - n, 0, 0);
+        }
         ANSWERS(0, pfair_close(&d));
     }
 }
@@ -198,11 +218,97 @@ static void lags(void) {
     ANSWERS(0, pfair_close(&d));
 }
 
+/* ---- members */
+
+static void same_member(struct pfair_member got, const char *name, uint64_t period, uint64_t early, uint64_t joined,
+                        uint64_t next, uint64_t theta, uint64_t freed_at) {
+    struct pfair_name wanted = pfair_name_of(name);
+    CHECK(!memcmp(&got.name, &wanted, sizeof wanted) && got.cost == 1 && got.period == period && got.early == early &&
+              got.joined == joined && got.next == next && got.theta == theta && got.is_departing == (freed_at != 0) &&
+              got.freed_at == freed_at,
+          "%.16s: next %" PRIu64 ", theta %" PRIu64 ", freed at %" PRIu64, got.name.bytes, got.next, got.theta,
+          got.freed_at);
+}
+
+/* One processor: z of 1/2 from slot 0 on, its second subtask late by 3; b of 1/3 from slot 2 on, which departs at 4. */
+static uint64_t members_after(uint64_t slots, struct pfair_member *rows) {
+    uint64_t theta = slots < 2 ? 0 : 3, next = slots < 6 ? 2 : 3,
+             count = slots < 1                ? 0
+                     : slots < 3 || slots > 5 ? 1
+                                              : 2;
+    if (count > 0) same_member(rows[0], "z", 2, 0, 0, next, theta, 0);
+    if (count > 1) same_member(rows[1], "b", 3, 1, 2, 2, 2, slots < 5 ? 0 : 5);
+    return count;
+}
+
+static void members(void) {
+    struct pfair_dispatcher d = PFAIR_NONE;
+    struct pfair_member rows[3], mark[3];
+    struct pfair_step s;
+    struct pfair_window w;
+    struct pfair_entry log[] = {arrive("z", 1, 2, 0), late("z", 2, 3, 1),   arrive("b", 1, 3, 2),
+                                depart("b", 4),       arrive("c", 1, 4, 4), nothing(7)};
+    struct pfair_taken_log counted;
+    uint64_t count = 77, taken;
+    log[2].early = 1;
+    memset(mark, 0x33, sizeof mark);
+    memcpy(rows, mark, sizeof rows);
+    ANSWERS(102, pfair_members(&d, &count, rows, 3));
+    ANSWERS(0, pfair_open(&d, 1, 6, 9, 9));
+    ANSWERS(0, pfair_take_log(&d, 0, 1, &counted, log, 6));
+    CHECK(count == 77, "written");
+    long asked = calls;
+    for (uint64_t slots = 0; slots < 8; slots++) {
+        if (slots) ANSWERS(0, pfair_plan_to(&d, slots, &s));
+        memcpy(rows, mark, sizeof rows);
+        asked = calls;
+        ANSWERS(0, pfair_members(&d, &count, rows, 3));
+        CHECK(count == members_after(slots, rows), "%" PRIu64 " members after %" PRIu64 " slots", count, slots);
+        CHECK(!memcmp(rows + count, mark, (3 - count) * sizeof *rows), "a row behind was written");
+        CHECK(asked == calls, "it wants no memory");
+    }
+    /* the next subtask's window */
+    ANSWERS(0, pfair_window(rows[0].cost, rows[0].period, rows[0].next, rows[0].theta, &w));
+    CHECK(w.release == 7 && w.deadline == 9, "the window of the third subtask");
+    ANSWERS(0, pfair_close(&d));
+    /* rooms */
+    ANSWERS(0, pfair_open(&d, 1, 6, 9, 9));
+    ANSWERS(0, pfair_members(&d, &count, NULL, 0));
+    CHECK(count == 0, "nobody");
+    ANSWERS(0, pfair_take_log(&d, 0, 1, &counted, log, 6));
+    ANSWERS(0, pfair_plan_to(&d, 5, &s));
+    memcpy(rows, mark, sizeof rows);
+    for (size_t room = 0; room < 2; room++) {
+        count = 77;
+        ANSWERS(103, pfair_members(&d, &count, rows, room));
+        CHECK(count == 2, "count");
+    }
+    CHECK(!memcmp(rows, mark, sizeof rows), "rows written though there is no room");
+    /* spent, and reopened */
+    refuse(1, 1000000);
+    ANSWERS(90, pfair_reopen(&d));
+    ample();
+    count = 77;
+    ANSWERS(31, pfair_members(&d, &count, rows, 3));
+    CHECK(count == 77 && !memcmp(rows, mark, sizeof rows), "written after 31");
+    ANSWERS(0, pfair_reopen(&d));
+    ANSWERS(0, pfair_members(&d, &count, rows, 2));
+    CHECK(count == members_after(5, rows), "as before");
+    /* torn, behind what is planned */
+    ANSWERS(0, take(&d, 0, 8, nothing(8), &taken));
+    ANSWERS(0, take(&d, 0, 8, nothing(9), &taken));
+    memcpy(rows, mark, sizeof rows);
+    ANSWERS(0, pfair_members(&d, &count, rows, 2));
+    CHECK(taken == PFAIR_TORN_NOW && count == members_after(5, rows), "what was planned stands");
+    ANSWERS(0, pfair_close(&d));
+}
+
 int main(void) {
     long at_first = blocks;
     several_windows();
     whole_logs();
     lags();
+    members();
     CHECK(blocks == at_first, "%ld blocks not freed", blocks - at_first);
     return told();
 }

@@ -5,9 +5,13 @@ use Rattle.pfair_table.specs.Table.{Table}
 use Rattle.pfair_handle.specs.declared.quanta.PfairQuantum.{PfairQuantum}
 use Rattle.pfair_table.specs.declared.pick.Decided.{Decided}
 use Rattle.pfair_handle.specs.declared.decisions.PfairDecision.{PfairDecision}
-use Rattle.pfair_handle.specs.Rows.{written_over, rows_of, quanta_of, decisions_of}
+use Rattle.pfair_handle.specs.Rows.{written_over, quanta_of, decisions_of}
 use Rattle.pfair_handle.specs.declared.lags.PfairLag.{PfairLag}
-use Rattle.pfair_handle.specs.Lags.{lags_at, lags_of}
+use Rattle.pfair_handle.specs.Lags.{lags_of}
+use Rattle.pfair_admission.specs.Member.{Member}
+use Rattle.pfair_table.specs.Refinement.{Dispatch}
+use Rattle.pfair_handle.specs.declared.members.PfairMember.{PfairMember}
+use Rattle.pfair_handle.specs.Members.{member_row, AreMembersNow}
 
 -- 104 where the slot isn't planned, 103 where there are fewer rows than are wanted
 abbrev pub rows_answer : {A : Type 0} → Option (List A) → ℕ → ℕ
@@ -51,6 +55,10 @@ rows_counted (Some planned) count = min (length planned) 18446744073709551615
 abbrev pub lags_between : List (List Decided) → List Table → (from to : ℕ) → Option (List PfairLag)
 lags_between decided tables from to = if nat_le to (length tables) then Some (lags_of decided tables from to) else None
 
--- the lags after some slots from one on, or after none, over the first rows
-abbrev pub IsPartlyLaid : List (List Decided) → List Table → (from : ℕ) → (old new : List PfairLag) → Type 0
-IsPartlyLaid decided tables from old new = (slots : ℕ) × (new ≡ written_over (rows_of (lags_at decided tables) from slots) old)
+-- the members after the planned slots are told
+pub record AreMembersTold (d : Dispatch) (answer count : ℕ) (old new : List PfairMember) : Type 0 where
+  pub members : List Member
+  pub are_members : AreMembersNow d members
+  pub answer_is : answer ≡ rows_answer (Some members) (length old)
+  pub count_is : count ≡ length members
+  pub rows_are : new ≡ rows_after member_row (Some members) old

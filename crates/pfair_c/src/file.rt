@@ -1,13 +1,14 @@
 //! Task files, read into dispatchers.
-ghost use Rattle.std.specs.Prelude.{◌≡◌, ◌⊎◌, None, true};
+ghost use Rattle.std.specs.Prelude.{◌≡◌, ◌<◌, ◌⊎◌, None, true, length};
 ghost use Rattle.pfair_handle.specs.Kept.{is_kept};
 ghost use Rattle.pfair_handle.specs.Behind.{Of};
 ghost use Rattle.pfair_c.specs.Files.{IsReadFrom, IsStartedWith, IsFileFault, at_key, fault_row, field_number};
 
 use pfair_file::{Field, FileFault, read_file};
-use pfair_handle::answer::{DONE, MEMORY, OPEN_ALREADY};
+use pfair_handle::answer::{DONE, FILE_TOO_LONG, MEMORY, OPEN_ALREADY};
 use pfair_handle::{Handle, Served};
 use pfair_table::{Script, take_script};
+use pfair_text::LONGEST_FILE;
 use std::alloc::Global;
 
 /// Where a task file is at fault.
@@ -41,8 +42,9 @@ const NOWHERE: PfairFileFault = PfairFileFault {
 /// taken all entries of the file's logs and planned nothing. Its logs have room for as many entries
 /// as the longest of the file. It costs what [`read_file`] and [`take_script`] cost.
 ///
-/// It answers 0; 101 where the handle has a dispatcher; 60 to 65 for the file's first fault, and
-/// then it writes where that is; or 90. The handle is as before but after 0.
+/// It answers 0; 101 where the handle has a dispatcher; 66 where there are more than [`LONGEST_FILE`]
+/// bytes; 60 to 65 for the file's first fault, and then it writes where that is; or 90. The handle is
+/// as before but after 0.
 #[unsafe(no_mangle)]
 pub extern "C" fn pfair_read_file(
     alloc: Global,
@@ -51,14 +53,18 @@ pub extern "C" fn pfair_read_file(
     bytes: &[u8],
 ) -> u32
     ensures already { is_kept handle.old.owner.kept ≡ true → result ≡ 101 }
+    ensures too_long { handle.old.owner.kept ≡ None → 67108864 < length bytes.now → result ≡ 66 }
     ensures read { result ≡ 0 → Of handle.new.owner.kept (IsReadFrom bytes.now) }
-    ensures fault { (result ≡ 0 → ⊥) → (result ≡ 90 → ⊥) → (result ≡ 101 → ⊥) → IsFileFault bytes.now result fault.new }
-    ensures only { result ≡ 101 → is_kept handle.old.owner.kept ≡ true }
+    ensures fault { (result ≡ 0 → ⊥) → (result ≡ 66 → ⊥) → (result ≡ 90 → ⊥) → (result ≡ 101 → ⊥) → IsFileFault bytes.now result fault.new }
+    ensures only { (result ≡ 101 → is_kept handle.old.owner.kept ≡ true) × (result ≡ 66 → 67108864 < length bytes.now) }
     ensures unchanged { (result ≡ 0 → ⊥) → handle.new.owner.kept ≡ handle.old.owner.kept }
-    ensures untold { (result ≡ 0) ⊎ ((result ≡ 90) ⊎ (result ≡ 101)) → fault.new ≡ fault.old }
+    ensures untold { (result ≡ 0) ⊎ ((result ≡ 66) ⊎ ((result ≡ 90) ⊎ (result ≡ 101))) → fault.new ≡ fault.old }
 {
     if handle.is_open() {
         return OPEN_ALREADY;
+    }
+    if bytes.len() > LONGEST_FILE {
+        return FILE_TOO_LONG;
     }
     match read_file(alloc, bytes) {
         Ok(script) => keep(alloc, handle, &script),

@@ -215,6 +215,19 @@ pub extern "C" fn pfair_below(
     DONE
 }
 
+/// 13 where a replica has no such processor, 14 where no log of it has such a number, else 0.
+pub(crate) fn key_answer(replica: &Replica, processor: u8, number: u32) -> u32
+    ensures { result ≡ key_answer replica.now processor number }
+{
+    if processor >= replica.processors() {
+        return NO_SUCH_PROCESSOR;
+    }
+    if number == 0 || number > replica.capacity() {
+        return NO_SUCH_NUMBER;
+    }
+    DONE
+}
+
 // What a replica holds at a key, and the entry where it is one.
 fn find_held(
     replica: &Replica,
@@ -228,11 +241,9 @@ fn find_held(
     ensures entry { result ≡ 0 → entry.new ≡ entry_after (held replica.now processor number) entry.old }
     ensures untold { (result ≡ 0 → ⊥) → (kind.new ≡ kind.old) × (entry.new ≡ entry.old) }
 {
-    if processor >= replica.processors() {
-        return NO_SUCH_PROCESSOR;
-    }
-    if number == 0 || number > replica.capacity() {
-        return NO_SUCH_NUMBER;
+    let answer = key_answer(replica, processor, number);
+    if answer != DONE {
+        return answer;
     }
     *kind = match replica.get(processor, number) {
         None => 0,

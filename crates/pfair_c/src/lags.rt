@@ -2,7 +2,8 @@
 ghost use Rattle.std.specs.Prelude.{◌≡◌, ◌≤◌, ◌<◌, None, true, length};
 ghost use Rattle.pfair_handle.specs.Kept.{is_kept};
 ghost use Rattle.pfair_handle.specs.Behind.{Of};
-ghost use Rattle.pfair_c.specs.Rows.{lags_between, IsPartlyLaid, rows_answer, rows_counted, rows_laid};
+ghost use Rattle.pfair_handle.specs.Lags.{IsPartlyLaid};
+ghost use Rattle.pfair_c.specs.Rows.{lags_between, rows_answer, rows_counted, rows_laid};
 
 use pfair_handle::answer::{DONE, MEMORY, NO_ROOM, NOT_OPEN, NOT_PLANNED};
 use pfair_handle::{Handle, PfairLag, count_lags, write_lags};
@@ -32,7 +33,7 @@ pub extern "C" fn pfair_lags(
     ensures answer { is_kept handle.old.owner.kept ≡ true → (result ≡ 90 → ⊥) → Of handle.old.owner.kept (λ d. result ≡ rows_answer (lags_between d.decided d.tables from to) (length rows.old)) }
     ensures count { is_kept handle.old.owner.kept ≡ true → (result ≡ 90 → ⊥) → Of handle.old.owner.kept (λ d. count.new ≡ rows_counted (lags_between d.decided d.tables from to) count.old) }
     ensures rows { is_kept handle.old.owner.kept ≡ true → (result ≡ 90 → ⊥) → Of handle.old.owner.kept (λ d. rows.new ≡ rows_laid (lags_between d.decided d.tables from to) rows.old) }
-    ensures memory { result ≡ 90 → (count.new ≡ count.old) × (from < to) × Of handle.old.owner.kept (λ d. (to ≤ length d.tables) × IsPartlyLaid d.decided d.tables from rows.old rows.new) }
+    ensures memory { result ≡ 90 → (count.new ≡ count.old) × (from < to) × Of handle.old.owner.kept (λ d. (to ≤ length d.tables) × IsPartlyLaid d.decided d.tables from to rows.old rows.new) }
     ensures unchanged { handle.new.owner.kept ≡ handle.old.owner.kept }
 {
     if !handle.is_open() {
@@ -55,7 +56,7 @@ fn copy_lags(
     ensures answer { (result ≡ 90 → ⊥) → result ≡ rows_answer (lags_between dispatcher.now.decided dispatcher.now.tables from to) (length rows.old) }
     ensures count { (result ≡ 90 → ⊥) → count.new ≡ rows_counted (lags_between dispatcher.now.decided dispatcher.now.tables from to) count.old }
     ensures rows { (result ≡ 90 → ⊥) → rows.new ≡ rows_laid (lags_between dispatcher.now.decided dispatcher.now.tables from to) rows.old }
-    ensures memory { result ≡ 90 → (count.new ≡ count.old) × (from < to) × (to ≤ length dispatcher.now.tables) × IsPartlyLaid dispatcher.now.decided dispatcher.now.tables from rows.old rows.new }
+    ensures memory { result ≡ 90 → (count.new ≡ count.old) × (from < to) × (to ≤ length dispatcher.now.tables) × IsPartlyLaid dispatcher.now.decided dispatcher.now.tables from to rows.old rows.new }
 {
     if to > dispatcher.next_slot() {
         return NOT_PLANNED;

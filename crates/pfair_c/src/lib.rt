@@ -10,6 +10,7 @@ mod dispatcher;
 mod file;
 mod held;
 mod lags;
+mod members;
 mod plan;
 mod plan_to;
 mod quanta;
@@ -25,6 +26,7 @@ pub use held::{
     PfairSettings, pfair_below, pfair_faults, pfair_held, pfair_mark, pfair_missing, pfair_settings,
 };
 pub use lags::pfair_lags;
+pub use members::pfair_members;
 pub use plan::{PfairStep, pfair_frontier, pfair_next_slot, pfair_plan_next, pfair_reopen};
 pub use plan_to::pfair_plan_to;
 pub use quanta::pfair_quanta;

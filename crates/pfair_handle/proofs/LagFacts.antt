@@ -1,19 +1,15 @@
 -- A book of lags that is told slot by slot, and its rows.
-use Rattle.std.proofs.Common.{◌≡◌, ◌∙◌, ◌+◌, ◌-◌, ℕ, zero, suc, ◌<◌, ◌≤◌, ◌++◌, ◌∷◌, [], List, Some, length, map, min, take, drop, set, slice_get, ap, sym, refl, arith}
+use Rattle.std.proofs.Common.{◌≡◌, ◌∙◌, ◌+◌, ◌-◌, ℕ, zero, suc, ◌<◌, ◌≤◌, ◌++◌, ◌∷◌, [], List, length, min, take, drop, ap, sym, refl, arith}
 use Rattle.std.proofs.lemmas.List.{length-map}
-use Rattle.std.proofs.lemmas.Option.{get_or_from_slice_get}
-use Rattle.pfair_weight.specs.Name.{NameValue}
-use Rattle.pfair_lag.specs.Book.{Tally, Book, empty_book}
+use Rattle.pfair_lag.specs.Book.{Book, empty_book}
 use Rattle.pfair_table.specs.declared.pick.Decided.{Decided}
 use Rattle.pfair_table.specs.Table.{Table}
 use Rattle.pfair_output.specs.Told.{slot_told, all_slots_told}
-use Rattle.pfair_output.proofs.SlotFacts.{first_left}
 use Rattle.pfair_output.proofs.ToldFacts.{time-all_told}
 use Rattle.pfair_handle.specs.Rows.{rows_of, written_over}
 use Rattle.pfair_handle.specs.declared.lags.PfairLag.{PfairLag}
 use Rattle.pfair_handle.specs.Lags.{book_after, book_rows, lag_row, lags_at}
 use Rattle.pfair_handle.proofs.SlotRows.{room-for, slot-written}
-use Rattle.pfair_handle.proofs.Written.{one-more}
 
 -- ---- what the book is told
 
@@ -80,17 +76,6 @@ as-many-lags ds ts slot book is =
 
 pub rows-at : (ds : List (List Decided)) (ts : List Table) (slot : ℕ) (book : Book) → book ≡ book_after ds ts (slot + 1) → book_rows book ≡ lags_at ds ts slot
 rows-at ds ts slot book is = ap book_rows is
-
-pub one-lag-more : (time : ℕ) (es : List (NameValue × Tally)) (old rows new : List PfairLag) (i : ℕ) → i < length es → length es ≤ length old
-    → rows ≡ map (lag_row time) (take i es) ++ drop i old
-    → ((e : NameValue × Tally) → slice_get es i ≡ Some e → new ≡ set rows i (lag_row time e))
-    → new ≡ map (lag_row time) (take (i + 1) es) ++ drop (i + 1) old
-one-lag-more time es old rows new i inside room before written =
-    let here = first_left es i inside in
-    written here.0 here.1
-    ∙ ap (λ (r : List PfairLag). set r i (lag_row time here.0)) before
-    ∙ one-more (lag_row time) es old i here.0 inside room (sym (get_or_from_slice_get es i here.0 here.0 here.1))
-    ∙ (let further : suc i ≡ i + 1 = omega arith in ap (λ n. map (lag_row time) (take n es) ++ drop n old) further)
 
 -- no more than fit are counted
 pub counted-within : (rows more all most counted next : ℕ) → counted ≡ min rows most → next ≡ min (counted + more) most → all ≡ rows + more → next ≡ min all most

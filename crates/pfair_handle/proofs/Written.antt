@@ -1,5 +1,7 @@
 -- One row more is written over the first of those that were there.
-use Rattle.std.proofs.Common.{◌≡◌, ◌∙◌, ℕ, zero, suc, ◌<◌, ◌≤◌, List, [], ◌∷◌, ◌++◌, map, refl, take, drop, set, length, get_or, ap, arith}
+use Rattle.std.proofs.Common.{◌≡◌, ◌∙◌, ◌+◌, ℕ, zero, suc, ◌<◌, ◌≤◌, List, [], ◌∷◌, ◌++◌, Some, map, refl, sym, take, drop, set, slice_get, length, get_or, ap, arith}
+use Rattle.std.proofs.lemmas.Option.{get_or_from_slice_get}
+use Rattle.pfair_output.proofs.SlotFacts.{first_left}
 
 pub one-more-at : {A B : Type 0} (f : A → B) (xs : List A) (rows : List B) (i : ℕ) (d : A)
     → i < length xs → length xs ≤ length rows
@@ -14,3 +16,15 @@ pub one-more : {A B : Type 0} (f : A → B) (xs : List A) (rows : List B) (i : �
     → i < length xs → length xs ≤ length rows → x ≡ get_or xs i x
     → set (map f (take i xs) ++ drop i rows) i (f x) ≡ map f (take (suc i) xs) ++ drop (suc i) rows
 one-more f xs rows i x inside room is = ap (λ y. set (map f (take i xs) ++ drop i rows) i (f y)) is ∙ one-more-at f xs rows i x inside room
+
+-- the row of what stands at a place is written there
+pub one-found-more : {A B : Type 0} (f : A → B) (xs : List A) (old rows new : List B) (i : ℕ) → i < length xs → length xs ≤ length old
+    → rows ≡ map f (take i xs) ++ drop i old
+    → ((x : A) → slice_get xs i ≡ Some x → new ≡ set rows i (f x))
+    → new ≡ map f (take (i + 1) xs) ++ drop (i + 1) old
+one-found-more f xs old rows new i inside room before written =
+    let here = first_left xs i inside in
+    written here.0 here.1
+    ∙ ap (λ r. set r i (f here.0)) before
+    ∙ one-more f xs old i here.0 inside room (sym (get_or_from_slice_get xs i here.0 here.0 here.1))
+    ∙ (let further : suc i ≡ i + 1 = omega arith in ap (λ n. map f (take n xs) ++ drop n old) further)

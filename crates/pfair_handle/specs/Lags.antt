@@ -1,11 +1,11 @@
 -- Lags, as C has them.
-use Rattle.std.specs.Prelude.{ℕ, ◌+◌, ◌-◌, List, map, take}
+use Rattle.std.specs.Prelude.{ℕ, ◌+◌, ◌-◌, ◌≡◌, ◌≤◌, List, map, take}
 use Rattle.pfair_weight.specs.Name.{NameValue}
 use Rattle.pfair_lag.specs.Book.{Tally, Book, empty_book, lag_of}
 use Rattle.pfair_table.specs.declared.pick.Decided.{Decided}
 use Rattle.pfair_table.specs.Table.{Table}
 use Rattle.pfair_output.specs.Told.{all_slots_told}
-use Rattle.pfair_handle.specs.Rows.{name_row, rows_of}
+use Rattle.pfair_handle.specs.Rows.{name_row, rows_of, written_over}
 use Rattle.pfair_handle.specs.declared.lags.PfairLag.{PfairLag}
 
 -- the lag of a task of a book at its time
@@ -27,3 +27,7 @@ lags_at decided tables t = book_rows (book_after decided tables (t + 1))
 -- the lags after each of the slots `from` to `to` - 1
 abbrev pub lags_of : List (List Decided) → List Table → (from to : ℕ) → List PfairLag
 lags_of decided tables from to = rows_of (lags_at decided tables) from (to - from)
+
+-- the lags after some first of the slots `from` to `to` - 1, or after none, over the first rows
+abbrev pub IsPartlyLaid : List (List Decided) → List Table → (from to : ℕ) → (old new : List PfairLag) → Type 0
+IsPartlyLaid decided tables from to old new = (slots : ℕ) × (slots ≤ to - from) × (new ≡ written_over (rows_of (lags_at decided tables) from slots) old)

@@ -3,6 +3,7 @@ pub mod Entries
 pub mod EntryRows
 pub mod Kept
 pub mod Lags
+pub mod Members
 pub mod Planning
 pub mod Rows
 pub mod TakenLog

@@ -1,5 +1,7 @@
 -- Several plans at once.
-use Rattle.std.specs.Prelude.{ℕ, zero, suc, ◌≡◌, ◌≤◌, ◌<◌, length, max}
+use Rattle.std.specs.Prelude.{ℕ, zero, suc, ◌≡◌, ◌≤◌, ◌<◌, false, length, max}
+use Rattle.pfair_replica.specs.HeldRows.{replica_of}
+use Rattle.pfair_replica.specs.Replica.{has_torn}
 use Rattle.pfair_table.specs.declared.event.Event.TheVariants.{Plan}
 use Rattle.pfair_table.specs.declared.answer.Step.{Step}
 use Rattle.pfair_table.specs.declared.answer.Step.TheVariants.{Planned, Waiting, Done}
@@ -20,11 +22,16 @@ pub record IsPlannedOn (until : ℕ) (d e : Dispatch) : Type 0 where
   pub rest : e ≡ record d { tables = e.tables; decided = e.decided }
   pub no_more : length e.tables ≤ max (length d.tables) until
 
--- why the plans ended: all slots below `until` are planned, or the next one is not settled, or none is left
+-- nothing that is held is torn, and no plan was refused memory
+abbrev pub IsWhole : Dispatch → Type 0
+IsWhole d = (has_torn (replica_of d.held) ≡ false) × (d.spent ≡ false)
+
+-- why the plans ended: all slots below `until` are planned; or fewer are, and of a dispatcher that could plan the next one it is not settled,
+-- or none is left
 abbrev pub IsStopOf : ℕ → Dispatch → Step → Type 0
 IsStopOf until e (Planned slot) = (suc slot ≡ until) × (until ≤ length e.tables)
-IsStopOf until e (Waiting from) = (length e.tables < until) × IsStepOf e (Waiting from)
-IsStopOf until e Done = (length e.tables < until) × IsStepOf e Done
+IsStopOf until e (Waiting from) = (length e.tables < until) × IsWhole e × IsStepOf e (Waiting from)
+IsStopOf until e Done = (length e.tables < until) × IsWhole e × IsStepOf e Done
 
 -- some plans, and then one that was refused
 pub record IsStoppedBy (until : ℕ) (fault : PlanFault) (d e : Dispatch) : Type 0 where

@@ -10,6 +10,12 @@ pub const NO_SUCH_PROCESSOR: u32 = 13;
 /// No log has an entry of such a number.
 pub const NO_SUCH_NUMBER: u32 = 14;
 
+/// Memory was refused to a plan before.
+pub const SPENT: u32 = 31;
+
+/// A task file has too many bytes.
+pub const FILE_TOO_LONG: u32 = 66;
+
 /// Memory was wanted and refused.
 pub const MEMORY: u32 = 90;
 

@@ -1,9 +1,9 @@
 //! The lags in several slots, as C has them.
-ghost use Rattle.std.specs.Prelude.{◌≡◌, ◌≤◌, ◌+◌, ◌++◌, ℕ, length, min, take, drop, set, slice_get, IfOk, IfErr, OnOk};
+ghost use Rattle.std.specs.Prelude.{◌≡◌, ◌≤◌, ◌+◌, ◌++◌, length, min, take, drop, set, slice_get, IfOk, OnOk, OnErr};
 ghost use Rattle.pfair_weight.specs.Name.{NameValue};
 ghost use Rattle.pfair_lag.specs.Book.{Tally};
-ghost use Rattle.pfair_handle.specs.Lags.{lag_row, lags_at, book_rows, lags_of};
-ghost use Rattle.pfair_handle.specs.Rows.{rows_of, written_over};
+ghost use Rattle.pfair_handle.specs.Lags.{lag_row, book_rows, lags_of, IsPartlyLaid};
+ghost use Rattle.pfair_handle.specs.Rows.{written_over};
 
 use crate::rows::{PfairName, name_row};
 use pfair_lag::LagBook;
@@ -71,7 +71,7 @@ pub fn write_lags<R: Ready>(
     requires forward { from ≤ to }
     requires room { length (lags_of dispatcher.now.decided dispatcher.now.tables from to) ≤ length rows.old }
     ensures written { OnOk result (rows.new ≡ written_over (lags_of dispatcher.now.decided dispatcher.now.tables from to) rows.old) }
-    ensures partly { IfErr result (λ _. (slots : ℕ) × (rows.new ≡ written_over (rows_of (lags_at dispatcher.now.decided dispatcher.now.tables) from slots) rows.old)) }
+    ensures partly { OnErr result (IsPartlyLaid dispatcher.now.decided dispatcher.now.tables from to rows.old rows.new) }
 {
     // as many slots have decisions as have tables
     prove!(to <= dispatcher.next_slot());

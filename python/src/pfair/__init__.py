@@ -12,12 +12,12 @@ from ._errors import (
     NameTooLong, NoSuchNumber, NoSuchProcessor, NotOpen, NotPlanned, NotToml, OtherShape, OutOfMemory, OutOfRange, PeriodTooLong, PfairError,
     SlotTooFar, Spent, Stalled, StampBeforeFloor, TaskFileError, Torn, UnknownVersion, ZeroCost,
 )
-from ._library import DECISION, LAG, QUANTUM, VERSION, WINDOW
+from ._library import DECISION, LAG, MEMBER, QUANTUM, VERSION, WINDOW
 from ._schedule import Counts, Schedule, read_task_file, schedule
 
 __all__ = [
-    "BY_NUMBER", "DECISION", "LAG", "OUTCOMES", "QUANTUM", "WINDOW", "Counts", "Dispatcher", "Entry", "Faults", "Planned", "Schedule", "Script",
-    "TakenCounts", "arrive", "depart", "late", "promise", "read_task_file", "schedule", "study", "windows",
+    "BY_NUMBER", "DECISION", "LAG", "MEMBER", "OUTCOMES", "QUANTUM", "WINDOW", "Counts", "Dispatcher", "Entry", "Faults", "Planned", "Schedule",
+    "Script", "TakenCounts", "arrive", "depart", "late", "promise", "read_task_file", "schedule", "study", "windows",
     "BadDelay", "BadIndex", "CostOverPeriod", "EntryRefused", "FileTooLong", "KeyMissing", "KeyOutOfRange", "KeyWrongKind", "NameBadByte",
     "NameEmpty", "NameTooLong", "NoSuchNumber", "NoSuchProcessor", "NotOpen", "NotPlanned", "NotToml", "OtherShape", "OutOfMemory",
     "OutOfRange", "PeriodTooLong", "PfairError", "SlotTooFar", "Spent", "Stalled", "StampBeforeFloor", "TaskFileError", "Torn",

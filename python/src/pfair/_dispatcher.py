@@ -11,7 +11,7 @@ import numpy as np
 
 from ._entries import Entry, Rows, entry_of, rows_of, whole
 from ._errors import check
-from ._library import DECISION, ENTRY, KEY, LAG, QUANTUM, WINDOW, FileFault, Handle, Settings, Step, TakenLog, library
+from ._library import DECISION, ENTRY, KEY, LAG, MEMBER, QUANTUM, WINDOW, FileFault, Handle, Settings, Step, TakenLog, library
 
 #: What the outcome of a decision is; from 20 on a refusal.
 OUTCOMES = {
@@ -22,6 +22,7 @@ STEPS = ("planned", "waiting", "done")
 TAKEN = ("new", "known", "torn")
 
 
+# the library refuses more bytes than this
 LONGEST_FILE = 67_108_864
 # what is told of a fault of a file
 _WHERE = {61: ("place",), 62: ("place",), 63: ("place",), 64: ("processor", "number", "cause")}
@@ -88,8 +89,6 @@ class Dispatcher:
         programs close it, and planned nothing. Refused with one of the exceptions below TaskFileError."""
         made, fault = cls.__new__(cls), FileFault()
         made._handle, made._lock = Handle(False, None), threading.RLock()
-        if len(text) > LONGEST_FILE:
-            check(66)
         answer = library.pfair_read_file(made._handle, fault, text, len(text))
         found = {name: int(getattr(fault, name)) for name in _WHERE.get(answer, ())}
         check(answer, _at(fault) if found else "", **found)
@@ -158,8 +157,8 @@ class Dispatcher:
         return TAKEN[taken.value]
 
     def take_log(self, processor: int, entries: Sequence[Entry], first: int = 1) -> TakenCounts:
-        """Takes entries of a processor's log, numbered from `first` on. Those before the first that is refused are taken, and
-        found["number"] is its number."""
+        """Takes entries of a processor's log, numbered from `first` on (1 to the capacity, also of no entries). Those before the first that
+        is refused are taken, and found["number"] is its number."""
         rows, counted = rows_of(entries), TakenLog()
         with self._lock:
             answer = library.pfair_take_log(self._handle, whole(processor, 8, "processor"), whole(first, 32, "first"), counted, rows.ctypes.data, len(rows))
@@ -272,6 +271,19 @@ class Dispatcher:
         """The lags after each of slots `start` to `stop - 1`: an array of the dtype LAG, with a row for each task that is admitted and
         not departing, in the order of admission. It costs all slots before `stop`, whatever `start` is."""
         return self._range("pfair_lags", LAG, start, stop)
+
+    def members(self) -> Rows:
+        """The members after the planned slots, in the order of admission: an array of the dtype MEMBER, with a row for each task that was
+        admitted and isn't freed at the boundary of the last of these slots, as it is after that slot's table. After memory was refused to
+        a plan it raises Spent until reopen()."""
+        count, rows = c.c_uint64(), np.zeros(0, MEMBER)
+        with self._lock:
+            answer = 103
+            while answer == 103:
+                rows = np.empty(count.value, MEMBER)
+                answer = library.pfair_members(self._handle, count, rows.ctypes.data, len(rows))
+            check(answer)
+        return rows
 
     def table(self, slot: int) -> list[tuple[str, int]]:
         """The table of a slot: task and subtask of each row."""

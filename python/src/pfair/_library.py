@@ -54,6 +54,11 @@ QUANTUM = _rows(slot=_NUMBER, row=_NUMBER, place=_NUMBER, task=_NAME, index=_NUM
 DECISION = _rows(slot=_NUMBER, task=_NAME, processor=_NUMBER, number=_NUMBER, outcome=_NUMBER, freed_at=_NUMBER)
 #: A lag: of the task at a time (the end of slot `time` - 1), in quanta, numerator/period.
 LAG = _rows(time=_NUMBER, task=_NAME, numerator=("i8", 8), period=_NUMBER)
+#: A member: a task that was admitted and isn't freed, of weight cost/period; `early` 0 or 1, `joined` the slot in which it was admitted,
+#: `next` its next subtask, from 1, `theta` the offset of that one's window, `is_departing` 0 or 1, `freed_at` as in DECISION.
+MEMBER = _rows(
+    task=_NAME, cost=_NUMBER, period=_NUMBER, early=_NUMBER, joined=_NUMBER, next=_NUMBER, theta=_NUMBER, is_departing=_NUMBER, freed_at=_NUMBER
+)
 # as the library reads it, the length of the name included
 ENTRY = np.dtype(
     [("floor", "u8"), ("kind", "u8"), ("at", "u8"), ("name", "S16"), ("length", "u8"), ("cost", "u8"), ("period", "u8"), ("early", "u8"), ("index", "u8"), ("by", "u8")]
@@ -86,6 +91,7 @@ _CALLS: dict[str, list[Any]] = {
     "pfair_quanta": [_handle, _u64, _u64, _number, _array, _size],
     "pfair_decisions_of": [_handle, _u64, _u64, _number, _array, _size],
     "pfair_lags": [_handle, _u64, _u64, _number, _array, _size],
+    "pfair_members": [_handle, _number, _array, _size],
 }
 for _call, _types in _CALLS.items():
     getattr(library, _call).argtypes = _types
