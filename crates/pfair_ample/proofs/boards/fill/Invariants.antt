@@ -1,0 +1,5 @@
+use Rattle.pfair_desk.specs.Desks.{IsDeskOf}
+use Rattle.pfair_ample.proofs.boards.fill.Given as goal
+
+abbrev pub invariant-loop-number : goal.invariant-loop-number
+invariant-loop-number l = IsDeskOf l.desk l.board
