@@ -18,7 +18,7 @@ use Rattle.pfair_stream.proofs.Going.{none_behind, rows_go_on}
 use Rattle.pfair_stream.proofs.Plans.{grown_same, prefix_trans}
 use Rattle.pfair_feed.specs.Feeding.{HasGoneOn, HasStood, IsCaughtUp}
 
-even : (d : Dispatch) → IsWholePlan d → length d.tables ≡ length d.decided
+pub even : (d : Dispatch) → IsWholePlan d → length d.tables ≡ length d.decided
 even d whole =
     ap (λ (ts : List Table). length ts) whole.tables_are ∙ length-map _ (table d.settings (replica_of d.held))
     ∙ sym (length-map _ (decisions d.settings (replica_of d.held))) ∙ sym (ap (λ (ds : List (List Decided)). length ds) whole.decided_are)
@@ -43,7 +43,7 @@ stays f old new caught k = record {
   written = keeps_all old new (news f f) (ap lines_text (none_behind f.output f.told f.dispatch.tables f.dispatch.decided (even f.dispatch caught.whole) caught.all_told)) k;
 }
 
-longer : {A : Type 0} (xs ys : List A) → IsPrefixOf xs ys → length xs ≤ length ys
+pub longer : {A : Type 0} (xs ys : List A) → IsPrefixOf xs ys → length xs ≤ length ys
 longer xs ys p = let l = length-append xs p.0 in let e = ap length p.1 in omega (arith, l, e)
 
 news_more : (f g h : Follow) → g.output ≡ f.output → g.told ≡ max f.told (length g.dispatch.tables) → length g.dispatch.tables ≡ length g.dispatch.decided

@@ -1,5 +1,14 @@
+mod FedEntries
 mod Going
 mod Lines
 mod Numbered
+mod OneWay
 mod Orders
+mod Planned
 mod Reading
+mod Repeats
+mod RoundTrip
+mod RunsAlike
+mod Schedules
+mod ScriptRows
+mod Telling

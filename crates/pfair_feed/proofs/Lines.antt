@@ -254,19 +254,26 @@ consumes_end old mid new bytes none e a b = subst (λ (l : List ℕ). Consumes o
 
 -- a reader that fails
 pub not_read : (kept : List ℕ) (f : Follow) (w : Option (List ℕ)) → IsLeft kept ReadFailed f f w w
-not_read kept f w = record { cause = inl refl; nothing = λ other. keeps_self w; cut = λ same. absurd (cc same); stood = stood_same kept f f refl }
+not_read kept f w = record { cause = inl refl; nothing = λ other. keeps_self w; cut = λ same. absurd (cc same); due = λ same. absurd (cc same); stood = stood_same kept f f refl }
 
 -- ---- what a fault at a line leaves
 
 pub line_left : {T : Type 0} (r : Result T FeedFault) (line : List ℕ) (f g : Follow) (v w : Option (List ℕ)) → length line ≤ 256 → IfErr r (IsCauseIn f line) → IfErr r (λ e. e ≢ Fault WriteFailed → Keeps v w)
-    → (IsErrOf r (Fault WriteFailed) → TakesPrefix v w (news f g)) → IfErr r (λ e. HasStood line f g) → IfErr r (λ e. IsLeft line e f g v w)
-line_left (Ok x) line f g v w short cause nothing cut stood = tt
-line_left (Err e) line f g v w short cause nothing cut stood = record { cause = inr (inr (inl (short, cause))); nothing = nothing; cut = λ same. cut (ap Err same); stood = stood }
+    → (IsErrOf r (Fault WriteFailed) → TakesPrefix v w (news f g)) → (IsErrOf r (Fault WriteFailed) → news f g ≢ []) → IfErr r (λ e. HasStood line f g) → IfErr r (λ e. IsLeft line e f g v w)
+line_left (Ok x) line f g v w short cause nothing cut due stood = tt
+line_left (Err e) line f g v w short cause nothing cut due stood =
+    record { cause = inr (inr (inl (short, cause))); nothing = nothing; cut = λ same. cut (ap Err same); due = λ same. due (ap Err same); stood = stood }
 
 -- memory was wanting for a byte
 pub byte_left : {T : Type 0} (r : Result T FeedFault) (kept : List ℕ) (f : Follow) (w : Option (List ℕ)) → IfErr r (λ e. e ≡ Fault Memory) → IfErr r (λ e. IsLeft kept e f f w w)
 byte_left (Ok x) kept f w is = tt
-byte_left (Err e) kept f w is = record { cause = inr (inl is); nothing = λ other. keeps_self w; cut = λ same. absurd (let h : Fault Memory ≡ Fault WriteFailed = sym is ∙ same in cc h); stood = stood_same kept f f refl }
+byte_left (Err e) kept f w is = record {
+  cause = inr (inl is);
+  nothing = λ other. keeps_self w;
+  cut = λ same. absurd (let h : Fault Memory ≡ Fault WriteFailed = sym is ∙ same in cc h);
+  due = λ same. absurd (let h : Fault Memory ≡ Fault WriteFailed = sym is ∙ same in cc h);
+  stood = stood_same kept f f refl;
+}
 
 -- ---- the first bytes of an open line
 

@@ -17,39 +17,40 @@ use Rattle.pfair_stream.specs.declared.output.Output.{Output}
 use Rattle.pfair_stream.specs.Laws.{WholeRows}
 use Rattle.pfair_stream.specs.Rows.{header_of, rows_from}
 use Rattle.pfair_feed.specs.Feeding.{AreTakenFrom}
-use Rattle.pfair_feed.specs.Laws.{AreAmong, IsOneOf, IsPlaced, OrderIsNothing, Placed, WholeText, row_of}
+use Rattle.pfair_feed.specs.Laws.{OrderIsNothing, WholeText}
+use Rattle.pfair_feed.specs.RoundTrip.{AreAmong, IsOneOf, IsPlaced, Placed, row_of}
 
 -- what is held after some entries
-abbrev held_after : Replica → List Placed → Replica
+abbrev pub held_after : Replica → List Placed → Replica
 held_after x [] = x
 held_after x (e ∷ es) = held_after (taken x e.0 e.1 e.2) es
 
-taken_all : (x y : Replica) (es : List Placed) → AllByRecursion IsPlaced es → AreTakenFrom (map row_of es) x y → y ≡ held_after x es
+pub taken_all : (x y : Replica) (es : List Placed) → AllByRecursion IsPlaced es → AreTakenFrom (map row_of es) x y → y ≡ held_after x es
 taken_all x y [] all t = t
 taken_all x y (e ∷ es) all t = taken_all t.0 y es all.1 t.2 ∙ ap (λ (r : Replica). held_after r es) (t.1.row e.0 e.1 e.2 all.0 refl)
 
-abbrev event_of : Placed → Event
+abbrev pub event_of : Placed → Event
 event_of e = Take e.0 e.1 e.2
 
-run_held : (s : Settings) (c : Course) (es : List Placed) → (run s c (map event_of es)).held ≡ held_after c.held es
+pub run_held : (s : Settings) (c : Course) (es : List Placed) → (run s c (map event_of es)).held ≡ held_after c.held es
 run_held s c [] = refl
 run_held s c (e ∷ es) = run_held s (record c { held = taken c.held e.0 e.1 e.2 }) es
 
 -- ---- lists of the same entries
 
-all_of : (P : Placed → Type 0) (fs : List Placed) (e : Placed) → AllByRecursion P fs → IsOneOf e fs → P e
+pub all_of : (P : Placed → Type 0) (fs : List Placed) (e : Placed) → AllByRecursion P fs → IsOneOf e fs → P e
 all_of P [] e a i = absurd i
 all_of P (f ∷ fs) e a i = elim i [ inl same ↦ subst P (sym same) a.0 | inr more ↦ all_of P fs e a.1 more ]
 
-all_among : (P : Placed → Type 0) (es fs : List Placed) → AllByRecursion P fs → AreAmong es fs → AllByRecursion P es
+pub all_among : (P : Placed → Type 0) (es fs : List Placed) → AllByRecursion P fs → AreAmong es fs → AllByRecursion P es
 all_among P [] fs a m = tt
 all_among P (e ∷ es) fs a m = (all_of P fs e a m.0, all_among P es fs a m.1)
 
-all_from_map : (P : Event → Type 0) (es : List Placed) → AllByRecursion P (map event_of es) → AllByRecursion (λ e. P (event_of e)) es
+pub all_from_map : (P : Event → Type 0) (es : List Placed) → AllByRecursion P (map event_of es) → AllByRecursion (λ e. P (event_of e)) es
 all_from_map P [] a = tt
 all_from_map P (e ∷ es) a = (a.0, all_from_map P es a.1)
 
-all_to_map : (P : Event → Type 0) (es : List Placed) → AllByRecursion (λ e. P (event_of e)) es → AllByRecursion P (map event_of es)
+pub all_to_map : (P : Event → Type 0) (es : List Placed) → AllByRecursion (λ e. P (event_of e)) es → AllByRecursion P (map event_of es)
 all_to_map P [] a = tt
 all_to_map P (e ∷ es) a = (a.0, all_to_map P es a.1)
 
@@ -72,14 +73,14 @@ same_shape x k n e = by (has_key x k n)
     by true = (refl, refl)
     by false = (refl, refl)
 
-shape_after : (x : Replica) (es : List Placed) → ((held_after x es).processors ≡ x.processors) × ((held_after x es).capacity ≡ x.capacity)
+pub shape_after : (x : Replica) (es : List Placed) → ((held_after x es).processors ≡ x.processors) × ((held_after x es).capacity ≡ x.capacity)
 shape_after x [] = (refl, refl)
 shape_after x (e ∷ es) =
     let rest = shape_after (taken x e.0 e.1 e.2) es in
     let one = same_shape x e.0 e.1 e.2 in
     (rest.0 ∙ one.0, rest.1 ∙ one.1)
 
-same_replica : (x y : Replica) → x.processors ≡ y.processors → x.capacity ≡ y.capacity → Below x y → Below y x → x ≡ y
+pub same_replica : (x y : Replica) → x.processors ≡ y.processors → x.capacity ≡ y.capacity → Below x y → Below y x → x ≡ y
 same_replica x y p c below above = λ i. record { processors = p i; capacity = c i; at = λ k n. below_antisym entry_eq entry_exact (x.at k n) (y.at k n) (below k n) (above k n) i }
 
 pub order_is_nothing : EventsLeaveTheLeast → OrderIsNothing

@@ -126,6 +126,7 @@ pub record IsLeft (kept : List ℕ) (e : FeedFault) (before after : Follow) (old
   pub cause : IsCauseAt before kept e
   pub nothing : e ≢ Fault WriteFailed → Keeps old new
   pub cut : e ≡ Fault WriteFailed → TakesPrefix old new (news before after)
+  pub due : e ≡ Fault WriteFailed → news before after ≢ []
   pub stood : HasStood kept before after
 
 -- What had been fed of some bytes when a fault came: all of them where the reader failed, else all but a part of what one read gave. The

@@ -1,33 +1,19 @@
 -- What a whole input comes to.
-use Rattle.std.specs.Prelude.{ℕ, ◌≡◌, ◌⊎◌, List, [], ◌∷◌, ◌++◌, map, Option}
+use Rattle.std.specs.Prelude.{ℕ, ◌≡◌, ◌≤◌, ◌⊎◌, ◌↔◌, List, [], ◌++◌, map, Option}
 use Rattle.std.specs.List.{AllByRecursion}
+use Rattle.std.specs.Io.KnownBytes.{Appends}
 use Rattle.pfair_text.specs.Rows.{line}
-use Rattle.pfair_entry.specs.Entry.{Logged}
-use Rattle.pfair_entry_row.specs.Row.{entry_row, IsEntryAt}
 use Rattle.pfair_replica.specs.HeldRows.{replica_of}
-use Rattle.pfair_replica.specs.Replica.{Replica, empty_replica}
+use Rattle.pfair_replica.specs.Replica.{Agree, Replica, empty_replica}
+use Rattle.pfair_table.specs.Laws.{IsPrefixOf}
+use Rattle.pfair_table.specs.Script.{LoggedRun, capacity_of, replica_of_logs}
+use Rattle.pfair_table.specs.Table.{Settings}
 use Rattle.pfair_stream.specs.Follow.{Follow, news}
 use Rattle.pfair_stream.specs.Laws.{text_of}
 use Rattle.pfair_stream.specs.Rows.{header_of}
-use Rattle.pfair_feed.specs.Feeding.{AreFedBytes, AreTakenFrom}
-
--- an entry behind its processor and its number
-abbrev pub Placed : Type 0
-Placed = ℕ × ℕ × Logged
-
-abbrev pub row_of : Placed → List ℕ
-row_of e = entry_row e.0 e.1 e.2
-
-abbrev pub IsPlaced : Placed → Type 0
-IsPlaced e = IsEntryAt e.0 e.1 e.2
-
-abbrev pub IsOneOf : Placed → List Placed → Type 0
-IsOneOf e [] = ⊥
-IsOneOf e (f ∷ fs) = (e ≡ f) ⊎ IsOneOf e fs
-
--- each of the first ones is one of the second ones
-abbrev pub AreAmong : List Placed → List Placed → Type 0
-AreAmong es fs = AllByRecursion (λ e. IsOneOf e fs) es
+use Rattle.pfair_feed.specs.Entries.{entries_text}
+use Rattle.pfair_feed.specs.Feeding.{AreFedBytes, AreLines, AreTakenFrom}
+use Rattle.pfair_feed.specs.RoundTrip.{AreAmong, HasScheduleOf, HaveTheRows, IsNew, IsPlaced, IsScript, Placed, replica_with_room, row_of, rows_of}
 
 -- The rows of the same entries, in whatever order and however often they come, leave the same.
 abbrev pub OrderIsNothing : Type 0
@@ -40,3 +26,43 @@ abbrev pub WholeText : Type 0
 WholeText =
     (bytes rest : List ℕ) (f g : Follow) (old new : Option (List ℕ)) → f.told ≡ 0 → AreFedBytes bytes f g old new rest
     → line (header_of g.output) ++ news f g ≡ text_of g.output g.dispatch.settings (replica_of g.dispatch.held)
+
+-- Bytes are lines, and then the beginning of one, in one way.
+abbrev pub LinesAreOne : Type 0
+LinesAreOne =
+    (bytes : List ℕ) (lines lines' : List (List ℕ)) (rest rest' : List ℕ) → AreLines bytes lines rest → AreLines bytes lines' rest' → (lines ≡ lines') × (rest ≡ rest')
+
+-- The text of a script's entries is a line for each, its row, and nothing behind the last. What these lines bring to logs that hold nothing,
+-- with room for them, is each entry at its number, and nothing else.
+abbrev pub EntriesAreTheirRows : Type 0
+EntriesAreTheirRows =
+    (run : LoggedRun) → IsScript run
+    → AreLines (entries_text run.logs) (rows_of run.logs) []
+    × ((capacity : ℕ) (held : Replica) → capacity_of run.logs ≤ capacity
+    → AreTakenFrom (rows_of run.logs) (empty_replica run.settings.processors capacity) held ↔ (held ≡ replica_with_room capacity run))
+
+-- Lines that have these rows, in whatever order and however often each, and with whatever between them that brings nothing, leave a replica
+-- that holds the script, and has its schedule.
+abbrev pub EntriesGiveTheirSchedule : Type 0
+EntriesGiveTheirSchedule =
+    (run : LoggedRun) (capacity : ℕ) (lines : List (List ℕ)) (held : Replica) → IsScript run → capacity_of run.logs ≤ capacity
+    → HaveTheRows run.settings.processors capacity (rows_of run.logs) lines → AreTakenFrom lines (empty_replica run.settings.processors capacity) held
+    → (held ≡ replica_with_room capacity run) × HasScheduleOf run held
+
+-- A follower that was new, and had written the header and nothing else, has written the whole text of the script's schedule once it was fed
+-- bytes whose lines have these rows.
+abbrev pub FedEntriesGiveTheirText : Type 0
+FedEntriesGiveTheirText =
+    (run : LoggedRun) (capacity : ℕ) (bytes rest : List ℕ) (lines : List (List ℕ)) (f g : Follow) (before begun after : Option (List ℕ))
+    → IsScript run → capacity_of run.logs ≤ capacity → IsNew run.settings capacity f → f.told ≡ 0 → AreLines bytes lines rest
+    → HaveTheRows run.settings.processors capacity (rows_of run.logs) lines → Appends before begun (line (header_of f.output)) → AreFedBytes bytes f g begun after rest
+    → Appends before after (text_of f.output run.settings (replica_of_logs run.logs)) × HasScheduleOf run (replica_of g.dispatch.held)
+
+-- Of two followers that were new, of equal settings and outputs, and that tell slots from the same one on: where what they were fed agrees,
+-- what one has written begins with what the other has, or the other way round.
+abbrev pub RunsWriteAlike : Type 0
+RunsWriteAlike =
+    (settings : Settings) (capacity capacity' : ℕ) (bytes bytes' rest rest' : List ℕ) (f g f' g' : Follow) (old new old' new' : Option (List ℕ))
+    → IsNew settings capacity f → IsNew settings capacity' f' → f.output ≡ f'.output → f.told ≡ f'.told
+    → AreFedBytes bytes f g old new rest → AreFedBytes bytes' f' g' old' new' rest' → Agree (replica_of g.dispatch.held) (replica_of g'.dispatch.held)
+    → IsPrefixOf (news f g) (news f' g') ⊎ IsPrefixOf (news f' g') (news f g)

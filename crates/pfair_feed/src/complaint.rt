@@ -1,11 +1,16 @@
 //! What is told of lines that are refused, and of logs that are short.
 
-ghost use Rattle.std.specs.Prelude.{◌≡◌, ◌↔◌, true};
+ghost use Rattle.std.specs.Prelude.{◌≡◌, ◌↔◌, OnErr, OnOk, true};
+ghost use Rattle.std.specs.Io.KnownBytes.{Appends};
+ghost use Rattle.pfair_text.specs.Output.{TakesPrefix};
 ghost use Rattle.pfair_feed.specs.Feeding.{question};
+ghost use Rattle.pfair_feed.specs.Missing.{missing_line, missing_text};
 
 use crate::fault::FeedFault;
+use itoa::Buffer;
 use pfair_ready::Ready;
 use pfair_stream::Follower;
+use pfair_text::{WriteFailed, send};
 use std::io::Write;
 
 // Room for the line of any refusal with the whole of a row.
@@ -31,13 +36,36 @@ pub fn tell_refused<E: Write>(complaints: &mut E, fault: &FeedFault, line: &[u8]
 }
 
 /// Writes a line `missing PROCESSOR,NUMBER` for each log of which [`Follower::missing`] names the
-/// entry that would settle more, in order of processors, as far as the writer takes them.
-pub fn tell_missing<R: Ready, E: Write>(follower: &Follower<R>, complaints: &mut E) {
+/// entry that would settle more, in order of processors. It takes no memory.
+///
+/// # Errors
+/// [`WriteFailed`] where the writer answered an error, or took nothing; it has then a prefix of the
+/// lines.
+pub fn tell_missing<R: Ready, E: Write>(
+    follower: &Follower<R>,
+    complaints: &mut E,
+) -> Result<(), WriteFailed>
+    ensures told { OnOk result (Appends (E.contents complaints.old) (E.contents complaints.new) (missing_text follower.now)) }
+    ensures cut { OnErr result (TakesPrefix (E.contents complaints.old) (E.contents complaints.new) (missing_text follower.now)) }
+{
     for processor in 0..follower.dispatcher().settings().processors() {
         if let Some(number) = follower.missing(processor) {
-            let _ = writeln!(complaints, "missing {processor},{number}");
+            tell_key(complaints, processor, number)?;
         }
     }
+    Ok(())
+}
+
+// Writes the line of one key.
+fn tell_key<E: Write>(complaints: &mut E, processor: u8, number: u32) -> Result<(), WriteFailed>
+    ensures told { OnOk result (Appends (E.contents complaints.old) (E.contents complaints.new) (missing_line processor number)) }
+    ensures cut { OnErr result (TakesPrefix (E.contents complaints.old) (E.contents complaints.new) (missing_line processor number)) }
+{
+    send(complaints, b"missing ")?;
+    send(complaints, Buffer::new().format(processor).as_bytes())?;
+    send(complaints, b",")?;
+    send(complaints, Buffer::new().format(number).as_bytes())?;
+    send(complaints, b"\n")
 }
 
 // Tells of a line that was refused, or what it asks for where it is a question, and says whether it
@@ -52,7 +80,7 @@ pub(crate) fn complain<R: Ready, E: Write>(
 {
     let is_question = line == b"?".as_slice();
     if is_question {
-        tell_missing(follower, complaints);
+        let _ = tell_missing(follower, complaints);
     } else {
         tell_refused(complaints, fault, line);
     }

@@ -1,9 +1,12 @@
 //! The entries of a script as rows.
 
 ghost use Rattle.std.specs.Prelude.{◌≡◌, ◌<◌, ◌≤◌, ◌++◌, IfOk, OnOk, Some, length, slice_get};
+ghost use Rattle.std.specs.List.{AllByRecursion};
 ghost use Rattle.pfair_entry.specs.Entry.{Logged};
+ghost use Rattle.pfair_entry_row.specs.Row.{IsLoggable};
 ghost use Rattle.pfair_text.specs.Rows.{IsOpen, lines_text, text_so_far};
 ghost use Rattle.pfair_feed.specs.Entries.{entries_text, log_rows};
+ghost use Rattle.pfair_feed.specs.RoundTrip.{IsScript};
 
 use csv::Writer;
 use pfair_entry::Entry;
@@ -13,12 +16,15 @@ use pfair_text::{finish, new_text};
 use std::alloc::{AllocError, Global};
 
 /// The entries of a script as rows: the logs in order of processors, and in each its entries, from
-/// number 1 on. It costs the rows.
+/// number 1 on. It costs the rows. What comes of them when they are fed, in whatever order and
+/// however often each, [`entries_give_their_schedule`](crate::laws::entries_give_their_schedule)
+/// says.
 ///
 /// # Errors
 /// `AllocError` where memory was wanted and refused.
 pub fn entries_of(alloc: Global, script: &Script) -> Result<Vec<u8>, AllocError>
-    ensures { IfOk result (λ text. text.items ≡ entries_text script.now.logs) }
+    ensures text { IfOk result (λ text. text.items ≡ entries_text script.now.logs) }
+    ensures script { OnOk result (IsScript script.now) }
 {
     // no log has more entries than a log has room for
     prove!(script.capacity() as usize <= Script::LONGEST_LOG);
@@ -35,6 +41,7 @@ fn add_log(writer: &mut Writer<Vec<u8>>, processor: u8, log: &[Entry]) -> Result
     requires short { length log.now ≤ 4096 }
     ensures open { OnOk result (IsOpen writer.new) }
     ensures text { OnOk result (text_so_far writer.new ≡ text_so_far writer.old ++ lines_text (log_rows processor log.now)) }
+    ensures entries { OnOk result (AllByRecursion IsLoggable log.now) }
 {
     for (index, entry) in log.iter().enumerate() {
         add_entry(writer, processor, index as u32 + 1, entry)?;

@@ -1,9 +1,11 @@
-//! The laws of whole inputs. Each function does nothing: its contract is the law.
+//! The laws of whole inputs. Each function does nothing, or calls other laws: its contract is the
+//! law.
 
-ghost use Rattle.pfair_feed.specs.Laws.{OrderIsNothing, WholeText};
+ghost use Rattle.pfair_feed.specs.Laws.{EntriesAreTheirRows, EntriesGiveTheirSchedule, FedEntriesGiveTheirText, LinesAreOne, OrderIsNothing, RunsWriteAlike, WholeText};
 
+use pfair_entry_row::laws::{each_entry_has_its_row, rows_are_lines};
 use pfair_stream::laws::whole_rows;
-use pfair_table::laws::events_leave_the_least;
+use pfair_table::laws::{events_leave_the_least, one_table};
 
 /// The rows of the same entries, in whatever order and however often they come, leave the same to
 /// be held, and so the same plan, the same decisions and the same text.
@@ -19,4 +21,48 @@ pub fn text_is_whole()
     ensures { WholeText }
 {
     whole_rows();
+}
+
+/// Bytes are lines, and then the beginning of one, in one way.
+pub fn lines_are_one()
+    ensures { LinesAreOne }
+{}
+
+/// The text of a script's entries, as [`entries_of`](crate::entries_of) makes it, is a line for each
+/// of them, its row, and nothing behind the last. Logs that hold nothing, and have room for the
+/// entries, hold after these lines each entry at its number, and nothing else.
+pub fn entries_are_their_rows()
+    ensures { EntriesAreTheirRows }
+{
+    events_leave_the_least();
+    each_entry_has_its_row();
+    rows_are_lines();
+}
+
+/// Lines that have the rows of a script's entries leave the script to be held, in whatever order they
+/// come and however often each, and so its tables, its decisions and its texts. Between them may
+/// stand what brings nothing: questions, lines that are no row, and rows of other keys.
+pub fn entries_give_their_schedule()
+    ensures { EntriesGiveTheirSchedule }
+{
+    events_leave_the_least();
+    each_entry_has_its_row();
+}
+
+/// A follower that was new, and was fed bytes of such lines after its header was written, has written
+/// the text that is written at once of the script, and nothing else.
+pub fn fed_entries_give_their_text()
+    ensures { FedEntriesGiveTheirText }
+{
+    entries_give_their_schedule();
+    text_is_whole();
+}
+
+/// Of what two followers have written that were new, of equal settings and outputs, and that tell
+/// slots from the same one on, one begins the other, where what they were fed agrees: whatever was
+/// lost, repeated or out of order.
+pub fn runs_write_alike()
+    ensures { RunsWriteAlike }
+{
+    one_table();
 }

@@ -12,7 +12,7 @@ use pfair_table::{Script, Settings};
 use pfair_weight::{TaskName, Weight};
 use std::alloc::Global;
 use std::io;
-use std::io::Read;
+use std::io::{Read, Write};
 use std::process::Abort;
 use std::test::Fail;
 
@@ -78,7 +78,7 @@ fn feed_all<I: Read>(rt: &impl Abort, alloc: Global, reader: &mut I, is_strict: 
         is_strict,
     )
     .err();
-    tell_missing(&follower, &mut asked);
+    let _ = tell_missing(&follower, &mut asked);
     End {
         rows,
         told,
@@ -179,6 +179,107 @@ fn what_ends_the_input(rt: HostRuntime) -> Result<(), Fail> {
     let end = feed_all(&rt, rt.alloc(), &mut failing, false);
     assert!(rt; end.fault == Some(FeedFault::ReadFailed));
     assert_eq!(rt; end.asked.as_slice(), b"missing 0,2\n".as_slice());
+    Ok(())
+}
+
+// Gives a few bytes at each call, and fails at the call behind so many.
+#[derive(Drop)]
+struct Brittle {
+    text: &'static [u8],
+    calls: usize,
+}
+
+impl Read for Brittle {
+    fn read(&mut self, buf: &mut [u8]) -> io::Result<usize> {
+        match self.calls.checked_sub(1) {
+            Some(left) => self.calls = left,
+            None => return Err(io::Error::from(io::ErrorKind::Interrupted)),
+        }
+        let count = buf.len().min(7).min(self.text.len());
+        buf[..count].copy_from_slice(&self.text[..count]);
+        self.text = &self.text[count..];
+        Ok(count)
+    }
+}
+
+#[test]
+fn a_reader_that_fails_at_each_call(rt: HostRuntime) -> Result<(), Fail> {
+    let text = "0,2,4,-,-,-,-,-,-,-,-\n0,1,0,0,arrive,a,2,4,true,-,-\n?\n";
+    let mut is_whole = false;
+    for calls in 0..20 {
+        let mut brittle = Brittle {
+            text: text.as_bytes(),
+            calls,
+        };
+        let end = feed_all(&rt, rt.alloc(), &mut brittle, true);
+        // what was read before it failed is fed
+        let rows = if brittle.text.len() <= 2 { WHOLE } else { "" };
+        assert_eq!(rt; end.rows.as_slice(), rows.as_bytes());
+        assert!(rt; end.told.is_empty());
+        is_whole = end.fault.is_none();
+        assert!(rt; is_whole || end.fault == Some(FeedFault::ReadFailed));
+        assert!(rt; !is_whole || brittle.text.is_empty());
+    }
+    assert!(rt; is_whole);
+    Ok(())
+}
+
+// Takes so many bytes, and then nothing.
+#[derive(Drop)]
+struct Room {
+    taken: Vec<u8>,
+    left: usize,
+}
+
+impl Write for Room {
+    fn write(&mut self, buf: &[u8]) -> io::Result<usize> {
+        let count = buf.len().min(self.left);
+        self.taken.extend_from_slice(&buf[..count])?;
+        self.left -= count;
+        Ok(count)
+    }
+
+    fn flush(&mut self) -> io::Result<()> {
+        Ok(())
+    }
+}
+
+const TOLD: &str = "missing 0,1\nmissing 11,1\n";
+
+// What a writer with so much room takes of what is told of twelve logs, of which the first and the
+// last are short, and whether it took all.
+fn told_of_two(rt: &impl Abort, alloc: Global, left: usize) -> (Room, bool) {
+    let settings = Settings::new(12, 4, 4).expect(rt, "settings");
+    let mut follower: Follower<HeapReady> = Follower::new(
+        alloc,
+        settings,
+        4096,
+        Output::Tables,
+        0,
+    ).expect(rt, "memory");
+    let mut out: Vec<u8> = Vec::new(alloc);
+    let entry = Entry::new(4, None).expect(rt, "an entry");
+    for processor in 1..11 {
+        let _ = follower.take(&mut out, processor, 1, entry);
+    }
+    let mut room = Room {
+        taken: Vec::new(alloc),
+        left,
+    };
+    let is_told = tell_missing(&follower, &mut room).is_ok();
+    (room, is_told)
+}
+
+#[test]
+fn missing_entries_are_told_as_far_as_the_writer_takes_them(rt: HostRuntime) -> Result<(), Fail> {
+    for left in 0..TOLD.len() {
+        let (room, is_told) = told_of_two(&rt, rt.alloc(), left);
+        assert!(rt; !is_told);
+        assert_eq!(rt; room.taken.as_slice(), &TOLD.as_bytes()[..left]);
+    }
+    let (room, is_told) = told_of_two(&rt, rt.alloc(), TOLD.len());
+    assert!(rt; is_told);
+    assert_eq!(rt; room.taken.as_slice(), TOLD.as_bytes());
     Ok(())
 }
 

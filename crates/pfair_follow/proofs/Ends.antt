@@ -1,13 +1,12 @@
 -- What a follower that was new comes to, by what it holds.
 use Rattle.std.proofs.Common.{ℕ, zero, suc, Bool, false, ◌≡◌, ◌≤◌, ◌<◌, refl, sym, ap, subst, ◌∙◌, arith, inl, inr, List, [], ◌∷◌, ◌++◌, length, append_assoc, Option, None, Some, Result, Ok, Err}
 use Rattle.std.specs.List.{list_any}
-use Rattle.std.specs.Prelude.{map, min, IfErr, OnOk}
+use Rattle.std.specs.Prelude.{map, min, IfErr, IsErrOf, OnOk}
 use Rattle.std.specs.Io.KnownBytes.{Appends, Consumes}
 use Rattle.std.proofs.lemmas.List.{length-append, length-map}
 use Rattle.pfair_text.specs.Rows.{line, lines_text}
 use Rattle.pfair_replica.specs.HeldRows.{replica_of}
 use Rattle.pfair_replica.specs.Replica.{Replica, empty_replica, frontier, has_torn, numbers_below}
-use Rattle.pfair_table.specs.declared.pick.Decided.{Decided}
 use Rattle.pfair_table.specs.Events.{Course}
 use Rattle.pfair_table.specs.Refinement.{Dispatch, IsWholePlan}
 use Rattle.pfair_table.specs.Table.{Settings, Table, decisions, plan, table}
@@ -19,7 +18,6 @@ use Rattle.pfair_feed.specs.Feeding.{AreFedBytes, AreTakenFrom, AreWelcome}
 use Rattle.pfair_feed.specs.Laws.{WholeText}
 use Rattle.pfair_follow_words.specs.declared.words.Run.{Run}
 use Rattle.pfair_follow.specs.declared.fault.ProgramFault.{ProgramFault}
-use Rattle.pfair_follow.specs.Faults.{stalled}
 use Rattle.pfair_follow.specs.Runs.{AreTakenAll, IsEndOf, IsFed, IsFedEndOf, IsFedShort, IsFollowed, IsFresh, IsSettled, IsSettledBelow, IsShort, IsUnread, head_from, text_from}
 
 -- one text behind another
@@ -138,3 +136,14 @@ on_both (Err e) a b f = tt
 pub if_err_then : {T F : Type 0} {A B : F → Type 0} (r : Result T F) → IfErr r A → ((e : F) → A e → B e) → IfErr r B
 if_err_then (Ok x) a f = tt
 if_err_then (Err e) a f = f e a
+
+pub err_as : {T F A : Type 0} {B : F → Type 0} (r : Result T F) (e : F) → IsErrOf r e → IfErr r B → ((f : F) → B f → f ≡ e → A) → A
+err_as {T} {F} (Ok x) e is b f = absurd (cc is)
+err_as {T} {F} (Err d) e is b f = f d b (same d is)
+  where
+    of : F → Result T F → F
+    of d (Ok x) = d
+    of d (Err c) = c
+
+    same : (d : F) → ◌≡◌ {A = Result T F} (Err d) (Err e) → d ≡ e
+    same d is = ap (of d) is

@@ -3,10 +3,9 @@ use Rattle.std.specs.Prelude.{ℕ, zero, suc, false, ◌≡◌, ◌≤◌, ◌<�
 use Rattle.std.specs.Io.KnownBytes.{Appends, Consumes, IsAtEnd, Keeps}
 use Rattle.pfair_text.specs.Output.{TakesPrefix}
 use Rattle.pfair_text.specs.Rows.{line, lines_text}
-use Rattle.pfair_replica.specs.HeldRows.{replica_of}
 use Rattle.pfair_replica.specs.Replica.{Replica, empty_replica, frontier, has_torn, numbers_below}
 use Rattle.pfair_table.specs.Events.{start}
-use Rattle.pfair_table.specs.Refinement.{IsWholePlan, course_of}
+use Rattle.pfair_table.specs.Refinement.{course_of}
 use Rattle.pfair_table.specs.Table.{Settings, decisions, plan}
 use Rattle.pfair_stream.specs.declared.output.Output.{Output}
 use Rattle.pfair_stream.specs.Follow.{Follow}

@@ -7,10 +7,11 @@ ghost use Rattle.pfair_stream.specs.declared.fault.FollowFault.TheVariants as fo
 ghost use Rattle.pfair_feed.specs.Feeding.{AreWelcome, IsCaughtUp};
 ghost use Rattle.pfair_follow.specs.Faults.{is_row_fault, stalled};
 ghost use Rattle.pfair_follow.specs.Runs.{AreTakenAll, IsEndOf, IsFed, IsFedEndOf, IsFollowed, IsSettled, head_from};
+ghost use Rattle.pfair_follow.specs.Scripts.{IsScriptStalled, IsScriptWritten, OfItsScript};
 
 use crate::fault::ProgramFault;
 use pfair_command::ScheduleFault;
-use pfair_feed::laws::text_is_whole;
+use pfair_feed::laws::{entries_give_their_schedule, lines_are_one, text_is_whole};
 use pfair_feed::{follow, tell_missing};
 use pfair_follow_words::Run;
 use pfair_ready::{HeapReady, Ready};
@@ -25,7 +26,7 @@ const LOG: u32 = 4096;
 /// read settles it, flushed before more is read; before them the header, where `run.from` is 0.
 ///
 /// What is written is what `pfair` writes of a task file with the same entries, from slot `run.from`
-/// on. A row that is refused costs a line to `complaints`, and is skipped unless `run.is_strict`;
+/// on, in whatever order their rows come and however often each. A row that is refused costs a line to `complaints`, and is skipped unless `run.is_strict`;
 /// the line `?` asks for the keys of the entries that would settle more. It costs what
 /// [`follow`](pfair_feed::follow) costs.
 ///
@@ -46,12 +47,16 @@ pub fn follow_rows<I: Read, W: Write, E: Write>(
     complaints: &mut E,
 ) -> Result<(), ProgramFault>
     ensures settled { OnOk result (IsFollowed output run.now (IsSettled run.now.settings) (I.remaining reader.old) (I.remaining reader.new) (W.contents writer.old) (W.contents writer.new)) }
+    ensures script { OnOk result (OfItsScript run.now (I.remaining reader.old) (λ script. IsScriptWritten output run.now script (W.contents writer.old) (W.contents writer.new))) }
+    ensures stalled { (slot : ℕ) → IsErrOf result (stalled slot) → OfItsScript run.now (I.remaining reader.old) (λ script. IsScriptStalled output run.now slot script (W.contents writer.old) (W.contents writer.new)) }
     ensures strict { OnOk result (run.now.is_strict ≡ true → AreTakenAll run.now.settings (I.remaining reader.old) (I.remaining reader.new)) }
     ensures lenient { IfErr result (λ e. run.now.is_strict ≡ false → is_row_fault e ≡ false) }
     ensures ended { IfErr result (IsEndOf output run.now (I.remaining reader.old) (I.remaining reader.new) (W.contents writer.old) (W.contents writer.new)) }
 {
-    // what a follower has written from the first slot on is what is written at once
+    // what a follower has written from the first slot on is what is written at once, of a script too
     text_is_whole();
+    entries_give_their_schedule();
+    lines_are_one();
     prove!(run.settings.processors() >= 1);
     let mut follower: Follower<HeapReady> = Follower::new(
         alloc,
@@ -113,7 +118,7 @@ fn end<R: Ready, E: Write>(follower: &Follower<R>, complaints: &mut E) -> Result
 {
     let slot = follower.dispatcher().next_slot();
     if slot < follower.dispatcher().settings().slots() {
-        tell_missing(follower, complaints);
+        let _ = tell_missing(follower, complaints);
         return Err(ProgramFault::Schedule(ScheduleFault::Stalled { slot }));
     }
     Ok(())

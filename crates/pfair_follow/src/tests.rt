@@ -195,6 +195,96 @@ fn a_writer_or_a_reader_that_fails(rt: HostRuntime) -> Result<(), Fail> {
     Ok(())
 }
 
+// Takes a few bytes at a time, and fails at the call behind so many, be it of `write` or of `flush`.
+#[derive(Drop)]
+struct Brittle {
+    taken: Vec<u8>,
+    calls: usize,
+}
+
+impl Brittle {
+    fn call(&mut self) -> io::Result<()> {
+        match self.calls.checked_sub(1) {
+            Some(left) => {
+                self.calls = left;
+                Ok(())
+            }
+            None => Err(io::Error::from(io::ErrorKind::Interrupted)),
+        }
+    }
+}
+
+impl Write for Brittle {
+    fn write(&mut self, buf: &[u8]) -> io::Result<usize> {
+        self.call()?;
+        let count = buf.len().min(9);
+        self.taken.extend_from_slice(&buf[..count])?;
+        Ok(count)
+    }
+
+    fn flush(&mut self) -> io::Result<()> {
+        self.call()
+    }
+}
+
+#[test]
+fn a_writer_that_fails_at_each_call(rt: HostRuntime) -> Result<(), Fail> {
+    let wholes = [
+        (Output::Tables, TABLES),
+        (Output::PlacedTables, PLACED),
+        (Output::Decisions, DECISIONS),
+        (Output::Lags, LAGS),
+    ];
+    let run = run_from(&rt, 0, true);
+    for (output, whole) in wholes {
+        let mut is_whole = false;
+        for calls in 0..20 {
+            let mut out = Brittle {
+                taken: Vec::new(rt.alloc()),
+                calls,
+            };
+            let mut told: Vec<u8> = Vec::new(rt.alloc());
+            let mut reader = BACKWARDS.as_bytes();
+            let end = follow_rows(rt.alloc(), output, &run, &mut reader, &mut out, &mut told);
+            is_whole = end.is_ok();
+            let number = if is_whole { 0 } else { 71 };
+            assert!(rt; number_of(&end) == number && told.is_empty());
+            assert!(rt; whole.as_bytes().starts_with(out.taken.as_slice()));
+            assert!(rt; !is_whole || out.taken.len() == whole.len());
+        }
+        assert!(rt; is_whole);
+    }
+    Ok(())
+}
+
+#[test]
+fn rows_that_are_cut_at_each_byte(rt: HostRuntime) -> Result<(), Fail> {
+    let run = run_from(&rt, 0, true);
+    let first = "0,1,0,0,arrive,a,2,4,true,-,-\n".len();
+    for length in 0..ROWS.len() {
+        let mut out: Vec<u8> = Vec::new(rt.alloc());
+        let mut told: Vec<u8> = Vec::new(rt.alloc());
+        let mut reader = &ROWS.as_bytes()[..length];
+        let end = follow_rows(
+            rt.alloc(),
+            Output::Tables,
+            &run,
+            &mut reader,
+            &mut out,
+            &mut told,
+        );
+        assert!(rt; number_of(&end) == 52);
+        assert_eq!(rt; out.as_slice(), b"slot,processor,task,index\n".as_slice());
+        let missing = if length < first {
+            "missing 0,1\n"
+        } else {
+            "missing 0,2\n"
+        };
+        assert_eq!(rt; told.as_slice(), missing.as_bytes());
+    }
+    Ok(())
+}
+
 // The rows of a file and the number of its fault.
 fn entries_in(alloc: Global, file: &str) -> (Vec<u8>, u8) {
     let mut out: Vec<u8> = Vec::new(alloc);

@@ -1,5 +1,5 @@
 mod Books
 pub mod Plans
 pub mod Going
-mod Alike
+pub mod Alike
 mod Starting

@@ -72,8 +72,12 @@ end_of_plans a d e (plan.Torn proc number) grown able torn spent is same =
 end_of_plans a d e plan.Spent grown able torn spent is same =
     (ap (λ (h : HeldRows). has_torn (replica_of h)) (sym grown.held_are) ∙ is.0, sym able ∙ is.1, same ∙ spent (sym able ∙ is.1))
 end_of_plans a d e plan.Memory grown able torn spent is same =
-    let parts = and_parts (not (has_torn (replica_of d.held))) (nat_lt (length d.tables) (frontier (replica_of d.held)) && nat_lt (length d.tables) d.settings.slots) is.1 in
-    (ap (λ (h : HeldRows). has_torn (replica_of h)) (sym grown.held_are) ∙ negated (has_torn (replica_of d.held)) parts.0, sym able ∙ is.0, ap (λ (x : Dispatch). x.spent) same)
+    let parts = and_parts (not (has_torn (replica_of d.held))) (nat_lt (length d.tables) (frontier (replica_of d.held)) && nat_lt (length d.tables) d.settings.slots) is.1 in (
+      ap (λ (h : HeldRows). has_torn (replica_of h)) (sym grown.held_are) ∙ negated (has_torn (replica_of d.held)) parts.0,
+      sym able ∙ is.0,
+      ap (λ (x : Dispatch). x.spent) same,
+      ap (λ (x : Dispatch). is_plannable x.settings (replica_of x.held) (length x.tables)) same ∙ is.1,
+    )
   where
     negated : (b : Bool) → not b ≡ true → b ≡ false
     negated false e = refl

@@ -1,16 +1,17 @@
 -- What a follower is seen as, and what its calls leave.
-use Rattle.std.specs.Prelude.{ℕ, ◌+◌, ◌≡◌, ◌≤◌, ◌<◌, ◌⊎◌, true, false, ◌&&◌, nat_lt, nat_le, is_none, List, length, Option, Some, None, slice_get, if◌then◌else◌}
+use Rattle.std.specs.Prelude.{ℕ, ⊤, ◌+◌, ◌≡◌, ◌≢◌, ◌≤◌, ◌<◌, ◌⊎◌, IsTrue, true, false, ◌&&◌, nat_lt, nat_le, is_none, List, [], length, Option, Some, None, slice_get, if◌then◌else◌}
 use Rattle.pfair_text.specs.Rows.{lines_text}
 use Rattle.pfair_entry.specs.Entry.{Logged}
-use Rattle.pfair_replica.specs.HeldRows.{replica_of}
+use Rattle.pfair_replica.specs.HeldRows.{held, replica_of}
 use Rattle.pfair_replica.specs.Offered.{taken}
 use Rattle.pfair_replica.specs.Faults.{IsKeyOf}
 use Rattle.pfair_replica.specs.Replica.{Replica, Agree, has_torn, mark, sound_beginning, torn_keys}
 use Rattle.pfair_table.specs.declared.answer.PlanFault.{PlanFault}
 use Rattle.pfair_table.specs.declared.answer.PlanFault.TheVariants as plan
+use Rattle.pfair_table.specs.Events.{is_plannable}
 use Rattle.pfair_table.specs.Laws.{IsPrefixOf}
 use Rattle.pfair_table.specs.Table.{Settings}
-use Rattle.pfair_table.specs.Refinement.{Dispatch}
+use Rattle.pfair_table.specs.Refinement.{Dispatch, IsWholePlan}
 use Rattle.pfair_stream.specs.declared.output.Output.{Output}
 use Rattle.pfair_stream.specs.declared.fault.FollowFault.{FollowFault}
 use Rattle.pfair_stream.specs.declared.fault.FollowFault.TheVariants.{NoSuchProcessor, NumberOutOfRange, Torn, Spent, WriteFailed, Memory}
@@ -39,7 +40,8 @@ pub record IsGrown (before after : Dispatch) : Type 0 where
 abbrev pub IsEndOfPlans : Dispatch → Dispatch → PlanFault → Type 0
 IsEndOfPlans before after (plan.Torn proc number) = (has_torn (replica_of before.held) ≡ true) × (slice_get (torn_keys (replica_of before.held)) 0 ≡ Some (proc, number)) × (after ≡ before)
 IsEndOfPlans before after plan.Spent = (has_torn (replica_of before.held) ≡ false) × (before.spent ≡ true) × (after ≡ before)
-IsEndOfPlans before after plan.Memory = (has_torn (replica_of before.held) ≡ false) × (before.spent ≡ false) × (after.spent ≡ true)
+IsEndOfPlans before after plan.Memory =
+    (has_torn (replica_of before.held) ≡ false) × (before.spent ≡ false) × (after.spent ≡ true) × IsTrue (is_plannable after.settings (replica_of after.held) (length after.tables))
 
 -- ---- faults
 
@@ -57,13 +59,26 @@ IsStopOf d k n e Spent = IsKeyOf d.held k n × (has_torn (taken (replica_of d.he
 IsStopOf d k n e WriteFailed = IsKeyOf d.held k n × (has_torn (taken (replica_of d.held) k n e) ≡ false) × (d.spent ≡ false)
 IsStopOf d k n e Memory = IsKeyOf d.held k n
 
+-- What gave cause for a fault that no entry has by itself: memory is wanted for a key that wasn't held, for a slot that is settled and not
+-- planned, or for slots that are planned and not told; and the writer is wanted for rows.
+abbrev pub HasCause : (before after : Follow) → (k n : ℕ) → FollowFault → Type 0
+HasCause before after k n Memory =
+    (held before.dispatch.held k n ≡ None)
+    ⊎ (IsTrue (is_plannable after.dispatch.settings (replica_of after.dispatch.held) (length after.dispatch.tables))
+    ⊎ (IsWholePlan after.dispatch × (before.told < length after.dispatch.tables)))
+HasCause before after k n WriteFailed = news before after ≢ []
+HasCause before after k n NoSuchProcessor = ⊤
+HasCause before after k n NumberOutOfRange = ⊤
+HasCause before after k n (Torn proc number) = ⊤
+HasCause before after k n Spent = ⊤
+
 -- ---- what would settle more
 
--- the number right behind the sound beginning of a log that doesn't settle all slots, where nothing is held there and there is room for it
+-- the number right behind the sound beginning of one of the logs, where it doesn't settle all slots, nothing is held there and there is room
 abbrev pub missing_of : Settings → Replica → ℕ → Option ℕ
 missing_of s x k =
     let number = length (sound_beginning x k) + 1 in
-    if nat_lt (mark x k) s.slots && (nat_le number x.capacity && is_none (x.at k number)) then Some number else None
+    if nat_lt k x.processors && (nat_lt (mark x k) s.slots && (nat_le number x.capacity && is_none (x.at k number))) then Some number else None
 
 -- ---- two followers
 

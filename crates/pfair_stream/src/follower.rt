@@ -1,6 +1,6 @@
 //! The follower.
 
-ghost use Rattle.std.specs.Prelude.{◌≡◌, ◌≢◌, ◌⊎◌, ◌<◌, ◌&&◌, Err, IfErr, IfOk, IsErrOf, None, OnErr, OnOk, false, length, max};
+ghost use Rattle.std.specs.Prelude.{◌≡◌, ◌≢◌, ◌⊎◌, ◌<◌, ◌&&◌, [], Err, IfErr, IfOk, IfSome, IsErrOf, None, OnErr, OnOk, false, length, max};
 ghost use Rattle.std.specs.Io.KnownBytes.{Appends, Keeps};
 ghost use Rattle.pfair_text.specs.Output.{TakesPrefix};
 ghost use Rattle.pfair_text.specs.Rows.{line};
@@ -11,7 +11,7 @@ ghost use Rattle.pfair_replica.specs.Faults.{IsKeyOf, IsTakenAs};
 ghost use Rattle.pfair_table.specs.Events.{start};
 ghost use Rattle.pfair_table.specs.Refinement.{IsWholePlan, course_of};
 ghost use Rattle.pfair_stream.specs.Rows.{header_of};
-ghost use Rattle.pfair_stream.specs.Follow.{HaveToldAlike, IsGrown, IsRefusal, IsStopOf, missing_of, news};
+ghost use Rattle.pfair_stream.specs.Follow.{HasCause, HaveToldAlike, IsGrown, IsRefusal, IsStopOf, missing_of, news};
 ghost use Rattle.pfair_stream.specs.declared.fault.FollowFault.TheVariants.{Memory, WriteFailed};
 
 use crate::fault::FollowFault;
@@ -96,7 +96,7 @@ impl<R: Ready> Follower<R> {
 
     /// Takes entry `number` (from 1) of the log of `processor` (from 0), plans all that is then
     /// settled, and writes the rows of the slots that are new, flushed before it returns; where
-    /// none is new, it writes nothing and flushes nothing.
+    /// there are none, it writes nothing and flushes nothing.
     ///
     /// It costs what [`Dispatcher::take`] and [`Dispatcher::plan_next`] cost for each new slot, and
     /// the new rows.
@@ -106,10 +106,11 @@ impl<R: Ready> Follower<R> {
     /// is none of the logs': nothing has then changed. [`FollowFault::Torn`] exactly where something
     /// is then torn, else [`FollowFault::Spent`] exactly where a plan wanted memory before: the entry
     /// is taken, and nothing planned or written. [`FollowFault::Memory`] where memory was wanted and
-    /// refused: slots may have been planned, and nothing is written. [`FollowFault::WriteFailed`]
-    /// where the writer failed: all is planned, and the writer has a part of the new rows. After
-    /// these two no row counts as told, so that a later call would write the rows from the first of
-    /// them on.
+    /// refused, for an entry whose key wasn't held, for a slot that is settled and not planned, or for
+    /// a slot that is planned and not told: slots may have been planned, and nothing is written.
+    /// [`FollowFault::WriteFailed`] where a row was due and the writer failed: all is planned, and the
+    /// writer has a part of the new rows. After these two no row counts as told, so that a later call
+    /// would write the rows from the first of them on.
     pub fn take<W: Write>(
         &mut self,
         writer: &mut W,
@@ -132,6 +133,7 @@ impl<R: Ready> Follower<R> {
         ensures stands { OnErr result (self.new.told ≡ self.old.told) }
         ensures cut { IsErrOf result WriteFailed → IsWholePlan self.new.dispatch × TakesPrefix (W.contents writer.old) (W.contents writer.new) (news self.old self.new) }
         ensures nothing { IfErr result (λ e. e ≢ WriteFailed → Keeps (W.contents writer.old) (W.contents writer.new)) }
+        ensures due { IfErr result (HasCause self.old self.new proc number) }
     {
         // as many slots have decisions as have tables
         prove!(self.dispatcher.next_slot() <= Settings::MAX_SLOTS);
@@ -150,6 +152,8 @@ impl<R: Ready> Follower<R> {
         ensures cut { IsErrOf result WriteFailed → TakesPrefix (W.contents writer.old) (W.contents writer.new) (news self.old self.old) }
         ensures nothing { IfErr result (λ e. e ≢ WriteFailed → Keeps (W.contents writer.old) (W.contents writer.new)) }
         ensures cause { IfErr result (λ e. (e ≡ WriteFailed) ⊎ (e ≡ Memory)) }
+        ensures late { OnErr result (self.old.told < length self.old.dispatch.tables) }
+        ensures due { IsErrOf result WriteFailed → news self.old self.old ≢ [] }
     {
         let next = self.dispatcher.next_slot();
         if next <= self.told {
@@ -193,14 +197,17 @@ impl<R: Ready> Follower<R> {
     /// The number of the entry that would settle more of the log of a processor: the one right
     /// behind the log's sound beginning, where its last floor is below the number of slots and
     /// nothing is held there. `None` where the log settles all slots, where the entry behind its
-    /// beginning is held but its floor fell, and where the log has no room for one more.
+    /// beginning is held but its floor fell, where the log has no room for one more, and where
+    /// there is no such processor. It costs one look-up.
     pub fn missing(&self, proc: u8) -> Option<u32>
-        ensures { result ≡ missing_of self.now.dispatch.settings (replica_of self.now.dispatch.held) proc }
+        ensures value { result ≡ missing_of self.now.dispatch.settings (replica_of self.now.dispatch.held) proc }
+        ensures key { IfSome result (IsKeyOf self.now.dispatch.held proc) }
     {
         let replica = self.dispatcher.replica();
         let capacity = replica.capacity();
         let number = replica.sound_count(proc) + 1;
-        let is_wanted = replica.mark(proc) < self.dispatcher.settings().slots()
+        let is_wanted = proc < replica.processors()
+            && replica.mark(proc) < self.dispatcher.settings().slots()
             && number <= capacity
             && replica.get(proc, number).is_none();
         if is_wanted { Some(number) } else { None }

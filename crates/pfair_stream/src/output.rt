@@ -1,6 +1,6 @@
 //! What is written of a run, and the rows of it that are new.
 
-ghost use Rattle.std.specs.Prelude.{◌≡◌, ◌⊎◌, ◌++◌, ◌≢◌, IfErr, IfOk, IsErrOf, OnOk, length, max};
+ghost use Rattle.std.specs.Prelude.{◌≡◌, ◌⊎◌, ◌++◌, ◌≢◌, [], IfErr, IfOk, IsErrOf, OnErr, OnOk, length, max};
 ghost use Rattle.std.specs.Io.KnownBytes.{Appends, Keeps};
 ghost use Rattle.pfair_text.specs.Output.{TakesPrefix};
 ghost use Rattle.pfair_text.specs.Rows.{IsOpen, line, lines_text, text_so_far};
@@ -64,9 +64,9 @@ fn add_header(text: &mut Writer<Vec<u8>>, output: Output) -> Result<(), AllocErr
     }
 }
 
-/// Writes the rows of the slots that are planned, from a slot on, and flushes them. The book of
-/// lags, which was told slots before that one, is then told all that are planned; after a fault it
-/// is told some.
+/// Writes the rows of the slots that are planned, from a slot on, and flushes them, where there are
+/// some. The book of lags, which was told slots before that one, is then told all that are planned;
+/// after a fault it is told some.
 pub(crate) fn write_rows<R: Ready, W: Write>(
     alloc: Global,
     output: Output,
@@ -81,6 +81,7 @@ pub(crate) fn write_rows<R: Ready, W: Write>(
     ensures cut { IsErrOf result WriteFailed → TakesPrefix (W.contents writer.old) (W.contents writer.new) (lines_text (rows_from output from dispatcher.now.tables dispatcher.now.decided)) }
     ensures nothing { IfErr result (λ e. e ≢ WriteFailed → Keeps (W.contents writer.old) (W.contents writer.new)) }
     ensures cause { IfErr result (λ e. (e ≡ WriteFailed) ⊎ (e ≡ Memory)) }
+    ensures due { IsErrOf result WriteFailed → lines_text (rows_from output from dispatcher.now.tables dispatcher.now.decided) ≢ [] }
 {
     let mut text = new_text(alloc);
     add_rows(&mut text, output, dispatcher, from, book)?;
@@ -132,12 +133,16 @@ fn add_lags<R: Ready>(
     add_lags_from(text, book, dispatcher)
 }
 
-// Sends a text, and flushes it.
+// Sends a text, and flushes it, unless it is empty.
 fn send_now<W: Write>(writer: &mut W, text: &[u8]) -> Result<(), FollowFault>
     ensures written { OnOk result (Appends (W.contents writer.old) (W.contents writer.new) text.now) }
     ensures cut { IfErr result (λ _. TakesPrefix (W.contents writer.old) (W.contents writer.new) text.now) }
     ensures cause { IfErr result (λ e. e ≡ WriteFailed) }
+    ensures due { OnErr result (text.now ≢ []) }
 {
+    if text.is_empty() {
+        return Ok(());
+    }
     send(writer, text)?;
     match writer.flush() {
         Ok(()) => Ok(()),

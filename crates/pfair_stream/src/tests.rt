@@ -200,6 +200,7 @@ fn refused_entries(
         assert!(rt; no_number == Some(FollowFault::NumberOutOfRange));
     }
     assert!(rt; follower.missing(0) == Some(1));
+    assert!(rt; follower.missing(1) == None && follower.missing(u8::MAX) == None);
     assert!(rt; follower.take(out, 0, 1, first_entry(rt)).is_ok());
     assert!(rt; follower.missing(0) == Some(2) && out.is_empty());
     let torn = follower.take(out, 0, 1, closing_entry(rt, 4)).err();
@@ -266,6 +267,101 @@ fn failing_writer(
         whole.as_bytes().starts_with(terminal.held.as_slice())
             || whole.as_bytes().starts_with(terminal.shown.as_slice())
     );
+    Ok(())
+}
+
+// Takes a few bytes at a time, and fails at the call behind so many, be it of `write` or of `flush`.
+#[derive(Drop)]
+struct Brittle {
+    taken: Vec<u8>,
+    calls: usize,
+}
+
+impl Brittle {
+    fn call(&mut self) -> io::Result<()> {
+        match self.calls.checked_sub(1) {
+            Some(left) => {
+                self.calls = left;
+                Ok(())
+            }
+            None => Err(io::Error::from(io::ErrorKind::Interrupted)),
+        }
+    }
+}
+
+impl Write for Brittle {
+    fn write(&mut self, buf: &[u8]) -> io::Result<usize> {
+        self.call()?;
+        let count = buf.len().min(9);
+        self.taken.extend_from_slice(&buf[..count])?;
+        Ok(count)
+    }
+
+    fn flush(&mut self) -> io::Result<()> {
+        self.call()
+    }
+}
+
+#[test]
+fn a_writer_that_fails_at_each_call(rt: HostRuntime) -> Result<(), Fail> {
+    for (output, whole) in WHOLE {
+        let mut is_whole = false;
+        for calls in 0..20 {
+            let mut brittle = Brittle {
+                taken: Vec::new(rt.alloc()),
+                calls,
+            };
+            let mut follower = follower(&rt, rt.alloc(), output, 0);
+            is_whole = is_written(&rt, &mut follower, &mut brittle)?;
+            assert!(rt; whole.as_bytes().starts_with(brittle.taken.as_slice()));
+        }
+        assert!(rt; is_whole);
+    }
+    Ok(())
+}
+
+// Whether nothing failed.
+fn is_written(
+    rt: &impl Abort,
+    follower: &mut Follower<HeapReady>,
+    brittle: &mut Brittle,
+) -> Result<bool, Fail> {
+    if follower.write_header(brittle).is_err() {
+        return Ok(false);
+    }
+    // no row is due, so that nothing is written and nothing flushed
+    let calls = brittle.calls;
+    assert!(rt; follower.take(brittle, 0, 1, first_entry(rt)).is_ok());
+    assert!(rt; brittle.calls == calls);
+    let fault = follower.take(brittle, 0, 2, closing_entry(rt, 4)).err();
+    assert!(rt; fault == None || fault == Some(FollowFault::WriteFailed));
+    assert!(rt; follower.told() == if fault.is_none() { 4 } else { 0 });
+    Ok(fault.is_none())
+}
+
+#[test]
+fn rows_that_failed_come_anew(rt: HostRuntime) -> Result<(), Fail> {
+    for (output, whole) in WHOLE {
+        let mut terminal = Terminal::new(rt.alloc(), 1);
+        let mut follower = follower(&rt, rt.alloc(), output, 0);
+        rows_anew(&rt, &mut follower, &mut terminal, whole)?;
+    }
+    Ok(())
+}
+
+fn rows_anew(
+    rt: &impl Abort,
+    follower: &mut Follower<HeapReady>,
+    terminal: &mut Terminal,
+    whole: &str,
+) -> Result<(), Fail> {
+    assert!(rt; follower.take(terminal, 0, 1, first_entry(rt)).is_ok());
+    assert!(rt; follower.take(terminal, 0, 2, closing_entry(rt, 4)).is_err());
+    terminal.room = 1000;
+    terminal.held.clear();
+    assert!(rt; follower.write_header(terminal).is_ok());
+    assert!(rt; follower.take(terminal, 0, 2, closing_entry(rt, 4)) == Ok(Taken::Known));
+    assert_eq!(rt; terminal.shown.as_slice(), whole.as_bytes());
     Ok(())
 }
 

@@ -1,7 +1,11 @@
-use Rattle.std.proofs.Common.{◌≡◌, ◌<◌, ◌∙◌, arith, length, Some, slice_get, refl}
+use Rattle.std.proofs.Common.{List, ◌≡◌, ◌<◌, ◌≤◌, ◌∙◌, arith, length, Some, slice_get, refl, subst}
+use Rattle.std.specs.List.{AllByRecursion}
+use Rattle.std.proofs.lemmas.List.{take_all}
+use Rattle.pfair_entry.specs.Entry.{Logged}
 use Rattle.std.proofs.lemmas.Option.{slice_get_read}
 use Rattle.pfair_text.specs.Rows.{text_so_far}
-use Rattle.pfair_feed.proofs.Numbered.{entry_more}
+use Rattle.pfair_entry_row.specs.Row.{IsLoggable}
+use Rattle.pfair_feed.proofs.Numbered.{all_next, entry_more}
 use Rattle.pfair_feed.proofs.entries.add_log.Goals as goal
 
 pub loop-index-preserved : goal.loop-index-preserved
@@ -12,4 +16,10 @@ loop-index-preserved c =
     let here : slice_get c.args.log.now index ≡ Some entry = slice_get_read c.args.log.now (length c.args.log.now) index entry refl inside c.index-log-index.is in (
       c.in_ok-add_entry.ensures.open,
       entry_more c.args.processor c.args.log.now index entry (text_so_far c.loop-index.writer) (text_so_far c.add_entry.new.writer) inside here c.in_ok-add_entry.ensures.text ∙ c.loop-index.invariant.1,
+      all_next IsLoggable c.args.log.now index entry here c.loop-index.invariant.2 c.add_entry.ensures.entry.loggable,
     )
+
+pub returns-clause-entries : goal.returns-clause-entries
+returns-clause-entries c =
+    let past : length c.args.log.now ≤ c.loop-index.index = omega (arith, c.loop-index-test.false, c.loop-index.auto.index-end) in
+    subst (λ (l : List Logged). AllByRecursion IsLoggable l) (take_all c.loop-index.index c.args.log.now past) c.loop-index.invariant.2

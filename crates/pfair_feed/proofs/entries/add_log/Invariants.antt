@@ -1,9 +1,12 @@
-use Rattle.std.proofs.Common.{◌≡◌, ◌+◌, ◌++◌, drop}
+use Rattle.std.proofs.Common.{◌≡◌, ◌+◌, ◌++◌, drop, take}
+use Rattle.std.specs.List.{AllByRecursion}
+use Rattle.pfair_entry_row.specs.Row.{IsLoggable}
 use Rattle.pfair_text.specs.Rows.{IsOpen, lines_text, text_so_far}
 use Rattle.pfair_feed.specs.Entries.{log_rows, numbered_from}
 use Rattle.pfair_feed.proofs.entries.add_log.Given as goal
 
--- the text so far, with the rows that are left, is the whole
+-- the text so far, with the rows that are left, is the whole; and the entries so far are such as a log may have
 abbrev pub invariant-loop-index : goal.invariant-loop-index
 invariant-loop-index l = IsOpen l.writer
     × (text_so_far l.writer ++ lines_text (numbered_from l.processor (l.index + 1) (drop l.index l.log)) ≡ text_so_far l.fn.writer ++ lines_text (log_rows l.processor l.log))
+    × AllByRecursion IsLoggable (take l.index l.log)

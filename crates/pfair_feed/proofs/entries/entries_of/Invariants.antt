@@ -1,10 +1,13 @@
-use Rattle.std.proofs.Common.{◌≡◌, ◌++◌, drop}
+use Rattle.std.proofs.Common.{◌≡◌, ◌++◌, drop, take}
+use Rattle.std.specs.List.{AllByRecursion}
+use Rattle.pfair_entry_row.specs.Row.{IsLoggable}
 use Rattle.pfair_text.specs.Rows.{IsOpen, lines_text, text_so_far}
 use Rattle.pfair_output.specs.Slots.{slots_from}
 use Rattle.pfair_feed.specs.Entries.{entries_text, log_rows}
 use Rattle.pfair_feed.proofs.entries.entries_of.Given as goal
 
--- the text so far, with the rows of the logs that are left, is the whole
+-- the text so far, with the rows of the logs that are left, is the whole; and the entries of the logs so far are such as a log may have
 abbrev pub invariant-loop-processor : goal.invariant-loop-processor
 invariant-loop-processor l = IsOpen l.writer
     × (text_so_far l.writer ++ lines_text (slots_from log_rows l.processor (drop l.processor l.script.logs)) ≡ entries_text l.script.logs)
+    × AllByRecursion (λ log. AllByRecursion IsLoggable log) (take l.processor l.script.logs)

@@ -1,0 +1,140 @@
+-- Two runs whose followers hold what agrees have written texts of which one begins the other.
+use Rattle.std.proofs.Common.{ℕ, ◌<◌, ◌≤◌, ◌≡◌, ◌≢◌, inl, inr, refl, sym, ap, subst, ◌∙◌, arith, List, [], ◌∷◌, ◌++◌, length, map, min, None, Some, slice_get, Option}
+use Rattle.std.specs.Prelude.{◌⊎◌}
+use Rattle.std.specs.List.{AllByRecursion}
+use Rattle.std.proofs.lemmas.Bool.{cases_order}
+use Rattle.pfair_text.specs.Rows.{lines_text}
+use Rattle.pfair_text.proofs.RowFacts.{lines_text-append}
+use Rattle.pfair_entry.specs.Entry.{Logged}
+use Rattle.pfair_entry_row.specs.Row.{IsEntryAt, entry_row}
+use Rattle.pfair_replica.specs.HeldRows.{replica_of}
+use Rattle.pfair_replica.specs.Offered.{taken}
+use Rattle.pfair_replica.specs.Replica.{Agree, Replica, empty_replica, frontier, numbers_below}
+use Rattle.pfair_table.specs.declared.pick.Decided.{Decided}
+use Rattle.pfair_table.specs.Events.{Course}
+use Rattle.pfair_table.specs.Laws.{IsOf, IsPrefixOf, OneTable}
+use Rattle.pfair_table.specs.Refinement.{Dispatch, HavePlannedAlike, IsWholePlan}
+use Rattle.pfair_table.specs.Table.{Settings, Table, decisions, table}
+use Rattle.pfair_replica.proofs.OfferedTo.{offered_stays}
+use Rattle.pfair_stream.specs.declared.output.Output.{Output}
+use Rattle.pfair_stream.specs.Follow.{Follow, news}
+use Rattle.pfair_stream.specs.Rows.{rows_from}
+use Rattle.pfair_stream.proofs.Alike.{told_alike}
+use Rattle.pfair_feed.specs.Feeding.{AreFedBytes, AreTakenFrom}
+use Rattle.pfair_feed.specs.Laws.{RunsWriteAlike}
+use Rattle.pfair_feed.specs.RoundTrip.{IsNew, IsPlaced, Placed}
+use Rattle.pfair_feed.proofs.Going.{even}
+use Rattle.pfair_feed.proofs.OneWay.{heads}
+use Rattle.pfair_feed.proofs.Orders.{held_after}
+use Rattle.pfair_feed.proofs.Planned.{at_number, so_many}
+
+-- ---- whether one of two texts begins the other can be seen
+
+abbrev Begin : List ℕ → List ℕ → Type 0
+Begin xs ys = IsPrefixOf xs ys ⊎ IsPrefixOf ys xs
+
+-- a byte more before both, and one less
+more_begin : (x y : ℕ) (xs ys : List ℕ) → x ≡ y → Begin xs ys → Begin (x ∷ xs) (y ∷ ys)
+more_begin x y xs ys e (inl p) = inl (p.0, λ i. e i ∷ p.1 i)
+more_begin x y xs ys e (inr p) = inr (p.0, λ i. sym e i ∷ p.1 i)
+
+less_begin : (x y : ℕ) (xs ys : List ℕ) → Begin (x ∷ xs) (y ∷ ys) → (x ≡ y) × Begin xs ys
+less_begin x y xs ys (inl p) = (let h = heads x y (xs ++ p.0) ys p.1 in (h.0, inl (p.0, h.1)))
+less_begin x y xs ys (inr p) = (let h = heads y x (ys ++ p.0) xs p.1 in (sym h.0, inr (p.0, h.1)))
+
+begin_seen : (xs ys : List ℕ) → ((Begin xs ys → ⊥) → ⊥) → Begin xs ys
+begin_seen [] ys f = inl (ys, refl)
+begin_seen (x ∷ xs) [] f = inr (x ∷ xs, refl)
+begin_seen (x ∷ xs) (y ∷ ys) f = elim (cases_order x y) [
+  | inl e ↦ more_begin x y xs ys e (begin_seen xs ys (λ none. f (λ b. none (less_begin x y xs ys b).1)))
+  | inr (inl less) ↦ absurd (f (λ b. (let e = (less_begin x y xs ys b).0 in absurd (omega (arith, e, less)))))
+  | inr (inr more) ↦ absurd (f (λ b. (let e = (less_begin x y xs ys b).0 in absurd (omega (arith, e, more)))))
+]
+
+-- ---- what lines bring, some entries bring
+
+brought : (lines : List (List ℕ)) (x y : Replica) → AreTakenFrom lines x y → ((es : List Placed) → AllByRecursion IsPlaced es → y ≡ held_after x es → ⊥) → ⊥
+brought [] x y t f = f [] tt t
+brought (line ∷ lines) x y (mid, t, more) f =
+    brought lines mid y more (λ es all same.
+    f es all (same ∙ ap (λ (r : Replica). held_after r es)
+    (t.other (λ p n e at is.
+    brought lines mid y more (λ fs all_fs same_fs. f ((p, n, e) ∷ fs) (at, all_fs) (same_fs ∙ ap (λ (r : Replica). held_after r fs) (t.row p n e at is)))))))
+
+of_settings : (s : Settings) (x : Replica) (es : List Placed) → IsOf s x → AllByRecursion IsPlaced es → IsOf s (held_after x es)
+of_settings s x [] of all = of
+of_settings s x (e ∷ es) of all =
+    of_settings s (taken x e.0 e.1 e.2) es (record {
+      replica = offered_stays.taken_replica x e.0 e.1 e.2 of.replica all.0.loggable.entry;
+      processors = (offered_stays.taken_shape x e.0 e.1 e.2).0 ∙ of.processors;
+    }) all.1
+
+of_nothing : (s : Settings) (capacity : ℕ) → IsOf s (empty_replica s.processors capacity)
+of_nothing s capacity = record {
+  replica = record { in_range = λ k n c held. absurd (cc held); stamped = λ k n e held. absurd (cc held) };
+  processors = refl;
+}
+
+-- ---- whole plans of what agrees
+
+inside_of : {A : Type 0} (f : ℕ → A) (n t : ℕ) (xs : List A) → xs ≡ map f (numbers_below n) → t < length xs → t < n
+inside_of f n t xs e l = (let a = ap length e ∙ so_many f n in omega (arith, a, l))
+
+module _ (d : Dispatch) (whole : IsWholePlan d) (t : ℕ) where
+  planned_there : t < length d.tables → (t < frontier (replica_of d.held)) × (slice_get d.tables t ≡ Some (table d.settings (replica_of d.held) t)) × (slice_get d.decided t ≡ Some (decisions d.settings (replica_of d.held) t))
+  planned_there l =
+      let n = min (frontier (replica_of d.held)) d.settings.slots in
+      let inside = inside_of (table d.settings (replica_of d.held)) n t d.tables whole.tables_are l in (
+        omega (arith, inside),
+        ap (λ (ts : List Table). slice_get ts t) whole.tables_are ∙ at_number (table d.settings (replica_of d.held)) n t inside,
+        ap (λ (ds : List (List Decided)). slice_get ds t) whole.decided_are ∙ at_number (decisions d.settings (replica_of d.held)) n t inside,
+      )
+
+planned_alike : OneTable → (s : Settings) (c d : Dispatch) → c.settings ≡ s → IsWholePlan c → IsWholePlan d → IsOf s (replica_of c.held) → IsOf s (replica_of d.held) → HavePlannedAlike c d
+planned_alike law s c d set whole whole' of of' settings agree t l m =
+    let here = planned_there c whole t l in
+    let there = planned_there d whole' t m in
+    let set' : d.settings ≡ s = sym settings ∙ set in
+    let same = law s (replica_of c.held) (replica_of d.held) of of' agree t here.0 there.0 in
+    let tables : table d.settings (replica_of d.held) t ≡ table c.settings (replica_of c.held) t = ap (λ (r : Settings). table r (replica_of d.held) t) set' ∙ sym same.0 ∙ ap (λ (r : Settings). table r (replica_of c.held) t) (sym set) in
+    let decided : decisions d.settings (replica_of d.held) t ≡ decisions c.settings (replica_of c.held) t = ap (λ (r : Settings). decisions r (replica_of d.held) t) set' ∙ sym same.1 ∙ ap (λ (r : Settings). decisions r (replica_of c.held) t) (sym set) in
+    (here.1, there.1 ∙ ap Some tables, here.2, there.2 ∙ ap Some decided)
+
+-- ---- the law
+
+-- lines whose rows begin others
+begin_text : (xs ys : List (List (List ℕ))) → IsPrefixOf xs ys → IsPrefixOf (lines_text xs) (lines_text ys)
+begin_text xs ys p = (lines_text p.0, sym (lines_text-append xs p.0) ∙ ap lines_text p.1)
+
+pub runs_write_alike : OneTable → RunsWriteAlike
+runs_write_alike law s capacity capacity' bytes bytes' rest rest' f g f' g' old new old' new' fresh fresh' output told a b agree =
+    begin_seen (news f g) (news f' g') (λ none.
+    brought a.lines (replica_of f.dispatch.held) (replica_of g.dispatch.held) a.fed.held_is (λ es all left.
+    brought b.lines (replica_of f'.dispatch.held) (replica_of g'.dispatch.held) b.fed.held_is (λ es' all' left'.
+    none (alike es es' all all' left left'))))
+  where
+    of : (capacity : ℕ) (f g : Follow) (es : List Placed) → IsNew s capacity f → AllByRecursion IsPlaced es → replica_of g.dispatch.held ≡ held_after (replica_of f.dispatch.held) es → IsOf s (replica_of g.dispatch.held)
+    of capacity f g es fresh all left =
+        subst (λ (x : Replica). IsOf s x) (sym (left ∙ ap (λ (x : Replica). held_after x es) (ap (λ (c : Course). c.held) fresh.course_is)))
+        (of_settings s (empty_replica s.processors capacity) es (of_nothing s capacity) all)
+
+    alike : (es es' : List Placed) → AllByRecursion IsPlaced es → AllByRecursion IsPlaced es' → replica_of g.dispatch.held ≡ held_after (replica_of f.dispatch.held) es
+        → replica_of g'.dispatch.held ≡ held_after (replica_of f'.dispatch.held) es' → Begin (news f g) (news f' g')
+    alike es es' all all' left left' =
+        let set : g.dispatch.settings ≡ s = a.fed.gone_on.grown.settings_are ∙ fresh.settings_are in
+        let set' : g'.dispatch.settings ≡ s = b.fed.gone_on.grown.settings_are ∙ fresh'.settings_are in
+        let outputs : g.output ≡ g'.output = a.fed.gone_on.output_is ∙ output ∙ sym b.fed.gone_on.output_is in
+        let whole = a.fed.gone_on.caught_up.whole in
+        let whole' = b.fed.gone_on.caught_up.whole in
+        let planned = planned_alike law s g.dispatch g'.dispatch set whole whole' (of capacity f g es fresh all left) (of capacity' f' g' es' fresh' all' left') in
+        let rows = told_alike g g' (even g.dispatch whole) (even g'.dispatch whole') planned outputs (set ∙ sym set') agree f.told in
+        let here : lines_text (rows_from g.output f.told g.dispatch.tables g.dispatch.decided) ≡ news f g =
+        ap (λ (o : Output). lines_text (rows_from o f.told g.dispatch.tables g.dispatch.decided)) a.fed.gone_on.output_is in
+        let there : lines_text (rows_from g'.output f.told g'.dispatch.tables g'.dispatch.decided) ≡ news f' g' =
+        (λ i. lines_text (rows_from (b.fed.gone_on.output_is i) (told i) g'.dispatch.tables g'.dispatch.decided)) in
+        let begin : Begin (lines_text (rows_from g.output f.told g.dispatch.tables g.dispatch.decided)) (lines_text (rows_from g'.output f.told g'.dispatch.tables g'.dispatch.decided)) =
+        elim rows [
+          | inl p ↦ inl (begin_text (rows_from g.output f.told g.dispatch.tables g.dispatch.decided) (rows_from g'.output f.told g'.dispatch.tables g'.dispatch.decided) p)
+          | inr p ↦ inr (begin_text (rows_from g'.output f.told g'.dispatch.tables g'.dispatch.decided) (rows_from g.output f.told g.dispatch.tables g.dispatch.decided) p)
+        ] in
+        subst (λ (l : List ℕ). Begin l (news f' g')) here (subst (λ (l : List ℕ). Begin (lines_text (rows_from g.output f.told g.dispatch.tables g.dispatch.decided)) l) there begin)

@@ -1,0 +1,92 @@
+-- More room in the logs doesn't change the schedule of what is held.
+use Rattle.std.proofs.Common.{ℕ, zero, suc, ◌+◌, ◌<◌, ◌≤◌, ◌≡◌, inl, inr, refl, sym, ap, subst, ◌∙◌, arith, List, [], ◌∷◌, ◌++◌, length, map, min, Option, Some, None, flat_map, filter}
+use Rattle.std.specs.Prelude.{fold}
+use Rattle.pfair_lattice.specs.Held.{Held}
+use Rattle.pfair_entry.specs.Entry.{Logged}
+use Rattle.pfair_entry.specs.Said.{Said}
+use Rattle.pfair_admission.specs.Member.{Member}
+use Rattle.pfair_replica.specs.Replica.{Replica, frontier, goes_on, last_floor, mark, numbers_below, run_from, run_on, said, said_in, sound_beginning}
+use Rattle.pfair_table.specs.declared.pick.Decided.{Decided}
+use Rattle.pfair_table.specs.Script.{LoggedRun, capacity_of, contents_of, replica_of_logs}
+use Rattle.pfair_table.specs.Table.{History, Settings, Table, decided_at, decisions, history, members_at, plan, slot_after, table, table_of, world}
+use Rattle.pfair_output.specs.Decisions.{decisions_text}
+use Rattle.pfair_output.specs.Lags.{is_staying, lag_row, lag_rows, lags_header, lags_text}
+use Rattle.pfair_output.specs.Replay.{placed_replay_text, replay_text}
+use Rattle.pfair_text.specs.Rows.{lines_text}
+use Rattle.pfair_stream.specs.declared.output.Output.{Output}
+use Rattle.pfair_stream.specs.declared.output.Output.TheVariants.{Tables, PlacedTables, Decisions, Lags}
+use Rattle.pfair_stream.specs.Laws.{text_of}
+use Rattle.pfair_feed.specs.RoundTrip.{HasScheduleOf, replica_with_room}
+use Rattle.pfair_feed.proofs.ScriptRows.{at_logs}
+
+-- ---- the same sound beginnings
+
+-- a run ends where nothing is held
+none_on : (row : ℕ → Held Logged) (room n floor : ℕ) → row n ≡ None → run_from row room n floor ≡ []
+none_on row zero n floor none = refl
+none_on row (suc room) n floor none = ap (λ (h : Held Logged). run_on (goes_on h floor) (run_from row room (suc n))) none
+
+-- numbers at which nothing is held
+run_longer : (row : ℕ → Held Logged) (more few n floor : ℕ) → few ≤ more → ((m : ℕ) → n + few ≤ m → row m ≡ None) → run_from row more n floor ≡ run_from row few n floor
+run_longer row more zero n floor h none = none_on row more n floor (none n (omega arith))
+run_longer row zero (suc few) n floor h none = absurd (omega arith)
+run_longer row (suc more) (suc few) n floor h none =
+    ap (run_on (goes_on (row n) floor)) (λ i f. run_longer row more few (suc n) f (omega arith) (λ m l. none m (omega (arith, l))) i)
+
+module _ (run : LoggedRun) (capacity : ℕ) (room : capacity_of run.logs ≤ capacity) where
+  none_past : (k n : ℕ) → capacity_of run.logs < n → contents_of run.logs k n ≡ None
+  none_past k n past = elim (at_logs 0 run.logs k n) [
+    | inl none ↦ none
+    | inr some ↦ absurd (let l = some.4 in omega (arith, l, past))
+  ]
+
+  same_beginning : (k : ℕ) → sound_beginning (replica_with_room capacity run) k ≡ sound_beginning (replica_of_logs run.logs) k
+  same_beginning k = run_longer (contents_of run.logs k) capacity (capacity_of run.logs) 1 0 room (λ m l. none_past k m (omega (arith, l)))
+
+-- ---- the same schedules
+
+module _ (x y : Replica) (processors : x.processors ≡ y.processors) (beginnings : (k : ℕ) → sound_beginning x k ≡ sound_beginning y k) where
+  same_frontier : frontier x ≡ frontier y
+  same_frontier i = fold min (last_floor 0 (beginnings 0 i)) (map (λ k. last_floor 0 (beginnings k i)) (numbers_below (processors i)))
+
+  same_said : (t : ℕ) → said x t ≡ said y t
+  same_said t i = flat_map (λ k. said_in t k 1 (beginnings k i)) (numbers_below (processors i))
+
+  module _ (s : Settings) where
+    same_history : (t : ℕ) → history s x t ≡ history s y t
+    same_history zero = refl
+    same_history (suc t) = λ i. slot_after s t (same_said t i) (same_history t i)
+
+    same_world : (t : ℕ) → world s x t ≡ world s y t
+    same_world t = λ i. members_at s t (same_said t i) (same_history t i)
+
+    same_table : (t : ℕ) → table s x t ≡ table s y t
+    same_table t = ap (table_of s t) (same_world t)
+
+    same_decisions : (t : ℕ) → decisions s x t ≡ decisions s y t
+    same_decisions t = λ i. decided_at s t (same_said t i) (same_history t i)
+
+    same_plan : plan s x ≡ plan s y
+    same_plan = λ i. map (λ t. same_table t i) (numbers_below (min (same_frontier i) s.slots))
+
+    same_lags : (t : ℕ) → lag_rows s x t ≡ lag_rows s y t
+    same_lags t = λ i. map (lag_row (same_history (suc t) i).tables (t + 1)) (filter is_staying (same_world t i))
+
+    same_text : (output : Output) → text_of output s x ≡ text_of output s y
+    same_text Tables = ap replay_text same_plan
+    same_text PlacedTables = ap placed_replay_text same_plan
+    same_text Decisions = λ i. decisions_text (map (λ t. same_decisions t i) (numbers_below (min (same_frontier i) s.slots)))
+    same_text Lags = λ i. lines_text (lags_header ∷ flat_map (λ t. same_lags t i) (numbers_below (min (same_frontier i) s.slots)))
+
+-- a script's own schedule, whatever the room
+pub schedule_with_room : (run : LoggedRun) (capacity : ℕ) → capacity_of run.logs ≤ capacity → HasScheduleOf run (replica_with_room capacity run)
+schedule_with_room run capacity room =
+    let x = replica_with_room capacity run in
+    let y = replica_of_logs run.logs in
+    let same = same_beginning run capacity room in
+    record {
+      frontier_is = same_frontier x y refl same;
+      plan_is = same_plan x y refl same run.settings;
+      decisions_are = same_decisions x y refl same run.settings;
+      texts_are = same_text x y refl same run.settings;
+    }

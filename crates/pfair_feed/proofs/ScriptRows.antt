@@ -1,0 +1,164 @@
+-- The entries of logs: their rows, and where they stand.
+use Rattle.std.proofs.Common.{ℕ, zero, suc, ◌+◌, ◌<◌, ◌≤◌, ◌≡◌, ◌≢◌, ◌^◌, inl, inr, refl, sym, ap, subst, ◌∙◌, arith, true, Bool, List, [], ◌∷◌, ◌++◌, length, map, Some, None, flat_map, max}
+use Rattle.std.specs.Prelude.{◌⊎◌, IsTrue, nat_le}
+use Rattle.std.specs.List.{AllByRecursion, list_all}
+use Rattle.std.proofs.lemmas.Bool.{and_parts, leb-true}
+use Rattle.std.proofs.lemmas.Grind.{flat_map-append}
+use Rattle.std.proofs.lemmas.List.{append-nil, map-append}
+use Rattle.pfair_text.specs.Rows.{line, lines_text}
+use Rattle.pfair_text.proofs.RowFacts.{lines_text-append}
+use Rattle.pfair_lattice.specs.declared.flat.Flat.TheVariants.{One}
+use Rattle.pfair_entry.specs.Entry.{Logged}
+use Rattle.pfair_entry_row.specs.Laws.{RowsAreLines}
+use Rattle.pfair_entry_row.specs.Row.{IsLoggable}
+use Rattle.pfair_output.specs.Slots.{slots_from}
+use Rattle.pfair_table.specs.Script.{LoggedRun, capacity_of, contents_of, entry_of, is_short}
+use Rattle.pfair_feed.specs.Entries.{entries_text, log_rows, numbered_from}
+use Rattle.pfair_feed.specs.Feeding.{AreLines, IsOneLine, ended}
+use Rattle.pfair_feed.specs.RoundTrip.{IsOneOf, IsPlaced, IsScript, Placed, placed_from, placed_in, row_of, rows_of}
+
+-- ---- their rows
+
+log_text : (processor number : ℕ) (log : List Logged) → lines_text (numbered_from processor number log) ≡ flat_map ended (map row_of (placed_from processor number log))
+log_text processor number [] = refl
+log_text processor number (e ∷ log) = ap (λ text. ended (row_of (processor, number, e)) ++ text) (log_text processor (suc number) log)
+
+logs_text : (processor : ℕ) (logs : List (List Logged)) → lines_text (slots_from log_rows processor logs) ≡ flat_map ended (map row_of (placed_in processor logs))
+logs_text processor [] = refl
+logs_text processor (log ∷ logs) =
+    lines_text-append (log_rows processor log) (slots_from log_rows (suc processor) logs)
+    ∙ (λ i. log_text processor 1 log i ++ logs_text (suc processor) logs i)
+    ∙ sym (flat_map-append ended (map row_of (placed_from processor 1 log)) (map row_of (placed_in (suc processor) logs)))
+    ∙ ap (flat_map ended) (sym (map-append row_of (placed_from processor 1 log) (placed_in (suc processor) logs)))
+
+all_append : {A : Type 0} (P : A → Type 0) (xs ys : List A) → AllByRecursion P xs → AllByRecursion P ys → AllByRecursion P (xs ++ ys)
+all_append P [] ys a b = b
+all_append P (x ∷ xs) ys a b = (a.0, all_append P xs ys a.1 b)
+
+-- entries that a log may have, each with its number
+log_placed : (processor number : ℕ) (log : List Logged) → processor < 64 → number + length log ≤ 4097 → AllByRecursion IsLoggable log → AllByRecursion IsPlaced (placed_from processor number log)
+log_placed processor number [] p n all = tt
+log_placed processor number (e ∷ log) p n all = (
+  record { processor_fits = omega (arith, p); number_fits = omega (arith, n); loggable = all.0 },
+  log_placed processor (suc number) log p (omega (arith, n)) all.1,
+)
+
+logs_placed : (processor : ℕ) (logs : List (List Logged)) → processor + length logs ≤ 64 → list_all is_short logs ≡ true → AllByRecursion (λ log. AllByRecursion IsLoggable log) logs → AllByRecursion IsPlaced (placed_in processor logs)
+logs_placed processor [] p short all = tt
+logs_placed processor (log ∷ logs) p short all =
+    let parts = and_parts (is_short log) (list_all is_short logs) short in
+    let few = leb-true (length log) 4096 parts.0 in
+    all_append IsPlaced (placed_from processor 1 log) (placed_in (suc processor) logs)
+    (log_placed processor 1 log (omega (arith, p)) (omega (arith, few)) all.0)
+    (logs_placed (suc processor) logs (omega (arith, p)) parts.1 all.1)
+
+pub all_placed : (run : LoggedRun) → IsScript run → AllByRecursion IsPlaced (placed_in 0 run.logs)
+all_placed run script = logs_placed 0 run.logs (let e = script.logged.one_each in let h = script.few in omega (arith, e, h)) script.logged.short script.loggable
+
+rows_whole : RowsAreLines → (es : List Placed) → AllByRecursion IsPlaced es → AllByRecursion IsOneLine (map row_of es)
+rows_whole law [] all = tt
+rows_whole law (e ∷ es) all = (law e.0 e.1 e.2 all.0, rows_whole law es all.1)
+
+pub entries_are_lines : RowsAreLines → (run : LoggedRun) → IsScript run → AreLines (entries_text run.logs) (rows_of run.logs) []
+entries_are_lines law run script = record {
+  bytes_are = logs_text 0 run.logs ∙ sym (append-nil (flat_map ended (rows_of run.logs)));
+  whole = rows_whole law (placed_in 0 run.logs) (all_placed run script);
+  open_end = tt;
+}
+
+-- ---- where they stand
+
+one_of_both : {A : Type 0} (x : A) (xs ys : List A) → IsOneOf x (xs ++ ys) → IsOneOf x xs ⊎ IsOneOf x ys
+one_of_both x [] ys i = inr i
+one_of_both x (y ∷ xs) ys (inl e) = inl (inl e)
+one_of_both x (y ∷ xs) ys (inr i) = elim (one_of_both x xs ys i) [ inl l ↦ inl (inr l) | inr r ↦ inr r ]
+
+one_of_first : {A : Type 0} (x : A) (xs ys : List A) → IsOneOf x xs → IsOneOf x (xs ++ ys)
+one_of_first x [] ys i = absurd i
+one_of_first x (y ∷ xs) ys (inl e) = inl e
+one_of_first x (y ∷ xs) ys (inr i) = inr (one_of_first x xs ys i)
+
+one_of_second : {A : Type 0} (x : A) (xs ys : List A) → IsOneOf x ys → IsOneOf x (xs ++ ys)
+one_of_second x [] ys i = i
+one_of_second x (y ∷ xs) ys i = inr (one_of_second x xs ys i)
+
+-- an entry of one log, by its place there
+in_log : (processor number : ℕ) (log : List Logged) (k n : ℕ) (e : Logged) → IsOneOf (k, n, e) (placed_from processor number log)
+    → (i : ℕ) × (k ≡ processor) × (n ≡ number + i) × (i < length log) × (entry_of log (suc i) ≡ Some (One e))
+in_log processor number [] k n e i = absurd i
+in_log processor number (f ∷ log) k n e (inl same) =
+    (0, ap (λ (p : Placed). p.0) same, (let h : n ≡ number = ap (λ (p : Placed). p.1) same in omega (arith, h)), omega arith, ap (λ (p : Placed). Some (One p.2)) (sym same))
+in_log processor number (f ∷ log) k n e (inr i) =
+    let h = in_log processor (suc number) log k n e i in
+    (suc h.0, h.1, (let s = h.2 in omega (arith, s)), (let l = h.3 in omega (arith, l)), h.4)
+
+-- an entry of the logs stands at its number
+pub in_logs : (processor : ℕ) (logs : List (List Logged)) (k n : ℕ) (e : Logged) → IsOneOf (k, n, e) (placed_in processor logs)
+    → (j : ℕ) × (k ≡ processor + j) × (j < length logs) × (1 ≤ n) × (n ≤ capacity_of logs) × (contents_of logs j n ≡ Some (One e))
+in_logs processor [] k n e i = absurd i
+in_logs processor (log ∷ logs) k n e i = elim (one_of_both (k, n, e) (placed_from processor 1 log) (placed_in (suc processor) logs) i) [
+  | inl here ↦
+      (let h = in_log processor 1 log k n e here in
+      let k_is = h.1 in
+      let n_is = h.2 in
+      let inside = h.3 in
+      let at : n ≡ suc h.0 = omega (arith, n_is) in
+      (0, omega (arith, k_is), omega arith, omega (arith, n_is), omega (arith, n_is, inside), ap (entry_of log) at ∙ h.4))
+  | inr there ↦
+      (let h = in_logs (suc processor) logs k n e there in
+      let k_is = h.1 in
+      let inside = h.2 in
+      let small = h.4 in
+      (suc h.0, omega (arith, k_is), omega (arith, inside), h.3, omega (arith, small), h.5))
+]
+
+-- what stands at a number of one log
+at_log : (processor number : ℕ) (log : List Logged) (i : ℕ) → (entry_of log (suc i) ≡ None)
+    ⊎ ((e : Logged) × (entry_of log (suc i) ≡ Some (One e)) × (i < length log) × IsOneOf (processor, number + i, e) (placed_from processor number log))
+at_log processor number [] i = inl refl
+at_log processor number (f ∷ log) zero =
+    inr (f, refl, omega arith, inl (ap (λ (n : ℕ). (processor, n, f)) (let e : number + 0 ≡ number = omega arith in e)))
+at_log processor number (f ∷ log) (suc i) = elim (at_log processor (suc number) log i) [
+  | inl none ↦ inl none
+  | inr some ↦ inr (
+    some.0,
+    some.1,
+    (let l = some.2 in omega (arith, l)),
+    inr (subst (λ (n : ℕ). IsOneOf (processor, n, some.0) (placed_from processor (suc number) log)) (let e : suc number + i ≡ number + suc i = omega arith in e) some.3),
+  )
+]
+
+none_at_0 : (log : List Logged) → entry_of log 0 ≡ None
+none_at_0 [] = refl
+none_at_0 (e ∷ log) = refl
+
+-- what stands at a number of the logs
+pub at_logs : (processor : ℕ) (logs : List (List Logged)) (j n : ℕ) → (contents_of logs j n ≡ None)
+    ⊎ ((e : Logged) × (contents_of logs j n ≡ Some (One e)) × (j < length logs) × (1 ≤ n) × (n ≤ capacity_of logs) × IsOneOf (processor + j, n, e) (placed_in processor logs))
+at_logs processor [] j n = inl refl
+at_logs processor (log ∷ logs) zero zero = inl (none_at_0 log)
+at_logs processor (log ∷ logs) zero (suc n) = elim (at_log processor 1 log n) [
+  | inl none ↦ inl none
+  | inr some ↦ inr (
+    some.0,
+    some.1,
+    omega arith,
+    omega arith,
+    (let l = some.2 in omega (arith, l)),
+    one_of_first (processor + 0, suc n, some.0) (placed_from processor 1 log) (placed_in (suc processor) logs)
+        (subst (λ (p : ℕ). IsOneOf (p, suc n, some.0) (placed_from processor 1 log)) (let e : processor ≡ processor + 0 = omega arith in e)
+        (subst (λ (m : ℕ). IsOneOf (processor, m, some.0) (placed_from processor 1 log)) (let e : 1 + n ≡ suc n = omega arith in e) some.3)),
+  )
+]
+at_logs processor (log ∷ logs) (suc j) n = elim (at_logs (suc processor) logs j n) [
+  | inl none ↦ inl none
+  | inr some ↦ inr (
+    some.0,
+    some.1,
+    (let l = some.2 in omega (arith, l)),
+    some.3,
+    (let l = some.4 in omega (arith, l)),
+    one_of_second (processor + suc j, n, some.0) (placed_from processor 1 log) (placed_in (suc processor) logs)
+        (subst (λ (p : ℕ). IsOneOf (p, n, some.0) (placed_in (suc processor) logs)) (let e : suc processor + j ≡ processor + suc j = omega arith in e) some.5),
+  )
+]

@@ -1,0 +1,96 @@
+-- The entries of a script, lines that have their rows, and what holds the script's schedule.
+use Rattle.std.specs.Prelude.{ℕ, suc, ◌≡◌, ◌≢◌, ◌≤◌, ◌<◌, ◌⊎◌, List, [], ◌∷◌, ◌++◌, map}
+use Rattle.std.specs.List.{AllByRecursion}
+use Rattle.pfair_entry.specs.Entry.{Logged}
+use Rattle.pfair_entry_row.specs.Row.{entry_row, IsEntryAt, IsLoggable}
+use Rattle.pfair_replica.specs.Replica.{Replica, frontier}
+use Rattle.pfair_table.specs.Events.{start}
+use Rattle.pfair_table.specs.Refinement.{course_of}
+use Rattle.pfair_table.specs.Script.{IsLoggedRun, LoggedRun, replica_of_logs}
+use Rattle.pfair_table.specs.Table.{Settings, decisions, plan}
+use Rattle.pfair_stream.specs.declared.output.Output.{Output}
+use Rattle.pfair_stream.specs.Follow.{Follow}
+use Rattle.pfair_stream.specs.Laws.{text_of}
+
+-- ---- entries
+
+-- an entry behind its processor and its number
+abbrev pub Placed : Type 0
+Placed = ℕ × ℕ × Logged
+
+abbrev pub row_of : Placed → List ℕ
+row_of e = entry_row e.0 e.1 e.2
+
+abbrev pub IsPlaced : Placed → Type 0
+IsPlaced e = IsEntryAt e.0 e.1 e.2
+
+-- the entries of one processor's log, from a number on
+abbrev pub placed_from : (processor number : ℕ) → List Logged → List Placed
+placed_from processor number [] = []
+placed_from processor number (e ∷ log) = (processor, number, e) ∷ placed_from processor (suc number) log
+
+-- the entries of logs, the first of which is that of a processor
+abbrev pub placed_in : ℕ → List (List Logged) → List Placed
+placed_in processor [] = []
+placed_in processor (log ∷ logs) = placed_from processor 1 log ++ placed_in (suc processor) logs
+
+-- the rows of the entries of all logs, that of processor 0 first
+abbrev pub rows_of : List (List Logged) → List (List ℕ)
+rows_of logs = map row_of (placed_in 0 logs)
+
+-- What each script keeps: a log for each of at most 64 processors, none longer than a log may be, of entries that a log may have.
+pub record IsScript (run : LoggedRun) : Type 0 where
+  pub logged : IsLoggedRun run
+  pub few : run.settings.processors ≤ 64
+  pub loggable : AllByRecursion (λ log. AllByRecursion IsLoggable log) run.logs
+
+-- ---- lines
+
+abbrev pub IsOneOf : {A : Type 0} → A → List A → Type 0
+IsOneOf x [] = ⊥
+IsOneOf x (y ∷ ys) = (x ≡ y) ⊎ IsOneOf x ys
+
+-- each of the first ones is one of the second ones
+abbrev pub AreAmong : {A : Type 0} → List A → List A → Type 0
+AreAmong xs ys = AllByRecursion (λ x. IsOneOf x ys) xs
+
+abbrev pub IsNoRow : List ℕ → Type 0
+IsNoRow line = (processor number : ℕ) (e : Logged) → IsEntryAt processor number e → line ≢ entry_row processor number e
+
+-- the row of an entry at a key that isn't one of so many logs with room for so many entries
+pub record IsRowElsewhere (processors capacity : ℕ) (line : List ℕ) : Type 0 where
+  pub processor : ℕ
+  pub number : ℕ
+  pub entry : Logged
+  pub is_entry : IsEntryAt processor number entry
+  pub row_is : line ≡ entry_row processor number entry
+  pub elsewhere : (processors ≤ processor) ⊎ ((number ≡ 0) ⊎ (capacity < number))
+
+-- a line that such logs take nothing from, as the question and each row that is refused
+abbrev pub BringsNothing : (processors capacity : ℕ) → List ℕ → Type 0
+BringsNothing processors capacity line = IsNoRow line ⊎ IsRowElsewhere processors capacity line
+
+-- The lines have all of these rows, in whatever order and however often each, and beside them only what brings nothing.
+pub record HaveTheRows (processors capacity : ℕ) (rows lines : List (List ℕ)) : Type 0 where
+  pub each : AllByRecursion (λ line. IsOneOf line rows ⊎ BringsNothing processors capacity line) lines
+  pub all : AreAmong rows lines
+
+-- ---- schedules
+
+-- a replica of the logs of a script, with room for so many entries in each
+abbrev pub replica_with_room : ℕ → LoggedRun → Replica
+replica_with_room capacity run = record (replica_of_logs run.logs) { capacity = capacity }
+
+-- what is held settles as many slots as the script's own replica, and has its tables, its decisions and each of its texts
+pub record HasScheduleOf (run : LoggedRun) (held : Replica) : Type 0 where
+  pub frontier_is : frontier held ≡ frontier (replica_of_logs run.logs)
+  pub plan_is : plan run.settings held ≡ plan run.settings (replica_of_logs run.logs)
+  pub decisions_are : (slot : ℕ) → decisions run.settings held slot ≡ decisions run.settings (replica_of_logs run.logs) slot
+  pub texts_are : (output : Output) → text_of output run.settings held ≡ text_of output run.settings (replica_of_logs run.logs)
+
+-- ---- followers
+
+-- a follower that holds nothing, with room for so many entries in each log, and has planned nothing
+pub record IsNew (settings : Settings) (capacity : ℕ) (f : Follow) : Type 0 where
+  pub settings_are : f.dispatch.settings ≡ settings
+  pub course_is : course_of f.dispatch ≡ start settings capacity

@@ -1,0 +1,124 @@
+-- What is written of the rows of a script is the script's own text.
+use Rattle.std.proofs.Common.{ℕ, zero, suc, ◌≡◌, ◌≤◌, ◌<◌, inl, inr, sym, ap, subst, ◌∙◌, arith, true, List, [], ◌∷◌, ◌++◌, length, map, min, Option, None, Some, IfSome, append-nil}
+use Rattle.std.specs.List.{list_all}
+use Rattle.std.specs.Io.KnownBytes.{Appends, Consumes, IsAtEnd}
+use Rattle.std.proofs.lemmas.Bool.{and_parts, leb-true}
+use Rattle.pfair_entry.specs.Entry.{Logged}
+use Rattle.pfair_text.specs.Rows.{lines_text}
+use Rattle.pfair_replica.specs.Replica.{Replica, empty_replica, frontier, numbers_below}
+use Rattle.pfair_table.specs.Script.{LoggedRun, capacity_of, is_short, replica_of_logs}
+use Rattle.pfair_table.specs.Table.{Settings}
+use Rattle.pfair_stream.specs.declared.output.Output.{Output}
+use Rattle.pfair_stream.specs.Rows.{rows_from}
+use Rattle.pfair_feed.specs.Feeding.{AreTakenFrom}
+use Rattle.pfair_feed.specs.Laws.{EntriesGiveTheirSchedule, LinesAreOne}
+use Rattle.pfair_feed.specs.RoundTrip.{HasScheduleOf, HaveTheRows, rows_of}
+use Rattle.pfair_command.specs.declared.fault.ScheduleFault.TheVariants as schedule
+use Rattle.pfair_stream.specs.declared.fault.FollowFault.{FollowFault}
+use Rattle.pfair_stream.specs.declared.fault.FollowFault.TheVariants as follow
+use Rattle.pfair_feed.specs.declared.fault.FeedFault.{FeedFault}
+use Rattle.pfair_feed.specs.declared.fault.FeedFault.TheVariants as feed
+use Rattle.pfair_follow_words.specs.declared.words.Run.{Run}
+use Rattle.pfair_follow.specs.declared.fault.ProgramFault.{ProgramFault}
+use Rattle.pfair_follow.specs.declared.fault.ProgramFault.TheVariants.{Memory, Schedule, WriteFailed}
+use Rattle.pfair_follow.specs.Faults.{of_feed, of_follow, stalled}
+use Rattle.pfair_follow.specs.Runs.{IsEndOf, IsFollowed, IsSettled, IsSettledBelow, text_from}
+use Rattle.pfair_follow.specs.Scripts.{HasScript, IsScriptStalled, IsScriptWritten, OfItsScript}
+
+-- no log is longer than the program has room for
+room_for : (logs : List (List Logged)) → list_all is_short logs ≡ true → capacity_of logs ≤ 4096
+room_for [] short = omega arith
+room_for (log ∷ logs) short =
+    let parts = and_parts (is_short log) (list_all is_short logs) short in
+    let few = leb-true (length log) 4096 parts.0 in
+    let rest = room_for logs parts.1 in
+    omega (arith, few, rest)
+
+-- all that the reader had to give was read
+all_read : (given left : Option (List ℕ)) (bytes : List ℕ) → Consumes given left bytes → IsAtEnd left → (P : List ℕ → Type 0) → P bytes → IfSome given P
+all_read None left bytes consumed ended P p = tt
+all_read (Some xs) None bytes consumed ended P p = absurd consumed
+all_read (Some xs) (Some ys) bytes consumed ended P p = subst P (sym (consumed ∙ ap (λ l. bytes ++ l) ended ∙ append-nil bytes)) p
+
+-- a text by the schedule alone
+same_text : (output : Output) (slot : ℕ) (script : LoggedRun) (held : Replica) → HasScheduleOf script held → text_from output slot script.settings held ≡ text_from output slot script.settings (replica_of_logs script.logs)
+same_text output zero script held has = has.texts_are output
+same_text output (suc slot) script held has =
+    λ i. lines_text (rows_from output (suc slot) (has.plan_is i) (map (λ t. has.decisions_are t i) (numbers_below (min (has.frontier_is i) script.settings.slots))))
+
+module _ (gives : EntriesGiveTheirSchedule) (one : LinesAreOne) (output : Output) (run : Run) (given left before after : Option (List ℕ)) where
+  -- what is held has the schedule of the script, whose text was written
+  of_script : (P : Replica → Type 0) → IsFollowed output run P given left before after
+      → OfItsScript run given (λ script. (held : Replica) × P held × HasScheduleOf script held × Appends before after (text_from output run.from script.settings (replica_of_logs script.logs)))
+  of_script P followed =
+      all_read given left followed.bytes followed.consumed followed.at_end
+      (λ bytes. (script : LoggedRun) → HasScript run bytes script
+      → (held : Replica) × P held × HasScheduleOf script held × Appends before after (text_from output run.from script.settings (replica_of_logs script.logs)))
+      (λ script has.
+      (let same = (one followed.bytes has.lines followed.brought.lines has.rest followed.brought.rest has.are_lines followed.brought.are_lines).0 in
+      let gave = gives script 4096 followed.brought.lines followed.held has.is_script (room_for script.logs has.is_script.logged.short)
+      (subst (λ (s : Settings). HaveTheRows s.processors 4096 (rows_of script.logs) followed.brought.lines) (sym has.settings_are)
+      (subst (λ (ls : List (List ℕ)). HaveTheRows run.settings.processors 4096 (rows_of script.logs) ls) same has.have_rows))
+      (subst (λ (s : Settings). AreTakenFrom followed.brought.lines (empty_replica s.processors 4096) followed.held) (sym has.settings_are) followed.brought.taken) in (
+        followed.held,
+        followed.settled,
+        gave.1,
+        subst (λ (text : List ℕ). Appends before after text)
+            (ap (λ (s : Settings). text_from output run.from s followed.held) (sym has.settings_are) ∙ same_text output run.from script followed.held gave.1) followed.written,
+      )))
+
+  -- of each script
+  each_script : (P Q : LoggedRun → Type 0) → ((script : LoggedRun) → script.settings ≡ run.settings → P script → Q script) → OfItsScript run given P → OfItsScript run given Q
+  each_script P Q f = by given
+    where
+      by : (given : Option (List ℕ)) → OfItsScript run given P → OfItsScript run given Q
+      by None p = tt
+      by (Some bytes) p = λ script has. f script has.settings_are (p script has)
+
+  abbrev Kept : (Replica → Type 0) → LoggedRun → Type 0
+  Kept P script = (held : Replica) × P held × HasScheduleOf script held × Appends before after (text_from output run.from script.settings (replica_of_logs script.logs))
+
+  pub writes_its_script : IsFollowed output run (IsSettled run.settings) given left before after → OfItsScript run given (λ script. IsScriptWritten output run script before after)
+  writes_its_script followed =
+      each_script (Kept (IsSettled run.settings)) (λ script. IsScriptWritten output run script before after)
+      (λ script settings kept. record {
+        settled = subst (λ (n : ℕ). script.settings.slots ≤ n) kept.2.frontier_is (subst (λ (s : Settings). s.slots ≤ frontier kept.0) (sym settings) kept.1);
+        written = kept.3;
+      })
+      (of_script (IsSettled run.settings) followed)
+
+  stalls_as_its_script : (slot : ℕ) → IsFollowed output run (IsSettledBelow run.settings slot) given left before after → OfItsScript run given (λ script. IsScriptStalled output run slot script before after)
+  stalls_as_its_script slot followed =
+      each_script (Kept (IsSettledBelow run.settings slot)) (λ script. IsScriptStalled output run slot script before after)
+      (λ script settings kept. record {
+        slot_is = kept.1.0 ∙ kept.2.frontier_is;
+        short = subst (λ (s : Settings). slot < s.slots) (sym settings) kept.1.1;
+        written = kept.3;
+      })
+      (of_script (IsSettledBelow run.settings slot) followed)
+
+  -- no other fault is that of a run that stalls
+  no_follow_stall : (fault : FollowFault) (slot : ℕ) → of_follow fault ≡ stalled slot → ⊥
+  no_follow_stall follow.Memory slot e = cc e
+  no_follow_stall follow.WriteFailed slot e = cc e
+  no_follow_stall follow.NoSuchProcessor slot e = cc e
+  no_follow_stall follow.NumberOutOfRange slot e = cc e
+  no_follow_stall (follow.Torn proc number) slot e = cc e
+  no_follow_stall follow.Spent slot e = cc e
+
+  no_feed_stall : (fault : FeedFault) (slot : ℕ) → of_feed fault ≡ stalled slot → ⊥
+  no_feed_stall (feed.Row fault) slot e = cc e
+  no_feed_stall (feed.Follow fault) slot e = no_follow_stall fault slot e
+  no_feed_stall feed.ReadFailed slot e = cc e
+
+  abbrev slot_of : ProgramFault → ℕ
+  slot_of (Schedule (schedule.Stalled slot)) = slot
+  slot_of fault = 0
+
+  pub stalls : (fault : ProgramFault) → IsEndOf output run given left before after fault → (slot : ℕ) → fault ≡ stalled slot → OfItsScript run given (λ script. IsScriptStalled output run slot script before after)
+  stalls fault (inl (kept, inl (memory, none))) slot e = absurd (let h : Memory ≡ stalled slot = sym memory ∙ e in cc h)
+  stalls fault (inl (kept, inr (failed, cut))) slot e = absurd (let h : WriteFailed ≡ stalled slot = sym failed ∙ e in cc h)
+  stalls fault (inr (inl (f, g, fresh, (cause, is, upto)))) slot e = absurd (no_feed_stall cause slot (sym is ∙ e))
+  stalls fault (inr (inr (there, is, followed))) slot e =
+      let same : there ≡ slot = ap slot_of (sym is ∙ e) in
+      stalls_as_its_script slot (subst (λ (n : ℕ). IsFollowed output run (IsSettledBelow run.settings n) given left before after) same followed)
