@@ -105,6 +105,26 @@ def drawn(seed, processors=4, slots=200):
     return pfair.study.task_set(pfair.study.rand_fixed_sum(10, 0.7 * processors, rng), processors, slots, rng)
 
 
+def test_logs_as_arrays():
+    log = [pfair.arrive("a", 1, 2), pfair.arrive("b", 1, 3), pfair.late("a", 2, 1, at=1, floor=1), pfair.promise(6)]
+    wanted, one = pfair.Dispatcher(1, 6, 6, 4), pfair.Dispatcher(1, 6, 6, 4)
+    assert wanted.take_log(0, log) == (4, 4, 0, 0)
+    rows = pfair.rows_of(log)
+    for wrong in (np.zeros(4), rows.reshape(2, 2), rows[["floor", "kind"]], rows.view("u1"), np.array(log, dtype=object)):
+        with pytest.raises(TypeError):
+            one.take_log(0, wrong)
+    assert one.missing(0) == 1
+    # every other row of an array, and then the whole of it
+    apart = np.repeat(rows, 2)[::2]
+    assert not apart.flags.c_contiguous and one.take_log(0, apart[:2]) == (2, 2, 0, 0)
+    assert one.take_log(0, rows) == (4, 2, 2, 0) and one.take_log(0, rows[:0]) == (0, 0, 0, 0)
+    assert one.is_below(wanted) and wanted.is_below(one)
+    rows["by"][2] = 2**63
+    with pytest.raises(pfair.BadDelay) as refused:
+        pfair.Dispatcher(1, 6, 6, 4).take_log(0, rows)
+    assert refused.value.found["number"] == 3
+
+
 def test_any_order_and_repeats():
     rng = np.random.default_rng(1)
     script = drawn(1)

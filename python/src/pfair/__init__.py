@@ -6,18 +6,18 @@ quanta of one slot.
 """
 from . import study as study
 from ._dispatcher import OUTCOMES, Dispatcher, Faults, Planned, TakenCounts, windows
-from ._entries import Entry, Script, arrive, depart, late, promise
+from ._entries import Entry, Script, arrive, depart, late, promise, rows_of
 from ._errors import (
     BY_NUMBER, BadDelay, BadIndex, CostOverPeriod, EntryRefused, FileTooLong, KeyMissing, KeyOutOfRange, KeyWrongKind, NameBadByte, NameEmpty,
     NameTooLong, NoSuchNumber, NoSuchProcessor, NotOpen, NotPlanned, NotToml, OtherShape, OutOfMemory, OutOfRange, PeriodTooLong, PfairError,
     SlotTooFar, Spent, Stalled, StampBeforeFloor, TaskFileError, Torn, UnknownVersion, ZeroCost,
 )
-from ._library import DECISION, LAG, MEMBER, QUANTUM, VERSION, WINDOW
+from ._library import DECISION, ENTRY, LAG, MEMBER, QUANTUM, VERSION, WINDOW
 from ._schedule import Counts, Schedule, read_task_file, schedule
 
 __all__ = [
-    "BY_NUMBER", "DECISION", "LAG", "MEMBER", "OUTCOMES", "QUANTUM", "WINDOW", "Counts", "Dispatcher", "Entry", "Faults", "Planned", "Schedule",
-    "Script", "TakenCounts", "arrive", "depart", "late", "promise", "read_task_file", "schedule", "study", "windows",
+    "BY_NUMBER", "DECISION", "ENTRY", "LAG", "MEMBER", "OUTCOMES", "QUANTUM", "WINDOW", "Counts", "Dispatcher", "Entry", "Faults", "Planned",
+    "Schedule", "Script", "TakenCounts", "arrive", "depart", "late", "promise", "read_task_file", "rows_of", "schedule", "study", "windows",
     "BadDelay", "BadIndex", "CostOverPeriod", "EntryRefused", "FileTooLong", "KeyMissing", "KeyOutOfRange", "KeyWrongKind", "NameBadByte",
     "NameEmpty", "NameTooLong", "NoSuchNumber", "NoSuchProcessor", "NotOpen", "NotPlanned", "NotToml", "OtherShape", "OutOfMemory",
     "OutOfRange", "PeriodTooLong", "PfairError", "SlotTooFar", "Spent", "Stalled", "StampBeforeFloor", "TaskFileError", "Torn",

@@ -5,7 +5,7 @@ import ctypes as c
 import threading
 from contextlib import ExitStack
 from types import TracebackType
-from typing import Any, NamedTuple, Optional, Sequence
+from typing import Any, NamedTuple, Optional, Sequence, Union
 
 import numpy as np
 
@@ -160,9 +160,9 @@ class Dispatcher:
         self._call("pfair_take", whole(processor, 8, "processor"), whole(number, 32, "number"), row.ctypes.data, taken, where=f"entry {number} of processor {processor}")
         return TAKEN[taken.value]
 
-    def take_log(self, processor: int, entries: Sequence[Entry], first: int = 1) -> TakenCounts:
-        """Takes entries of a processor's log, numbered from `first` on (1 to the capacity, also of no entries). Those before the first that
-        is refused are taken, and found["number"] is its number."""
+    def take_log(self, processor: int, entries: Union[Sequence[Entry], Rows], first: int = 1) -> TakenCounts:
+        """Takes entries of a processor's log, or an array of them of the dtype ENTRY, numbered from `first` on (1 to the capacity, also of
+        no entries). Those before the first that is refused are taken, and found["number"] is its number."""
         rows, counted = rows_of(entries), TakenLog()
         with self._lock:
             answer = library.pfair_take_log(self._handle, whole(processor, 8, "processor"), whole(first, 32, "first"), counted, rows.ctypes.data, len(rows))

@@ -3,7 +3,7 @@ from __future__ import annotations
 
 import operator
 from dataclasses import dataclass, field
-from typing import Any, Optional, Sequence
+from typing import Any, Optional, Sequence, Union
 
 import numpy as np
 import numpy.typing as npt
@@ -63,8 +63,13 @@ def promise(floor: int) -> Entry:
     return Entry(floor)
 
 
-def rows_of(entries: Sequence[Entry]) -> Rows:
-    """Entries as the library reads them."""
+def rows_of(entries: Union[Sequence[Entry], Rows]) -> Rows:
+    """Entries as the library reads them: an array of the dtype ENTRY. Such an array is given back as it is, or copied where its rows
+    don't lie one behind another; any other array is refused by TypeError."""
+    if isinstance(entries, np.ndarray):
+        if entries.dtype != ENTRY or entries.ndim != 1:
+            raise TypeError(f"an array of {entries.ndim} dimensions and the dtype {entries.dtype} isn't a list of rows of the dtype ENTRY")
+        return np.ascontiguousarray(entries)
     rows = np.zeros(len(entries), ENTRY)
     for row, entry in zip(rows, entries):
         if entry.kind not in KINDS:

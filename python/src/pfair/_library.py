@@ -59,7 +59,8 @@ LAG = _rows(time=_NUMBER, task=_NAME, numerator=("i8", 8), period=_NUMBER)
 MEMBER = _rows(
     task=_NAME, cost=_NUMBER, period=_NUMBER, early=_NUMBER, joined=_NUMBER, next=_NUMBER, theta=_NUMBER, is_departing=_NUMBER, freed_at=_NUMBER
 )
-# as the library reads it, the length of the name included
+#: An entry as the library reads it: `kind` 0 for none, 1 to 3 for an arrival, a departure and a late release; `name` with zeros behind it,
+#: and `length`, that of the name.
 ENTRY = np.dtype(
     [("floor", "u8"), ("kind", "u8"), ("at", "u8"), ("name", "S16"), ("length", "u8"), ("cost", "u8"), ("period", "u8"), ("early", "u8"), ("index", "u8"), ("by", "u8")]
 )
