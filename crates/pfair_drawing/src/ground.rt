@@ -7,6 +7,7 @@ ghost use Rattle.pfair_drawing.specs.Ground.{axis, band, frame_shapes, grid, is_
 use crate::canvas::{add, add_label};
 use crate::frame::Frame;
 use crate::history::History;
+use crate::schedule::MAX_ROWS;
 use crate::sizes::{OUTLINED, TOP};
 use pfair_svg::{Area, Fill, Note, Point, Shape, Stroke, Style, Words};
 use pfair_weight::TaskName;
@@ -178,7 +179,7 @@ fn add_scale_above(
     k: u64,
 ) -> Result<(), AllocError>
     requires frame { IsFrame frame.now }
-    requires k { k ≤ 1000000 }
+    requires k { k ≤ MAX_ROWS }
     ensures { OnOk result (shapes.new.items ≡ shapes.old.items ++ scale_above frame.now has_slots k) }
 {
     let y = frame.row_y(ROWS_OF_SCALE * k);

@@ -20,12 +20,12 @@ use crate::kinds::shown_lags_of;
 use crate::labels::weights_of;
 use crate::lag_key::add_lag_key;
 use crate::names::Names;
-use crate::schedule::{DrawFault, are_refused, figures_of, frame_of};
+use crate::schedule::{DrawFault, MAX_ROWS, are_refused, figures_of, frame_of};
 use crate::sizes::{ABOVE_KEY, DOTTED, HIGH_ROWS, Sizes};
 use crate::steps::{steps_of, zero_y};
 use pfair_ready::Ready;
 use pfair_svg::{Area, Content, Drawing, Fill, Lags, Shape, Sign, Stroke};
-use pfair_table::Dispatcher;
+use pfair_table::{Dispatcher, Settings};
 use pfair_weight::TaskName;
 use std::alloc::{AllocError, Global};
 
@@ -64,7 +64,7 @@ fn draw<R: Ready>(
     to: u64,
 ) -> Result<Drawing, AllocError>
     requires order { from < to }
-    requires slots { to ≤ 1000000 }
+    requires slots { to ≤ Settings.MAX_SLOTS }
     ensures { IfOk result (AreLags dispatcher.now.decided dispatcher.now.tables dispatcher.now.settings from to) }
 {
     let history = history_of(alloc, dispatcher, to)?;
@@ -122,10 +122,10 @@ fn admitted_of(alloc: Global, history: &History) -> Result<Names, AllocError>
 // What a figure of lags has room for: a lane is a lag of 1, and the pad a quarter of it.
 fn lag_frame(names: &[TaskName], from: u64, to: u64) -> Frame
     requires order { from ≤ to }
-    requires slots { to ≤ 1000000 }
+    requires slots { to ≤ Settings.MAX_SLOTS }
     ensures frame { IsFrame result }
     ensures slots { (result.from ≡ from) × (result.to ≡ to) }
-    ensures rows { result.rows ≡ min (length names.now) 1000000 }
+    ensures rows { result.rows ≡ min (length names.now) MAX_ROWS }
     ensures left { result.left ≡ left_of names.now }
     ensures sizes { result.sizes ≡ lag_sizes_of (length names.now) (sizes_of (to - from) to) }
 {

@@ -35,7 +35,7 @@ use pfair_ready::Ready;
 use pfair_svg::{
     Bar, Content, Drawing, Figures, LateMark, LifeMark, Quantum, RefusalMark, Schedule, Shape, Sign,
 };
-use pfair_table::Dispatcher;
+use pfair_table::{Dispatcher, Settings};
 use pfair_weight::TaskName;
 use std::alloc::{AllocError, Global};
 
@@ -46,7 +46,7 @@ pub const MAX_SLOTS: u64 = 4096;
 const LONGEST: u64 = TaskName::MAX_LEN as u64;
 
 // The most rows of tasks of one picture, more than a run can have.
-const MAX_ROWS: u64 = 1_000_000;
+pub(crate) const MAX_ROWS: u64 = 1_000_000;
 
 /// Why a picture isn't drawn.
 #[derive(Clone, Copy, Debug, PartialEq, Eq)]
@@ -107,7 +107,7 @@ fn draw<R: Ready>(
     to: u64,
 ) -> Result<Drawing, AllocError>
     requires order { from < to }
-    requires slots { to ≤ 1000000 }
+    requires slots { to ≤ Settings.MAX_SLOTS }
     ensures { IfOk result (IsSchedule dispatcher.now.decided dispatcher.now.tables dispatcher.now.settings from to) }
 {
     let names = names_of(alloc, dispatcher, to)?;
@@ -124,7 +124,7 @@ fn draw_in<R: Ready>(
     names: &Names,
 ) -> Result<Drawing, AllocError>
     requires frame { IsFrame frame.now }
-    requires rows { frame.now.rows ≡ min (length names.now) 1000000 }
+    requires rows { frame.now.rows ≡ min (length names.now) MAX_ROWS }
     requires names { names.now ≡ names_before dispatcher.now.decided dispatcher.now.tables frame.now.to }
     requires processors { frame.now.processors ≡ dispatcher.now.settings.processors }
     requires left { frame.now.left ≡ left_of names.now }
@@ -281,7 +281,7 @@ fn key_of(
 /// [`MAX_SLOTS`].
 pub(crate) fn are_refused<R: Ready>(dispatcher: &Dispatcher<R>, from: u64, to: u64) -> bool
     ensures refused { IsTrue result ↔ AreRefused from to (length dispatcher.now.tables) }
-    ensures few { length dispatcher.now.tables ≤ 1000000 }
+    ensures few { length dispatcher.now.tables ≤ Settings.MAX_SLOTS }
 {
     let planned = dispatcher.next_slot();
     from >= to || to > planned || to - from > MAX_SLOTS
@@ -304,11 +304,11 @@ pub(crate) fn figures_of<R: Ready>(dispatcher: &Dispatcher<R>, from: u64, to: u6
 /// What a figure has room for.
 pub(crate) fn frame_of(names: &[TaskName], processors: u64, from: u64, to: u64) -> Frame
     requires order { from ≤ to }
-    requires slots { to ≤ 1000000 }
-    requires processors { processors ≤ 64 }
+    requires slots { to ≤ Settings.MAX_SLOTS }
+    requires processors { processors ≤ Settings.MAX_PROCESSORS }
     ensures frame { IsFrame result }
     ensures slots { (result.from ≡ from) × (result.to ≡ to) }
-    ensures rows { result.rows ≡ min (length names.now) 1000000 }
+    ensures rows { result.rows ≡ min (length names.now) MAX_ROWS }
     ensures processors { result.processors ≡ processors }
     ensures left { result.left ≡ left_of names.now }
     ensures sizes { result.sizes ≡ sizes_of (to - from) to }

@@ -16,11 +16,12 @@ use pfair_feed::{follow, tell_missing};
 use pfair_follow_words::Run;
 use pfair_ready::{HeapReady, Ready};
 use pfair_stream::{FollowFault, Follower, Output};
+use pfair_table::Script;
 use std::alloc::Global;
 use std::io::{Read, Write};
 
 // How many entries of one log are taken: those of a task file, with the one that closes the log.
-const LOG: u32 = 4096;
+const LOG: u32 = Script::LONGEST_LOG as u32;
 
 /// Reads rows of entries to the reader's end, and writes the rows of each slot as soon as what was
 /// read settles it, flushed before more is read; before them the header, where `run.from` is 0.

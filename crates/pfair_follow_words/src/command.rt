@@ -10,6 +10,7 @@ use crate::help::{
     SLOTS_HELP, STRICT_HELP,
 };
 use clap::{Arg, ArgAction, Command, value_parser};
+use pfair_table::Settings;
 use std::alloc::{AllocError, Global};
 
 // The program's version, which `--version` prints after its name.
@@ -159,7 +160,7 @@ fn processors<'a>(alloc: Global) -> Arg<'a>
         .value_name("M")
         .help(PROCESSORS_HELP)
         .required(true)
-        .value_parser(value_parser!(u64).range(1..=64))
+        .value_parser(value_parser!(u64).range(1..=Settings::MAX_PROCESSORS as i64))
 }
 
 fn frame<'a>(alloc: Global) -> Arg<'a>
@@ -171,7 +172,7 @@ fn frame<'a>(alloc: Global) -> Arg<'a>
         .value_name("F")
         .help(FRAME_HELP)
         .required(true)
-        .value_parser(value_parser!(u64).range(1..=1_000_000_000))
+        .value_parser(value_parser!(u64).range(1..=Settings::MAX_FRAME as i64))
 }
 
 fn slots<'a>(alloc: Global) -> Arg<'a>
@@ -183,7 +184,7 @@ fn slots<'a>(alloc: Global) -> Arg<'a>
         .value_name("S")
         .help(SLOTS_HELP)
         .required(true)
-        .value_parser(value_parser!(u64).range(1..=1_000_000))
+        .value_parser(value_parser!(u64).range(1..=Settings::MAX_SLOTS as i64))
 }
 
 fn from<'a>(alloc: Global) -> Arg<'a>
@@ -195,7 +196,7 @@ fn from<'a>(alloc: Global) -> Arg<'a>
         .value_name("SLOT")
         .help(FROM_HELP)
         .default_value("0")
-        .value_parser(value_parser!(u64).range(0..=1_000_000))
+        .value_parser(value_parser!(u64).range(0..=Settings::MAX_SLOTS as i64))
 }
 
 fn strict<'a>(alloc: Global) -> Arg<'a>

@@ -25,9 +25,6 @@ use clap::{ArgMatches, Error};
 use pfair_table::Settings;
 use std::alloc::{AllocError, Global};
 
-// The last slot from which a command line can ask for rows.
-const MAX_FROM: u64 = 1_000_000;
-
 /// A run that is fed by rows of entries.
 #[derive(Clone, Copy, Debug, PartialEq, Eq)]
 pub struct Run {
@@ -170,7 +167,7 @@ fn read_run(words: &ArgMatches<'_>) -> Option<Run>
 {
     let settings = read_settings(words)?;
     let from = number(words, "from")?;
-    if from > MAX_FROM {
+    if from > Settings::MAX_SLOTS {
         return None;
     }
     Some(Run {

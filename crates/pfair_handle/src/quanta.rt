@@ -54,10 +54,10 @@ pub fn write_quanta<R: Ready>(
 // How many quanta a slot has.
 fn count_slot<R: Ready>(dispatcher: &Dispatcher<R>, slot: u64) -> u64
     ensures value { result ≡ length (slot_of dispatcher.now.tables slot) }
-    ensures few { result ≤ 64 }
+    ensures few { result ≤ Settings.MAX_PROCESSORS }
 {
     // the contract of places bounds the rows of all tables by the processors
-    prove!(dispatcher.settings().processors() <= 64);
+    prove!(dispatcher.settings().processors() <= Settings::MAX_PROCESSORS);
     prove!(dispatcher.places(slot).is_some() || dispatcher.places(slot).is_none());
     match dispatcher.table(slot) {
         Some(table) => table.len() as u64,

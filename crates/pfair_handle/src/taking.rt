@@ -8,7 +8,7 @@ ghost use Rattle.pfair_handle.specs.TakenLog.{met, one_more, IsTakenTo, IsRefusa
 use crate::entry::{PfairEntry, read_entry};
 use pfair_ready::Ready;
 use pfair_replica::Taken;
-use pfair_table::Dispatcher;
+use pfair_table::{Dispatcher, Script};
 
 /// How many entries were taken, and what they met.
 #[repr(C)]
@@ -69,7 +69,7 @@ fn take_one<R: Ready>(
     ensures answer { IfOk result (λ how. how ≡ met (held dispatcher.old.held processor number) (logged_of entry.now)) }
     ensures meant { OnOk result (IsMeant entry.now) }
     ensures key { OnOk result (has_key (replica_of dispatcher.old.held) processor number ≡ true) }
-    ensures few { OnOk result (number ≤ 4096) }
+    ensures few { OnOk result (number ≤ Script.LONGEST_LOG) }
     ensures offered { OnOk result (replica_of dispatcher.new.held ≡ offered_to (replica_of dispatcher.old.held) processor number (logged_of entry.now)) }
     ensures rest { OnOk result (dispatcher.new ≡ record dispatcher.old { held = dispatcher.new.held }) }
     ensures refused { IfErr result (IsRefusal dispatcher.old.held processor number entry.now) }
@@ -87,7 +87,7 @@ fn take_one<R: Ready>(
 
 // One more is taken, which met this.
 fn one_more(how: Taken, counted: PfairTakenLog) -> PfairTakenLog
-    requires few { counted.taken ≤ 4096 }
+    requires few { counted.taken ≤ Script.LONGEST_LOG }
     requires each { counted.fresh + counted.known + counted.torn ≡ counted.taken }
     ensures { result ≡ one_more how counted }
 {

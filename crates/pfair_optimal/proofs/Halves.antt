@@ -34,9 +34,6 @@ opens z first = omega arith
 closes : (z : Subtask) → deadline halves z ≡ z.task.joined + 2 * z.index
 closes z = omega arith
 
-no_overlap : (z : Subtask) → b_bit halves z ≡ 0
-no_overlap z = omega arith
-
 -- a row is the one whose turn it is
 row_is : (t : ℕ) (z : Subtask) → is_row halves t z ≡ true → z ≡ turn t
 row_is t z row = ⊎_elim (λ e. e) (λ none. absurd (false≢true none)) (among_cases same_subtask subtask_exact (turn t) [] z row)
