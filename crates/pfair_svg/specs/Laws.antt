@@ -1,7 +1,13 @@
 -- The laws of colours, and of the text of pictures.
-use Rattle.std.specs.Prelude.{ℕ, ◌+◌, ◌≡◌, ◌≢◌, List, All}
+use Rattle.std.specs.Prelude.{ℕ, ◌+◌, ◌^◌, ◌<◌, ◌≡◌, ◌≢◌, true, List, All}
+use Rattle.std.specs.Fmt.{decimal}
+use Rattle.std.specs.Str.Parse.{IsNumeral, digits_value}
 use Rattle.pfair_weight.specs.Name.{IsTaskName}
+use Rattle.pfair_svg.specs.declared.drawing.Drawing.{Drawing}
 use Rattle.pfair_svg.specs.Colours.{colour, colour_of}
+use Rattle.pfair_svg.specs.Elements.{picture}
+use Rattle.pfair_svg.specs.Svg.{svg_text}
+use Rattle.pfair_svg.specs.Xml.{is_well_formed, parts_of}
 
 -- a character that stands for itself in the text of an element: none of & < > "
 abbrev pub IsPlain : ℕ → Type 0
@@ -25,3 +31,15 @@ pub record PaletteIs : Type 0 where
 -- Each processor has the colour of the one eight before it.
 abbrev pub ColoursRepeat : Type 0
 ColoursRepeat = (processor : ℕ) → colour_of (processor + 8) ≡ colour_of processor
+
+-- Read as XML, the text of a picture is the picture: each shape as its element, in order, and no other. Its names are those of tasks.
+abbrev pub PicturesReadBack : Type 0
+PicturesReadBack = (d : Drawing) → All IsTaskName d.names.items → parts_of (svg_text d) ≡ picture d
+
+-- The text of a picture is well-formed XML: each element ends, the innermost first, no attribute comes twice, and one element has all others in it.
+abbrev pub PicturesAreWellFormed : Type 0
+PicturesAreWellFormed = (d : Drawing) → All IsTaskName d.names.items → is_well_formed (parts_of (svg_text d)) ≡ true
+
+-- Each number that a picture may have is read from its decimal digits.
+abbrev pub NumbersReadBack : Type 0
+NumbersReadBack = (n : ℕ) → n < 2 ^ 64 → IsNumeral 10 (decimal n) × (digits_value 10 (decimal n) ≡ n)
