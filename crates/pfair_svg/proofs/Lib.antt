@@ -1,9 +1,10 @@
+mod BarFacts
 mod CaptionFacts
-pub mod ElementFacts
-pub mod NestingFacts
-pub mod PictureFacts
-pub mod PlainFacts
+mod ElementFacts
+mod NestingFacts
+mod PictureFacts
+mod PlainFacts
 pub mod RangeFacts
-pub mod ReadingFacts
+mod ReadingFacts
 mod TextFacts
-pub mod WordFacts
+mod WordFacts

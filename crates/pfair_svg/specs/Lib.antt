@@ -1,3 +1,4 @@
+pub mod Bars
 pub mod Captions
 pub mod Colours
 pub mod Elements

@@ -3,7 +3,7 @@
 //! Each function states one law and changes nothing.
 ghost use Rattle.std.specs.Prelude.{All};
 ghost use Rattle.pfair_weight.specs.Name.{IsTaskName};
-ghost use Rattle.pfair_svg.specs.Laws.{ColoursRepeat, NamesArePlain, NumbersReadBack, PaletteIs, PicturesAreWellFormed, PicturesReadBack};
+ghost use Rattle.pfair_svg.specs.Laws.{ColoursRepeat, NamesArePlain, NumbersReadBack, PaletteIs, PicturesAreWellFormed, PicturesReadBack, SchedulesReadBack};
 
 use pfair_weight::TaskName;
 
@@ -42,6 +42,13 @@ pub fn names_are_of_tasks(names: &[TaskName])
 /// comes twice, and one element has all others in it.
 pub fn pictures_are_well_formed()
     ensures { PicturesAreWellFormed }
+{}
+
+/// The bars that the text of a schedule has, read by their numbers, are those of the schedule: of
+/// each window its area, of each quantum its area and its processor, in the rows of tasks and in
+/// those of processors, in order, and no other. Each number has at most 64 bits.
+pub fn schedules_read_back()
+    ensures { SchedulesReadBack }
 {}
 
 /// The number of an attribute is read from its digits.
