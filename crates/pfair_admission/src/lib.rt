@@ -17,6 +17,3 @@ pub use incarnation::Incarnation;
 pub use members::Members;
 pub use quantum::Quantum;
 pub use refusal::Refusal;
-
-#[cfg(test)]
-mod tests;

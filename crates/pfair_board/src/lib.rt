@@ -25,4 +25,4 @@ pub use pfair_table::Run;
 pub use worker::run_worker;
 
 #[cfg(test)]
-mod thread_tests;
+mod hint_tests;

@@ -14,6 +14,3 @@ mod notes;
 pub use board::Board;
 pub use desk::Desk;
 pub use fault::{LookFault, PublishFault};
-
-#[cfg(test)]
-mod tests;

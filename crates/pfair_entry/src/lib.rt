@@ -12,6 +12,3 @@ pub use announcement::Announcement;
 pub use entry::{Entry, EntryFault};
 pub use said::Said;
 pub use writer::{NoteFault, Writer};
-
-#[cfg(test)]
-mod tests;

@@ -16,6 +16,3 @@ pub use exact::Exact;
 pub use flat::Flat;
 pub use join::Join;
 pub use join_map::JoinMap;
-
-#[cfg(test)]
-mod tests;

@@ -18,8 +18,6 @@ ghost use Rattle.pfair_weight.specs.Window.{deadline_of, b_bit_of, group_deadlin
 ghost use Rattle.pfair_order.specs.Order.{pd2_cmp, tie_group_of, GoesBefore};
 
 pub mod laws;
-#[cfg(test)]
-mod tests;
 
 use pfair_weight::{MAX_INDEX, MAX_OFFSET, TaskName, Weight, b_bit, deadline, group_deadline};
 use std::cmp::Ordering;

@@ -20,8 +20,6 @@ mod guesses;
 mod heap;
 mod plain;
 mod slots;
-#[cfg(test)]
-mod tests;
 
 pub use heap::HeapReady;
 use pfair_order::Key;

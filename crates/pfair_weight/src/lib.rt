@@ -20,6 +20,3 @@ pub use name::{NameFault, TaskName};
 pub use stepper::Stepper;
 pub use weight::{Weight, WeightFault};
 pub use window::{MAX_INDEX, MAX_OFFSET, b_bit, deadline, group_deadline, release, starts_job};
-
-#[cfg(test)]
-mod tests;

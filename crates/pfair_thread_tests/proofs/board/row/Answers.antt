@@ -1,7 +1,7 @@
 use Rattle.std.proofs.Common.{◌≡◌, refl, ap, arith, rules, length, vec_len}
 use Rattle.std.proofs.lemmas.Option.{slice_get_read}
 use Rattle.pfair_desk.specs.Desks.{DeskState}
-use Rattle.pfair_board.proofs.thread_tests.row.Goals as goal
+use Rattle.pfair_thread_tests.proofs.board.row.Goals as goal
 
 pub returns : goal.returns
 returns c =

@@ -1,6 +1,6 @@
 //! Worked joins with ample memory.
 
-use super::*;
+use pfair_lattice::{Flat, Join, JoinMap};
 use std::alloc::{AllocError, Global};
 use std::process::Abort;
 use std::test::Fail;

@@ -2,8 +2,8 @@
 
 ghost use Rattle.std.specs.Prelude.{◌≡◌, ◌≤◌, OnOk};
 
-use crate::{HeapReady, PlainReady, Ready};
 use pfair_order::Key;
+use pfair_ready::{HeapReady, PlainReady, Ready};
 use pfair_weight::TaskName;
 use std::alloc::Global;
 use std::process::Abort;

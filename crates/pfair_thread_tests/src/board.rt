@@ -2,8 +2,7 @@
 ghost use Rattle.std.specs.Prelude.{◌≡◌, ◌<◌, ◌≤◌, ◌+◌, IfOk, length};
 ghost use Rattle.pfair_desk.specs.Desks.{IsDeskOf};
 
-use crate::{Board, Desk, Gate, Hint, Hints, OpenGate, Run, RunFault, run_dispatchers, run_worker};
-use crossbeam_channel::Sender;
+use pfair_board::{Board, Desk, Gate, Hints, OpenGate, Run, RunFault, run_dispatchers, run_worker};
 use pfair_entry::{Announcement, Entry};
 use pfair_lattice::Flat;
 use pfair_ready::HeapReady;
@@ -425,46 +424,11 @@ fn a_worker_without_hints_reads_the_board(rt: HostRuntime) -> Result<(), Fail> {
     works_without_hints(&rt, rt.alloc(), &board, &mut row(&board, 1)?)
 }
 
-#[test]
-fn a_worker_tells_the_others_of_its_log(rt: HostRuntime) -> Result<(), Fail> {
-    let alloc = rt.alloc();
-    let board = Board::new(alloc, 2, 5)?;
-    let mut desk = row(&board, 0)?;
-    let mut all = Hints::all(alloc, 2)?;
-    let Hints { receiver, senders } = all.pop().expect(&rt, "hints");
-    drop(senders);
-    let hints = all.pop().expect(&rt, "hints");
-    let settings = Settings::new(2, 6, 6).expect(&rt, "settings");
-    let log = first_log(&rt);
-    let run = run_worker::<HeapReady, _>(
-        &rt, alloc, settings, &mut desk, &board, &log, hints, &OpenGate,
-    )?;
-    assert!(&rt; run.tables.is_empty());
-    for number in 1..6 {
-        let hint = receiver.recv(&rt).expect(&rt, "a hint");
-        assert!(&rt; hint.proc == 0 && hint.number == number);
-    }
-    assert!(&rt; receiver.recv(&rt).is_err());
-    Ok(())
-}
-
-// Sends a hint of each entry of the sample's second processor. Answers whether all went well.
-fn tell_of_all<P: Wait>(rt: &P, senders: &Vec<Sender<Hint, Global>>) -> bool {
-    for number in 1..6 {
-        let hint = Hint { proc: 1, number };
-        for sender in senders {
-            if sender.send(rt, hint).is_err() {
-                return false;
-            }
-        }
-    }
-    true
-}
-
-// Waits until some worker has come to the gate. Answers whether one came.
-fn some_comes(gate: &Counting) -> bool {
+// Waits until some worker has come to the gate for each of the sample's slots. Answers whether one
+// did.
+fn comes_for_each_slot(gate: &Counting) -> bool {
     for _ in 0..10_000_000 {
-        if gate.calls.load(Ordering::SeqCst) > 0 {
+        if gate.calls.load(Ordering::SeqCst) >= 6 {
             return true;
         }
         thread::yield_now();
@@ -472,19 +436,37 @@ fn some_comes(gate: &Counting) -> bool {
     false
 }
 
-// Publishes the log of the sample's second processor, sends a hint of each entry, and waits until
-// some worker has come to the gate. Answers whether one came.
+// Publishes the log of the sample's second processor, as its worker, which tells of each entry and
+// then comes to a shut gate, since its desk knows the other log. Then it waits until the first
+// worker has come to its own gate for each slot. As long as an end of the hints is held here, that
+// one doesn't know that no hint can come any more. Answers whether all that happened.
 fn tells_and_waits<P: Wait>(
     rt: &P,
+    alloc: Global,
     board: &Board,
-    mut desk: Desk,
+    desk: &mut Desk,
     log: &[Entry],
-    hints: Hints,
+    ends: (Hints, Hints),
     gate: &Counting,
 ) -> bool
-    requires { IsDeskOf desk board.now }
+    requires own { IsDeskOf desk.old board.now }
+    requires first { desk.old.next_number ≡ 1 }
+    requires room { length log.now ≤ board.now.capacity }
+    requires processors { board.now.processors ≡ 2 }
 {
-    publish_all(board, &mut desk, log) && tell_of_all(rt, &hints.senders) && some_comes(gate)
+    let (hints, held) = ends;
+    let settings = Settings::new(2, 6, 6);
+    let came = match settings {
+        Some(settings) => {
+            let run = run_worker::<HeapReady, _>(
+                rt, alloc, settings, desk, board, log, hints, &ShutGate,
+            );
+            matches!(run, Err(RunFault::GateGaveUp)) && comes_for_each_slot(gate)
+        }
+        None => false,
+    };
+    drop(held);
+    came
 }
 
 // Whether a worker of the sample works out its tables on a board.
@@ -512,7 +494,15 @@ fn works_with_hints<P: Wait>(
     }
 }
 
-// One worker of the sample works, and beside it a thread publishes the other's log and waits.
+// The hints of the sample's workers, and beside those of the second worker an end that tells nothing.
+fn hints_and_an_end(rt: &impl Abort, alloc: Global) -> Result<(Hints, (Hints, Hints)), AllocError> {
+    let mut all = Hints::all(alloc, 3)?;
+    let held = all.pop().expect(rt, "hints");
+    let second = all.pop().expect(rt, "hints");
+    Ok((all.pop().expect(rt, "hints"), (second, held)))
+}
+
+// One worker of the sample works, and beside it the other one tells of its log and waits.
 fn plans_what_hints_tell<P: Threads + Wait + Abort + Sync>(
     rt: &P,
     alloc: Global,
@@ -523,7 +513,7 @@ fn plans_what_hints_tell<P: Threads + Wait + Abort + Sync>(
     requires capacity { board.now.capacity ≡ 5 }
 {
     let (first, second) = two_desks(board)?;
-    let (mine, others) = two_hints(rt, alloc)?;
+    let (mine, others) = hints_and_an_end(rt, alloc)?;
     let logs = (first_log(rt), second_log(rt));
     let (left, right) = (&logs.0, &logs.1);
     let (worked, came) = thread::join(
@@ -532,8 +522,12 @@ fn plans_what_hints_tell<P: Threads + Wait + Abort + Sync>(
             requires { IsDeskOf first board.now × (first.next_number ≡ 1) × (board.now.capacity ≡ 5) × (board.now.processors ≡ 2) }
         { works_with_hints(rt, alloc, board, first, left, mine, gate) },
         move || -> bool
-            requires { IsDeskOf second board.now }
-        { tells_and_waits(rt, board, second, right, others, gate) },
+            requires { IsDeskOf second board.now × (second.next_number ≡ 1) × (board.now.capacity ≡ 5) × (board.now.processors ≡ 2) }
+        {
+            let mut desk = second;
+            desk.refresh(board).is_ok()
+                && tells_and_waits(rt, alloc, board, &mut desk, right, others, gate)
+        },
     );
     assert!(rt; worked && came);
     Ok(())
@@ -542,6 +536,7 @@ fn plans_what_hints_tell<P: Threads + Wait + Abort + Sync>(
 #[test]
 fn hints_are_planned_before_the_last_refresh(rt: HostRuntime) -> Result<(), Fail> {
     let board = Board::new(rt.alloc(), 2, 5)?;
+    publish_first_log(&rt, &board)?;
     let gate = Counting {
         calls: AtomicU64::new(0),
     };

@@ -3,9 +3,9 @@
 ghost use Rattle.std.specs.Prelude.{◌≡◌, ◌<◌};
 ghost use Rattle.pfair_replica.specs.HeldRows.{IsShape};
 
-use crate::{Agenda, EntryKey, MergeFault, Replica, TakeFault, Taken};
 use pfair_entry::{Announcement, Entry};
 use pfair_lattice::Flat;
+use pfair_replica::{Agenda, EntryKey, MergeFault, Replica, TakeFault, Taken};
 use pfair_weight::TaskName;
 use std::alloc::{AllocError, Global};
 use std::process::Abort;

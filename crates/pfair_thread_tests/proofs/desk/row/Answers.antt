@@ -1,6 +1,6 @@
 use Rattle.std.proofs.Common.{◌≡◌, refl, arith, rules, length, vec_len}
 use Rattle.std.proofs.lemmas.Option.{slice_get_read}
-use Rattle.pfair_desk.proofs.tests.row.Goals as goal
+use Rattle.pfair_thread_tests.proofs.desk.row.Goals as goal
 
 pub returns : goal.returns
 returns c =

@@ -4,7 +4,7 @@ ghost use Rattle.std.specs.Prelude.{◌<◌, IfOk};
 ghost use Rattle.std.specs.List.{AllByRecursion};
 ghost use Rattle.pfair_entry.specs.Entry.{IsWithinLimits};
 
-use crate::{Decision, Members, Refusal};
+use pfair_admission::{Decision, Members, Refusal};
 use pfair_entry::{Announcement, Said};
 use pfair_weight::{TaskName, Weight};
 use std::alloc::{AllocError, Global};

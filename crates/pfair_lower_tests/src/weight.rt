@@ -1,7 +1,7 @@
 //! Worked windows, weights and names, and the group deadline beside its form in the textbooks.
 ghost use Rattle.std.specs.Prelude.{◌≤◌, ◌<◌};
 
-use crate::{Stepper, TaskName, Weight, b_bit, deadline, group_deadline, release};
+use pfair_weight::{Stepper, TaskName, Weight, b_bit, deadline, group_deadline, release};
 use std::collections::HashSet;
 use std::test::Fail;
 

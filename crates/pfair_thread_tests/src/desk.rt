@@ -2,7 +2,7 @@
 ghost use Rattle.std.specs.Prelude.{◌<◌, IfOk};
 ghost use Rattle.pfair_desk.specs.Desks.{IsDeskOf};
 
-use crate::{Board, Desk, LookFault, PublishFault};
+use pfair_desk::{Board, Desk, LookFault, PublishFault};
 use pfair_entry::Entry;
 use pfair_lattice::Flat;
 use std::alloc::AllocError;

@@ -1,6 +1,6 @@
 //! Worked rows of the order and of keys.
 
-use crate::Key;
+use pfair_order::Key;
 use pfair_weight::{TaskName, Weight};
 use std::cmp::Ordering;
 use std::process::Abort;

@@ -1,5 +1,5 @@
 //! Worked entries and logs, the texts of the faults, and that entries are exact contents.
-use crate::{Announcement, Entry, EntryFault, NoteFault, Writer};
+use pfair_entry::{Announcement, Entry, EntryFault, NoteFault, Writer};
 use pfair_lattice::{Exact, Flat, Join};
 use pfair_weight::{TaskName, Weight};
 use std::test::Fail;

@@ -1,0 +1,20 @@
+//! Worked rows of the crates below the tables: windows and weights, the order, joins, entries,
+//! replicas, members and ready structures.
+//!
+//! Each module tests one crate through its public calls.
+#![tactic(auto)]
+
+#[cfg(test)]
+mod admission;
+#[cfg(test)]
+mod entry;
+#[cfg(test)]
+mod lattice;
+#[cfg(test)]
+mod order;
+#[cfg(test)]
+mod ready;
+#[cfg(test)]
+mod replica;
+#[cfg(test)]
+mod weight;
