@@ -4,13 +4,9 @@
 
 mod fault;
 mod given;
-#[cfg(test)]
-mod given_tests;
 mod line;
 mod memory;
 mod schedule;
-#[cfg(test)]
-mod tests;
 
 pub use fault::ScheduleFault;
 pub use given::given_words;

@@ -12,6 +12,3 @@ mod write;
 pub use fault::RowFault;
 pub use read::{LONGEST_ROW, read_row};
 pub use write::{add_entry, add_header, row_of};
-
-#[cfg(test)]
-mod tests;

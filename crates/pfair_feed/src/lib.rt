@@ -7,8 +7,6 @@ mod fault;
 mod input;
 pub mod laws;
 mod line;
-#[cfg(test)]
-mod tests;
 
 pub use complaint::{tell_missing, tell_refused};
 pub use entries::entries_of;

@@ -19,6 +19,3 @@ pub(crate) mod tables;
 pub use document::read_file;
 pub use fault::{EntryCause, FileFault};
 pub use field::Field;
-
-#[cfg(test)]
-mod tests;

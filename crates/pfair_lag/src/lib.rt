@@ -15,8 +15,6 @@ mod deadlines;
 mod fault;
 mod lag;
 pub mod laws;
-#[cfg(test)]
-mod tests;
 mod windows;
 
 pub use book::LagBook;

@@ -4,8 +4,6 @@
 mod decisions;
 mod lags;
 mod replay;
-#[cfg(test)]
-mod tests;
 
 pub use decisions::{add_decisions_from, add_decisions_header, decisions_of};
 pub use lags::{add_lags_from, add_lags_header, lags_of, tell_all, tell_slots};

@@ -7,8 +7,6 @@ mod follower;
 pub mod laws;
 mod output;
 mod planning;
-#[cfg(test)]
-mod tests;
 
 pub use fault::FollowFault;
 pub use follower::Follower;

@@ -5,8 +5,6 @@
 mod input;
 mod output;
 mod rows;
-#[cfg(test)]
-mod tests;
 
 pub use input::{LONGEST_FILE, ReadFault, read_bytes};
 pub use output::{WriteFailed, send};

@@ -1,7 +1,7 @@
 //! That memory suffices for each text, on a run of one task that may run ahead of its windows.
 
-use crate::{decisions_of, lags_of, placed_replay_of, replay_of};
 use pfair_entry::{Announcement, Entry};
+use pfair_output::{decisions_of, lags_of, placed_replay_of, replay_of};
 use pfair_ready::{HeapReady, Ready};
 use pfair_table::{Dispatcher, Run, Script, Settings, run_script};
 use pfair_weight::{TaskName, Weight};

@@ -1,10 +1,10 @@
 //! What no contract says: that memory suffices, that rows are flushed at once, and the rows of runs
 //! that were worked out by hand.
 
-use crate::{FollowFault, Follower, Output};
 use pfair_entry::{Announcement, Entry};
 use pfair_ready::HeapReady;
 use pfair_replica::Taken;
+use pfair_stream::{FollowFault, Follower, Output};
 use pfair_table::Settings;
 use pfair_weight::{TaskName, Weight};
 use std::alloc::Global;

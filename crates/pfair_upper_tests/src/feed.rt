@@ -3,9 +3,9 @@
 
 ghost use Rattle.pfair_feed.specs.Feeding.{IsCaughtUp};
 
-use crate::{FeedFault, entries_of, follow, tell_missing};
 use pfair_entry::{Announcement, Entry};
 use pfair_entry_row::RowFault;
+use pfair_feed::{FeedFault, entries_of, follow, tell_missing};
 use pfair_ready::HeapReady;
 use pfair_stream::{FollowFault, Follower, Output};
 use pfair_table::{Script, Settings};

@@ -1,6 +1,6 @@
 //! Worked rows of schedules and of the book.
 
-use crate::{
+use pfair_lag::{
     LagBook, Miss, first_late, first_miss, in_windows, lag_below, lag_within, meets_deadlines,
 };
 use pfair_table::Pick;

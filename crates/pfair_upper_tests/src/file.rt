@@ -1,6 +1,6 @@
 //! What no clause says: that memory suffices, and the texts of the faults. The sample file has each
 //! kind of entry.
-use crate::{FileFault, read_file};
+use pfair_file::{FileFault, read_file};
 use std::alloc::{AllocError, Global};
 use std::process::Abort;
 use std::test::Fail;

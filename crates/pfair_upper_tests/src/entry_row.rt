@@ -1,6 +1,6 @@
 //! Rows and entries, side by side, and what is no row or is refused.
-use crate::{RowFault, add_entry, add_header, read_row, row_of};
 use pfair_entry::{Announcement, Entry, EntryFault};
+use pfair_entry_row::{RowFault, add_entry, add_header, read_row, row_of};
 use pfair_text::{finish, new_text};
 use pfair_weight::{NameFault, TaskName, Weight, WeightFault};
 use std::alloc::Global;

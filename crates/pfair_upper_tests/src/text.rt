@@ -1,6 +1,8 @@
 //! What no contract says: that memory suffices, and what a writer is asked for.
 
-use crate::{LONGEST_FILE, ReadFault, WriteFailed, add_row, finish, new_text, read_bytes, send};
+use pfair_text::{
+    LONGEST_FILE, ReadFault, WriteFailed, add_row, finish, new_text, read_bytes, send,
+};
 use std::io;
 use std::io::{Read, Write};
 use std::test::Fail;
