@@ -369,7 +369,8 @@ struct pfair_step {
  *   0    the step is written
  * Cost: the number of processors, what is announced for the slot, the logarithm of the number of tasks for each quantum,
  * and what was taken since the last plan; not the entries held. Every 1,024 slots a block of some 72 KB is asked of
- * malloc for what is planned next, and nothing of what was planned is copied.
+ * malloc for what is planned next, and nothing of what was planned is copied. After pfair_reserve a slot at which nothing
+ * is announced asks malloc for nothing.
  */
 uint32_t pfair_plan_next(struct pfair_dispatcher *d, struct pfair_step *step);
 
@@ -384,6 +385,17 @@ uint32_t pfair_plan_next(struct pfair_dispatcher *d, struct pfair_step *step);
  * Cost: what the plans of the slots cost.
  */
 uint32_t pfair_plan_to(struct pfair_dispatcher *d, uint64_t until, struct pfair_step *step);
+
+/*
+ * Takes the memory that the next `slots` slots want, or all that are left of the run where these are fewer: for their
+ * tables and places, and for the tasks that wait. Until these are planned, the plan of a slot asks malloc for something
+ * only where something is announced at the slot, or where entries were taken since the slot before.
+ *   102  the handle has no dispatcher
+ *   90   memory was refused: what is held and what was planned stand, plans go on, and what was taken is used by them
+ *   0    the memory is there
+ * Cost: for each slot for which there is no memory yet 25 bytes for each processor, and some 120 for the slot.
+ */
+uint32_t pfair_reserve(struct pfair_dispatcher *d, uint64_t slots);
 
 /*
  * After memory was refused to a plan, makes anew what plans need.

@@ -148,6 +148,23 @@ def test_any_order_and_repeats():
         assert sorted(one.places(3)) == sorted(set(one.places(3)))
 
 
+def test_memory_ahead():
+    script = drawn(2)
+    whole = pfair.schedule(script)
+    with pfair.Dispatcher(4, script.frame, script.slots, 16) as one:
+        for processor in range(4):
+            one.take_log(processor, script.closed(processor))
+        one.plan(1)
+        one.reserve(2**64 - 1)
+        assert one.planned == 1
+        one.plan()
+        one.reserve(0)
+        assert (one.quanta() == whole.quanta).all()
+        for slots, refused in ((-1, pfair.OutOfRange), (2**64, pfair.OutOfRange), (1.5, TypeError)):
+            with pytest.raises(refused):
+                one.reserve(slots)
+
+
 def test_what_is_held():
     with pfair.Dispatcher(2, 6, 6, 8) as one:
         assert (one.processors, one.frame, one.slots, one.capacity) == (2, 6, 6, 8)

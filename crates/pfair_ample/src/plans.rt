@@ -52,7 +52,7 @@ fn plans<R: Ready>(
     Ok(())
 }
 
-// After 1,000 slots the dispatcher is made anew, keeps its tables, and goes on.
+// After 1,000 slots the dispatcher is made anew, keeps its tables, takes memory ahead, and goes on.
 fn goes_on<R: Ready>(
     rt: &impl Abort,
     dispatcher: &mut Dispatcher<R>,
@@ -62,6 +62,7 @@ fn goes_on<R: Ready>(
     plans(rt, dispatcher, 1000)?;
     dispatcher.reopen()?;
     assert_eq!(rt; dispatcher.next_slot(), 1000);
+    dispatcher.reserve(1500)?;
     plans(rt, dispatcher, 2000)?;
     let none: [Pick; 0] = [];
     for (slot, index) in SLOTS {

@@ -7,7 +7,7 @@ ghost use Rattle.pfair_handle.specs.Behind.{Of, Between};
 ghost use Rattle.pfair_c.specs.Answers.{IsPlannedTo, IsRefusedTo, torn_at};
 
 use pfair_handle::Handle;
-use pfair_handle::answer::{DONE, NOT_OPEN};
+use pfair_handle::answer::{DONE, MEMORY, NOT_OPEN};
 use pfair_table::{PlanFault, Step};
 use std::alloc::Global;
 
@@ -83,6 +83,29 @@ pub(crate) fn step_of(kind: u64, slot: u64) -> PfairStep
         slot,
         processor: 0,
         number: 0,
+    }
+}
+
+/// Takes the room that so many further slots want, as
+/// [`Dispatcher::reserve`](pfair_table::Dispatcher::reserve), and costs what that costs.
+///
+/// It answers 0; 102 where the handle has no dispatcher; or 90. Whatever it answers, what is held
+/// and what was planned is as before.
+#[unsafe(no_mangle)]
+pub extern "C" fn pfair_reserve(alloc: Global, handle: &mut Handle, slots: u64) -> u32
+    ensures closed { handle.old.owner.kept ≡ None → result ≡ 102 }
+    ensures only { (result ≡ 0 → ⊥) → (result ≡ 90 → ⊥) → (result ≡ 102) × (handle.old.owner.kept ≡ None) }
+    ensures unchanged { handle.new.owner.kept ≡ handle.old.owner.kept }
+{
+    if !handle.is_open() {
+        return NOT_OPEN;
+    }
+    let mut served = handle.take(alloc);
+    let answer = served.dispatcher.reserve(slots);
+    handle.put(served);
+    match answer {
+        Ok(()) => DONE,
+        Err(_) => MEMORY,
     }
 }
 

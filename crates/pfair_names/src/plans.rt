@@ -54,8 +54,11 @@ fn gives_the_first<R: Ready>(rt: &impl Abort, ready: &mut R, key: Key) -> Result
     assert!(rt; ready.insert(1, key)?);
     assert!(rt; ready.held(&key.name) == Some((1, key)));
     assert!(rt; ready.now() <= 1);
-    assert!(rt; ready.take_first(1, 2)?.as_slice() == [key].as_slice());
+    ready.reserve()?;
+    let first = ready.take_first(1, 2)?;
+    assert!(rt; first.as_slice() == [key].as_slice());
     assert!(rt; ready.now() == 1 && !ready.remove(&key.name));
+    assert!(rt; ready.take_first_into(2, 2, first)?.is_empty());
     Ok(())
 }
 
@@ -110,6 +113,7 @@ fn arrival(alloc: Global, name: TaskName, other: Replica) -> Result<Vec<Event>, 
 // What a dispatcher of one processor and three slots answers once one is planned.
 fn plans_on<R: Ready>(rt: &impl Abort, dispatcher: &mut Dispatcher<R>) -> Result<(), Fail> {
     assert_eq!(rt; dispatcher.next_slot(), 1);
+    dispatcher.reserve(2)?;
     assert_eq!(rt; dispatcher.plan_next()?, Step::Planned(1));
     dispatcher.reopen()?;
     let nothing: [Pick; 0] = [];

@@ -4,7 +4,7 @@
 //! nothing. A name is looked for at most once for each key that is inserted; from then on the key
 //! goes by the place of its name.
 
-ghost use Rattle.std.specs.Prelude.{◌≡◌, ◌<◌, ℕ, OnOk, IfSome, IfNone, All, Contains, Some, false, slice_get};
+ghost use Rattle.std.specs.Prelude.{◌≡◌, ◌≤◌, ◌<◌, ℕ, [], IfOk, OnOk, IfSome, IfNone, All, Contains, Some, false, slice_get, vec_capacity};
 ghost use Rattle.std.specs.declared.cmp.Reverse.{Reverse};
 ghost use Rattle.std.specs.BinaryHeap.{heap_items, IsHeap};
 ghost use Rattle.pfair_order.specs.declared.Key.{Key};
@@ -38,6 +38,14 @@ use std::marker::Model;
 /// - `take_first`: a number of steps that grows with the logarithm of n for each key that it gives,
 ///   for each whose date has come since the last selection, and twice at most for each that was
 ///   removed. So a slot costs no more for tasks whose next subtask is not released.
+///
+/// - `take_first_into`: the same, and no memory where the list has room for the keys that it gives
+///   and `reserve` was called after the last `insert` of a key whose name had none before.
+/// - `reserve`: mostly nothing; else what is held is moved to where it has room.
+///
+/// Each key that is held has one date in the calendar or one copy in the heap, and a key goes from
+/// the first to the second and, where its task waits again, back. So once each has room for what
+/// both have, neither grows before there are more keys.
 ///
 /// A name that was once inserted keeps its place, so the memory grows with the number of different
 /// names.
@@ -115,10 +123,19 @@ impl Ready for HeapReady {
     }
 
     fn take_first(&mut self, slot: u64, m: usize) -> Result<Vec<Key>, AllocError> {
+        self.take_first_into(slot, m, Vec::new(self.alloc))
+    }
+
+    fn take_first_into(
+        &mut self,
+        slot: u64,
+        m: usize,
+        room: Vec<Key>,
+    ) -> Result<Vec<Key>, AllocError> {
         self.now = slot;
         self.guesses.clear();
         move_released(&self.slots, &mut self.calendar, &mut self.released, slot)?;
-        let mut first = Vec::with_capacity(self.alloc, m.min(self.released.len()))?;
+        let mut first = emptied(room, m.min(self.released.len()))?;
         'turns: while first.len() < m {
             let Some(Reverse(turn)) = self.released.pop() else {
                 break;
@@ -131,6 +148,22 @@ impl Ready for HeapReady {
         }
         Ok(first)
     }
+
+    fn reserve(&mut self) -> Result<(), AllocError> {
+        self.calendar.reserve(self.released.len())?;
+        self.released.reserve(self.calendar.len())?;
+        Ok(())
+    }
+}
+
+// The list without what it has, with room for so many keys.
+fn emptied(mut list: Vec<Key>, count: usize) -> Result<Vec<Key>, AllocError>
+    ensures items { IfOk result (λ first. first.items ≡ []) }
+    ensures capacity { IfOk result (λ first. count ≤ vec_capacity first) }
+{
+    list.clear();
+    list.reserve(count)?;
+    Ok(list)
 }
 
 // The key of a turn, which its slot holds no more, where it is due.

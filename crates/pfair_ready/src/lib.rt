@@ -93,4 +93,34 @@ pub trait Ready: Drop {
         ensures removed { IfOk result (λ first.
             held self.new ≡ without first.items (held self.old)) }
         ensures err { OnErr result (held self.new ≡ held self.old) };
+
+    /// As [`Ready::take_first`], with the keys in the list that is handed in, whose content goes and
+    /// whose room is used: it grows only where that is too small.
+    ///
+    /// # Errors
+    ///
+    /// As of [`Ready::take_first`]. The list is then gone.
+    fn take_first_into(
+        &mut self,
+        slot: u64,
+        m: usize,
+        room: Vec<Key>,
+    ) -> Result<Vec<Key>, AllocError>
+        requires { now self.old ≤ slot }
+        ensures time { now self.new ≡ slot }
+        ensures first { IfOk result (λ first.
+            first.items ≡ first_by_rank pd2_cmp m (released slot (held self.old))) }
+        ensures removed { IfOk result (λ first.
+            held self.new ≡ without first.items (held self.old)) }
+        ensures err { OnErr result (held self.new ≡ held self.old) };
+
+    /// Takes the room that what is held wants until it is selected, so that no call takes memory
+    /// for it later. [`HeapReady`] and [`PlainReady`] say how far that reaches.
+    ///
+    /// # Errors
+    ///
+    /// `AllocError` where a growth was refused.
+    fn reserve(&mut self) -> Result<(), AllocError>
+        ensures time { now self.new ≡ now self.old }
+        ensures content { held self.new ≡ held self.old };
 }

@@ -27,8 +27,9 @@ struct Waiting {
 /// A ready structure that is one list.
 ///
 /// `new` and `now` cost the same always. `held`, `insert` and `remove` look through all that is
-/// held, and so many steps they take. `take_first` looks through it as well, and takes up to m
-/// steps for each key that is held.
+/// held, and so many steps they take. `take_first` and `take_first_into` look through it as well,
+/// and take up to m steps for each key that is held; both make lists anew, so that `reserve` does
+/// nothing.
 #[derive(Drop)]
 pub struct PlainReady {
     alloc: Global,
@@ -87,11 +88,24 @@ impl Ready for PlainReady {
     }
 
     fn take_first(&mut self, slot: u64, m: usize) -> Result<Vec<Key>, AllocError> {
+        self.take_first_into(slot, m, Vec::new(self.alloc))
+    }
+
+    fn take_first_into(
+        &mut self,
+        slot: u64,
+        m: usize,
+        _room: Vec<Key>,
+    ) -> Result<Vec<Key>, AllocError> {
         self.now = slot;
         let released = released_keys(self.alloc, &self.waiting, slot)?;
         let first = listed(self.alloc, least_keys(self.alloc, &released, m)?)?;
         keep_others(&mut self.waiting, &first);
         Ok(first)
+    }
+
+    fn reserve(&mut self) -> Result<(), AllocError> {
+        Ok(())
     }
 }
 

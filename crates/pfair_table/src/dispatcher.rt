@@ -264,6 +264,31 @@ impl<R: Ready> Dispatcher<R> {
         }
     }
 
+    /// Takes the room that so many further slots want, or all slots that are left where these are
+    /// fewer: for their tables and places, and for the tasks that wait. Until these are planned, a
+    /// plan of a slot wants memory only where something is said at the slot, or where entries came
+    /// since the slot before. It holds for a dispatcher over [`HeapReady`](pfair_ready::HeapReady);
+    /// [`PlainReady`](pfair_ready::PlainReady) takes memory in each slot.
+    ///
+    /// It costs the slots for which there is no room yet: 25 bytes for each of them and of the
+    /// processors, and some 120 for each slot.
+    ///
+    /// # Errors
+    /// `AllocError` where memory was wanted and refused. Here too all is as before; the room that was
+    /// taken is used later.
+    pub fn reserve(&mut self, slots: u64) -> Result<(), AllocError>
+        ensures { self.new ≡ self.old }
+    {
+        let left = self
+            .settings
+            .slots()
+            .saturating_sub(self.planned.len() as u64);
+        let processors = self.settings.processors();
+        self.planner.reserve(processors)?;
+        self.planned
+            .reserve(slots.min(left) as usize, processors as usize)
+    }
+
     /// Makes all but the replica and what was planned anew from these two, after which plans go on
     /// as if no memory had been wanted. It costs what the plans of all slots so far cost.
     ///
@@ -314,8 +339,9 @@ fn plan_onto<R: Ready>(
     ensures readings { AreReadingsOf (replica_of replica.now) planner.new.readings.by_processor.items }
 {
     let slot = planned.len() as u64;
-    let next = planner.plan(settings, replica, slot)?;
-    let places = next_places(planner.alloc, planned, &next.table)?;
+    let room = planned.take_room();
+    let next = planner.plan(settings, replica, slot, room.table)?;
+    let places = next_places(planned, &next.table, &mut planner.kept, room.places)?;
     planned.push(next.table, places, next.decided)?;
     Ok(())
 }

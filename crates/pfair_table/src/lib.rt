@@ -18,6 +18,7 @@ mod places;
 mod planned;
 mod planner;
 mod readings;
+mod room;
 mod run;
 mod script;
 mod settings;

@@ -3,6 +3,7 @@
 ghost use Rattle.std.specs.Prelude.{◌≡◌, ◌<◌, ◌≤◌, ◌-◌, ◌++◌, ◌∷◌, [], IfOk, OnOk, OnErr, length, slice_get};
 ghost use Rattle.std.specs.Option.{option_copied};
 
+use crate::room::emptied;
 use std::alloc::{AllocError, Global};
 use std::marker::Model;
 use std::mem;
@@ -24,6 +25,8 @@ pub(crate) struct Pieces<T: Drop> {
     alloc: Global,
     full: Vec<Vec<T>>,
     current: Vec<T>,
+    // pieces that are taken where one is full, each with room
+    spare: Vec<Vec<T>>,
 }
 
 impl<T: Drop> Model for Pieces<T> {
@@ -46,6 +49,7 @@ impl<T: Drop> Pieces<T> {
             alloc,
             full: Vec::new(alloc),
             current: Vec::new(alloc),
+            spare: Vec::new(alloc),
         }
     }
 
@@ -90,12 +94,25 @@ impl<T: Drop> Pieces<T> {
         if self.full.len() >= MOST_PIECES {
             return Err(AllocError);
         }
-        let more = PIECES_AT_FIRST.saturating_sub(self.full.len()).max(1);
-        self.full.reserve(more)?;
-        let next = piece_of(self.alloc, value)?;
+        self.full.reserve(pieces_wanted(&self.full))?;
+        let mut next = take_piece(self.alloc, &mut self.spare)?;
+        next.push(value)?;
         let full = mem::replace(&mut self.current, next);
         self.full.push_reserved(full);
         Ok(())
+    }
+
+    /// Takes room for so many further elements, so that pushing them takes no memory where they are
+    /// no more than a list of 1,024 pieces has.
+    ///
+    /// # Errors
+    /// `AllocError` where memory was wanted and refused.
+    pub(crate) fn reserve(&mut self, more: usize) -> Result<(), AllocError>
+        ensures { self.new ≡ self.old }
+    {
+        self.current.reserve(PIECE - self.current.len())?;
+        self.full.reserve(pieces_wanted(&self.full))?;
+        add_pieces(self.alloc, &mut self.spare, more / PIECE + 1)
     }
 
     /// The elements as one list. It costs their number: each is moved.
@@ -115,11 +132,31 @@ impl<T: Drop> Pieces<T> {
     }
 }
 
-// A piece with its first element, and room for all others.
-fn piece_of<T: Drop>(alloc: Global, first: T) -> Result<Vec<T>, AllocError>
-    ensures { IfOk result (λ piece. piece.items ≡ first ∷ []) }
+// Makes so many pieces of those without elements, each with room.
+fn add_pieces<T: Drop>(
+    alloc: Global,
+    spare: &mut Vec<Vec<T>>,
+    pieces: usize,
+) -> Result<(), AllocError> {
+    for _ in spare.len()..pieces {
+        spare.push(Vec::with_capacity(alloc, PIECE)?)?;
+    }
+    Ok(())
+}
+
+// A piece without elements, with room: one of those that there are, or a new one.
+fn take_piece<T: Drop>(alloc: Global, spare: &mut Vec<Vec<T>>) -> Result<Vec<T>, AllocError>
+    ensures { IfOk result (λ piece. piece.items ≡ []) }
 {
-    let mut piece = Vec::with_capacity(alloc, PIECE)?;
-    piece.push(first)?;
-    Ok(piece)
+    match spare.pop() {
+        Some(piece) => emptied(piece, PIECE),
+        None => Vec::with_capacity(alloc, PIECE),
+    }
+}
+
+// For how many further pieces their list has to have room: all that there ever are at first, and one.
+fn pieces_wanted<T>(full: &[Vec<T>]) -> usize
+    ensures { 1 ≤ result }
+{
+    PIECES_AT_FIRST.saturating_sub(full.len()).max(1)
 }

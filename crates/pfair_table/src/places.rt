@@ -1,73 +1,117 @@
 //! Places: which processor runs each row of a table, where a task that goes on running stays where
 //! it is.
 
-ghost use Rattle.std.specs.Prelude.{ℕ, ◌≡◌, ◌≤◌, ◌<◌, ◌+◌, ◌^◌, ◌++◌, ◌∷◌, [], List, IfOk, length};
+ghost use Rattle.std.specs.Prelude.{ℕ, ◌≡◌, ◌≤◌, ◌<◌, ◌+◌, ◌^◌, ◌++◌, ◌∷◌, [], List, IfOk, OnOk, length};
 ghost use Rattle.std.specs.List.{AllByRecursion};
 ghost use Rattle.pfair_table.specs.Places.{kept_places, all_kept, free_place, filled, places_after, places_of};
 ghost use Rattle.pfair_table.specs.PlaceLaws.{IsFit};
 ghost use Rattle.pfair_table.specs.PlacesInUse.{AreInUse};
 
-use crate::buckets::Buckets;
+use crate::buckets::{Buckets, find_place};
 use crate::pick::Pick;
 use crate::planned::Planned;
+use crate::room::emptied;
 use crate::settings::Settings;
-use std::alloc::{AllocError, Global};
+use std::alloc::AllocError;
 
-/// The places of the table that comes after the slots so far.
+// The most rows of a table that are gone through for each task: with more, buckets cost less.
+const FEW_ROWS: usize = 4;
+
+/// The places of the table that comes after the slots so far. They use the room of a list, and what
+/// the rows keep that of another one, which is kept.
 pub(crate) fn next_places(
-    alloc: Global,
     planned: &Planned,
     table: &[Pick],
+    kept: &mut Vec<Option<u8>>,
+    room: Vec<u8>,
 ) -> Result<Vec<u8>, AllocError>
     requires fit { AllByRecursion (IsFit Settings.MAX_PROCESSORS) planned.now.tables }
     requires rows { length table.now ≤ Settings.MAX_PROCESSORS }
     ensures { IfOk result (λ places. places_of (planned.now.tables ++ table.now ∷ []) ≡ places_of planned.now.tables ++ places.items ∷ []) }
 {
-    places_beside(alloc, planned.last_table(), planned.last_places(), table)
+    let before = planned.last_table();
+    let places = planned.last_places();
+    places_beside(before, places, table, kept, room)
 }
 
 // The places of a table, where the one before it has those places.
 fn places_beside(
-    alloc: Global,
     before: &[Pick],
     places: &[u8],
     table: &[Pick],
+    kept: &mut Vec<Option<u8>>,
+    room: Vec<u8>,
 ) -> Result<Vec<u8>, AllocError>
     requires before { IsFit Settings.MAX_PROCESSORS before.now }
     requires below { AllByRecursion (λ k. k < 64) places.now }
     requires rows { length table.now ≤ Settings.MAX_PROCESSORS }
     ensures { IfOk result (λ here. here.items ≡ places_after before.now places.now table.now) }
 {
-    let kept = keep_places(alloc, before, places, table)?;
-    fill_places(alloc, &kept)
+    keep_places(before, places, table, kept)?;
+    fill_places(kept, room)
 }
 
 // Where each row stays: the place that its task had before.
 fn keep_places(
-    alloc: Global,
     before: &[Pick],
     places: &[u8],
     table: &[Pick],
-) -> Result<Vec<Option<u8>>, AllocError>
+    kept: &mut Vec<Option<u8>>,
+) -> Result<(), AllocError>
     requires { IsFit Settings.MAX_PROCESSORS before.now }
-    ensures { IfOk result (λ kept. kept.items ≡ kept_places before.now places.now table.now) }
+    ensures { OnOk result (kept.new.items ≡ kept_places before.now places.now table.now) }
+{
+    kept.clear();
+    kept.reserve(table.len())?;
+    if before.len() <= FEW_ROWS {
+        keep_by_rows(before, places, table, kept)
+    } else {
+        keep_by_buckets(before, places, table, kept)
+    }
+}
+
+// The same, where each task is looked for in all rows of a short table.
+fn keep_by_rows(
+    before: &[Pick],
+    places: &[u8],
+    table: &[Pick],
+    kept: &mut Vec<Option<u8>>,
+) -> Result<(), AllocError>
+    requires { kept.old.items ≡ [] }
+    ensures { OnOk result (kept.new.items ≡ kept_places before.now places.now table.now) }
+{
+    for pick in table {
+        kept.push(find_place(before, places, &pick.name))?;
+    }
+    Ok(())
+}
+
+// The same, where the rows of a table are found by their buckets.
+fn keep_by_buckets(
+    before: &[Pick],
+    places: &[u8],
+    table: &[Pick],
+    kept: &mut Vec<Option<u8>>,
+) -> Result<(), AllocError>
+    requires fit { IsFit Settings.MAX_PROCESSORS before.now }
+    requires empty { kept.old.items ≡ [] }
+    ensures { OnOk result (kept.new.items ≡ kept_places before.now places.now table.now) }
 {
     let buckets = Buckets::of(before);
-    let mut kept = Vec::with_capacity(alloc, table.len())?;
     for pick in table {
         kept.push(buckets.place(before, places, &pick.name))?;
     }
-    Ok(kept)
+    Ok(())
 }
 
 // The kept places, and for each other row the least processor that is not in use.
-fn fill_places(alloc: Global, kept: &[Option<u8>]) -> Result<Vec<u8>, AllocError>
+fn fill_places(kept: &[Option<u8>], room: Vec<u8>) -> Result<Vec<u8>, AllocError>
     requires below { AllByRecursion (λ k. k < 64) (all_kept kept.now) }
     requires rows { length kept.now ≤ Settings.MAX_PROCESSORS }
     ensures { IfOk result (λ here. here.items ≡ filled (all_kept kept.now) kept.now) }
 {
     let mut in_use = use_kept(kept);
-    let mut places = Vec::with_capacity(alloc, kept.len())?;
+    let mut places = emptied(room, kept.len())?;
     for kept_place in kept {
         let place = match kept_place {
             Some(place) => *place,

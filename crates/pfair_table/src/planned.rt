@@ -7,6 +7,7 @@ ghost use Rattle.pfair_table.specs.Planned.{last_or, as_tables, as_places};
 
 use crate::pick::{Decided, Pick};
 use crate::pieces::Pieces;
+use crate::room::Room;
 use std::alloc::{AllocError, Global};
 use std::marker::Model;
 
@@ -32,6 +33,9 @@ struct PlannedSlot {
 #[derive(Drop)]
 pub(crate) struct Planned {
     slots: Pieces<PlannedSlot>,
+    // the room of slots that come, and what more of it is made from
+    rooms: Vec<Room>,
+    alloc: Global,
 }
 
 impl Model for Planned {
@@ -53,6 +57,8 @@ impl Planned {
     {
         Planned {
             slots: Pieces::new(alloc),
+            rooms: Vec::new(alloc),
+            alloc,
         }
     }
 
@@ -108,6 +114,27 @@ impl Planned {
         }
     }
 
+    /// Takes the room of so many further slots, of so many rows each.
+    ///
+    /// # Errors
+    /// `AllocError` where memory was wanted and refused.
+    pub(crate) fn reserve(&mut self, slots: usize, rows: usize) -> Result<(), AllocError>
+        ensures { self.new ≡ self.old }
+    {
+        self.slots.reserve(slots)?;
+        add_rooms(self.alloc, &mut self.rooms, slots, rows)
+    }
+
+    /// The room for the next slot: that which was taken for it, or none.
+    pub(crate) fn take_room(&mut self) -> Room
+        ensures { self.new ≡ self.old }
+    {
+        match self.rooms.pop() {
+            Some(room) => room,
+            None => Room::new(self.alloc),
+        }
+    }
+
     /// Adds the next slot.
     pub(crate) fn push(
         &mut self,
@@ -133,6 +160,19 @@ impl Planned {
     {
         run_of(self.slots.into_list()?)
     }
+}
+
+// Makes so many of the rooms, with so many rows each.
+fn add_rooms(
+    alloc: Global,
+    rooms: &mut Vec<Room>,
+    slots: usize,
+    rows: usize,
+) -> Result<(), AllocError> {
+    for _ in rooms.len()..slots {
+        rooms.push(Room::for_rows(alloc, rows)?)?;
+    }
+    Ok(())
 }
 
 // The tables and the places of some slots, each moved.

@@ -10,11 +10,13 @@ ghost use Rattle.pfair_table.specs.Table.{table, decisions};
 ghost use Rattle.pfair_table.specs.Readings.{AreReadingsOf};
 ghost use Rattle.pfair_table.specs.Refinement.{IsInStep};
 
+use crate::pick::Pick;
 use crate::readings::Readings;
 use crate::script::Script;
 use crate::settings::Settings;
 use crate::slot::{SlotPlan, plan_slot};
 use pfair_admission::Members;
+use pfair_order::Key;
 use pfair_ready::Ready;
 use pfair_replica::Replica;
 use std::alloc::{AllocError, Global};
@@ -22,10 +24,13 @@ use std::alloc::{AllocError, Global};
 /// What plans one slot of a replica after another.
 #[derive(Drop)]
 pub(crate) struct Planner<R: Ready> {
-    pub alloc: Global,
+    alloc: Global,
     readings: Readings,
     members: Members,
     ready: R,
+    // the room for the keys of a slot, and for what the rows of its table keep
+    keys: Vec<Key>,
+    pub kept: Vec<Option<u8>>,
 }
 
 impl<R: Ready> Planner<R> {
@@ -41,6 +46,8 @@ impl<R: Ready> Planner<R> {
             readings,
             members,
             ready: R::new(alloc),
+            keys: Vec::new(alloc),
+            kept: Vec::new(alloc),
         })
     }
 
@@ -51,12 +58,29 @@ impl<R: Ready> Planner<R> {
         &self.members
     }
 
-    /// Plans slot n of the replica, in step with the n slots before it.
+    /// Takes the room that slots of so many processors want whose boundary decides nothing.
+    ///
+    /// # Errors
+    /// `AllocError` where memory was wanted and refused.
+    pub(crate) fn reserve(&mut self, processors: u8) -> Result<(), AllocError>
+        ensures readings { self.new.readings ≡ self.old.readings }
+        ensures members { self.new.members ≡ self.old.members }
+        ensures time { R.now self.new.ready ≡ R.now self.old.ready }
+        ensures held { R.held self.new.ready ≡ R.held self.old.ready }
+    {
+        self.ready.reserve()?;
+        self.keys.reserve(processors as usize)?;
+        self.kept.reserve(processors as usize)
+    }
+
+    /// Plans slot n of the replica, in step with the n slots before it. The table uses the room of a
+    /// list.
     pub(crate) fn plan(
         &mut self,
         settings: Settings,
         replica: &Replica,
         slot: u64,
+        room: Vec<Pick>,
     ) -> Result<SlotPlan, AllocError>
         requires of { IsOf settings (replica_of replica.now) }
         requires untorn { Untorn (replica_of replica.now) }
@@ -72,12 +96,13 @@ impl<R: Ready> Planner<R> {
     {
         let announced = self.readings.heard(replica, slot)?;
         plan_slot(
-            self.alloc,
             &announced,
             &mut self.members,
             &mut self.ready,
             settings.processors(),
             slot,
+            &mut self.keys,
+            room,
         )
     }
 
@@ -98,8 +123,9 @@ impl<R: Ready> Planner<R> {
     {
         self.members = Members::new(self.alloc, settings.processors(), settings.frame());
         self.ready = R::new(self.alloc);
+        let mut room = Vec::new(self.alloc);
         for slot in 0..slots {
-            self.plan(settings, replica, slot)?;
+            room = self.plan(settings, replica, slot, room)?.table;
         }
         Ok(())
     }

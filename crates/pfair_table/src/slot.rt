@@ -13,12 +13,14 @@ ghost use Rattle.pfair_table.specs.Table.{with_decisions, eligible, pick, all_ra
 ghost use Rattle.pfair_table.specs.Queue.{IsQueue, IsQueueBut, IsQueueWithout, IsToldOf, IsSteady, MayRun};
 
 use crate::pick::{Decided, Pick};
+use crate::room::emptied;
 use pfair_admission::Members;
 use pfair_entry::{Entry, Said};
 use pfair_order::Key;
 use pfair_ready::Ready;
 use pfair_weight::TaskName;
 use std::alloc::{AllocError, Global};
+use std::mem;
 
 /// What the members and what is said give of a slot.
 #[derive(Drop)]
@@ -91,12 +93,13 @@ pub(crate) fn tell_ready<R: Ready>(
     Ok(())
 }
 
-/// Each of these keys has a quantum, and the next subtask of its task waits.
+/// Each of these keys has a quantum, and the next subtask of its task waits. The table uses the room
+/// of a list.
 pub(crate) fn run_each<R: Ready>(
-    alloc: Global,
     ready: &mut R,
     members: &mut Members,
     first: &[Key],
+    room: Vec<Pick>,
 ) -> Result<Vec<Pick>, AllocError>
     requires apart { NamesApart (λ k. k.name) first.now }
     requires running { (k : Key) → Among first.now k → MayRun members.old.members k }
@@ -106,7 +109,7 @@ pub(crate) fn run_each<R: Ready>(
     ensures queue { OnOk result (IsQueue members.new.members (R.held ready.new)) }
     ensures time { R.now ready.new ≡ R.now ready.old }
 {
-    let mut table = Vec::with_capacity(alloc, first.len())?;
+    let mut table = emptied(room, first.len())?;
     for key in first {
         let Some(quantum) = members.ran_on(&key.name) else {
             continue;
@@ -120,13 +123,15 @@ pub(crate) fn run_each<R: Ready>(
     Ok(table)
 }
 
-/// The quanta of a slot: the first eligible subtasks.
+/// The quanta of a slot: the first eligible subtasks. The table uses the room of a list, and their
+/// keys that of another one, which is kept.
 pub(crate) fn give_quanta<R: Ready>(
-    alloc: Global,
     ready: &mut R,
     members: &mut Members,
     processors: u8,
     slot: u64,
+    keys: &mut Vec<Key>,
+    room: Vec<Pick>,
 ) -> Result<Vec<Pick>, AllocError>
     requires time { R.now ready.old ≤ slot }
     requires named { NamesApart (λ m. m.name) members.old.members }
@@ -137,18 +142,23 @@ pub(crate) fn give_quanta<R: Ready>(
     ensures queue { OnOk result (IsQueue members.new.members (R.held ready.new)) }
     ensures time { R.now ready.new ≡ slot }
 {
-    let first = ready.take_first(slot, processors as usize)?;
-    run_each(alloc, ready, members, &first)
+    let alloc = *keys.allocator();
+    let keys_room = mem::replace(keys, Vec::new(alloc));
+    let first = ready.take_first_into(slot, processors as usize, keys_room)?;
+    let table = run_each(ready, members, &first, room);
+    *keys = first;
+    table
 }
 
 /// One slot, by what is said at it.
 pub(crate) fn plan_slot<R: Ready>(
-    alloc: Global,
     announced: &[Said],
     members: &mut Members,
     ready: &mut R,
     processors: u8,
     slot: u64,
+    keys: &mut Vec<Key>,
+    room: Vec<Pick>,
 ) -> Result<SlotPlan, AllocError>
     requires slot { slot < Entry.LAST_SLOT }
     requires steady { IsSteady slot members.old (R.now ready.old) (R.held ready.old) }
@@ -161,8 +171,8 @@ pub(crate) fn plan_slot<R: Ready>(
     ensures heard { OnOk result (members.new.heard ≡ members.old.heard + length announced.now) }
     ensures steady { OnOk result (IsSteady (slot + 1) members.new (R.now ready.new) (R.held ready.new)) }
 {
-    let decided = decide_all(alloc, members, slot, announced)?;
+    let decided = decide_all(*keys.allocator(), members, slot, announced)?;
     tell_ready(ready, members, announced)?;
-    let table = give_quanta(alloc, ready, members, processors, slot)?;
+    let table = give_quanta(ready, members, processors, slot, keys, room)?;
     Ok(SlotPlan { table, decided })
 }

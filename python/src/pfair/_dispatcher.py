@@ -235,6 +235,11 @@ class Dispatcher:
         check(answer, f"entry {step.number} of processor {step.processor}" if answer == 30 else "", processor=step.processor, number=step.number)
         return Planned(STEPS[step.kind], step.slot)
 
+    def reserve(self, slots: int) -> None:
+        """Takes the memory that the next `slots` slots want, or all that are left where these are fewer, so that planning a slot takes
+        none where nothing is announced at it and no entry came since the slot before."""
+        self._call("pfair_reserve", whole(slots, 64, "slots"))
+
     def reopen(self) -> None:
         """After memory was refused to a plan, makes anew what plans need. It costs what the plans of all slots so far cost."""
         self._call("pfair_reopen")

@@ -1,12 +1,16 @@
-use Rattle.std.proofs.Common.{◌∙◌, ap, arith, length}
+use Rattle.std.proofs.Common.{◌∙◌, sym, ap, subst, arith, length}
+use Rattle.std.specs.List.{AllByRecursion}
 use Rattle.pfair_replica.specs.HeldRows.{replica_of}
+use Rattle.pfair_table.specs.Planned.{PlannedSlots}
+use Rattle.pfair_table.specs.PlaceLaws.{IsFit}
 use Rattle.pfair_table.proofs.TableLaws.{tables_are_ordered}
 use Rattle.pfair_table.proofs.PlacesOn.{fit_wider}
 use Rattle.pfair_table.proofs.dispatcher.plan_onto.Goals as goal
 
 pub next_places-requires-clause-fit : goal.next_places-requires-clause-fit
 next_places-requires-clause-fit g c =
-    fit_wider c.args.settings.processors 64 (let limit = c.in_ok-next.ensures.limits.processors.1 in omega (arith, limit)) c.args.planned.now.tables c.requires.fit
+    subst (λ (p : PlannedSlots). AllByRecursion (IsFit 64) p.tables) (sym c.take_room-room.ensures)
+    (fit_wider c.args.settings.processors 64 (let limit = c.in_ok-next.ensures.limits.processors.1 in omega (arith, limit)) c.args.planned.now.tables c.requires.fit)
 
 pub next_places-requires-clause-rows : goal.next_places-requires-clause-rows
 next_places-requires-clause-rows g c =

@@ -7,15 +7,15 @@ use Rattle.pfair_table.proofs.places.places_beside.Goals as goal
 
 pub fill_places-requires-clause-below : goal.fill_places-requires-clause-below
 fill_places-requires-clause-below c =
-    subst (λ (kept : List (Option ℕ)). AllByRecursion (λ k. k < 64) (all_kept kept)) (sym (c.deref.ensures.value ∙ c.in_ok-kept.ensures))
+    subst (λ (kept : List (Option ℕ)). AllByRecursion (λ k. k < 64) (all_kept kept)) (sym (c.deref.ensures.value ∙ c.in_ok-keep_places.ensures))
     (all_among (λ k. k < 64) (all_kept (kept_places c.args.before.now c.args.places.now c.args.table.now))
     (λ k h. among_all (λ k. k < 64) c.args.places.now c.requires.below k (kept_among c.args.before.now c.args.places.now c.args.table.now k h)))
 
 pub fill_places-requires-clause-rows : goal.fill_places-requires-clause-rows
 fill_places-requires-clause-rows c =
-    let long : length c.deref.result.now ≡ length c.args.table.now = ap length (c.deref.ensures.value ∙ c.in_ok-kept.ensures) ∙ kept_long c.args.before.now c.args.places.now c.args.table.now in
+    let long : length c.deref.result.now ≡ length c.args.table.now = ap length (c.deref.ensures.value ∙ c.in_ok-keep_places.ensures) ∙ kept_long c.args.before.now c.args.places.now c.args.table.now in
     let rows = c.requires.rows in
     omega (arith, long, rows)
 
 pub returns : goal.returns
-returns c = subst (λ (kept : List (Option ℕ)). IfOk c.fill_places.result (λ here. here.items ≡ filled (all_kept kept) kept)) (c.deref.ensures.value ∙ c.in_ok-kept.ensures) c.fill_places.ensures
+returns c = subst (λ (kept : List (Option ℕ)). IfOk c.fill_places.result (λ here. here.items ≡ filled (all_kept kept) kept)) (c.deref.ensures.value ∙ c.in_ok-keep_places.ensures) c.fill_places.ensures

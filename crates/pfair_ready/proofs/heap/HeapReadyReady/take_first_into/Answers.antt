@@ -7,8 +7,8 @@ use Rattle.pfair_order.specs.Rank.{first_by_rank}
 use Rattle.pfair_ready.specs.Slots.{SlotList}
 use Rattle.pfair_ready.specs.Queue.{Content, released}
 use Rattle.pfair_ready.proofs.Taking.{IsTaking, taking_none, taking_dead, taking_live, first_taken, covered_moved}
-use Rattle.pfair_ready.proofs.heap.HeapReadyReady.take_first.Goals as goal
-use Rattle.pfair_ready.proofs.heap.HeapReadyReady.take_first.Goals.{else-turns-test, then-turns-test+in_default}
+use Rattle.pfair_ready.proofs.heap.HeapReadyReady.take_first_into.Goals as goal
+use Rattle.pfair_ready.proofs.heap.HeapReadyReady.take_first_into.Goals.{else-turns-test, then-turns-test+in_default}
 
 pub invariant_of-self-in_err-first : goal.invariant_of-self-in_err-first
 invariant_of-self-in_err-first c =

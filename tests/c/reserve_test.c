@@ -1,0 +1,164 @@
+/*
+ * Memory that is taken ahead. After pfair_reserve no slot asks malloc for anything, but where something is announced at
+ * it; what is planned then is what a dispatcher plans that was given no memory ahead; and each allocation of the call
+ * is refused in turn.
+ *
+ *   reserve_test [quick]
+ */
+#include "checks.h"
+#include <limits.h>
+
+enum { PROCESSORS = 8, TASKS = 100, FRAME = 5040 };
+
+/* A set whose load is 7.56, all of which arrives at slot 0. One of its subtasks comes late, which is announced at the
+   slot `late_at`. All logs are whole. */
+static void filled(struct pfair_dispatcher *d, uint64_t slots, uint64_t late_at) {
+    static const uint64_t costs[] = {1, 1, 1, 1, 1, 2, 2, 2, 2, 2}, periods[] = {12, 14, 15, 16, 18, 20, 21, 24, 28, 30};
+    uint32_t numbers[PROCESSORS] = {0};
+    uint64_t taken;
+    char name[20];
+    ANSWERS(0, pfair_open(d, PROCESSORS, FRAME, slots, 20));
+    for (int k = 0; k < TASKS; k++) {
+        int p = k % PROCESSORS;
+        snprintf(name, sizeof name, "t%d", k);
+        ANSWERS(0, take(d, p, ++numbers[p], arrive(name, costs[k % 10], periods[k % 10], 0), &taken));
+    }
+    struct pfair_entry comes_late = late("t3", late_at / 16 + 2, 5, late_at);
+    comes_late.floor = late_at;
+    ANSWERS(0, take(d, 0, ++numbers[0], comes_late, &taken));
+    for (int p = 0; p < PROCESSORS; p++) ANSWERS(0, take(d, p, ++numbers[p], nothing(1000000), &taken));
+}
+
+/* From now on no memory is given. */
+static void refuse_all(void) {
+    refuse(1, LONG_MAX - 1);
+}
+
+static uint64_t mixed(uint64_t sum, uint64_t more) {
+    return (sum ^ more) * 1099511628211ull;
+}
+
+/* One number of the table and the places of a slot. */
+static uint64_t digest(struct pfair_dispatcher *d, uint64_t slot) {
+    struct pfair_pick picks[PROCESSORS];
+    uint8_t places[PROCESSORS];
+    uint64_t count, sum;
+    ANSWERS(0, pfair_table(d, slot, &count, picks, PROCESSORS));
+    ANSWERS(0, pfair_places(d, slot, &count, places, PROCESSORS));
+    sum = mixed(14695981039346656037ull, count);
+    for (uint64_t k = 0; k < count; k++) {
+        for (uint64_t j = 0; j < picks[k].name.length; j++) sum = mixed(sum, picks[k].name.bytes[j]);
+        sum = mixed(mixed(sum, picks[k].index), places[k]);
+    }
+    return sum;
+}
+
+static void plan_one(struct pfair_dispatcher *d, uint64_t slot) {
+    struct pfair_step s;
+    ANSWERS(0, pfair_plan_next(d, &s));
+    CHECK(s.kind == PFAIR_PLANNED && s.slot == slot, "slot %" PRIu64, slot);
+}
+
+/* What all slots are where no memory is taken ahead. Says how often the slots behind the first asked for some. */
+static uint64_t *without(uint64_t slots, uint64_t late_at) {
+    struct pfair_dispatcher d = PFAIR_NONE;
+    uint64_t *rows = __real_malloc(slots * sizeof *rows);
+    filled(&d, slots, late_at);
+    plan_one(&d, 0);
+    refuse(0, 0);
+    for (uint64_t slot = 1; slot < slots; slot++) plan_one(&d, slot);
+    printf("without memory ahead: %.2f allocations a slot\n", (double)calls / (double)(slots - 1));
+    CHECK(calls >= (long)slots, "%ld allocations alone", calls);
+    for (uint64_t slot = 0; slot < slots; slot++) rows[slot] = digest(&d, slot);
+    ANSWERS(0, pfair_close(&d));
+    return rows;
+}
+
+/* Memory is taken for some slots ahead, and all of it is refused until they are planned. */
+static void with_memory(uint64_t slots, uint64_t late_at, uint64_t ahead, const uint64_t *rows) {
+    struct pfair_dispatcher d = PFAIR_NONE;
+    filled(&d, slots, late_at);
+    plan_one(&d, 0);
+    for (uint64_t slot = 1; slot < slots; slot++) {
+        if ((slot - 1) % ahead == 0) ANSWERS(0, pfair_reserve(&d, ahead));
+        if (slot != late_at) refuse_all();
+        plan_one(&d, slot);
+        CHECK(slot == late_at || calls == 0, "slot %" PRIu64 " asked for memory", slot);
+        ample();
+    }
+    for (uint64_t slot = 0; slot < slots; slot++) CHECK(digest(&d, slot) == rows[slot], "slot %" PRIu64, slot);
+    ANSWERS(0, pfair_close(&d));
+}
+
+/* Each allocation of the call is refused in turn, alone and with all later ones: what stood stands, and plans go on. */
+static void refused_ahead(uint64_t slots, uint64_t late_at, const uint64_t *rows) {
+    long refusals = 0;
+    int is_whole = 0;
+    for (long at = 1; !is_whole; at++)
+        for (int all = 0; all < 2; all++) {
+            struct pfair_dispatcher d = PFAIR_NONE;
+            uint64_t next;
+            filled(&d, slots, late_at);
+            plan_one(&d, 0);
+            refuse(at, all ? LONG_MAX - at : 1);
+            uint32_t answer = pfair_reserve(&d, slots);
+            is_whole = calls < at;
+            ample();
+            CHECK(answer == (is_whole ? 0 : 90), "answered %" PRIu32, answer);
+            refusals += answer == 90;
+            ANSWERS(0, pfair_next_slot(&d, &next));
+            CHECK(next == 1 && digest(&d, 0) == rows[0], "what was planned stands");
+            for (uint64_t slot = 1; slot < slots; slot++) plan_one(&d, slot);
+            for (uint64_t slot = 0; slot < slots; slot++) CHECK(digest(&d, slot) == rows[slot], "slot %" PRIu64, slot);
+            ANSWERS(0, pfair_close(&d));
+        }
+    printf("pfair_reserve was refused memory %ld times\n", refusals);
+    CHECK(refusals > 20, "%ld refusals alone", refusals);
+}
+
+/* It takes no more than the slots that are left want, and says nothing of a dispatcher that is torn or spent. */
+static void of_any_dispatcher(void) {
+    struct pfair_dispatcher d = PFAIR_NONE;
+    struct pfair_step s;
+    uint64_t taken;
+    ANSWERS(102, pfair_reserve(&d, 1));
+    ANSWERS(0, pfair_open(&d, 1, 6, 6, 5));
+    refuse(0, 0);
+    ANSWERS(0, pfair_reserve(&d, UINT64_MAX));
+    CHECK(calls > 0 && calls < 30, "%ld allocations for six slots", calls);
+    refuse_all();
+    ANSWERS(0, pfair_reserve(&d, 0));
+    ANSWERS(0, pfair_reserve(&d, 6));
+    ample();
+    ANSWERS(0, take(&d, 0, 1, arrive("a", 1, 2, 0), &taken));
+    ANSWERS(0, take(&d, 0, 2, nothing(6), &taken));
+    ANSWERS(0, pfair_plan_to(&d, UINT64_MAX, &s));
+    CHECK(s.kind == PFAIR_ALL_PLANNED, "all");
+    refuse_all();
+    ANSWERS(0, pfair_reserve(&d, UINT64_MAX));
+    ANSWERS(90, pfair_reopen(&d));
+    ANSWERS(0, pfair_reserve(&d, 1));
+    ANSWERS(31, pfair_plan_next(&d, &s));
+    ample();
+    ANSWERS(0, take(&d, 0, 2, nothing(5), &taken));
+    CHECK(taken == PFAIR_TORN_NOW, "torn");
+    ANSWERS(0, pfair_reserve(&d, 1));
+    ANSWERS(30, pfair_plan_next(&d, &s));
+    ANSWERS(0, pfair_close(&d));
+}
+
+int main(int count, char **words) {
+    int quick = count > 1 && !strcmp(words[1], "quick");
+    uint64_t slots = quick ? 3000 : 100000, late_at = slots / 2;
+    long at_first = blocks;
+    uint64_t *rows = without(slots, late_at);
+    with_memory(slots, late_at, slots, rows);
+    with_memory(slots, late_at, 700, rows);
+    __real_free(rows);
+    rows = without(40, 20);
+    refused_ahead(40, 20, rows);
+    __real_free(rows);
+    of_any_dispatcher();
+    CHECK(blocks == at_first, "%ld blocks not freed", blocks - at_first);
+    return told();
+}
