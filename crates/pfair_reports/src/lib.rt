@@ -4,18 +4,10 @@
 
 mod decided;
 mod dispatchers;
-#[cfg(test)]
-mod failure_tests;
 mod fault;
-#[cfg(test)]
-mod fault_tests;
 mod lag_rows;
 mod placed_tables;
-#[cfg(test)]
-mod run_tests;
 mod tables;
-#[cfg(test)]
-mod tests;
 mod window_rows;
 
 pub use decided::decisions;

@@ -1,12 +1,8 @@
 //! What no contract says of the commands over a task file: the rows of worked examples, readers and
 //! writers that are slow or fail.
 
-use crate::decided::decisions;
-use crate::fault::{ProgramFault, write_fault};
-use crate::lag_rows::lags;
-use crate::placed_tables::replay_placed;
-use crate::tables::replay;
 use pfair_board::{Gate, OpenGate};
+use pfair_reports::{ProgramFault, decisions, lags, replay, replay_placed, write_fault};
 use std::alloc::Global;
 use std::io::{Read, Write};
 use std::process::Abort;

@@ -1,13 +1,9 @@
 //! What no contract says of commands over a task file that can't be finished: a reader or a writer
 //! that fails once and would then go on, and a gate that gives up at any of its calls.
 
-use crate::decided::decisions;
-use crate::fault::ProgramFault;
-use crate::lag_rows::lags;
-use crate::placed_tables::replay_placed;
-use crate::run_tests::{DECISIONS, LAGS, PLACED, SAMPLE, TABLES, assert_fault};
-use crate::tables::replay;
+use crate::runs::{DECISIONS, LAGS, PLACED, SAMPLE, TABLES, assert_fault};
 use pfair_board::{Gate, OpenGate};
+use pfair_reports::{ProgramFault, decisions, lags, replay, replay_placed};
 use std::alloc::Global;
 use std::io;
 use std::io::{Read, Write};

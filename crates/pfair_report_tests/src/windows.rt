@@ -1,7 +1,6 @@
 //! What no contract says: windows that are known, a writer that fails.
 
-use crate::fault::{ProgramFault, write_fault};
-use crate::window_rows::windows;
+use pfair_reports::{ProgramFault, windows, write_fault};
 use pfair_weight::Weight;
 use std::alloc::Global;
 use std::io;
