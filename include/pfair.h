@@ -72,7 +72,7 @@ enum pfair_answer {
     PFAIR_OPEN_ALREADY = 101,     /* the handle has a dispatcher */
     PFAIR_NOT_OPEN = 102,         /* a handle has none */
     PFAIR_NO_ROOM = 103,          /* there is room for fewer rows than there are */
-    PFAIR_NOT_PLANNED = 104       /* the slot isn't planned */
+    PFAIR_NOT_PLANNED = 104       /* the slot isn't planned, or is forgotten */
 };
 
 /* The number of the library's own version, 10,000 times its first part and 100 times its second added to the third: a
@@ -398,7 +398,19 @@ uint32_t pfair_plan_to(struct pfair_dispatcher *d, uint64_t until, struct pfair_
 uint32_t pfair_reserve(struct pfair_dispatcher *d, uint64_t slots);
 
 /*
- * After memory was refused to a plan, makes anew what plans need.
+ * Forgets the tables, places and decisions of all slots below `slots`, or of all that are planned where these are fewer:
+ * their memory is given back, 1,024 slots at a time, as soon as a later slot is planned, and calls tell nothing of these
+ * slots any more (104). Plans and members are as if they stood, and what was forgotten stays forgotten. So a run may go on
+ * with memory that doesn't grow: 16 bytes stay for each 1,024 slots.
+ *   102  the handle has no dispatcher
+ *   0    they are forgotten
+ * Cost: the slots whose memory is given back. It asks malloc for nothing.
+ */
+uint32_t pfair_forget(struct pfair_dispatcher *d, uint64_t slots);
+
+/*
+ * After memory was refused to a plan, makes anew what plans need. Forgotten slots are planned once more, and stay
+ * forgotten.
  *   102  the handle has no dispatcher
  *   30   something held is torn; nothing has changed
  *   90   memory was refused; plans answer 31
@@ -445,7 +457,7 @@ struct pfair_decided {
  * consecutive slots stays on its processor); and the decisions at the slot's boundary, in the order of processor and
  * number.
  *   102  the handle has no dispatcher
- *   104  the slot isn't planned
+ *   104  the slot isn't planned, or is forgotten
  *   103  there are more than `room` rows: `count` is written, but no row
  *   0    `count` and the rows are written
  * A table has at most as many rows as there are processors. Cost: the number of rows.
@@ -465,7 +477,7 @@ struct pfair_quantum {
  * The quanta of the slots `from` to `to` - 1: slot by slot, each slot's in the order of its table. There are none where
  * `from` isn't below `to`.
  *   102  the handle has no dispatcher
- *   104  slot `to` - 1 isn't planned
+ *   104  slot `to` - 1 isn't planned, or slot `from` is forgotten
  *   103  there are more than `room` rows: `count` is written, but no row
  *   0    `count` and the rows are written
  * Cost: the slots and the rows.
@@ -499,7 +511,7 @@ struct pfair_lag {
  * after the boundary of t, at the time t + 1; slot by slot, each slot's in the order of admission. There are none where
  * `from` isn't below `to`.
  *   102  the handle has no dispatcher
- *   104  slot `to` - 1 isn't planned
+ *   104  slot `to` - 1 isn't planned, or any slot is forgotten, since lags count from slot 0 on
  *   90   memory was refused, which a few words for each task need; the rows of some first ones of these slots may be
  *        written
  *   103  there are more than `room` rows: `count` is written, but no row
@@ -539,7 +551,7 @@ uint32_t pfair_members(struct pfair_dispatcher *d, uint64_t *count, struct pfair
  * The picture of the schedule in the slots `from` to `to` - 1, and that of the lags in them.
  *   102  the handle has no dispatcher
  *   100  `from` isn't below `to`, or there are more than 4,096 slots
- *   104  slot `to` - 1 isn't planned
+ *   104  slot `to` - 1 isn't planned, or any slot is forgotten, since a picture tells of tasks that came before it
  *   90   memory was refused
  *   103  the picture has more than `room` bytes: `size` is written, but no byte
  *   0    `size` and the first `size` bytes are written, with no zero behind them

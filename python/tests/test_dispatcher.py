@@ -165,6 +165,30 @@ def test_memory_ahead():
                 one.reserve(slots)
 
 
+def test_forgotten_slots():
+    script = drawn(2)
+    whole = pfair.schedule(script)
+    with pfair.Dispatcher(4, script.frame, script.slots, 16) as one:
+        for processor in range(4):
+            one.take_log(processor, script.closed(processor))
+        for slot in range(script.slots):
+            one.plan(slot + 1)
+            one.forget(slot - 1 if slot > 1 else 0)
+        first = script.slots - 2
+        assert one.planned == script.slots
+        assert (one.quanta(first) == whole.quanta[whole.quanta["slot"] >= first]).all()
+        assert (one.decisions(first) == whole.decisions[whole.decisions["slot"] >= first]).all()
+        for asked in (one.quanta, one.decisions, one.lags, one.svg, lambda: one.quanta(first - 1), lambda: one.table(first - 1), lambda: one.lags(first)):
+            with pytest.raises(pfair.NotPlanned):
+                asked()
+        one.forget(2**64 - 1)
+        with pytest.raises(pfair.NotPlanned):
+            one.table(script.slots - 1)
+        for slots, refused in ((-1, pfair.OutOfRange), (2**64, pfair.OutOfRange), (1.5, TypeError)):
+            with pytest.raises(refused):
+                one.forget(slots)
+
+
 def test_what_is_held():
     with pfair.Dispatcher(2, 6, 6, 8) as one:
         assert (one.processors, one.frame, one.slots, one.capacity) == (2, 6, 6, 8)

@@ -108,6 +108,7 @@ static void not_open(void) {
     ANSWERS(102, pfair_absorb(&d, &o));
     ANSWERS(102, pfair_plan_next(&d, &s));
     ANSWERS(102, pfair_reserve(&d, 1));
+    ANSWERS(102, pfair_forget(&d, 1));
     ANSWERS(102, pfair_reopen(&d));
     ANSWERS(102, pfair_frontier(&d, &slot));
     ANSWERS(102, pfair_next_slot(&d, &slot));

@@ -6,6 +6,7 @@
 #define CHECKS_H
 #include "pfair.h"
 #include <inttypes.h>
+#include <malloc.h>
 #include <stdio.h>
 #include <stdlib.h>
 #include <string.h>
@@ -33,7 +34,8 @@ static _Atomic long held, differ;
 void *__real_malloc(size_t);
 void *__real_realloc(void *, size_t);
 void __real_free(void *);
-static __thread long calls, refuse_from, refuse_run, blocks, zero_sizes;
+/* how often memory was asked for, when it is refused, and what is in use */
+static __thread long calls, refuse_from, refuse_run, blocks, bytes, zero_sizes;
 static __thread size_t largest;
 static inline int refused(void) {
     calls++;
@@ -44,19 +46,21 @@ void *__wrap_malloc(size_t size) {
     if (size > largest) largest = size;
     if (refused()) return NULL;
     void *at = __real_malloc(size);
-    if (at) blocks++;
+    if (at) blocks++, bytes += (long)malloc_usable_size(at);
     return at;
 }
 void *__wrap_realloc(void *old, size_t size) {
     if (!size) zero_sizes++;
     if (size > largest) largest = size;
     if (refused()) return NULL;
+    long before = old ? (long)malloc_usable_size(old) : 0;
     void *at = __real_realloc(old, size);
     if (at && !old) blocks++;
+    if (at) bytes += (long)malloc_usable_size(at) - before;
     return at;
 }
 void __wrap_free(void *at) {
-    if (at) blocks--;
+    if (at) blocks--, bytes -= (long)malloc_usable_size(at);
     __real_free(at);
 }
 static inline void refuse(long from, long run) {

@@ -5,59 +5,7 @@
  *
  *   reserve_test [quick]
  */
-#include "checks.h"
-#include <limits.h>
-
-enum { PROCESSORS = 8, TASKS = 100, FRAME = 5040 };
-
-/* A set whose load is 7.56, all of which arrives at slot 0. One of its subtasks comes late, which is announced at the
-   slot `late_at`. All logs are whole. */
-static void filled(struct pfair_dispatcher *d, uint64_t slots, uint64_t late_at) {
-    static const uint64_t costs[] = {1, 1, 1, 1, 1, 2, 2, 2, 2, 2}, periods[] = {12, 14, 15, 16, 18, 20, 21, 24, 28, 30};
-    uint32_t numbers[PROCESSORS] = {0};
-    uint64_t taken;
-    char name[20];
-    ANSWERS(0, pfair_open(d, PROCESSORS, FRAME, slots, 20));
-    for (int k = 0; k < TASKS; k++) {
-        int p = k % PROCESSORS;
-        snprintf(name, sizeof name, "t%d", k);
-        ANSWERS(0, take(d, p, ++numbers[p], arrive(name, costs[k % 10], periods[k % 10], 0), &taken));
-    }
-    struct pfair_entry comes_late = late("t3", late_at / 16 + 2, 5, late_at);
-    comes_late.floor = late_at;
-    ANSWERS(0, take(d, 0, ++numbers[0], comes_late, &taken));
-    for (int p = 0; p < PROCESSORS; p++) ANSWERS(0, take(d, p, ++numbers[p], nothing(1000000), &taken));
-}
-
-/* From now on no memory is given. */
-static void refuse_all(void) {
-    refuse(1, LONG_MAX - 1);
-}
-
-static uint64_t mixed(uint64_t sum, uint64_t more) {
-    return (sum ^ more) * 1099511628211ull;
-}
-
-/* One number of the table and the places of a slot. */
-static uint64_t digest(struct pfair_dispatcher *d, uint64_t slot) {
-    struct pfair_pick picks[PROCESSORS];
-    uint8_t places[PROCESSORS];
-    uint64_t count, sum;
-    ANSWERS(0, pfair_table(d, slot, &count, picks, PROCESSORS));
-    ANSWERS(0, pfair_places(d, slot, &count, places, PROCESSORS));
-    sum = mixed(14695981039346656037ull, count);
-    for (uint64_t k = 0; k < count; k++) {
-        for (uint64_t j = 0; j < picks[k].name.length; j++) sum = mixed(sum, picks[k].name.bytes[j]);
-        sum = mixed(mixed(sum, picks[k].index), places[k]);
-    }
-    return sum;
-}
-
-static void plan_one(struct pfair_dispatcher *d, uint64_t slot) {
-    struct pfair_step s;
-    ANSWERS(0, pfair_plan_next(d, &s));
-    CHECK(s.kind == PFAIR_PLANNED && s.slot == slot, "slot %" PRIu64, slot);
-}
+#include "full_set.h"
 
 /* What all slots are where no memory is taken ahead. Says how often the slots behind the first asked for some. */
 static uint64_t *without(uint64_t slots, uint64_t late_at) {

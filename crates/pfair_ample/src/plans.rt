@@ -72,6 +72,7 @@ fn goes_on<R: Ready>(
     }
     assert!(rt; dispatcher.table(3000).is_none());
     assert!(rt; dispatcher.plan_next()? == Step::Done);
+    assert_eq!(rt; dispatcher.forgotten(), 0);
     Ok(())
 }
 
@@ -98,8 +99,34 @@ fn assert_goes_on<R: Ready>(rt: &impl Abort, alloc: Global) -> Result<(), Fail> 
     Ok(())
 }
 
+// Slots are planned, forgotten but for the last 500, and planned again after a reopen: what stands is handed over.
+fn assert_forgets<R: Ready>(rt: &impl Abort, alloc: Global) -> Result<(), Fail> {
+    let name = TaskName::from_bytes(b"a")?;
+    let settings = Settings::new(1, 2, 3000).expect(rt, "settings");
+    let mut dispatcher = Dispatcher::<R>::new(alloc, settings, 4)?;
+    takes_the_log(rt, &mut dispatcher, name)?;
+    plans(rt, &mut dispatcher, 2900)?;
+    dispatcher.forget(2500);
+    dispatcher.forget(100);
+    dispatcher.reopen()?;
+    plans(rt, &mut dispatcher, 100)?;
+    assert_eq!(rt; dispatcher.forgotten(), 2500);
+    assert!(rt; dispatcher.table(2499).is_none() && dispatcher.table(2500).is_some());
+    let run = dispatcher.into_run()?;
+    assert_eq!(rt; (run.tables.len(), run.places.len()), (500, 500));
+    let last = run.tables.get(498).map(|rows| rows.as_slice());
+    assert!(rt; last == Some([Pick { name, index: 1500 }].as_slice()));
+    Ok(())
+}
+
 #[test]
 fn made_anew_after_a_thousand_slots(rt: HostRuntime) -> Result<(), Fail> {
     assert_goes_on::<PlainReady>(&rt, rt.alloc())?;
     assert_goes_on::<HeapReady>(&rt, rt.alloc())
+}
+
+#[test]
+fn forgotten_before_a_reopen(rt: HostRuntime) -> Result<(), Fail> {
+    assert_forgets::<PlainReady>(&rt, rt.alloc())?;
+    assert_forgets::<HeapReady>(&rt, rt.alloc())
 }

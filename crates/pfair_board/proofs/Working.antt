@@ -40,16 +40,18 @@ log_kept d e first log grown holds i x at = subst (λ k. held e.replica k (first
 pub behind_grown : (a : Dispatch) (d e : DeskView) → IsBehind a d → GrownDesk d e → IsBehind a e
 behind_grown a d e behind grown = record {
   able = behind.able;
+  standing = behind.standing;
   shape = (behind.shape.0 ∙ sym grown.processors, behind.shape.1 ∙ sym grown.capacity);
   below = λ k n c is. ⊎_elim (λ same. inl (grown.kept k n c same)) (λ torn. inr (grown.kept k n Torn torn)) (behind.below k n c is);
   settled = behind.settled;
 }
 
 -- who holds nothing is behind any desk of the same shape
-pub behind_fresh : (a : Dispatch) (d : DeskView) (processors capacity : ℕ) → a.spent ≡ false → replica_of a.held ≡ empty_replica processors capacity
+pub behind_fresh : (a : Dispatch) (d : DeskView) (processors capacity : ℕ) → a.spent ≡ false → a.forgotten ≡ 0 → replica_of a.held ≡ empty_replica processors capacity
     → a.tables ≡ [] → processors ≡ d.replica.processors → capacity ≡ d.replica.capacity → IsBehind a d
-behind_fresh a d processors capacity able empty none rows row = record {
+behind_fresh a d processors capacity able standing empty none rows row = record {
   able = able;
+  standing = standing;
   shape = (ap (λ (x : Replica). x.processors) empty ∙ rows, ap (λ (x : Replica). x.capacity) empty ∙ row);
   below = λ k n c is. (let none : None ≡ Some c = sym (ap (λ (x : Replica). x.at k n) empty) ∙ is in absurd (cc none));
   settled = record {
@@ -75,6 +77,7 @@ settled_by_more a h settled rows above = record {
 pub behind_same : (a b : Dispatch) (d : DeskView) → IsBehind a d → b ≡ record a { held = b.held } → replica_of b.held ≡ replica_of d.replica → IsBehind b d
 behind_same a b d behind rest same = record {
   able = ap (λ (x : Dispatch). x.spent) rest ∙ behind.able;
+  standing = ap (λ (x : Dispatch). x.forgotten) rest ∙ behind.standing;
   shape = (ap (λ (x : Replica). x.processors) same, ap (λ (x : Replica). x.capacity) same);
   below = λ k n c is. inl (sym (ap (λ (x : Replica). x.at k n) same) ∙ is);
   settled = subst IsSettled (sym rest)
@@ -82,9 +85,10 @@ behind_same a b d behind rest same = record {
 }
 
 -- who holds what it held, has planned all that it settles, and can plan, is behind still
-pub behind_still : (a b : Dispatch) (d : DeskView) → IsBehind a d → b.spent ≡ false → b.held ≡ a.held → IsWholePlan b → IsBehind b d
-behind_still a b d behind able same whole = record {
+pub behind_still : (a b : Dispatch) (d : DeskView) → IsBehind a d → b.spent ≡ false → b.forgotten ≡ a.forgotten → b.held ≡ a.held → IsWholePlan b → IsBehind b d
+behind_still a b d behind able forgotten same whole = record {
   able = able;
+  standing = forgotten ∙ behind.standing;
   shape = subst (λ h. SameShape h d.replica) (sym same) behind.shape;
   below = subst (λ (h : HeldRows). Below (replica_of h) (replica_of d.replica)) (sym same) behind.below;
   settled = (let long = ap length whole.tables_are ∙ length_numbers (table b.settings (replica_of b.held)) (min (frontier (replica_of b.held)) b.settings.slots) in record {
@@ -137,6 +141,7 @@ behind_taken a b d k n e behind holds rest held_is = by (has_key x k n) refl
     with : (y : Replica) → replica_of b.held ≡ y → y.processors ≡ x.processors → y.capacity ≡ x.capacity → Below x y → Below y (replica_of d.replica) → IsBehind b d
     with y is rows row above below = record {
       able = ap (λ (z : Dispatch). z.spent) rest ∙ behind.able;
+      standing = ap (λ (z : Dispatch). z.forgotten) rest ∙ behind.standing;
       shape = (ap (λ (z : Replica). z.processors) is ∙ (rows ∙ behind.shape.0), ap (λ (z : Replica). z.capacity) is ∙ (row ∙ behind.shape.1));
       below = subst (λ z. Below z (replica_of d.replica)) (sym is) below;
       settled = subst IsSettled (sym rest)

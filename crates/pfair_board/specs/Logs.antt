@@ -23,9 +23,10 @@ pub record IsSettled (a : Dispatch) : Type 0 where
   pub early : length a.tables ≤ frontier by
   pub wanted : length a.tables ≤ a.settings.slots
 
--- the dispatcher holds nothing but what the desk holds, has planned nothing beyond what that settles, and can plan
+-- the dispatcher holds nothing but what the desk holds, has planned nothing beyond what that settles, can plan, and forgot nothing
 pub record IsBehind (a : Dispatch) (d : DeskView) : Type 0 where
   pub able : a.spent ≡ false
+  pub standing : a.forgotten ≡ 0
   pub shape : SameShape a.held d.replica
   pub below : Below (replica_of a.held) (replica_of d.replica)
   pub settled : IsSettled a

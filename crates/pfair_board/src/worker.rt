@@ -161,6 +161,7 @@ fn plan_all<P: Wait, R: Ready, G: Gate>(
     ensures next { desk.new.next_number ≡ desk.old.next_number }
     ensures own { IsDeskOf desk.new board.now }
     ensures plan { OnOk result (dispatcher.new.tables ≡ plan dispatcher.old.settings (replica_of desk.new.replica)) }
+    ensures standing { OnOk result (dispatcher.new.forgotten ≡ 0) }
     ensures fault { IfErr result (IsPlanningFault G.may_give_up) }
 {
     catch_up(rt, dispatcher, desk, gate)?;
@@ -281,6 +282,7 @@ fn plan_settled<P: Wait, R: Ready, G: Gate>(
     requires wanted { length dispatcher.old.tables ≤ dispatcher.old.settings.slots }
     ensures settings { dispatcher.new.settings ≡ dispatcher.old.settings }
     ensures held { dispatcher.new.held ≡ dispatcher.old.held }
+    ensures forgotten { dispatcher.new.forgotten ≡ dispatcher.old.forgotten }
     ensures able { OnOk result (dispatcher.new.spent ≡ false) }
     ensures whole { OnOk result (IsWholePlan dispatcher.new) }
     ensures fault { IfErr result (IsPlanningFault G.may_give_up) }
@@ -309,6 +311,7 @@ fn plan_slot<R: Ready>(dispatcher: &mut Dispatcher<R>) -> Result<(), AllocError>
     requires wanted { length dispatcher.old.tables < dispatcher.old.settings.slots }
     ensures settings { dispatcher.new.settings ≡ dispatcher.old.settings }
     ensures held { dispatcher.new.held ≡ dispatcher.old.held }
+    ensures forgotten { dispatcher.new.forgotten ≡ dispatcher.old.forgotten }
     ensures able { OnOk result (dispatcher.new.spent ≡ false) }
     ensures planned { OnOk result (length dispatcher.new.tables ≡ length dispatcher.old.tables + 1) }
 {

@@ -4,6 +4,7 @@ ghost use Rattle.pfair_handle.specs.Kept.{is_kept};
 ghost use Rattle.pfair_handle.specs.Behind.{Of};
 ghost use Rattle.pfair_c.specs.Rows.{decisions_between, rows_answer, rows_counted, rows_laid};
 
+use crate::rows::are_told;
 use pfair_handle::answer::{DONE, NO_ROOM, NOT_OPEN, NOT_PLANNED};
 use pfair_handle::{Handle, PfairDecision, count_decisions, write_several};
 use pfair_ready::HeapReady;
@@ -15,8 +16,8 @@ use std::alloc::Global;
 /// slots and the decisions.
 ///
 /// It answers 0 with the number of rows and the rows; 102 where the handle has no dispatcher; 104
-/// where slot `to` - 1 isn't planned; or 103 with the number of rows that are wanted, where there
-/// are fewer. Nothing else is written.
+/// where slot `to` - 1 isn't planned, or slot `from` is forgotten; or 103 with the number of rows that
+/// are wanted, where there are fewer. Nothing else is written.
 #[unsafe(no_mangle)]
 pub extern "C" fn pfair_decisions_of(
     alloc: Global,
@@ -27,9 +28,9 @@ pub extern "C" fn pfair_decisions_of(
     rows: &mut [PfairDecision],
 ) -> u32
     ensures closed { handle.old.owner.kept ≡ None → (result ≡ 102) × (count.new ≡ count.old) × (rows.new ≡ rows.old) }
-    ensures answer { is_kept handle.old.owner.kept ≡ true → Of handle.old.owner.kept (λ d. result ≡ rows_answer (decisions_between d.decided from to) (length rows.old)) }
-    ensures count { is_kept handle.old.owner.kept ≡ true → Of handle.old.owner.kept (λ d. count.new ≡ rows_counted (decisions_between d.decided from to) count.old) }
-    ensures rows { is_kept handle.old.owner.kept ≡ true → Of handle.old.owner.kept (λ d. rows.new ≡ rows_laid (decisions_between d.decided from to) rows.old) }
+    ensures answer { is_kept handle.old.owner.kept ≡ true → Of handle.old.owner.kept (λ d. result ≡ rows_answer (decisions_between d.forgotten d.decided from to) (length rows.old)) }
+    ensures count { is_kept handle.old.owner.kept ≡ true → Of handle.old.owner.kept (λ d. count.new ≡ rows_counted (decisions_between d.forgotten d.decided from to) count.old) }
+    ensures rows { is_kept handle.old.owner.kept ≡ true → Of handle.old.owner.kept (λ d. rows.new ≡ rows_laid (decisions_between d.forgotten d.decided from to) rows.old) }
     ensures unchanged { handle.new.owner.kept ≡ handle.old.owner.kept }
 {
     if !handle.is_open() {
@@ -48,12 +49,16 @@ fn copy_several(
     count: &mut u64,
     rows: &mut [PfairDecision],
 ) -> u32
-    ensures answer { result ≡ rows_answer (decisions_between dispatcher.now.decided from to) (length rows.old) }
-    ensures count { count.new ≡ rows_counted (decisions_between dispatcher.now.decided from to) count.old }
-    ensures rows { rows.new ≡ rows_laid (decisions_between dispatcher.now.decided from to) rows.old }
+    ensures answer { result ≡ rows_answer (decisions_between dispatcher.now.forgotten dispatcher.now.decided from to) (length rows.old) }
+    ensures count { count.new ≡ rows_counted (decisions_between dispatcher.now.forgotten dispatcher.now.decided from to) count.old }
+    ensures rows { rows.new ≡ rows_laid (decisions_between dispatcher.now.forgotten dispatcher.now.decided from to) rows.old }
 {
-    if to > dispatcher.next_slot() {
+    if !are_told(dispatcher, from, to) {
         return NOT_PLANNED;
+    }
+    if from >= to {
+        *count = 0;
+        return DONE;
     }
     let wanted = count_decisions(dispatcher, from, to);
     *count = wanted;

@@ -18,8 +18,9 @@ use std::alloc::Global;
 /// memory for that book.
 ///
 /// It answers 0 with the number of rows and the rows; 102 where the handle has no dispatcher; 104
-/// where slot `to` - 1 isn't planned; 90: then the rows of some first slots may be written; or 103
-/// with the number of rows that are wanted, where there are fewer. Nothing else is written.
+/// where slot `to` - 1 isn't planned, or any slot is forgotten; 90: then the rows of some first slots
+/// may be written; or 103 with the number of rows that are wanted, where there are fewer. Nothing else
+/// is written.
 #[unsafe(no_mangle)]
 pub extern "C" fn pfair_lags(
     alloc: Global,
@@ -30,10 +31,10 @@ pub extern "C" fn pfair_lags(
     rows: &mut [PfairLag],
 ) -> u32
     ensures closed { handle.old.owner.kept ≡ None → (result ≡ 102) × (count.new ≡ count.old) × (rows.new ≡ rows.old) }
-    ensures answer { is_kept handle.old.owner.kept ≡ true → (result ≡ 90 → ⊥) → Of handle.old.owner.kept (λ d. result ≡ rows_answer (lags_between d.decided d.tables from to) (length rows.old)) }
-    ensures count { is_kept handle.old.owner.kept ≡ true → (result ≡ 90 → ⊥) → Of handle.old.owner.kept (λ d. count.new ≡ rows_counted (lags_between d.decided d.tables from to) count.old) }
-    ensures rows { is_kept handle.old.owner.kept ≡ true → (result ≡ 90 → ⊥) → Of handle.old.owner.kept (λ d. rows.new ≡ rows_laid (lags_between d.decided d.tables from to) rows.old) }
-    ensures memory { result ≡ 90 → (count.new ≡ count.old) × (from < to) × Of handle.old.owner.kept (λ d. (to ≤ length d.tables) × IsPartlyLaid d.decided d.tables from to rows.old rows.new) }
+    ensures answer { is_kept handle.old.owner.kept ≡ true → (result ≡ 90 → ⊥) → Of handle.old.owner.kept (λ d. result ≡ rows_answer (lags_between d.forgotten d.decided d.tables from to) (length rows.old)) }
+    ensures count { is_kept handle.old.owner.kept ≡ true → (result ≡ 90 → ⊥) → Of handle.old.owner.kept (λ d. count.new ≡ rows_counted (lags_between d.forgotten d.decided d.tables from to) count.old) }
+    ensures rows { is_kept handle.old.owner.kept ≡ true → (result ≡ 90 → ⊥) → Of handle.old.owner.kept (λ d. rows.new ≡ rows_laid (lags_between d.forgotten d.decided d.tables from to) rows.old) }
+    ensures memory { result ≡ 90 → (count.new ≡ count.old) × (from < to) × Of handle.old.owner.kept (λ d. (to ≤ length d.tables) × (d.forgotten ≡ 0) × IsPartlyLaid d.decided d.tables from to rows.old rows.new) }
     ensures unchanged { handle.new.owner.kept ≡ handle.old.owner.kept }
 {
     if !handle.is_open() {
@@ -53,10 +54,10 @@ fn copy_lags(
     count: &mut u64,
     rows: &mut [PfairLag],
 ) -> u32
-    ensures answer { (result ≡ 90 → ⊥) → result ≡ rows_answer (lags_between dispatcher.now.decided dispatcher.now.tables from to) (length rows.old) }
-    ensures count { (result ≡ 90 → ⊥) → count.new ≡ rows_counted (lags_between dispatcher.now.decided dispatcher.now.tables from to) count.old }
-    ensures rows { (result ≡ 90 → ⊥) → rows.new ≡ rows_laid (lags_between dispatcher.now.decided dispatcher.now.tables from to) rows.old }
-    ensures memory { result ≡ 90 → (count.new ≡ count.old) × (from < to) × (to ≤ length dispatcher.now.tables) × IsPartlyLaid dispatcher.now.decided dispatcher.now.tables from to rows.old rows.new }
+    ensures answer { (result ≡ 90 → ⊥) → result ≡ rows_answer (lags_between dispatcher.now.forgotten dispatcher.now.decided dispatcher.now.tables from to) (length rows.old) }
+    ensures count { (result ≡ 90 → ⊥) → count.new ≡ rows_counted (lags_between dispatcher.now.forgotten dispatcher.now.decided dispatcher.now.tables from to) count.old }
+    ensures rows { (result ≡ 90 → ⊥) → rows.new ≡ rows_laid (lags_between dispatcher.now.forgotten dispatcher.now.decided dispatcher.now.tables from to) rows.old }
+    ensures memory { result ≡ 90 → (count.new ≡ count.old) × (from < to) × (to ≤ length dispatcher.now.tables) × (dispatcher.now.forgotten ≡ 0) × IsPartlyLaid dispatcher.now.decided dispatcher.now.tables from to rows.old rows.new }
 {
     if to > dispatcher.next_slot() {
         return NOT_PLANNED;
@@ -64,6 +65,9 @@ fn copy_lags(
     if from >= to {
         *count = 0;
         return DONE;
+    }
+    if dispatcher.forgotten() > 0 {
+        return NOT_PLANNED;
     }
     let Ok(wanted) = count_lags(alloc, dispatcher, from, to) else {
         return MEMORY;

@@ -30,7 +30,8 @@ pub use lags::pfair_lags;
 pub use members::pfair_members;
 pub use picture::{pfair_lags_svg, pfair_schedule_svg};
 pub use plan::{
-    PfairStep, pfair_frontier, pfair_next_slot, pfair_plan_next, pfair_reopen, pfair_reserve,
+    PfairStep, pfair_forget, pfair_frontier, pfair_next_slot, pfair_plan_next, pfair_reopen,
+    pfair_reserve,
 };
 pub use plan_to::pfair_plan_to;
 pub use quanta::pfair_quanta;

@@ -21,8 +21,8 @@ use std::alloc::Global;
 ///
 /// It answers 0 with the number of bytes and the bytes; 102 where the handle has no dispatcher; 100
 /// where `from` isn't below `to`, or there are too many slots; 104 where slot `to` - 1 isn't
-/// planned; 90; or 103 with the number of bytes that are wanted, where there are fewer. Nothing else
-/// is written.
+/// planned, or any slot is forgotten; 90; or 103 with the number of bytes that are wanted, where there
+/// are fewer. Nothing else is written.
 #[unsafe(no_mangle)]
 pub extern "C" fn pfair_schedule_svg(
     alloc: Global,
@@ -33,9 +33,9 @@ pub extern "C" fn pfair_schedule_svg(
     bytes: &mut [u8],
 ) -> u32
     ensures closed { handle.old.owner.kept ≡ None → (result ≡ 102) × (size.new ≡ size.old) × (bytes.new ≡ bytes.old) }
-    ensures refused { is_kept handle.old.owner.kept ≡ true → Of handle.old.owner.kept (λ d. (slots_answer from to (length d.tables) ≡ 0 → ⊥) → (result ≡ slots_answer from to (length d.tables)) × (size.new ≡ size.old) × (bytes.new ≡ bytes.old)) }
-    ensures memory { result ≡ 90 → (size.new ≡ size.old) × (bytes.new ≡ bytes.old) × Of handle.old.owner.kept (λ d. slots_answer from to (length d.tables) ≡ 0) }
-    ensures told { is_kept handle.old.owner.kept ≡ true → (result ≡ 90 → ⊥) → Of handle.old.owner.kept (λ d. slots_answer from to (length d.tables) ≡ 0 → IsPictureTold (IsSchedule d.decided d.tables d.settings from to) result size.new bytes.old bytes.new) }
+    ensures refused { is_kept handle.old.owner.kept ≡ true → Of handle.old.owner.kept (λ d. (slots_answer from to (length d.tables) d.forgotten ≡ 0 → ⊥) → (result ≡ slots_answer from to (length d.tables) d.forgotten) × (size.new ≡ size.old) × (bytes.new ≡ bytes.old)) }
+    ensures memory { result ≡ 90 → (size.new ≡ size.old) × (bytes.new ≡ bytes.old) × Of handle.old.owner.kept (λ d. slots_answer from to (length d.tables) d.forgotten ≡ 0) }
+    ensures told { is_kept handle.old.owner.kept ≡ true → (result ≡ 90 → ⊥) → Of handle.old.owner.kept (λ d. slots_answer from to (length d.tables) d.forgotten ≡ 0 → IsPictureTold (IsSchedule d.decided d.tables d.settings from to) result size.new bytes.old bytes.new) }
     ensures unchanged { handle.new.owner.kept ≡ handle.old.owner.kept }
 {
     if !handle.is_open() {
@@ -61,9 +61,9 @@ pub extern "C" fn pfair_lags_svg(
     bytes: &mut [u8],
 ) -> u32
     ensures closed { handle.old.owner.kept ≡ None → (result ≡ 102) × (size.new ≡ size.old) × (bytes.new ≡ bytes.old) }
-    ensures refused { is_kept handle.old.owner.kept ≡ true → Of handle.old.owner.kept (λ d. (slots_answer from to (length d.tables) ≡ 0 → ⊥) → (result ≡ slots_answer from to (length d.tables)) × (size.new ≡ size.old) × (bytes.new ≡ bytes.old)) }
-    ensures memory { result ≡ 90 → (size.new ≡ size.old) × (bytes.new ≡ bytes.old) × Of handle.old.owner.kept (λ d. slots_answer from to (length d.tables) ≡ 0) }
-    ensures told { is_kept handle.old.owner.kept ≡ true → (result ≡ 90 → ⊥) → Of handle.old.owner.kept (λ d. slots_answer from to (length d.tables) ≡ 0 → IsPictureTold (AreLags d.decided d.tables d.settings from to) result size.new bytes.old bytes.new) }
+    ensures refused { is_kept handle.old.owner.kept ≡ true → Of handle.old.owner.kept (λ d. (slots_answer from to (length d.tables) d.forgotten ≡ 0 → ⊥) → (result ≡ slots_answer from to (length d.tables) d.forgotten) × (size.new ≡ size.old) × (bytes.new ≡ bytes.old)) }
+    ensures memory { result ≡ 90 → (size.new ≡ size.old) × (bytes.new ≡ bytes.old) × Of handle.old.owner.kept (λ d. slots_answer from to (length d.tables) d.forgotten ≡ 0) }
+    ensures told { is_kept handle.old.owner.kept ≡ true → (result ≡ 90 → ⊥) → Of handle.old.owner.kept (λ d. slots_answer from to (length d.tables) d.forgotten ≡ 0 → IsPictureTold (AreLags d.decided d.tables d.settings from to) result size.new bytes.old bytes.new) }
     ensures unchanged { handle.new.owner.kept ≡ handle.old.owner.kept }
 {
     if !handle.is_open() {
@@ -83,11 +83,11 @@ fn copy_schedule(
     size: &mut u64,
     bytes: &mut [u8],
 ) -> u32
-    ensures refused { (slots_answer from to (length dispatcher.now.tables) ≡ 0 → ⊥) → (result ≡ slots_answer from to (length dispatcher.now.tables)) × (size.new ≡ size.old) × (bytes.new ≡ bytes.old) }
-    ensures memory { result ≡ 90 → (size.new ≡ size.old) × (bytes.new ≡ bytes.old) × (slots_answer from to (length dispatcher.now.tables) ≡ 0) }
-    ensures told { (result ≡ 90 → ⊥) → slots_answer from to (length dispatcher.now.tables) ≡ 0 → IsPictureTold (IsSchedule dispatcher.now.decided dispatcher.now.tables dispatcher.now.settings from to) result size.new bytes.old bytes.new }
+    ensures refused { (slots_answer from to (length dispatcher.now.tables) dispatcher.now.forgotten ≡ 0 → ⊥) → (result ≡ slots_answer from to (length dispatcher.now.tables) dispatcher.now.forgotten) × (size.new ≡ size.old) × (bytes.new ≡ bytes.old) }
+    ensures memory { result ≡ 90 → (size.new ≡ size.old) × (bytes.new ≡ bytes.old) × (slots_answer from to (length dispatcher.now.tables) dispatcher.now.forgotten ≡ 0) }
+    ensures told { (result ≡ 90 → ⊥) → slots_answer from to (length dispatcher.now.tables) dispatcher.now.forgotten ≡ 0 → IsPictureTold (IsSchedule dispatcher.now.decided dispatcher.now.tables dispatcher.now.settings from to) result size.new bytes.old bytes.new }
 {
-    let answer = slots_answer(from, to, dispatcher.next_slot());
+    let answer = slots_answer(from, to, dispatcher.next_slot(), dispatcher.forgotten());
     if answer != DONE {
         return answer;
     }
@@ -105,11 +105,11 @@ fn copy_lags(
     size: &mut u64,
     bytes: &mut [u8],
 ) -> u32
-    ensures refused { (slots_answer from to (length dispatcher.now.tables) ≡ 0 → ⊥) → (result ≡ slots_answer from to (length dispatcher.now.tables)) × (size.new ≡ size.old) × (bytes.new ≡ bytes.old) }
-    ensures memory { result ≡ 90 → (size.new ≡ size.old) × (bytes.new ≡ bytes.old) × (slots_answer from to (length dispatcher.now.tables) ≡ 0) }
-    ensures told { (result ≡ 90 → ⊥) → slots_answer from to (length dispatcher.now.tables) ≡ 0 → IsPictureTold (AreLags dispatcher.now.decided dispatcher.now.tables dispatcher.now.settings from to) result size.new bytes.old bytes.new }
+    ensures refused { (slots_answer from to (length dispatcher.now.tables) dispatcher.now.forgotten ≡ 0 → ⊥) → (result ≡ slots_answer from to (length dispatcher.now.tables) dispatcher.now.forgotten) × (size.new ≡ size.old) × (bytes.new ≡ bytes.old) }
+    ensures memory { result ≡ 90 → (size.new ≡ size.old) × (bytes.new ≡ bytes.old) × (slots_answer from to (length dispatcher.now.tables) dispatcher.now.forgotten ≡ 0) }
+    ensures told { (result ≡ 90 → ⊥) → slots_answer from to (length dispatcher.now.tables) dispatcher.now.forgotten ≡ 0 → IsPictureTold (AreLags dispatcher.now.decided dispatcher.now.tables dispatcher.now.settings from to) result size.new bytes.old bytes.new }
 {
-    let answer = slots_answer(from, to, dispatcher.next_slot());
+    let answer = slots_answer(from, to, dispatcher.next_slot(), dispatcher.forgotten());
     if answer != DONE {
         return answer;
     }
@@ -120,13 +120,13 @@ fn copy_lags(
 }
 
 // 100 or 104 where no picture shows these slots, else 0.
-fn slots_answer(from: u64, to: u64, planned: u64) -> u32
-    ensures { result ≡ slots_answer from to planned }
+fn slots_answer(from: u64, to: u64, planned: u64, forgotten: u64) -> u32
+    ensures { result ≡ slots_answer from to planned forgotten }
 {
     if from >= to || to - from > MAX_SLOTS {
         return OUT_OF_RANGE;
     }
-    if to > planned {
+    if to > planned || forgotten > 0 {
         return NOT_PLANNED;
     }
     DONE

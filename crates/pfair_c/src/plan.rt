@@ -1,5 +1,5 @@
 //! Plans, and how far they have come.
-ghost use Rattle.std.specs.Prelude.{◌≡◌, None, true, false, length};
+ghost use Rattle.std.specs.Prelude.{◌≡◌, None, true, false, length, max, min};
 ghost use Rattle.pfair_replica.specs.HeldRows.{replica_of};
 ghost use Rattle.pfair_replica.specs.Replica.{frontier, has_torn};
 ghost use Rattle.pfair_handle.specs.Kept.{is_kept};
@@ -109,8 +109,29 @@ pub extern "C" fn pfair_reserve(alloc: Global, handle: &mut Handle, slots: u64) 
     }
 }
 
-/// Makes all but what is held and what was planned anew, after which plans go on. It costs what the
-/// plans of all slots so far cost.
+/// Forgets the tables, places and decisions of all slots below `slots`, or of all that are planned where
+/// these are fewer: their memory is given back, 1,024 slots at a time, and these slots are told no
+/// more. Plans go on as before, and what was forgotten stays forgotten. It costs the slots whose
+/// memory is given back, and takes none.
+///
+/// It answers 0, or 102 where the handle has no dispatcher.
+#[unsafe(no_mangle)]
+pub extern "C" fn pfair_forget(alloc: Global, handle: &mut Handle, slots: u64) -> u32
+    ensures closed { handle.old.owner.kept ≡ None → (result ≡ 102) × (handle.new.owner.kept ≡ None) }
+    ensures answer { is_kept handle.old.owner.kept ≡ true → result ≡ 0 }
+    ensures forgotten { is_kept handle.old.owner.kept ≡ true → Between handle.old.owner.kept handle.new.owner.kept (λ d e. e ≡ record d { forgotten = max d.forgotten (min slots (length d.tables)) }) }
+{
+    if !handle.is_open() {
+        return NOT_OPEN;
+    }
+    let mut served = handle.take(alloc);
+    served.dispatcher.forget(slots);
+    handle.put(served);
+    DONE
+}
+
+/// Makes all but what is held and what was planned anew, after which plans go on. Forgotten slots are
+/// planned once more, and stay forgotten. It costs what the plans of all slots so far cost.
 ///
 /// It answers 0; 102 where the handle has no dispatcher; 30 where something held is torn, and then
 /// nothing changes; or 90: then the dispatcher is spent, and else as before.

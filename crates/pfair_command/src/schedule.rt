@@ -44,6 +44,7 @@ pub fn scheduled<R: Read>(
     reader: &mut R,
 ) -> Result<Dispatcher<HeapReady>, ScheduleFault>
     ensures ok { IfOk result (λ d. IfSome (R.remaining reader.old) (λ bytes. IsScheduleOf bytes d)) }
+    ensures standing { IfOk result (λ d. d.forgotten ≡ 0) }
     ensures refused { IfErr result (λ e. IfSome (R.remaining reader.old) (λ bytes. IsRefusalOf bytes e)) }
     ensures taken { TakesOneFile FileTooLong ReadFailed Memory result (R.remaining reader.old) (R.remaining reader.new) }
 {

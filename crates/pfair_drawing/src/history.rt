@@ -81,6 +81,7 @@ pub(crate) fn history_of<R: Ready>(
     dispatcher: &Dispatcher<R>,
     to: u64,
 ) -> Result<History, AllocError>
+    requires { dispatcher.now.forgotten ≡ 0 }
     ensures { IfOk result (λ h. h ≡ told_before dispatcher.now.decided dispatcher.now.tables to) }
 {
     let mut history = History::new(alloc);
@@ -96,6 +97,7 @@ fn tell_slot<R: Ready>(
     dispatcher: &Dispatcher<R>,
     slot: u64,
 ) -> Result<(), AllocError>
+    requires { dispatcher.now.forgotten ≡ 0 }
     ensures { OnOk result (history.new ≡ slot_told dispatcher.now.decided dispatcher.now.tables history.old slot) }
 {
     tell_all(history, slot, decided_at(dispatcher, slot))?;

@@ -44,6 +44,7 @@ pub fn lags_drawing<R: Ready>(
     from: u64,
     to: u64,
 ) -> Result<Drawing, DrawFault>
+    requires { dispatcher.now.forgotten ≡ 0 }
     ensures picture { IfOk result (AreLags dispatcher.now.decided dispatcher.now.tables dispatcher.now.settings from to) }
     ensures slots { (result ≡ Err DrawFault.Slots) ↔ AreRefused from to (length dispatcher.now.tables) }
 {
@@ -65,6 +66,7 @@ fn draw<R: Ready>(
 ) -> Result<Drawing, AllocError>
     requires order { from < to }
     requires slots { to ≤ Settings.MAX_SLOTS }
+    requires standing { dispatcher.now.forgotten ≡ 0 }
     ensures { IfOk result (AreLags dispatcher.now.decided dispatcher.now.tables dispatcher.now.settings from to) }
 {
     let history = history_of(alloc, dispatcher, to)?;
@@ -92,7 +94,8 @@ fn content_of<R: Ready>(
     lives: &[Life],
     dispatcher: &Dispatcher<R>,
 ) -> Result<Lags, AllocError>
-    requires { IsFrame frame.now }
+    requires frame { IsFrame frame.now }
+    requires standing { dispatcher.now.forgotten ≡ 0 }
     ensures has_dots { IfOk result (λ lags. lags.has_dots ≡ nat_le 12 frame.now.sizes.slot) }
     ensures steps { IfOk result (λ lags. lags.steps.items ≡ lag_steps frame.now names.now dispatcher.now.decided dispatcher.now.tables) }
     ensures labels { IfOk result (λ lags. lags.labels.items ≡ map (cut_label (width_of frame.now) (height_of frame.now)) (weights frame.now names.now lives.now)) }

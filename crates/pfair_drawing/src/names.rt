@@ -78,6 +78,7 @@ pub(crate) fn names_of<R: Ready>(
     dispatcher: &Dispatcher<R>,
     to: u64,
 ) -> Result<Names, AllocError>
+    requires { dispatcher.now.forgotten ≡ 0 }
     ensures { IfOk result (λ names. names ≡ names_before dispatcher.now.decided dispatcher.now.tables to) }
 {
     let mut names = Names::new(alloc);
@@ -93,6 +94,7 @@ fn add_slot<R: Ready>(
     dispatcher: &Dispatcher<R>,
     slot: u64,
 ) -> Result<(), AllocError>
+    requires { dispatcher.now.forgotten ≡ 0 }
     ensures { OnOk result (names.new ≡ with_slot dispatcher.now.decided dispatcher.now.tables names.old slot) }
 {
     if let Some(decided) = dispatcher.decisions(slot) {

@@ -25,7 +25,8 @@ pub(crate) fn refusals_of<R: Ready>(
     names: &Names,
     dispatcher: &Dispatcher<R>,
 ) -> Result<Vec<RefusalMark>, AllocError>
-    requires { IsFrame frame.now }
+    requires frame { IsFrame frame.now }
+    requires standing { dispatcher.now.forgotten ≡ 0 }
     ensures { IfOk result (λ made. made.items ≡ refusals frame.now names.now dispatcher.now.decided) }
 {
     let mut marks = Vec::new(alloc);

@@ -31,6 +31,7 @@ pub(crate) fn runs_of<R: Ready>(
     from: u64,
     to: u64,
 ) -> Result<Vec<Ran>, AllocError>
+    requires { dispatcher.now.forgotten ≡ 0 }
     ensures { IfOk result (λ runs. runs.items ≡ ran_between names.now dispatcher.now.tables from to) }
 {
     let mut runs = Vec::new(alloc);
@@ -47,6 +48,7 @@ fn add_slot<R: Ready>(
     names: &Names,
     slot: u64,
 ) -> Result<(), AllocError>
+    requires { dispatcher.now.forgotten ≡ 0 }
     ensures { OnOk result (runs.new.items ≡ runs.old.items ++ ran_in names.now dispatcher.now.tables slot) }
 {
     let places = places_at(dispatcher, slot);

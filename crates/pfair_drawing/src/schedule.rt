@@ -87,6 +87,7 @@ pub fn schedule_drawing<R: Ready>(
     from: u64,
     to: u64,
 ) -> Result<Drawing, DrawFault>
+    requires { dispatcher.now.forgotten ≡ 0 }
     ensures picture { IfOk result (IsSchedule dispatcher.now.decided dispatcher.now.tables dispatcher.now.settings from to) }
     ensures slots { (result ≡ Err DrawFault.Slots) ↔ AreRefused from to (length dispatcher.now.tables) }
 {
@@ -108,6 +109,7 @@ fn draw<R: Ready>(
 ) -> Result<Drawing, AllocError>
     requires order { from < to }
     requires slots { to ≤ Settings.MAX_SLOTS }
+    requires standing { dispatcher.now.forgotten ≡ 0 }
     ensures { IfOk result (IsSchedule dispatcher.now.decided dispatcher.now.tables dispatcher.now.settings from to) }
 {
     let names = names_of(alloc, dispatcher, to)?;
@@ -129,6 +131,7 @@ fn draw_in<R: Ready>(
     requires processors { frame.now.processors ≡ dispatcher.now.settings.processors }
     requires left { frame.now.left ≡ left_of names.now }
     requires sizes { frame.now.sizes ≡ sizes_of (frame.now.to - frame.now.from) frame.now.to }
+    requires standing { dispatcher.now.forgotten ≡ 0 }
     ensures { IfOk result (IsSchedule dispatcher.now.decided dispatcher.now.tables dispatcher.now.settings frame.now.from frame.now.to) }
 {
     let history = history_of(alloc, dispatcher, frame.to)?;
@@ -156,7 +159,8 @@ fn schedule_of<R: Ready>(
     runs: &[Ran],
     dispatcher: &Dispatcher<R>,
 ) -> Result<Schedule, AllocError>
-    requires { IsFrame frame.now }
+    requires frame { IsFrame frame.now }
+    requires standing { dispatcher.now.forgotten ≡ 0 }
     ensures { IfOk result (AreLayers frame.now names.now history.now runs.now dispatcher.now.decided) }
 {
     let bars = bars_of(alloc, frame, names, history, runs)?;
@@ -224,7 +228,8 @@ fn marks_of<R: Ready>(
     history: &History,
     dispatcher: &Dispatcher<R>,
 ) -> Result<Marks, AllocError>
-    requires { IsFrame frame.now }
+    requires frame { IsFrame frame.now }
+    requires standing { dispatcher.now.forgotten ≡ 0 }
     ensures held { IfOk result (λ m. m.held.items ≡ held frame.now names.now history.now.lives) }
     ensures arrows { IfOk result (λ m. m.arrows.items ≡ arrows frame.now names.now history.now.lives) }
     ensures late { IfOk result (λ m. m.late.items ≡ late_marks frame.now names.now history.now) }

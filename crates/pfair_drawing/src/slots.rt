@@ -8,6 +8,7 @@ use pfair_table::{Decided, Dispatcher, Pick};
 
 /// The decisions at the boundary of a slot.
 pub(crate) fn decided_at<R: Ready>(dispatcher: &Dispatcher<R>, slot: u64) -> &[Decided]
+    requires { dispatcher.now.forgotten ≡ 0 }
     ensures { result.now ≡ decided_at dispatcher.now.decided slot }
 {
     match dispatcher.decisions(slot) {
@@ -18,6 +19,7 @@ pub(crate) fn decided_at<R: Ready>(dispatcher: &Dispatcher<R>, slot: u64) -> &[D
 
 /// The table of a slot.
 pub(crate) fn table_at<R: Ready>(dispatcher: &Dispatcher<R>, slot: u64) -> &[Pick]
+    requires { dispatcher.now.forgotten ≡ 0 }
     ensures { result.now ≡ table_at dispatcher.now.tables slot }
 {
     match dispatcher.table(slot) {
@@ -28,6 +30,7 @@ pub(crate) fn table_at<R: Ready>(dispatcher: &Dispatcher<R>, slot: u64) -> &[Pic
 
 /// The places of a slot.
 pub(crate) fn places_at<R: Ready>(dispatcher: &Dispatcher<R>, slot: u64) -> &[u8]
+    requires { dispatcher.now.forgotten ≡ 0 }
     ensures { result.now ≡ places_at dispatcher.now.tables slot }
 {
     match dispatcher.places(slot) {

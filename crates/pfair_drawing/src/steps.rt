@@ -25,7 +25,8 @@ pub(crate) fn steps_of<'a, R: Ready>(
     names: &'a Names,
     dispatcher: &Dispatcher<R>,
 ) -> Result<Vec<LagStep>, AllocError>
-    requires { IsFrame frame.now }
+    requires frame { IsFrame frame.now }
+    requires standing { dispatcher.now.forgotten ≡ 0 }
     ensures { IfOk result (λ made. made.items ≡ lag_steps frame.now names.now dispatcher.now.decided dispatcher.now.tables) }
 {
     let mut steps = Steps {
@@ -48,7 +49,8 @@ fn book_before<R: Ready>(
     dispatcher: &Dispatcher<R>,
     slot: u64,
 ) -> Result<LagBook, AllocError>
-    requires { slot ≤ MAX_HORIZON }
+    requires slot { slot ≤ MAX_HORIZON }
+    requires standing { dispatcher.now.forgotten ≡ 0 }
     ensures { IfOk result (λ book. book ≡ book_before dispatcher.now.decided dispatcher.now.tables slot) }
 {
     let mut book = LagBook::new(alloc);

@@ -16,9 +16,10 @@ pub struct PfairDecision {
     pub decided: PfairDecided,
 }
 
-/// How many decisions the boundaries of the slots `from` to `to` - 1 have, where they are planned; no
-/// more than fit into 64 bits. It costs the slots.
+/// How many decisions the boundaries of the slots `from` to `to` - 1, none of which is forgotten, have,
+/// where they are planned; no more than fit into 64 bits. It costs the slots.
 pub fn count_decisions<R: Ready>(dispatcher: &Dispatcher<R>, from: u64, to: u64) -> u64
+    requires { dispatcher.now.forgotten ≤ from }
     ensures { result ≡ min (length (decisions_of dispatcher.now.decided from to)) 18446744073709551615 }
 {
     let mut count: u64 = 0;
@@ -29,15 +30,17 @@ pub fn count_decisions<R: Ready>(dispatcher: &Dispatcher<R>, from: u64, to: u64)
     count
 }
 
-/// Writes the decisions of the slots `from` to `to` - 1 over the first rows, slot by slot, each slot's
-/// in the order of processor and number. It costs the slots and the decisions.
+/// Writes the decisions of the slots `from` to `to` - 1, none of which is forgotten, over the first
+/// rows, slot by slot, each slot's in the order of processor and number. It costs the slots and the
+/// decisions.
 pub fn write_several<R: Ready>(
     dispatcher: &Dispatcher<R>,
     from: u64,
     to: u64,
     rows: &mut [PfairDecision],
 )
-    requires { length (decisions_of dispatcher.now.decided from to) ≤ length rows.old }
+    requires standing { dispatcher.now.forgotten ≤ from }
+    requires room { length (decisions_of dispatcher.now.decided from to) ≤ length rows.old }
     ensures { rows.new ≡ written_over (decisions_of dispatcher.now.decided from to) rows.old }
 {
     let mut at = 0;
@@ -53,7 +56,8 @@ fn write_slot<R: Ready>(
     at: usize,
     rows: &mut [PfairDecision],
 ) -> usize
-    requires { at + length (slot_of dispatcher.now.decided slot) ≤ length rows.old }
+    requires standing { dispatcher.now.forgotten ≤ slot }
+    requires room { at + length (slot_of dispatcher.now.decided slot) ≤ length rows.old }
     ensures rows { rows.new ≡ take at rows.old ++ written_over (decisions_at dispatcher.now.decided slot) (drop at rows.old) }
     ensures next { result ≡ at + length (slot_of dispatcher.now.decided slot) }
 {

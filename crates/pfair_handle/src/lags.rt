@@ -26,8 +26,8 @@ pub struct PfairLag {
     pub period: u64,
 }
 
-/// How many lags the slots `from` to `to` - 1 have; no more than fit into 64 bits. It costs what it
-/// costs to tell a book the slots 0 to `to` - 1.
+/// How many lags the slots `from` to `to` - 1 have, where no slot is forgotten; no more than fit into
+/// 64 bits. It costs what it costs to tell a book the slots 0 to `to` - 1.
 ///
 /// # Errors
 /// `AllocError` where memory was wanted and refused.
@@ -37,6 +37,7 @@ pub fn count_lags<R: Ready>(
     from: u64,
     to: u64,
 ) -> Result<u64, AllocError>
+    requires standing { dispatcher.now.forgotten ≡ 0 }
     requires planned { to ≤ length dispatcher.now.tables }
     requires forward { from ≤ to }
     ensures { IfOk result (λ count. count ≡ min (length (lags_of dispatcher.now.decided dispatcher.now.tables from to)) 18446744073709551615) }
@@ -53,8 +54,8 @@ pub fn count_lags<R: Ready>(
     Ok(count)
 }
 
-/// Writes the lags in the slots `from` to `to` - 1 over the first rows: after each slot those of the
-/// tasks that stay, in the order of admission. It costs the rows, and what it costs to tell a book
+/// Writes the lags in the slots `from` to `to` - 1 over the first rows, where no slot is forgotten:
+/// after each slot those of the tasks that stay, in the order of admission. It costs the rows, and what it costs to tell a book
 /// the slots 0 to `to` - 1.
 ///
 /// # Errors
@@ -67,6 +68,7 @@ pub fn write_lags<R: Ready>(
     to: u64,
     rows: &mut [PfairLag],
 ) -> Result<(), AllocError>
+    requires standing { dispatcher.now.forgotten ≡ 0 }
     requires planned { to ≤ length dispatcher.now.tables }
     requires forward { from ≤ to }
     requires room { length (lags_of dispatcher.now.decided dispatcher.now.tables from to) ≤ length rows.old }

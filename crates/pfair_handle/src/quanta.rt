@@ -22,9 +22,11 @@ pub struct PfairQuantum {
     pub index: u64,
 }
 
-/// How many quanta the slots `from` to `to` - 1 have, where they are planned. It costs the slots.
+/// How many quanta the slots `from` to `to` - 1, none of which is forgotten, have, where they are
+/// planned. It costs the slots.
 pub fn count_quanta<R: Ready>(dispatcher: &Dispatcher<R>, from: u64, to: u64) -> u64
-    requires { to ≤ Settings.MAX_SLOTS }
+    requires standing { dispatcher.now.forgotten ≤ from }
+    requires few { to ≤ Settings.MAX_SLOTS }
     ensures { result ≡ length (quanta_of dispatcher.now.tables from to) }
 {
     let mut count = 0;
@@ -34,15 +36,16 @@ pub fn count_quanta<R: Ready>(dispatcher: &Dispatcher<R>, from: u64, to: u64) ->
     count
 }
 
-/// Writes the quanta of the slots `from` to `to` - 1 over the first rows, slot by slot, each slot's
-/// in the order of its table. It costs the slots and the quanta.
+/// Writes the quanta of the slots `from` to `to` - 1, none of which is forgotten, over the first rows,
+/// slot by slot, each slot's in the order of its table. It costs the slots and the quanta.
 pub fn write_quanta<R: Ready>(
     dispatcher: &Dispatcher<R>,
     from: u64,
     to: u64,
     rows: &mut [PfairQuantum],
 )
-    requires { length (quanta_of dispatcher.now.tables from to) ≤ length rows.old }
+    requires standing { dispatcher.now.forgotten ≤ from }
+    requires room { length (quanta_of dispatcher.now.tables from to) ≤ length rows.old }
     ensures { rows.new ≡ written_over (quanta_of dispatcher.now.tables from to) rows.old }
 {
     let mut at = 0;
@@ -53,6 +56,7 @@ pub fn write_quanta<R: Ready>(
 
 // How many quanta a slot has.
 fn count_slot<R: Ready>(dispatcher: &Dispatcher<R>, slot: u64) -> u64
+    requires { dispatcher.now.forgotten ≤ slot }
     ensures value { result ≡ length (slot_of dispatcher.now.tables slot) }
     ensures few { result ≤ Settings.MAX_PROCESSORS }
 {
@@ -72,7 +76,8 @@ fn write_slot<R: Ready>(
     at: usize,
     rows: &mut [PfairQuantum],
 ) -> usize
-    requires { at + length (slot_of dispatcher.now.tables slot) ≤ length rows.old }
+    requires standing { dispatcher.now.forgotten ≤ slot }
+    requires room { at + length (slot_of dispatcher.now.tables slot) ≤ length rows.old }
     ensures rows { rows.new ≡ take at rows.old ++ written_over (quanta_at dispatcher.now.tables slot) (drop at rows.old) }
     ensures next { result ≡ at + length (slot_of dispatcher.now.tables slot) }
 {

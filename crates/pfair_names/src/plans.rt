@@ -121,6 +121,9 @@ fn plans_on<R: Ready>(rt: &impl Abort, dispatcher: &mut Dispatcher<R>) -> Result
     assert!(rt; dispatcher.table(0) == Some(nothing.as_slice()));
     assert!(rt; dispatcher.decisions(0) == Some(undecided.as_slice()));
     assert!(rt; dispatcher.places(0).is_some() && dispatcher.places(2).is_none());
+    assert_eq!(rt; dispatcher.forgotten(), 0);
+    dispatcher.forget(1);
+    assert!(rt; dispatcher.forgotten() == 1 && dispatcher.table(0).is_none());
     assert_eq!(rt; dispatcher.replica().frontier(), 3);
     Ok(())
 }

@@ -1,5 +1,6 @@
 mod NameFacts
 mod PlacedFacts
+pub mod RunFacts
 mod SignedFacts
 pub mod SlotFacts
 pub mod ToldFacts

@@ -1,6 +1,6 @@
 //! Decisions as rows: slot, processor, number, task, outcome, value.
 
-ghost use Rattle.std.specs.Prelude.{◌≡◌, ◌++◌, ◌∷◌, [], drop, map, OnOk, IfOk, IsTrue, List, Some, slice_get};
+ghost use Rattle.std.specs.Prelude.{◌≡◌, ◌≤◌, ◌++◌, ◌∷◌, [], drop, map, OnOk, IfOk, IsTrue, List, Some, slice_get};
 ghost use Rattle.pfair_text.specs.Rows.{IsOpen, is_plain, line, lines_text, text_so_far};
 ghost use Rattle.pfair_table.specs.declared.pick.Decided.{Decided};
 ghost use Rattle.pfair_output.specs.Slots.{slots_from};
@@ -14,8 +14,9 @@ use pfair_table::{Decided, Dispatcher};
 use pfair_text::{add_row, finish, new_text};
 use std::alloc::{AllocError, Global};
 
-/// The decisions at the boundaries of all slots that a dispatcher has planned: a header, and a row
-/// for each announcement, slots in order, and in each as they were decided.
+/// The decisions at the boundaries of all slots that a dispatcher has planned, none of which is
+/// forgotten: a header, and a row for each announcement, slots in order, and in each as they were
+/// decided.
 ///
 /// # Errors
 /// `AllocError` where memory was wanted and refused.
@@ -23,6 +24,7 @@ pub fn decisions_of<R: Ready>(
     alloc: Global,
     dispatcher: &Dispatcher<R>,
 ) -> Result<Vec<u8>, AllocError>
+    requires { dispatcher.now.forgotten ≡ 0 }
     ensures { IfOk result (λ text. text.items ≡ decisions_text dispatcher.now.decided) }
 {
     let mut writer = new_text(alloc);
@@ -54,7 +56,7 @@ pub fn add_decisions_header(writer: &mut Writer<Vec<u8>>) -> Result<(), AllocErr
 }
 
 /// Adds a row for each announcement that was decided at the boundaries of the slots that a
-/// dispatcher has planned, from a slot on. It costs the rows.
+/// dispatcher has planned, from a slot on that isn't forgotten. It costs the rows.
 ///
 /// # Errors
 /// `AllocError` where memory was wanted and refused.
@@ -63,7 +65,8 @@ pub fn add_decisions_from<R: Ready>(
     dispatcher: &Dispatcher<R>,
     from: u64,
 ) -> Result<(), AllocError>
-    requires { IsOpen writer.old }
+    requires open { IsOpen writer.old }
+    requires standing { dispatcher.now.forgotten ≤ from }
     ensures open { OnOk result (IsOpen writer.new) }
     ensures text { OnOk result (text_so_far writer.new ≡ text_so_far writer.old
         ++ lines_text (slots_from decided_rows from (drop from dispatcher.now.decided))) }
@@ -80,7 +83,8 @@ fn add_slot<R: Ready>(
     dispatcher: &Dispatcher<R>,
     slot: u64,
 ) -> Result<(), AllocError>
-    requires { IsOpen writer.old }
+    requires open { IsOpen writer.old }
+    requires standing { dispatcher.now.forgotten ≤ slot }
     ensures open { OnOk result (IsOpen writer.new) }
     ensures text { OnOk result ((decided : List Decided) → slice_get dispatcher.now.decided slot ≡ Some decided → text_so_far writer.new ≡ text_so_far writer.old ++ lines_text (decided_rows slot decided)) }
 {

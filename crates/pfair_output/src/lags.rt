@@ -23,10 +23,10 @@ use pfair_text::{add_row, finish, new_text};
 use pfair_weight::TaskName;
 use std::alloc::{AllocError, Global};
 
-/// The lags in all slots that a dispatcher has planned: a header, and for each slot t, slots in
-/// order, a row for each member that isn't departing after the boundary of t, in the order of
-/// admission: the time t + 1, the task, and its lag at that time as a numerator over its period,
-/// counted from its joining slot.
+/// The lags in all slots that a dispatcher has planned, none of which is forgotten: a header, and for
+/// each slot t, slots in order, a row for each member that isn't departing after the boundary of t, in
+/// the order of admission: the time t + 1, the task, and its lag at that time as a numerator over its
+/// period, counted from its joining slot.
 ///
 /// Of a dispatcher that has planned all that its logs settle, the text is a function of what it
 /// holds alone.
@@ -34,6 +34,7 @@ use std::alloc::{AllocError, Global};
 /// # Errors
 /// `AllocError` where memory was wanted and refused.
 pub fn lags_of<R: Ready>(alloc: Global, dispatcher: &Dispatcher<R>) -> Result<Vec<u8>, AllocError>
+    requires { dispatcher.now.forgotten ≡ 0 }
     ensures whole { IsWholePlan dispatcher.now → IfOk result (λ text.
         text.items ≡ lags_text dispatcher.now.settings (replica_of dispatcher.now.held)) }
     ensures told { IfOk result (λ text. text.items ≡
@@ -57,8 +58,9 @@ pub fn add_lags_header(writer: &mut Writer<Vec<u8>>) -> Result<(), AllocError>
     add_row(writer, &[b"time", b"task", b"numerator", b"period"])
 }
 
-/// Tells a book the slots that a dispatcher has planned, from the book's time on, and adds the rows
-/// after each. It costs the rows, and what [`tell_all`] and [`LagBook::record`] cost for each slot.
+/// Tells a book the slots that a dispatcher has planned, from the book's time on, none of which is
+/// forgotten, and adds the rows after each. It costs the rows, and what [`tell_all`] and
+/// [`LagBook::record`] cost for each slot.
 ///
 /// # Errors
 /// `AllocError` where memory was wanted and refused; the book is then told a part of this.
@@ -67,7 +69,8 @@ pub fn add_lags_from<R: Ready>(
     book: &mut LagBook,
     dispatcher: &Dispatcher<R>,
 ) -> Result<(), AllocError>
-    requires { IsOpen writer.old }
+    requires open { IsOpen writer.old }
+    requires standing { dispatcher.now.forgotten ≤ book.old.time }
     ensures open { OnOk result (IsOpen writer.new) }
     ensures book { OnOk result (book.new ≡ all_slots_told book.old (drop book.old.time dispatcher.now.decided) (drop book.old.time dispatcher.now.tables)) }
     ensures text { OnOk result (text_so_far writer.new ≡ text_so_far writer.old
@@ -80,7 +83,8 @@ pub fn add_lags_from<R: Ready>(
 }
 
 /// Tells a book the slots that a dispatcher has planned, from the book's time up to a slot, as far
-/// as they are planned. It costs what [`tell_all`] and [`LagBook::record`] cost for each slot.
+/// as they are planned, none of which is forgotten. It costs what [`tell_all`] and
+/// [`LagBook::record`] cost for each slot.
 ///
 /// # Errors
 /// `AllocError` where memory was wanted and refused; the book is then told a part of this.
@@ -89,7 +93,8 @@ pub fn tell_slots<R: Ready>(
     dispatcher: &Dispatcher<R>,
     to: u64,
 ) -> Result<(), AllocError>
-    requires { book.old.time ≤ to }
+    requires to { book.old.time ≤ to }
+    requires standing { dispatcher.now.forgotten ≤ book.old.time }
     ensures { OnOk result (book.new ≡ all_slots_told book.old
         (take (to - book.old.time) (drop book.old.time dispatcher.now.decided)) (take (to - book.old.time) (drop book.old.time dispatcher.now.tables))) }
 {
@@ -108,6 +113,7 @@ fn add_slot<R: Ready>(
 ) -> Result<(), AllocError>
     requires open { IsOpen writer.old }
     requires room { book.old.time < MAX_HORIZON }
+    requires standing { dispatcher.now.forgotten ≤ slot }
     ensures open { OnOk result (IsOpen writer.new) }
     ensures book { OnOk result ((decided : List Decided) (table : Table)
         → slice_get dispatcher.now.decided slot ≡ Some decided → slice_get dispatcher.now.tables slot ≡ Some table
@@ -126,7 +132,8 @@ fn tell_slot<R: Ready>(
     dispatcher: &Dispatcher<R>,
     slot: u64,
 ) -> Result<(), AllocError>
-    requires { book.old.time < MAX_HORIZON }
+    requires room { book.old.time < MAX_HORIZON }
+    requires standing { dispatcher.now.forgotten ≤ slot }
     ensures { OnOk result ((decided : List Decided) (table : Table)
         → slice_get dispatcher.now.decided slot ≡ Some decided → slice_get dispatcher.now.tables slot ≡ Some table
         → book.new ≡ slot_told decided table book.old) }

@@ -1,6 +1,6 @@
 //! Tables as rows: slot, processor, task, index, and in a text with places the place.
 
-ghost use Rattle.std.specs.Prelude.{◌≡◌, ◌++◌, OnOk, IfOk, Some, drop, map, slice_get};
+ghost use Rattle.std.specs.Prelude.{◌≡◌, ◌≤◌, ◌++◌, OnOk, IfOk, Some, drop, map, slice_get};
 ghost use Rattle.pfair_text.specs.Rows.{IsOpen, line, lines_text, text_so_far};
 ghost use Rattle.pfair_table.specs.Places.{places_of};
 ghost use Rattle.pfair_table.specs.Table.{Table};
@@ -76,8 +76,8 @@ pub fn add_placed_header(writer: &mut Writer<Vec<u8>>) -> Result<(), AllocError>
     )
 }
 
-/// Adds a row for each quantum of the tables that a dispatcher has planned, from a slot on, under
-/// the header of [`add_replay_header`]. It costs the rows.
+/// Adds a row for each quantum of the tables that a dispatcher has planned, from a slot on that isn't
+/// forgotten, under the header of [`add_replay_header`]. It costs the rows.
 ///
 /// # Errors
 /// `AllocError` where memory was wanted and refused.
@@ -86,7 +86,8 @@ pub fn add_tables_from<R: Ready>(
     dispatcher: &Dispatcher<R>,
     from: u64,
 ) -> Result<(), AllocError>
-    requires { IsOpen writer.old }
+    requires open { IsOpen writer.old }
+    requires standing { dispatcher.now.forgotten ≤ from }
     ensures open { OnOk result (IsOpen writer.new) }
     ensures text { OnOk result (text_so_far writer.new ≡ text_so_far writer.old
         ++ lines_text (slots_from table_rows from (drop from dispatcher.now.tables))) }
@@ -106,7 +107,8 @@ pub fn add_placed_tables_from<R: Ready>(
     dispatcher: &Dispatcher<R>,
     from: u64,
 ) -> Result<(), AllocError>
-    requires { IsOpen writer.old }
+    requires open { IsOpen writer.old }
+    requires standing { dispatcher.now.forgotten ≤ from }
     ensures open { OnOk result (IsOpen writer.new) }
     ensures text { OnOk result (text_so_far writer.new ≡ text_so_far writer.old
         ++ lines_text (slots_from (placed_table_rows (places_of dispatcher.now.tables)) from (drop from dispatcher.now.tables))) }
@@ -123,7 +125,8 @@ fn add_slot<R: Ready>(
     dispatcher: &Dispatcher<R>,
     slot: u64,
 ) -> Result<(), AllocError>
-    requires { IsOpen writer.old }
+    requires open { IsOpen writer.old }
+    requires standing { dispatcher.now.forgotten ≤ slot }
     ensures open { OnOk result (IsOpen writer.new) }
     ensures text { OnOk result ((table : Table) → slice_get dispatcher.now.tables slot ≡ Some table
         → text_so_far writer.new ≡ text_so_far writer.old ++ lines_text (table_rows slot table)) }
@@ -140,7 +143,8 @@ fn add_placed_slot<R: Ready>(
     dispatcher: &Dispatcher<R>,
     slot: u64,
 ) -> Result<(), AllocError>
-    requires { IsOpen writer.old }
+    requires open { IsOpen writer.old }
+    requires standing { dispatcher.now.forgotten ≤ slot }
     ensures open { OnOk result (IsOpen writer.new) }
     ensures text { OnOk result ((table : Table) → slice_get dispatcher.now.tables slot ≡ Some table
         → text_so_far writer.new ≡ text_so_far writer.old ++ lines_text (placed_table_rows (places_of dispatcher.now.tables) slot table)) }
@@ -153,6 +157,7 @@ fn add_placed_slot<R: Ready>(
 
 // The places of a slot, where it is planned.
 fn planned_places<R: Ready>(dispatcher: &Dispatcher<R>, slot: u64) -> &[u8]
+    requires { dispatcher.now.forgotten ≤ slot }
     ensures { result.now ≡ places_at (places_of dispatcher.now.tables) slot }
 {
     match dispatcher.places(slot) {

@@ -55,6 +55,7 @@ fn text_of(
     dispatcher: &Dispatcher<HeapReady>,
     request: Request,
 ) -> Result<Vec<u8>, ProgramFault>
+    requires { dispatcher.now.forgotten ≡ 0 }
     ensures ok { IfOk result (λ text. (drawn : Drawing) × IsDrawnOf request.picture request.slots dispatcher.now drawn × (text.items ≡ text_in request.form (svg_text drawn))) }
     ensures refused { let planned = length dispatcher.now.tables in IsErrOf result (Slots (told (first_of request.slots) (end_of request.slots planned) planned)) → AreRefused (first_of request.slots) (end_of request.slots planned) planned }
     ensures only { let planned = length dispatcher.now.tables in IfErr result (λ e. (e ≡ Memory) ⊎ (e ≡ Slots (told (first_of request.slots) (end_of request.slots planned) planned))) }
@@ -81,6 +82,7 @@ fn picture_text(
     picture: Picture,
     slots: Option<(u64, u64)>,
 ) -> Result<Vec<u8>, ProgramFault>
+    requires { dispatcher.now.forgotten ≡ 0 }
     ensures ok { IfOk result (λ text. (drawn : Drawing) × IsDrawnOf picture slots dispatcher.now drawn × (text.items ≡ svg_text drawn)) }
     ensures refused { let planned = length dispatcher.now.tables in IsErrOf result (Slots (told (first_of slots) (end_of slots planned) planned)) → AreRefused (first_of slots) (end_of slots planned) planned }
     ensures only { let planned = length dispatcher.now.tables in IfErr result (λ e. (e ≡ Memory) ⊎ (e ≡ Slots (told (first_of slots) (end_of slots planned) planned))) }
@@ -99,6 +101,7 @@ fn text_between(
     from: u64,
     to: u64,
 ) -> Result<Vec<u8>, ProgramFault>
+    requires { dispatcher.now.forgotten ≡ 0 }
     ensures ok { IfOk result (λ text. (drawn : Drawing) × IsDrawnBetween picture dispatcher.now from to drawn × (text.items ≡ svg_text drawn)) }
     ensures refused { IsErrOf result (Slots (told from to (length dispatcher.now.tables))) → AreRefused from to (length dispatcher.now.tables) }
     ensures only { IfErr result (λ e. (e ≡ Memory) ⊎ (e ≡ Slots (told from to (length dispatcher.now.tables)))) }
@@ -116,6 +119,7 @@ fn drawing_of(
     from: u64,
     to: u64,
 ) -> Result<Drawing, ProgramFault>
+    requires { dispatcher.now.forgotten ≡ 0 }
     ensures shows { IfOk result (Shows picture dispatcher.now.decided dispatcher.now.tables dispatcher.now.settings from to) }
     ensures taken { OnOk result (¬ (AreRefused from to (length dispatcher.now.tables))) }
     ensures refused { IsErrOf result (Slots (told from to (length dispatcher.now.tables))) → AreRefused from to (length dispatcher.now.tables) }

@@ -1,55 +1,37 @@
 -- What is known of the text of a dispatcher that ran a file's script is known of the output of the file.
-use Rattle.std.proofs.Common.{ℕ, List, [], ◌∷◌, Option, Some, Ok, Bool, ◌≡◌, ◌≢◌, ◌<◌, refl, sym, ap, ◌∙◌, subst, arith, map, length, slice_get, slice_index_or}
+use Rattle.std.proofs.Common.{ℕ, List, [], ◌∷◌, Option, Some, Ok, Bool, ◌≡◌, ◌≢◌, ◌<◌, ◌≤◌, refl, sym, ap, ◌∙◌, subst, arith, map, length, slice_get, slice_index_or}
 use Rattle.std.proofs.lemmas.Option.{IfSome_then}
-use Rattle.std.specs.Prelude.{IfSome, Vec, min}
+use Rattle.std.specs.Prelude.{IfSome, Vec}
 use Rattle.std.specs.declared.alloc.Global.{Global}
 use Rattle.pfair_command.specs.Commands.{IsRefusalBy}
-use Rattle.pfair_command.specs.Schedules.{IsRefusalOf, IsScheduleOf}
+use Rattle.pfair_command.specs.Schedules.{IsRefusalOf}
 use Rattle.pfair_command.specs.declared.fault.ScheduleFault.{ScheduleFault}
 use Rattle.pfair_command.specs.declared.fault.ScheduleFault.TheVariants as schedule
 use Rattle.pfair_command.proofs.CommandFacts.{TakesOver}
 use Rattle.pfair_reports.specs.declared.fault.ProgramFault.{ProgramFault}
 use Rattle.pfair_reports.specs.declared.fault.ProgramFault.TheVariants.{Memory, Schedule, WriteFailed}
 use Rattle.pfair_reports.specs.Faults.{of_run, of_schedule}
-use Rattle.pfair_replica.specs.Replica.{Replica, frontier, numbers_below}
-use Rattle.pfair_replica.specs.HeldRows.{replica_of}
-use Rattle.pfair_table.specs.Table.{Settings, decisions}
-use Rattle.pfair_table.specs.declared.pick.Decided.{Decided}
+use Rattle.pfair_replica.specs.Replica.{frontier}
 use Rattle.pfair_table.specs.declared.pick.Pick.{Pick}
 use Rattle.pfair_table.specs.Script.{LoggedRun}
-use Rattle.pfair_table.specs.ScriptRun.{IsRunOf}
 use Rattle.pfair_board.specs.declared.fault.RunFault.{RunFault}
 use Rattle.pfair_board.specs.declared.fault.RunFault.TheVariants as run
 use Rattle.pfair_board.specs.RunFaults.{IsRunFaultOf}
-use Rattle.pfair_table.specs.Refinement.{Dispatch}
 use Rattle.pfair_table.specs.declared.planned.Run.{Run}
 use Rattle.pfair_table.specs.Planned.{as_tables}
 use Rattle.pfair_output.specs.Replay.{placed_replay_text, placed_text, replay_text}
-use Rattle.pfair_output.specs.Decisions.{decisions_text}
-use Rattle.pfair_output.specs.Lags.{lags_text}
 use Rattle.pfair_file.specs.Documents.{script_of_file}
-use Rattle.pfair_reports.specs.Runs.{IsFaultOfReplay, IsOutputOf, IsWholeRun, replay_of_run, placed_replay_of_run, decisions_of_run, lags_of_run}
+use Rattle.pfair_reports.specs.Runs.{IsFaultOfReplay, IsOutputOf, IsWholeRun, replica_of_run, replay_of_run, placed_replay_of_run}
 
--- the text of a dispatcher is that of each script that it has run
-abbrev pub IsTextOf : (LoggedRun → List ℕ) → Dispatch → List ℕ → Type 0
-IsTextOf text d made = (run : LoggedRun) → IsRunOf run d → made ≡ text run
+-- the text of a script that a file holds is the file's
+pub output_made : {made : List ℕ} (text : LoggedRun → List ℕ) (given : Option (List ℕ)) (script : LoggedRun) → IfSome given (λ bytes. script_of_file bytes ≡ Ok script)
+    → script.settings.slots ≤ frontier (replica_of_run script) → made ≡ text script → IfSome given (λ bytes. IsOutputOf text bytes (λ rows. made ≡ rows))
+output_made text given script read far same = IfSome_then given read (λ bytes is. (script, is, far, same))
 
-pub output_of : {made shown : List ℕ} (text : LoggedRun → List ℕ) (given : Option (List ℕ)) (d : Dispatch) → IfSome given (λ bytes. IsScheduleOf bytes d) → IsTextOf text d made → shown ≡ made
+-- what is known of a text that is shown is known of the file's
+pub output_shown : {made shown : List ℕ} (text : LoggedRun → List ℕ) (given : Option (List ℕ)) → IfSome given (λ bytes. IsOutputOf text bytes (λ rows. made ≡ rows)) → shown ≡ made
     → (P : List ℕ → Type 0) → P shown → IfSome given (λ bytes. IsOutputOf text bytes P)
-output_of text given d has same equal P p = IfSome_then given has (λ bytes (run, read, is). (run, read, is.far_enough, subst P (equal ∙ same run is) p))
-
-both : {A : Type 0} → (f : Settings → Replica → A) → {s s′ : Settings} → {x x′ : Replica} → s ≡ s′ → x ≡ x′ → f s x ≡ f s′ x′
-both f same equal = rw (same, equal) refl
-
--- the decisions of all slots that are planned of what is held
-abbrev pub decided_of : Settings → Replica → List (List Decided)
-decided_of s x = map (decisions s x) (numbers_below (min (frontier x) s.slots))
-
-pub decisions_made : (d : Dispatch) → IsTextOf decisions_of_run d (decisions_text d.decided)
-decisions_made d run is = ap decisions_text is.whole.decided_are ∙ both (λ s x. decisions_text (decided_of s x)) is.settings_are is.held_is
-
-pub lags_made : (d : Dispatch) → IsTextOf lags_of_run d (lags_text d.settings (replica_of d.held))
-lags_made d run is = both lags_text is.settings_are is.held_is
+output_shown text given has equal P p = IfSome_then given has (λ bytes (run, read, far, same). (run, read, far, subst P (equal ∙ same) p))
 
 -- the bytes are known to hold a script of which this is a dispatcher's run
 abbrev pub HasWholeRun : Option (List ℕ) → Run → Type 0

@@ -5,8 +5,7 @@ ghost use Rattle.pfair_reports.specs.Faults.{of_schedule};
 ghost use Rattle.pfair_reports.specs.Runs.{IsOutputOf, decisions_of_run};
 
 use crate::fault::ProgramFault;
-use pfair_command::scheduled;
-use pfair_output::decisions_of;
+use crate::schedule_rows::scheduled_decisions;
 use pfair_text::send;
 use std::alloc::Global;
 use std::io::{Read, Write};
@@ -16,11 +15,13 @@ use std::io::{Read, Write};
 /// the number of its entry, the task, what was decided, and the freeing slot or the number of the
 /// refusal. They stand in the order in which they are decided.
 ///
-/// The whole run is made before the first byte goes out. No more than 67,108,864 bytes are taken
+/// The whole text is made before the first byte goes out; of the slots no more than 2,048 are held at
+/// a time. No more than 67,108,864 bytes are taken
 /// from the reader, but where the file is too long or memory was wanting: one more may then be.
 ///
 /// # Errors
-/// [`ProgramFault::Schedule`] with the cause where the file has no schedule, as [`scheduled`] says,
+/// [`ProgramFault::Schedule`] with the cause where the file has no schedule, as
+/// [`scheduled`](pfair_command::scheduled) says,
 /// and [`ProgramFault::Memory`] where memory was wanted and refused: nothing has then been written.
 /// [`ProgramFault::WriteFailed`] where the writer answered an error, or took nothing; a prefix of
 /// the text has then gone out.
@@ -32,7 +33,6 @@ pub fn decisions<R: Read, W: Write>(
     ensures { IsCommandOf of_schedule ProgramFault.WriteFailed (IsOutputOf decisions_of_run) (IsFaultBy of_schedule) result
         (R.remaining reader.old) (R.remaining reader.new) (W.contents writer.old) (W.contents writer.new) }
 {
-    let dispatcher = scheduled(alloc, reader)?;
-    let text = decisions_of(alloc, &dispatcher)?;
+    let text = scheduled_decisions(alloc, reader)?;
     Ok(send(writer, text.as_slice())?)
 }

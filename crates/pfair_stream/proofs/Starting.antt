@@ -2,7 +2,7 @@
 use Rattle.std.proofs.Common.{ℕ, zero, suc, ◌≡◌, refl, sym, ap, ◌∙◌, arith, List, [], ◌∷◌, map, min}
 use Rattle.std.specs.Prelude.{fold}
 use Rattle.pfair_replica.specs.HeldRows.{replica_of}
-use Rattle.pfair_replica.specs.Replica.{Replica, empty_replica, frontier, mark, numbers_below}
+use Rattle.pfair_replica.specs.Replica.{empty_replica, frontier, mark, numbers_below}
 use Rattle.pfair_table.specs.Events.{Course, start}
 use Rattle.pfair_table.specs.Refinement.{Dispatch, IsWholePlan, course_of}
 use Rattle.pfair_table.specs.Table.{Settings, decisions, table}

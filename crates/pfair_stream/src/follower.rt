@@ -38,6 +38,7 @@ pub struct Follower<R: Ready> {
 }
 
 impl<R: Ready> Model for Follower<R> {
+    ghost use Rattle.std.specs.Prelude.{◌≡◌};
     ghost use Rattle.pfair_stream.specs.Rows.{IsBookOf};
     ghost use Rattle.pfair_stream.specs.Follow.{Follow};
 
@@ -45,7 +46,7 @@ impl<R: Ready> Model for Follower<R> {
 
     ghost view = { λ a. record { output = a.output; dispatch = a.dispatcher; told = a.told } };
 
-    ghost invariant = { λ a. IsBookOf a.told a.dispatcher.tables a.dispatcher.decided a.book };
+    ghost invariant = { λ a. IsBookOf a.told a.dispatcher.tables a.dispatcher.decided a.book × (a.dispatcher.forgotten ≡ 0) };
 }
 
 impl<R: Ready> Follower<R> {

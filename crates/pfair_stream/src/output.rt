@@ -75,7 +75,8 @@ pub(crate) fn write_rows<R: Ready, W: Write>(
     book: &mut LagBook,
     writer: &mut W,
 ) -> Result<(), FollowFault>
-    requires { IsBookOf from dispatcher.now.tables dispatcher.now.decided book.old }
+    requires book { IsBookOf from dispatcher.now.tables dispatcher.now.decided book.old }
+    requires standing { dispatcher.now.forgotten ≡ 0 }
     ensures book { OnOk result (IsBookOf (max from (length dispatcher.now.tables)) dispatcher.now.tables dispatcher.now.decided book.new) }
     ensures written { OnOk result (Appends (W.contents writer.old) (W.contents writer.new) (lines_text (rows_from output from dispatcher.now.tables dispatcher.now.decided))) }
     ensures cut { IsErrOf result WriteFailed → TakesPrefix (W.contents writer.old) (W.contents writer.new) (lines_text (rows_from output from dispatcher.now.tables dispatcher.now.decided)) }
@@ -100,6 +101,7 @@ fn add_rows<R: Ready>(
 ) -> Result<(), AllocError>
     requires open { IsOpen text.old }
     requires book { IsBookOf from dispatcher.now.tables dispatcher.now.decided book.old }
+    requires standing { dispatcher.now.forgotten ≡ 0 }
     ensures open { OnOk result (IsOpen text.new) }
     ensures book { OnOk result (IsBookOf (max from (length dispatcher.now.tables)) dispatcher.now.tables dispatcher.now.decided book.new) }
     ensures text { OnOk result (text_so_far text.new ≡ text_so_far text.old
@@ -122,6 +124,7 @@ fn add_lags<R: Ready>(
 ) -> Result<(), AllocError>
     requires open { IsOpen text.old }
     requires book { IsBookOf from dispatcher.now.tables dispatcher.now.decided book.old }
+    requires standing { dispatcher.now.forgotten ≡ 0 }
     ensures open { OnOk result (IsOpen text.new) }
     ensures book { OnOk result (IsBookOf (max from (length dispatcher.now.tables)) dispatcher.now.tables dispatcher.now.decided book.new) }
     ensures text { OnOk result (text_so_far text.new ≡ text_so_far text.old

@@ -1,11 +1,14 @@
 -- What stands at an index of a list in pieces.
-use Rattle.std.proofs.Common.{ℕ, zero, suc, ◌+◌, ◌*◌, ◌-◌, ◌<◌, ◌≡◌, refl, sym, ap, ◌∙◌, arith, List, [], ◌∷◌, ◌++◌, length, length-append, append_assoc, Vec, Global, Option, Some, None, get_or, nat_lt}
-use Rattle.std.specs.Prelude.{slice_get, is_some, IfSome}
+use Rattle.std.proofs.Common.{ℕ, zero, suc, ◌+◌, ◌*◌, ◌-◌, ◌/◌, ◌<◌, ◌≤◌, ◌≡◌, ◌^◌, refl, sym, ap, ◌∙◌, subst, arith, List, [], ◌∷◌, ◌++◌, length, length-append, append_assoc, map, drop, Vec, Global, Option, Some, None, Result, Ok, Err, get_or, nat_lt}
+use Rattle.std.specs.Prelude.{slice_get, is_some, IfSome, IfOk}
 use Rattle.std.specs.Option.{option_map}
 use Rattle.std.specs.List.{AllByRecursion}
+use Rattle.std.proofs.lemmas.List.{drop_at, append-nil, length-map}
+use Rattle.std.proofs.lemmas.List.Concat.{flat_map-append}
 use Rattle.std.proofs.lemmas.Option.{slice_get_past, slice_get-get_or}
 use Rattle.std.proofs.lemmas.Bool.Decides.{nat_tests}
-use Rattle.pfair_table.specs.Pieces.{joined, ArePieces}
+use Rattle.pfair_table.specs.declared.pieces.GivenBack.{GivenBack}
+use Rattle.pfair_table.specs.Pieces.{joined, pieces_of, ArePieces, HaveGivenBack}
 
 abbrev AreWhole : {A : Type 0} → List (Vec A Global) → Type 0
 AreWhole {A} pieces = AllByRecursion (λ (piece : Vec A Global). length piece.items ≡ 1024) pieces
@@ -63,3 +66,72 @@ get_last (p ∷ ps) current are =
 pub got : {R X : Type 0} (now : R → X) (xs : List X) (i : ℕ) (o : Option R) → is_some o ≡ nat_lt i (length xs) → IfSome o (λ x. now x ≡ get_or xs i (now x)) → option_map now o ≡ slice_get xs i
 got now xs i None some at = sym (slice_get_past xs i (grind (arith, nat_tests)))
 got {R} {X} now xs i (Some x) some at = let within : i < length xs = grind (arith, nat_tests) in ap (λ (y : X). Some y) at ∙ sym (slice_get-get_or xs i (now x) within)
+
+-- ---- pieces of which the first ones are given back
+
+all_append : {A : Type 0} (xs ys : List (Vec A Global)) → AreWhole (xs ++ ys) → AreWhole xs × AreWhole ys
+all_append [] ys all = (tt, all)
+all_append (x ∷ xs) ys all = let rest = all_append xs ys all.1 in ((all.0, rest.0), rest.1)
+
+append_all : {A : Type 0} (xs ys : List (Vec A Global)) → AreWhole xs → AreWhole ys → AreWhole (xs ++ ys)
+append_all [] ys here there = there
+append_all (x ∷ xs) ys here there = (here.0, append_all xs ys here.1 there)
+
+pub length-pieces : {A : Type 0} (gone : List (GivenBack A)) (full : List (Vec A Global)) → length (pieces_of gone full) ≡ length gone + length full
+length-pieces gone full = length-append (map (λ (p : GivenBack _). p.was.value) gone) full ∙ ap (λ n. n + length full) (length-map gone (λ (p : GivenBack _). p.was.value))
+
+-- the elements of all pieces, and of the one that is filled
+pub length-all : {A : Type 0} (gone : List (GivenBack A)) (full : List (Vec A Global)) (current : List A) → AreWhole (pieces_of gone full)
+    → length (joined (pieces_of gone full) ++ current) ≡ (length gone + length full) * 1024 + length current
+length-all gone full current all = omega (arith, length-append (joined (pieces_of gone full)) current, joined_long (pieces_of gone full) all, length-pieces gone full)
+
+-- a piece that stands is one of all pieces
+pub standing_at : {A : Type 0} (gone : List (GivenBack A)) (full : List (Vec A Global)) (k : ℕ) (piece : Vec A Global) → length gone ≤ k → slice_get full (k - length gone) ≡ Some piece
+    → slice_get (pieces_of gone full) k ≡ Some piece
+standing_at gone full k piece le at = get_right (map (λ (p : GivenBack _). p.was.value) gone) full k (k - length gone) (omega (arith, le, length-map gone (λ (p : GivenBack _). p.was.value))) ∙ at
+
+-- what stands is what is left without the pieces that are gone
+pub what_stands : {A : Type 0} (gone : List (GivenBack A)) (full : List (Vec A Global)) (current : List A) → AreWhole (pieces_of gone full)
+    → joined full ++ current ≡ drop (length gone * 1024) (joined (pieces_of gone full) ++ current)
+what_stands gone full current all =
+    let was = map (λ (p : GivenBack _). p.was.value) gone in
+    let long : length (joined was) ≡ length gone * 1024 = joined_long was (all_append was full all).0 ∙ ap (λ n. n * 1024) (length-map gone (λ (p : GivenBack _). p.was.value)) in
+    sym (ap (λ (xs : List _). drop (length gone * 1024) xs) (ap (λ (xs : List _). xs ++ current) (flat_map-append (λ (p : Vec _ Global). p.items) was full) ∙ append_assoc (joined was) (joined full) current)
+    ∙ drop_at (joined was) (joined full ++ current) (length gone * 1024) long)
+
+-- one more full piece
+pub one_full_more : {A : Type 0} (gone : List (GivenBack A)) (full : List (Vec A Global)) (piece : Vec A Global) → pieces_of gone (full ++ piece ∷ []) ≡ pieces_of gone full ++ piece ∷ []
+one_full_more gone full piece = sym (append_assoc (map (λ (p : GivenBack _). p.was.value) gone) full (piece ∷ []))
+
+pub one_full_joined : {A : Type 0} (gone : List (GivenBack A)) (full : List (Vec A Global)) (piece : Vec A Global) (next : List A)
+    → joined (pieces_of gone (full ++ piece ∷ [])) ++ next ≡ (joined (pieces_of gone full) ++ piece.items) ++ next
+one_full_joined gone full piece next =
+    ap (λ (xs : List _). xs ++ next) (ap joined (one_full_more gone full piece) ∙ flat_map-append (λ (p : Vec _ Global). p.items) (pieces_of gone full) (piece ∷ []) ∙ ap (λ (xs : List _). joined (pieces_of gone full) ++ xs) (append-nil piece.items))
+
+pub are_more : {A : Type 0} (gone : List (GivenBack A)) (full : List (Vec A Global)) (piece : Vec A Global) (next : List A) → ArePieces (pieces_of gone full) piece.items → length piece.items ≡ 1024
+    → length next ≡ 1 → length gone + length full < 2 ^ 53 → ArePieces (pieces_of gone (full ++ piece ∷ [])) next
+are_more gone full piece next are filled one few =
+    subst (λ (ps : List (Vec _ Global)). ArePieces ps next) (sym (one_full_more gone full piece))
+    (record {
+      whole = append_all (pieces_of gone full) (piece ∷ []) are.whole (filled, tt);
+      within = omega (arith, one);
+      begun = λ h. omega (arith, one);
+      few = omega (arith, few, length-append (pieces_of gone full) (piece ∷ []), length-pieces gone full);
+    })
+
+-- one piece given back
+pub one_gone_more : {A : Type 0} (gone : List (GivenBack A)) (back : GivenBack A) (piece : Vec A Global) (full : List (Vec A Global)) → back.was.value ≡ piece
+    → pieces_of (gone ++ back ∷ []) full ≡ pieces_of gone (piece ∷ full)
+one_gone_more [] back piece full same = ap (λ (p : Vec _ Global). p ∷ full) same
+one_gone_more (x ∷ gone) back piece full same = ap (λ (ps : List (Vec _ Global)). x.was.value ∷ ps) (one_gone_more gone back piece full same)
+
+-- the memory of at most 1,024 forgotten elements stands, where so many pieces are gone as can be, and in the piece that is filled are at most 1,024
+pub given_back : (before after left long current forgotten : ℕ) → HaveGivenBack before after left (forgotten / 1024) → forgotten ≤ long → long ≡ (after + left) * 1024 + current → current ≤ 1024
+    → forgotten ≤ after * 1024 + 1024
+given_back before after zero long current forgotten have within all few = omega (arith, within, all, few)
+given_back before after (suc left) long current forgotten have within all few = let enough = have.0 (omega arith) in omega (arith, enough)
+
+-- what is said of a result, where it exists, said in other words
+pub if_ok : {A B E : Type 0} (f : A → B) (result : Result A E) (x y : B) → x ≡ y → IfOk result (λ a. f a ≡ x) → IfOk result (λ a. f a ≡ y)
+if_ok f (Ok a) x y e h = h ∙ e
+if_ok f (Err e') x y e h = tt

@@ -5,10 +5,11 @@ use Rattle.pfair_table.specs.declared.pick.Pick.{Pick}
 use Rattle.pfair_table.specs.declared.pick.Decided.{Decided}
 use Rattle.pfair_table.specs.Table.{Table}
 
--- the table of each slot from slot 0 on, and what was decided at its boundary
+-- the table of each slot from slot 0 on, what was decided at its boundary, and below which slot these are forgotten
 pub record PlannedSlots : Type 0 where
   pub tables : List Table
   pub decided : List (List Decided)
+  pub forgotten : ℕ
 
 -- tables, slot by slot
 abbrev pub as_tables : Vec (Vec Pick Global) Global → List Table

@@ -15,12 +15,14 @@ use Rattle.pfair_table.specs.Events.{Course, is_plannable}
 use Rattle.pfair_table.specs.Laws.{IsOf}
 use Rattle.pfair_table.specs.Queue.{IsSteady}
 
--- a dispatcher, as a contract sees it
+-- A dispatcher, as a contract sees it: the tables are those of all slots that were planned, and its calls answer for those from
+-- `forgotten` on.
 pub record Dispatch : Type 0 where
   pub settings : Settings
   pub held : HeldRows
   pub tables : List Table
   pub decided : List (List Decided)
+  pub forgotten : ℕ
   pub spent : Bool
 
 abbrev pub course_of : Dispatch → Course

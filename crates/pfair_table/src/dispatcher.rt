@@ -1,6 +1,6 @@
 //! The dispatcher.
 
-ghost use Rattle.std.specs.Prelude.{◌≡◌, ◌≤◌, ◌<◌, ◌++◌, ◌∷◌, [], true, false, IfOk, IfErr, IfSome, IfNone, OnOk, OnErr, Err, length, slice_get};
+ghost use Rattle.std.specs.Prelude.{◌≡◌, ◌≤◌, ◌<◌, ◌++◌, ◌∷◌, [], true, false, IfOk, IfErr, IfSome, IfNone, OnOk, OnErr, Err, None, drop, length, max, min, slice_get};
 ghost use Rattle.std.specs.Option.{option_map};
 ghost use Rattle.pfair_replica.specs.Replica.{Untorn, has_torn};
 ghost use Rattle.pfair_replica.specs.Offered.{taken, absorbed};
@@ -51,7 +51,7 @@ impl<R: Ready> Model for Dispatcher<R> {
 
     ghost Value = { Dispatch };
 
-    ghost view = { λ a. record { settings = a.settings; held = a.replica; tables = a.planned.tables; decided = a.planned.decided; spent = a.spent } };
+    ghost view = { λ a. record { settings = a.settings; held = a.replica; tables = a.planned.tables; decided = a.planned.decided; forgotten = a.planned.forgotten; spent = a.spent } };
 
     ghost invariant = { λ a. IsKept a.settings (replica_of a.replica) a.planned.tables a.planned.decided a.spent a.planner.members (R.now a.planner.ready) (R.held a.planner.ready) × AreReadingsOf (replica_of a.replica) a.planner.readings.by_processor.items };
 }
@@ -66,6 +66,7 @@ impl<R: Ready> Dispatcher<R> {
         requires { IsShape settings.processors capacity }
         ensures settings { IfOk result (λ d. d.settings ≡ settings) }
         ensures course { IfOk result (λ d. course_of d ≡ start settings capacity) }
+        ensures standing { IfOk result (λ d. d.forgotten ≡ 0) }
         ensures spent { IfOk result (λ d. d.spent ≡ false) }
     {
         let replica = Replica::new(alloc, settings.processors(), capacity)?;
@@ -136,7 +137,8 @@ impl<R: Ready> Dispatcher<R> {
         prove!(other.replica.processors() >= 1);
     }
 
-    /// The slot that is planned next: so many slots are planned, at most as many as the run has.
+    /// The slot that is planned next: so many slots are planned, at most as many as the run has. The
+    /// forgotten ones count.
     pub fn next_slot(&self) -> u64
         ensures value { result ≡ length self.now.tables }
         ensures decided { result ≡ length self.now.decided }
@@ -147,30 +149,57 @@ impl<R: Ready> Dispatcher<R> {
         self.planned.len() as u64
     }
 
+    /// The slot below which all is forgotten: 0 where nothing is, and at most
+    /// [`next_slot`](Dispatcher::next_slot).
+    pub fn forgotten(&self) -> u64
+        ensures value { result ≡ self.now.forgotten }
+        ensures planned { self.now.forgotten ≤ length self.now.tables }
+    {
+        self.planned.forgotten() as u64
+    }
+
+    /// Forgets the tables, places and decisions of all slots below `slots`, or of all that are planned
+    /// where these are fewer. Plans, members and what is held stay as they are, and what was
+    /// forgotten stays forgotten, also after [`reopen`](Dispatcher::reopen), which plans these slots
+    /// again.
+    ///
+    /// The memory of 1,024 slots is given back at a time, as soon as all of them are forgotten and a
+    /// later slot is planned; 16 bytes stand for these. It costs the slots that are given back, and it
+    /// takes no memory.
+    pub fn forget(&mut self, slots: u64)
+        ensures { self.new ≡ record self.old { forgotten = max self.old.forgotten (min slots (length self.old.tables)) } }
+    {
+        self.planned.forget(slots as usize);
+    }
+
     /// The table of a slot: its quanta in the PD2 order. `None` exactly where the slot isn't
-    /// planned.
+    /// planned, or is forgotten.
     pub fn table(&self, slot: u64) -> Option<&[Pick]>
-        ensures { option_map (λ rows. rows.now) result ≡ slice_get self.now.tables slot }
+        ensures value { self.now.forgotten ≤ slot → option_map (λ rows. rows.now) result ≡ slice_get self.now.tables slot }
+        ensures forgotten { slot < self.now.forgotten → result ≡ None }
     {
         self.planned.table(slot as usize)
     }
 
     /// The places of a slot: for each row of its table the processor that runs it. A task that is
     /// in the table before stays where it was, and the others, in row order, each take the least
-    /// processor that no row keeps and none has taken. `None` exactly where the slot isn't planned.
+    /// processor that no row keeps and none has taken. `None` exactly where the slot isn't planned,
+    /// or is forgotten.
     /// The law [`places_are_kept`](crate::laws::places_are_kept) holds of them, since no table has
     /// more rows than there are processors, or a task twice.
     pub fn places(&self, slot: u64) -> Option<&[u8]>
-        ensures value { option_map (λ places. places.now) result ≡ slice_get (places_of self.now.tables) slot }
+        ensures value { self.now.forgotten ≤ slot → option_map (λ places. places.now) result ≡ slice_get (places_of self.now.tables) slot }
+        ensures forgotten { slot < self.now.forgotten → result ≡ None }
         ensures fit { AllByRecursion (IsFit self.now.settings.processors) self.now.tables }
     {
         self.planned.places(slot as usize)
     }
 
     /// The decisions at the boundary of a slot, in the order of processor and number. `None`
-    /// exactly where the slot isn't planned.
+    /// exactly where the slot isn't planned, or is forgotten.
     pub fn decisions(&self, slot: u64) -> Option<&[Decided]>
-        ensures { option_map (λ rows. rows.now) result ≡ slice_get self.now.decided slot }
+        ensures value { self.now.forgotten ≤ slot → option_map (λ rows. rows.now) result ≡ slice_get self.now.decided slot }
+        ensures forgotten { slot < self.now.forgotten → result ≡ None }
     {
         self.planned.decided(slot as usize)
     }
@@ -191,14 +220,14 @@ impl<R: Ready> Dispatcher<R> {
         Some(self.planner.members())
     }
 
-    /// The tables of all slots that are planned, and their places. Each is moved, and none is copied:
-    /// it costs the number of those slots.
+    /// The tables of the slots that are planned and not forgotten, and their places. Each is moved,
+    /// and none is copied: it costs the number of those slots.
     ///
     /// # Errors
     /// `AllocError` where memory was wanted and refused.
     pub fn into_run(self) -> Result<Run, AllocError>
-        ensures tables { IfOk result (λ run. as_tables run.tables ≡ self.tables) }
-        ensures places { IfOk result (λ run. as_places run.places ≡ places_of self.tables) }
+        ensures tables { IfOk result (λ run. as_tables run.tables ≡ drop self.forgotten self.tables) }
+        ensures places { IfOk result (λ run. as_places run.places ≡ drop self.forgotten (places_of self.tables)) }
     {
         self.planned.into_run()
     }
@@ -290,7 +319,8 @@ impl<R: Ready> Dispatcher<R> {
     }
 
     /// Makes all but the replica and what was planned anew from these two, after which plans go on
-    /// as if no memory had been wanted. It costs what the plans of all slots so far cost.
+    /// as if no memory had been wanted. Forgotten slots are planned once more, and stay forgotten. It
+    /// costs what the plans of all slots so far cost.
     ///
     /// # Errors
     /// [`PlanFault::Torn`] exactly where something held is torn; nothing has then changed.
@@ -335,6 +365,7 @@ fn plan_onto<R: Ready>(
     ensures tables { OnOk result (planned.new.tables ≡ planned.old.tables ++ table settings (replica_of replica.now) (length planned.old.tables) ∷ []) }
     ensures decided { OnOk result (planned.new.decided ≡ planned.old.decided ++ decisions settings (replica_of replica.now) (length planned.old.tables) ∷ []) }
     ensures step { OnOk result (IsInStep settings (replica_of replica.now) (length planned.new.tables) planner.new.members (R.now planner.new.ready) (R.held planner.new.ready)) }
+    ensures forgotten { planned.new.forgotten ≡ planned.old.forgotten }
     ensures err { OnErr result (planned.new ≡ planned.old) }
     ensures readings { AreReadingsOf (replica_of replica.now) planner.new.readings.by_processor.items }
 {

@@ -1,12 +1,15 @@
-//! A list that grows without a copy of what it holds.
+//! A list that grows without a copy of what it holds, and whose beginning can be forgotten.
 
-ghost use Rattle.std.specs.Prelude.{◌≡◌, ◌<◌, ◌≤◌, ◌-◌, ◌++◌, ◌∷◌, [], IfOk, OnOk, OnErr, length, slice_get};
+ghost use Rattle.std.specs.Prelude.{◌≡◌, ◌<◌, ◌≤◌, ◌+◌, ◌*◌, ◌-◌, ◌^◌, ◌++◌, ◌∷◌, [], IfOk, OnOk, OnErr, None, drop, length, max, min, slice_get, vec_capacity};
 ghost use Rattle.std.specs.Option.{option_copied};
+ghost use Rattle.pfair_table.specs.Pieces.{joined, pieces_of, IsGivenBack, HaveGivenBack};
 
 use crate::room::emptied;
 use std::alloc::{AllocError, Global};
+use std::collections::VecDeque;
 use std::marker::Model;
 use std::mem;
+use std::snapshot::Snapshot;
 
 // The elements of a piece.
 const PIECE: usize = 1024;
@@ -18,61 +21,91 @@ const PIECES_AT_FIRST: usize = 1024;
 // The most full pieces: no memory lists so many, and their elements can still be counted.
 const MOST_PIECES: usize = 1 << 53;
 
+// A piece whose memory was given back: how many elements it had and, for clauses alone, which.
+#[derive(Drop)]
+struct GivenBack<T: Drop> {
+    len: usize,
+    was: Snapshot<Vec<T>>,
+}
+
 /// A list that is kept in pieces of 1,024 elements. An element stays where it was put: a push copies
 /// nothing of what stands, but now and then the list of pieces, where these are more than 1,024.
+///
+/// The elements below an index can be forgotten. The memory of a full piece is given back as soon as
+/// all its elements are; each of the others keeps its index.
 #[derive(Drop)]
 pub(crate) struct Pieces<T: Drop> {
     alloc: Global,
-    full: Vec<Vec<T>>,
+    // how many elements are forgotten
+    forgotten: usize,
+    // the pieces whose memory was given back, and those that are full, which come after them
+    gone: Vec<GivenBack<T>>,
+    full: VecDeque<Vec<T>>,
     current: Vec<T>,
     // pieces that are taken where one is full, each with room
     spare: Vec<Vec<T>>,
 }
 
 impl<T: Drop> Model for Pieces<T> {
-    ghost use Rattle.std.specs.Prelude.{List, ◌++◌};
-    ghost use Rattle.pfair_table.specs.Pieces.{joined, ArePieces};
+    ghost use Rattle.std.specs.Prelude.{◌++◌, ◌*◌, ◌+◌, ◌≤◌, length, vec_capacity};
+    ghost use Rattle.pfair_table.specs.Pieces.{PieceList, pieces_of, joined, ArePieces, IsForgotten};
 
-    ghost Value = { List T };
+    ghost Value = { PieceList T };
 
-    ghost view = { λ p. joined p.full.items ++ p.current.items };
+    ghost view = { λ p. record { items = joined (pieces_of p.gone.items p.full.items) ++ p.current.items; forgotten = p.forgotten; gone = length p.gone.items * 1024 } };
 
-    ghost invariant = { λ p. ArePieces p.full.items p.current.items };
+    ghost invariant = { λ p. ArePieces (pieces_of p.gone.items p.full.items) p.current.items × IsForgotten (length p.gone.items * 1024) p.forgotten (length (joined (pieces_of p.gone.items p.full.items) ++ p.current.items)) × (length p.gone.items + length p.full.items ≤ vec_capacity p.gone) };
 }
 
 impl<T: Drop> Pieces<T> {
     /// The list without elements. It takes no memory.
     pub(crate) fn new(alloc: Global) -> Pieces<T>
-        ensures { result ≡ [] }
+        ensures { result ≡ record { items = []; forgotten = 0; gone = 0 } }
     {
         Pieces {
             alloc,
-            full: Vec::new(alloc),
+            forgotten: 0,
+            gone: Vec::new(alloc),
+            full: VecDeque::new(alloc),
             current: Vec::new(alloc),
             spare: Vec::new(alloc),
         }
     }
 
-    /// How many elements there are.
+    /// How many elements there are, the forgotten ones among them.
     pub(crate) fn len(&self) -> usize
-        ensures { result ≡ length self.now }
+        ensures { result ≡ length self.now.items }
     {
-        self.full.len() * PIECE + self.current.len()
+        (self.gone.len() + self.full.len()) * PIECE + self.current.len()
     }
 
-    /// The element at an index.
-    pub(crate) fn get(&self, index: usize) -> Option<&T>
-        ensures { option_copied result ≡ slice_get self.now index }
+    /// How many elements are forgotten.
+    pub(crate) fn forgotten(&self) -> usize
+        ensures value { result ≡ self.now.forgotten }
+        ensures within { self.now.forgotten ≤ length self.now.items }
     {
-        match self.full.get(index / PIECE) {
+        self.forgotten
+    }
+
+    /// The element at an index, or none where that is forgotten.
+    pub(crate) fn get(&self, index: usize) -> Option<&T>
+        ensures value { self.now.forgotten ≤ index → option_copied result ≡ slice_get self.now.items index }
+        ensures forgotten { index < self.now.forgotten → result ≡ None }
+    {
+        if index < self.forgotten {
+            return None;
+        }
+        match self.full.get(index / PIECE - self.gone.len()) {
             Some(piece) => piece.get(index % PIECE),
-            None => self.current.get(index - self.full.len() * PIECE),
+            None => self
+                .current
+                .get(index - (self.gone.len() + self.full.len()) * PIECE),
         }
     }
 
-    /// The last element.
+    /// The last element, also where it is forgotten.
     pub(crate) fn last(&self) -> Option<&T>
-        ensures { option_copied result ≡ slice_get self.now (length self.now - 1) }
+        ensures { option_copied result ≡ slice_get self.now.items (length self.now.items - 1) }
     {
         self.current.last()
     }
@@ -82,7 +115,7 @@ impl<T: Drop> Pieces<T> {
     /// # Errors
     /// `AllocError` where memory was wanted and refused; the list is then as before.
     pub(crate) fn push(&mut self, value: T) -> Result<(), AllocError>
-        ensures ok { OnOk result (self.new ≡ self.old ++ value ∷ []) }
+        ensures ok { OnOk result (self.new ≡ record self.old { items = self.old.items ++ value ∷ [] }) }
         ensures err { OnErr result (self.new ≡ self.old) }
     {
         let room = PIECE - self.current.len();
@@ -91,15 +124,17 @@ impl<T: Drop> Pieces<T> {
             self.current.push(value)?;
             return Ok(());
         }
-        if self.full.len() >= MOST_PIECES {
-            return Err(AllocError);
-        }
-        self.full.reserve(pieces_wanted(&self.full))?;
+        room_for_one(&mut self.gone, &mut self.full)?;
         let mut next = take_piece(self.alloc, &mut self.spare)?;
         next.push(value)?;
         let full = mem::replace(&mut self.current, next);
-        self.full.push_reserved(full);
-        Ok(())
+        match self.full.push_back(full) {
+            Ok(()) => Ok(()),
+            Err(refused) => {
+                self.current = refused.value;
+                Err(AllocError)
+            }
+        }
     }
 
     /// Takes room for so many further elements, so that pushing them takes no memory where they are
@@ -111,24 +146,102 @@ impl<T: Drop> Pieces<T> {
         ensures { self.new ≡ self.old }
     {
         self.current.reserve(PIECE - self.current.len())?;
-        self.full.reserve(pieces_wanted(&self.full))?;
+        room_for_one(&mut self.gone, &mut self.full)?;
         add_pieces(self.alloc, &mut self.spare, more / PIECE + 1)
     }
 
-    /// The elements as one list. It costs their number: each is moved.
+    /// Forgets the elements below an index, or all where there are fewer. What was forgotten stays
+    /// forgotten.
+    pub(crate) fn forget(&mut self, below: usize)
+        ensures items { self.new.items ≡ self.old.items }
+        ensures forgotten { self.new.forgotten ≡ max self.old.forgotten (min below (length self.old.items)) }
+        ensures given_back { IsGivenBack self.new }
+    {
+        self.forgotten = self.forgotten.max(below.min(self.len()));
+        give_back(&mut self.gone, &mut self.full, self.forgotten / PIECE);
+    }
+
+    /// The elements that aren't forgotten as one list. It costs their number: each is moved.
     ///
     /// # Errors
     /// `AllocError` where memory was wanted and refused.
     pub(crate) fn into_list(self) -> Result<Vec<T>, AllocError>
-        ensures { IfOk result (λ list. list.items ≡ self) }
+        ensures { IfOk result (λ list. list.items ≡ drop self.forgotten self.items) }
     {
-        let mut list = Vec::with_capacity(self.alloc, self.len())?;
-        for mut piece in self.full {
-            list.append(&mut piece)?;
-        }
+        let from = self.forgotten - self.gone.len() * PIECE;
+        from_index(self.into_standing()?, from)
+    }
+
+    // The elements whose memory wasn't given back.
+    fn into_standing(self) -> Result<Vec<T>, AllocError>
+        ensures { IfOk result (λ list. list.items ≡ drop self.gone self.items) }
+    {
+        let room = self.full.len() * PIECE + self.current.len();
+        let mut list = Vec::with_capacity(self.alloc, room)?;
+        append_all(&mut list, self.full)?;
         let mut current = self.current;
         list.append(&mut current)?;
         Ok(list)
+    }
+}
+
+// Moves the elements of pieces to the end of a list.
+fn append_all<T: Drop>(list: &mut Vec<T>, pieces: VecDeque<Vec<T>>) -> Result<(), AllocError>
+    ensures { OnOk result (list.new.items ≡ list.old.items ++ joined pieces.items) }
+{
+    for mut piece in pieces {
+        list.append(&mut piece)?;
+    }
+    Ok(())
+}
+
+// What a list has from an index on.
+fn from_index<T: Drop>(mut list: Vec<T>, from: usize) -> Result<Vec<T>, AllocError>
+    requires { from ≤ length list.items }
+    ensures { IfOk result (λ rest. rest.items ≡ drop from list.items) }
+{
+    if from == 0 {
+        return Ok(list);
+    }
+    list.split_off(from)
+}
+
+// Takes room for one more full piece, and for each full piece in the list of those that are given back.
+fn room_for_one<T: Drop>(
+    gone: &mut Vec<GivenBack<T>>,
+    full: &mut VecDeque<Vec<T>>,
+) -> Result<(), AllocError>
+    requires { length gone.old.items + length full.old.items ≤ 2 ^ 53 }
+    ensures gone { gone.new.items ≡ gone.old.items }
+    ensures full { full.new.items ≡ full.old.items }
+    ensures capacity { vec_capacity gone.old ≤ vec_capacity gone.new }
+    ensures room { OnOk result (length gone.old.items + length full.old.items < vec_capacity gone.new) }
+    ensures few { OnOk result (length gone.old.items + length full.old.items < 2 ^ 53) }
+{
+    let pieces = gone.len() + full.len();
+    if pieces >= MOST_PIECES {
+        return Err(AllocError);
+    }
+    let more = PIECES_AT_FIRST.saturating_sub(pieces).max(1);
+    full.reserve(more)?;
+    gone.reserve(full.len() + more)
+}
+
+// Gives back the memory of full pieces, the first ones, until so many are gone or none is left.
+fn give_back<T: Drop>(gone: &mut Vec<GivenBack<T>>, full: &mut VecDeque<Vec<T>>, whole: usize)
+    requires { length gone.old.items + length full.old.items ≤ vec_capacity gone.old }
+    ensures pieces { pieces_of gone.new.items full.new.items ≡ pieces_of gone.old.items full.old.items }
+    ensures capacity { vec_capacity gone.new ≡ vec_capacity gone.old }
+    ensures given_back { HaveGivenBack (length gone.old.items) (length gone.new.items) (length full.new.items) whole }
+{
+    for _ in gone.len()..whole {
+        let Some(piece) = full.pop_front() else {
+            return;
+        };
+        gone.push_reserved(GivenBack {
+            len: piece.len(),
+            was: Snapshot::of(&piece),
+        });
     }
 }
 
@@ -152,11 +265,4 @@ fn take_piece<T: Drop>(alloc: Global, spare: &mut Vec<Vec<T>>) -> Result<Vec<T>,
         Some(piece) => emptied(piece, PIECE),
         None => Vec::with_capacity(alloc, PIECE),
     }
-}
-
-// For how many further pieces their list has to have room: all that there ever are at first, and one.
-fn pieces_wanted<T>(full: &[Vec<T>]) -> usize
-    ensures { 1 ≤ result }
-{
-    PIECES_AT_FIRST.saturating_sub(full.len()).max(1)
 }

@@ -1,6 +1,6 @@
 //! What is planned so far.
 
-ghost use Rattle.std.specs.Prelude.{◌≡◌, ◌++◌, ◌∷◌, [], IfOk, OnOk, OnErr, length, map, slice_get};
+ghost use Rattle.std.specs.Prelude.{◌≡◌, ◌<◌, ◌≤◌, ◌++◌, ◌∷◌, [], IfOk, OnOk, OnErr, None, drop, length, map, max, min, slice_get};
 ghost use Rattle.std.specs.Option.{option_map};
 ghost use Rattle.pfair_table.specs.Places.{places_of};
 ghost use Rattle.pfair_table.specs.Planned.{last_or, as_tables, as_places};
@@ -11,7 +11,8 @@ use crate::room::Room;
 use std::alloc::{AllocError, Global};
 use std::marker::Model;
 
-/// What a run planned: the tables of all its slots, from slot 0 on, and their places.
+/// What a run planned: the tables of its slots and their places, from slot 0 on, or from the first
+/// that isn't forgotten.
 #[derive(Debug, Drop)]
 pub struct Run {
     /// The table of each slot: its quanta in the PD2 order.
@@ -29,7 +30,7 @@ struct PlannedSlot {
 }
 
 /// The table of each slot that is planned, from slot 0 on, with its places, and the decisions at
-/// its boundary.
+/// its boundary. Those of the slots below one may be forgotten.
 #[derive(Drop)]
 pub(crate) struct Planned {
     slots: Pieces<PlannedSlot>,
@@ -45,15 +46,15 @@ impl Model for Planned {
 
     ghost Value = { PlannedSlots };
 
-    ghost view = { λ p. record { tables = map (λ s. s.table.items) p.slots; decided = map (λ s. s.decided.items) p.slots } };
+    ghost view = { λ p. record { tables = map (λ s. s.table.items) p.slots.items; decided = map (λ s. s.decided.items) p.slots.items; forgotten = p.slots.forgotten } };
 
-    ghost invariant = { λ p. map (λ s. s.places.items) p.slots ≡ places_of (map (λ s. s.table.items) p.slots) };
+    ghost invariant = { λ p. map (λ s. s.places.items) p.slots.items ≡ places_of (map (λ s. s.table.items) p.slots.items) };
 }
 
 impl Planned {
     /// Nothing is planned.
     pub(crate) fn new(alloc: Global) -> Planned
-        ensures { result ≡ record { tables = []; decided = [] } }
+        ensures { result ≡ record { tables = []; decided = []; forgotten = 0 } }
     {
         Planned {
             slots: Pieces::new(alloc),
@@ -62,7 +63,7 @@ impl Planned {
         }
     }
 
-    /// How many slots are planned.
+    /// How many slots are planned, the forgotten ones among them.
     pub(crate) fn len(&self) -> usize
         ensures tables { result ≡ length self.now.tables }
         ensures decided { result ≡ length self.now.decided }
@@ -70,31 +71,49 @@ impl Planned {
         self.slots.len()
     }
 
-    /// The table of a slot.
+    /// How many slots are forgotten.
+    pub(crate) fn forgotten(&self) -> usize
+        ensures value { result ≡ self.now.forgotten }
+        ensures planned { self.now.forgotten ≤ length self.now.tables }
+    {
+        self.slots.forgotten()
+    }
+
+    /// Forgets the slots below one, or all where there are fewer.
+    pub(crate) fn forget(&mut self, below: usize)
+        ensures { self.new ≡ record self.old { forgotten = max self.old.forgotten (min below (length self.old.tables)) } }
+    {
+        self.slots.forget(below);
+    }
+
+    /// The table of a slot, or none where that is forgotten.
     pub(crate) fn table(&self, slot: usize) -> Option<&[Pick]>
-        ensures { option_map (λ rows. rows.now) result ≡ slice_get self.now.tables slot }
+        ensures value { self.now.forgotten ≤ slot → option_map (λ rows. rows.now) result ≡ slice_get self.now.tables slot }
+        ensures forgotten { slot < self.now.forgotten → result ≡ None }
     {
         let planned = self.slots.get(slot)?;
         Some(&planned.table)
     }
 
-    /// The places of a slot.
+    /// The places of a slot, or none where that is forgotten.
     pub(crate) fn places(&self, slot: usize) -> Option<&[u8]>
-        ensures { option_map (λ places. places.now) result ≡ slice_get (places_of self.now.tables) slot }
+        ensures value { self.now.forgotten ≤ slot → option_map (λ places. places.now) result ≡ slice_get (places_of self.now.tables) slot }
+        ensures forgotten { slot < self.now.forgotten → result ≡ None }
     {
         let planned = self.slots.get(slot)?;
         Some(&planned.places)
     }
 
-    /// The decisions at the boundary of a slot.
+    /// The decisions at the boundary of a slot, or none where that is forgotten.
     pub(crate) fn decided(&self, slot: usize) -> Option<&[Decided]>
-        ensures { option_map (λ rows. rows.now) result ≡ slice_get self.now.decided slot }
+        ensures value { self.now.forgotten ≤ slot → option_map (λ rows. rows.now) result ≡ slice_get self.now.decided slot }
+        ensures forgotten { slot < self.now.forgotten → result ≡ None }
     {
         let planned = self.slots.get(slot)?;
         Some(&planned.decided)
     }
 
-    /// The table of the last slot, or no rows where nothing is planned.
+    /// The table of the last slot, also where it is forgotten, or no rows where nothing is planned.
     pub(crate) fn last_table(&self) -> &[Pick]
         ensures { result.now ≡ last_or [] self.now.tables }
     {
@@ -104,7 +123,7 @@ impl Planned {
         }
     }
 
-    /// The places of the last slot, or none where nothing is planned.
+    /// The places of the last slot, also where it is forgotten, or none where nothing is planned.
     pub(crate) fn last_places(&self) -> &[u8]
         ensures { result.now ≡ last_or [] (places_of self.now.tables) }
     {
@@ -143,7 +162,7 @@ impl Planned {
         decided: Vec<Decided>,
     ) -> Result<(), AllocError>
         requires { places_of (self.old.tables ++ table.items ∷ []) ≡ places_of self.old.tables ++ places.items ∷ [] }
-        ensures ok { OnOk result (self.new ≡ record { tables = self.old.tables ++ table.items ∷ []; decided = self.old.decided ++ decided.items ∷ [] }) }
+        ensures ok { OnOk result (self.new ≡ record self.old { tables = self.old.tables ++ table.items ∷ []; decided = self.old.decided ++ decided.items ∷ [] }) }
         ensures err { OnErr result (self.new ≡ self.old) }
     {
         self.slots.push(PlannedSlot {
@@ -153,10 +172,10 @@ impl Planned {
         })
     }
 
-    /// All tables and their places: each is moved, and none is copied.
+    /// The tables that aren't forgotten and their places: each is moved, and none is copied.
     pub(crate) fn into_run(self) -> Result<Run, AllocError>
-        ensures tables { IfOk result (λ run. as_tables run.tables ≡ self.tables) }
-        ensures places { IfOk result (λ run. as_places run.places ≡ places_of self.tables) }
+        ensures tables { IfOk result (λ run. as_tables run.tables ≡ drop self.forgotten self.tables) }
+        ensures places { IfOk result (λ run. as_places run.places ≡ drop self.forgotten (places_of self.tables)) }
     {
         run_of(self.slots.into_list()?)
     }

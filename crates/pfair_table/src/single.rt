@@ -60,6 +60,7 @@ impl From<AllocError> for ScriptFault {
 /// number of slots. [`ScriptFault::Memory`] where memory was wanted and refused.
 pub fn run_script<R: Ready>(alloc: Global, script: &Script) -> Result<Dispatcher<R>, ScriptFault>
     ensures ok { IfOk result (IsRunOf script.now) }
+    ensures standing { IfOk result (λ d. d.forgotten ≡ 0) }
     ensures fault { IfErr result (IsScriptFaultOf script.now) }
 {
     let mut dispatcher = take_script(alloc, script)?;
@@ -76,6 +77,8 @@ pub fn take_script<R: Ready>(alloc: Global, script: &Script) -> Result<Dispatche
     ensures settings { IfOk result (λ d. d.settings ≡ script.now.settings) }
     ensures held { IfOk result (λ d. replica_of d.held ≡ replica_of_logs script.now.logs) }
     ensures nothing { IfOk result (λ d. d.tables ≡ []) }
+    ensures undecided { IfOk result (λ d. d.decided ≡ []) }
+    ensures standing { IfOk result (λ d. d.forgotten ≡ 0) }
     ensures able { IfOk result (λ d. d.spent ≡ false) }
 {
     let settings = script.settings();
@@ -91,6 +94,7 @@ fn plan_script<R: Ready>(dispatcher: &mut Dispatcher<R>, script: &Script) -> Res
     requires settings { dispatcher.old.settings ≡ script.now.settings }
     requires held { replica_of dispatcher.old.held ≡ replica_of_logs script.now.logs }
     ensures ok { OnOk result (IsRunOf script.now dispatcher.new) }
+    ensures standing { dispatcher.new.forgotten ≡ dispatcher.old.forgotten }
     ensures fault { IfErr result (IsScriptFaultOf script.now) }
 {
     let frontier = dispatcher.replica().frontier();
@@ -124,6 +128,7 @@ fn take_log<R: Ready>(
 fn plan_all<R: Ready>(dispatcher: &mut Dispatcher<R>) -> Result<(), PlanFault>
     ensures settings { OnOk result (dispatcher.new.settings ≡ dispatcher.old.settings) }
     ensures held { OnOk result (dispatcher.new.held ≡ dispatcher.old.held) }
+    ensures standing { dispatcher.new.forgotten ≡ dispatcher.old.forgotten }
     ensures whole { OnOk result (IsWholePlan dispatcher.new) }
 {
     'slots: while let Step::Planned(_) = dispatcher.plan_next()? {}

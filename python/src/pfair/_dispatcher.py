@@ -240,6 +240,12 @@ class Dispatcher:
         none where nothing is announced at it and no entry came since the slot before."""
         self._call("pfair_reserve", whole(slots, 64, "slots"))
 
+    def forget(self, slots: int) -> None:
+        """Forgets what was planned of all slots below `slots`, or of all planned slots where these are fewer. Their memory is given back,
+        so that it doesn't grow in a run without end; calls that are asked for such a slot raise NotPlanned, and so do lags and pictures of
+        any slots, which count from slot 0 on. Plans go on as if the slots stood."""
+        self._call("pfair_forget", whole(slots, 64, "slots"))
+
     def reopen(self) -> None:
         """After memory was refused to a plan, makes anew what plans need. It costs what the plans of all slots so far cost."""
         self._call("pfair_reopen")

@@ -19,5 +19,5 @@ plan_settled-requires-clause-early g c =
 pub returns-clause-behind : goal.returns-clause-behind
 returns-clause-behind g c =
     on_ok_two c.plan_settled.result
-    (λ able whole. behind_still c.args.dispatcher.now c.plan_settled.new.dispatcher c.args.desk.now c.requires.behind able c.plan_settled.ensures.held whole)
+    (λ able whole. behind_still c.args.dispatcher.now c.plan_settled.new.dispatcher c.args.desk.now c.requires.behind able c.plan_settled.ensures.forgotten c.plan_settled.ensures.held whole)
     c.plan_settled.ensures.able c.plan_settled.ensures.whole

@@ -6,7 +6,7 @@ use Rattle.pfair_board.proofs.worker.run_worker.Goals as goal
 pub plan_all-planned-requires-clause-behind : goal.plan_all-planned-requires-clause-behind
 plan_all-planned-requires-clause-behind g c =
     behind_fresh c.in_ok-dispatcher.dispatcher c.tell.new.desk c.args.settings.processors c.capacity.result
-    c.in_ok-dispatcher.ensures.spent (ap (λ (x : Course). x.held) c.in_ok-dispatcher.ensures.course) (ap (λ (x : Course). x.tables) c.in_ok-dispatcher.ensures.course)
+    c.in_ok-dispatcher.ensures.spent c.in_ok-dispatcher.ensures.standing (ap (λ (x : Course). x.held) c.in_ok-dispatcher.ensures.course) (ap (λ (x : Course). x.tables) c.in_ok-dispatcher.ensures.course)
     (c.requires.processors ∙ sym c.tell.ensures.own.processors) (c.capacity.ensures.value ∙ sym c.tell.ensures.own.capacity)
 
 pub returns-in_err-planned-clause-grown : goal.returns-in_err-planned-clause-grown

@@ -25,6 +25,6 @@ returns g c = record {
   labels_are =
       c.in_ok-labels.ensures.value
       ∙ ap (λ (l : List Life). map (cut_label (width_of c.args.frame.now) (height_of c.args.frame.now)) (labels c.args.frame.now c.args.names.now l c.args.runs.now)) c.lives.ensures;
-  inside = layers_inside c.args.frame.now c.requires c.args.names.now c.args.history.now c.args.runs.now c.args.dispatcher.now.decided _ c.in_ok-bars.ensures.windows c.in_ok-bars.ensures.quanta c.in_ok-bars.ensures.cells
+  inside = layers_inside c.args.frame.now c.requires.frame c.args.names.now c.args.history.now c.args.runs.now c.args.dispatcher.now.decided _ c.in_ok-bars.ensures.windows c.in_ok-bars.ensures.quanta c.in_ok-bars.ensures.cells
       c.in_ok-marks.ensures.arrows c.in_ok-marks.ensures.held c.in_ok-marks.ensures.late c.in_ok-marks.ensures.refusals c.in_ok-ties.ensures.inside c.in_ok-labels.ensures.inside;
 }

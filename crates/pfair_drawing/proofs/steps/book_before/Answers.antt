@@ -9,7 +9,7 @@ record-requires g c =
     let d = c.args.dispatcher.now in
     let told : c.tell_all.new.book ≡ book_at d.decided d.tables c.loop-earlier.earlier =
     told_is d.decided d.tables c.loop-earlier.earlier c.decided_at.result.now c.loop-earlier.book c.tell_all.new.book c.in_ok-tell_all.ensures c.decided_at.ensures c.loop-earlier.invariant in
-    omega (arith, time_at d.decided d.tables c.loop-earlier.earlier c.tell_all.new.book told, c.loop-earlier-test.true, c.requires)
+    omega (arith, time_at d.decided d.tables c.loop-earlier.earlier c.tell_all.new.book told, c.loop-earlier-test.true, c.requires.slot)
 
 pub loop-earlier-preserved : goal.loop-earlier-preserved
 loop-earlier-preserved g c =

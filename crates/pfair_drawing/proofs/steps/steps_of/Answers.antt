@@ -13,7 +13,7 @@ add_slot-requires-clause-time g c =
     let d = c.args.dispatcher.now in
     let told : c.tell_all.new.book ≡ book_at d.decided d.tables c.loop-slot.slot =
     told_is d.decided d.tables c.loop-slot.slot c.decided_at.result.now c.loop-slot.steps.book c.tell_all.new.book c.in_ok-tell_all.ensures c.decided_at.ensures c.loop-slot.invariant.book in
-    let end : c.args.frame.now.to ≤ 1000000 = c.requires.slots in
+    let end : c.args.frame.now.to ≤ 1000000 = c.requires.frame.slots in
     omega (arith, time_at d.decided d.tables c.loop-slot.slot c.tell_all.new.book told, c.loop-slot-test.true, end)
 
 pub loop-slot-preserved : goal.loop-slot-preserved

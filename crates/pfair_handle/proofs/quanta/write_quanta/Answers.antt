@@ -5,10 +5,10 @@ use Rattle.pfair_table.specs.Table.{Table}
 use Rattle.pfair_handle.proofs.SlotRows.{as-many-at, room-for, slot-counted, slot-written}
 use Rattle.pfair_handle.proofs.quanta.write_quanta.Goals as goal
 
-pub write_slot-at-requires : goal.write_slot-at-requires
-write_slot-at-requires g c =
+pub write_slot-at-requires-clause-room : goal.write_slot-at-requires-clause-room
+write_slot-at-requires-clause-room g c =
     let tables : List Table = c.args.dispatcher.now.tables in
-    let room = room-for (quanta_at tables) c.args.from c.args.to c.loop-slot.slot c.args.rows.now c.loop-slot.invariant.0 c.loop-slot-test.true c.requires in
+    let room = room-for (quanta_at tables) c.args.from c.args.to c.loop-slot.slot c.args.rows.now c.loop-slot.invariant.0 c.loop-slot-test.true c.requires.room in
     let many = as-many-at tables c.loop-slot.slot in
     let at = c.loop-slot.invariant.2 in
     let rows = c.loop-slot.auto.rows in
@@ -19,7 +19,7 @@ loop-slot-preserved g c =
     let tables : List Table = c.args.dispatcher.now.tables in
     let rows_at : ℕ → List PfairQuantum = quanta_at tables in
     let after = c.loop-slot.invariant.0 in
-    let room = room-for rows_at c.args.from c.args.to c.loop-slot.slot c.args.rows.now after c.loop-slot-test.true c.requires in
+    let room = room-for rows_at c.args.from c.args.to c.loop-slot.slot c.args.rows.now after c.loop-slot-test.true c.requires.room in
     let next = slot-counted rows_at c.args.from c.loop-slot.slot c.loop-slot.at (length (slot_of tables c.loop-slot.slot)) after c.loop-slot.invariant.2 (sym (as-many-at tables c.loop-slot.slot)) in (
       omega arith,
       omega arith,

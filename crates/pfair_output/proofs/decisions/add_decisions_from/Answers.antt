@@ -9,6 +9,7 @@ loop-slot-preserved g c =
     let inside : c.loop-slot.slot < length c.args.dispatcher.now.decided = omega (arith, c.loop-slot-test.true, c.loop-slot.auto.slot-end, c.next_slot-slot-end.ensures.decided) in (
       c.in_ok-add_slot.ensures.open,
       slot_more decided_rows c.args.dispatcher.now.decided c.loop-slot.slot (text_so_far c.loop-slot.writer) (text_so_far c.add_slot.new.writer) inside c.in_ok-add_slot.ensures.text ∙ c.loop-slot.invariant.1,
+      omega (arith, c.loop-slot.invariant.2),
     )
 
 pub returns-clause-text : goal.returns-clause-text

@@ -14,6 +14,7 @@ loop-slot-preserved g c =
           ∙ c.loop-slot.invariant.1,
       told_time ds ts c.loop-slot.slot c.loop-slot.book c.add_slot.new.book inside inside' c.in_ok-add_slot.ensures.book ∙ ap (λ n. n + 1) c.loop-slot.invariant.2,
       over_more ds ts c.loop-slot.slot c.loop-slot.book c.add_slot.new.book inside inside' c.in_ok-add_slot.ensures.book ∙ c.loop-slot.invariant.3,
+      omega (arith, c.loop-slot.invariant.4),
     )
 
 pub returns-clause-book : goal.returns-clause-book

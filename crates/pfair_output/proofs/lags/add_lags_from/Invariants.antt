@@ -1,4 +1,4 @@
-use Rattle.std.proofs.Common.{◌≡◌, ◌++◌, drop}
+use Rattle.std.proofs.Common.{◌≡◌, ◌≤◌, ◌++◌, drop}
 use Rattle.pfair_text.specs.Rows.{IsOpen, lines_text, text_so_far}
 use Rattle.pfair_output.specs.Told.{all_slots_told, rows_told}
 use Rattle.pfair_output.proofs.lags.add_lags_from.Given as goal
@@ -11,3 +11,4 @@ invariant-loop-slot g l = IsOpen l.writer
     × (l.book.time ≡ l.slot)
     × (all_slots_told l.book (drop l.slot l.dispatcher.decided) (drop l.slot l.dispatcher.tables)
     ≡ all_slots_told l.fn.book (drop l.fn.book.time l.dispatcher.decided) (drop l.fn.book.time l.dispatcher.tables))
+    × (l.fn.book.time ≤ l.slot)

@@ -6,4 +6,4 @@ use Rattle.pfair_output.proofs.lags.tell_slot.Goals as goal
 pub record-requires : goal.record-requires
 record-requires g c =
     let same : c.tell_all.new.book.time ≡ c.args.book.now.time = ap (λ (b : Book). b.time) c.in_ok-tell_all.ensures ∙ time-all_told c.in-Some.decided.now c.args.book.now in
-    omega (arith, same, c.requires)
+    omega (arith, same, c.requires.room)

@@ -1,4 +1,4 @@
-use Rattle.std.proofs.Common.{◌≡◌, ◌-◌, drop, take}
+use Rattle.std.proofs.Common.{◌≡◌, ◌≤◌, ◌-◌, drop, take}
 use Rattle.pfair_output.specs.Told.{all_slots_told}
 use Rattle.pfair_output.proofs.lags.tell_slots.Given as goal
 
@@ -7,3 +7,4 @@ abbrev pub invariant-loop-slot : goal.invariant-loop-slot
 invariant-loop-slot g l = (l.book.time ≡ l.slot)
     × (all_slots_told l.book (take (l.to - l.slot) (drop l.slot l.dispatcher.decided)) (take (l.to - l.slot) (drop l.slot l.dispatcher.tables))
     ≡ all_slots_told l.fn.book (take (l.to - l.fn.book.time) (drop l.fn.book.time l.dispatcher.decided)) (take (l.to - l.fn.book.time) (drop l.fn.book.time l.dispatcher.tables)))
+    × (l.fn.book.time ≤ l.slot)

@@ -10,6 +10,7 @@ loop-slot-preserved g c =
     let inside : c.loop-slot.slot < length c.args.dispatcher.now.tables = omega (arith, c.loop-slot-test.true, c.loop-slot.auto.slot-end, c.next_slot-slot-end.ensures.value) in (
       c.in_ok-add_placed_slot.ensures.open,
       slot_more (placed_table_rows (places_of c.args.dispatcher.now.tables)) c.args.dispatcher.now.tables c.loop-slot.slot (text_so_far c.loop-slot.writer) (text_so_far c.add_placed_slot.new.writer) inside c.in_ok-add_placed_slot.ensures.text ∙ c.loop-slot.invariant.1,
+      omega (arith, c.loop-slot.invariant.2),
     )
 
 pub returns-clause-text : goal.returns-clause-text

@@ -19,5 +19,6 @@ loop-event-preserved g c =
       course = ap (λ (k : Course). run s k rest) next ∙ sym (ap (run s was) items) ∙ c.loop-event.invariant.course;
       settings = c.in_ok-happen.ensures.settings ∙ c.loop-event.invariant.settings;
       spent = c.in_ok-happen.ensures.spent;
+      standing = c.happen.ensures.standing ∙ c.loop-event.invariant.standing;
       events = λ all. c.loop-event.invariant.events (subst (AllByRecursion IsEvent) (sym items) (c.happen.ensures.event, all));
     }

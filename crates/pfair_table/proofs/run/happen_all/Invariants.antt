@@ -9,5 +9,6 @@ invariant-loop-event g l = record {
   course : run l.fn.dispatcher.settings (course_of l.dispatcher) (drop l.event-index l.events) ≡ run l.fn.dispatcher.settings (course_of l.fn.dispatcher) l.events;
   settings : l.dispatcher.settings ≡ l.fn.dispatcher.settings;
   spent : l.dispatcher.spent ≡ false;
+  standing : l.dispatcher.forgotten ≡ l.fn.dispatcher.forgotten;
   events : AllByRecursion IsEvent (drop l.event-index l.events) → AllByRecursion IsEvent l.events;
 }

@@ -20,6 +20,8 @@ loop-processor-init g c =
           ∙ (λ i. empty_replica (count i) (c.capacity.ensures.value i))
           ∙ none_taken c.args.script.now.logs;
       nothing = ap (λ (x : Course). x.tables) c.in_ok-dispatcher.ensures.course;
+      undecided = ap (λ (x : Course). x.decided) c.in_ok-dispatcher.ensures.course;
+      standing = c.in_ok-dispatcher.ensures.standing;
       able = c.in_ok-dispatcher.ensures.spent;
     }
 
@@ -44,6 +46,12 @@ returns-clause-settings g c = c.loop-processor.invariant.settings
 pub returns-clause-nothing : goal.returns-clause-nothing
 returns-clause-nothing g c = c.loop-processor.invariant.nothing
 
+pub returns-clause-undecided : goal.returns-clause-undecided
+returns-clause-undecided g c = c.loop-processor.invariant.undecided
+
+pub returns-clause-standing : goal.returns-clause-standing
+returns-clause-standing g c = c.loop-processor.invariant.standing
+
 pub returns-clause-able : goal.returns-clause-able
 returns-clause-able g c = c.loop-processor.invariant.able
 
@@ -54,5 +62,7 @@ loop-processor-preserved g c =
       settings = ap (λ (d : Dispatch). d.settings) rest ∙ c.loop-processor.invariant.settings;
       held = c.in_ok-take_log.ensures.held c.args.script.now.logs c.log.ensures.value c.loop-processor.invariant.held;
       nothing = ap (λ (d : Dispatch). d.tables) rest ∙ c.loop-processor.invariant.nothing;
+      undecided = ap (λ (d : Dispatch). d.decided) rest ∙ c.loop-processor.invariant.undecided;
+      standing = ap (λ (d : Dispatch). d.forgotten) rest ∙ c.loop-processor.invariant.standing;
       able = ap (λ (d : Dispatch). d.spent) rest ∙ c.loop-processor.invariant.able;
     }

@@ -8,5 +8,7 @@ invariant-loop-processor g l = record {
   settings : l.dispatcher.settings ≡ l.script.settings;
   held : replica_of l.dispatcher.held ≡ held_so_far l.script.logs l.processor 0;
   nothing : l.dispatcher.tables ≡ [];
+  undecided : l.dispatcher.decided ≡ [];
+  standing : l.dispatcher.forgotten ≡ 0;
   able : l.dispatcher.spent ≡ false;
 }

@@ -45,7 +45,7 @@ pub returns-then-slot-slots-clause-settled : goal.returns-then-slot-slots-clause
 returns-then-slot-slots-clause-settled g c =
     let test : has_torn (replica_of c.self.inside.replica) ≡ false = sym c.first_torn.ensures.some ∙ ap is_some c.in_default.is in
     let enough : min (frontier (replica_of c.self.inside.replica)) c.self.inside.settings.slots ≤ length c.self.inside.planned.tables = omega (arith, c.len-slot.ensures, c.slots.ensures.value, c.if-slot-slots.true) in
-    let whole : IsWholePlan (record { settings = c.self.inside.settings; held = c.self.inside.replica; tables = c.self.inside.planned.tables; decided = c.self.inside.planned.decided; spent = c.self.inside.spent }) = record {
+    let whole : IsWholePlan (record { settings = c.self.inside.settings; held = c.self.inside.replica; tables = c.self.inside.planned.tables; decided = c.self.inside.planned.decided; forgotten = c.self.inside.planned.forgotten; spent = c.self.inside.spent }) = record {
       tables_are = tables_whole c.self.inside.settings (replica_of c.self.inside.replica) c.self.inside.planned.tables c.self.inside.planned.decided c.self.inside.spent c.self.inside.planner.members (g.R.Ready.now c.self.inside.planner.ready) (g.R.Ready.held c.self.inside.planner.ready)
           c.self.invariant.0 c.first_torn.ensures.replica test enough;
       decided_are = decided_whole c.self.inside.settings (replica_of c.self.inside.replica) c.self.inside.planned.tables c.self.inside.planned.decided c.self.inside.spent c.self.inside.planner.members (g.R.Ready.now c.self.inside.planner.ready) (g.R.Ready.held c.self.inside.planner.ready)
@@ -57,7 +57,7 @@ pub returns-then-slot-frontier-clause-settled : goal.returns-then-slot-frontier-
 returns-then-slot-frontier-clause-settled g c =
     let test : has_torn (replica_of c.self.inside.replica) ≡ false = sym c.first_torn.ensures.some ∙ ap is_some c.in_default.is in
     let enough : min (frontier (replica_of c.self.inside.replica)) c.self.inside.settings.slots ≤ length c.self.inside.planned.tables = omega (arith, c.len-slot.ensures, c.frontier-frontier.ensures.value, c.if-slot-frontier.true) in
-    let whole : IsWholePlan (record { settings = c.self.inside.settings; held = c.self.inside.replica; tables = c.self.inside.planned.tables; decided = c.self.inside.planned.decided; spent = c.self.inside.spent }) = record {
+    let whole : IsWholePlan (record { settings = c.self.inside.settings; held = c.self.inside.replica; tables = c.self.inside.planned.tables; decided = c.self.inside.planned.decided; forgotten = c.self.inside.planned.forgotten; spent = c.self.inside.spent }) = record {
       tables_are = tables_whole c.self.inside.settings (replica_of c.self.inside.replica) c.self.inside.planned.tables c.self.inside.planned.decided c.self.inside.spent c.self.inside.planner.members (g.R.Ready.now c.self.inside.planner.ready) (g.R.Ready.held c.self.inside.planner.ready)
           c.self.invariant.0 c.first_torn.ensures.replica test enough;
       decided_are = decided_whole c.self.inside.settings (replica_of c.self.inside.replica) c.self.inside.planned.tables c.self.inside.planned.decided c.self.inside.spent c.self.inside.planner.members (g.R.Ready.now c.self.inside.planner.ready) (g.R.Ready.held c.self.inside.planner.ready)

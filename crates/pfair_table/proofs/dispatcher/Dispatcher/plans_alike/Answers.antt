@@ -7,8 +7,8 @@ use Rattle.pfair_table.proofs.dispatcher.Dispatcher.plans_alike.Goals as goal
 
 pub returns-clause-planned : goal.returns-clause-planned
 returns-clause-planned g c =
-    let here : Dispatch = record { settings = c.self.inside.settings; held = c.self.inside.replica; tables = c.self.inside.planned.tables; decided = c.self.inside.planned.decided; spent = c.self.inside.spent } in
-    let there : Dispatch = record { settings = c.other.inside.settings; held = c.other.inside.replica; tables = c.other.inside.planned.tables; decided = c.other.inside.planned.decided; spent = c.other.inside.spent } in
+    let here : Dispatch = record { settings = c.self.inside.settings; held = c.self.inside.replica; tables = c.self.inside.planned.tables; decided = c.self.inside.planned.decided; forgotten = c.self.inside.planned.forgotten; spent = c.self.inside.spent } in
+    let there : Dispatch = record { settings = c.other.inside.settings; held = c.other.inside.replica; tables = c.other.inside.planned.tables; decided = c.other.inside.planned.decided; forgotten = c.other.inside.planned.forgotten; spent = c.other.inside.spent } in
     let alike : HavePlannedAlike here there =
     kept_alike c.self.inside.settings c.other.inside.settings (replica_of c.self.inside.replica) (replica_of c.other.inside.replica) c.self.inside.planned.tables c.other.inside.planned.tables
     c.self.inside.planned.decided c.other.inside.planned.decided c.self.inside.spent c.other.inside.spent c.self.inside.planner.members c.other.inside.planner.members
@@ -18,8 +18,8 @@ returns-clause-planned g c =
 
 pub returns-clause-placed : goal.returns-clause-placed
 returns-clause-placed g c =
-    let here : Dispatch = record { settings = c.self.inside.settings; held = c.self.inside.replica; tables = c.self.inside.planned.tables; decided = c.self.inside.planned.decided; spent = c.self.inside.spent } in
-    let there : Dispatch = record { settings = c.other.inside.settings; held = c.other.inside.replica; tables = c.other.inside.planned.tables; decided = c.other.inside.planned.decided; spent = c.other.inside.spent } in
+    let here : Dispatch = record { settings = c.self.inside.settings; held = c.self.inside.replica; tables = c.self.inside.planned.tables; decided = c.self.inside.planned.decided; forgotten = c.self.inside.planned.forgotten; spent = c.self.inside.spent } in
+    let there : Dispatch = record { settings = c.other.inside.settings; held = c.other.inside.replica; tables = c.other.inside.planned.tables; decided = c.other.inside.planned.decided; forgotten = c.other.inside.planned.forgotten; spent = c.other.inside.spent } in
     let alike : HavePlacedAlike here there =
     placed_alike c.self.inside.settings c.other.inside.settings (replica_of c.self.inside.replica) (replica_of c.other.inside.replica) c.self.inside.planned.tables c.other.inside.planned.tables
     c.self.inside.planned.decided c.other.inside.planned.decided c.self.inside.spent c.other.inside.spent c.self.inside.planner.members c.other.inside.planner.members

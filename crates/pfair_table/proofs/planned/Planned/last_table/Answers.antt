@@ -7,10 +7,10 @@ use Rattle.pfair_table.proofs.planned.Planned.last_table.Goals as goal
 pub returns-in-Some : goal.returns-in-Some
 returns-in-Some c =
     c.deref.ensures.value
-    ∙ sym (last_is (λ (s : PlannedSlot). s.table.items) [] c.self.inside.slots _ c.in-Some.planned.now refl c.in-Some.ensures)
+    ∙ sym (last_is (λ (s : PlannedSlot). s.table.items) [] c.self.inside.slots.items _ c.in-Some.planned.now refl c.in-Some.ensures)
     ∙ ap (λ (p : PlannedSlots). last_or [] p.tables) c.self.view_is
 
 pub returns-in-None : goal.returns-in-None
 returns-in-None c =
-    last_none (λ (s : PlannedSlot). s.table.items) [] c.self.inside.slots _ refl c.in-None.ensures
+    last_none (λ (s : PlannedSlot). s.table.items) [] c.self.inside.slots.items _ refl c.in-None.ensures
     ∙ ap (λ (p : PlannedSlots). last_or [] p.tables) c.self.view_is

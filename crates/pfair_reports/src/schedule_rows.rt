@@ -1,0 +1,47 @@
+//! Task files, from their bytes to the rows of all their slots.
+
+ghost use Rattle.std.specs.Prelude.{◌≡◌, IfErr, IfOk, IfSome};
+ghost use Rattle.pfair_text.specs.Input.{TakesOneFile};
+ghost use Rattle.pfair_command.specs.Schedules.{IsRefusalOf};
+ghost use Rattle.pfair_command.specs.declared.fault.ScheduleFault.TheVariants.{FileTooLong, ReadFailed, Memory};
+ghost use Rattle.pfair_reports.specs.Runs.{IsOutputOf, decisions_of_run, lags_of_run};
+
+use pfair_command::{ScheduleFault, read_script};
+use pfair_output::{decisions_of_script, lags_of_script};
+use pfair_ready::HeapReady;
+use std::alloc::Global;
+use std::io::Read;
+
+/// The decisions of the script that a reader's bytes hold, as rows. Each slot is forgotten once its
+/// rows are made.
+///
+/// # Errors
+/// As [`scheduled`](pfair_command::scheduled).
+pub(crate) fn scheduled_decisions<R: Read>(
+    alloc: Global,
+    reader: &mut R,
+) -> Result<Vec<u8>, ScheduleFault>
+    ensures ok { IfOk result (λ text. IfSome (R.remaining reader.old) (λ bytes. IsOutputOf decisions_of_run bytes (λ rows. text.items ≡ rows))) }
+    ensures refused { IfErr result (λ e. IfSome (R.remaining reader.old) (λ bytes. IsRefusalOf bytes e)) }
+    ensures taken { TakesOneFile FileTooLong ReadFailed Memory result (R.remaining reader.old) (R.remaining reader.new) }
+{
+    let script = read_script(alloc, reader)?;
+    Ok(decisions_of_script::<HeapReady>(alloc, &script)?)
+}
+
+/// The lags of the script that a reader's bytes hold, as rows. Each slot is forgotten once its rows
+/// are made.
+///
+/// # Errors
+/// As [`scheduled`](pfair_command::scheduled).
+pub(crate) fn scheduled_lags<R: Read>(
+    alloc: Global,
+    reader: &mut R,
+) -> Result<Vec<u8>, ScheduleFault>
+    ensures ok { IfOk result (λ text. IfSome (R.remaining reader.old) (λ bytes. IsOutputOf lags_of_run bytes (λ rows. text.items ≡ rows))) }
+    ensures refused { IfErr result (λ e. IfSome (R.remaining reader.old) (λ bytes. IsRefusalOf bytes e)) }
+    ensures taken { TakesOneFile FileTooLong ReadFailed Memory result (R.remaining reader.old) (R.remaining reader.new) }
+{
+    let script = read_script(alloc, reader)?;
+    Ok(lags_of_script::<HeapReady>(alloc, &script)?)
+}
