@@ -269,7 +269,8 @@ static void plan(struct processor *p, uint64_t slot) {
     }
 }
 
-/* Halts the task of the slot before, and lets the task run whose place is this processor. */
+/* Halts the task of the slot before, and lets the task run whose place is this processor. Nothing of the slot is asked
+   again, so that its memory can be given back. */
 static void dispatch(struct processor *p, uint64_t slot) {
     struct pfair_pick rows[MOST_PROCESSORS];
     uint8_t places[MOST_PROCESSORS];
@@ -284,6 +285,7 @@ static void dispatch(struct processor *p, uint64_t slot) {
         p->current = task;
         let_run(task, quantum_number, p->number, slot, row, rows[row].index);
     }
+    must(pfair_forget(&p->dispatcher, slot + 1));
 }
 
 static void *be_processor(void *itself) {
