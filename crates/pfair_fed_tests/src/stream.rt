@@ -96,6 +96,9 @@ fn rows_come_out_once_they_are_settled(rt: HostRuntime) -> Result<(), Fail> {
         let mut terminal = Terminal::new(rt.alloc(), 1000);
         let mut follower = follower(&rt, rt.alloc(), output, 0);
         rows_once_settled(&rt, &mut follower, &mut terminal, whole)?;
+        // what is written is forgotten, but where lags are counted
+        let forgotten = if output == Output::Lags { 0 } else { 4 };
+        assert_eq!(&rt; follower.dispatcher().forgotten(), forgotten);
     }
     Ok(())
 }

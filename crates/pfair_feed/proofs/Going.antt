@@ -73,7 +73,6 @@ gone_trans f g h u v w a b =
         held_are = refl;
         tables_go_on = prefix_trans f.dispatch.tables g.dispatch.tables h.dispatch.tables a.grown.tables_go_on b.grown.tables_go_on;
         decided_go_on = prefix_trans f.dispatch.decided g.dispatch.decided h.dispatch.decided a.grown.decided_go_on b.grown.decided_go_on;
-        forgotten_is = b.grown.forgotten_is ∙ a.grown.forgotten_is;
       };
       caught_up = b.caught_up;
       told_is = told;

@@ -25,7 +25,6 @@ grown_same d e same = record {
   held_are = ap (λ (x : Dispatch). x.held) same;
   tables_go_on = prefix_same d.tables e.tables (ap (λ (x : Dispatch). x.tables) same);
   decided_go_on = prefix_same d.decided e.decided (ap (λ (x : Dispatch). x.decided) same);
-  forgotten_is = ap (λ (x : Dispatch). x.forgotten) same;
 }
 
 pub grown_trans : (a d e : Dispatch) → IsGrown a d → IsGrown d e → IsGrown a e
@@ -34,7 +33,6 @@ grown_trans a d e p q = record {
   held_are = q.held_are ∙ p.held_are;
   tables_go_on = prefix_trans a.tables d.tables e.tables p.tables_go_on q.tables_go_on;
   decided_go_on = prefix_trans a.decided d.decided e.decided p.decided_go_on q.decided_go_on;
-  forgotten_is = q.forgotten_is ∙ p.forgotten_is;
 }
 
 -- one plan
@@ -47,14 +45,12 @@ grown_step d e rest course = by (is_plannable d.settings (replica_of d.held) (le
       held_are = ap (λ (x : Dispatch). x.held) rest;
       tables_go_on = (_, sym (ap (λ (x : Course). x.tables) c));
       decided_go_on = (_, sym (ap (λ (x : Course). x.decided) c));
-      forgotten_is = ap (λ (x : Dispatch). x.forgotten) rest;
     }
     by false c = record {
       settings_are = ap (λ (x : Dispatch). x.settings) rest;
       held_are = ap (λ (x : Dispatch). x.held) rest;
       tables_go_on = prefix_same d.tables e.tables (ap (λ (x : Course). x.tables) c);
       decided_go_on = prefix_same d.decided e.decided (ap (λ (x : Course). x.decided) c);
-      forgotten_is = ap (λ (x : Dispatch). x.forgotten) rest;
     }
 
 pub grown_fault : (d e : Dispatch) (fault : PlanFault) → e ≡ after_fault d fault → IsGrown d e
@@ -65,7 +61,6 @@ grown_fault d e plan.Memory same = record {
   held_are = ap (λ (x : Dispatch). x.held) same;
   tables_go_on = prefix_same d.tables e.tables (ap (λ (x : Dispatch). x.tables) same);
   decided_go_on = prefix_same d.decided e.decided (ap (λ (x : Dispatch). x.decided) same);
-  forgotten_is = ap (λ (x : Dispatch). x.forgotten) same;
 }
 
 -- the first fault ends all plans

@@ -35,7 +35,6 @@ pub record IsGrown (before after : Dispatch) : Type 0 where
   pub held_are : after.held ≡ before.held
   pub tables_go_on : IsPrefixOf before.tables after.tables
   pub decided_go_on : IsPrefixOf before.decided after.decided
-  pub forgotten_is : after.forgotten ≡ before.forgotten
 
 -- why no more was planned, and what stands then
 abbrev pub IsEndOfPlans : Dispatch → Dispatch → PlanFault → Type 0

@@ -29,6 +29,10 @@ rows_from PlacedTables slot tables decided = slots_from (placed_table_rows (plac
 rows_from Decisions slot tables decided = slots_from decided_rows slot (drop slot decided)
 rows_from Lags slot tables decided = rows_told (book_before slot tables decided) (drop slot decided) (drop slot tables)
 
+-- Of slots whose rows are written none is asked again, but for lags, which count from slot 0 on.
+abbrev pub IsTold : Output → (forgotten told : ℕ) → Type 0
+IsTold output forgotten told = (forgotten ≤ told) × (output ≡ Lags → forgotten ≡ 0)
+
 -- a book that was told some of the slots before one
 pub record IsBookOf (slot : ℕ) (tables : List Table) (decided : List (List Decided)) (book : Book) : Type 0 where
   pub early : book.time ≤ slot

@@ -1,6 +1,6 @@
 //! The follower.
 
-ghost use Rattle.std.specs.Prelude.{◌≡◌, ◌≢◌, ◌⊎◌, ◌<◌, ◌&&◌, [], Err, IfErr, IfOk, IfSome, IsErrOf, None, OnErr, OnOk, false, length, max};
+ghost use Rattle.std.specs.Prelude.{◌≡◌, ◌≢◌, ◌⊎◌, ◌<◌, ◌≤◌, ◌&&◌, [], Err, IfErr, IfOk, IfSome, IsErrOf, None, OnErr, OnOk, false, length, max};
 ghost use Rattle.std.specs.Io.KnownBytes.{Appends, Keeps};
 ghost use Rattle.pfair_text.specs.Output.{TakesPrefix};
 ghost use Rattle.pfair_text.specs.Rows.{line};
@@ -13,6 +13,7 @@ ghost use Rattle.pfair_table.specs.Refinement.{IsWholePlan, course_of};
 ghost use Rattle.pfair_stream.specs.Rows.{header_of};
 ghost use Rattle.pfair_stream.specs.Follow.{HasCause, HaveToldAlike, IsGrown, IsRefusal, IsStopOf, missing_of, news};
 ghost use Rattle.pfair_stream.specs.declared.fault.FollowFault.TheVariants.{Memory, WriteFailed};
+ghost use Rattle.pfair_stream.specs.declared.output.Output.TheVariants.{Lags};
 
 use crate::fault::FollowFault;
 use crate::output::{Output, write_header, write_rows};
@@ -27,7 +28,7 @@ use std::io::Write;
 use std::marker::Model;
 
 /// A dispatcher that is fed one entry after another, and writes the rows of each slot as soon as
-/// what it holds settles it.
+/// what it holds settles it. What was written is forgotten, but where the rows are lags.
 #[derive(Drop)]
 pub struct Follower<R: Ready> {
     alloc: Global,
@@ -38,15 +39,14 @@ pub struct Follower<R: Ready> {
 }
 
 impl<R: Ready> Model for Follower<R> {
-    ghost use Rattle.std.specs.Prelude.{◌≡◌};
-    ghost use Rattle.pfair_stream.specs.Rows.{IsBookOf};
+    ghost use Rattle.pfair_stream.specs.Rows.{IsBookOf, IsTold};
     ghost use Rattle.pfair_stream.specs.Follow.{Follow};
 
     ghost Value = { Follow };
 
     ghost view = { λ a. record { output = a.output; dispatch = a.dispatcher; told = a.told } };
 
-    ghost invariant = { λ a. IsBookOf a.told a.dispatcher.tables a.dispatcher.decided a.book × (a.dispatcher.forgotten ≡ 0) };
+    ghost invariant = { λ a. IsBookOf a.told a.dispatcher.tables a.dispatcher.decided a.book × IsTold a.output a.dispatcher.forgotten a.told };
 }
 
 impl<R: Ready> Follower<R> {
@@ -135,12 +135,15 @@ impl<R: Ready> Follower<R> {
         ensures cut { IsErrOf result WriteFailed → IsWholePlan self.new.dispatch × TakesPrefix (W.contents writer.old) (W.contents writer.new) (news self.old self.new) }
         ensures nothing { IfErr result (λ e. e ≢ WriteFailed → Keeps (W.contents writer.old) (W.contents writer.new)) }
         ensures due { IfErr result (HasCause self.old self.new proc number) }
+        ensures forgotten { OnOk result ((self.new.output ≡ Lags → ⊥) → self.new.dispatch.forgotten ≡ length self.new.dispatch.tables) }
+        ensures lags { self.new.output ≡ Lags → self.new.dispatch.forgotten ≡ 0 }
     {
         // as many slots have decisions as have tables
         prove!(self.dispatcher.next_slot() <= Settings::MAX_SLOTS);
         let taken = self.dispatcher.take(proc, number, entry)?;
         plan_all(&mut self.dispatcher)?;
         self.tell(writer)?;
+        self.forget_told();
         Ok(taken)
     }
 
@@ -181,7 +184,24 @@ impl<R: Ready> Follower<R> {
         }
     }
 
-    /// What it holds and has planned.
+    // Forgets the slots whose rows are written or left out. Lags are counted from slot 0 on.
+    fn forget_told(&mut self)
+        requires { length self.old.dispatch.tables ≤ self.old.told }
+        ensures rest { self.new ≡ record self.old { dispatch = record self.old.dispatch { forgotten = self.new.dispatch.forgotten } } }
+        ensures forgotten { (self.new.output ≡ Lags → ⊥) → self.new.dispatch.forgotten ≡ length self.new.dispatch.tables }
+        ensures lags { self.new.output ≡ Lags → self.new.dispatch.forgotten ≡ 0 }
+    {
+        let next = self.dispatcher.next_slot();
+        // no slot is forgotten that isn't planned
+        prove!(self.dispatcher.forgotten() <= next);
+        match self.output {
+            Output::Lags => {}
+            _ => self.dispatcher.forget(next),
+        }
+    }
+
+    /// What it holds and has planned. Where the rows aren't lags it tells nothing of slots whose rows
+    /// are written.
     pub fn dispatcher(&self) -> &Dispatcher<R>
         ensures { result.now ≡ self.now.dispatch }
     {

@@ -4,7 +4,7 @@ ghost use Rattle.std.specs.Prelude.{◌≡◌, ◌⊎◌, ◌++◌, ◌≢◌, [
 ghost use Rattle.std.specs.Io.KnownBytes.{Appends, Keeps};
 ghost use Rattle.pfair_text.specs.Output.{TakesPrefix};
 ghost use Rattle.pfair_text.specs.Rows.{IsOpen, line, lines_text, text_so_far};
-ghost use Rattle.pfair_stream.specs.Rows.{IsBookOf, header_of, rows_from};
+ghost use Rattle.pfair_stream.specs.Rows.{IsTold, IsBookOf, header_of, rows_from};
 ghost use Rattle.pfair_stream.specs.declared.fault.FollowFault.TheVariants.{Memory, WriteFailed};
 
 use crate::fault::FollowFault;
@@ -76,7 +76,7 @@ pub(crate) fn write_rows<R: Ready, W: Write>(
     writer: &mut W,
 ) -> Result<(), FollowFault>
     requires book { IsBookOf from dispatcher.now.tables dispatcher.now.decided book.old }
-    requires standing { dispatcher.now.forgotten ≡ 0 }
+    requires standing { IsTold output dispatcher.now.forgotten from }
     ensures book { OnOk result (IsBookOf (max from (length dispatcher.now.tables)) dispatcher.now.tables dispatcher.now.decided book.new) }
     ensures written { OnOk result (Appends (W.contents writer.old) (W.contents writer.new) (lines_text (rows_from output from dispatcher.now.tables dispatcher.now.decided))) }
     ensures cut { IsErrOf result WriteFailed → TakesPrefix (W.contents writer.old) (W.contents writer.new) (lines_text (rows_from output from dispatcher.now.tables dispatcher.now.decided)) }
@@ -101,7 +101,7 @@ fn add_rows<R: Ready>(
 ) -> Result<(), AllocError>
     requires open { IsOpen text.old }
     requires book { IsBookOf from dispatcher.now.tables dispatcher.now.decided book.old }
-    requires standing { dispatcher.now.forgotten ≡ 0 }
+    requires standing { IsTold output dispatcher.now.forgotten from }
     ensures open { OnOk result (IsOpen text.new) }
     ensures book { OnOk result (IsBookOf (max from (length dispatcher.now.tables)) dispatcher.now.tables dispatcher.now.decided book.new) }
     ensures text { OnOk result (text_so_far text.new ≡ text_so_far text.old

@@ -15,6 +15,7 @@ use pfair_table::{Dispatcher, PlanFault, Step};
 /// Those of [`Dispatcher::plan_next`]; the slots that were planned before stand.
 pub(crate) fn plan_all<R: Ready>(dispatcher: &mut Dispatcher<R>) -> Result<(), PlanFault>
     ensures grown { IsGrown dispatcher.old dispatcher.new }
+    ensures forgotten { dispatcher.new.forgotten ≡ dispatcher.old.forgotten }
     ensures whole { OnOk result (IsWholePlan dispatcher.new) }
     ensures sound { OnOk result ((has_torn (replica_of dispatcher.old.held) ≡ false) × (dispatcher.old.spent ≡ false) × (dispatcher.new.spent ≡ false)) }
     ensures fault { IfErr result (IsEndOfPlans dispatcher.old dispatcher.new) }

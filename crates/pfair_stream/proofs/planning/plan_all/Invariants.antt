@@ -8,6 +8,7 @@ use Rattle.pfair_stream.proofs.planning.plan_all.Given as goal
 abbrev pub invariant-slots : goal.invariant-slots
 invariant-slots g l = record {
   grown : IsGrown l.fn.dispatcher l.dispatcher;
+  forgotten : l.dispatcher.forgotten ≡ l.fn.dispatcher.forgotten;
   able : l.dispatcher.spent ≡ l.fn.dispatcher.spent;
   torn : has_torn (replica_of l.fn.dispatcher.held) ≡ true → l.dispatcher ≡ l.fn.dispatcher;
   spent : l.fn.dispatcher.spent ≡ true → l.dispatcher ≡ l.fn.dispatcher;
