@@ -1,5 +1,7 @@
 //! Runs of events, by hand and by `run_events`.
 
+ghost use Rattle.std.specs.Prelude.{◌≡◌, IfOk};
+
 use crate::notation::{number, push, push_all, word};
 use crate::shown::{push_answer, push_decisions, push_places, push_tables};
 use pfair_ready::{HeapReady, PlainReady, Ready};
@@ -38,7 +40,9 @@ fn left_by<R: Ready>(
     alloc: Global,
     settings: Settings,
     events: &[Event],
-) -> Result<Dispatcher<R>, AllocError> {
+) -> Result<Dispatcher<R>, AllocError>
+    ensures { IfOk result (λ d. d.forgotten ≡ 0) }
+{
     // settings have 1 to 64 processors
     prove!(settings.processors() <= Settings::MAX_PROCESSORS);
     run_events(alloc, settings, CAPACITY, events)
@@ -50,7 +54,9 @@ pub(crate) fn left<R: Ready>(
     alloc: Global,
     machine: (u8, u64, u64),
     text: &str,
-) -> Result<Dispatcher<R>, AllocError> {
+) -> Result<Dispatcher<R>, AllocError>
+    ensures { IfOk result (λ d. d.forgotten ≡ 0) }
+{
     let mut events = Vec::new(alloc);
     push_all(rt, alloc, &mut events, text)?;
     left_by(alloc, settings_of(rt, machine), &events)

@@ -1,5 +1,7 @@
 //! That memory suffices for each text, on a run of one task that may run ahead of its windows.
 
+ghost use Rattle.std.specs.Prelude.{◌≡◌};
+
 use pfair_entry::{Announcement, Entry};
 use pfair_output::{
     decisions_of, decisions_of_script, lags_of, lags_of_script, placed_replay_of, replay_of,
@@ -35,7 +37,9 @@ fn early_log(rt: &impl Abort, alloc: Global, settled: u64) -> Result<Script, All
 }
 
 // Asserts the texts of a run but for those of its tables.
-fn assert_told<R: Ready>(rt: &impl Abort, alloc: Global, dispatcher: &Dispatcher<R>) {
+fn assert_told<R: Ready>(rt: &impl Abort, alloc: Global, dispatcher: &Dispatcher<R>)
+    requires { dispatcher.now.forgotten ≡ 0 }
+{
     let decisions = decisions_of(alloc, dispatcher).expect(rt, "memory");
     assert_eq!(rt; decisions.as_slice(), DECISIONS.as_bytes());
     let lags = lags_of(alloc, dispatcher).expect(rt, "memory");
