@@ -25,7 +25,8 @@ use std::alloc::{AllocError, Global};
 /// The decisions at the boundaries of all slots of a script's run, as
 /// [`decisions_of`](crate::decisions_of) writes them of the dispatcher that
 /// [`run_script`](pfair_table::run_script) gives. A slot is forgotten as soon as its rows are made,
-/// so that beside the text no more than the entries and 2,048 slots are held.
+/// so that beside the text no more than the entries and 2,048 slots are held. It costs what that run
+/// costs, and the rows.
 ///
 /// # Errors
 /// As [`run_script`](pfair_table::run_script).
@@ -41,7 +42,8 @@ pub fn decisions_of_script<R: Ready>(alloc: Global, script: &Script) -> Result<V
 /// The lags in all slots of a script's run, as [`lags_of`](crate::lags_of) writes them of the
 /// dispatcher that [`run_script`](pfair_table::run_script) gives. A slot is forgotten as soon as its
 /// rows are made, so that beside the text no more than the entries, 2,048 slots and a tally of each
-/// member are held.
+/// member are held. It costs what that run costs, the rows, a look-up for each decision and quantum,
+/// and a pass over the members for each departure.
 ///
 /// # Errors
 /// As [`run_script`](pfair_table::run_script).

@@ -16,13 +16,14 @@ use std::io::{Read, Write};
 /// refusal. They stand in the order in which they are decided.
 ///
 /// The whole text is made before the first byte goes out; of the slots no more than 2,048 are held at
-/// a time. No more than 67,108,864 bytes are taken
-/// from the reader, but where the file is too long or memory was wanting: one more may then be.
+/// a time. No more than 67,108,864 bytes are taken from the reader, but where the file is too long or
+/// memory was wanting: one more may then be. It costs the reading of the file, a run of its script, and
+/// the rows.
 ///
 /// # Errors
 /// [`ProgramFault::Schedule`] with the cause where the file has no schedule, as
-/// [`scheduled`](pfair_command::scheduled) says,
-/// and [`ProgramFault::Memory`] where memory was wanted and refused: nothing has then been written.
+/// [`scheduled`](pfair_command::scheduled) says, and [`ProgramFault::Memory`] where memory was wanted
+/// and refused: nothing has then been written.
 /// [`ProgramFault::WriteFailed`] where the writer answered an error, or took nothing; a prefix of
 /// the text has then gone out.
 pub fn decisions<R: Read, W: Write>(

@@ -150,7 +150,7 @@ impl<R: Ready> Dispatcher<R> {
     }
 
     /// The slot below which all is forgotten: 0 where nothing is, and at most
-    /// [`next_slot`](Dispatcher::next_slot).
+    /// [`next_slot`](Dispatcher::next_slot). It costs nothing.
     pub fn forgotten(&self) -> u64
         ensures value { result ≡ self.now.forgotten }
         ensures planned { self.now.forgotten ≤ length self.now.tables }
