@@ -388,12 +388,14 @@ uint32_t pfair_plan_to(struct pfair_dispatcher *d, uint64_t until, struct pfair_
 
 /*
  * Takes the memory that the next `slots` slots want, or all that are left of the run where these are fewer: for their
- * tables and places, and for the tasks that wait. Until these are planned, the plan of a slot asks malloc for something
- * only where something is announced at the slot, or where entries were taken since the slot before.
+ * tables and places, and for the tasks that wait. Until these are planned, and as long as no task joins, the plan of a
+ * slot asks malloc for something only where something is announced at the slot, or where entries were taken since the
+ * slot before.
  *   102  the handle has no dispatcher
  *   90   memory was refused: what is held and what was planned stand, plans go on, and what was taken is used by them
  *   0    the memory is there
- * Cost: for each slot for which there is no memory yet 25 bytes for each processor, and some 120 for the slot.
+ * Cost: for each slot for which there is no memory yet 25 bytes for each processor, and some 120 for the slot; and 512
+ * to 1,024 bytes for each task for which there is none.
  */
 uint32_t pfair_reserve(struct pfair_dispatcher *d, uint64_t slots);
 

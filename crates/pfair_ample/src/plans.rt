@@ -1,8 +1,13 @@
-//! A dispatcher that is made anew in the middle of a run.
+//! A dispatcher that is made anew in the middle of a run, and runs that are planned slot by slot.
+
+ghost use Rattle.std.specs.Prelude.{◌≡◌};
 
 use pfair_entry::{Announcement, Entry};
 use pfair_ready::{HeapReady, PlainReady, Ready};
-use pfair_table::{Dispatcher, Pick, Run, Settings, Step};
+use pfair_replica::Replica;
+use pfair_table::{
+    Dispatcher, Pick, Run, Script, ScriptRun, Settings, SlotPlanner, Step, take_script,
+};
 use pfair_weight::{TaskName, Weight};
 use std::alloc::Global;
 use std::process::Abort;
@@ -117,6 +122,91 @@ fn assert_forgets<R: Ready>(rt: &impl Abort, alloc: Global) -> Result<(), Fail> 
     let last = run.tables.get(498).map(|rows| rows.as_slice());
     assert!(rt; last == Some([Pick { name, index: 1500 }].as_slice()));
     Ok(())
+}
+
+// The script of one log, in which a task of weight 1/2 arrives, and which settles all slots.
+fn script_of_one(rt: &impl Abort, alloc: Global, name: TaskName) -> Result<Script, Fail> {
+    let (weight, early) = (Weight::new(1, 2)?, false);
+    let arrival = Announcement::Arrive {
+        name,
+        weight,
+        early,
+    };
+    let first = Entry::new(0, Some((0, arrival)))?;
+    let last = Entry::new(3000, None)?;
+    let log = vec![in alloc; first, last]?;
+    let logs = vec![in alloc; log]?;
+    let settings = Settings::new(1, 2, 3000).expect(rt, "settings");
+    Ok(Script::new(settings, logs).ok().expect(rt, "a script"))
+}
+
+// The task has a quantum in each slot of an even number, and is admitted in slot 0.
+fn gives_each_slot<R: Ready>(
+    rt: &impl Abort,
+    run: &mut ScriptRun<R>,
+    name: TaskName,
+) -> Result<(), Fail> {
+    for slot in 0..3000u64 {
+        assert_eq!(rt; run.plan_next()?, Some(slot));
+        let index = slot / 2 + 1;
+        let row = [Pick { name, index }];
+        let rows = (1 - slot % 2) as usize;
+        assert!(rt; run.table() == &row[..rows]);
+        assert!(rt; run.decisions().is_empty() == (slot > 0));
+    }
+    assert_eq!(rt; run.plan_next()?, None);
+    assert_eq!(rt; run.next_slot(), 3000);
+    Ok(())
+}
+
+fn assert_slot_by_slot<R: Ready>(rt: &impl Abort, alloc: Global) -> Result<(), Fail> {
+    let name = TaskName::from_bytes(b"a")?;
+    let script = script_of_one(rt, alloc, name)?;
+    let mut run = ScriptRun::<R>::new(alloc, &script).ok().expect(rt, "a run");
+    gives_each_slot(rt, &mut run, name)
+}
+
+#[test]
+fn slot_by_slot(rt: HostRuntime) -> Result<(), Fail> {
+    assert_slot_by_slot::<PlainReady>(&rt, rt.alloc())?;
+    assert_slot_by_slot::<HeapReady>(&rt, rt.alloc())
+}
+
+// The first slot of a replica is planned, in which the task runs, and the second, in which nobody does, and which uses
+// the room of the first.
+fn gives_two_slots<R: Ready>(
+    rt: &impl Abort,
+    planner: &mut SlotPlanner<R>,
+    replica: &Replica,
+    row: Pick,
+    room: Vec<Pick>,
+) -> Result<(), Fail>
+    requires { planner.old.held ≡ replica.now }
+{
+    let first = planner.plan_next(replica, room)?.expect(rt, "slot 0");
+    assert!(rt; first.table.as_slice() == [row].as_slice() && first.decided.len() == 1);
+    let second = planner
+        .plan_next(replica, first.table)?
+        .expect(rt, "slot 1");
+    assert!(rt; second.table.is_empty() && second.decided.is_empty());
+    assert!(rt; planner.next_slot() == 2 && !planner.is_spent());
+    Ok(())
+}
+
+fn assert_plans_what_is_handed_in<R: Ready>(rt: &impl Abort, alloc: Global) -> Result<(), Fail> {
+    let name = TaskName::from_bytes(b"a")?;
+    let script = script_of_one(rt, alloc, name)?;
+    let settings = script.settings();
+    let replica = take_script::<R>(alloc, &script)?.into_replica();
+    let mut planner = SlotPlanner::<R>::new(alloc, settings, &replica)?;
+    let row = Pick { name, index: 1 };
+    gives_two_slots(rt, &mut planner, &replica, row, Vec::new(alloc))
+}
+
+#[test]
+fn plans_what_is_handed_in(rt: HostRuntime) -> Result<(), Fail> {
+    assert_plans_what_is_handed_in::<PlainReady>(&rt, rt.alloc())?;
+    assert_plans_what_is_handed_in::<HeapReady>(&rt, rt.alloc())
 }
 
 #[test]

@@ -2,5 +2,4 @@ mod FirstFaults
 mod Following
 mod Planning
 mod Rows
-mod Whole
 mod Working

@@ -1,32 +1,38 @@
 -- Facts of the works of a run, row by row.
-use Rattle.std.proofs.Common.{◌≡◌, ◌∙◌, ℕ, List, [], slice_get, Some, Ok, Err, IsOk, subst, sym}
+use Rattle.std.proofs.Common.{◌≡◌, ◌<◌, ◌∙◌, ℕ, List, [], ◌∷◌, length, slice_get, slice_index_or, Some, Ok, Err, IsOk, IfOk, subst, ap, sym, arith}
 use Rattle.std.proofs.lemmas.Bool.{true≢false}
-use Rattle.pfair_table.specs.Table.{Settings, plan}
-use Rattle.pfair_table.specs.Script.{LoggedRun}
+use Rattle.pfair_replica.specs.HeldRows.{replica_of}
+use Rattle.pfair_table.specs.Table.{Settings, Table, plan}
+use Rattle.pfair_table.specs.Script.{LoggedRun, replica_of_logs}
 use Rattle.pfair_board.specs.declared.worked.Worked.{Worked}
-use Rattle.pfair_table.specs.declared.planned.Run.{Run}
 use Rattle.pfair_board.specs.declared.fault.RunFault.{RunFault}
 use Rattle.pfair_desk.specs.Boards.{BoardFrame}
 use Rattle.pfair_desk.specs.Desks.{IsDeskOf}
 use Rattle.pfair_board.specs.Works.{IsWorkOf}
-use Rattle.pfair_board.specs.Finish.{IsGood, IsFullRun, IsPlacedRun}
+use Rattle.pfair_board.specs.Finish.{IsGood}
 
 -- the same work of a row that is known by other names
-pub work_moves : (m : _) (b b' : BoardFrame) (s s' : Settings) (k k' : ℕ) (w : Worked) → b ≡ b' → s ≡ s' → k ≡ k' → IsWorkOf m b s k w → IsWorkOf m b' s' k' w
-work_moves m b b' s s' k k' w eb es ek h = record { desk = subst (IsDeskOf w.desk) eb h.desk; processor = h.processor ∙ ek; settings = h.settings ∙ es; gate = h.gate }
+pub work_moves : {K : Type 0} (has : K → ℕ → List Table → Type 0) (m : _) (b b' : BoardFrame) (s s' : Settings) (k k' : ℕ) (w : Worked K) → b ≡ b' → s ≡ s' → k ≡ k' → IsWorkOf has m b s k w → IsWorkOf has m b' s' k' w
+work_moves has m b b' s s' k k' w eb es ek h = record {
+  desk = subst (IsDeskOf w.desk) eb h.desk;
+  processor = h.processor ∙ ek;
+  gate = h.gate;
+  plan = subst (λ j. IfOk w.kept (λ kept. has kept j (plan s' (replica_of w.desk.replica)))) ek (subst (λ (t : Settings). IfOk w.kept (λ kept. has kept k (plan t (replica_of w.desk.replica)))) es h.plan);
+}
 
 -- nothing stands in an empty list
 pub none_in_empty : {A : Type 0} (xs : List A) (k : ℕ) (x : A) → xs ≡ [] → slice_get xs k ≡ Some x → ⊥
 none_in_empty xs k x empty at = let none : slice_get [] k ≡ Some x = subst (λ ys. slice_get ys k ≡ Some x) empty at in cc none
 
--- the tables of good work are the plan of the script's replica
-pub full_run : (r : LoggedRun) (b : BoardFrame) (k : ℕ) (w : Worked) (run : Run) → IsGood r b k w → w.run ≡ Ok run → IsFullRun r run
-full_run r b k w run good is = w.planned run is ∙ (λ i. plan (good.settings i) (good.desk.replica i))
+-- what good work keeps has the plan of the script's replica
+pub kept_plan : {K : Type 0} (has : K → ℕ → List Table → Type 0) (r : LoggedRun) (b : BoardFrame) (k : ℕ) (w : Worked K) (kept : K) → IsGood has r b k w → w.kept ≡ Ok kept → has kept k (plan r.settings (replica_of_logs r.logs))
+kept_plan has r b k w kept good is = subst (λ x. IfOk x (λ y. has y k (plan r.settings (replica_of_logs r.logs)))) is good.plan
 
--- the places of any work are those of its tables
-pub placed_run : (w : Worked) (run : Run) → w.run ≡ Ok run → IsPlacedRun run
-placed_run w run is = w.placed run is
+-- good work has come to its end
+pub not_failed : {K : Type 0} (has : K → ℕ → List Table → Type 0) (r : LoggedRun) (b : BoardFrame) (k : ℕ) (w : Worked K) (f : RunFault) → IsGood has r b k w → w.kept ≡ Err f → ⊥
+not_failed {K} has r b k w f good is = let none : IsOk {T = K} (Err f) = subst IsOk is good.kept in true≢false (sym none)
 
--- good work has tables
-pub not_failed : (r : LoggedRun) (b : BoardFrame) (k : ℕ) (w : Worked) (f : RunFault) → IsGood r b k w → w.run ≡ Err f → ⊥
-not_failed r b k w f good is = let none : IsOk {T = Run} (Err f) = subst IsOk is good.run in true≢false (sym none)
+-- the first of a list that isn't empty
+pub first_is : {A : Type 0} (xs : List A) (x : A) → 0 < length xs → x ≡ slice_index_or xs 0 x → slice_get xs 0 ≡ Some x
+first_is [] x some same = absurd (omega (arith, some))
+first_is (y ∷ ys) x some same = ap Some (sym same)

@@ -1,8 +1,8 @@
 -- What a finished run is.
-use Rattle.std.specs.Prelude.{ℕ, ◌≤◌, ◌≡◌, List, length, slice_get, Some, IsOk}
+use Rattle.std.specs.Prelude.{ℕ, ◌≤◌, ◌≡◌, List, length, slice_get, Some, IsOk, IfOk}
 use Rattle.pfair_replica.specs.HeldRows.{replica_of}
 use Rattle.pfair_replica.specs.Replica.{frontier}
-use Rattle.pfair_table.specs.Table.{plan}
+use Rattle.pfair_table.specs.Table.{Table, plan}
 use Rattle.pfair_table.specs.Places.{places_of}
 use Rattle.pfair_table.specs.Script.{LoggedRun, capacity_of, replica_of_logs}
 use Rattle.pfair_table.specs.declared.planned.Run.{Run}
@@ -37,8 +37,13 @@ pub record IsFinished (r : LoggedRun) (b : BoardFrame) (ds : List DeskView) (rs 
   pub places : (k : ℕ) (run : Run) → slice_get rs k ≡ Some run → IsPlacedRun run
   pub far_enough : r.settings.slots ≤ frontier (replica_of_logs r.logs)
 
--- row k's work went well: its desk holds the script's replica, and there are tables
-pub record IsGood (r : LoggedRun) (b : BoardFrame) (k : ℕ) (w : Worked) : Type 0 where
+-- row k's work went well: its desk holds the script's replica, and its sink has the plan of it
+pub record IsGood {K : Type 0} (has : K → ℕ → List Table → Type 0) (r : LoggedRun) (b : BoardFrame) (k : ℕ) (w : Worked K) : Type 0 where
   pub desk : IsFullDesk r b k w.desk
-  pub settings : w.settings ≡ r.settings
-  pub run : IsOk w.run
+  pub kept : IsOk w.kept
+  pub plan : IfOk w.kept (λ kept. has kept k (plan r.settings (replica_of_logs r.logs)))
+
+-- a sink of the first processor has the plan of the script's replica, and the script's frontier doesn't stop the plan
+pub record HasPlan {K : Type 0} (has : K → ℕ → List Table → Type 0) (r : LoggedRun) (sink : K) : Type 0 where
+  pub plan : has sink 0 (plan r.settings (replica_of_logs r.logs))
+  pub far_enough : r.settings.slots ≤ frontier (replica_of_logs r.logs)

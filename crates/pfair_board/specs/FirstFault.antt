@@ -7,19 +7,19 @@ use Rattle.pfair_board.specs.declared.fault.RunFault.{RunFault}
 use Rattle.pfair_board.specs.declared.fault.RunFault.TheVariants.{Memory, GateGaveUp, Astray, Stalled}
 
 -- some worker ends in this fault
-abbrev pub SomeEndsIn : List Worked → RunFault → Type 0
-SomeEndsIn ws f = (k : ℕ) × (w : Worked) × (slice_get ws k ≡ Some w) × (w.run ≡ Err f)
+abbrev pub SomeEndsIn : {K : Type 0} → List (Worked K) → RunFault → Type 0
+SomeEndsIn {K} ws f = (k : ℕ) × (w : Worked K) × (slice_get ws k ≡ Some w) × (w.kept ≡ Err f)
 
--- the worker has tables, and holds what this replica holds
-abbrev pub Holds : Worked → Replica → Type 0
-Holds w x = IsOk w.run × Below (replica_of w.desk.replica) x × Below x (replica_of w.desk.replica)
+-- the worker has its tables, and holds what this replica holds
+abbrev pub Holds : {K : Type 0} → Worked K → Replica → Type 0
+Holds w x = IsOk w.kept × Below (replica_of w.desk.replica) x × Below x (replica_of w.desk.replica)
 
 -- each worker does
-abbrev pub AllHold : List Worked → Replica → Type 0
-AllHold ws x = (k : ℕ) (w : Worked) → slice_get ws k ≡ Some w → Holds w x
+abbrev pub AllHold : {K : Type 0} → List (Worked K) → Replica → Type 0
+AllHold {K} ws x = (k : ℕ) (w : Worked K) → slice_get ws k ≡ Some w → Holds w x
 
 -- the first that applies: want of memory, a gate that gave up, a worker astray, and logs that end before the slots do
-abbrev pub IsFirstFault : List Worked → Replica → (slots : ℕ) → Option RunFault → Type 0
+abbrev pub IsFirstFault : {K : Type 0} → List (Worked K) → Replica → (slots : ℕ) → Option RunFault → Type 0
 IsFirstFault ws x slots (Some Memory) = SomeEndsIn ws Memory
 IsFirstFault ws x slots (Some GateGaveUp) = ¬ (SomeEndsIn ws Memory) × SomeEndsIn ws GateGaveUp
 IsFirstFault ws x slots (Some Astray) = ¬ (SomeEndsIn ws Memory) × ¬ (SomeEndsIn ws GateGaveUp) × ¬ (AllHold ws x)

@@ -3,4 +3,5 @@ pub mod FirstFault
 pub mod Laws
 pub mod Logs
 pub mod RunFaults
+pub mod Sinks
 pub mod Works

@@ -2,6 +2,7 @@
 use Rattle.std.specs.Prelude.{ℕ, ◌≡◌, ◌<◌, Bool, true, List, Some}
 use Rattle.pfair_entry.specs.Entry.{Logged}
 use Rattle.pfair_replica.specs.Replica.{frontier}
+use Rattle.pfair_table.specs.Table.{Table}
 use Rattle.pfair_table.specs.Script.{LoggedRun, replica_of_logs}
 use Rattle.pfair_board.specs.declared.fault.RunFault.{RunFault}
 use Rattle.pfair_board.specs.declared.fault.RunFault.TheVariants.{Memory, GateGaveUp, Astray, Stalled}
@@ -27,15 +28,15 @@ IsWorkerFault may_give_up d first log Astray = IsTaken d first log
 IsWorkerFault may_give_up d first log (Stalled slot) = ⊥
 
 -- the work of each row of some board, whose first fault is that some worker doesn't hold what the script says
-abbrev pub WereAstray : (may_give_up : Bool) → LoggedRun → Type 0
-WereAstray may_give_up r = (b : BoardFrame) × (ws : List Worked) × AreWorks may_give_up b r.settings ws × IsFirstFault ws (replica_of_logs r.logs) r.settings.slots (Some Astray)
+abbrev pub WereAstray : {K : Type 0} → (has : K → ℕ → List Table → Type 0) → (may_give_up : Bool) → LoggedRun → Type 0
+WereAstray {K} has may_give_up r = (b : BoardFrame) × (ws : List (Worked K)) × AreWorks has may_give_up b r.settings ws × IsFirstFault ws (replica_of_logs r.logs) r.settings.slots (Some Astray)
 
 -- why a run of a script isn't finished: stalled only where its frontier, which is that slot, is below the number of slots
-abbrev pub IsRunFaultOf : (may_give_up : Bool) → LoggedRun → RunFault → Type 0
-IsRunFaultOf may_give_up r Memory = Unit {0}
-IsRunFaultOf may_give_up r GateGaveUp = may_give_up ≡ true
-IsRunFaultOf may_give_up r Astray = WereAstray may_give_up r
-IsRunFaultOf may_give_up r (Stalled slot) = (slot ≡ frontier (replica_of_logs r.logs)) × (slot < r.settings.slots)
+abbrev pub IsRunFaultOf : {K : Type 0} → (has : K → ℕ → List Table → Type 0) → (may_give_up : Bool) → LoggedRun → RunFault → Type 0
+IsRunFaultOf has may_give_up r Memory = Unit {0}
+IsRunFaultOf has may_give_up r GateGaveUp = may_give_up ≡ true
+IsRunFaultOf has may_give_up r Astray = WereAstray has may_give_up r
+IsRunFaultOf has may_give_up r (Stalled slot) = (slot ≡ frontier (replica_of_logs r.logs)) × (slot < r.settings.slots)
 
 -- under which numbers they are reported
 abbrev pub run_fault_number : RunFault → ℕ

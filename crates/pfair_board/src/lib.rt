@@ -3,8 +3,9 @@
 //! No lock stands round the board. A [`Desk`] learns what stands in a cell and keeps it for good,
 //! and two desks that meet hold the exact join of both. The module [`laws`] says that, whatever
 //! desks do, none holds anything but entries of set cells. In [`run_dispatchers`] each processor of
-//! a script has a thread with a desk, a log and a dispatcher of its own, which works out every slot
-//! by itself. Boards and desks are those of `pfair_desk`, and are called by their names here.
+//! a script has a thread with a desk and a log of its own, which works out every slot by itself; in
+//! [`run_dispatchers_into`] the first one's tables go to a [`Sink`] as they are planned. Boards and
+//! desks are those of `pfair_desk`, and are called by their names here.
 #![tactic(auto)]
 
 mod dispatchers;
@@ -12,16 +13,19 @@ mod fault;
 mod gate;
 mod hints;
 pub mod laws;
+mod sink;
+mod work;
 mod worked;
 mod worker;
 mod workplace;
 
-pub use dispatchers::{Finished, run_dispatchers};
+pub use dispatchers::{Finished, run_dispatchers, run_dispatchers_into};
 pub use fault::RunFault;
 pub use gate::{Gate, OpenGate};
 pub use hints::{Hint, Hints};
 pub use pfair_desk::{Board, Desk, LookFault, PublishFault};
 pub use pfair_table::Run;
+pub use sink::Sink;
 pub use worker::run_worker;
 
 #[cfg(test)]

@@ -84,6 +84,24 @@ fn forgets_removed<R: Ready>(rt: &impl Abort, ready: &mut R) -> Result<(), Fail>
     assert_first(rt, ready, 5, 2, &[])
 }
 
+// Keys that are released 64 slots ahead and later, or wait once more, and a selection that skips all
+// of these slots.
+fn waits_near_and_far<R: Ready>(rt: &impl Abort, ready: &mut R) -> Result<(), Fail>
+    requires { R.now ready.old ≡ 0 }
+{
+    let (a, b) = (key(rt, 70, 0, b"a"), key(rt, 71, 0, b"b"));
+    let (c, d) = (key(rt, 135, 0, b"c"), key(rt, 136, 0, b"d"));
+    assert!(rt; ready.insert(64, a)? && ready.insert(65, b)? && ready.insert(129, c)?);
+    assert!(rt; ready.insert(1, d)? && ready.remove(&d.name) && ready.insert(129, d)?);
+    assert_first(rt, ready, 63, 4, &[])?;
+    assert_first(rt, ready, 64, 4, &[a])?;
+    assert_first(rt, ready, 65, 4, &[b])?;
+    assert!(rt; ready.insert(129, b)?);
+    assert_first(rt, ready, 128, 4, &[])?;
+    assert_first(rt, ready, 300, 2, &[b, c])?;
+    assert_first(rt, ready, 301, 2, &[d])
+}
+
 // Tasks of weight 1 on 64 processors, inserted last name first.
 fn gives_sixty_four<R: Ready>(rt: &impl Abort, ready: &mut R) -> Result<(), Fail> {
     for before in 0..64u8 {
@@ -104,6 +122,7 @@ fn gives_sixty_four<R: Ready>(rt: &impl Abort, ready: &mut R) -> Result<(), Fail
 
 fn assert_rows<R: Ready>(rt: &impl Abort, alloc: Global) -> Result<(), Fail> {
     holds_until_release(rt, &mut R::new(alloc))?;
+    waits_near_and_far(rt, &mut R::new(alloc))?;
     gives_sixty_four(rt, &mut R::new(alloc))?;
     let mut ready = R::new(alloc);
     gives_by_rank(rt, &mut ready)?;

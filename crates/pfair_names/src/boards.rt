@@ -2,10 +2,13 @@
 ghost use Rattle.std.specs.Prelude.{◌≡◌, ◌<◌, IfOk};
 ghost use Rattle.pfair_desk.specs.Desks.{IsDeskOf};
 
-use pfair_board::{Board, Desk, Finished, Gate, Hints, OpenGate, Run, run_dispatchers, run_worker};
+use pfair_board::{
+    Board, Desk, Finished, Gate, Hints, OpenGate, Run, Sink, run_dispatchers, run_dispatchers_into,
+    run_worker,
+};
 use pfair_entry::Entry;
 use pfair_ready::HeapReady;
-use pfair_table::{Script, Settings};
+use pfair_table::{Pick, Script, Settings};
 use std::alloc::{AllocError, Global};
 use std::process::Abort;
 use std::sync::Wait;
@@ -114,5 +117,35 @@ fn dispatcher_threads(rt: HostRuntime) -> Result<(), Fail> {
         &OpenGate,
     )?;
     assert_eq!(&rt; (board.capacity(), desks.len(), runs.len()), (1, 1, 1));
+    Ok(())
+}
+
+// A sink of a user's own, which counts the slots.
+#[derive(Drop)]
+struct Counting {
+    slots: u64,
+}
+
+impl Sink for Counting {
+    ghost has = { λ sink row tables. Unit {0} };
+
+    fn take(&mut self, slot: u64, table: Vec<Pick>) -> Result<Option<Vec<Pick>>, AllocError> {
+        self.slots = slot.saturating_add(1);
+        Ok(Some(table))
+    }
+}
+
+#[test]
+fn dispatcher_threads_into_a_sink(rt: HostRuntime) -> Result<(), Fail> {
+    let script = quiet(&rt, rt.alloc())?;
+    let sink = Counting { slots: 0 };
+    let counted = run_dispatchers_into::<HeapReady, _, _>(
+        &rt,
+        rt.alloc(),
+        &script,
+        &OpenGate,
+        sink,
+    )?;
+    assert_eq!(&rt; counted.slots, 3);
     Ok(())
 }

@@ -5,7 +5,9 @@ use pfair_entry::{Announcement, Entry};
 use pfair_order::Key;
 use pfair_ready::{HeapReady, PlainReady, Ready};
 use pfair_replica::Replica;
-use pfair_table::{Decided, Dispatcher, Event, Pick, Script, Settings, Step, run_events};
+use pfair_table::{
+    Decided, Dispatcher, Event, Pick, Script, ScriptRun, Settings, Step, run_events,
+};
 use pfair_weight::{TaskName, Weight};
 use std::alloc::{AllocError, Global};
 use std::process::Abort;
@@ -86,6 +88,17 @@ fn scripts(rt: HostRuntime) -> Result<(), Fail> {
     assert!(&rt; script.settings() == settings);
     assert!(&rt; script.settings().processors() == 1);
     assert_eq!(&rt; script.log(0).len(), 1);
+    let mut run = ScriptRun::<HeapReady>::new(rt.alloc(), &script)
+        .ok()
+        .expect(&rt, "a run");
+    gives_the_next(&rt, &mut run)
+}
+
+// The first slot of three is planned, in which nobody runs.
+fn gives_the_next<R: Ready>(rt: &impl Abort, run: &mut ScriptRun<R>) -> Result<(), Fail> {
+    assert_eq!(rt; run.next_slot(), 0);
+    assert_eq!(rt; run.plan_next()?, Some(0));
+    assert!(rt; run.table().is_empty() && run.decisions().is_empty());
     Ok(())
 }
 

@@ -105,9 +105,11 @@ impl Ord for Key {
         if groups != Ordering::Equal {
             return groups;
         }
-        self.name
-            .cmp(&other.name)
-            .then(self.group.cmp(&other.group))
+        let names = self.name.cmp(&other.name);
+        if names != Ordering::Equal {
+            return names;
+        }
+        self.group.cmp(&other.group)
     }
 }
 

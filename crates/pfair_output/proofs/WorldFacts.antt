@@ -297,7 +297,7 @@ module _ (s : Settings) (x : Replica) where
   same_rows time tables (m ∷ ms) = ap (λ l. lag_row tables time m ∷ l) (same_rows time tables ms)
 
   -- the rows after a slot
-  rows_after : (t : ℕ) → book_rows (book_after (suc t)) ≡ lag_rows s x t
+  pub rows_after : (t : ℕ) → book_rows (book_after (suc t)) ≡ lag_rows s x t
   rows_after t =
       let a : IsAfter (suc t) (book_after (suc t)) = after_all (suc t) in
       let next : suc t ≡ t + 1 = omega arith in

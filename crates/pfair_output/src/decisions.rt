@@ -94,9 +94,9 @@ fn add_slot<R: Ready>(
     }
 }
 
-// Adds a row for each announcement that was decided at the boundary of a slot: the slot, the
-// processor and the number of its entry, the task, and what was decided.
-fn add_decisions(
+/// Adds a row for each announcement that was decided at the boundary of a slot: the slot, the
+/// processor and the number of its entry, the task, and what was decided.
+pub(crate) fn add_decisions(
     writer: &mut Writer<Vec<u8>>,
     slot: u64,
     decided: &[Decided],

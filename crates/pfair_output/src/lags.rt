@@ -18,7 +18,7 @@ use pfair_admission::Decision;
 use pfair_entry::Announcement;
 use pfair_lag::{LagBook, MAX_HORIZON};
 use pfair_ready::Ready;
-use pfair_table::{Decided, Dispatcher};
+use pfair_table::{Decided, Dispatcher, Pick};
 use pfair_text::{add_row, finish, new_text};
 use pfair_weight::TaskName;
 use std::alloc::{AllocError, Global};
@@ -99,7 +99,7 @@ pub fn tell_slots<R: Ready>(
         (take (to - book.old.time) (drop book.old.time dispatcher.now.decided)) (take (to - book.old.time) (drop book.old.time dispatcher.now.tables))) }
 {
     for slot in book.time()..dispatcher.next_slot().min(to) {
-        tell_slot(book, dispatcher, slot)?;
+        tell_planned(book, dispatcher, slot)?;
     }
     Ok(())
 }
@@ -122,12 +122,12 @@ fn add_slot<R: Ready>(
         → slice_get dispatcher.now.decided slot ≡ Some decided → slice_get dispatcher.now.tables slot ≡ Some table
         → text_so_far writer.new ≡ text_so_far writer.old ++ lines_text (book_rows (slot_told decided table book.old))) }
 {
-    tell_slot(book, dispatcher, slot)?;
+    tell_planned(book, dispatcher, slot)?;
     add_lags(writer, book)
 }
 
-// Tells the book a slot that is planned: its decisions, and then its table.
-fn tell_slot<R: Ready>(
+// Tells the book a slot that a dispatcher has planned.
+fn tell_planned<R: Ready>(
     book: &mut LagBook,
     dispatcher: &Dispatcher<R>,
     slot: u64,
@@ -144,6 +144,18 @@ fn tell_slot<R: Ready>(
     let Some(table) = dispatcher.table(slot) else {
         return Ok(());
     };
+    tell_slot(book, decided, table)
+}
+
+/// Tells the book a slot: its decisions, and then its table.
+pub(crate) fn tell_slot(
+    book: &mut LagBook,
+    decided: &[Decided],
+    table: &[Pick],
+) -> Result<(), AllocError>
+    requires { book.old.time < MAX_HORIZON }
+    ensures { OnOk result (book.new ≡ slot_told decided.now table.now book.old) }
+{
     tell_all(book, decided)?;
     book.record(table);
     Ok(())
@@ -183,8 +195,8 @@ fn tell(book: &mut LagBook, decided: &Decided) -> Result<(), AllocError>
     Ok(())
 }
 
-// Adds a row for each task of the book, in order of entering.
-fn add_lags(writer: &mut Writer<Vec<u8>>, book: &LagBook) -> Result<(), AllocError>
+/// Adds a row for each task of the book, in order of entering.
+pub(crate) fn add_lags(writer: &mut Writer<Vec<u8>>, book: &LagBook) -> Result<(), AllocError>
     requires { IsOpen writer.old }
     ensures open { OnOk result (IsOpen writer.new) }
     ensures text { OnOk result (text_so_far writer.new ≡ text_so_far writer.old ++ lines_text (book_rows book.now)) }

@@ -1,6 +1,6 @@
 //! Tables as rows: slot, processor, task, index, and in a text with places the place.
 
-ghost use Rattle.std.specs.Prelude.{◌≡◌, ◌≤◌, ◌++◌, OnOk, IfOk, Some, drop, map, slice_get};
+ghost use Rattle.std.specs.Prelude.{◌≡◌, ◌≤◌, ◌++◌, ◌∷◌, [], List, OnOk, IfOk, Some, drop, length, map, slice_get};
 ghost use Rattle.pfair_text.specs.Rows.{IsOpen, line, lines_text, text_so_far};
 ghost use Rattle.pfair_table.specs.Places.{places_of};
 ghost use Rattle.pfair_table.specs.Table.{Table};
@@ -76,6 +76,25 @@ pub fn add_placed_header(writer: &mut Writer<Vec<u8>>) -> Result<(), AllocError>
     )
 }
 
+/// Adds a row for each quantum of a slot's table, under the header of [`add_replay_header`]. It costs
+/// the rows.
+///
+/// # Errors
+/// `AllocError` where memory was wanted and refused.
+pub fn add_table_rows(
+    writer: &mut Writer<Vec<u8>>,
+    slot: u64,
+    table: &[Pick],
+) -> Result<(), AllocError>
+    requires { IsOpen writer.old }
+    ensures open { OnOk result (IsOpen writer.new) }
+    ensures text { OnOk result (text_so_far writer.new ≡ text_so_far writer.old ++ lines_text (table_rows slot table.now)) }
+    ensures more { OnOk result ((tables : List Table) → length tables ≡ slot → text_so_far writer.old ≡ replay_text tables
+        → text_so_far writer.new ≡ replay_text (tables ++ table.now ∷ [])) }
+{
+    add_table(writer, slot, table, &[])
+}
+
 /// Adds a row for each quantum of the tables that a dispatcher has planned, from a slot on that isn't
 /// forgotten, under the header of [`add_replay_header`]. It costs the rows.
 ///
@@ -132,7 +151,7 @@ fn add_slot<R: Ready>(
         → text_so_far writer.new ≡ text_so_far writer.old ++ lines_text (table_rows slot table)) }
 {
     match dispatcher.table(slot) {
-        Some(table) => add_table(writer, slot, table, &[]),
+        Some(table) => add_table_rows(writer, slot, table),
         None => Ok(()),
     }
 }

@@ -1,32 +1,31 @@
-//! The decisions and the lags of a script's run, whose slots are forgotten once their rows are made.
+//! The decisions and the lags of a script's run, of which one slot at a time is held.
 
-ghost use Rattle.std.specs.Prelude.{◌≡◌, ◌≤◌, ◌++◌, [], IfOk, IfErr, OnOk};
+ghost use Rattle.std.specs.Prelude.{◌≡◌, ◌≤◌, ◌++◌, ◌∷◌, [], IfOk, IfErr, OnOk};
+ghost use Rattle.std.specs.List.{flat_map};
 ghost use Rattle.pfair_lag.specs.Book.{empty_book};
-ghost use Rattle.pfair_replica.specs.Replica.{frontier};
-ghost use Rattle.pfair_table.specs.Refinement.{IsWholePlan};
+ghost use Rattle.pfair_replica.specs.HeldRows.{replica_of};
+ghost use Rattle.pfair_replica.specs.Replica.{frontier, numbers_below};
 ghost use Rattle.pfair_table.specs.Script.{replica_of_logs};
-ghost use Rattle.pfair_table.specs.ScriptRun.{IsScriptFaultOf};
+ghost use Rattle.pfair_table.specs.ScriptRun.{IsNextOf, IsScriptFaultOf, after_next};
 ghost use Rattle.pfair_text.specs.Rows.{IsOpen, lines_text, text_so_far};
 ghost use Rattle.pfair_output.specs.Decisions.{decided_rows, decisions_text};
-ghost use Rattle.pfair_output.specs.Lags.{lags_text};
-ghost use Rattle.pfair_output.specs.Runs.{IsOneMore, IsStartOf, decided_of};
+ghost use Rattle.pfair_output.specs.Lags.{lag_rows, lags_header, lags_text};
+ghost use Rattle.pfair_output.specs.Runs.{decided_below, decided_of};
 ghost use Rattle.pfair_output.specs.Slots.{slots_from};
-ghost use Rattle.pfair_output.specs.Told.{rows_told};
 
-use crate::decisions::{add_decisions_from, add_decisions_header};
-use crate::lags::{add_lags_from, add_lags_header};
+use crate::decisions::{add_decisions, add_decisions_header};
+use crate::lags::{add_lags, add_lags_header, tell_slot};
 use csv::Writer;
 use pfair_lag::LagBook;
 use pfair_ready::Ready;
-use pfair_table::{Dispatcher, Script, ScriptFault, Step, take_script};
+use pfair_table::{Script, ScriptFault, ScriptRun, Settings};
 use pfair_text::{finish, new_text};
 use std::alloc::{AllocError, Global};
 
 /// The decisions at the boundaries of all slots of a script's run, as
 /// [`decisions_of`](crate::decisions_of) writes them of the dispatcher that
-/// [`run_script`](pfair_table::run_script) gives. A slot is forgotten as soon as its rows are made,
-/// so that beside the text no more than the entries and 2,048 slots are held. It costs what that run
-/// costs, and the rows.
+/// [`run_script`](pfair_table::run_script) gives. One slot at a time is held, beside the text and the
+/// entries. It costs what that run costs but for places, and the rows.
 ///
 /// # Errors
 /// As [`run_script`](pfair_table::run_script).
@@ -35,15 +34,14 @@ pub fn decisions_of_script<R: Ready>(alloc: Global, script: &Script) -> Result<V
     ensures settled { OnOk result (script.now.settings.slots ≤ frontier (replica_of_logs script.now.logs)) }
     ensures fault { IfErr result (IsScriptFaultOf script.now) }
 {
-    let mut dispatcher = take_script::<R>(alloc, script)?;
-    decisions_of_start(alloc, script, &mut dispatcher)
+    let mut run = ScriptRun::<R>::new(alloc, script)?;
+    Ok(decisions_of_run(alloc, &mut run)?)
 }
 
 /// The lags in all slots of a script's run, as [`lags_of`](crate::lags_of) writes them of the
-/// dispatcher that [`run_script`](pfair_table::run_script) gives. A slot is forgotten as soon as its
-/// rows are made, so that beside the text no more than the entries, 2,048 slots and a tally of each
-/// member are held. It costs what that run costs, the rows, a look-up for each decision and quantum,
-/// and a pass over the members for each departure.
+/// dispatcher that [`run_script`](pfair_table::run_script) gives. One slot at a time is held, beside
+/// the text, the entries and a tally of each member. It costs what that run costs but for places, the
+/// rows, a look-up for each decision and quantum, and a pass over the members for each departure.
 ///
 /// # Errors
 /// As [`run_script`](pfair_table::run_script).
@@ -52,116 +50,79 @@ pub fn lags_of_script<R: Ready>(alloc: Global, script: &Script) -> Result<Vec<u8
     ensures settled { OnOk result (script.now.settings.slots ≤ frontier (replica_of_logs script.now.logs)) }
     ensures fault { IfErr result (IsScriptFaultOf script.now) }
 {
-    let mut dispatcher = take_script::<R>(alloc, script)?;
-    lags_of_start(alloc, script, &mut dispatcher)
+    let mut run = ScriptRun::<R>::new(alloc, script)?;
+    Ok(lags_of_run(alloc, &mut run)?)
 }
 
-// The decisions of a script, of which every entry was taken, and nothing is planned.
-fn decisions_of_start<R: Ready>(
-    alloc: Global,
-    script: &Script,
-    dispatcher: &mut Dispatcher<R>,
-) -> Result<Vec<u8>, ScriptFault>
-    requires { IsStartOf script.now dispatcher.old }
-    ensures text { IfOk result (λ text. text.items ≡ decisions_text (decided_of script.now)) }
-    ensures settled { OnOk result (script.now.settings.slots ≤ frontier (replica_of_logs script.now.logs)) }
-    ensures fault { IfErr result (IsScriptFaultOf script.now) }
+// The decisions of all slots of a run of which none is planned.
+fn decisions_of_run<R: Ready>(alloc: Global, run: &mut ScriptRun<R>) -> Result<Vec<u8>, AllocError>
+    requires { run.old.planned ≡ 0 }
+    ensures { IfOk result (λ text. text.items ≡ decisions_text (decided_below run.old.settings (replica_of run.old.held) run.old.settings.slots)) }
 {
-    check_settled(dispatcher, script)?;
     let mut writer = new_text(alloc);
     add_decisions_header(&mut writer)?;
-    add_all_decisions(&mut writer, dispatcher)?;
-    Ok(finish(writer)?)
+    add_all_decisions(&mut writer, run)?;
+    finish(writer)
 }
 
-// The lags of a script, of which every entry was taken, and nothing is planned.
-fn lags_of_start<R: Ready>(
-    alloc: Global,
-    script: &Script,
-    dispatcher: &mut Dispatcher<R>,
-) -> Result<Vec<u8>, ScriptFault>
-    requires { IsStartOf script.now dispatcher.old }
-    ensures text { IfOk result (λ text. text.items ≡ lags_text script.now.settings (replica_of_logs script.now.logs)) }
-    ensures settled { OnOk result (script.now.settings.slots ≤ frontier (replica_of_logs script.now.logs)) }
-    ensures fault { IfErr result (IsScriptFaultOf script.now) }
+// The lags in all slots of a run of which none is planned.
+fn lags_of_run<R: Ready>(alloc: Global, run: &mut ScriptRun<R>) -> Result<Vec<u8>, AllocError>
+    requires { run.old.planned ≡ 0 }
+    ensures { IfOk result (λ text. text.items ≡ lines_text (lags_header
+        ∷ flat_map (lag_rows run.old.settings (replica_of run.old.held)) (numbers_below run.old.settings.slots))) }
 {
-    check_settled(dispatcher, script)?;
     let mut writer = new_text(alloc);
     add_lags_header(&mut writer)?;
-    add_all_lags(&mut writer, &mut LagBook::new(alloc), dispatcher)?;
-    Ok(finish(writer)?)
+    add_all_lags(&mut writer, &mut LagBook::new(alloc), run)?;
+    finish(writer)
 }
 
-// Whether the logs of a script, of which every entry was taken, settle all its slots.
-fn check_settled<R: Ready>(dispatcher: &Dispatcher<R>, script: &Script) -> Result<(), ScriptFault>
-    requires { IsStartOf script.now dispatcher.now }
-    ensures settled { OnOk result (script.now.settings.slots ≤ frontier (replica_of_logs script.now.logs)) }
-    ensures fault { IfErr result (IsScriptFaultOf script.now) }
-{
-    let frontier = dispatcher.replica().frontier();
-    if frontier < script.settings().slots() {
-        return Err(ScriptFault::Stalled { slot: frontier });
-    }
-    Ok(())
-}
-
-// Plans all slots that what is held settles, and adds the rows of what is decided at each.
+// Plans all slots of a run, and adds the rows of what is decided at each.
 fn add_all_decisions<R: Ready>(
     writer: &mut Writer<Vec<u8>>,
-    dispatcher: &mut Dispatcher<R>,
+    run: &mut ScriptRun<R>,
 ) -> Result<(), AllocError>
     requires open { IsOpen writer.old }
-    requires tables { dispatcher.old.tables ≡ [] }
-    requires decided { dispatcher.old.decided ≡ [] }
-    requires standing { dispatcher.old.forgotten ≡ 0 }
+    requires start { run.old.planned ≡ 0 }
     ensures open { OnOk result (IsOpen writer.new) }
-    ensures settings { OnOk result (dispatcher.new.settings ≡ dispatcher.old.settings) }
-    ensures held { OnOk result (dispatcher.new.held ≡ dispatcher.old.held) }
-    ensures whole { OnOk result (IsWholePlan dispatcher.new) }
-    ensures text { OnOk result (text_so_far writer.new ≡ text_so_far writer.old ++ lines_text (slots_from decided_rows 0 dispatcher.new.decided)) }
+    ensures text { OnOk result (text_so_far writer.new ≡ text_so_far writer.old
+        ++ lines_text (slots_from decided_rows 0 (decided_below run.old.settings (replica_of run.old.held) run.old.settings.slots))) }
 {
-    'slots: while let Step::Planned(slot) = plan_one(dispatcher)? {
-        add_decisions_from(writer, dispatcher, slot)?;
-        let next = dispatcher.next_slot();
-        dispatcher.forget(next);
+    'slots: while let Some(slot) = plan_one(run)? {
+        add_decisions(writer, slot, run.decisions())?;
     }
     Ok(())
 }
 
-// Plans all slots that what is held settles, tells a book of each, and adds the rows after it.
+// Plans all slots of a run, tells a book of each, and adds the rows after it.
 fn add_all_lags<R: Ready>(
     writer: &mut Writer<Vec<u8>>,
     book: &mut LagBook,
-    dispatcher: &mut Dispatcher<R>,
+    run: &mut ScriptRun<R>,
 ) -> Result<(), AllocError>
     requires open { IsOpen writer.old }
     requires book { book.old ≡ empty_book }
-    requires tables { dispatcher.old.tables ≡ [] }
-    requires decided { dispatcher.old.decided ≡ [] }
-    requires standing { dispatcher.old.forgotten ≡ 0 }
+    requires start { run.old.planned ≡ 0 }
     ensures open { OnOk result (IsOpen writer.new) }
-    ensures settings { OnOk result (dispatcher.new.settings ≡ dispatcher.old.settings) }
-    ensures held { OnOk result (dispatcher.new.held ≡ dispatcher.old.held) }
-    ensures whole { OnOk result (IsWholePlan dispatcher.new) }
-    ensures text { OnOk result (text_so_far writer.new ≡ text_so_far writer.old ++ lines_text (rows_told empty_book dispatcher.new.decided dispatcher.new.tables)) }
+    ensures text { OnOk result (text_so_far writer.new ≡ text_so_far writer.old
+        ++ lines_text (flat_map (lag_rows run.old.settings (replica_of run.old.held)) (numbers_below run.old.settings.slots))) }
 {
-    'slots: while let Step::Planned(_) = plan_one(dispatcher)? {
-        add_lags_from(writer, book, dispatcher)?;
-        let next = dispatcher.next_slot();
-        dispatcher.forget(next);
+    'slots: while let Some(_) = plan_one(run)? {
+        // a run has at most 1,000,000 slots
+        prove!(run.next_slot() <= Settings::MAX_SLOTS);
+        tell_slot(book, run.decisions(), run.table())?;
+        add_lags(writer, book)?;
     }
     Ok(())
 }
 
-// Plans the next slot, where what is held settles it.
-fn plan_one<R: Ready>(dispatcher: &mut Dispatcher<R>) -> Result<Step, AllocError>
-    ensures settings { OnOk result (dispatcher.new.settings ≡ dispatcher.old.settings) }
-    ensures held { OnOk result (dispatcher.new.held ≡ dispatcher.old.held) }
-    ensures standing { OnOk result (dispatcher.new.forgotten ≡ dispatcher.old.forgotten) }
-    ensures step { IfOk result (IsOneMore dispatcher.old dispatcher.new) }
+// Plans the next slot of a run, where one is left.
+fn plan_one<R: Ready>(run: &mut ScriptRun<R>) -> Result<Option<u64>, AllocError>
+    ensures slot { IfOk result (IsNextOf run.old) }
+    ensures next { OnOk result (run.new ≡ after_next run.old) }
 {
-    match dispatcher.plan_next() {
-        Ok(step) => Ok(step),
+    match run.plan_next() {
+        Ok(slot) => Ok(slot),
         Err(_) => Err(AllocError),
     }
 }

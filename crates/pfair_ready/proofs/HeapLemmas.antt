@@ -7,7 +7,7 @@ use Rattle.std.specs.List.{AllByRecursion, IsDistinct}
 use Rattle.std.specs.List.Sorted.{IsPermutation}
 use Rattle.std.specs.Map.{lookup, keys_of}
 use Rattle.std.specs.BTreeMap.{is_at}
-use Rattle.std.specs.BinaryHeap.{IsHeap, PopsGreatest}
+use Rattle.std.specs.BinaryHeap.{heap_items, IsHeap, PopsGreatest}
 use Rattle.std.specs.FinMap as finmap
 use Rattle.std.specs.FinMap.{find, get-from_entries, get-insert, get-remove, same_map}
 use Rattle.std.specs.declared.cmp.Reverse.{Reverse}
@@ -22,8 +22,9 @@ use Rattle.std.specs.Cmp.{Equal-is}
 use Rattle.std.proofs.lemmas.Bool.{true≢false}
 use Rattle.pfair_weight.specs.NameFacts.{name_at}
 use Rattle.pfair_ready.specs.Names.{NameValue, name_cmp, name_eq}
+use Rattle.pfair_ready.specs.declared.calendar.Calendar.{Calendar}
 use Rattle.pfair_ready.specs.declared.date.Date.{Date}
-use Rattle.pfair_ready.specs.Slots.{SlotList, with_slot, live, entry_of, in_slot, IsPlaced, Keeps, Moves, IsCovered, later_cmp}
+use Rattle.pfair_ready.specs.Slots.{SlotList, with_slot, live, entry_of, in_slot, IsPlaced, Keeps, Moves, IsAmong, IsNoted, IsCovered, dated, later_cmp, reverse_cmp}
 use Rattle.pfair_ready.proofs.Names.{names_total, names_exact, tied_names}
 
 module _ {X : Type 0} where
@@ -236,50 +237,72 @@ pushed_place es es' n e h =
     let there : slice_get es' (length es) ≡ Some (n, None) = ap (λ (x : SlotList). slice_get x (length es)) e ∙ get_last es n in
     record { at = there ∙ ap (λ (o : Option (ℕ × Key)). Some (n, o)) (sym (live_at es' (length es) n None there h)); apart = h }
 
-pub covered_kept : (now : ℕ) (es es' : SlotList) (dates : List (Reverse Date)) (heap : List (Reverse (Key × ℕ))) → Keeps es es' → IsCovered now es dates heap → IsCovered now es' dates heap
+pub covered_kept : (now : ℕ) (es es' : SlotList) (dates : Calendar) (heap : List (Reverse (Key × ℕ))) → Keeps es es' → IsCovered now es dates heap → IsCovered now es' dates heap
 covered_kept now es es' dates heap k c =
     record {
       apart = k.apart;
       named = λ p n r key at. c.named p n r key (k.slots p n (r, key) at);
+      turned = c.turned;
       covered = λ p r key at. let e = entry_in (slice_get es' p) (r, key) at in c.covered p r key (ap in_slot (k.slots p e.0 (r, key) e.1));
       date_order = c.date_order;
       in_order = c.in_order;
     }
 
+-- nothing is held
+pub covered_none : (es : SlotList) (dates : Calendar) (heap : List (Reverse (Key × ℕ))) → es ≡ [] → IsDistinct name_eq (keys_of es) → dates.turned ≡ 0 → IsHeap later_cmp (heap_items dates.far) → IsHeap reverse_cmp heap → IsCovered 0 es dates heap
+covered_none es dates heap none apart turned down up =
+    record {
+      apart = apart;
+      named = λ p n r k at. absurd (none-some (n, Some (r, k)) (sym (ap (λ (x : SlotList). slice_get x p) none) ∙ at));
+      turned = omega (arith, turned);
+      covered = λ p r k at. absurd (none-some (r, k) (sym (ap (λ (x : SlotList). in_slot (slice_get x p)) none) ∙ at));
+      date_order = down;
+      in_order = up;
+    }
+
 -- a slot is emptied
-pub covered_emptied : (now place : ℕ) (es es' : SlotList) (dates : List (Reverse Date)) (heap : List (Reverse (Key × ℕ))) → es' ≡ set_value_at es place None → IsCovered now es dates heap → IsCovered now es' dates heap
+pub covered_emptied : (now place : ℕ) (es es' : SlotList) (dates : Calendar) (heap : List (Reverse (Key × ℕ))) → es' ≡ set_value_at es place None → IsCovered now es dates heap → IsCovered now es' dates heap
 covered_emptied now place es es' dates heap e c =
     subst (λ (x : SlotList). IsCovered now x dates heap) (sym e) (record {
       apart = subst (IsDistinct name_eq) (sym (keys_set es place None)) c.apart;
       named = λ p n r key at. c.named p n r key (set_none es place p n (r, key) at).1;
+      turned = c.turned;
       covered = λ p r key at. let f = entry_in (slice_get (set_value_at es place None) p) (r, key) at in c.covered p r key (ap in_slot (set_none es place p f.0 (r, key) f.1).1);
       date_order = c.date_order;
       in_order = c.in_order;
     })
 
+-- a calendar that has lost nothing
+pub covered_dates : (now : ℕ) (es : SlotList) (dates dates' : Calendar) (heap : List (Reverse (Key × ℕ))) → ((d : Date) → IsNoted dates d → IsNoted dates' d) → dates'.turned ≡ dates.turned → IsHeap later_cmp (heap_items dates'.far)
+    → IsCovered now es dates heap → IsCovered now es dates' heap
+covered_dates now es dates dates' heap kept turned order c =
+    record {
+      apart = c.apart;
+      named = c.named;
+      turned = let before = c.turned in omega (arith, turned, before);
+      covered = λ p r k at. elim (c.covered p r k at) [ inl noted ↦ inl (kept (dated r p) noted) | inr gone ↦ inr gone ];
+      date_order = order;
+      in_order = c.in_order;
+    }
+
 -- a slot is filled, and its date is in the calendar
-pub covered_filled : (now place r : ℕ) (k : Key) (es es' : SlotList) (dates dates' : List (Reverse Date)) (heap : List (Reverse (Key × ℕ)))
-    → IsPlaced es place k.name → es' ≡ set_value_at es place (Some (r, k)) → IsPermutation (record { 0 = record { release = r; place = place } } ∷ dates) dates' → IsHeap later_cmp dates'
-    → IsCovered now es dates heap → IsCovered now es' dates' heap
-covered_filled now place r k es es' dates dates' heap here e perm up c =
-    let more : (x : Reverse Date) → Contains dates x → Contains dates' x = λ x h. Contains-permutation (record { 0 = record { release = r; place = place } } ∷ dates) dates' x perm (Contains-append_right (record { 0 = record { release = r; place = place } } ∷ []) dates x h) in
-    let top : Contains dates' (record { 0 = record { release = r; place = place } }) = Contains-permutation (record { 0 = record { release = r; place = place } } ∷ dates) dates' (record { 0 = record { release = r; place = place } }) perm (0, omega arith, refl) in
-    subst (λ (x : SlotList). IsCovered now x dates' heap) (sym e) (record {
+pub covered_filled : (now place r : ℕ) (k : Key) (es es' : SlotList) (dates : Calendar) (heap : List (Reverse (Key × ℕ)))
+    → IsPlaced es place k.name → es' ≡ set_value_at es place (Some (r, k)) → IsNoted dates (dated r place) → IsCovered now es dates heap → IsCovered now es' dates heap
+covered_filled now place r k es es' dates heap here e noted c =
+    subst (λ (x : SlotList). IsCovered now x dates heap) (sym e) (record {
       apart = subst (IsDistinct name_eq) (sym (keys_set es place (Some (r, k)))) c.apart;
       named = λ p n r' k' at. elim (set_some es place p (r, k) n (r', k') at) [
         | inl f ↦ sym (ap (λ (x : ℕ × Key). x.1.name) f.is) ∙ f.named k.name (entry_of (live es) k.name) here.at
         | inr o ↦ c.named p n r' k' o
       ];
+      turned = c.turned;
       covered = λ p r' k' at.
           let g = entry_in (slice_get (set_value_at es place (Some (r, k))) p) (r', k') at in
           elim (set_some es place p (r, k) g.0 (r', k') g.1) [
-            | inl f ↦ inl (subst (λ (x : ℕ). Contains dates' (record { 0 = record { release = r'; place = x } })) f.place (subst (λ (x : ℕ × Key). Contains dates' (record { 0 = record { release = x.0; place = place } })) f.is top))
-            | inr o ↦ elim (c.covered p r' k' (ap in_slot o)) [
-              | inl d ↦ inl (more (record { 0 = record { release = r'; place = p } }) d)
-              | inr h ↦ inr h
-            ]
+            | inl f ↦ inl (subst (λ (x : ℕ). IsNoted dates (dated r' x)) f.place (subst (λ (x : ℕ × Key). IsNoted dates (dated x.0 place)) f.is noted))
+            | inr o ↦ c.covered p r' k' (ap in_slot o)
           ];
-      date_order = up;
+      date_order = c.date_order;
       in_order = c.in_order;
     })
 
@@ -293,16 +316,16 @@ top_or_stays top x xs ys p c =
     let at = place_of (top ∷ ys) x (Contains-permutation xs (top ∷ ys) x p c) in
     in_cons top ys x at.0 at.1
 
--- one date more has gone
+-- one far date more has gone
 pub moves_more : (slot : ℕ) (es : SlotList) (date : Reverse Date) (dates0 dates dates' : List (Reverse Date)) (heap0 heap heap' : List (Reverse (Key × ℕ)))
-    → Moves slot es dates0 dates heap0 heap → date.0.release ≤ slot → IsPermutation dates (date ∷ dates')
+    → Moves slot es (IsAmong dates0) (IsAmong dates) heap0 heap → date.0.release ≤ slot → IsPermutation dates (date ∷ dates')
     → ((x : Reverse (Key × ℕ)) → Contains heap x → Contains heap' x) → ((k : Key) → in_slot (slice_get es date.0.place) ≡ Some (date.0.release, k) → Contains heap' (record { 0 = (k, date.0.place) }))
-    → Moves slot es dates0 dates' heap0 heap'
+    → Moves slot es (IsAmong dates0) (IsAmong dates') heap0 heap'
 moves_more slot es date dates0 dates dates' heap0 heap heap' m due perm kept there =
     record {
       kept = λ x h. kept x (m.kept x h);
       moved = λ p r k at h. elim (m.moved p r k at h) [
-        | inl stays ↦ elim (top_or_stays date (record { 0 = record { release = r; place = p } }) dates dates' perm stays) [
+        | inl stays ↦ elim (top_or_stays date (record { 0 = dated r p }) dates dates' perm stays) [
           | inl same ↦
               let P : Reverse Date → Type 0 = λ x. in_slot (slice_get es x.0.place) ≡ Some (x.0.release, k) → (x.0.release ≤ slot) × Contains heap' (record { 0 = (k, x.0.place) }) in
               inr (subst P same (λ a. (due, there k a)) at)

@@ -1,3 +1,4 @@
+mod CalendarLemmas
 mod HeapLemmas
 pub mod Names
 mod PlainListLemmas

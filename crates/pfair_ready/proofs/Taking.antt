@@ -1,7 +1,7 @@
 -- How far `take_first` has come over the heap, and its steps.
 use Rattle.std.proofs.Common.{◌≡◌, ℕ, ◌+◌, ◌<◌, ◌≤◌, inl, inr, Bool, true, false, cond, List, [], ◌∷◌, ◌++◌, length, refl, sym, ap, subst, ◌∙◌, arith, Option, Some, None}
 use Rattle.std.proofs.Common.{length-append}
-use Rattle.std.specs.Prelude.{All, Contains, nat_le}
+use Rattle.std.specs.Prelude.{Contains, nat_le}
 use Rattle.std.specs.List.{AllByRecursion, slice_get}
 use Rattle.std.specs.declared.cmp.Ordering.TheVariants.{Less}
 use Rattle.std.specs.Ordering.{is_lt, is_eq}
@@ -9,7 +9,7 @@ use Rattle.std.specs.Cmp.{tied_itself}
 use Rattle.std.specs.BTreeMap.{is_at}
 use Rattle.std.specs.FinMap as finmap
 use Rattle.std.specs.FinMap.{from_entries}
-use Rattle.std.specs.BinaryHeap.{IsHeap, IsUpperBound}
+use Rattle.std.specs.BinaryHeap.{heap_items, IsHeap, IsUpperBound}
 use Rattle.std.specs.List.Sorted.{IsPermutation}
 use Rattle.std.proofs.lemmas.List.Sorted.{IsPermutation-refl, IsPermutation-sym}
 use Rattle.std.proofs.lemmas.List.Elements.{All-contains, All-from_recursion}
@@ -26,8 +26,9 @@ use Rattle.pfair_order.proofs.InOrder.{each_trivial}
 use Rattle.pfair_ready.specs.Names.{NameValue, name_cmp, name_eq}
 use Rattle.pfair_ready.specs.Queue.{released, without}
 use Rattle.pfair_ready.specs.Heap.{is_due}
+use Rattle.pfair_ready.specs.declared.calendar.Calendar.{Calendar}
 use Rattle.pfair_ready.specs.declared.date.Date.{Date}
-use Rattle.pfair_ready.specs.Slots.{SlotList, live, entry_of, in_slot, later_cmp, reverse_cmp, Moves, IsCovered}
+use Rattle.pfair_ready.specs.Slots.{SlotList, live, entry_of, in_slot, later_cmp, reverse_cmp, dated, Moves, IsNoted, IsCovered}
 use Rattle.std.specs.List.{IsDistinct}
 use Rattle.std.specs.Ordering.{nat_cmp, ordering_then}
 use Rattle.std.specs.declared.cmp.Ordering.{Ordering}
@@ -39,13 +40,13 @@ use Rattle.pfair_ready.proofs.Names.{names_total}
 use Rattle.pfair_ready.proofs.HeapLemmas.{get_found, one_taken, top_or_stays, live_at, live_set, stands, Stands, entry_in, set_none, keys_set}
 use Rattle.pfair_ready.proofs.Released.{IsReleased, each_released, released_remove, without_none, without_push}
 
-pub record IsTaking (slot m room : ℕ) (start es : SlotList) (dates : List (Reverse Date)) (heap : List (Reverse (Key × ℕ))) (first : List Key) : Type 0 where
+pub record IsTaking (slot m room : ℕ) (start es : SlotList) (dates : Calendar) (heap : List (Reverse (Key × ℕ))) (first : List Key) : Type 0 where
   -- what is given, and what is released of what is held still
   pub split : IsSplit keys_total (released slot (from_entries {R = name_cmp} (live start))) first (released slot (from_entries {R = name_cmp} (live es)))
   pub left : from_entries {R = name_cmp} (live es) ≡ without first (from_entries {R = name_cmp} (live start))
   pub covered : IsCovered slot es dates heap
   -- the calendar has later dates alone, so what is released is in the heap
-  pub later : All (λ e. slot < e.0.release) dates
+  pub later : (d : Date) → IsNoted dates d → slot < d.release
   pub few : length first ≤ m
   pub counted : length first + length heap ≤ room
 
@@ -76,20 +77,21 @@ held_due k slot r within =
     let one : nat_le r slot ≡ true = grind (arith, nat_tests) in
     rw one (ap is_eq (tied_itself keys_total k))
 
-pub covered_moved : (now slot : ℕ) (es : SlotList) (dates dates' : List (Reverse Date)) (heap heap' : List (Reverse (Key × ℕ)))
-    → IsCovered now es dates heap → now ≤ slot → Moves slot es dates dates' heap heap' → IsHeap later_cmp dates' → IsHeap reverse_cmp heap' → IsCovered slot es dates' heap'
-covered_moved now slot es dates dates' heap heap' c within m down up =
+pub covered_moved : (now slot : ℕ) (es : SlotList) (dates dates' : Calendar) (heap heap' : List (Reverse (Key × ℕ)))
+    → IsCovered now es dates heap → now ≤ slot → Moves slot es (IsNoted dates) (IsNoted dates') heap heap' → dates'.turned ≤ slot → IsHeap later_cmp (heap_items dates'.far) → IsHeap reverse_cmp heap' → IsCovered slot es dates' heap'
+covered_moved now slot es dates dates' heap heap' c within m turned down up =
     record {
       apart = c.apart;
       named = c.named;
+      turned = turned;
       covered = λ p r k e. elim (c.covered p r k e) [ inl d ↦ m.moved p r k e d | inr h ↦ inr (omega arith, m.kept (record { 0 = (k, p) }) h.1) ];
       date_order = down;
       in_order = up;
     }
 
 -- at the start nothing is given
-pub taking_none : (slot m : ℕ) (start : SlotList) (dates : List (Reverse Date)) (heap : List (Reverse (Key × ℕ)))
-    → IsCovered slot start dates heap → All (λ e. slot < e.0.release) dates → IsTaking slot m (length heap) start start dates heap []
+pub taking_none : (slot m : ℕ) (start : SlotList) (dates : Calendar) (heap : List (Reverse (Key × ℕ)))
+    → IsCovered slot start dates heap → ((d : Date) → IsNoted dates d → slot < d.release) → IsTaking slot m (length heap) start start dates heap []
 taking_none slot m start dates heap c later =
     record {
       split = record {
@@ -109,12 +111,12 @@ first_not_less Less b e = e
 first_not_less Equal b e = refl
 first_not_less Greater b e = refl
 
-module _ (slot m room : ℕ) (start es : SlotList) (dates : List (Reverse Date)) (heap : List (Reverse (Key × ℕ))) (first : List Key) (t : IsTaking slot m room start es dates heap first) where
+module _ (slot m room : ℕ) (start es : SlotList) (dates : Calendar) (heap : List (Reverse (Key × ℕ))) (first : List Key) (t : IsTaking slot m room start es dates heap first) where
   -- what is held and released is in the heap
   in_heap : (name : NameValue) (r : ℕ) (k : Key) (s : Stands es name (r, k)) → r ≤ slot → Contains heap (record { 0 = (k, s.place) })
   in_heap name r k s due =
       elim (t.covered.covered s.place r k (ap in_slot s.at)) [
-        | inl there ↦ let later : slot < r = All-contains (λ (e : Reverse Date). slot < e.0.release) dates (record { 0 = record { release = r; place = s.place } }) t.later there in absurd (omega arith)
+        | inl there ↦ let later : slot < r = t.later (dated r s.place) there in absurd (omega arith)
         | inr both ↦ both.1
       ]
 
@@ -140,6 +142,7 @@ module _ (slot m room : ℕ) (start es : SlotList) (dates : List (Reverse Date))
           covered = record {
             apart = t.covered.apart;
             named = t.covered.named;
+            turned = t.covered.turned;
             covered = λ q r k at. elim (t.covered.covered q r k at) [
               | inl there ↦ inl there
               | inr both ↦ elim (top_or_stays top (record { 0 = (k, q) }) heap heap' p both.1) [
@@ -210,6 +213,7 @@ module _ (slot m room : ℕ) (start es : SlotList) (dates : List (Reverse Date))
               subst (λ (x : SlotList). IsCovered slot x dates heap') (sym cleared) (record {
                 apart = subst (IsDistinct name_eq) (sym (keys_set es top.0.1 None)) t.covered.apart;
                 named = λ q x r key at. t.covered.named q x r key (set_none es top.0.1 q x (r, key) at).1;
+                turned = t.covered.turned;
                 covered = λ q r key at.
                     let f = entry_in (slice_get (set_value_at es top.0.1 None) q) (r, key) at in
                     let g = set_none es top.0.1 q f.0 (r, key) f.1 in

@@ -1,15 +1,17 @@
 -- The slots of names, at places, and what is held in them.
-use Rattle.std.specs.Prelude.{◌≡◌, ℕ, ◌≤◌, Bool, nat_eq, ◌⊎◌, List, [], ◌∷◌, Option, Some, None, slice_get, slice_index_or, length, ◌<◌, true, Contains}
+use Rattle.std.specs.Prelude.{◌≡◌, ℕ, ◌+◌, ◌%◌, ◌≤◌, Vec, Bool, nat_eq, ◌⊎◌, List, [], ◌∷◌, Option, Some, None, slice_get, slice_index_or, length, ◌<◌, true, Contains}
 use Rattle.std.specs.declared.cmp.Ordering.{Ordering}
 use Rattle.std.specs.declared.cmp.Reverse.{Reverse}
 use Rattle.std.specs.Ordering.{nat_cmp, ordering_then}
 use Rattle.std.specs.Map.{lookup, keys_of}
 use Rattle.std.specs.BTreeMap.{is_at}
 use Rattle.std.specs.List.{IsDistinct}
-use Rattle.std.specs.BinaryHeap.{IsHeap}
+use Rattle.std.specs.BinaryHeap.{heap_items, IsHeap}
+use Rattle.std.specs.declared.alloc.Global.{Global}
 use Rattle.pfair_order.specs.declared.Key.{Key}
 use Rattle.pfair_order.specs.Order.{pd2_cmp}
 use Rattle.indexmap.specs.IndexMap.{set_value_at}
+use Rattle.pfair_ready.specs.declared.calendar.Calendar.{Calendar}
 use Rattle.pfair_ready.specs.declared.date.Date.{Date}
 use Rattle.pfair_ready.specs.Heap.{is_due}
 use Rattle.pfair_ready.specs.Names.{NameValue, name_cmp, name_eq}
@@ -77,15 +79,50 @@ pub record IsTurn (slot : ℕ) (es es' : SlotList) (turn : Key × ℕ) (key : Ke
   pub due : is_due turn.0 slot (in_slot (slice_get es turn.1)) ≡ true
   pub emptied : es' ≡ set_value_at es turn.1 None
 
--- what moved from a calendar to a heap: the heap loses nothing, and a date of a slot that left the calendar has come, and the slot's key is in the heap
-pub record Moves (slot : ℕ) (es : SlotList) (dates dates' : List (Reverse Date)) (heap heap' : List (Reverse (Key × ℕ))) : Type 0 where
+-- ---- the calendar
+
+-- a place and a release
+abbrev pub dated : ℕ → ℕ → Date
+dated r p = record { release = r; place = p }
+
+-- the places that stand under a slot among the near ones
+abbrev pub in_bucket : Option (Vec ℕ Global) → List ℕ
+in_bucket None = []
+in_bucket (Some bucket) = bucket.items
+
+abbrev pub under : List (Vec ℕ Global) → ℕ → List ℕ
+under near slot = in_bucket (slice_get near (slot % 64))
+
+-- a date is among the near ones, which are those of 64 slots
+pub record IsNear (turned : ℕ) (near : List (Vec ℕ Global)) (date : Date) : Type 0 where
+  pub after : turned < date.release
+  pub within : date.release ≤ turned + 64
+  pub there : Contains (under near date.release) date.place
+
+-- or among the far ones
+abbrev pub IsAmong : List (Reverse Date) → Date → Type 0
+IsAmong far date = Contains far (record { 0 = date })
+
+-- a date is in the calendar
+abbrev pub IsNoted : Calendar → Date → Type 0
+IsNoted c date = IsNear c.turned c.near.items date ⊎ IsAmong (heap_items c.far) date
+
+-- what moved to a heap, which loses nothing: a date of a slot that was in one place, and isn't in another, has come, and the slot's key is in the heap
+pub record Moves (slot : ℕ) (es : SlotList) (Was Is : Date → Type 0) (heap heap' : List (Reverse (Key × ℕ))) : Type 0 where
   pub kept : (x : Reverse (Key × ℕ)) → Contains heap x → Contains heap' x
-  pub moved : (p : ℕ) (r : ℕ) (k : Key) → in_slot (slice_get es p) ≡ Some (r, k) → Contains dates (record { 0 = record { release = r; place = p } }) → Contains dates' (record { 0 = record { release = r; place = p } }) ⊎ ((r ≤ slot) × Contains heap' (record { 0 = (k, p) }))
+  pub moved : (p : ℕ) (r : ℕ) (k : Key) → in_slot (slice_get es p) ≡ Some (r, k) → Was (dated r p) → Is (dated r p) ⊎ ((r ≤ slot) × Contains heap' (record { 0 = (k, p) }))
+
+-- what moved from a bucket to the far dates and to a heap, which lose nothing
+pub record Empties (slot : ℕ) (es : SlotList) (bucket bucket' : List ℕ) (far far' : List (Reverse Date)) (heap heap' : List (Reverse (Key × ℕ))) : Type 0 where
+  pub far_kept : (x : Reverse Date) → Contains far x → Contains far' x
+  pub kept : (x : Reverse (Key × ℕ)) → Contains heap x → Contains heap' x
+  pub emptied : (p : ℕ) (r : ℕ) (k : Key) → in_slot (slice_get es p) ≡ Some (r, k) → Contains bucket p → Contains bucket' p ⊎ (IsAmong far' (dated r p) ⊎ ((r ≤ slot) × Contains heap' (record { 0 = (k, p) })))
 
 -- each slot holds a key of its name, which is in the calendar at its release, or released and in the heap; and the orders of both
-pub record IsCovered (now : ℕ) (es : SlotList) (dates : List (Reverse Date)) (heap : List (Reverse (Key × ℕ))) : Type 0 where
+pub record IsCovered (now : ℕ) (es : SlotList) (dates : Calendar) (heap : List (Reverse (Key × ℕ))) : Type 0 where
   pub apart : IsDistinct name_eq (keys_of es)
   pub named : (p : ℕ) (name : NameValue) (r : ℕ) (k : Key) → slice_get es p ≡ Some (name, Some (r, k)) → k.name ≡ name
-  pub covered : (p : ℕ) (r : ℕ) (k : Key) → in_slot (slice_get es p) ≡ Some (r, k) → Contains dates (record { 0 = record { release = r; place = p } }) ⊎ ((r ≤ now) × Contains heap (record { 0 = (k, p) }))
-  pub date_order : IsHeap later_cmp dates
+  pub turned : dates.turned ≤ now
+  pub covered : (p : ℕ) (r : ℕ) (k : Key) → in_slot (slice_get es p) ≡ Some (r, k) → IsNoted dates (dated r p) ⊎ ((r ≤ now) × Contains heap (record { 0 = (k, p) }))
+  pub date_order : IsHeap later_cmp (heap_items dates.far)
   pub in_order : IsHeap reverse_cmp heap

@@ -4,14 +4,12 @@
 //! nothing. A name is looked for at most once for each key that is inserted; from then on the key
 //! goes by the place of its name.
 
-ghost use Rattle.std.specs.Prelude.{◌≡◌, ◌≤◌, ◌<◌, ℕ, [], IfOk, OnOk, IfSome, IfNone, All, Contains, Some, false, slice_get, vec_capacity};
-ghost use Rattle.std.specs.declared.cmp.Reverse.{Reverse};
-ghost use Rattle.std.specs.BinaryHeap.{heap_items, IsHeap};
-ghost use Rattle.pfair_order.specs.declared.Key.{Key};
+ghost use Rattle.std.specs.Prelude.{◌≡◌, ◌≤◌, [], IfOk, IfSome, IfNone, false, slice_get, vec_capacity};
 ghost use Rattle.pfair_ready.specs.Heap.{is_due};
-ghost use Rattle.pfair_ready.specs.Slots.{in_slot, reverse_cmp, later_cmp, Moves, IsNextDate, IsTurn};
+ghost use Rattle.pfair_ready.specs.Slots.{in_slot, IsTurn};
 
 use crate::Ready;
+use crate::calendar::{Calendar, Turns, move_released};
 use crate::date::Date;
 use crate::guesses::Guesses;
 use crate::slots::{Slots, own_place, place_of, put_at, slot_at};
@@ -24,7 +22,7 @@ use std::collections::BinaryHeap;
 use std::marker::Model;
 
 /// A ready structure that keeps released keys in a heap, the least on top, and the dates of the
-/// others in a calendar.
+/// others in a calendar: those of the next 64 slots slot by slot, and later ones in a heap.
 ///
 /// What the calls cost, where n is the number of keys that are held and of those that were removed
 /// and whose date has not come or whose copy has not come to the top of the heap:
@@ -33,19 +31,22 @@ use std::marker::Model;
 ///   held.
 /// - `insert`: a comparison of two names where the key is of the task that is looked for next,
 ///   which it mostly is where the tasks that were given a quantum wait again in that order; else
-///   one look-up of the name, and a second one where the name is new; then a number of steps that
+///   one look-up of the name, and a second one where the name is new; then the same always where
+///   the release is one of the 64 slots after the last selection, and else a number of steps that
 ///   grows with the logarithm of n. Now and then what is held is moved to where it has room.
 /// - `take_first`: a number of steps that grows with the logarithm of n for each key that it gives,
-///   for each whose date has come since the last selection, and twice at most for each that was
-///   removed. So a slot costs no more for tasks whose next subtask is not released.
+///   for each whose date has come since the last selection, and three times at most for each that was
+///   removed; and a step for each slot since the last selection, of which there are 64 at most. So a
+///   slot costs no more for tasks whose next subtask is not released.
 ///
 /// - `take_first_into`: the same, and no memory where the list has room for the keys that it gives
 ///   and `reserve` was called after the last `insert` of a key whose name had none before.
-/// - `reserve`: mostly nothing; else what is held is moved to where it has room.
+/// - `reserve`: mostly a step for each of 64 slots; else what is held is moved to where it has room.
+///   The room is 8 to 16 bytes for each key in each of these slots.
 ///
 /// Each key that is held has one date in the calendar or one copy in the heap, and a key goes from
-/// the first to the second and, where its task waits again, back. So once each has room for what
-/// both have, neither grows before there are more keys.
+/// the first to the second and, where its task waits again, back. So once the heap, the later dates
+/// and those of each near slot have room for all, none of these grows before there are more keys.
 ///
 /// A name that was once inserted keeps its place, so the memory grows with the number of different
 /// names.
@@ -54,8 +55,8 @@ pub struct HeapReady {
     alloc: Global,
     now: u64,
     slots: Slots,
-    calendar: BinaryHeap<Reverse<Date>>,
-    released: BinaryHeap<Reverse<(Key, usize)>>,
+    calendar: Calendar,
+    released: Turns,
     guesses: Guesses,
 }
 
@@ -72,7 +73,7 @@ impl Model for HeapReady {
 
     ghost view = { λ a. record { now = a.now; held = from_entries (live a.slots.entries) } };
 
-    ghost invariant = { λ a. IsCovered a.now a.slots.entries (heap_items a.calendar) (heap_items a.released) };
+    ghost invariant = { λ a. IsCovered a.now a.slots.entries a.calendar (heap_items a.released) };
 }
 
 impl Ready for HeapReady {
@@ -85,7 +86,7 @@ impl Ready for HeapReady {
             alloc,
             now: 0,
             slots: IndexMap::new(alloc),
-            calendar: BinaryHeap::new(alloc),
+            calendar: Calendar::new(alloc),
             released: BinaryHeap::new(alloc),
             guesses: Guesses::new(),
         }
@@ -108,7 +109,7 @@ impl Ready for HeapReady {
         if slot_at(&self.slots, place).is_some() {
             return Ok(false);
         }
-        self.calendar.push(Reverse(Date { release, place }))?;
+        self.calendar.note(self.alloc, Date { release, place })?;
         put_at(&mut self.slots, place, Some((release, key)));
         Ok(true)
     }
@@ -150,9 +151,10 @@ impl Ready for HeapReady {
     }
 
     fn reserve(&mut self) -> Result<(), AllocError> {
-        self.calendar.reserve(self.released.len())?;
-        self.released.reserve(self.calendar.len())?;
-        Ok(())
+        let dates = self.calendar.len();
+        let all = dates.saturating_add(self.released.len());
+        self.calendar.reserve(all)?;
+        self.released.reserve(dates)
     }
 }
 
@@ -190,62 +192,4 @@ fn is_live(slots: &Slots, slot: u64, key: Key, place: usize) -> bool
         Some((release, there)) => release <= slot && there == key,
         None => false,
     }
-}
-
-// Moves what is released by the slot from the calendar to the heap.
-//
-// Where a growth is refused, some of it has moved, and nothing is lost.
-fn move_released(
-    slots: &Slots,
-    calendar: &mut BinaryHeap<Reverse<Date>>,
-    released: &mut BinaryHeap<Reverse<(Key, usize)>>,
-    slot: u64,
-) -> Result<(), AllocError>
-    requires date_order { IsHeap later_cmp (heap_items calendar.old) }
-    requires in_order { IsHeap reverse_cmp (heap_items released.old) }
-    ensures moves { Moves slot slots.now.entries (heap_items calendar.old) (heap_items calendar.new)
-        (heap_items released.old) (heap_items released.new) }
-    ensures date_order { IsHeap later_cmp (heap_items calendar.new) }
-    ensures in_order { IsHeap reverse_cmp (heap_items released.new) }
-    ensures done { OnOk result (All (λ e. slot < e.0.release) (heap_items calendar.new)) }
-{
-    while let Some(date) = next_date(calendar, slot) {
-        release_one(slots, released, date)?;
-        let _ = calendar.pop();
-    }
-    Ok(())
-}
-
-// The first date, where it has come.
-fn next_date(calendar: &BinaryHeap<Reverse<Date>>, slot: u64) -> Option<Date>
-    requires { IsHeap later_cmp (heap_items calendar.now) }
-    ensures some { IfSome result (IsNextDate slot (heap_items calendar.now)) }
-    ensures none { IfNone result (All (λ e. slot < e.0.release) (heap_items calendar.now)) }
-{
-    let top = calendar.peek()?;
-    let date = top.0;
-    if date.release > slot {
-        return None;
-    }
-    Some(date)
-}
-
-// Puts the key of a slot whose date has come into the heap.
-fn release_one(
-    slots: &Slots,
-    released: &mut BinaryHeap<Reverse<(Key, usize)>>,
-    date: Date,
-) -> Result<(), AllocError>
-    requires in_order { IsHeap reverse_cmp (heap_items released.old) }
-    ensures kept { (x : Reverse (Key × ℕ)) → Contains (heap_items released.old) x → Contains (heap_items released.new) x }
-    ensures there { OnOk result ((k : Key) → in_slot (slice_get slots.now.entries date.place) ≡ Some (date.release, k)
-        → Contains (heap_items released.new) (record { 0 = (k, date.place) })) }
-    ensures in_order { IsHeap reverse_cmp (heap_items released.new) }
-{
-    if let Some((release, key)) = slot_at(slots, date.place) {
-        if release == date.release {
-            released.push(Reverse((key, date.place)))?;
-        }
-    }
-    Ok(())
 }

@@ -15,6 +15,7 @@ ghost use Rattle.pfair_order.specs.Order.{pd2_cmp};
 ghost use Rattle.pfair_order.specs.Rank.{first_by_rank};
 ghost use Rattle.pfair_ready.specs.Queue.{Queue, released, without};
 
+mod calendar;
 mod date;
 mod guesses;
 mod heap;

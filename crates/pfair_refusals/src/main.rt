@@ -143,7 +143,7 @@ fn of_boundaries(alloc: Global) -> [Named; 7] {
     ]
 }
 
-fn over_lists(alloc: Global) -> [Named; 8] {
+fn over_lists(alloc: Global) -> [Named; 9] {
     [
         ("plans over plain lists", table::plans::<PlainReady>(alloc)),
         (
@@ -171,10 +171,14 @@ fn over_lists(alloc: Global) -> [Named; 8] {
             "a run of logs over plain lists",
             table::script::<PlainReady>(alloc),
         ),
+        (
+            "a run slot by slot over plain lists",
+            table::slot_by_slot::<PlainReady>(alloc),
+        ),
     ]
 }
 
-fn over_heaps(alloc: Global) -> [Named; 8] {
+fn over_heaps(alloc: Global) -> [Named; 9] {
     [
         ("plans over heaps", table::plans::<HeapReady>(alloc)),
         ("reopening over heaps", table::reopen::<HeapReady>(alloc)),
@@ -195,6 +199,10 @@ fn over_heaps(alloc: Global) -> [Named; 8] {
         (
             "a run of logs over heaps",
             table::script::<HeapReady>(alloc),
+        ),
+        (
+            "a run slot by slot over heaps",
+            table::slot_by_slot::<HeapReady>(alloc),
         ),
     ]
 }

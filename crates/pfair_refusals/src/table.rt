@@ -1,13 +1,14 @@
 //! Dispatchers: plans, reopening, and runs of events.
 
 use crate::Look;
-use crate::entries::{TABLES, is_planned, is_whole, quiet, ten};
+use crate::entries::{TABLES, is_planned, is_table, is_whole, quiet, ten};
 use crate::replica::{are_counted, are_equal, holding};
 use pfair_entry::Entry;
 use pfair_ready::Ready;
 use pfair_replica::{MergeFault, Replica, TakeFault, Taken};
 use pfair_table::{
-    Dispatcher, Event, PlanFault, Script, ScriptFault, Settings, Step, run_events, run_script,
+    Dispatcher, Event, PlanFault, Script, ScriptFault, ScriptRun, Settings, Step, run_events,
+    run_script,
 };
 use std::alloc::{AllocError, Global};
 
@@ -324,6 +325,38 @@ pub(crate) fn script<R: Ready>(alloc: Global) -> Look {
         return Ok(false);
     };
     Ok(is_run::<R>(alloc, &script))
+}
+
+/// The same, slot by slot.
+pub(crate) fn slot_by_slot<R: Ready>(alloc: Global) -> Look {
+    let settings = Settings::new(2, 6, 6).ok_or(AllocError)?;
+    let Ok(script) = Script::new(settings, logs(alloc)?) else {
+        return Ok(false);
+    };
+    match ScriptRun::<R>::new(alloc, &script) {
+        Ok(mut run) => Ok(gives_all(&mut run)),
+        Err(fault) => Ok(fault == ScriptFault::Memory),
+    }
+}
+
+// Whether a run gives the six slots one after another, up to one at which memory is refused.
+fn gives_all<R: Ready>(run: &mut ScriptRun<R>) -> bool {
+    for slot in 0..6u64 {
+        match run.plan_next() {
+            Ok(Some(next)) if next == slot && is_table(run.table(), slot) => {}
+            Err(PlanFault::Memory) => return is_spent_at(run, slot),
+            _ => return false,
+        }
+    }
+    run.plan_next() == Ok(None)
+}
+
+// Whether a run stands at a slot, without a table, and plans no more.
+fn is_spent_at<R: Ready>(run: &mut ScriptRun<R>, slot: u64) -> bool {
+    run.next_slot() == slot
+        && run.table().is_empty()
+        && run.plan_next() == Err(PlanFault::Spent)
+        && run.next_slot() == slot
 }
 
 fn is_run<R: Ready>(alloc: Global, script: &Script) -> bool {

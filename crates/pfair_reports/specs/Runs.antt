@@ -1,13 +1,13 @@
 -- What the commands write of a task file, and the faults of a replay.
-use Rattle.std.specs.Prelude.{ℕ, Bool, true, List, map, min, ◌≡◌, ◌≤◌, Ok}
-use Rattle.pfair_replica.specs.Replica.{Replica, frontier, numbers_below}
-use Rattle.pfair_table.specs.Table.{decisions, plan}
+use Rattle.std.specs.Prelude.{ℕ, Bool, true, List, ◌≡◌, ◌≤◌, Ok}
+use Rattle.pfair_replica.specs.Replica.{Replica, frontier}
+use Rattle.pfair_text.specs.Rows.{TextWriter, IsOpen, text_so_far}
+use Rattle.pfair_table.specs.Table.{Table, plan}
 use Rattle.pfair_table.specs.Script.{LoggedRun, replica_of_logs}
-use Rattle.pfair_table.specs.declared.planned.Run.{Run}
-use Rattle.pfair_board.specs.Finish.{IsFullRun, IsPlacedRun}
 use Rattle.pfair_output.specs.Replay.{placed_replay_text, replay_text}
 use Rattle.pfair_output.specs.Decisions.{decisions_text}
 use Rattle.pfair_output.specs.Lags.{lags_text}
+use Rattle.pfair_output.specs.Runs.{decided_of}
 use Rattle.pfair_file.specs.Documents.{script_of_file}
 use Rattle.pfair_command.specs.Commands.{IsFaultBy}
 use Rattle.pfair_reports.specs.declared.fault.ProgramFault.{ProgramFault}
@@ -28,7 +28,7 @@ placed_replay_of_run run = placed_replay_text (plan run.settings (replica_of_run
 
 -- the decisions of a script, as rows
 abbrev pub decisions_of_run : LoggedRun → List ℕ
-decisions_of_run run = decisions_text (map (decisions run.settings (replica_of_run run)) (numbers_below (min (frontier (replica_of_run run)) run.settings.slots)))
+decisions_of_run run = decisions_text (decided_of run)
 
 -- the lags of a script, as rows
 abbrev pub lags_of_run : LoggedRun → List ℕ
@@ -44,8 +44,6 @@ IsFaultOfReplay may_give_up GateGaveUp = may_give_up ≡ true
 IsFaultOfReplay may_give_up Astray = Unit {0}
 IsFaultOfReplay may_give_up fault = IsFaultBy of_schedule fault
 
--- the tables and places of a dispatcher that has planned all slots of a script
-pub record IsWholeRun (run : LoggedRun) (made : Run) : Type 0 where
-  pub far_enough : run.settings.slots ≤ frontier (replica_of_run run)
-  pub tables : IsFullRun run made
-  pub places : IsPlacedRun made
+-- the writer has the rows of these tables, whichever row's worker they are of
+abbrev pub has_rows : TextWriter → ℕ → List Table → Type 0
+has_rows writer row tables = IsOpen writer × (text_so_far writer ≡ replay_text tables)

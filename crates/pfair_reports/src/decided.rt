@@ -15,10 +15,9 @@ use std::io::{Read, Write};
 /// the number of its entry, the task, what was decided, and the freeing slot or the number of the
 /// refusal. They stand in the order in which they are decided.
 ///
-/// The whole text is made before the first byte goes out; of the slots no more than 2,048 are held at
-/// a time. No more than 67,108,864 bytes are taken from the reader, but where the file is too long or
-/// memory was wanting: one more may then be. It costs the reading of the file, a run of its script, and
-/// the rows.
+/// The whole text is made before the first byte goes out; of the slots one at a time is held. No more
+/// than 67,108,864 bytes are taken from the reader, but where the file is too long or memory was
+/// wanting: one more may then be. It costs the reading of the file, a run of its script, and the rows.
 ///
 /// # Errors
 /// [`ProgramFault::Schedule`] with the cause where the file has no schedule, as

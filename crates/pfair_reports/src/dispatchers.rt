@@ -1,17 +1,18 @@
 //! The run of a script's dispatchers, each in a thread of its own.
 
-ghost use Rattle.std.specs.Prelude.{◌≡◌, Ok, IfErr, IfOk, IfSome};
+ghost use Rattle.std.specs.Prelude.{◌≡◌, [], Ok, IfErr, IfOk, IfSome};
 ghost use Rattle.pfair_text.specs.Input.{TakesOneFile};
 ghost use Rattle.pfair_table.specs.Script.{LoggedRun};
+ghost use Rattle.pfair_board.specs.Finish.{HasPlan};
 ghost use Rattle.pfair_file.specs.Documents.{script_of_file};
 ghost use Rattle.pfair_command.specs.Commands.{IsRefusalBy};
 ghost use Rattle.pfair_reports.specs.Faults.{of_schedule};
-ghost use Rattle.pfair_reports.specs.Runs.{IsFaultOfReplay, IsWholeRun};
+ghost use Rattle.pfair_reports.specs.Runs.{IsFaultOfReplay};
 ghost use Rattle.pfair_command.specs.declared.fault.ScheduleFault.TheVariants.{FileTooLong, ReadFailed};
 ghost use Rattle.pfair_reports.specs.declared.fault.ProgramFault.TheVariants.{Memory, Schedule};
 
 use crate::fault::ProgramFault;
-use pfair_board::{Gate, Run, run_dispatchers};
+use pfair_board::{Gate, Sink, run_dispatchers_into};
 use pfair_command::read_script;
 use pfair_ready::HeapReady;
 use std::alloc::Global;
@@ -19,21 +20,22 @@ use std::io::Read;
 use std::sync::Wait;
 use std::thread::Threads;
 
-/// The run of the first processor's dispatcher, of the script that a reader's bytes hold.
-pub(crate) fn first_run<R: Read, G: Gate + Sync>(
+/// What a sink has after the tables of the first processor's dispatcher, of the script that a
+/// reader's bytes hold.
+pub(crate) fn first_run<R: Read, G: Gate + Sync, K: Sink + Send>(
     rt: &(impl Threads + Wait + Sync),
     alloc: Global,
     reader: &mut R,
     gate: &G,
-) -> Result<Run, ProgramFault>
-    ensures ok { IfOk result (λ first. IfSome (R.remaining reader.old) (λ bytes. (run : LoggedRun) × (script_of_file bytes ≡ Ok run) × IsWholeRun run first)) }
+    sink: K,
+) -> Result<K, ProgramFault>
+    requires { K.has sink 0 [] }
+    ensures plan { IfOk result (λ kept. (run : LoggedRun) × HasPlan K.has run kept) }
+    ensures ok { IfOk result (λ kept. IfSome (R.remaining reader.old) (λ bytes. (run : LoggedRun) × (script_of_file bytes ≡ Ok run) × HasPlan K.has run kept)) }
     ensures refused { IfErr result (λ e. IfSome (R.remaining reader.old) (λ bytes. IsRefusalBy of_schedule bytes e)) }
     ensures taken { TakesOneFile (Schedule FileTooLong) (Schedule ReadFailed) Memory result (R.remaining reader.old) (R.remaining reader.new) }
     ensures only { IfErr result (IsFaultOfReplay G.may_give_up) }
 {
     let script = read_script(alloc, reader)?;
-    // settings have a processor, so that there is a run
-    prove!(script.settings().processors() >= 1);
-    let mut finished = run_dispatchers::<HeapReady, G>(rt, alloc, &script, gate)?;
-    Ok(finished.runs.swap_remove(0))
+    Ok(run_dispatchers_into::<HeapReady, G, K>(rt, alloc, &script, gate, sink)?)
 }

@@ -7,6 +7,7 @@ mod dispatchers;
 mod fault;
 mod lag_rows;
 mod placed_tables;
+mod rows;
 mod schedule_rows;
 mod tables;
 mod window_rows;

@@ -9,6 +9,7 @@ use crate::dispatchers::first_run;
 use crate::fault::ProgramFault;
 use pfair_board::Gate;
 use pfair_output::placed_replay_of;
+use pfair_table::RunBuilder;
 use pfair_text::send;
 use std::alloc::Global;
 use std::io::{Read, Write};
@@ -36,7 +37,8 @@ pub fn replay_placed<R: Read, W: Write, G: Gate + Sync>(
     ensures { IsCommandOf of_schedule ProgramFault.WriteFailed (IsOutputOf placed_replay_of_run) (IsFaultOfReplay G.may_give_up) result
         (R.remaining reader.old) (R.remaining reader.new) (W.contents writer.old) (W.contents writer.new) }
 {
-    let run = first_run(rt, alloc, reader, gate)?;
+    let built = first_run(rt, alloc, reader, gate, RunBuilder::new(alloc))?;
+    let run = built.into_run()?;
     let text = placed_replay_of(alloc, run.tables.as_slice(), run.places.as_slice())?;
     Ok(send(writer, text.as_slice())?)
 }

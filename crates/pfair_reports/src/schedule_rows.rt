@@ -12,8 +12,7 @@ use pfair_ready::HeapReady;
 use std::alloc::Global;
 use std::io::Read;
 
-/// The decisions of the script that a reader's bytes hold, as rows. Each slot is forgotten once its
-/// rows are made.
+/// The decisions of the script that a reader's bytes hold, as rows. One slot at a time is held.
 ///
 /// # Errors
 /// As [`scheduled`](pfair_command::scheduled).
@@ -29,8 +28,7 @@ pub(crate) fn scheduled_decisions<R: Read>(
     Ok(decisions_of_script::<HeapReady>(alloc, &script)?)
 }
 
-/// The lags of the script that a reader's bytes hold, as rows. Each slot is forgotten once its rows
-/// are made.
+/// The lags of the script that a reader's bytes hold, as rows. One slot at a time is held.
 ///
 /// # Errors
 /// As [`scheduled`](pfair_command::scheduled).

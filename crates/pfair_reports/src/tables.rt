@@ -7,8 +7,8 @@ ghost use Rattle.pfair_reports.specs.Runs.{IsFaultOfReplay, IsOutputOf, replay_o
 
 use crate::dispatchers::first_run;
 use crate::fault::ProgramFault;
+use crate::rows::Rows;
 use pfair_board::Gate;
-use pfair_output::replay_of;
 use pfair_text::send;
 use std::alloc::Global;
 use std::io::{Read, Write};
@@ -21,7 +21,8 @@ use std::thread::Threads;
 ///
 /// Each processor's dispatcher runs in a thread of its own and works out every slot by itself, from
 /// the entries that all publish on one board; each comes to the gate before each slot. The tables
-/// are the first one's. The whole run is made before the first byte goes out. No more than
+/// are the first one's, and their rows are made as they are planned, so that no table is kept. The
+/// whole run is made before the first byte goes out. No more than
 /// 67,108,864 bytes are taken from the reader, but where the file is too long or memory was
 /// wanting: one more may then be.
 ///
@@ -43,7 +44,7 @@ pub fn replay<R: Read, W: Write, G: Gate + Sync>(
     ensures { IsCommandOf of_schedule ProgramFault.WriteFailed (IsOutputOf replay_of_run) (IsFaultOfReplay G.may_give_up) result
         (R.remaining reader.old) (R.remaining reader.new) (W.contents writer.old) (W.contents writer.new) }
 {
-    let run = first_run(rt, alloc, reader, gate)?;
-    let text = replay_of(alloc, run.tables.as_slice())?;
+    let rows = first_run(rt, alloc, reader, gate, Rows::new(alloc)?)?;
+    let text = rows.finish()?;
     Ok(send(writer, text.as_slice())?)
 }

@@ -39,7 +39,7 @@ module _ (s : Settings) (held : Replica) (tables : List Table) (decided : List (
   pub step_now : spent ≡ false → IsInStep s held (length tables) roster now waiting
   step_now e = step_of_held s held kept.of tables decided kept.plan is_of_held whole_held roster now waiting (kept.step e)
 
-  plan_now : IsPlanOf s held held tables decided
+  pub plan_now : IsPlanOf s held held tables decided
   plan_now = plan_of_held s held kept.of tables decided kept.plan is_of_held whole_held
 
   as_many : min (frontier held) s.slots ≤ length tables → length tables ≡ min (frontier held) s.slots

@@ -20,3 +20,4 @@ mod ReadOn
 mod Bucketed
 mod Least
 mod Pieced
+mod SlotPlanned

@@ -77,3 +77,7 @@ fit_wider m n le (rows ∷ tables) fit = (let few = fit.0.0 in ((omega (arith, f
 pub fit_few : (m n : ℕ) → m ≤ n → (tables : List Table) → AllByRecursion (IsFit m) tables → AllByRecursion (λ (rows : Table). length rows ≤ n) tables
 fit_few m n le [] fit = tt
 fit_few m n le (rows ∷ tables) fit = (let few = fit.0.0 in omega (arith, few, le), fit_few m n le tables fit.1)
+
+pub fit_push : (m : ℕ) (tables : List Table) (rows : Table) → AllByRecursion (IsFit m) tables → IsFit m rows → AllByRecursion (IsFit m) (tables ++ rows ∷ [])
+fit_push m [] rows fit more = (more, tt)
+fit_push m (first ∷ tables) rows fit more = (fit.0, fit_push m tables rows fit.1 more)

@@ -1,20 +1,26 @@
 -- Logs as a run has them.
 use Rattle.std.proofs.Common.{ℕ, zero, suc, ◌+◌, ◌<◌, ◌≤◌, ◌≡◌, Bool, true, false, refl, sym, ap, ◌∙◌, arith, List, [], ◌∷◌, Option, Some, None, Vec, Global, length, slice_get, slice_index_or}
-use Rattle.std.specs.Prelude.{◌==◌, nat_lt, nat_le, ◌&&◌, if◌then◌else◌}
-use Rattle.std.proofs.lemmas.Option.{same_Some, slice_get_within}
+use Rattle.std.specs.Prelude.{◌≢◌, ◌==◌, nat_lt, nat_le, ◌&&◌, if◌then◌else◌}
+use Rattle.std.proofs.lemmas.Option.{none-some, same_Some, slice_get_within}
 use Rattle.std.proofs.lemmas.Bool.{leb-true, leb-false, ltb-true, ltb-false, eqb-true, eq-eqb, lt-ltb, le-leb, and_from, and_parts, true≢false}
-use Rattle.pfair_lattice.specs.declared.flat.Flat.TheVariants.{One}
+use Rattle.pfair_lattice.specs.declared.flat.Flat.TheVariants.{One, Torn}
 use Rattle.pfair_lattice.specs.Held.{Held, held_join}
 use Rattle.pfair_entry.specs.Same.{entry_eq}
 use Rattle.pfair_replica.specs.HeldAfter.{join_none}
-use Rattle.pfair_replica.specs.Replica.{contents_join, only, nothing_held, with_entry, empty_replica}
+use Rattle.pfair_replica.specs.Replica.{Untorn, contents_join, only, nothing_held, with_entry, empty_replica}
 use Rattle.pfair_replica.specs.Offered.{has_key, taken}
 use Rattle.std.specs.List.{list_all}
 use Rattle.std.proofs.lemmas.List.{length-map}
 use Rattle.std.proofs.lemmas.List.Folds.{list_all-map}
 use Rattle.pfair_entry.specs.Entry.{Logged}
 use Rattle.pfair_table.specs.Table.{Settings}
-use Rattle.pfair_table.specs.Script.{IsLoggedRun, is_short, lists_of, entry_of, row_of, contents_of, replica_of_logs, so_far, held_so_far, capacity_of}
+use Rattle.std.specs.Prelude.{Result, Ok, Err, IsErrAnd}
+use Rattle.std.proofs.Common.{subst}
+use Rattle.pfair_replica.specs.Replica.{frontier}
+use Rattle.pfair_table.specs.declared.single.ScriptFault.{ScriptFault}
+use Rattle.pfair_table.specs.declared.single.ScriptFault.TheVariants.{Stalled}
+use Rattle.pfair_table.specs.ScriptRun.{IsScriptFaultOf}
+use Rattle.pfair_table.specs.Script.{LoggedRun, IsLoggedRun, is_short, lists_of, entry_of, row_of, contents_of, replica_of_logs, so_far, held_so_far, capacity_of}
 
 pub logged_run : (s : Settings) (logs : List (Vec Logged Global)) → length logs ≡ s.processors → list_all (λ log. is_short log.items) logs ≡ true → IsLoggedRun (record { settings = s; logs = lists_of logs })
 logged_run s logs count short = record {
@@ -193,3 +199,29 @@ capacity_short (log ∷ logs) h =
 
 pub log_is_short : (logs : List (List Logged)) (k : ℕ) (log : List Logged) → list_all is_short logs ≡ true → slice_get logs k ≡ Some log → length log ≤ 4096
 log_is_short logs k log short at_k = let most = capacity_short logs short in let fits = log_fits logs k log at_k in omega (arith, most, fits)
+
+-- ---- nothing in a script is torn
+
+entry_whole : (log : List Logged) (n : ℕ) → entry_of log n ≢ Some Torn
+entry_whole [] n h = absurd (none-some Torn h)
+entry_whole (e ∷ log) zero h = absurd (none-some Torn h)
+entry_whole (e ∷ log) (suc zero) h = absurd (cc)
+entry_whole (e ∷ log) (suc (suc n)) h = entry_whole log (suc n) h
+
+row_whole : (o : Option (List Logged)) (n : ℕ) → row_of o n ≢ Some Torn
+row_whole None n h = absurd (none-some Torn h)
+row_whole (Some log) n h = entry_whole log n h
+
+pub script_whole : (logs : List (List Logged)) → Untorn (replica_of_logs logs)
+script_whole logs k n h = row_whole (slice_get logs k) n h
+
+-- ---- why a script isn't run
+
+-- what holds of an error holds of an answer that is this error
+pub err_is : {T F : Type 0} (P : Result T F → Type 0) (r : Result T F) (own : F) → IsErrAnd r (λ e. e ≡ own) → P (Err own) → P r
+err_is P (Ok x) own is p = absurd is
+err_is P (Err e) own is p = subst (λ f. P (Err f)) (sym is) p
+
+-- a script stalls where its frontier is too low
+pub stalls : (r : LoggedRun) (fault : ScriptFault) (mark slots : ℕ) → mark ≡ frontier (replica_of_logs r.logs) → slots ≡ r.settings.slots → (fault ≡ Stalled mark) × (mark < slots) → IsScriptFaultOf r fault
+stalls r fault mark slots mark_is slots_are stalled = subst (IsScriptFaultOf r) (sym stalled.0) (mark_is, (let below = stalled.1 in omega (arith, below, slots_are)))

@@ -7,6 +7,7 @@ pub mod PlacesInUse
 pub mod Events
 pub mod Script
 pub mod ScriptRun
+pub mod SlotPlans
 pub mod Laws
 pub mod EventLaws
 pub mod Queue

@@ -294,13 +294,15 @@ impl<R: Ready> Dispatcher<R> {
     }
 
     /// Takes the room that so many further slots want, or all slots that are left where these are
-    /// fewer: for their tables and places, and for the tasks that wait. Until these are planned, a
-    /// plan of a slot wants memory only where something is said at the slot, or where entries came
-    /// since the slot before. It holds for a dispatcher over [`HeapReady`](pfair_ready::HeapReady);
-    /// [`PlainReady`](pfair_ready::PlainReady) takes memory in each slot.
+    /// fewer: for their tables and places, and for the tasks that wait. Until these are planned, and
+    /// as long as no task joins, a plan of a slot wants memory only where something is said at the
+    /// slot, or where entries came since the slot before. It holds for a dispatcher over
+    /// [`HeapReady`](pfair_ready::HeapReady); [`PlainReady`](pfair_ready::PlainReady) takes memory
+    /// in each slot.
     ///
     /// It costs the slots for which there is no room yet: 25 bytes for each of them and of the
-    /// processors, and some 120 for each slot.
+    /// processors, and some 120 for each slot; and 512 to 1,024 bytes for each task for which there is
+    /// none.
     ///
     /// # Errors
     /// `AllocError` where memory was wanted and refused. Here too all is as before; the room that was
@@ -312,10 +314,13 @@ impl<R: Ready> Dispatcher<R> {
             .settings
             .slots()
             .saturating_sub(self.planned.len() as u64);
+        let wanted = slots.min(left);
+        if wanted == 0 {
+            return Ok(());
+        }
         let processors = self.settings.processors();
         self.planner.reserve(processors)?;
-        self.planned
-            .reserve(slots.min(left) as usize, processors as usize)
+        self.planned.reserve(wanted as usize, processors as usize)
     }
 
     /// Makes all but the replica and what was planned anew from these two, after which plans go on

@@ -34,8 +34,8 @@ pub(crate) fn next_places(
     places_beside(before, places, table, kept, room)
 }
 
-// The places of a table, where the one before it has those places.
-fn places_beside(
+/// The places of a table, where the one before it has those places.
+pub(crate) fn places_beside(
     before: &[Pick],
     places: &[u8],
     table: &[Pick],

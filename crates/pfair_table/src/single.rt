@@ -1,10 +1,11 @@
 //! A script's run on one dispatcher.
 
-ghost use Rattle.std.specs.Prelude.{◌≡◌, ◌+◌, ◌≤◌, List, [], IfOk, IfErr, OnOk, Some, false, slice_get, length};
+ghost use Rattle.std.specs.Prelude.{◌≡◌, ◌+◌, ◌<◌, ◌≤◌, List, [], IfOk, IfErr, OnOk, Some, false, slice_get, length};
 ghost use Rattle.pfair_replica.specs.HeldRows.{replica_of};
 ghost use Rattle.pfair_table.specs.Refinement.{IsWholePlan};
 ghost use Rattle.pfair_table.specs.Script.{held_so_far, replica_of_logs};
 ghost use Rattle.pfair_table.specs.ScriptRun.{IsRunOf, IsScriptFaultOf, script_fault_number};
+ghost use Rattle.pfair_table.specs.declared.single.ScriptFault.TheVariants.{Stalled};
 ghost use Rattle.pfair_entry.specs.Entry.{Logged};
 
 use crate::answer::{PlanFault, Step};
@@ -97,14 +98,22 @@ fn plan_script<R: Ready>(dispatcher: &mut Dispatcher<R>, script: &Script) -> Res
     ensures standing { dispatcher.new.forgotten ≡ dispatcher.old.forgotten }
     ensures fault { IfErr result (IsScriptFaultOf script.now) }
 {
-    let frontier = dispatcher.replica().frontier();
-    if frontier < script.settings().slots() {
-        return Err(ScriptFault::Stalled { slot: frontier });
-    }
+    check_settled(dispatcher.replica().frontier(), script.settings().slots())?;
     match plan_all(dispatcher) {
         Ok(()) => Ok(()),
         Err(_) => Err(ScriptFault::Memory),
     }
+}
+
+/// That a frontier is not below the number of slots.
+pub(crate) fn check_settled(frontier: u64, slots: u64) -> Result<(), ScriptFault>
+    ensures settled { OnOk result (slots ≤ frontier) }
+    ensures stalled { IfErr result (λ fault. (fault ≡ Stalled frontier) × (frontier < slots)) }
+{
+    if frontier < slots {
+        return Err(ScriptFault::Stalled { slot: frontier });
+    }
+    Ok(())
 }
 
 // Takes the entries of one log, in order.

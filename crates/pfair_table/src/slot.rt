@@ -22,10 +22,12 @@ use pfair_weight::TaskName;
 use std::alloc::{AllocError, Global};
 use std::mem;
 
-/// What the members and what is said give of a slot.
-#[derive(Drop)]
-pub(crate) struct SlotPlan {
+/// The plan of a slot.
+#[derive(Debug, Drop)]
+pub struct SlotPlan {
+    /// The table: the quanta of the slot in the PD2 order.
     pub table: Vec<Pick>,
+    /// The decisions at the slot's boundary, in the order of processor and number.
     pub decided: Vec<Decided>,
 }
 

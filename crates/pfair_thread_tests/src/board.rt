@@ -2,11 +2,14 @@
 ghost use Rattle.std.specs.Prelude.{◌≡◌, ◌<◌, ◌≤◌, ◌+◌, IfOk, length};
 ghost use Rattle.pfair_desk.specs.Desks.{IsDeskOf};
 
-use pfair_board::{Board, Desk, Gate, Hints, OpenGate, Run, RunFault, run_dispatchers, run_worker};
+use pfair_board::{
+    Board, Desk, Gate, Hints, OpenGate, Run, RunFault, Sink, run_dispatchers, run_dispatchers_into,
+    run_worker,
+};
 use pfair_entry::{Announcement, Entry};
 use pfair_lattice::Flat;
 use pfair_ready::HeapReady;
-use pfair_table::{Script, Settings};
+use pfair_table::{Pick, RunBuilder, Script, Settings};
 use pfair_weight::{TaskName, Weight};
 use std::alloc::{AllocError, Global};
 use std::process::Abort;
@@ -298,6 +301,61 @@ fn two_workers_meet(rt: HostRuntime) -> Result<(), Fail> {
     assert!(&rt; gate.second.load(Ordering::SeqCst) == 6);
     assert!(&rt; finished.board.processors() == 2);
     ten_stand_on(&rt, &finished.board)
+}
+
+// Answers want of memory at one slot, and counts the tables before it.
+#[derive(Drop)]
+struct Refusing {
+    at: u64,
+    taken: u64,
+}
+
+impl Sink for Refusing {
+    ghost has = { λ sink row tables. Unit {0} };
+
+    fn take(&mut self, slot: u64, table: Vec<Pick>) -> Result<Option<Vec<Pick>>, AllocError> {
+        if slot == self.at {
+            return Err(AllocError);
+        }
+        self.taken = self.taken.saturating_add(1);
+        Ok(Some(table))
+    }
+}
+
+#[test]
+fn the_first_worker_has_a_sink(rt: HostRuntime) -> Result<(), Fail> {
+    let script = sample(&rt, rt.alloc())?;
+    let gate = Meeting {
+        first: AtomicU64::new(0),
+        second: AtomicU64::new(0),
+    };
+    let builder = RunBuilder::new(rt.alloc());
+    let built = run_dispatchers_into::<HeapReady, _, _>(&rt, rt.alloc(), &script, &gate, builder)?;
+    let run = built.into_run()?;
+    assert!(&rt; is_sample(&run));
+    assert!(&rt; gate.first.load(Ordering::SeqCst) == 6);
+    assert!(&rt; gate.second.load(Ordering::SeqCst) == 6);
+    Ok(())
+}
+
+#[test]
+fn a_sink_is_refused_memory(rt: HostRuntime) -> Result<(), Fail> {
+    let script = sample(&rt, rt.alloc())?;
+    for at in 0..8 {
+        let sink = Refusing { at, taken: 0 };
+        let run = run_dispatchers_into::<HeapReady, _, _>(
+            &rt,
+            rt.alloc(),
+            &script,
+            &OpenGate,
+            sink,
+        );
+        match run {
+            Ok(sink) => assert!(&rt; at >= 6 && sink.taken == 6),
+            Err(fault) => assert!(&rt; at < 6 && fault == RunFault::Memory),
+        }
+    }
+    Ok(())
 }
 
 #[test]

@@ -66,9 +66,9 @@ fn texts_of_an_early_task(rt: HostRuntime) -> Result<(), Fail> {
     Ok(())
 }
 
-// The texts of a script whose slots are forgotten one after another.
+// The texts of a script of which one slot at a time is held.
 #[test]
-fn texts_of_forgotten_slots(rt: HostRuntime) -> Result<(), Fail> {
+fn texts_slot_by_slot(rt: HostRuntime) -> Result<(), Fail> {
     let script = early_log(&rt, rt.alloc(), 4)?;
     let decisions = decisions_of_script::<HeapReady>(rt.alloc(), &script)
         .ok()

@@ -5,4 +5,4 @@ use Rattle.pfair_board.specs.FirstFault.{Holds}
 use Rattle.pfair_board.proofs.dispatchers.all_hold.Given as goal
 
 abbrev pub invariant-loop-work : goal.invariant-loop-work
-invariant-loop-work l = (k : ℕ) (w : Worked) → k < l.work-index → slice_get l.works k ≡ Some w → Holds w (replica_of l.replica)
+invariant-loop-work g l = (k : ℕ) (w : Worked g.row.K.Denot) → k < l.work-index → slice_get l.works k ≡ Some w → Holds w (replica_of l.replica)

@@ -1,9 +1,11 @@
-use Rattle.std.proofs.Common.{◌≡◌, ◌+◌, ◌∷◌, rules, arith, subst, add-one, length, slice_get, Some, vec_len}
+use Rattle.std.proofs.Common.{◌≡◌, ◌∙◌, sym, ap, ◌+◌, ◌∷◌, rules, arith, subst, add-one, length, slice_get, Some, vec_len}
 use Rattle.std.proofs.lemmas.Grind.{common_steps}
 use Rattle.std.specs.Vec.Iter.{into_iter_items}
 use Rattle.pfair_board.specs.Finish.{IsGood, IsFullDesk, IsFullRun, IsPlacedRun}
 use Rattle.pfair_desk.proofs.Rows.{each_snoc}
-use Rattle.pfair_board.proofs.Rows.{none_in_empty, full_run, placed_run, not_failed}
+use Rattle.pfair_table.specs.Places.{places_of}
+use Rattle.pfair_board.specs.Sinks.{has_built}
+use Rattle.pfair_board.proofs.Rows.{none_in_empty, kept_plan, not_failed}
 use Rattle.pfair_board.proofs.dispatchers.hand_back.Goals as goal
 
 pub loop-work-init : goal.loop-work-init
@@ -14,7 +16,7 @@ loop-work-init c = record {
       (let all : into_iter_items c.into_iter-work-iterator.result ≡ c.args.works.items = c.into_iter-work-iterator.ensures.into_iter_gives.0 in
       let there : slice_get c.args.works.items k ≡ Some w = subst (λ xs. slice_get xs k ≡ Some w) all at in
       let place : k ≡ vec_len c.new-desks.result + k = omega (arith, c.new-desks.ensures.len) in
-      subst (λ j. IsGood c.args.script.now c.args.board j w) place (c.requires.good k w there));
+      subst (λ j. IsGood has_built c.args.script.now c.args.board j w) place (c.requires.good k w there));
   desks = λ k d at. absurd (none_in_empty c.new-desks.result.items k d c.new-desks.ensures.items at);
   runs = λ k run at. absurd (none_in_empty c.new-runs.result.items k run c.new-runs.ensures.items at);
   places = λ k run at. absurd (none_in_empty c.new-runs.result.items k run c.new-runs.ensures.items at);
@@ -23,7 +25,7 @@ loop-work-init c = record {
 pub unreachable-requires : goal.unreachable-requires
 unreachable-requires c =
     let first : slice_get (into_iter_items c.loop-work.work-iterator) 0 ≡ Some c.in-Some.work = grind (arith, common_steps) in
-    not_failed c.args.script.now c.args.board (vec_len c.loop-work.desks + 0) c.in-Some.work c.in_default.field-0 (c.loop-work.invariant.good 0 c.in-Some.work first) c.in_default.is
+    not_failed has_built c.args.script.now c.args.board (vec_len c.loop-work.desks + 0) c.in-Some.work c.in_default.field-0 (c.loop-work.invariant.good 0 c.in-Some.work first) c.in_default.is
 
 pub loop-work-preserved : goal.loop-work-preserved
 loop-work-preserved c =
@@ -32,6 +34,8 @@ loop-work-preserved c =
     let work = c.in-Some.work in
     let first : slice_get (into_iter_items c.loop-work.work-iterator) 0 ≡ Some work = grind (arith, common_steps) in
     let good = c.loop-work.invariant.good 0 work first in
+    let made = c.in_ok-made.made in
+    let built_is = kept_plan has_built script board (vec_len c.loop-work.desks + 0) work c.in-Ok.built good c.in-Ok.is in
     let next : into_iter_items c.loop-work.work-iterator ≡ work ∷ into_iter_items c.next.new.self = grind (arith, common_steps) in
     let long : length c.loop-work.desks.items ≡ vec_len c.loop-work.desks = search rules in
     let more : vec_len c.push.new.self ≡ vec_len c.loop-work.desks + 1 = search rules in
@@ -42,11 +46,11 @@ loop-work-preserved c =
       good = λ k w at.
           (let there : slice_get (into_iter_items c.loop-work.work-iterator) (k + 1) ≡ Some w = rw (next, add-one) at in
           let place : vec_len c.loop-work.desks + (k + 1) ≡ vec_len c.push.new.self + k = omega (arith, more) in
-          subst (λ j. IsGood script board j w) place (c.loop-work.invariant.good (k + 1) w there));
+          subst (λ j. IsGood has_built script board j w) place (c.loop-work.invariant.good (k + 1) w there));
       desks = λ k d at. each_snoc (λ j x. IsFullDesk script board j x) c.loop-work.desks.items work.desk c.loop-work.invariant.desks
           (subst (λ j. IsFullDesk script board j work.desk) here good.desk) k d (rw (← c.in_ok-push.ensures.items) at);
-      runs = λ k run at. each_snoc (λ j x. IsFullRun script x) c.loop-work.runs.items c.in-Ok.run' c.loop-work.invariant.runs
-          (full_run script board (vec_len c.loop-work.desks + 0) work c.in-Ok.run' good c.in-Ok.is) k run (rw (← c.in_ok-push-2.ensures.items) at);
-      places = λ k run at. each_snoc (λ j x. IsPlacedRun x) c.loop-work.runs.items c.in-Ok.run' c.loop-work.invariant.places
-          (placed_run work c.in-Ok.run' c.in-Ok.is) k run (rw (← c.in_ok-push-2.ensures.items) at);
+      runs = λ k run at. each_snoc (λ j x. IsFullRun script x) c.loop-work.runs.items made c.loop-work.invariant.runs
+          (c.in_ok-made.ensures.tables ∙ built_is) k run (rw (← c.in_ok-push-2.ensures.items) at);
+      places = λ k run at. each_snoc (λ j x. IsPlacedRun x) c.loop-work.runs.items made c.loop-work.invariant.places
+          (c.in_ok-made.ensures.places ∙ ap places_of (sym c.in_ok-made.ensures.tables)) k run (rw (← c.in_ok-push-2.ensures.items) at);
     }

@@ -6,7 +6,7 @@ use Rattle.pfair_board.proofs.dispatchers.holds.Goals.{then-is_ok, else-is_ok}
 use Rattle.pfair_board.proofs.dispatchers.holds.Goals as goal
 
 pub returns-then-le : goal.returns-then-le
-returns-then-le c =
+returns-then-le g c =
     let held_is = c.replica-held.ensures.value in
     elim c.if-is_ok.branch [
       | then-is_ok b ↦ (
@@ -21,7 +21,7 @@ returns-then-le c =
     ]
 
 pub returns-else-le : goal.returns-else-le
-returns-else-le c =
+returns-else-le g c =
     let held_is = c.replica-held.ensures.value in (
       λ yes. absurd (true≢false (sym yes ∙ c.if-le.false)),
       λ holds. elim c.if-is_ok.branch [

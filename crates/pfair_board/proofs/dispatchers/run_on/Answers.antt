@@ -1,4 +1,5 @@
-use Rattle.std.proofs.Common.{◌≡◌, ◌∙◌, sym, subst, slice_get, Some, length}
+use Rattle.std.proofs.Common.{◌≡◌, ◌∙◌, sym, subst, slice_get, Some, IfOk, length}
+use Rattle.pfair_table.specs.Table.{plan}
 use Rattle.pfair_replica.specs.HeldRows.{replica_of}
 use Rattle.pfair_table.specs.Script.{capacity_of, replica_of_logs}
 use Rattle.pfair_board.specs.FirstFault.{IsFirstFault}
@@ -14,7 +15,7 @@ returns-in-Some-clause-fault g c =
     let first : IsFirstFault works whole script.settings.slots (Some c.in-Some.fault)
     = subst (λ ws. IsFirstFault ws whole script.settings.slots (Some c.in-Some.fault)) c.as_slice.ensures.value
     (subst (IsFirstFault c.as_slice.result.now whole script.settings.slots) c.in-Some.is c.in_ok-fault.ensures) in
-    run_fault _ script _ works c.in-Some.fault c.in_ok-works.ensures first
+    run_fault (g.K.Sink.has) _ script _ works c.in-Some.fault c.in_ok-works.ensures first
 
 pub returns-in-None-clause-good : goal.returns-in-None-clause-good
 returns-in-None-clause-good g c = λ k w at.
@@ -25,12 +26,13 @@ returns-in-None-clause-good g c = λ k w at.
     let held = none.0 k w there in
     let rows : w.desk.replica.processors ≡ length script.logs = work.desk.processors ∙ c.requires.processors ∙ sym c.settings.ensures.run.one_each in
     let row : w.desk.replica.capacity ≡ capacity_of script.logs = work.desk.capacity ∙ c.requires.capacity in
+    let same = same_replica c.least_join.ensures (replica_of w.desk.replica) (replica_of_logs script.logs) rows row held.1 held.2 in
     record {
       desk = record {
         own = work.desk;
         processor = work.processor;
-        replica = same_replica c.least_join.ensures (replica_of w.desk.replica) (replica_of_logs script.logs) rows row held.1 held.2;
+        replica = same;
       };
-      settings = work.settings;
-      run = held.0;
+      kept = held.0;
+      plan = subst (λ x. IfOk w.kept (λ kept. g.K.Sink.has kept k (plan script.settings x))) same work.plan;
     }

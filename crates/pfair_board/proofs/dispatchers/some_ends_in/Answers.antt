@@ -6,17 +6,17 @@ use Rattle.pfair_board.proofs.dispatchers.some_ends_in.Goals.{in-Err+else-eq, in
 use Rattle.pfair_board.proofs.dispatchers.some_ends_in.Goals as goal
 
 pub returns-then-eq : goal.returns-then-eq
-returns-then-eq c =
+returns-then-eq g c =
     let at = slice_get_read c.args.works.now (length c.args.works.now) c.loop-work.work-index c.work-item.result refl c.loop-work-test.true c.work-item.is in
-    let is : c.work-item.result.run ≡ Err c.args.fault = search rules in
+    let is : c.work-item.result.kept ≡ Err c.args.fault = search rules in
     (λ yes. (c.loop-work.work-index, c.work-item.result, at, is), λ some. refl)
 
 pub loop-work-preserved : goal.loop-work-preserved
-loop-work-preserved c = λ k w below at is. ⊎_elim (λ before. c.loop-work.invariant k w before at is)
+loop-work-preserved g c = λ k w below at is. ⊎_elim (λ before. c.loop-work.invariant k w before at is)
     (λ last.
     let here : k ≡ c.loop-work.work-index = omega arith in
     let item : c.work-item.result ≡ w = c.work-item.is ∙ get_or_from_slice_get c.args.works.now c.loop-work.work-index w c.work-item.result (subst (λ j. slice_get c.args.works.now j ≡ Some w) here at) in
-    let ends : c.work-item.result.run ≡ Err c.args.fault = ap (λ (v : Worked). v.run) item ∙ is in
+    let ends : c.work-item.result.kept ≡ Err c.args.fault = ap (λ (v : Worked g.row.K.Denot). v.kept) item ∙ is in
     elim c.match-work.branch [
       | in-Err+else-eq b ↦ absurd (search rules)
       | in_default b ↦ absurd (search rules)
@@ -24,7 +24,7 @@ loop-work-preserved c = λ k w below at is. ⊎_elim (λ before. c.loop-work.inv
     (cases_lt k c.loop-work.work-index)
 
 pub returns : goal.returns
-returns c = (
+returns g c = (
   λ yes. absurd (true≢false (sym yes)),
   λ some.
       (let within = slice_get_within c.args.works.now some.0 some.1 some.2 in

@@ -1,27 +1,12 @@
-use Rattle.std.proofs.Common.{◌≡◌, ◌∙◌, ap}
-use Rattle.std.proofs.lemmas.Result.{on_ok_weaker}
+use Rattle.std.proofs.Common.{sym, subst}
 use Rattle.pfair_replica.specs.HeldRows.{HeldRows, replica_of}
-use Rattle.pfair_replica.specs.Offered.{absorbed}
-use Rattle.pfair_table.specs.Table.{plan}
-use Rattle.pfair_table.specs.Refinement.{Dispatch}
-use Rattle.pfair_board.proofs.Planning.{absorbed_all}
-use Rattle.pfair_board.proofs.Working.{behind_same}
+use Rattle.pfair_replica.specs.Replica.{Below}
+use Rattle.pfair_replica.proofs.TornKeys.{test_by_untorn}
 use Rattle.pfair_board.proofs.worker.catch_up.Goals as goal
 
-pub plan_held-requires : goal.plan_held-requires
-plan_held-requires g c =
-    let held_is : replica_of c.absorb.new.self.held ≡ replica_of c.args.desk.now.replica =
-    c.in-Ok.ensures.offered (λ e. cc e)
-    ∙ ap (λ (y : HeldRows). absorbed (replica_of c.args.dispatcher.now.held) (replica_of y)) c.replica.ensures.value
-    ∙ absorbed_all c.least_join.ensures c.args.dispatcher.now.held c.args.desk.now.replica c.requires.behind.shape c.requires.behind.below in
-    record { behind = behind_same c.args.dispatcher.now c.absorb.new.self c.args.desk.now c.requires.behind c.absorb.ensures.rest held_is }
+pub plan_next-requires-clause-above : goal.plan_next-requires-clause-above
+plan_next-requires-clause-above g c =
+    subst (λ (h : HeldRows). Below (replica_of c.loop-slot.work.planner.held) (replica_of h)) (sym c.replica-replica.ensures.value) c.loop-slot.invariant.behind.below
 
-pub returns-in-Ok-clause-plan : goal.returns-in-Ok-clause-plan
-returns-in-Ok-clause-plan g c =
-    let held_is : replica_of c.absorb.new.self.held ≡ replica_of c.args.desk.now.replica =
-    c.in-Ok.ensures.offered (λ e. cc e)
-    ∙ ap (λ (y : HeldRows). absorbed (replica_of c.args.dispatcher.now.held) (replica_of y)) c.replica.ensures.value
-    ∙ absorbed_all c.least_join.ensures c.args.dispatcher.now.held c.args.desk.now.replica c.requires.behind.shape c.requires.behind.below in
-    let held_now = ap replica_of c.plan_held.ensures.held ∙ held_is in
-    let settings_are = c.plan_held.ensures.settings ∙ ap (λ (d : Dispatch). d.settings) c.absorb.ensures.rest in
-    on_ok_weaker c.plan_held.result (λ whole. whole.tables_are ∙ (λ i. plan (settings_are i) (held_now i))) c.plan_held.ensures.whole
+pub plan_next-requires-clause-whole : goal.plan_next-requires-clause-whole
+plan_next-requires-clause-whole g c = test_by_untorn (replica_of c.replica-replica.result.now) (rw c.replica-replica.ensures.value c.replica-replica.ensures.whole)

@@ -8,6 +8,7 @@ invariant-loop g l = record {
   own : IsDeskOf l.desk l.board;
   grown : GrownDesk l.fn.desk l.desk;
   next : l.desk.next_number ≡ l.fn.desk.next_number;
-  settings : l.dispatcher.settings ≡ l.fn.dispatcher.settings;
-  behind : IsBehind l.dispatcher l.desk;
+  settings : l.work.planner.settings ≡ l.fn.work.planner.settings;
+  behind : IsBehind l.work.planner l.desk;
+  given : g.K.Sink.has l.work.sink l.fn.desk.processor l.work.planner.tables;
 }

@@ -9,8 +9,8 @@ loop-slot-preserved g c =
     let early : c.loop-slot.slot < c.args.to = omega (arith, c.loop-slot-test.true, c.min-slot-end.ensures) in
     let inside : c.loop-slot.slot < length c.args.dispatcher.now.decided = omega (arith, c.loop-slot-test.true, c.min-slot-end.ensures, c.next_slot.ensures.decided) in
     let inside' : c.loop-slot.slot < length c.args.dispatcher.now.tables = omega (arith, c.loop-slot-test.true, c.min-slot-end.ensures, c.next_slot.ensures.value) in (
-      told_time ds ts c.loop-slot.slot c.loop-slot.book c.tell_slot.new.book inside inside' c.in_ok-tell_slot.ensures ∙ ap (λ n. n + 1) c.loop-slot.invariant.0,
-      over_more_to ds ts c.loop-slot.slot c.args.to c.loop-slot.book c.tell_slot.new.book early inside inside' c.in_ok-tell_slot.ensures ∙ c.loop-slot.invariant.1,
+      told_time ds ts c.loop-slot.slot c.loop-slot.book c.tell_planned.new.book inside inside' c.in_ok-tell_planned.ensures ∙ ap (λ n. n + 1) c.loop-slot.invariant.0,
+      over_more_to ds ts c.loop-slot.slot c.args.to c.loop-slot.book c.tell_planned.new.book early inside inside' c.in_ok-tell_planned.ensures ∙ c.loop-slot.invariant.1,
       omega (arith, c.loop-slot.invariant.2),
     )
 

@@ -8,7 +8,7 @@ use Rattle.pfair_output.proofs.replay.add_slot.Goals as goal
 
 pub returns-in-Some-clause-text : goal.returns-in-Some-clause-text
 returns-in-Some-clause-text g c =
-    on_ok_weaker c.add_table.result
-    (λ told table at. subst (λ (t : Table). text_so_far c.add_table.new.writer ≡ text_so_far c.args.writer.now ++ lines_text (table_rows c.args.slot t))
+    on_ok_weaker c.add_table_rows.result
+    (λ told table at. subst (λ (t : Table). text_so_far c.add_table_rows.new.writer ≡ text_so_far c.args.writer.now ++ lines_text (table_rows c.args.slot t))
     (same_Some c.in-Some.table.now table (c.in-Some.ensures.value c.requires.standing ∙ at)) told)
-    c.add_table.ensures.text
+    c.add_table_rows.ensures.text

@@ -1,30 +1,32 @@
-use Rattle.std.proofs.Common.{◌≡◌, ◌+◌, ◌∙◌, ◌++◌, sym, ap, subst, arith, length, length-append, List}
+use Rattle.std.proofs.Common.{◌≡◌, ◌+◌, ◌++◌, ◌∙◌, sym, ap, subst, arith}
+use Rattle.pfair_replica.specs.HeldRows.{HeldRows, replica_of}
+use Rattle.pfair_table.specs.ScriptRun.{SlotBySlot, IsNextOf}
+use Rattle.pfair_table.specs.Table.{Settings, decisions}
 use Rattle.pfair_text.specs.Rows.{lines_text, text_so_far}
-use Rattle.pfair_table.specs.declared.pick.Decided.{Decided}
-use Rattle.pfair_table.specs.Refinement.{Dispatch}
 use Rattle.pfair_output.specs.Decisions.{decided_rows}
-use Rattle.pfair_output.specs.Runs.{IsNext, IsOneMore}
+use Rattle.pfair_output.specs.Runs.{decided_below}
 use Rattle.pfair_output.specs.Slots.{slots_from}
-use Rattle.pfair_output.proofs.RunFacts.{rows_more}
+use Rattle.pfair_output.proofs.RunFacts.{next_is, decisions_more}
 use Rattle.pfair_output.proofs.runs.add_all_decisions.Goals as goal
 
 pub slots-preserved : goal.slots-preserved
 slots-preserved g c =
-    let old = c.slots.dispatcher in
-    let new = c.plan_one.new.dispatcher in
-    let next : IsNext old new c.in-Planned.slot = subst (IsOneMore old new) c.in-Planned.is c.in_ok-slot.ensures.step in
-    let forgot = c.forget.ensures in
-    let decided_are = ap (λ (d : Dispatch). d.decided) forgot in
-    let tables_are = ap (λ (d : Dispatch). d.tables) forgot in
-    let forgotten_is = ap (λ (d : Dispatch). d.forgotten) forgot in
-    let one_more : length new.tables ≡ length old.tables + 1 = ap length next.tables_are ∙ length-append old.tables _ in
+    let old : SlotBySlot = c.slots.run in
+    let new : SlotBySlot = c.plan_one.new.run in
+    let s : Settings = c.args.run.now.settings in
+    let held : HeldRows = c.args.run.now.held in
+    let is = next_is old c.in-Some.slot (subst (IsNextOf old) c.in-Some.is c.in_ok-slot.ensures.slot) in
+    let next = c.in_ok-slot.ensures.next ∙ is.2 in
+    let planned : new.planned ≡ old.planned + 1 = ap (λ (b : SlotBySlot). b.planned) next in
+    let settings = c.slots.invariant.settings in
+    let decided : c.decisions.result.now ≡ decisions s (replica_of held) old.planned =
+    c.decisions.ensures ∙ ap (λ (b : SlotBySlot). b.decided) next ∙ (λ i. decisions (settings i) (replica_of (c.slots.invariant.held i)) old.planned) in
     record {
-      is_open = c.in_ok-add_decisions_from.ensures.open;
-      settings = ap (λ (d : Dispatch). d.settings) forgot ∙ c.in_ok-slot.ensures.settings ∙ c.slots.invariant.settings;
-      held = ap (λ (d : Dispatch). d.held) forgot ∙ c.in_ok-slot.ensures.held ∙ c.slots.invariant.held;
-      both = ap length decided_are ∙ sym c.next_slot-next.ensures.decided ∙ c.next_slot-next.ensures.value ∙ sym (ap length tables_are);
-      standing = omega (arith, forgotten_is, ap length tables_are, one_more, c.in_ok-slot.ensures.standing, c.slots.invariant.standing);
-      text = rows_more decided_rows old.decided new.decided next.decided c.in-Planned.slot (text_so_far c.args.writer.now) (text_so_far c.slots.writer) (text_so_far c.add_decisions_from.new.writer)
-          next.decided_are (next.slot_is ∙ sym c.slots.invariant.both) c.slots.invariant.text c.in_ok-add_decisions_from.ensures.text
-          ∙ ap (λ (ds : List (List Decided)). text_so_far c.args.writer.now ++ lines_text (slots_from decided_rows 0 ds)) (sym decided_are);
+      is_open = c.in_ok-add_decisions.ensures.open;
+      settings = ap (λ (b : SlotBySlot). b.settings) next ∙ settings;
+      held = ap (λ (b : SlotBySlot). b.held) next ∙ c.slots.invariant.held;
+      within = omega (arith, planned, is.1, ap (λ (t : Settings). t.slots) settings);
+      text = decisions_more s (replica_of held) old.planned (text_so_far c.args.writer.now) (text_so_far c.slots.writer) (text_so_far c.add_decisions.new.writer) c.slots.invariant.text
+          (c.in_ok-add_decisions.ensures.text ∙ (λ i. text_so_far c.slots.writer ++ lines_text (decided_rows (is.0 i) (decided i))))
+          ∙ ap (λ n. text_so_far c.args.writer.now ++ lines_text (slots_from decided_rows 0 (decided_below s (replica_of held) n))) (sym planned);
     }

@@ -1,37 +1,47 @@
-use Rattle.std.proofs.Common.{◌≡◌, ◌+◌, ◌∙◌, ◌++◌, sym, ap, subst, arith, length, length-append}
-use Rattle.pfair_lag.specs.Book.{empty_book}
+use Rattle.std.proofs.Common.{◌≡◌, ◌+◌, ◌++◌, ◌∙◌, sym, ap, subst, arith}
+use Rattle.std.specs.List.{flat_map}
+use Rattle.pfair_lag.specs.Book.{Book}
+use Rattle.pfair_replica.specs.HeldRows.{HeldRows, replica_of}
+use Rattle.pfair_replica.specs.Replica.{numbers_below}
+use Rattle.pfair_table.specs.ScriptRun.{SlotBySlot, IsNextOf}
+use Rattle.pfair_table.specs.Table.{Settings, table, decisions}
 use Rattle.pfair_text.specs.Rows.{lines_text, text_so_far}
-use Rattle.pfair_table.specs.Refinement.{Dispatch}
-use Rattle.pfair_output.specs.Runs.{IsNext, IsOneMore}
-use Rattle.pfair_output.specs.Told.{all_slots_told, rows_told}
-use Rattle.pfair_output.proofs.RunFacts.{book_more, told_rows_more}
+use Rattle.pfair_output.specs.Lags.{lag_rows}
+use Rattle.pfair_output.specs.Told.{slot_told}
+use Rattle.pfair_output.proofs.RunFacts.{next_is, book_more, lags_more}
+use Rattle.pfair_output.proofs.WorldFacts.{book_after, after_all}
 use Rattle.pfair_output.proofs.runs.add_all_lags.Goals as goal
+
+pub tell_slot-requires : goal.tell_slot-requires
+tell_slot-requires g c =
+    let old : SlotBySlot = c.slots.run in
+    let is = next_is old c.in-Some.field-0 (subst (IsNextOf old) c.in-Some.is c.in_ok-plan_one.ensures.slot) in
+    let planned = ap (λ (b : SlotBySlot). b.planned) (c.in_ok-plan_one.ensures.next ∙ is.2) in
+    let time = ap (λ (b : Book). b.time) c.slots.invariant.book ∙ (after_all c.args.run.now.settings (replica_of c.args.run.now.held) old.planned).time_is in
+    omega (arith, time, planned, c.next_slot.ensures.value, c.next_slot.ensures.few)
 
 pub slots-preserved : goal.slots-preserved
 slots-preserved g c =
-    let old = c.slots.dispatcher in
-    let new = c.plan_one.new.dispatcher in
-    let slot = c.in-Planned.field-0 in
-    let next : IsNext old new slot = subst (IsOneMore old new) c.in-Planned.is c.in_ok-plan_one.ensures.step in
-    let forgot = c.forget.ensures in
-    let decided_are = ap (λ (d : Dispatch). d.decided) forgot in
-    let tables_are = ap (λ (d : Dispatch). d.tables) forgot in
-    let forgotten_is = ap (λ (d : Dispatch). d.forgotten) forgot in
-    let one_more : length new.tables ≡ length old.tables + 1 = ap length next.tables_are ∙ length-append old.tables _ in
-    let same = c.slots.invariant.both in
-    let at = next.slot_is ∙ sym same in
-    let time = c.slots.invariant.time ∙ sym next.slot_is in
-    let told = book_more empty_book c.slots.book c.add_lags_from.new.book old.decided new.decided old.tables new.tables next.decided next.table slot next.decided_are next.tables_are at same time c.slots.invariant.book
-    c.in_ok-add_lags_from.ensures.book in
+    let old : SlotBySlot = c.slots.run in
+    let new : SlotBySlot = c.plan_one.new.run in
+    let s : Settings = c.args.run.now.settings in
+    let held : HeldRows = c.args.run.now.held in
+    let is = next_is old c.in-Some.field-0 (subst (IsNextOf old) c.in-Some.is c.in_ok-plan_one.ensures.slot) in
+    let next = c.in_ok-plan_one.ensures.next ∙ is.2 in
+    let planned : new.planned ≡ old.planned + 1 = ap (λ (b : SlotBySlot). b.planned) next in
+    let settings = c.slots.invariant.settings in
+    let decided : c.decisions.result.now ≡ decisions s (replica_of held) old.planned =
+    c.decisions.ensures ∙ ap (λ (b : SlotBySlot). b.decided) next ∙ (λ i. decisions (settings i) (replica_of (c.slots.invariant.held i)) old.planned) in
+    let rows : c.table.result.now ≡ table s (replica_of held) old.planned =
+    c.table.ensures ∙ ap (λ (b : SlotBySlot). b.table) next ∙ (λ i. table (settings i) (replica_of (c.slots.invariant.held i)) old.planned) in
+    let told = book_more s (replica_of held) old.planned (text_so_far c.args.writer.now) (text_so_far c.slots.writer) (text_so_far c.add_lags.new.writer) c.slots.book c.tell_slot.new.book c.slots.invariant.book
+    (c.in_ok-tell_slot.ensures ∙ (λ i. slot_told (decided i) (rows i) c.slots.book)) in
     record {
-      is_open = c.in_ok-add_lags_from.ensures.open;
-      settings = ap (λ (d : Dispatch). d.settings) forgot ∙ c.in_ok-plan_one.ensures.settings ∙ c.slots.invariant.settings;
-      held = ap (λ (d : Dispatch). d.held) forgot ∙ c.in_ok-plan_one.ensures.held ∙ c.slots.invariant.held;
-      both = ap length decided_are ∙ sym c.next_slot-next.ensures.decided ∙ c.next_slot-next.ensures.value ∙ sym (ap length tables_are);
-      standing = omega (arith, forgotten_is, ap length tables_are, one_more, c.in_ok-plan_one.ensures.standing, c.slots.invariant.standing);
-      time = told.1 ∙ ap (λ n. n + 1) next.slot_is ∙ sym one_more ∙ sym (ap length tables_are);
-      book = told.0 ∙ (λ i. all_slots_told empty_book (sym decided_are i) (sym tables_are i));
-      text = told_rows_more empty_book c.slots.book old.decided new.decided old.tables new.tables next.decided next.table slot (text_so_far c.args.writer.now) (text_so_far c.slots.writer) (text_so_far c.add_lags_from.new.writer)
-          next.decided_are next.tables_are at same time c.slots.invariant.book c.slots.invariant.text c.in_ok-add_lags_from.ensures.text
-          ∙ (λ i. text_so_far c.args.writer.now ++ lines_text (rows_told empty_book (sym decided_are i) (sym tables_are i)));
+      is_open = c.in_ok-add_lags.ensures.open;
+      settings = ap (λ (b : SlotBySlot). b.settings) next ∙ settings;
+      held = ap (λ (b : SlotBySlot). b.held) next ∙ c.slots.invariant.held;
+      within = omega (arith, planned, is.1, ap (λ (t : Settings). t.slots) settings);
+      book = told ∙ ap (book_after s (replica_of held)) (sym planned);
+      text = lags_more s (replica_of held) old.planned (text_so_far c.args.writer.now) (text_so_far c.slots.writer) (text_so_far c.add_lags.new.writer) c.tell_slot.new.book told c.slots.invariant.text c.in_ok-add_lags.ensures.text
+          ∙ ap (λ n. text_so_far c.args.writer.now ++ lines_text (flat_map (lag_rows s (replica_of held)) (numbers_below n))) (sym planned);
     }

@@ -1,13 +1,13 @@
-use Rattle.std.proofs.Common.{rules, arith, ap, refl, ◌∙◌, subst, ◌≡◌, ◌<◌, ◌+◌, ℕ, length, slice_get, Some, [], ◌∷◌, ◌++◌, vec_len, add-one}
+use Rattle.std.proofs.Common.{sym, rules, arith, ap, refl, ◌∙◌, subst, ◌≡◌, ◌<◌, ◌+◌, ℕ, length, slice_get, Some, [], ◌∷◌, ◌++◌, vec_len, add-one}
 use Rattle.std.specs.Vec.Iter.{into_iter_items}
 use Rattle.std.proofs.lemmas.Grind.{common_steps}
 use Rattle.std.proofs.lemmas.Option.{slice_get_within, slice_get_read, get_or_from_slice_get}
 use Rattle.std.specs.declared.thread.PromisedHandle.{PromisedHandle}
 use Rattle.pfair_board.specs.declared.worked.Worked.{Worked}
 use Rattle.pfair_board.specs.declared.dispatchers.RowOf.{RowOf}
-use Rattle.pfair_board.specs.Works.{IsWorkOf}
+use Rattle.pfair_board.specs.Works.{IsWorkOf, IsWorkplaceOf}
 use Rattle.pfair_desk.proofs.Rows.{each_snoc}
-use Rattle.pfair_board.proofs.Rows.{work_moves}
+use Rattle.pfair_board.proofs.Rows.{none_in_empty, work_moves}
 use Rattle.pfair_board.proofs.dispatchers.fn.run_all.scope.Goals as goal
 
 -- the workplace that comes is the first that was left
@@ -15,7 +15,19 @@ pub spawn_with-requires-clause-runs : goal.spawn_with-requires-clause-runs
 spawn_with-requires-clause-runs g c κs within =
     let at : slice_get (into_iter_items c.loop-workplace.workplace-iterator) 0 ≡ Some c.in-Some.workplace = grind (arith, common_steps) in
     let first = c.loop-workplace.invariant.left 0 c.in-Some.workplace at in
-    (first.desk, first.first, search rules, search rules)
+    let empty = subst (λ j. g.K.Sink.has c.in-Some.workplace.sink j []) (sym first.processor) first.empty in
+    (first.desk, first.first, empty, search rules, search rules)
+
+pub loop-workplace-init : goal.loop-workplace-init
+loop-workplace-init g c = record {
+  count = grind (arith, common_steps);
+  left = λ k w at.
+      (let all : into_iter_items c.into_iter-workplace-iterator.result ≡ c.captures.workplaces.items = c.into_iter-workplace-iterator.ensures.into_iter_gives.0 in
+      let there : slice_get c.captures.workplaces.items k ≡ Some w = subst (λ xs. slice_get xs k ≡ Some w) all at in
+      let place : k ≡ vec_len c.new-threads.result + k = omega (arith, c.new-threads.ensures.len) in
+      subst (λ j. IsWorkplaceOf g.K.Sink.has c.captures.board.now j w) place (c.requires.3.each k w there));
+  promised = λ k h at. absurd (none_in_empty c.new-threads.result.items k h c.new-threads.ensures.items at);
+}
 
 pub loop-workplace-preserved : goal.loop-workplace-preserved
 loop-workplace-preserved g c =
@@ -27,9 +39,11 @@ loop-workplace-preserved g c =
       count = grind (arith, common_steps);
       left = λ k w at.
           (let there : slice_get (into_iter_items c.loop-workplace.workplace-iterator) (k + 1) ≡ Some w = rw (next, add-one) at in
-          let is = was.left (k + 1) w there in record { desk = is.desk; processor = (let row = is.processor in omega arith); first = is.first });
+          let is = was.left (k + 1) w there in
+          let place : started + (k + 1) ≡ vec_len c.push.new.self + k = omega (arith, more) in
+          record { desk = is.desk; processor = (let row = is.processor in omega arith); first = is.first; empty = subst (λ j. g.K.Sink.has w.sink j []) place is.empty });
       promised = λ k h at.
-          (let P = (λ (j : ℕ) (x : PromisedHandle Worked (RowOf g.row.G.Denot)). (x.promise.board.value ≡ c.captures.board.now) × (x.promise.processor ≡ j) × (x.promise.settings ≡ c.captures.settings)) in
+          (let P = (λ (j : ℕ) (x : PromisedHandle (Worked g.row.K.Denot) (RowOf g.row.G.Denot g.row.K.Denot)). (x.promise.board.value ≡ c.captures.board.now) × (x.promise.processor ≡ j) × (x.promise.settings ≡ c.captures.settings)) in
           let count : length c.loop-workplace.threads.items ≡ started = search rules in
           let first : slice_get (into_iter_items c.loop-workplace.workplace-iterator) 0 ≡ Some c.in-Some.workplace = grind (arith, common_steps) in
           let row = c.in_ok-started.ensures.ok in
@@ -51,5 +65,5 @@ returns g c = record {
       let here : slice_get hs k ≡ Some kept.handle = slice_get_read hs (length hs) k kept.handle refl (omega arith) kept.handle_is in
       let is = c.loop-workplace.invariant.promised k kept.handle here in
       let w_is = get_or_from_slice_get ws k w w at in
-      work_moves _ _ _ _ _ _ _ w is.0 is.2 is.1 (subst (λ x. IsWorkOf g.G.Gate.may_give_up kept.handle.promise.board.value kept.handle.promise.settings kept.handle.promise.processor x) w_is kept.kept);
+      work_moves _ _ _ _ _ _ _ _ w is.0 is.2 is.1 (subst (λ x. IsWorkOf g.K.Sink.has g.G.Gate.may_give_up kept.handle.promise.board.value kept.handle.promise.settings kept.handle.promise.processor x) w_is kept.kept);
 }

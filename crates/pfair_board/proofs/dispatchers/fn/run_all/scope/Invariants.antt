@@ -9,6 +9,6 @@ invariant-loop-workplace g l =
     let started = vec_len l.threads in let rest = l.workplace-iterator in
     record {
       count : started + into_iter_len rest ≡ l.board.processors;
-      left : (k : ℕ) (w : _) → slice_get (into_iter_items rest) k ≡ Some w → IsWorkplaceOf l.board (started + k) w;
+      left : (k : ℕ) (w : _) → slice_get (into_iter_items rest) k ≡ Some w → IsWorkplaceOf g.K.Sink.has l.board (started + k) w;
       promised : (k : ℕ) (h : _) → slice_get l.threads.items k ≡ Some h → (h.promise.board.value ≡ l.board) × (h.promise.processor ≡ k) × (h.promise.settings ≡ l.settings);
     }

@@ -1,0 +1,15 @@
+use Rattle.std.proofs.Common.{◌≡◌, ◌∙◌, ◌+◌, sym, ap, arith, length, [], ◌∷◌}
+use Rattle.std.proofs.lemmas.Result.{on_ok_weaker}
+use Rattle.pfair_text.specs.Rows.{lines_text, text_so_far}
+use Rattle.pfair_output.specs.Replay.{replay_header, table_rows}
+use Rattle.pfair_output.specs.Slots.{slots_from}
+use Rattle.pfair_output.proofs.RunFacts.{slots_more, text_more}
+use Rattle.pfair_output.proofs.replay.add_table_rows.Goals as goal
+
+pub returns-clause-more : goal.returns-clause-more
+returns-clause-more c =
+    on_ok_weaker c.add_table.result
+    (λ told tables long had.
+    text_more [] (text_so_far c.args.writer.now) (text_so_far c.add_table.new.writer) (replay_header ∷ slots_from table_rows 0 tables) (table_rows c.args.slot c.args.table.now) had told
+    ∙ ap (λ rows. lines_text (replay_header ∷ rows)) (sym (slots_more table_rows 0 c.args.slot tables c.args.table.now (omega (arith, long)))))
+    c.add_table.ensures.text

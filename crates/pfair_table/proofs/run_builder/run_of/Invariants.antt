@@ -1,0 +1,10 @@
+use Rattle.std.proofs.Common.{◌≡◌, map}
+use Rattle.pfair_table.specs.declared.run_builder.BuiltSlot.{BuiltSlot}
+use Rattle.pfair_table.specs.Planned.{as_tables, as_places}
+use Rattle.pfair_table.proofs.run_builder.run_of.Given as goal
+
+abbrev pub invariant-loop-slot : goal.invariant-loop-slot
+invariant-loop-slot l = record {
+  tables : as_tables l.tables ≡ map (λ (s : BuiltSlot). s.table.items) l.yielded;
+  places : as_places l.places ≡ map (λ (s : BuiltSlot). s.places.items) l.yielded;
+}

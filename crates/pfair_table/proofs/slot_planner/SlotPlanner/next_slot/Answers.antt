@@ -1,0 +1,20 @@
+use Rattle.std.proofs.Common.{◌∙◌, sym, ap, arith, length}
+use Rattle.pfair_table.specs.Refinement.{Dispatch}
+use Rattle.pfair_table.proofs.SlotPlanned.{tables_long, within}
+use Rattle.pfair_table.proofs.slot_planner.SlotPlanner.next_slot.Goals as goal
+
+pub returns-clause-value : goal.returns-clause-value
+returns-clause-value g c = sym (tables_long c.self.inside.settings c.self.inside.of.value c.self.inside.planned) ∙ ap (λ (d : Dispatch). length d.tables) c.self.view_is
+
+pub returns-clause-within : goal.returns-clause-within
+returns-clause-within g c =
+    let p = c.self.inside.planner in
+    let le = within c.self.inside.settings c.self.inside.seen.value c.self.inside.of.value c.self.inside.planned c.self.inside.spent p.members (g.R.Ready.now p.ready) (g.R.Ready.held p.ready) c.self.invariant.0 in
+    let settings_are = ap (λ (d : Dispatch). d.settings.slots) c.self.view_is in
+    omega (arith, le, settings_are)
+
+pub returns-clause-few : goal.returns-clause-few
+returns-clause-few g c =
+    let p = c.self.inside.planner in
+    let le = within c.self.inside.settings c.self.inside.seen.value c.self.inside.of.value c.self.inside.planned c.self.inside.spent p.members (g.R.Ready.now p.ready) (g.R.Ready.held p.ready) c.self.invariant.0 in
+    omega (arith, le, c.slots.ensures.value, c.if-prove.false)

@@ -1,0 +1,36 @@
+-- What plans slots of a replica that is handed in, and keeps none of them.
+use Rattle.std.specs.Prelude.{ℕ, ◌+◌, ◌≡◌, IsTrue, false, List, [], ◌∷◌, ◌++◌, length, map, Option, Some, None}
+use Rattle.pfair_replica.specs.HeldRows.{HeldRows, replica_of}
+use Rattle.pfair_replica.specs.Replica.{numbers_below}
+use Rattle.pfair_table.specs.declared.pick.Decided.{Decided}
+use Rattle.pfair_table.specs.declared.slot.SlotPlan.{SlotPlan}
+use Rattle.pfair_table.specs.Table.{Settings, Table, history, table, decisions}
+use Rattle.pfair_table.specs.Events.{is_plannable}
+use Rattle.pfair_table.specs.Refinement.{Dispatch}
+use Rattle.pfair_table.specs.PlaceLaws.{IsFit}
+
+-- the tables of slots 0 to n - 1 of a replica
+abbrev pub tables_to : Settings → HeldRows → ℕ → List Table
+tables_to s x n = (history s (replica_of x) n).tables
+
+-- and what is decided at their boundaries
+abbrev pub decided_to : Settings → HeldRows → ℕ → List (List Decided)
+decided_to s x n = map (decisions s (replica_of x)) (numbers_below n)
+
+-- with this replica handed in
+abbrev pub seeing : Dispatch → HeldRows → Dispatch
+seeing d x = record d { held = x }
+
+-- the next slot of what is held, whose table has no more rows than there may be processors, or none where it can't be planned
+abbrev pub IsNextPlan : Dispatch → Option SlotPlan → Type 0
+IsNextPlan d (Some next) =
+    IsTrue (is_plannable d.settings (replica_of d.held) (length d.tables))
+    × (next.table.items ≡ table d.settings (replica_of d.held) (length d.tables))
+    × (next.decided.items ≡ decisions d.settings (replica_of d.held) (length d.tables))
+    × IsFit 64 next.table.items
+IsNextPlan d None = is_plannable d.settings (replica_of d.held) (length d.tables) ≡ false
+
+-- with that planned
+abbrev pub after_plan : Dispatch → Option SlotPlan → Dispatch
+after_plan d (Some next) = record d { tables = d.tables ++ next.table.items ∷ []; decided = d.decided ++ next.decided.items ∷ []; forgotten = length d.tables + 1 }
+after_plan d None = d
