@@ -1,7 +1,7 @@
 //! Lags as rows: time, task, numerator, period.
 
-ghost use Rattle.std.specs.Prelude.{◌≡◌, ◌≤◌, ◌<◌, ◌-◌, ◌++◌, ◌∷◌, [], OnOk, IfOk, List, Some, drop, slice_get, take};
-ghost use Rattle.pfair_text.specs.Rows.{IsOpen, line, lines_text, text_so_far};
+ghost use Rattle.std.specs.Prelude.{◌≡◌, ◌≤◌, ◌<◌, ◌-◌, ◌++◌, ◌∷◌, [], OnOk, IfOk, List, Some, drop, slice_get, take, true};
+ghost use Rattle.pfair_text.specs.Rows.{is_plain, IsOpen, line, lines_text, text_so_far};
 ghost use Rattle.pfair_replica.specs.HeldRows.{replica_of};
 ghost use Rattle.pfair_weight.specs.Name.{NameValue};
 ghost use Rattle.pfair_lag.specs.Book.{Tally, empty_book};
@@ -201,15 +201,24 @@ pub(crate) fn add_lags(writer: &mut Writer<Vec<u8>>, book: &LagBook) -> Result<(
     ensures open { OnOk result (IsOpen writer.new) }
     ensures text { OnOk result (text_so_far writer.new ≡ text_so_far writer.old ++ lines_text (book_rows book.now)) }
 {
+    let mut digits = Buffer::new();
+    let time = digits.format(book.time()).as_bytes();
     for place in 0..book.len() {
-        add_task(writer, book, place)?;
+        add_task(writer, book, time, place)?;
     }
     Ok(())
 }
 
-// Adds the row of the task at a place of the book.
-fn add_task(writer: &mut Writer<Vec<u8>>, book: &LagBook, place: usize) -> Result<(), AllocError>
-    requires { IsOpen writer.old }
+// Adds the row of the task at a place of the book, whose time is handed in as it is written.
+fn add_task(
+    writer: &mut Writer<Vec<u8>>,
+    book: &LagBook,
+    time: &[u8],
+    place: usize,
+) -> Result<(), AllocError>
+    requires open { IsOpen writer.old }
+    requires time { time.now ≡ decimal book.now.time }
+    requires plain { is_plain time.now ≡ true }
     ensures open { OnOk result (IsOpen writer.new) }
     ensures text { OnOk result ((task : NameValue × Tally) → slice_get book.now.entered place ≡ Some task
         → text_so_far writer.new ≡ text_so_far writer.old ++ line (tally_row book.now.time task)) }
@@ -217,27 +226,28 @@ fn add_task(writer: &mut Writer<Vec<u8>>, book: &LagBook, place: usize) -> Resul
     let Some((name, (numerator, period))) = book.row_at(place) else {
         return Ok(());
     };
-    add_lag(writer, book.time(), name, numerator, period)?;
+    add_lag(writer, time, name, numerator, period)?;
     Ok(())
 }
 
 // Adds a row.
 fn add_lag(
     writer: &mut Writer<Vec<u8>>,
-    time: u64,
+    time: &[u8],
     name: &TaskName,
     numerator: i64,
     period: u64,
 ) -> Result<(), AllocError>
-    requires { IsOpen writer.old }
+    requires open { IsOpen writer.old }
+    requires plain { is_plain time.now ≡ true }
     ensures open { OnOk result (IsOpen writer.new) }
     ensures text { OnOk result (text_so_far writer.new ≡ text_so_far writer.old
-        ++ line (decimal time ∷ name.now ∷ signed_decimal numerator ∷ decimal period ∷ [])) }
+        ++ line (time.now ∷ name.now ∷ signed_decimal numerator ∷ decimal period ∷ [])) }
 {
     add_row(
         writer,
         &[
-            Buffer::new().format(time).as_bytes(),
+            time,
             name.as_bytes(),
             Buffer::new().format(numerator).as_bytes(),
             Buffer::new().format(period).as_bytes(),

@@ -9,8 +9,8 @@ use Rattle.pfair_output.proofs.lags.add_lag.Goals as goal
 
 pub add_row-requires-clause-plain : goal.add_row-requires-clause-plain
 add_row-requires-clause-plain c =
-    let time : is_plain c.as_bytes.result.now ≡ true = search (rules, is_plain-decimal) in
-    let task : is_plain c.as_bytes-2.result.now ≡ true = ap is_plain c.as_bytes-2.ensures.value ∙ is_plain-name c.args.name.now c.as_bytes-2.ensures.named in
-    let numerator : is_plain c.as_bytes-3.result.now ≡ true = ap is_plain c.as_bytes-3.ensures.value ∙ ap is_plain c.format-2.ensures.text ∙ ap (λ z. is_plain (signed_decimal z)) (to_z-of_z c.ranges.numerator) ∙ is_plain-signed c.args.numerator c.ranges.numerator in
-    let period : is_plain c.as_bytes-4.result.now ≡ true = search (rules, is_plain-decimal) in
+    let time : is_plain c.args.time.now ≡ true = c.requires.plain in
+    let task : is_plain c.as_bytes.result.now ≡ true = ap is_plain c.as_bytes.ensures.value ∙ is_plain-name c.args.name.now c.as_bytes.ensures.named in
+    let numerator : is_plain c.as_bytes-2.result.now ≡ true = ap is_plain c.as_bytes-2.ensures.value ∙ ap is_plain c.format.ensures.text ∙ ap (λ z. is_plain (signed_decimal z)) (to_z-of_z c.ranges.numerator) ∙ is_plain-signed c.args.numerator c.ranges.numerator in
+    let period : is_plain c.as_bytes-3.result.now ≡ true = search (rules, is_plain-decimal) in
     rw (time, task, numerator, period) refl

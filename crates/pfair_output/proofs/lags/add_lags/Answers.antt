@@ -1,5 +1,6 @@
-use Rattle.std.proofs.Common.{◌<◌, ◌∙◌, length, arith}
+use Rattle.std.proofs.Common.{◌<◌, ◌∙◌, length, arith, rules}
 use Rattle.pfair_text.specs.Rows.{text_so_far}
+use Rattle.pfair_text.proofs.RowFacts.{is_plain-decimal}
 use Rattle.pfair_output.specs.Told.{tally_row}
 use Rattle.pfair_output.proofs.ToldFacts.{task_more}
 use Rattle.pfair_output.proofs.lags.add_lags.Goals as goal
@@ -10,3 +11,6 @@ loop-place-preserved c =
       c.in_ok-add_task.ensures.open,
       task_more (tally_row c.args.book.now.time) c.args.book.now.entered c.loop-place.place (text_so_far c.loop-place.writer) (text_so_far c.add_task.new.writer) inside c.in_ok-add_task.ensures.text ∙ c.loop-place.invariant.1,
     )
+
+pub add_task-requires-clause-plain : goal.add_task-requires-clause-plain
+add_task-requires-clause-plain c = search (rules, is_plain-decimal)

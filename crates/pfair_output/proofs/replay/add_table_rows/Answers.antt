@@ -1,4 +1,4 @@
-use Rattle.std.proofs.Common.{◌≡◌, ◌∙◌, ◌+◌, sym, ap, arith, length, [], ◌∷◌}
+use Rattle.std.proofs.Common.{◌∙◌, sym, ap, arith, [], ◌∷◌}
 use Rattle.std.proofs.lemmas.Result.{on_ok_weaker}
 use Rattle.pfair_text.specs.Rows.{lines_text, text_so_far}
 use Rattle.pfair_output.specs.Replay.{replay_header, table_rows}
