@@ -148,12 +148,18 @@ def test_any_order_and_repeats():
         assert sorted(one.places(3)) == sorted(set(one.places(3)))
 
 
+def holding(script):
+    """A dispatcher that holds all logs of a script of four processors, and has planned nothing."""
+    one = pfair.Dispatcher(4, script.frame, script.slots, 16)
+    for processor in range(4):
+        one.take_log(processor, script.closed(processor))
+    return one
+
+
 def test_memory_ahead():
     script = drawn(2)
     whole = pfair.schedule(script)
-    with pfair.Dispatcher(4, script.frame, script.slots, 16) as one:
-        for processor in range(4):
-            one.take_log(processor, script.closed(processor))
+    with holding(script) as one:
         one.plan(1)
         one.reserve(2**64 - 1)
         assert one.planned == 1
@@ -168,9 +174,7 @@ def test_memory_ahead():
 def test_forgotten_slots():
     script = drawn(2)
     whole = pfair.schedule(script)
-    with pfair.Dispatcher(4, script.frame, script.slots, 16) as one:
-        for processor in range(4):
-            one.take_log(processor, script.closed(processor))
+    with holding(script) as one:
         for slot in range(script.slots):
             one.plan(slot + 1)
             one.forget(slot - 1 if slot > 1 else 0)
