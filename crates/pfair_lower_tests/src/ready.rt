@@ -102,6 +102,23 @@ fn waits_near_and_far<R: Ready>(rt: &impl Abort, ready: &mut R) -> Result<(), Fa
     assert_first(rt, ready, 301, 2, &[d])
 }
 
+// Deadlines of 64 and of more slots after the release, in turn and at one slot, and at equal ones the
+// b-bit and the name.
+fn waits_long<R: Ready>(rt: &impl Abort, ready: &mut R) -> Result<(), Fail>
+    requires { R.now ready.old ≡ 0 }
+{
+    let (a, b) = (key(rt, 65, 0, b"a"), key(rt, 64, 0, b"b"));
+    let (c, d) = (key(rt, 66, 1, b"c"), key(rt, 66, 0, b"d"));
+    let (e, f) = (key(rt, 200, 0, b"e"), key(rt, 66, 0, b"f"));
+    assert!(rt; ready.insert(0, e)? && ready.insert(0, a)? && ready.insert(0, b)?);
+    assert!(rt; ready.insert(2, f)? && ready.insert(0, d)? && ready.insert(3, c)?);
+    assert_first(rt, ready, 0, 1, &[b])?;
+    assert!(rt; ready.insert(1, b)?);
+    assert_first(rt, ready, 3, 3, &[b, a, c])?;
+    assert_first(rt, ready, 4, 4, &[d, f, e])?;
+    assert_first(rt, ready, 5, 4, &[])
+}
+
 // Tasks of weight 1 on 64 processors, inserted last name first.
 fn gives_sixty_four<R: Ready>(rt: &impl Abort, ready: &mut R) -> Result<(), Fail> {
     for before in 0..64u8 {
@@ -123,6 +140,7 @@ fn gives_sixty_four<R: Ready>(rt: &impl Abort, ready: &mut R) -> Result<(), Fail
 fn assert_rows<R: Ready>(rt: &impl Abort, alloc: Global) -> Result<(), Fail> {
     holds_until_release(rt, &mut R::new(alloc))?;
     waits_near_and_far(rt, &mut R::new(alloc))?;
+    waits_long(rt, &mut R::new(alloc))?;
     gives_sixty_four(rt, &mut R::new(alloc))?;
     let mut ready = R::new(alloc);
     gives_by_rank(rt, &mut ready)?;
