@@ -78,7 +78,7 @@ noted_far c c' more turned near d noted =
 -- ---- what moves
 
 abbrev pub Heap : Type 0
-Heap = List (Reverse (Key × ℕ))
+Heap = List (Key × ℕ)
 
 -- a bucket was emptied, or a part of it
 pub moves_bucket : (slot : ℕ) (es : SlotList) (Was : Date → Type 0) (c c' : Calendar) (i : ℕ) (b b' : Vec ℕ Global) (heap0 heap heap' : Heap) → Moves slot es Was (IsNoted c) heap0 heap
@@ -90,7 +90,7 @@ moves_bucket slot es Was c c' i b b' heap0 heap heap' m here e turned near =
       moved = λ p r k at was. elim (m.moved p r k at was) [
         | inl noted ↦ elim noted [
           | inl n ↦
-              let there = stays_or c.near.items i (r % 64) p b' (IsAmong (heap_items c'.far) (dated r p) ⊎ ((r ≤ slot) × Contains heap' (record { 0 = (k, p) })))
+              let there = stays_or c.near.items i (r % 64) p b' (IsAmong (heap_items c'.far) (dated r p) ⊎ ((r ≤ slot) × Contains heap' (k, p)))
               (λ h. e.emptied p r k at (subst (λ (l : List ℕ). Contains l p) here h)) n.there in
               elim there [
                 | inl stays ↦ inl (inl (record {
@@ -102,7 +102,7 @@ moves_bucket slot es Was c c' i b b' heap0 heap heap' m here e turned near =
               ]
           | inr f ↦ inl (inr (e.far_kept (record { 0 = dated r p }) f))
         ]
-        | inr gone ↦ inr (gone.0, e.kept (record { 0 = (k, p) }) gone.1)
+        | inr gone ↦ inr (gone.0, e.kept (k, p) gone.1)
       ];
     }
 
@@ -121,7 +121,7 @@ moves_far slot es Was c c' heap0 heap heap' m f turned near =
           }))
           | inr among ↦ elim (f.moved p r k at among) [ inl stays ↦ inl (inr stays) | inr gone ↦ inr gone ]
         ]
-        | inr gone ↦ inr (gone.0, f.kept (record { 0 = (k, p) }) gone.1)
+        | inr gone ↦ inr (gone.0, f.kept (k, p) gone.1)
       ];
     }
 
@@ -137,7 +137,7 @@ popped_last o xs ys last n long items value at p h =
     Contains-push_cases ys last p (subst (λ (l : List ℕ). Contains l p) (items ∙ ap (λ (o : Option ℕ). ys ++ option_to_list o) popped) h)
 
 module _ (slot : ℕ) (es : SlotList) (b0 b : List ℕ) (far0 far far' : List (Reverse Date)) (heap0 heap heap' : Heap) (e : Empties slot es b0 b far0 far heap0 heap)
-    (far_kept : (x : Reverse Date) → Contains far x → Contains far' x) (kept : (x : Reverse (Key × ℕ)) → Contains heap x → Contains heap' x) where
+    (far_kept : (x : Reverse Date) → Contains far x → Contains far' x) (kept : (x : Key × ℕ) → Contains heap x → Contains heap' x) where
   -- nothing was lost
   pub empties_kept : Empties slot es b0 b far0 far' heap0 heap'
   empties_kept = record {
@@ -145,13 +145,13 @@ module _ (slot : ℕ) (es : SlotList) (b0 b : List ℕ) (far0 far far' : List (R
     kept = λ x h. kept x (e.kept x h);
     emptied = λ p r k at h. elim (e.emptied p r k at h) [
       | inl stays ↦ inl stays
-      | inr goes ↦ inr (elim goes [ inl among ↦ inl (far_kept (record { 0 = dated r p }) among) | inr gone ↦ inr (gone.0, kept (record { 0 = (k, p) }) gone.1) ])
+      | inr goes ↦ inr (elim goes [ inl among ↦ inl (far_kept (record { 0 = dated r p }) among) | inr gone ↦ inr (gone.0, kept (k, p) gone.1) ])
     ];
   }
 
   -- and the last of the bucket has its place
   pub empties_more : (b' : List ℕ) (last : ℕ) → ((p : ℕ) → Contains b p → Contains b' p ⊎ (last ≡ p))
-      → ((r : ℕ) (k : Key) → in_slot (slice_get es last) ≡ Some (r, k) → IsAmong far' (dated r last) ⊎ ((r ≤ slot) × Contains heap' (record { 0 = (k, last) })))
+      → ((r : ℕ) (k : Key) → in_slot (slice_get es last) ≡ Some (r, k) → IsAmong far' (dated r last) ⊎ ((r ≤ slot) × Contains heap' (k, last)))
       → Empties slot es b0 b' far0 far' heap0 heap'
   empties_more b' last left there =
       let now = empties_kept in
@@ -162,7 +162,7 @@ module _ (slot : ℕ) (es : SlotList) (b0 b : List ℕ) (far0 far far' : List (R
           | inl stays ↦ elim (left p stays) [
             | inl still ↦ inl still
             | inr same ↦
-                let Goes : ℕ → Type 0 = λ x. in_slot (slice_get es x) ≡ Some (r, k) → IsAmong far' (dated r x) ⊎ ((r ≤ slot) × Contains heap' (record { 0 = (k, x) })) in
+                let Goes : ℕ → Type 0 = λ x. in_slot (slice_get es x) ≡ Some (r, k) → IsAmong far' (dated r x) ⊎ ((r ≤ slot) × Contains heap' (k, x)) in
                 inr (subst Goes same (there r k) at)
           ]
           | inr goes ↦ inr goes

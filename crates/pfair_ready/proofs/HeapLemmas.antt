@@ -24,7 +24,7 @@ use Rattle.pfair_weight.specs.NameFacts.{name_at}
 use Rattle.pfair_ready.specs.Names.{NameValue, name_cmp, name_eq}
 use Rattle.pfair_ready.specs.declared.calendar.Calendar.{Calendar}
 use Rattle.pfair_ready.specs.declared.date.Date.{Date}
-use Rattle.pfair_ready.specs.Slots.{SlotList, with_slot, live, entry_of, in_slot, IsPlaced, Keeps, Moves, IsAmong, IsNoted, IsCovered, dated, later_cmp, reverse_cmp}
+use Rattle.pfair_ready.specs.Slots.{SlotList, with_slot, live, entry_of, in_slot, IsPlaced, Keeps, Moves, IsAmong, IsNoted, IsCovered, dated, later_cmp}
 use Rattle.pfair_ready.proofs.Names.{names_total, names_exact, tied_names}
 
 module _ {X : Type 0} where
@@ -237,7 +237,7 @@ pushed_place es es' n e h =
     let there : slice_get es' (length es) ≡ Some (n, None) = ap (λ (x : SlotList). slice_get x (length es)) e ∙ get_last es n in
     record { at = there ∙ ap (λ (o : Option (ℕ × Key)). Some (n, o)) (sym (live_at es' (length es) n None there h)); apart = h }
 
-pub covered_kept : (now : ℕ) (es es' : SlotList) (dates : Calendar) (heap : List (Reverse (Key × ℕ))) → Keeps es es' → IsCovered now es dates heap → IsCovered now es' dates heap
+pub covered_kept : (now : ℕ) (es es' : SlotList) (dates : Calendar) (heap : List (Key × ℕ)) → Keeps es es' → IsCovered now es dates heap → IsCovered now es' dates heap
 covered_kept now es es' dates heap k c =
     record {
       apart = k.apart;
@@ -245,23 +245,21 @@ covered_kept now es es' dates heap k c =
       turned = c.turned;
       covered = λ p r key at. let e = entry_in (slice_get es' p) (r, key) at in c.covered p r key (ap in_slot (k.slots p e.0 (r, key) e.1));
       date_order = c.date_order;
-      in_order = c.in_order;
     }
 
 -- nothing is held
-pub covered_none : (es : SlotList) (dates : Calendar) (heap : List (Reverse (Key × ℕ))) → es ≡ [] → IsDistinct name_eq (keys_of es) → dates.turned ≡ 0 → IsHeap later_cmp (heap_items dates.far) → IsHeap reverse_cmp heap → IsCovered 0 es dates heap
-covered_none es dates heap none apart turned down up =
+pub covered_none : (es : SlotList) (dates : Calendar) (heap : List (Key × ℕ)) → es ≡ [] → IsDistinct name_eq (keys_of es) → dates.turned ≡ 0 → IsHeap later_cmp (heap_items dates.far) → IsCovered 0 es dates heap
+covered_none es dates heap none apart turned down =
     record {
       apart = apart;
       named = λ p n r k at. absurd (none-some (n, Some (r, k)) (sym (ap (λ (x : SlotList). slice_get x p) none) ∙ at));
       turned = omega (arith, turned);
       covered = λ p r k at. absurd (none-some (r, k) (sym (ap (λ (x : SlotList). in_slot (slice_get x p)) none) ∙ at));
       date_order = down;
-      in_order = up;
     }
 
 -- a slot is emptied
-pub covered_emptied : (now place : ℕ) (es es' : SlotList) (dates : Calendar) (heap : List (Reverse (Key × ℕ))) → es' ≡ set_value_at es place None → IsCovered now es dates heap → IsCovered now es' dates heap
+pub covered_emptied : (now place : ℕ) (es es' : SlotList) (dates : Calendar) (heap : List (Key × ℕ)) → es' ≡ set_value_at es place None → IsCovered now es dates heap → IsCovered now es' dates heap
 covered_emptied now place es es' dates heap e c =
     subst (λ (x : SlotList). IsCovered now x dates heap) (sym e) (record {
       apart = subst (IsDistinct name_eq) (sym (keys_set es place None)) c.apart;
@@ -269,11 +267,10 @@ covered_emptied now place es es' dates heap e c =
       turned = c.turned;
       covered = λ p r key at. let f = entry_in (slice_get (set_value_at es place None) p) (r, key) at in c.covered p r key (ap in_slot (set_none es place p f.0 (r, key) f.1).1);
       date_order = c.date_order;
-      in_order = c.in_order;
     })
 
 -- a calendar that has lost nothing
-pub covered_dates : (now : ℕ) (es : SlotList) (dates dates' : Calendar) (heap : List (Reverse (Key × ℕ))) → ((d : Date) → IsNoted dates d → IsNoted dates' d) → dates'.turned ≡ dates.turned → IsHeap later_cmp (heap_items dates'.far)
+pub covered_dates : (now : ℕ) (es : SlotList) (dates dates' : Calendar) (heap : List (Key × ℕ)) → ((d : Date) → IsNoted dates d → IsNoted dates' d) → dates'.turned ≡ dates.turned → IsHeap later_cmp (heap_items dates'.far)
     → IsCovered now es dates heap → IsCovered now es dates' heap
 covered_dates now es dates dates' heap kept turned order c =
     record {
@@ -282,11 +279,10 @@ covered_dates now es dates dates' heap kept turned order c =
       turned = let before = c.turned in omega (arith, turned, before);
       covered = λ p r k at. elim (c.covered p r k at) [ inl noted ↦ inl (kept (dated r p) noted) | inr gone ↦ inr gone ];
       date_order = order;
-      in_order = c.in_order;
     }
 
 -- a slot is filled, and its date is in the calendar
-pub covered_filled : (now place r : ℕ) (k : Key) (es es' : SlotList) (dates : Calendar) (heap : List (Reverse (Key × ℕ)))
+pub covered_filled : (now place r : ℕ) (k : Key) (es es' : SlotList) (dates : Calendar) (heap : List (Key × ℕ))
     → IsPlaced es place k.name → es' ≡ set_value_at es place (Some (r, k)) → IsNoted dates (dated r place) → IsCovered now es dates heap → IsCovered now es' dates heap
 covered_filled now place r k es es' dates heap here e noted c =
     subst (λ (x : SlotList). IsCovered now x dates heap) (sym e) (record {
@@ -303,7 +299,6 @@ covered_filled now place r k es es' dates heap here e noted c =
             | inr o ↦ c.covered p r' k' (ap in_slot o)
           ];
       date_order = c.date_order;
-      in_order = c.in_order;
     })
 
 in_cons : {A : Type 0} (y : A) (xs : List A) (x : A) (i : ℕ) → slice_get (y ∷ xs) i ≡ Some x → (y ≡ x) ⊎ Contains xs x
@@ -317,9 +312,9 @@ top_or_stays top x xs ys p c =
     in_cons top ys x at.0 at.1
 
 -- one far date more has gone
-pub moves_more : (slot : ℕ) (es : SlotList) (date : Reverse Date) (dates0 dates dates' : List (Reverse Date)) (heap0 heap heap' : List (Reverse (Key × ℕ)))
+pub moves_more : (slot : ℕ) (es : SlotList) (date : Reverse Date) (dates0 dates dates' : List (Reverse Date)) (heap0 heap heap' : List (Key × ℕ))
     → Moves slot es (IsAmong dates0) (IsAmong dates) heap0 heap → date.0.release ≤ slot → IsPermutation dates (date ∷ dates')
-    → ((x : Reverse (Key × ℕ)) → Contains heap x → Contains heap' x) → ((k : Key) → in_slot (slice_get es date.0.place) ≡ Some (date.0.release, k) → Contains heap' (record { 0 = (k, date.0.place) }))
+    → ((x : Key × ℕ) → Contains heap x → Contains heap' x) → ((k : Key) → in_slot (slice_get es date.0.place) ≡ Some (date.0.release, k) → Contains heap' (k, date.0.place))
     → Moves slot es (IsAmong dates0) (IsAmong dates') heap0 heap'
 moves_more slot es date dates0 dates dates' heap0 heap heap' m due perm kept there =
     record {
@@ -327,11 +322,11 @@ moves_more slot es date dates0 dates dates' heap0 heap heap' m due perm kept the
       moved = λ p r k at h. elim (m.moved p r k at h) [
         | inl stays ↦ elim (top_or_stays date (record { 0 = dated r p }) dates dates' perm stays) [
           | inl same ↦
-              let P : Reverse Date → Type 0 = λ x. in_slot (slice_get es x.0.place) ≡ Some (x.0.release, k) → (x.0.release ≤ slot) × Contains heap' (record { 0 = (k, x.0.place) }) in
+              let P : Reverse Date → Type 0 = λ x. in_slot (slice_get es x.0.place) ≡ Some (x.0.release, k) → (x.0.release ≤ slot) × Contains heap' (k, x.0.place) in
               inr (subst P same (λ a. (due, there k a)) at)
           | inr later ↦ inl later
         ]
-        | inr gone ↦ inr (gone.0, kept (record { 0 = (k, p) }) gone.1)
+        | inr gone ↦ inr (gone.0, kept (k, p) gone.1)
       ];
     }
 
@@ -341,7 +336,7 @@ pushed_more item x xs ys p h = Contains-permutation (item ∷ xs) ys x p (Contai
 pub pushed_top : {A : Type 0} (item : A) (xs ys : List A) → IsPermutation (item ∷ xs) ys → Contains ys item
 pushed_top item xs ys p = Contains-permutation (item ∷ xs) ys item p (0, omega arith, refl)
 
-same_head : {A : Type 0} (xs : List A) (x y : A) → 0 < length xs → x ≡ slice_index_or xs 0 x → y ≡ slice_index_or xs 0 y → x ≡ y
+pub same_head : {A : Type 0} (xs : List A) (x y : A) → 0 < length xs → x ≡ slice_index_or xs 0 x → y ≡ slice_index_or xs 0 y → x ≡ y
 same_head [] x y h e f = absurd (omega arith)
 same_head (z ∷ xs) x y h e f = e ∙ sym f
 

@@ -4,3 +4,4 @@ pub mod Names
 mod PlainListLemmas
 pub mod Released
 mod Taking
+mod TurnLemmas

@@ -3,3 +3,4 @@ pub mod Names
 pub mod PlainList
 pub mod Queue
 pub mod Slots
+pub mod Turns

@@ -2,14 +2,13 @@
 use Rattle.std.specs.Prelude.{◌≡◌, ℕ, ◌+◌, ◌%◌, ◌≤◌, Vec, Bool, nat_eq, ◌⊎◌, List, [], ◌∷◌, Option, Some, None, slice_get, slice_index_or, length, ◌<◌, true, Contains}
 use Rattle.std.specs.declared.cmp.Ordering.{Ordering}
 use Rattle.std.specs.declared.cmp.Reverse.{Reverse}
-use Rattle.std.specs.Ordering.{nat_cmp, ordering_then}
+use Rattle.std.specs.Ordering.{nat_cmp}
 use Rattle.std.specs.Map.{lookup, keys_of}
 use Rattle.std.specs.BTreeMap.{is_at}
 use Rattle.std.specs.List.{IsDistinct}
 use Rattle.std.specs.BinaryHeap.{heap_items, IsHeap}
 use Rattle.std.specs.declared.alloc.Global.{Global}
 use Rattle.pfair_order.specs.declared.Key.{Key}
-use Rattle.pfair_order.specs.Order.{pd2_cmp}
 use Rattle.indexmap.specs.IndexMap.{set_value_at}
 use Rattle.pfair_ready.specs.declared.calendar.Calendar.{Calendar}
 use Rattle.pfair_ready.specs.declared.date.Date.{Date}
@@ -60,13 +59,6 @@ date_cmp a b = nat_cmp a.release b.release
 abbrev pub later_cmp : Reverse Date → Reverse Date → Ordering
 later_cmp a b = date_cmp b.0 a.0
 
--- a key and a place, by the PD2 order first
-abbrev pub turn_cmp : Key × ℕ → Key × ℕ → Ordering
-turn_cmp a b = ordering_then (pd2_cmp a.0 b.0) (nat_cmp a.1 b.1)
-
-abbrev pub reverse_cmp : Reverse (Key × ℕ) → Reverse (Key × ℕ) → Ordering
-reverse_cmp a b = turn_cmp b.0 a.0
-
 -- the date is on top of the calendar, and has come
 pub record IsNextDate (slot : ℕ) (dates : List (Reverse Date)) (date : Date) : Type 0 where
   pub due : date.release ≤ slot
@@ -107,22 +99,21 @@ IsAmong far date = Contains far (record { 0 = date })
 abbrev pub IsNoted : Calendar → Date → Type 0
 IsNoted c date = IsNear c.turned c.near.items date ⊎ IsAmong (heap_items c.far) date
 
--- what moved to a heap, which loses nothing: a date of a slot that was in one place, and isn't in another, has come, and the slot's key is in the heap
-pub record Moves (slot : ℕ) (es : SlotList) (Was Is : Date → Type 0) (heap heap' : List (Reverse (Key × ℕ))) : Type 0 where
-  pub kept : (x : Reverse (Key × ℕ)) → Contains heap x → Contains heap' x
-  pub moved : (p : ℕ) (r : ℕ) (k : Key) → in_slot (slice_get es p) ≡ Some (r, k) → Was (dated r p) → Is (dated r p) ⊎ ((r ≤ slot) × Contains heap' (record { 0 = (k, p) }))
+-- what moved to the turns, which lose nothing: a date of a slot that was in one place, and isn't in another, has come, and the slot's key is among the turns
+pub record Moves (slot : ℕ) (es : SlotList) (Was Is : Date → Type 0) (turns turns' : List (Key × ℕ)) : Type 0 where
+  pub kept : (x : Key × ℕ) → Contains turns x → Contains turns' x
+  pub moved : (p : ℕ) (r : ℕ) (k : Key) → in_slot (slice_get es p) ≡ Some (r, k) → Was (dated r p) → Is (dated r p) ⊎ ((r ≤ slot) × Contains turns' (k, p))
 
--- what moved from a bucket to the far dates and to a heap, which lose nothing
-pub record Empties (slot : ℕ) (es : SlotList) (bucket bucket' : List ℕ) (far far' : List (Reverse Date)) (heap heap' : List (Reverse (Key × ℕ))) : Type 0 where
+-- what moved from a bucket to the far dates and to the turns, which lose nothing
+pub record Empties (slot : ℕ) (es : SlotList) (bucket bucket' : List ℕ) (far far' : List (Reverse Date)) (turns turns' : List (Key × ℕ)) : Type 0 where
   pub far_kept : (x : Reverse Date) → Contains far x → Contains far' x
-  pub kept : (x : Reverse (Key × ℕ)) → Contains heap x → Contains heap' x
-  pub emptied : (p : ℕ) (r : ℕ) (k : Key) → in_slot (slice_get es p) ≡ Some (r, k) → Contains bucket p → Contains bucket' p ⊎ (IsAmong far' (dated r p) ⊎ ((r ≤ slot) × Contains heap' (record { 0 = (k, p) })))
+  pub kept : (x : Key × ℕ) → Contains turns x → Contains turns' x
+  pub emptied : (p : ℕ) (r : ℕ) (k : Key) → in_slot (slice_get es p) ≡ Some (r, k) → Contains bucket p → Contains bucket' p ⊎ (IsAmong far' (dated r p) ⊎ ((r ≤ slot) × Contains turns' (k, p)))
 
--- each slot holds a key of its name, which is in the calendar at its release, or released and in the heap; and the orders of both
-pub record IsCovered (now : ℕ) (es : SlotList) (dates : Calendar) (heap : List (Reverse (Key × ℕ))) : Type 0 where
+-- each slot holds a key of its name, which is in the calendar at its release, or released and among the turns; and the order of the far dates
+pub record IsCovered (now : ℕ) (es : SlotList) (dates : Calendar) (turns : List (Key × ℕ)) : Type 0 where
   pub apart : IsDistinct name_eq (keys_of es)
   pub named : (p : ℕ) (name : NameValue) (r : ℕ) (k : Key) → slice_get es p ≡ Some (name, Some (r, k)) → k.name ≡ name
   pub turned : dates.turned ≤ now
-  pub covered : (p : ℕ) (r : ℕ) (k : Key) → in_slot (slice_get es p) ≡ Some (r, k) → IsNoted dates (dated r p) ⊎ ((r ≤ now) × Contains heap (record { 0 = (k, p) }))
+  pub covered : (p : ℕ) (r : ℕ) (k : Key) → in_slot (slice_get es p) ≡ Some (r, k) → IsNoted dates (dated r p) ⊎ ((r ≤ now) × Contains turns (k, p))
   pub date_order : IsHeap later_cmp (heap_items dates.far)
-  pub in_order : IsHeap reverse_cmp heap

@@ -5,17 +5,14 @@ ghost use Rattle.std.specs.declared.cmp.Reverse.{Reverse};
 ghost use Rattle.std.specs.BinaryHeap.{heap_items, IsHeap};
 ghost use Rattle.pfair_order.specs.declared.Key.{Key};
 ghost use Rattle.pfair_ready.specs.declared.date.Date.{Date};
-ghost use Rattle.pfair_ready.specs.Slots.{in_slot, reverse_cmp, later_cmp, Empties, IsAmong, IsNextDate, IsNoted, Moves};
+ghost use Rattle.pfair_ready.specs.Slots.{in_slot, later_cmp, Empties, IsAmong, IsNextDate, IsNoted, Moves};
 
 use crate::date::Date;
 use crate::slots::{Slots, slot_at};
-use pfair_order::Key;
+use crate::turns::Turns;
 use std::alloc::{AllocError, Global};
 use std::cmp::Reverse;
 use std::collections::BinaryHeap;
-
-/// Keys with the places of their names, the first in the PD2 order on top.
-pub(crate) type Turns = BinaryHeap<Reverse<(Key, usize)>>;
 
 // How many slots are near.
 const NEAR: u64 = 64;
@@ -80,11 +77,7 @@ impl Calendar {
         ensures far { self.new.far ≡ self.old.far }
     {
         if self.near.is_empty() {
-            let mut near = Vec::with_capacity(alloc, NEAR as usize)?;
-            for _ in 0..NEAR {
-                near.push(Vec::new(alloc))?;
-            }
-            self.near = near;
+            self.near = empty_buckets(alloc)?;
         }
         Ok(())
     }
@@ -124,12 +117,10 @@ impl Calendar {
     fn turn(&mut self, slots: &Slots, released: &mut Turns, slot: u64) -> Result<(), AllocError>
         requires turned { self.old.turned ≤ slot }
         requires date_order { IsHeap later_cmp (heap_items self.old.far) }
-        requires in_order { IsHeap reverse_cmp (heap_items released.old) }
-        ensures moves { Moves slot slots.now.entries (IsNoted self.old) (IsNoted self.new) (heap_items released.old) (heap_items released.new) }
+        ensures moves { Moves slot slots.now.entries (IsNoted self.old) (IsNoted self.new) released.old released.new }
         ensures turned { self.new.turned ≤ slot }
         ensures done { OnOk result (self.new.turned ≡ slot) }
         ensures date_order { IsHeap later_cmp (heap_items self.new.far) }
-        ensures in_order { IsHeap reverse_cmp (heap_items released.new) }
     {
         let from = self.turned;
         for ahead in 0..(slot - from).min(NEAR) {
@@ -143,7 +134,17 @@ impl Calendar {
     }
 }
 
-/// Moves what is released by the slot from the calendar to the heap.
+// A bucket for each near slot.
+#[inline(never)]
+fn empty_buckets(alloc: Global) -> Result<Vec<Vec<usize>>, AllocError> {
+    let mut near = Vec::with_capacity(alloc, NEAR as usize)?;
+    for _ in 0..NEAR {
+        near.push(Vec::new(alloc))?;
+    }
+    Ok(near)
+}
+
+/// Moves what is released by the slot from the calendar to the turns.
 ///
 /// Where a growth is refused, some of it has moved, and nothing is lost.
 pub(crate) fn move_released(
@@ -154,18 +155,16 @@ pub(crate) fn move_released(
 ) -> Result<(), AllocError>
     requires turned { calendar.old.turned ≤ slot }
     requires date_order { IsHeap later_cmp (heap_items calendar.old.far) }
-    requires in_order { IsHeap reverse_cmp (heap_items released.old) }
-    ensures moves { Moves slot slots.now.entries (IsNoted calendar.old) (IsNoted calendar.new) (heap_items released.old) (heap_items released.new) }
+    ensures moves { Moves slot slots.now.entries (IsNoted calendar.old) (IsNoted calendar.new) released.old released.new }
     ensures turned { calendar.new.turned ≤ slot }
     ensures date_order { IsHeap later_cmp (heap_items calendar.new.far) }
-    ensures in_order { IsHeap reverse_cmp (heap_items released.new) }
     ensures done { OnOk result ((d : Date) → IsNoted calendar.new d → slot < d.release) }
 {
     calendar.turn(slots, released, slot)?;
     move_far(slots, &mut calendar.far, released, slot)
 }
 
-// Moves what is released by the slot from the far dates to the heap.
+// Moves what is released by the slot from the far dates to the turns.
 fn move_far(
     slots: &Slots,
     far: &mut BinaryHeap<Reverse<Date>>,
@@ -173,14 +172,12 @@ fn move_far(
     slot: u64,
 ) -> Result<(), AllocError>
     requires date_order { IsHeap later_cmp (heap_items far.old) }
-    requires in_order { IsHeap reverse_cmp (heap_items released.old) }
-    ensures moves { Moves slot slots.now.entries (IsAmong (heap_items far.old)) (IsAmong (heap_items far.new)) (heap_items released.old) (heap_items released.new) }
+    ensures moves { Moves slot slots.now.entries (IsAmong (heap_items far.old)) (IsAmong (heap_items far.new)) released.old released.new }
     ensures date_order { IsHeap later_cmp (heap_items far.new) }
-    ensures in_order { IsHeap reverse_cmp (heap_items released.new) }
     ensures done { OnOk result (All (λ e. slot < e.0.release) (heap_items far.new)) }
 {
     while let Some(date) = next_date(far, slot) {
-        release_one(slots, released, date)?;
+        release_one(slots, released, date, slot)?;
         let _ = far.pop();
     }
     Ok(())
@@ -200,23 +197,21 @@ fn next_date(far: &BinaryHeap<Reverse<Date>>, slot: u64) -> Option<Date>
     Some(date)
 }
 
-// Puts the key of a slot whose date has come into the heap.
-fn release_one(slots: &Slots, released: &mut Turns, date: Date) -> Result<(), AllocError>
-    requires in_order { IsHeap reverse_cmp (heap_items released.old) }
-    ensures kept { (x : Reverse (Key × ℕ)) → Contains (heap_items released.old) x → Contains (heap_items released.new) x }
+// Adds the turn of a slot whose date has come.
+fn release_one(slots: &Slots, released: &mut Turns, date: Date, slot: u64) -> Result<(), AllocError>
+    ensures kept { (x : Key × ℕ) → Contains released.old x → Contains released.new x }
     ensures there { OnOk result ((k : Key) → in_slot (slice_get slots.now.entries date.place) ≡ Some (date.release, k)
-        → Contains (heap_items released.new) (record { 0 = (k, date.place) })) }
-    ensures in_order { IsHeap reverse_cmp (heap_items released.new) }
+        → Contains released.new (k, date.place)) }
 {
     if let Some((release, key)) = slot_at(slots, date.place) {
         if release == date.release {
-            released.push(Reverse((key, date.place)))?;
+            released.push(slot, key, date.place)?;
         }
     }
     Ok(())
 }
 
-// Moves the keys of a bucket's places to the heap, and to the far dates what is released later.
+// Moves the keys of a bucket's places to the turns, and to the far dates what is released later.
 fn empty_bucket(
     slots: &Slots,
     bucket: &mut Vec<usize>,
@@ -225,11 +220,9 @@ fn empty_bucket(
     slot: u64,
 ) -> Result<(), AllocError>
     requires date_order { IsHeap later_cmp (heap_items far.old) }
-    requires in_order { IsHeap reverse_cmp (heap_items released.old) }
-    ensures empties { Empties slot slots.now.entries bucket.old.items bucket.new.items (heap_items far.old) (heap_items far.new) (heap_items released.old) (heap_items released.new) }
+    ensures empties { Empties slot slots.now.entries bucket.old.items bucket.new.items (heap_items far.old) (heap_items far.new) released.old released.new }
     ensures done { OnOk result (bucket.new.items ≡ []) }
     ensures date_order { IsHeap later_cmp (heap_items far.new) }
-    ensures in_order { IsHeap reverse_cmp (heap_items released.new) }
 {
     while let Some(last) = bucket.last() {
         place_anew(slots, far, released, *last, slot)?;
@@ -238,8 +231,7 @@ fn empty_bucket(
     Ok(())
 }
 
-// Puts the key of a place into the heap where it is released by the slot, and else its date among
-// the far ones.
+// Adds the turn of a place where its key is released by the slot, and else its date to the far ones.
 fn place_anew(
     slots: &Slots,
     far: &mut BinaryHeap<Reverse<Date>>,
@@ -248,17 +240,15 @@ fn place_anew(
     slot: u64,
 ) -> Result<(), AllocError>
     requires date_order { IsHeap later_cmp (heap_items far.old) }
-    requires in_order { IsHeap reverse_cmp (heap_items released.old) }
     ensures far { (x : Reverse Date) → Contains (heap_items far.old) x → Contains (heap_items far.new) x }
-    ensures kept { (x : Reverse (Key × ℕ)) → Contains (heap_items released.old) x → Contains (heap_items released.new) x }
+    ensures kept { (x : Key × ℕ) → Contains released.old x → Contains released.new x }
     ensures there { OnOk result ((r : ℕ) (k : Key) → in_slot (slice_get slots.now.entries place) ≡ Some (r, k)
-        → IsAmong (heap_items far.new) (record { release = r; place = place }) ⊎ ((r ≤ slot) × Contains (heap_items released.new) (record { 0 = (k, place) }))) }
+        → IsAmong (heap_items far.new) (record { release = r; place = place }) ⊎ ((r ≤ slot) × Contains released.new (k, place))) }
     ensures date_order { IsHeap later_cmp (heap_items far.new) }
-    ensures in_order { IsHeap reverse_cmp (heap_items released.new) }
 {
     if let Some((release, key)) = slot_at(slots, place) {
         if release <= slot {
-            released.push(Reverse((key, place)))?;
+            released.push(slot, key, place)?;
         } else {
             far.push(Reverse(Date { release, place }))?;
         }

@@ -1,7 +1,7 @@
-//! A ready structure that keeps released keys in a heap, and the dates of the others in a calendar.
+//! A ready structure that keeps released keys in heaps, and the dates of the others in a calendar.
 //!
 //! Nothing in it looks through all that is held: what waits for a later release costs a selection
-//! nothing. A name is looked for at most once for each key that is inserted; from then on the key
+//! nothing, and what is released and has its deadline late next to nothing. A name is looked for at most once for each key that is inserted; from then on the key
 //! goes by the place of its name.
 
 ghost use Rattle.std.specs.Prelude.{◌≡◌, ◌≤◌, [], IfOk, IfSome, IfNone, false, slice_get, vec_capacity};
@@ -9,23 +9,24 @@ ghost use Rattle.pfair_ready.specs.Heap.{is_due};
 ghost use Rattle.pfair_ready.specs.Slots.{in_slot, IsTurn};
 
 use crate::Ready;
-use crate::calendar::{Calendar, Turns, move_released};
+use crate::calendar::{Calendar, move_released};
 use crate::date::Date;
 use crate::guesses::Guesses;
 use crate::slots::{Slots, own_place, place_of, put_at, slot_at};
+use crate::turns::Turns;
 use indexmap::IndexMap;
 use pfair_order::Key;
 use pfair_weight::TaskName;
 use std::alloc::{AllocError, Global};
-use std::cmp::Reverse;
-use std::collections::BinaryHeap;
 use std::marker::Model;
 
-/// A ready structure that keeps released keys in a heap, the least on top, and the dates of the
-/// others in a calendar: those of the next 64 slots slot by slot, and later ones in a heap.
+/// A ready structure that keeps released keys in two heaps, the least of each on top, and the dates
+/// of the others in a calendar: those of the next 64 slots slot by slot, and later ones in a heap.
+/// In the second heap are the keys whose deadlines were more than 64 slots ahead when they were
+/// released, so that those that run soon don't move past them.
 ///
 /// What the calls cost, where n is the number of keys that are held and of those that were removed
-/// and whose date has not come or whose copy has not come to the top of the heap:
+/// and whose date has not come or whose copy has not come to the top of its heap:
 ///
 /// - `new` and `now`: the same always. `held` and `remove`: one look-up of the name, whatever is
 ///   held.
@@ -34,18 +35,19 @@ use std::marker::Model;
 ///   one look-up of the name, and a second one where the name is new; then the same always where
 ///   the release is one of the 64 slots after the last selection, and else a number of steps that
 ///   grows with the logarithm of n. Now and then what is held is moved to where it has room.
-/// - `take_first`: a number of steps that grows with the logarithm of n for each key that it gives,
-///   for each whose date has come since the last selection, and three times at most for each that was
-///   removed; and a step for each slot since the last selection, of which there are 64 at most. So a
-///   slot costs no more for tasks whose next subtask is not released.
+/// - `take_first`: a number of steps that grows with the logarithm of the number of keys in a heap for
+///   each key that it gives, for each whose date has come since the last selection, and three times at
+///   most for each that was removed; and a step for each slot since the last selection, of which there
+///   are 64 at most. So a slot costs no more for tasks whose next subtask is not released, and one
+///   comparison more for each key that it gives where keys of late deadlines wait.
 ///
 /// - `take_first_into`: the same, and no memory where the list has room for the keys that it gives
 ///   and `reserve` was called after the last `insert` of a key whose name had none before.
 /// - `reserve`: mostly a step for each of 64 slots; else what is held is moved to where it has room.
-///   The room is 8 to 16 bytes for each key in each of these slots.
+///   The room is 8 to 16 bytes for each key in each of these slots, and that of a key in each heap.
 ///
-/// Each key that is held has one date in the calendar or one copy in the heap, and a key goes from
-/// the first to the second and, where its task waits again, back. So once the heap, the later dates
+/// Each key that is held has one date in the calendar or one copy in a heap, and a key goes from
+/// the first to the second and, where its task waits again, back. So once each heap, the later dates
 /// and those of each near slot have room for all, none of these grows before there are more keys.
 ///
 /// A name that was once inserted keeps its place, so the memory grows with the number of different
@@ -68,12 +70,11 @@ impl Model for HeapReady {
     ghost coded = { content_code };
 
     ghost use Rattle.std.specs.FinMap.{from_entries};
-    ghost use Rattle.std.specs.BinaryHeap.{heap_items};
     ghost use Rattle.pfair_ready.specs.Slots.{live, IsCovered};
 
     ghost view = { λ a. record { now = a.now; held = from_entries (live a.slots.entries) } };
 
-    ghost invariant = { λ a. IsCovered a.now a.slots.entries a.calendar (heap_items a.released) };
+    ghost invariant = { λ a. IsCovered a.now a.slots.entries a.calendar a.released };
 }
 
 impl Ready for HeapReady {
@@ -87,7 +88,7 @@ impl Ready for HeapReady {
             now: 0,
             slots: IndexMap::new(alloc),
             calendar: Calendar::new(alloc),
-            released: BinaryHeap::new(alloc),
+            released: Turns::new(alloc),
             guesses: Guesses::new(),
         }
     }
@@ -105,7 +106,7 @@ impl Ready for HeapReady {
 
     fn insert(&mut self, release: u64, key: Key) -> Result<bool, AllocError> {
         let guess = self.guesses.next();
-        let place = own_place(&mut self.slots, guess, key.name)?;
+        let place = own_place(&mut self.slots, guess, &key.name)?;
         if slot_at(&self.slots, place).is_some() {
             return Ok(false);
         }
@@ -138,7 +139,7 @@ impl Ready for HeapReady {
         move_released(&self.slots, &mut self.calendar, &mut self.released, slot)?;
         let mut first = emptied(room, m.min(self.released.len()))?;
         'turns: while first.len() < m {
-            let Some(Reverse(turn)) = self.released.pop() else {
+            let Some(turn) = self.released.pop() else {
                 break;
             };
             let place = turn.1;

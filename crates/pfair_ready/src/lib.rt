@@ -21,6 +21,7 @@ mod guesses;
 mod heap;
 mod plain;
 mod slots;
+mod turns;
 
 pub use heap::HeapReady;
 use pfair_order::Key;

@@ -41,21 +41,32 @@ fn is_place_of(slots: &Slots, place: usize, name: &TaskName) -> bool
 pub(crate) fn own_place(
     slots: &mut Slots,
     guess: usize,
-    name: TaskName,
+    name: &TaskName,
 ) -> Result<usize, AllocError>
     requires { IsDistinct name_eq (keys_of slots.old.entries) }
-    ensures place { IfOk result (λ p. IsPlaced slots.new.entries p name) }
+    ensures place { IfOk result (λ p. IsPlaced slots.new.entries p name.now) }
     ensures keeps { Keeps slots.old.entries slots.new.entries }
-    ensures err { OnErr result (entry_of (live slots.old.entries) name ≡ None) }
+    ensures err { OnErr result (entry_of (live slots.old.entries) name.now ≡ None) }
 {
-    if is_place_of(slots, guess, &name) {
+    if is_place_of(slots, guess, name) {
         return Ok(guess);
     }
-    if let Some(place) = slots.get_index_of(&name) {
+    place_or_new(slots, name)
+}
+
+// The place of a name, which is looked up, or gets an empty slot where it has none.
+#[inline(never)]
+fn place_or_new(slots: &mut Slots, name: &TaskName) -> Result<usize, AllocError>
+    requires { IsDistinct name_eq (keys_of slots.old.entries) }
+    ensures place { IfOk result (λ p. IsPlaced slots.new.entries p name.now) }
+    ensures keeps { Keeps slots.old.entries slots.new.entries }
+    ensures err { OnErr result (entry_of (live slots.old.entries) name.now ≡ None) }
+{
+    if let Some(place) = slots.get_index_of(name) {
         return Ok(place);
     }
     let place = slots.len();
-    slots.insert(name, None)?;
+    slots.insert(*name, None)?;
     Ok(place)
 }
 

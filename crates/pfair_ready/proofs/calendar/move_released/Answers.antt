@@ -1,10 +1,9 @@
 use Rattle.std.proofs.Common.{refl}
-use Rattle.std.specs.BinaryHeap.{heap_items}
 use Rattle.pfair_ready.specs.Slots.{IsNoted}
 use Rattle.pfair_ready.proofs.CalendarLemmas.{moves_far}
 use Rattle.pfair_ready.proofs.calendar.move_released.Goals as goal
 
 pub returns-clause-moves : goal.returns-clause-moves
 returns-clause-moves c =
-    moves_far c.args.slot c.args.slots.now.entries (IsNoted c.args.calendar.now) c.turn.new.self (record { turned = c.turn.new.self.turned; near = c.turn.new.self.near; far = c.move_far.new.far }) (heap_items c.args.released.now) (heap_items c.turn.new.released) (heap_items c.move_far.new.released)
+    moves_far c.args.slot c.args.slots.now.entries (IsNoted c.args.calendar.now) c.turn.new.self (record { turned = c.turn.new.self.turned; near = c.turn.new.self.near; far = c.move_far.new.far }) (c.args.released.now) c.turn.new.released c.move_far.new.released
     c.turn.ensures.moves c.move_far.ensures.moves refl refl

@@ -1,7 +1,6 @@
 use Rattle.std.proofs.Common.{ℕ, List, Some, true, false, not, sym, ap, ◌∙◌}
 use Rattle.std.specs.Prelude.{is_some}
 use Rattle.std.specs.FinMap as finmap
-use Rattle.std.specs.BinaryHeap.{heap_items}
 use Rattle.std.proofs.lemmas.Bool.{true≢false}
 use Rattle.std.proofs.lemmas.Option.{slice_get_within}
 use Rattle.pfair_order.specs.declared.Key.{Key}
@@ -11,13 +10,13 @@ use Rattle.pfair_ready.proofs.HeapLemmas.{contained, one_given, covered_dates, c
 use Rattle.pfair_ready.proofs.heap.HeapReadyReady.insert.Goals as goal
 
 pub invariant_of-self : goal.invariant_of-self
-invariant_of-self c = (covered_kept c.self.inside.now c.self.inside.slots.entries c.own_place.new.slots.entries c.self.inside.calendar (heap_items c.self.inside.released) c.own_place.ensures.keeps c.self.invariant)
+invariant_of-self c = (covered_kept c.self.inside.now c.self.inside.slots.entries c.own_place.new.slots.entries c.self.inside.calendar c.self.inside.released c.own_place.ensures.keeps c.self.invariant)
 
 pub returns-in_err-place-clause-there : goal.returns-in_err-place-clause-there
 returns-in_err-place-clause-there c there = absurd (true≢false (sym there ∙ contained _ (live c.self.inside.slots.entries) c.args.key.name false (ap (λ v. v.held) c.self.view_is) (sym (ap is_some c.in_err-place.ensures.err))))
 
 pub invariant_of-self-then-is_some : goal.invariant_of-self-then-is_some
-invariant_of-self-then-is_some c = (covered_kept c.self.inside.now c.self.inside.slots.entries c.own_place.new.slots.entries c.self.inside.calendar (heap_items c.self.inside.released) c.own_place.ensures.keeps c.self.invariant)
+invariant_of-self-then-is_some c = (covered_kept c.self.inside.now c.self.inside.slots.entries c.own_place.new.slots.entries c.self.inside.calendar c.self.inside.released c.own_place.ensures.keeps c.self.invariant)
 
 pub returns-then-is_some-clause-answer : goal.returns-then-is_some-clause-answer
 returns-then-is_some-clause-answer c = ap not (sym (contained _ (live c.self.inside.slots.entries) c.args.key.name true (ap (λ v. v.held) c.self.view_is) (sym (sym (ap is_some (c.slot_at.ensures ∙ ap in_slot c.in_ok-place.ensures.place.at ∙ ap (λ (l : List (NameValue × (ℕ × Key))). entry_of l c.args.key.name) c.own_place.ensures.keeps.held)) ∙ sym c.is_some.ensures ∙ c.if-is_some.true))))
@@ -27,8 +26,8 @@ note-requires c = c.self.invariant.date_order
 
 pub invariant_of-self-in_err-note : goal.invariant_of-self-in_err-note
 invariant_of-self-in_err-note c =
-    covered_dates c.self.inside.now c.own_place.new.slots.entries c.self.inside.calendar c.note.new.self (heap_items c.self.inside.released) c.note.ensures.kept c.note.ensures.turned c.note.ensures.date_order
-    (covered_kept c.self.inside.now c.self.inside.slots.entries c.own_place.new.slots.entries c.self.inside.calendar (heap_items c.self.inside.released) c.own_place.ensures.keeps c.self.invariant)
+    covered_dates c.self.inside.now c.own_place.new.slots.entries c.self.inside.calendar c.note.new.self c.self.inside.released c.note.ensures.kept c.note.ensures.turned c.note.ensures.date_order
+    (covered_kept c.self.inside.now c.self.inside.slots.entries c.own_place.new.slots.entries c.self.inside.calendar c.self.inside.released c.own_place.ensures.keeps c.self.invariant)
 
 pub returns-in_err-note-clause-there : goal.returns-in_err-note-clause-there
 returns-in_err-note-clause-there c there = absurd (true≢false (sym there ∙ contained _ (live c.self.inside.slots.entries) c.args.key.name false (ap (λ v. v.held) c.self.view_is) (sym (sym (ap is_some (c.slot_at.ensures ∙ ap in_slot c.in_ok-place.ensures.place.at ∙ ap (λ (l : List (NameValue × (ℕ × Key))). entry_of l c.args.key.name) c.own_place.ensures.keeps.held)) ∙ sym c.is_some.ensures ∙ c.if-is_some.false))))
@@ -38,9 +37,9 @@ put_at-requires c = slice_get_within c.own_place.new.slots.entries c.in_ok-place
 
 pub invariant_of-self-2 : goal.invariant_of-self-2
 invariant_of-self-2 c =
-    covered_filled c.self.inside.now c.in_ok-place.place c.args.release c.args.key c.own_place.new.slots.entries c.put_at.new.slots.entries c.note.new.self (heap_items c.self.inside.released) c.in_ok-place.ensures.place c.put_at.ensures c.in_ok-note.ensures.there
-    (covered_dates c.self.inside.now c.own_place.new.slots.entries c.self.inside.calendar c.note.new.self (heap_items c.self.inside.released) c.note.ensures.kept c.note.ensures.turned c.note.ensures.date_order
-    (covered_kept c.self.inside.now c.self.inside.slots.entries c.own_place.new.slots.entries c.self.inside.calendar (heap_items c.self.inside.released) c.own_place.ensures.keeps c.self.invariant))
+    covered_filled c.self.inside.now c.in_ok-place.place c.args.release c.args.key c.own_place.new.slots.entries c.put_at.new.slots.entries c.note.new.self c.self.inside.released c.in_ok-place.ensures.place c.put_at.ensures c.in_ok-note.ensures.there
+    (covered_dates c.self.inside.now c.own_place.new.slots.entries c.self.inside.calendar c.note.new.self c.self.inside.released c.note.ensures.kept c.note.ensures.turned c.note.ensures.date_order
+    (covered_kept c.self.inside.now c.self.inside.slots.entries c.own_place.new.slots.entries c.self.inside.calendar c.self.inside.released c.own_place.ensures.keeps c.self.invariant))
 
 pub returns-clause-answer : goal.returns-clause-answer
 returns-clause-answer c = ap not (sym (contained _ (live c.self.inside.slots.entries) c.args.key.name false (ap (λ v. v.held) c.self.view_is) (sym (sym (ap is_some (c.slot_at.ensures ∙ ap in_slot c.in_ok-place.ensures.place.at ∙ ap (λ (l : List (NameValue × (ℕ × Key))). entry_of l c.args.key.name) c.own_place.ensures.keeps.held)) ∙ sym c.is_some.ensures ∙ c.if-is_some.false))))

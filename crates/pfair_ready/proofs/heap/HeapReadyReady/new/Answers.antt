@@ -1,6 +1,5 @@
-use Rattle.std.specs.BinaryHeap.{heap_items}
 use Rattle.pfair_ready.proofs.HeapLemmas.{covered_none}
 use Rattle.pfair_ready.proofs.heap.HeapReadyReady.new.Goals as goal
 
 pub invariant_of-result : goal.invariant_of-result
-invariant_of-result c = covered_none c.new.result.entries c.new-2.result (heap_items c.new-3.result) c.new.ensures.empty c.new.ensures.unique c.new-2.ensures.turned c.new-2.ensures.date_order c.new-3.ensures.heap_order
+invariant_of-result c = covered_none c.new.result.entries c.new-2.result c.new-3.result c.new.ensures.empty c.new.ensures.unique c.new-2.ensures.turned c.new-2.ensures.date_order

@@ -1,7 +1,6 @@
 use Rattle.std.proofs.Common.{None, false, refl, sym, ap, ◌∙◌}
 use Rattle.std.specs.Prelude.{is_some}
 use Rattle.std.specs.FinMap as finmap
-use Rattle.std.specs.BinaryHeap.{heap_items}
 use Rattle.std.proofs.lemmas.Option.{slice_get_within}
 use Rattle.pfair_ready.specs.Slots.{live, in_slot}
 use Rattle.pfair_ready.proofs.HeapLemmas.{contained, one_taken, covered_emptied, filled, none_gone}
@@ -20,7 +19,7 @@ pub put_at-requires : goal.put_at-requires
 put_at-requires c = slice_get_within c.self.inside.slots.entries c.in-Some.place _ c.in-Some.ensures.some.at
 
 pub invariant_of-self : goal.invariant_of-self
-invariant_of-self c = covered_emptied c.self.inside.now c.in-Some.place c.self.inside.slots.entries c.put_at.new.slots.entries c.self.inside.calendar (heap_items c.self.inside.released) c.put_at.ensures c.self.invariant
+invariant_of-self c = covered_emptied c.self.inside.now c.in-Some.place c.self.inside.slots.entries c.put_at.new.slots.entries c.self.inside.calendar c.self.inside.released c.put_at.ensures c.self.invariant
 
 pub returns-clause-answer : goal.returns-clause-answer
 returns-clause-answer c =

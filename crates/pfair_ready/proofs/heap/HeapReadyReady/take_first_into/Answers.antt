@@ -1,63 +1,54 @@
-use Rattle.std.proofs.Common.{◌≡◌, ◌≤◌, ◌<◌, ◌+◌, ◌++◌, ◌∷◌, [], length, min, sym, ap, subst, ◌∙◌, refl, arith}
-use Rattle.std.specs.BinaryHeap.{heap_items}
+use Rattle.std.proofs.Common.{◌≡◌, ◌≤◌, ◌<◌, ◌++◌, ◌∷◌, [], length, sym, subst, refl, arith}
 use Rattle.std.specs.Prelude.{vec_capacity}
 use Rattle.pfair_order.specs.declared.Key.{Key}
 use Rattle.pfair_order.specs.Order.{pd2_cmp}
 use Rattle.pfair_order.specs.Rank.{first_by_rank}
 use Rattle.pfair_ready.specs.Slots.{SlotList}
 use Rattle.pfair_ready.specs.Queue.{Content, released}
-use Rattle.pfair_ready.proofs.Taking.{IsTaking, taking_none, taking_dead, taking_live, first_taken, covered_moved}
+use Rattle.pfair_ready.proofs.Taking.{IsTaking, room_for, taking_none, taking_dead, taking_live, first_taken, covered_moved}
 use Rattle.pfair_ready.proofs.heap.HeapReadyReady.take_first_into.Goals as goal
 use Rattle.pfair_ready.proofs.heap.HeapReadyReady.take_first_into.Goals.{else-turns-test, then-turns-test+in_default}
 
 pub invariant_of-self-in_err-first : goal.invariant_of-self-in_err-first
 invariant_of-self-in_err-first c =
-    covered_moved c.self.inside.now c.args.slot c.self.inside.slots.entries c.self.inside.calendar c.move_released.new.calendar (heap_items c.self.inside.released) (heap_items c.move_released.new.released)
-    c.self.invariant (subst (λ (v : Content). v.now ≤ c.args.slot) (sym c.self.view_is) c.requires) c.move_released.ensures.moves c.move_released.ensures.turned c.move_released.ensures.date_order c.move_released.ensures.in_order
+    covered_moved c.self.inside.now c.args.slot c.self.inside.slots.entries c.self.inside.calendar c.move_released.new.calendar c.self.inside.released c.move_released.new.released
+    c.self.invariant (subst (λ (v : Content). v.now ≤ c.args.slot) (sym c.self.view_is) c.requires) c.move_released.ensures.moves c.move_released.ensures.turned c.move_released.ensures.date_order
 
 pub turns-init : goal.turns-init
 turns-init c =
-    let covered = covered_moved c.self.inside.now c.args.slot c.self.inside.slots.entries c.self.inside.calendar c.move_released.new.calendar (heap_items c.self.inside.released) (heap_items c.move_released.new.released) c.self.invariant (subst (λ (v : Content). v.now ≤ c.args.slot) (sym c.self.view_is) c.requires) c.move_released.ensures.moves c.move_released.ensures.turned c.move_released.ensures.date_order c.move_released.ensures.in_order in (
-      rw c.in_ok-first.ensures.items (taking_none c.args.slot c.args.m c.self.inside.slots.entries c.move_released.new.calendar (heap_items c.move_released.new.released) covered c.in_ok-move_released.ensures.done),
+    let covered = covered_moved c.self.inside.now c.args.slot c.self.inside.slots.entries c.self.inside.calendar c.move_released.new.calendar c.self.inside.released c.move_released.new.released c.self.invariant (subst (λ (v : Content). v.now ≤ c.args.slot) (sym c.self.view_is) c.requires) c.move_released.ensures.moves c.move_released.ensures.turned c.move_released.ensures.date_order in (
+      rw c.in_ok-first.ensures.items (taking_none c.args.slot c.args.m c.self.inside.slots.entries c.move_released.new.calendar c.move_released.new.released covered c.in_ok-move_released.ensures.done),
       refl,
-      subst (λ n. n ≤ vec_capacity c.in_ok-first.first) (c.min.ensures ∙ ap (min c.args.m) (c.len.ensures ∙ c.move_released.new.released.data.ok.0)) c.in_ok-first.ensures.capacity,
+      room_for c.args.m (length c.move_released.new.released) _ _ (vec_capacity c.in_ok-first.first) (omega arith) c.len.ensures c.min.ensures c.in_ok-first.ensures.capacity,
     )
 
 pub turns-preserved-in-Continue-branch-3 : goal.turns-preserved-in-Continue-branch-3
 turns-preserved-in-Continue-branch-3 c =
-    let order = c.in-Some.ensures.heap_order c.turns.invariant.0.covered.in_order in
-    let a = c.pop.new.self.data.ok.0 in
-    let b = c.turns.self-inside.released.data.ok.0 in
-    let shorter : length (heap_items c.pop.new.self) + 1 ≡ length (heap_items c.turns.self-inside.released) = omega (arith, c.in-Some.ensures.len) in
     let room : length c.turns.first.items < c.args.m = omega arith in
     let turn = c.in-Some-take_turn.ensures.some in (
       rw c.in_ok-push.ensures.items
-          (subst (λ (k : Key). IsTaking c.args.slot c.args.m (length (heap_items c.move_released.new.released)) c.self.inside.slots.entries c.take_turn.new.slots.entries c.turns.self-inside.calendar (heap_items c.pop.new.self) (c.turns.first.items ++ k ∷ []))
+          (subst (λ (k : Key). IsTaking c.args.slot c.args.m (length c.move_released.new.released) c.self.inside.slots.entries c.take_turn.new.slots.entries c.turns.self-inside.calendar c.pop.new.self (c.turns.first.items ++ k ∷ []))
           (sym turn.is)
-          (taking_live c.args.slot c.args.m (length (heap_items c.move_released.new.released)) c.self.inside.slots.entries c.turns.self-inside.slots.entries c.turns.self-inside.calendar (heap_items c.turns.self-inside.released) c.turns.first.items c.turns.invariant.0 c.in-Some.field-0 (heap_items c.pop.new.self) c.in-Some.ensures.permutation shorter order.0 c.take_turn.new.slots.entries turn.emptied room order.1 turn.due)),
+          (taking_live c.args.slot c.args.m (length c.move_released.new.released) c.self.inside.slots.entries c.turns.self-inside.slots.entries c.turns.self-inside.calendar c.turns.self-inside.released c.turns.first.items c.turns.invariant.0 c.in-Some.turn c.pop.new.self c.in-Some.ensures.some c.in-Some.ensures.shorter c.take_turn.new.slots.entries turn.emptied room c.in-Some.ensures.first turn.due)),
       c.turns.invariant.1,
       omega (arith, c.turns.invariant.2, c.in_ok-push.ensures.capacity),
     )
 
 pub turns-preserved : goal.turns-preserved
-turns-preserved c =
-    let order = c.in-Some.ensures.heap_order c.turns.invariant.0.covered.in_order in
-    let a = c.pop.new.self.data.ok.0 in
-    let b = c.turns.self-inside.released.data.ok.0 in
-    let shorter : length (heap_items c.pop.new.self) + 1 ≡ length (heap_items c.turns.self-inside.released) = omega (arith, c.in-Some.ensures.len) in (
-      subst (λ (x : SlotList). IsTaking c.args.slot c.args.m (length (heap_items c.move_released.new.released)) c.self.inside.slots.entries x c.turns.self-inside.calendar (heap_items c.pop.new.self) c.turns.first.items)
-          (sym c.in_default-take_turn.ensures.same)
-          (taking_dead c.args.slot c.args.m (length (heap_items c.move_released.new.released)) c.self.inside.slots.entries c.turns.self-inside.slots.entries c.turns.self-inside.calendar (heap_items c.turns.self-inside.released) c.turns.first.items c.turns.invariant.0 c.in-Some.field-0 (heap_items c.pop.new.self) c.in-Some.ensures.permutation shorter order.0 c.in_default-take_turn.ensures.none),
-      c.turns.invariant.1,
-      c.turns.invariant.2,
-    )
+turns-preserved c = (
+  subst (λ (x : SlotList). IsTaking c.args.slot c.args.m (length c.move_released.new.released) c.self.inside.slots.entries x c.turns.self-inside.calendar c.pop.new.self c.turns.first.items)
+      (sym c.in_default-take_turn.ensures.same)
+      (taking_dead c.args.slot c.args.m (length c.move_released.new.released) c.self.inside.slots.entries c.turns.self-inside.slots.entries c.turns.self-inside.calendar c.turns.self-inside.released c.turns.first.items c.turns.invariant.0 c.in-Some.turn c.pop.new.self c.in-Some.ensures.some c.in-Some.ensures.shorter c.in_default-take_turn.ensures.none),
+  c.turns.invariant.1,
+  c.turns.invariant.2,
+)
 
 pub returns-clause-first : goal.returns-clause-first
 returns-clause-first c =
-    let empty : length c.turns.first.items < c.args.m → length (heap_items c.turns.self-inside.released) ≡ 0 =
+    let empty : length c.turns.first.items < c.args.m → length c.turns.self-inside.released ≡ 0 =
     elim c.turns-test.branch [
       | else-turns-test w ↦ λ less. let g = w.turns-test.false in let h = c.len-in-turns.ensures in let i = c.turns.first.ok in absurd (omega arith)
-      | then-turns-test+in_default w ↦ λ less. sym c.turns.self-inside.released.data.ok.0 ∙ w.in_default.ensures.none
+      | then-turns-test+in_default w ↦ λ less. w.in_default.ensures.none
     ] in
     subst (λ (v : Content). c.turns.first.items ≡ first_by_rank pd2_cmp c.args.m (released c.args.slot v.held)) c.self.view_is
-    (first_taken c.args.slot c.args.m (length (heap_items c.move_released.new.released)) c.self.inside.slots.entries c.turns.self-inside.slots.entries c.turns.self-inside.calendar (heap_items c.turns.self-inside.released) c.turns.first.items c.turns.invariant.0 empty)
+    (first_taken c.args.slot c.args.m (length c.move_released.new.released) c.self.inside.slots.entries c.turns.self-inside.slots.entries c.turns.self-inside.calendar c.turns.self-inside.released c.turns.first.items c.turns.invariant.0 empty)
