@@ -6,10 +6,11 @@
 #include "checks.h"
 #include <limits.h>
 
-enum { PROCESSORS = 8, TASKS = 100, FRAME = 5040 };
+enum { PROCESSORS = 8, SHORT = 100, TASKS = 120, FRAME = 5040 };
 
-/* A set whose load is 7.56, all of which arrives at slot 0. One of its subtasks comes late, which is announced at the
-   slot `late_at`. All logs are whole. */
+/* A set whose load is 7.87, all of which arrives at slot 0. The last 20 tasks have windows of 64 slots at first and of
+   65 then, so that they wait among the keys of late deadlines from slot 63 on. One subtask comes late, which is announced
+   at the slot `late_at`. All logs are whole. */
 static void filled(struct pfair_dispatcher *d, uint64_t slots, uint64_t late_at) {
     static const uint64_t costs[] = {1, 1, 1, 1, 1, 2, 2, 2, 2, 2}, periods[] = {12, 14, 15, 16, 18, 20, 21, 24, 28, 30};
     uint32_t numbers[PROCESSORS] = {0};
@@ -19,7 +20,8 @@ static void filled(struct pfair_dispatcher *d, uint64_t slots, uint64_t late_at)
     for (int k = 0; k < TASKS; k++) {
         int p = k % PROCESSORS;
         snprintf(name, sizeof name, "t%d", k);
-        ANSWERS(0, take(d, p, ++numbers[p], arrive(name, costs[k % 10], periods[k % 10], 0), &taken));
+        uint64_t cost = k < SHORT ? costs[k % 10] : 79, period = k < SHORT ? periods[k % 10] : FRAME;
+        ANSWERS(0, take(d, p, ++numbers[p], arrive(name, cost, period, 0), &taken));
     }
     struct pfair_entry comes_late = late("t3", late_at / 16 + 2, 5, late_at);
     comes_late.floor = late_at;
