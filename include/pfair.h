@@ -394,8 +394,8 @@ uint32_t pfair_plan_to(struct pfair_dispatcher *d, uint64_t until, struct pfair_
  *   102  the handle has no dispatcher
  *   90   memory was refused: what is held and what was planned stand, plans go on, and what was taken is used by them
  *   0    the memory is there
- * Cost: for each slot for which there is no memory yet 25 bytes for each processor, and some 120 for the slot; and 512
- * to 1,024 bytes for each task for which there is none.
+ * Cost: for each slot for which there is no memory yet 25 bytes for each processor, and some 120 for the slot; and 600
+ * to 1,200 bytes for each task for which there is none.
  */
 uint32_t pfair_reserve(struct pfair_dispatcher *d, uint64_t slots);
 

@@ -301,7 +301,7 @@ impl<R: Ready> Dispatcher<R> {
     /// in each slot.
     ///
     /// It costs the slots for which there is no room yet: 25 bytes for each of them and of the
-    /// processors, and some 120 for each slot; and 512 to 1,024 bytes for each task for which there is
+    /// processors, and some 120 for each slot; and 600 to 1,200 bytes for each task for which there is
     /// none.
     ///
     /// # Errors
