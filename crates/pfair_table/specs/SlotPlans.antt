@@ -3,6 +3,7 @@ use Rattle.std.specs.Prelude.{ℕ, ◌+◌, ◌≡◌, IsTrue, false, List, [], 
 use Rattle.pfair_replica.specs.HeldRows.{HeldRows, replica_of}
 use Rattle.pfair_replica.specs.Replica.{numbers_below}
 use Rattle.pfair_table.specs.declared.pick.Decided.{Decided}
+use Rattle.pfair_table.specs.declared.settings.TheConstants.Settings.{MAX_PROCESSORS}
 use Rattle.pfair_table.specs.declared.slot.SlotPlan.{SlotPlan}
 use Rattle.pfair_table.specs.Table.{Settings, Table, history, table, decisions}
 use Rattle.pfair_table.specs.Events.{is_plannable}
@@ -27,7 +28,7 @@ IsNextPlan d (Some next) =
     IsTrue (is_plannable d.settings (replica_of d.held) (length d.tables))
     × (next.table.items ≡ table d.settings (replica_of d.held) (length d.tables))
     × (next.decided.items ≡ decisions d.settings (replica_of d.held) (length d.tables))
-    × IsFit 64 next.table.items
+    × IsFit MAX_PROCESSORS next.table.items
 IsNextPlan d None = is_plannable d.settings (replica_of d.held) (length d.tables) ≡ false
 
 -- with that planned

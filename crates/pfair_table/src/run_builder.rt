@@ -34,12 +34,13 @@ impl Model for RunBuilder {
     ghost use Rattle.pfair_table.specs.Table.{Table};
     ghost use Rattle.pfair_table.specs.Places.{places_of};
     ghost use Rattle.pfair_table.specs.PlaceLaws.{IsFit};
+    ghost use Rattle.pfair_table.specs.declared.settings.TheConstants.Settings.{MAX_PROCESSORS};
 
     ghost Value = { List Table };
 
     ghost view = { λ a. map (λ s. s.table.items) a.slots.items };
 
-    ghost invariant = { λ a. AllByRecursion (IsFit 64) (map (λ s. s.table.items) a.slots.items) × (map (λ s. s.places.items) a.slots.items ≡ places_of (map (λ s. s.table.items) a.slots.items)) };
+    ghost invariant = { λ a. AllByRecursion (IsFit MAX_PROCESSORS) (map (λ s. s.table.items) a.slots.items) × (map (λ s. s.places.items) a.slots.items ≡ places_of (map (λ s. s.table.items) a.slots.items)) };
 }
 
 impl RunBuilder {

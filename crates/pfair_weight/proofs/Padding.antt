@@ -1,7 +1,6 @@
 -- Names, and the bytes that store them.
-use Rattle.std.proofs.Common.{one-add, ℕ, zero, suc, ◌≡◌, ◌+◌, ◌-◌, ◌<◌, ◌≤◌, ◌==◌, true, false, cond, List, [], ◌∷◌, ◌++◌, length, get_or, take, drop, refl, sym, ap, ◌∙◌, subst, arith}
-use Rattle.std.specs.Prelude.{replicate, not, slice_index}
-use Rattle.std.specs.List.{position_or_len}
+use Rattle.std.proofs.Common.{ℕ, zero, suc, ◌≡◌, ◌+◌, ◌-◌, ◌<◌, ◌≤◌, ◌==◌, true, false, cond, List, [], ◌∷◌, ◌++◌, length, get_or, drop, refl, sym, ap, ◌∙◌, subst, arith}
+use Rattle.std.specs.Prelude.{replicate, slice_index}
 use Rattle.std.specs.Cmp.Lexicographic.{slice_cmp}
 use Rattle.std.specs.Ordering.{nat_cmp, ordering_then}
 use Rattle.std.specs.declared.cmp.Ordering.TheVariants.{Less, Equal, Greater}
@@ -62,17 +61,6 @@ module _ (name after : List ℕ) (named : IsTaskName name) (same : after ≡ nam
 
   pub is_padded : IsPadded (record { bytes = after ++ drop (length name) (replicate 16 0) })
   is_padded = record { named = subst IsTaskName (sym name_stored) named; padded_with_zeros = stored ∙ ap with_zeros (sym name_stored) }
-
--- ---- the end of the name
-
--- the name is what stands before the first zero
-pub before_first_zero : (bytes : List ℕ) → take (position_or_len (λ byte. byte == 0) bytes) bytes ≡ before_zero bytes
-before_first_zero [] = refl
-before_first_zero (byte ∷ bytes) =
-    elim (byte == 0) as (λ t. take (cond (not t) (1 + position_or_len (λ byte. byte == 0) bytes) 0) (byte ∷ bytes) ≡ cond t [] (byte ∷ before_zero bytes)) [
-      | true ↦ refl
-      | false ↦ rw one-add (ap (λ l. byte ∷ l) (before_first_zero bytes))
-    ]
 
 -- ---- the order
 

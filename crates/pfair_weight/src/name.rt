@@ -1,7 +1,6 @@
 //! Task names.
 ghost use Rattle.std.specs.Prelude.{◌≡◌, ◌≤◌, ◌<◌, ◌==◌, IfOk, IfErr, length, nat_eq};
 ghost use Rattle.std.proofs.Common.{rules};
-ghost use Rattle.std.specs.List.{position_or_len};
 ghost use Rattle.std.specs.Cmp.{partial_order_from_own_ties};
 ghost use Rattle.std.specs.Cmp.Rules.{comparing};
 ghost use Rattle.std.specs.Cmp.Lexicographic.{slice_cmp};
@@ -99,12 +98,21 @@ impl TaskName {
         Ok(TaskName { bytes: padded })
     }
 
-    /// The bytes that spell the name. They are gone through once, to find where they end.
+    /// The bytes that spell the name. It costs the same whatever the name.
     pub fn as_bytes(&self) -> &[u8]
         ensures value { result.now ≡ self.now }
         ensures named { IsTaskName self.now }
     {
-        &self.bytes[..first_zero(&self.bytes)]
+        &self.bytes[..self.length()]
+    }
+
+    // How many bytes the name has. The zeros after it are the leading ones of the number whose lowest
+    // byte is the name's first.
+    fn length(&self) -> usize
+        ensures { result ≡ length self.now }
+    {
+        let unused_bits = u128::from_le_bytes(self.bytes).leading_zeros();
+        TaskName::MAX_LEN - unused_bits as usize / 8
     }
 }
 
@@ -162,17 +170,6 @@ impl Hash for TaskName {
     fn hash<H: Hasher>(&self, state: &mut H) {
         state.write(&self.bytes);
     }
-}
-
-// The place of the first 0, or the length where there is none.
-fn first_zero(bytes: &[u8]) -> usize
-    ensures value { result ≡ position_or_len (λ byte. byte == 0) bytes.now }
-    ensures within { result ≤ length bytes.now }
-{
-    bytes
-        .iter()
-        .position(|byte| *byte == 0)
-        .unwrap_or(bytes.len())
 }
 
 // Whether a byte may stand at this place of a name.

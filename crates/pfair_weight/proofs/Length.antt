@@ -1,0 +1,135 @@
+-- The length of a name, by the number that its bytes spell, the first of them the lowest, with the zeros after it.
+use Rattle.std.proofs.Common.{ℕ, zero, suc, ◌≡◌, ◌+◌, ◌-◌, ◌*◌, ◌/◌, ◌^◌, ◌<◌, ◌≤◌, true, List, [], ◌∷◌, ◌++◌, length, take, refl, sym, ap, ◌∙◌, subst, ⊎_elim, arith}
+use Rattle.std.specs.Prelude.{replicate, slice_index}
+use Rattle.std.specs.Int.{w128, byte_worth, from_le_bytes, leading_zeros, sum_through}
+use Rattle.std.proofs.lemmas.Bool.{cases_lt}
+use Rattle.std.proofs.lemmas.Bool.Decides.{nat_tests}
+use Rattle.std.proofs.lemmas.Nat.{leading_top, pow_pos}
+use Rattle.std.proofs.Math.Nat.{pow-suc}
+use Rattle.std.proofs.Math.Pow.{pow-add, pow_mono}
+use Rattle.std.proofs.Math.Seq.{take-append_seam}
+use Rattle.pfair_weight.specs.declared.name.TaskName.TheInside.{Inside}
+use Rattle.pfair_weight.specs.Name.{may_stand, IsTaskName}
+use Rattle.pfair_weight.specs.Padded.{before_zero, IsPadded}
+
+-- the number that bytes spell, the first of them the lowest
+abbrev spelled : List ℕ → ℕ
+spelled [] = 0
+spelled (byte ∷ bytes) = byte + 256 * spelled bytes
+
+-- ---- it is what the bytes are read as
+
+first_apart : (f : ℕ → ℕ) (k : ℕ) → sum_through f (suc k) ≡ f 0 + sum_through (λ i. f (suc i)) k
+first_apart f zero = refl
+first_apart f (suc k) = let before = first_apart f k in omega (arith, before)
+
+raised : (byte i : ℕ) → byte_worth (suc i) byte ≡ 256 * byte_worth i byte
+raised byte zero = omega arith
+raised byte (suc i) =
+    let same : byte * (256 ^ suc i * 256) ≡ 256 * (byte * 256 ^ suc i) = omega arith in
+    ap (λ n. byte * n) (pow-suc 256 (suc i)) ∙ same
+
+all_raised : (bytes : List ℕ) (k : ℕ) → sum_through (λ i. byte_worth (suc i) (slice_index bytes i)) k ≡ 256 * sum_through (λ i. byte_worth i (slice_index bytes i)) k
+all_raised bytes zero = raised (slice_index bytes 0) 0
+all_raised bytes (suc k) =
+    let before = all_raised bytes k in
+    let last = raised (slice_index bytes (suc k)) (suc k) in
+    omega (arith, before, last)
+
+read_as : (bytes : List ℕ) (k : ℕ) → length bytes ≡ suc k → sum_through (λ i. byte_worth i (slice_index bytes i)) k ≡ spelled bytes
+read_as [] k fits = absurd (omega (arith, fits))
+read_as (byte ∷ []) zero fits = let alone : byte ≡ byte + 256 * 0 = omega arith in alone
+read_as (byte ∷ next ∷ bytes) zero fits = absurd (omega (arith, fits))
+read_as (byte ∷ bytes) (suc k) fits =
+    first_apart (λ i. byte_worth i (slice_index (byte ∷ bytes) i)) k
+    ∙ ap (λ n. byte + n) (all_raised bytes k ∙ ap (λ n. 256 * n) (read_as bytes k (omega (arith, fits))))
+
+-- ---- its size
+
+-- 256 to the k
+abbrev units : ℕ → ℕ
+units k = 2 ^ (8 * k)
+
+next_unit : (k : ℕ) → units (suc k) ≡ 256 * units k
+next_unit k = let same : 8 * suc k ≡ 8 + 8 * k = omega arith in ap (λ m. 2 ^ m) same ∙ pow-add 2 8 (8 * k)
+
+-- each of the bytes is one, and not 0
+abbrev AreBytes : List ℕ → Type 0
+AreBytes [] = Unit {0}
+AreBytes (byte ∷ bytes) = (0 < byte) × (byte < 256) × AreBytes bytes
+
+-- a byte that may stand in a name is one, and not 0
+some_byte : (place byte : ℕ) → may_stand place byte ≡ true → (0 < byte) × (byte < 256)
+some_byte place byte h = grind (arith, nat_tests)
+
+bytes_from : (bytes : List ℕ) (from : ℕ) → ((place : ℕ) → place < length bytes → may_stand (from + place) (slice_index bytes place) ≡ true) → AreBytes bytes
+bytes_from [] from h = tt
+bytes_from (byte ∷ bytes) from h =
+    let here = some_byte (from + 0) byte (h 0 (omega arith)) in (
+      here.0,
+      here.1,
+      bytes_from bytes (suc from) (λ place within.
+          (let next : from + suc place ≡ suc from + place = omega arith in
+          subst (λ (at : ℕ). may_stand at (slice_index bytes place) ≡ true) next (h (suc place) (omega arith)))),
+    )
+
+name_bytes : (name : List ℕ) → IsTaskName name → AreBytes name
+name_bytes name h = bytes_from name 0 (λ place within. subst (λ (at : ℕ). may_stand at (slice_index name place) ≡ true) (let same : place ≡ 0 + place = omega arith in same) (h.each_may_stand place within))
+
+zeros_spell : (m : ℕ) → spelled (replicate m 0) ≡ 0
+zeros_spell zero = refl
+zeros_spell (suc m) = let before = zeros_spell m in omega (arith, before)
+
+-- with as many zeros as one likes after the bytes, it is below 256 to their number
+above : (bytes : List ℕ) (m : ℕ) → AreBytes bytes → spelled (bytes ++ replicate m 0) < units (length bytes)
+above [] m h = omega (arith, zeros_spell m)
+above (byte ∷ bytes) m h =
+    let rest = above bytes m h.2 in
+    let small = h.1 in
+    omega (arith, rest, small, next_unit (length bytes))
+
+-- and not below 256 to one less
+below : (byte : ℕ) (bytes : List ℕ) (m : ℕ) → AreBytes (byte ∷ bytes) → units (length bytes) ≤ spelled ((byte ∷ bytes) ++ replicate m 0)
+below byte [] m h = let some = h.0 in omega (arith, some)
+below byte (next ∷ bytes) m h =
+    let rest = below next bytes m h.2 in
+    omega (arith, rest, next_unit (length bytes))
+
+-- ---- the length
+
+-- a number of k bytes, the highest not 0, has so many leading zeros
+zeros_before : (n k : ℕ) → k ≤ 15 → n < 2 ^ 128 → units k ≤ n → n < units (suc k) → 16 - leading_zeros w128 n / 8 ≡ suc k
+zeros_before n k few fits from to =
+    let some = pow_pos (8 * k) in
+    let top = leading_top 128 n (omega (arith, some, from)) fits in
+    let j = top.0 in
+    let least : 8 * k ≤ j = ⊎_elim (λ short. omega (arith, pow_mono short, from, top.3)) (λ h. h) (cases_lt j (8 * k)) in
+    let most : j < 8 * suc k = ⊎_elim (λ h. h) (λ long. omega (arith, pow_mono long, to, top.2)) (cases_lt j (8 * suc k)) in
+    let counted = top.1 in
+    omega (arith, least, most, counted, few)
+
+fits : (k n : ℕ) → k ≤ 16 → n < units k → n < 2 ^ 128
+fits k n few h =
+    let bits : 8 * k ≤ 128 = omega (arith, few) in
+    omega (arith, pow_mono bits, h)
+
+-- what is read from the bytes of a name has 16 less its length of zero bytes before it
+length_by_zeros : (name : List ℕ) (m : ℕ) → IsTaskName name → length (name ++ replicate m 0) ≡ 16 → 16 - leading_zeros w128 (from_le_bytes w128 (name ++ replicate m 0)) / 8 ≡ length name
+length_by_zeros [] m named long = absurd (let some = named.not_empty in omega (arith, some))
+length_by_zeros (byte ∷ bytes) m named long =
+    let few = named.not_too_long in
+    let are = name_bytes (byte ∷ bytes) named in
+    let to = above (byte ∷ bytes) m are in
+    (λ i. 16 - leading_zeros w128 (read_as ((byte ∷ bytes) ++ replicate m 0) 15 long i) / 8)
+    ∙ zeros_before (spelled ((byte ∷ bytes) ++ replicate m 0)) (length bytes) (omega (arith, few)) (fits (suc (length bytes)) _ (omega (arith, few)) (omega (arith, to))) (below byte bytes m are) (omega (arith, to))
+
+pub name_length : (a : Inside) → IsPadded a → length a.bytes ≡ 16 → 16 - leading_zeros w128 (from_le_bytes w128 a.bytes) / 8 ≡ length (before_zero a.bytes)
+name_length a p long =
+    let same = p.padded_with_zeros in
+    (λ i. 16 - leading_zeros w128 (from_le_bytes w128 (same i)) / 8)
+    ∙ length_by_zeros (before_zero a.bytes) (16 - length (before_zero a.bytes)) p.named (ap length (sym same) ∙ long)
+
+-- ---- the bytes of a name
+
+pub name_taken : (a : Inside) → IsPadded a → take (length (before_zero a.bytes)) a.bytes ≡ before_zero a.bytes
+name_taken a p = ap (λ bytes. take (length (before_zero a.bytes)) bytes) p.padded_with_zeros ∙ take-append_seam (before_zero a.bytes) (replicate (16 - length (before_zero a.bytes)) 0)
