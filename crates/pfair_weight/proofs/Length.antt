@@ -1,16 +1,16 @@
 -- The length of a name, by the number that its bytes spell, the first of them the lowest, with the zeros after it.
-use Rattle.std.proofs.Common.{ℕ, zero, suc, ◌≡◌, ◌+◌, ◌-◌, ◌*◌, ◌/◌, ◌^◌, ◌<◌, ◌≤◌, true, List, [], ◌∷◌, ◌++◌, length, take, refl, sym, ap, ◌∙◌, subst, ⊎_elim, arith}
+use Rattle.std.proofs.Common.{ℕ, zero, suc, ◌≡◌, ◌+◌, ◌-◌, ◌*◌, ◌/◌, ◌^◌, ◌<◌, ◌≤◌, List, [], ◌∷◌, ◌++◌, length, take, refl, sym, ap, ◌∙◌, ⊎_elim, arith}
 use Rattle.std.specs.Prelude.{replicate, slice_index}
 use Rattle.std.specs.Int.{w128, byte_worth, from_le_bytes, leading_zeros, sum_through}
 use Rattle.std.proofs.lemmas.Bool.{cases_lt}
-use Rattle.std.proofs.lemmas.Bool.Decides.{nat_tests}
 use Rattle.std.proofs.lemmas.Nat.{leading_top, pow_pos}
 use Rattle.std.proofs.Math.Nat.{pow-suc}
 use Rattle.std.proofs.Math.Pow.{pow-add, pow_mono}
 use Rattle.std.proofs.Math.Seq.{take-append_seam}
 use Rattle.pfair_weight.specs.declared.name.TaskName.TheInside.{Inside}
-use Rattle.pfair_weight.specs.Name.{may_stand, IsTaskName}
+use Rattle.pfair_weight.specs.Name.{IsTaskName}
 use Rattle.pfair_weight.specs.Padded.{before_zero, IsPadded}
+use Rattle.pfair_weight.proofs.Padding.{AreBytes, name_bytes}
 
 -- the number that bytes spell, the first of them the lowest
 abbrev spelled : List ℕ → ℕ
@@ -53,29 +53,6 @@ units k = 2 ^ (8 * k)
 next_unit : (k : ℕ) → units (suc k) ≡ 256 * units k
 next_unit k = let same : 8 * suc k ≡ 8 + 8 * k = omega arith in ap (λ m. 2 ^ m) same ∙ pow-add 2 8 (8 * k)
 
--- each of the bytes is one, and not 0
-abbrev AreBytes : List ℕ → Type 0
-AreBytes [] = Unit {0}
-AreBytes (byte ∷ bytes) = (0 < byte) × (byte < 256) × AreBytes bytes
-
--- a byte that may stand in a name is one, and not 0
-some_byte : (place byte : ℕ) → may_stand place byte ≡ true → (0 < byte) × (byte < 256)
-some_byte place byte h = grind (arith, nat_tests)
-
-bytes_from : (bytes : List ℕ) (from : ℕ) → ((place : ℕ) → place < length bytes → may_stand (from + place) (slice_index bytes place) ≡ true) → AreBytes bytes
-bytes_from [] from h = tt
-bytes_from (byte ∷ bytes) from h =
-    let here = some_byte (from + 0) byte (h 0 (omega arith)) in (
-      here.0,
-      here.1,
-      bytes_from bytes (suc from) (λ place within.
-          (let next : from + suc place ≡ suc from + place = omega arith in
-          subst (λ (at : ℕ). may_stand at (slice_index bytes place) ≡ true) next (h (suc place) (omega arith)))),
-    )
-
-name_bytes : (name : List ℕ) → IsTaskName name → AreBytes name
-name_bytes name h = bytes_from name 0 (λ place within. subst (λ (at : ℕ). may_stand at (slice_index name place) ≡ true) (let same : place ≡ 0 + place = omega arith in same) (h.each_may_stand place within))
-
 zeros_spell : (m : ℕ) → spelled (replicate m 0) ≡ 0
 zeros_spell zero = refl
 zeros_spell (suc m) = let before = zeros_spell m in omega (arith, before)
@@ -97,7 +74,7 @@ below byte (next ∷ bytes) m h =
 
 -- ---- the length
 
--- a number of k bytes, the highest not 0, has so many leading zeros
+-- a number of k + 1 bytes, the highest not 0: what its leading zeros leave of 16 bytes
 zeros_before : (n k : ℕ) → k ≤ 15 → n < 2 ^ 128 → units k ≤ n → n < units (suc k) → 16 - leading_zeros w128 n / 8 ≡ suc k
 zeros_before n k few fits from to =
     let some = pow_pos (8 * k) in
