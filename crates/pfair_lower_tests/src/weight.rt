@@ -90,6 +90,15 @@ fn faults_have_texts(rt: HostRuntime) -> Result<(), Fail> {
 }
 
 #[test]
+fn names_of_each_length(rt: HostRuntime) {
+    let letters = b"abcdefghijklmnop";
+    for length in 1..=TaskName::MAX_LEN {
+        let name = TaskName::from_bytes(&letters[..length]).expect(&rt, "a name");
+        assert!(&rt; name.as_bytes() == &letters[..length]);
+    }
+}
+
+#[test]
 fn names_in_order(rt: HostRuntime) -> Result<(), Fail> {
     let longest = TaskName::from_bytes(b"abcdefghijklmnop").expect(&rt, "a name");
     assert!(&rt; longest.as_bytes() == b"abcdefghijklmnop".as_slice());
