@@ -46,36 +46,36 @@ read_as (byte ∷ bytes) (suc k) fits =
 
 -- ---- its size
 
--- 256 to the k
-abbrev units : ℕ → ℕ
-units k = 2 ^ (8 * k)
+-- 256 to the k, by which the bytes of a number count
+abbrev powers : ℕ → ℕ
+powers k = 2 ^ (8 * k)
 
-next_unit : (k : ℕ) → units (suc k) ≡ 256 * units k
-next_unit k = let same : 8 * suc k ≡ 8 + 8 * k = omega arith in ap (λ m. 2 ^ m) same ∙ pow-add 2 8 (8 * k)
+next_power : (k : ℕ) → powers (suc k) ≡ 256 * powers k
+next_power k = let same : 8 * suc k ≡ 8 + 8 * k = omega arith in ap (λ m. 2 ^ m) same ∙ pow-add 2 8 (8 * k)
 
 zeros_spell : (m : ℕ) → spelled (replicate m 0) ≡ 0
 zeros_spell zero = refl
 zeros_spell (suc m) = let before = zeros_spell m in omega (arith, before)
 
 -- with as many zeros as one likes after the bytes, it is below 256 to their number
-above : (bytes : List ℕ) (m : ℕ) → AreBytes bytes → spelled (bytes ++ replicate m 0) < units (length bytes)
+above : (bytes : List ℕ) (m : ℕ) → AreBytes bytes → spelled (bytes ++ replicate m 0) < powers (length bytes)
 above [] m h = omega (arith, zeros_spell m)
 above (byte ∷ bytes) m h =
     let rest = above bytes m h.2 in
     let small = h.1 in
-    omega (arith, rest, small, next_unit (length bytes))
+    omega (arith, rest, small, next_power (length bytes))
 
 -- and not below 256 to one less
-below : (byte : ℕ) (bytes : List ℕ) (m : ℕ) → AreBytes (byte ∷ bytes) → units (length bytes) ≤ spelled ((byte ∷ bytes) ++ replicate m 0)
+below : (byte : ℕ) (bytes : List ℕ) (m : ℕ) → AreBytes (byte ∷ bytes) → powers (length bytes) ≤ spelled ((byte ∷ bytes) ++ replicate m 0)
 below byte [] m h = let some = h.0 in omega (arith, some)
 below byte (next ∷ bytes) m h =
     let rest = below next bytes m h.2 in
-    omega (arith, rest, next_unit (length bytes))
+    omega (arith, rest, next_power (length bytes))
 
 -- ---- the length
 
 -- a number of k + 1 bytes, the highest not 0: what its leading zeros leave of 16 bytes
-zeros_before : (n k : ℕ) → k ≤ 15 → n < 2 ^ 128 → units k ≤ n → n < units (suc k) → 16 - leading_zeros w128 n / 8 ≡ suc k
+zeros_before : (n k : ℕ) → k ≤ 15 → n < 2 ^ 128 → powers k ≤ n → n < powers (suc k) → 16 - leading_zeros w128 n / 8 ≡ suc k
 zeros_before n k few fits from to =
     let some = pow_pos (8 * k) in
     let top = leading_top 128 n (omega (arith, some, from)) fits in
@@ -85,7 +85,7 @@ zeros_before n k few fits from to =
     let counted = top.1 in
     omega (arith, least, most, counted, few)
 
-fits : (k n : ℕ) → k ≤ 16 → n < units k → n < 2 ^ 128
+fits : (k n : ℕ) → k ≤ 16 → n < powers k → n < 2 ^ 128
 fits k n few h =
     let bits : 8 * k ≤ 128 = omega (arith, few) in
     omega (arith, pow_mono bits, h)
