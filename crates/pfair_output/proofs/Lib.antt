@@ -1,5 +1,6 @@
 mod NameFacts
 mod PlacedFacts
+mod RowParts
 pub mod RunFacts
 mod SignedFacts
 pub mod SlotFacts

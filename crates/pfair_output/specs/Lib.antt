@@ -1,4 +1,5 @@
 pub mod Decisions
+pub mod Kept
 pub mod Lags
 pub mod Replay
 pub mod Runs

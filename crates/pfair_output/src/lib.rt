@@ -2,7 +2,10 @@
 #![tactic(auto)]
 
 mod decisions;
+mod lag_text;
 mod lags;
+mod paged_text;
+mod piece;
 mod replay;
 mod runs;
 

@@ -14,7 +14,8 @@ ghost use Rattle.pfair_output.specs.Runs.{decided_below, decided_of};
 ghost use Rattle.pfair_output.specs.Slots.{slots_from};
 
 use crate::decisions::{add_decisions, add_decisions_header};
-use crate::lags::{add_lags, add_lags_header, tell_slot};
+use crate::lag_text::LagText;
+use crate::lags::{add_lags_header, tell_slot};
 use csv::Writer;
 use pfair_lag::LagBook;
 use pfair_ready::Ready;
@@ -40,8 +41,9 @@ pub fn decisions_of_script<R: Ready>(alloc: Global, script: &Script) -> Result<V
 
 /// The lags in all slots of a script's run, as [`lags_of`](crate::lags_of) writes them of the
 /// dispatcher that [`run_script`](pfair_table::run_script) gives. One slot at a time is held, beside
-/// the text, the entries and a tally of each member. It costs what that run costs but for places, the
-/// rows, a look-up for each decision and quantum, and a pass over the members for each departure.
+/// the text, the entries, a tally of each member, some 100 bytes for each of what its rows share, and
+/// at most 200 KB of numerators. It costs what that run costs but for places, the rows, a look-up
+/// for each decision and quantum, and a pass over the members for each departure.
 ///
 /// # Errors
 /// As [`run_script`](pfair_table::run_script).
@@ -73,8 +75,9 @@ fn lags_of_run<R: Ready>(alloc: Global, run: &mut ScriptRun<R>) -> Result<Vec<u8
 {
     let mut writer = new_text(alloc);
     add_lags_header(&mut writer)?;
-    add_all_lags(&mut writer, &mut LagBook::new(alloc), run)?;
-    finish(writer)
+    let mut text = LagText::new(alloc, finish(writer)?);
+    add_all_lags(&mut text, &mut LagBook::new(alloc), run)?;
+    text.finish()
 }
 
 // Plans all slots of a run, and adds the rows of what is decided at each.
@@ -96,22 +99,20 @@ fn add_all_decisions<R: Ready>(
 
 // Plans all slots of a run, tells a book of each, and adds the rows after it.
 fn add_all_lags<R: Ready>(
-    writer: &mut Writer<Vec<u8>>,
+    text: &mut LagText,
     book: &mut LagBook,
     run: &mut ScriptRun<R>,
 ) -> Result<(), AllocError>
-    requires open { IsOpen writer.old }
     requires book { book.old ≡ empty_book }
     requires start { run.old.planned ≡ 0 }
-    ensures open { OnOk result (IsOpen writer.new) }
-    ensures text { OnOk result (text_so_far writer.new ≡ text_so_far writer.old
+    ensures { OnOk result (text.new.text ≡ text.old.text
         ++ lines_text (flat_map (lag_rows run.old.settings (replica_of run.old.held)) (numbers_below run.old.settings.slots))) }
 {
     'slots: while let Some(_) = plan_one(run)? {
         // a run has at most 1,000,000 slots
         prove!(run.next_slot() <= Settings::MAX_SLOTS);
         tell_slot(book, run.decisions(), run.table())?;
-        add_lags(writer, book)?;
+        text.add_lags(book)?;
     }
     Ok(())
 }

@@ -2,6 +2,7 @@
 
 ghost use Rattle.std.specs.Prelude.{◌≡◌, ◌<◌, ◌++◌, [], length, map, IsTrue, OnOk, IfOk};
 ghost use Rattle.std.specs.List.{list_all};
+ghost use Rattle.csv.specs.Writing.{writer_pending};
 ghost use Rattle.pfair_text.specs.Rows.{is_plain, IsOpen, line, text_so_far};
 
 use csv::{Writer, WriterBuilder};
@@ -11,6 +12,7 @@ use std::alloc::{AllocError, Global};
 pub fn new_text(alloc: Global) -> Writer<Vec<u8>>
     ensures open { IsOpen result }
     ensures text { text_so_far result ≡ [] }
+    ensures sent { writer_pending result ≡ [] }
 {
     WriterBuilder::new().from_writer(Vec::new(alloc))
 }

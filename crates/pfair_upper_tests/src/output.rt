@@ -94,3 +94,73 @@ fn no_texts_of_a_stalled_script(rt: HostRuntime) -> Result<(), Fail> {
     assert_eq!(&rt; fault, ScriptFault::Stalled { slot: 3 });
     Ok(())
 }
+
+// An arrival of a task of weight cost/period.
+fn arrival(rt: &impl Abort, name: &[u8], cost: u64, period: u64) -> Announcement {
+    Announcement::Arrive {
+        name: TaskName::from_bytes(name).expect(rt, "a name"),
+        weight: Weight::new(cost, period).expect(rt, "a weight"),
+        early: false,
+    }
+}
+
+// The script of two processors over 60 slots in whose rows of lags most tails come again, but not
+// those of a long name with a long period: one task leaves and comes again with another weight, so
+// that all after it move up by a place, and one comes late, so that its lag grows past its period.
+fn busy_script(rt: &impl Abort, alloc: Global) -> Result<Script, AllocError> {
+    let leaver = TaskName::from_bytes(b"a").expect(rt, "a name");
+    let late = TaskName::from_bytes(b"b").expect(rt, "a name");
+    let said = vec![in alloc;
+        (0, arrival(rt, b"a", 1, 2)),
+        (0, arrival(rt, b"b", 2, 3)),
+        (0, arrival(rt, b"name_of_16_bytes", 1, 1_000_000)),
+        (0, arrival(rt, b"c", 1, 4)),
+        (
+            5,
+            Announcement::Late {
+                name: late,
+                index: 5,
+                by: 9
+            }
+        ),
+        (20, Announcement::Depart { name: leaver }),
+        (31, arrival(rt, b"a", 1, 3)),
+        (40, arrival(rt, b"d", 1, 12)),
+    ]?;
+    let mut log = Vec::new(alloc);
+    for (stamp, announcement) in &said {
+        log.push(Entry::new(*stamp, Some((*stamp, *announcement))).expect(rt, "an entry"))?;
+    }
+    let last = Entry::new(60, None).expect(rt, "an entry");
+    log.push(last)?;
+    let logs = vec![in alloc; log, vec![in alloc; last]?]?;
+    let settings = Settings::new(2, 3_000_000, 60).expect(rt, "settings");
+    Ok(Script::new(settings, logs).ok().expect(rt, "a script"))
+}
+
+// The rows of lags of which most are copied are those that are each written anew.
+#[test]
+fn lags_that_come_again(rt: HostRuntime) -> Result<(), Fail> {
+    let script = busy_script(&rt, rt.alloc())?;
+    let dispatcher: Dispatcher<HeapReady> = run_script(rt.alloc(), &script)
+        .ok()
+        .expect(&rt, "a run");
+    let anew = lags_of(rt.alloc(), &dispatcher).expect(&rt, "memory");
+    let copied = lags_of_script::<HeapReady>(rt.alloc(), &script)
+        .ok()
+        .expect(&rt, "lags");
+    assert_eq!(&rt; copied.as_slice(), anew.as_slice());
+    assert!(&rt; is_line_of(anew.as_slice(), b"21,name_of_16_bytes,-999979,1000000"));
+    assert!(&rt; is_line_of(anew.as_slice(), b"60,d,-4,12"));
+    Ok(())
+}
+
+// Whether a line stands in a text.
+fn is_line_of(text: &[u8], line: &[u8]) -> bool {
+    for row in text.split(|byte| *byte == b'\n') {
+        if row == line {
+            return true;
+        }
+    }
+    false
+}
