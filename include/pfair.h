@@ -369,8 +369,9 @@ struct pfair_step {
  *   0    the step is written
  * Cost: the number of processors, what is announced for the slot, the logarithm of the number of tasks for each quantum,
  * and what was taken since the last plan; not the entries held. Every 1,024 slots a block of some 72 KB is asked of
- * malloc for what is planned next, and nothing of what was planned is copied. After pfair_reserve a slot at which nothing
- * is announced asks malloc for nothing.
+ * malloc for what is planned next, and nothing of what was planned is copied. What is held of tasks is moved to where it
+ * has more room only where a task joins, but for the list of those that are released at one slot, of 8 bytes each. After
+ * pfair_reserve a slot at which nothing is announced asks malloc for nothing.
  */
 uint32_t pfair_plan_next(struct pfair_dispatcher *d, struct pfair_step *step);
 

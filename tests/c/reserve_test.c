@@ -1,7 +1,7 @@
 /*
  * Memory that is taken ahead. After pfair_reserve no slot asks malloc for anything, but where something is announced at
  * it; what is planned then is what a dispatcher plans that was given no memory ahead; and each allocation of the call
- * is refused in turn.
+ * is refused in turn. And without it, no list that has something of each task grows where nothing is decided.
  *
  *   reserve_test [quick]
  */
@@ -95,6 +95,35 @@ static void of_any_dispatcher(void) {
     ANSWERS(0, pfair_close(&d));
 }
 
+/* The largest block that is asked for behind slot 0, by so many tasks whose windows have 64 slots at first and 65 then, so
+   that they come to wait among the keys of late deadlines in slots that decide nothing. No memory is taken ahead. */
+static size_t largest_behind_slot_0(int tasks) {
+    struct pfair_dispatcher d = PFAIR_NONE;
+    uint64_t taken;
+    uint32_t numbers[2 * PROCESSORS] = {0};
+    char name[20];
+    ANSWERS(0, pfair_open(&d, 2 * PROCESSORS, FRAME, 300, 500));
+    for (int k = 0; k < tasks; k++) {
+        int p = k % (2 * PROCESSORS);
+        snprintf(name, sizeof name, "t%d", k);
+        ANSWERS(0, take(&d, p, ++numbers[p], arrive(name, 79, FRAME, 0), &taken));
+    }
+    for (int p = 0; p < 2 * PROCESSORS; p++) ANSWERS(0, take(&d, p, ++numbers[p], nothing(1000000), &taken));
+    plan_one(&d, 0);
+    largest = 0;
+    for (uint64_t slot = 1; slot < 300; slot++) plan_one(&d, slot);
+    size_t most = largest;
+    ANSWERS(0, pfair_close(&d));
+    return most;
+}
+
+/* What is held of tasks doesn't grow, and so isn't moved, where nothing is decided. */
+static void with_many_tasks(void) {
+    size_t of_few = largest_behind_slot_0(40), of_many = largest_behind_slot_0(1000);
+    printf("behind slot 0 no block has more than %zu bytes with 40 tasks, %zu with 1000\n", of_few, of_many);
+    CHECK(of_many == of_few, "a list of all tasks has grown");
+}
+
 int main(int count, char **words) {
     int quick = count > 1 && !strcmp(words[1], "quick");
     uint64_t slots = quick ? 3000 : 100000, late_at = slots / 2;
@@ -107,6 +136,7 @@ int main(int count, char **words) {
     refused_ahead(40, 20, rows);
     __real_free(rows);
     of_any_dispatcher();
+    with_many_tasks();
     CHECK(blocks == at_first, "%ld blocks not freed", blocks - at_first);
     return told();
 }

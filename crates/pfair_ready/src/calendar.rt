@@ -105,12 +105,26 @@ impl Calendar {
         ensures turned { self.new.turned ≡ self.old.turned }
         ensures date_order { IsHeap later_cmp (heap_items self.new.far) }
     {
-        self.far.reserve(dates.saturating_sub(self.far.len()))?;
+        self.reserve_far(dates)?;
         for bucket in 0..self.near.len() {
             let more = dates.saturating_sub(self.near[bucket].len());
             self.near[bucket].reserve(more)?;
         }
         Ok(())
+    }
+
+    /// Takes room for so many dates among the far ones.
+    ///
+    /// # Errors
+    /// `AllocError` where memory was wanted and refused.
+    pub(crate) fn reserve_far(&mut self, dates: usize) -> Result<(), AllocError>
+        requires { IsHeap later_cmp (heap_items self.old.far) }
+        ensures kept { (d : Date) → IsNoted self.old d → IsNoted self.new d }
+        ensures turned { self.new.turned ≡ self.old.turned }
+        ensures near { self.new.near ≡ self.old.near }
+        ensures date_order { IsHeap later_cmp (heap_items self.new.far) }
+    {
+        self.far.reserve(dates.saturating_sub(self.far.len()))
     }
 
     // Empties the buckets of all slots up to one.

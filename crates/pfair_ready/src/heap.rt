@@ -5,8 +5,10 @@
 //! goes by the place of its name.
 
 ghost use Rattle.std.specs.Prelude.{◌≡◌, ◌≤◌, [], IfOk, IfSome, IfNone, false, slice_get, vec_capacity};
+ghost use Rattle.std.specs.BinaryHeap.{heap_items, IsHeap};
+ghost use Rattle.pfair_ready.specs.declared.date.Date.{Date};
 ghost use Rattle.pfair_ready.specs.Heap.{is_due};
-ghost use Rattle.pfair_ready.specs.Slots.{in_slot, IsTurn};
+ghost use Rattle.pfair_ready.specs.Slots.{in_slot, later_cmp, IsNoted, IsTurn};
 
 use crate::Ready;
 use crate::calendar::{Calendar, move_released};
@@ -19,6 +21,9 @@ use pfair_order::Key;
 use pfair_weight::TaskName;
 use std::alloc::{AllocError, Global};
 use std::marker::Model;
+
+// For how many keys room is taken first.
+const FIRST_ROOM: usize = 16;
 
 /// A ready structure that keeps released keys in two heaps, the least of each on top, and the dates
 /// of the others in a calendar: those of the next 64 slots slot by slot, and later ones in a heap.
@@ -34,21 +39,23 @@ use std::marker::Model;
 ///   which it mostly is where the tasks that were given a quantum wait again in that order; else
 ///   one look-up of the name, and a second one where the name is new; then the same always where
 ///   the release is one of the 64 slots after the last selection, and else a number of steps that
-///   grows with the logarithm of n. Now and then what is held is moved to where it has room.
+///   grows with the logarithm of n. Where there are more keys than ever before, what is held is
+///   now and then moved to where it has twice the room.
 /// - `take_first`: a number of steps that grows with the logarithm of the number of keys in a heap for
 ///   each key that it gives, for each whose date has come since the last selection, and three times at
 ///   most for each that was removed; and a step for each slot since the last selection, of which there
 ///   are 64 at most. So a slot costs no more for tasks whose next subtask is not released, and one
 ///   comparison more for each key that it gives where keys of late deadlines wait.
-///
-/// - `take_first_into`: the same, and no memory where the list has room for the keys that it gives
-///   and `reserve` was called after the last `insert` of a key whose name had none before.
+/// - `take_first_into`: the same, and no memory where the list has room for the keys that it gives:
+///   the heaps and the later dates have room for all keys since these were inserted.
 /// - `reserve`: mostly a step for each of 64 slots; else what is held is moved to where it has room.
-///   The room is 8 to 16 bytes for each key in each of these slots, and that of a key in each heap.
+///   The room is 8 to 16 bytes for each key in each of these slots.
 ///
 /// Each key that is held has one date in the calendar or one copy in a heap, and a key goes from
-/// the first to the second and, where its task waits again, back. So once each heap, the later dates
-/// and those of each near slot have room for all, none of these grows before there are more keys.
+/// the first to the second and, where its task waits again, back. So the heaps and the later dates,
+/// each of which has room for all, grow only where a key is inserted and there are more keys than
+/// ever before, and not where a task that ran waits again. The list of a near slot may grow there,
+/// to 8 bytes for each key that is released at that slot, unless `reserve` took its room.
 ///
 /// A name that was once inserted keeps its place, so the memory grows with the number of different
 /// names.
@@ -60,6 +67,10 @@ pub struct HeapReady {
     calendar: Calendar,
     released: Turns,
     guesses: Guesses,
+    // no fewer than the dates and the turns together
+    count: usize,
+    // for how many of these each heap has room
+    room: usize,
 }
 
 impl Model for HeapReady {
@@ -90,6 +101,8 @@ impl Ready for HeapReady {
             calendar: Calendar::new(alloc),
             released: Turns::new(alloc),
             guesses: Guesses::new(),
+            count: 0,
+            room: 0,
         }
     }
 
@@ -110,6 +123,12 @@ impl Ready for HeapReady {
         if slot_at(&self.slots, place).is_some() {
             return Ok(false);
         }
+        make_room(
+            &mut self.calendar,
+            &mut self.released,
+            &mut self.count,
+            &mut self.room,
+        )?;
         self.calendar.note(self.alloc, Date { release, place })?;
         put_at(&mut self.slots, place, Some((release, key)));
         Ok(true)
@@ -142,6 +161,7 @@ impl Ready for HeapReady {
             let Some(turn) = self.released.pop() else {
                 break;
             };
+            self.count = self.count.saturating_sub(1);
             let place = turn.1;
             if let Some(key) = take_turn(&mut self.slots, slot, turn) {
                 self.guesses.note(place);
@@ -152,11 +172,62 @@ impl Ready for HeapReady {
     }
 
     fn reserve(&mut self) -> Result<(), AllocError> {
-        let dates = self.calendar.len();
-        let all = dates.saturating_add(self.released.len());
+        let all = counted(&self.calendar, &self.released);
         self.calendar.reserve(all)?;
-        self.released.reserve(dates)
+        self.released.reserve(self.calendar.len())
     }
+}
+
+// How many dates and turns there are.
+#[inline(never)]
+fn counted(calendar: &Calendar, released: &Turns) -> usize {
+    calendar.len().saturating_add(released.len())
+}
+
+// Makes room for a date more, which is counted.
+#[inline(always)]
+fn make_room(
+    calendar: &mut Calendar,
+    released: &mut Turns,
+    count: &mut usize,
+    room: &mut usize,
+) -> Result<(), AllocError>
+    requires { IsHeap later_cmp (heap_items calendar.old.far) }
+    ensures kept { (d : Date) → IsNoted calendar.old d → IsNoted calendar.new d }
+    ensures turned { calendar.new.turned ≡ calendar.old.turned }
+    ensures date_order { IsHeap later_cmp (heap_items calendar.new.far) }
+    ensures released { released.new ≡ released.old }
+{
+    if *count >= *room {
+        *count = counted(calendar, released);
+        *room = take_room(calendar, released, *count, *room)?;
+    }
+    *count = count.saturating_add(1);
+    Ok(())
+}
+
+// Takes room for twice as many dates and turns in each heap, where there is no more than for so
+// many, and answers for how many there is room then.
+#[inline(never)]
+fn take_room(
+    calendar: &mut Calendar,
+    released: &mut Turns,
+    count: usize,
+    room: usize,
+) -> Result<usize, AllocError>
+    requires { IsHeap later_cmp (heap_items calendar.old.far) }
+    ensures kept { (d : Date) → IsNoted calendar.old d → IsNoted calendar.new d }
+    ensures turned { calendar.new.turned ≡ calendar.old.turned }
+    ensures date_order { IsHeap later_cmp (heap_items calendar.new.far) }
+    ensures released { released.new ≡ released.old }
+{
+    if count < room {
+        return Ok(room);
+    }
+    let wanted = count.saturating_add(count.max(FIRST_ROOM));
+    calendar.reserve_far(wanted)?;
+    released.reserve(wanted.saturating_sub(released.len()))?;
+    Ok(wanted)
 }
 
 // The list without what it has, with room for so many keys.

@@ -8,13 +8,13 @@ use Rattle.pfair_ready.specs.Slots.{in_bucket}
 use Rattle.pfair_ready.proofs.CalendarLemmas.{noted_near}
 use Rattle.pfair_ready.proofs.calendar.Calendar.reserve.Goals as goal
 
-pub returns-in_err-reserve-2-clause-kept : goal.returns-in_err-reserve-2-clause-kept
-returns-in_err-reserve-2-clause-kept c =
+pub returns-in_err-reserve-clause-kept : goal.returns-in_err-reserve-clause-kept
+returns-in_err-reserve-clause-kept c =
     let was : Calendar = c.loop-bucket.self in
     let inside : c.loop-bucket.bucket < length was.near.items = omega (arith, c.loop-bucket-test.true, c.loop-bucket.invariant.long) in
     let here = ap in_bucket (slice_get_read was.near.items (length was.near.items) c.loop-bucket.bucket c.index_mut.result.now refl inside c.index_mut.ensures.value) in
-    λ d noted. noted_near was (record { turned = was.turned; near = with_item was.near c.loop-bucket.bucket c.reserve-in-loop-bucket.new.self; far = was.far }) c.loop-bucket.bucket c.reserve-in-loop-bucket.new.self
-    (λ p h. subst (λ (l : List ℕ). Contains l p) (here ∙ sym c.reserve-in-loop-bucket.ensures.items) h) refl refl refl d (c.loop-bucket.invariant.kept d noted)
+    λ d noted. noted_near was (record { turned = was.turned; near = with_item was.near c.loop-bucket.bucket c.reserve.new.self; far = was.far }) c.loop-bucket.bucket c.reserve.new.self
+    (λ p h. subst (λ (l : List ℕ). Contains l p) (here ∙ sym c.reserve.ensures.items) h) refl refl refl d (c.loop-bucket.invariant.kept d noted)
 
 pub loop-bucket-preserved : goal.loop-bucket-preserved
 loop-bucket-preserved c =
@@ -22,9 +22,9 @@ loop-bucket-preserved c =
     let inside : c.loop-bucket.bucket < length was.near.items = omega (arith, c.loop-bucket-test.true, c.loop-bucket.invariant.long) in
     let here = ap in_bucket (slice_get_read was.near.items (length was.near.items) c.loop-bucket.bucket c.index_mut.result.now refl inside c.index_mut.ensures.value) in
     record {
-      kept = λ d noted. noted_near was (record { turned = was.turned; near = with_item was.near c.loop-bucket.bucket c.reserve-in-loop-bucket.new.self; far = was.far }) c.loop-bucket.bucket c.reserve-in-loop-bucket.new.self
-          (λ p h. subst (λ (l : List ℕ). Contains l p) (here ∙ sym c.reserve-in-loop-bucket.ensures.items) h) refl refl refl d (c.loop-bucket.invariant.kept d noted);
+      kept = λ d noted. noted_near was (record { turned = was.turned; near = with_item was.near c.loop-bucket.bucket c.reserve.new.self; far = was.far }) c.loop-bucket.bucket c.reserve.new.self
+          (λ p h. subst (λ (l : List ℕ). Contains l p) (here ∙ sym c.reserve.ensures.items) h) refl refl refl d (c.loop-bucket.invariant.kept d noted);
       turned = c.loop-bucket.invariant.turned;
       date_order = c.loop-bucket.invariant.date_order;
-      long = length-set was.near.items c.loop-bucket.bucket c.reserve-in-loop-bucket.new.self ∙ c.loop-bucket.invariant.long;
+      long = length-set was.near.items c.loop-bucket.bucket c.reserve.new.self ∙ c.loop-bucket.invariant.long;
     }
