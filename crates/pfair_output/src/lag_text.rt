@@ -1,6 +1,6 @@
 //! The text of lags, in whose rows only the time and the numerator change.
 
-ghost use Rattle.std.specs.Prelude.{◌≡◌, ◌++◌, ◌∷◌, [], take, true, IsTrue, IfOk, OnOk, Some, slice_get};
+ghost use Rattle.std.specs.Prelude.{◌≡◌, ◌↔◌, ◌++◌, ◌∷◌, [], take, true, IsTrue, IfOk, OnOk, Some, slice_get};
 ghost use Rattle.std.specs.Fmt.{decimal, signed_decimal};
 ghost use Rattle.pfair_weight.specs.Name.{NameValue};
 ghost use Rattle.pfair_lag.specs.Book.{Tally};
@@ -10,9 +10,9 @@ ghost use Rattle.pfair_output.specs.Told.{book_rows, tally_row};
 
 use crate::paged_text::PagedText;
 use crate::piece::Piece;
+use crate::row_writer::RowWriter;
 use itoa::Buffer;
 use pfair_lag::LagBook;
-use pfair_text::RowWriter;
 use pfair_weight::TaskName;
 use std::alloc::{AllocError, Global};
 
@@ -33,8 +33,7 @@ struct KeptTask {
 impl KeptTask {
     // Whether it is the task of this name and period.
     fn is(&self, name: &TaskName, period: u64) -> bool
-        ensures name { IsTrue result → self.now.name ≡ name.now }
-        ensures period { IsTrue result → self.now.period ≡ period }
+        ensures { IsTrue result ↔ ((self.now.name ≡ name.now) × (self.now.period ≡ period)) }
     {
         self.period == period && self.name == *name
     }

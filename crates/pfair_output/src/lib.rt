@@ -7,6 +7,7 @@ mod lags;
 mod paged_text;
 mod piece;
 mod replay;
+mod row_writer;
 mod runs;
 
 pub use decisions::{add_decisions_from, add_decisions_header, decisions_of};

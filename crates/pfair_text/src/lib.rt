@@ -4,10 +4,8 @@
 
 mod input;
 mod output;
-mod row_writer;
 mod rows;
 
 pub use input::{LONGEST_FILE, ReadFault, read_bytes};
 pub use output::{WriteFailed, send};
-pub use row_writer::RowWriter;
 pub use rows::{add_row, finish, new_text};

@@ -155,6 +155,42 @@ fn lags_that_come_again(rt: HostRuntime) -> Result<(), Fail> {
     Ok(())
 }
 
+// The script of 600 tasks that all arrive at slot 0, over two slots.
+fn crowded_script(rt: &impl Abort, alloc: Global) -> Result<Script, AllocError> {
+    let mut log = Vec::new(alloc);
+    for number in 0..600_u16 {
+        let name = [b't', letter(number / 26), letter(number)];
+        let said = Some((0, arrival(rt, &name, 1, 600)));
+        log.push(Entry::new(0, said).expect(rt, "an entry"))?;
+    }
+    log.push(Entry::new(2, None).expect(rt, "an entry"))?;
+    let logs = vec![in alloc; log]?;
+    let settings = Settings::new(1, 600, 2).expect(rt, "settings");
+    Ok(Script::new(settings, logs).ok().expect(rt, "a script"))
+}
+
+// The letter of a number, from `a` on, again and again.
+fn letter(number: u16) -> u8 {
+    (number % 26) as u8 + b'a'
+}
+
+// So many first rows that what was written one by one is given back between.
+#[test]
+fn lags_of_many_tasks(rt: HostRuntime) -> Result<(), Fail> {
+    let script = crowded_script(&rt, rt.alloc())?;
+    let dispatcher: Dispatcher<HeapReady> = run_script(rt.alloc(), &script)
+        .ok()
+        .expect(&rt, "a run");
+    let anew = lags_of(rt.alloc(), &dispatcher).expect(&rt, "memory");
+    let copied = lags_of_script::<HeapReady>(rt.alloc(), &script)
+        .ok()
+        .expect(&rt, "lags");
+    assert_eq!(&rt; copied.as_slice(), anew.as_slice());
+    assert!(&rt; is_line_of(anew.as_slice(), b"1,taa,-599,600"));
+    assert!(&rt; is_line_of(anew.as_slice(), b"2,txb,2,600"));
+    Ok(())
+}
+
 // Whether a line stands in a text.
 fn is_line_of(text: &[u8], line: &[u8]) -> bool {
     for row in text.split(|byte| *byte == b'\n') {

@@ -1,7 +1,7 @@
 //! What no contract says: that memory suffices, and what a writer is asked for.
 
 use pfair_text::{
-    LONGEST_FILE, ReadFault, RowWriter, WriteFailed, add_row, finish, new_text, read_bytes, send,
+    LONGEST_FILE, ReadFault, WriteFailed, add_row, finish, new_text, read_bytes, send,
 };
 use std::io;
 use std::io::{Read, Write};
@@ -46,17 +46,6 @@ fn rows_are_made_and_sent(rt: HostRuntime) -> Result<(), Fail> {
     };
     assert!(rt; send(&mut short, text.as_slice()) == Err(WriteFailed));
     assert_eq!(rt; short.taken.as_slice(), b"slot,task\n".as_slice());
-    Ok(())
-}
-
-// So many rows that a writer of single rows gives the first ones back.
-#[test]
-fn rows_one_by_one(rt: HostRuntime) -> Result<(), Fail> {
-    let mut writer = RowWriter::new(rt.alloc());
-    for _ in 0..2000 {
-        let row = writer.write(&[b"0", b"a_1"]).expect(&rt, "memory");
-        assert_eq!(&rt; row, b"0,a_1\n".as_slice());
-    }
     Ok(())
 }
 

@@ -8,8 +8,8 @@ use Rattle.pfair_output.proofs.RowParts.{after_is, before_is, used_length}
 use Rattle.pfair_output.proofs.SignedFacts.{is_plain-signed}
 use Rattle.pfair_output.proofs.lag_text.LagText.add_first_row.Goals as goal
 
-pub write-requires-clause-plain : goal.write-requires-clause-plain
-write-requires-clause-plain c =
+pub write-requires : goal.write-requires
+write-requires c =
     let time : is_plain c.as_bytes-2.result.now ≡ true = ap is_plain c.as_bytes-2.ensures ∙ c.requires in
     let task : is_plain c.as_bytes-3.result.now ≡ true = ap is_plain c.as_bytes-3.ensures.value ∙ is_plain-name c.args.name.now c.as_bytes-3.ensures.named in
     let numerator : is_plain c.as_bytes-4.result.now ≡ true = ap is_plain (c.as_bytes-4.ensures ∙ c.from_bytes-digits.ensures ∙ c.as_bytes.ensures.value ∙ c.format.ensures.text) ∙ ap (λ z. is_plain (signed_decimal z)) (to_z-of_z c.ranges.numerator) ∙ is_plain-signed c.args.numerator c.ranges.numerator in

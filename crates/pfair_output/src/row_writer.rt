@@ -5,16 +5,16 @@ ghost use Rattle.std.specs.List.{list_all};
 ghost use Rattle.csv.specs.Writing.{writer_pending, writer_under};
 ghost use Rattle.pfair_text.specs.Rows.{is_plain, IsOpen, line};
 
-use crate::rows::{add_row, new_text};
 use csv::Writer;
+use pfair_text::{add_row, new_text};
 use std::alloc::{AllocError, Global};
 
 // Where the rows so far have as many bytes, they are given back before the next.
 const KEPT: usize = 8192;
 
-/// Writes single rows, all with the same number of fields. It keeps some 8,192 bytes of memory.
+/// Writes single rows of four fields. It keeps some 8,192 bytes of memory.
 #[derive(Drop)]
-pub struct RowWriter {
+pub(crate) struct RowWriter {
     alloc: Global,
     writer: Writer<Vec<u8>>,
     ghost open: { IsOpen writer },
@@ -23,24 +23,20 @@ pub struct RowWriter {
 
 impl RowWriter {
     /// A writer that has written nothing. It takes no memory; what it writes comes from `alloc`.
-    pub fn new(alloc: Global) -> Self {
+    pub(crate) fn new(alloc: Global) -> Self {
         RowWriter {
             alloc,
             writer: new_text(alloc),
         }
     }
 
-    /// The line of these fields, with commas between and a newline at the end.
-    ///
-    /// There is at least one field, as many as in the rows before, and each is plain, as in
-    /// [`add_row`](crate::add_row).
+    /// The line of these fields, with commas between and a newline at the end. Each is plain, as in
+    /// [`add_row`].
     ///
     /// # Errors
-    /// `AllocError` where memory was wanted and refused, or there were as many fields as in no row
-    /// before.
-    pub fn write(&mut self, fields: &[&[u8]]) -> Result<&[u8], AllocError>
-        requires some { 0 < length fields.now }
-        requires plain { IsTrue (list_all is_plain (map (λ f. f.now) fields.now)) }
+    /// `AllocError` where memory was wanted and refused.
+    pub(crate) fn write(&mut self, fields: &[&[u8]; 4]) -> Result<&[u8], AllocError>
+        requires { IsTrue (list_all is_plain (map (λ f. f.now) fields.now)) }
         ensures { IfOk result (λ row. row.now ≡ line (map (λ f. f.now) fields.now)) }
     {
         if self.writer.get_ref().len() >= KEPT {
