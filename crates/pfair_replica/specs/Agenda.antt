@@ -1,27 +1,12 @@
 -- What is said at each slot.
-use Rattle.std.specs.Prelude.{ℕ, ◌≡◌, ◌==◌, List, [], ◌∷◌, ◌++◌, Option, Some, None, Vec, if◌then◌else◌}
-use Rattle.std.specs.declared.alloc.Global.{Global}
-use Rattle.std.specs.Ordering.{nat_cmp}
-use Rattle.std.specs.BTreeMap.{BTreeMap, get}
+use Rattle.std.specs.Prelude.{ℕ, ◌≡◌, List, ◌++◌}
 use Rattle.pfair_entry.specs.Said.{Said}
+use Rattle.pfair_replica.specs.BySlot.{listed_at}
 use Rattle.pfair_replica.specs.declared.agenda.Agenda.{Agenda}
-
--- the values of a list, or none
-abbrev pub listed : {T : Type 0} → Option (Vec T Global) → List T
-listed None = []
-listed (Some list) = list.items
-
--- what is listed under a key
-abbrev pub listed_at : {T : Type 0} → BTreeMap ℕ (Vec T Global) → ℕ → List T
-listed_at lists key = listed (get nat_cmp lists key)
-
--- one value, listed under its key
-abbrev pub one_at : {T : Type 0} → ℕ → T → ℕ → List T
-one_at key value t = if key == t then value ∷ [] else []
 
 -- what is said at slot t
 abbrev pub said_at : Agenda → ℕ → List Said
-said_at agenda t = listed_at agenda.by_slot t
+said_at agenda t = listed_at agenda.by_slot.lists t
 
 -- behind what was listed before stands a beginning of what comes
 abbrev pub IsPartOf : (before now coming : List Said) → Type 0

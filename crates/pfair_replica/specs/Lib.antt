@@ -1,4 +1,5 @@
 pub mod Agenda
+pub mod BySlot
 pub mod Among
 pub mod Counters
 pub mod Faults

@@ -1,19 +1,20 @@
 //! What is said, kept by slot.
 ghost use Rattle.std.specs.Prelude.{◌≡◌, ◌++◌, ℕ, [], OnOk, OnErr};
-ghost use Rattle.pfair_replica.specs.Agenda.{said_at, listed_at, one_at};
+ghost use Rattle.pfair_replica.specs.Agenda.{said_at};
+ghost use Rattle.pfair_replica.specs.BySlot.{one_at};
 
+use crate::by_slot::BySlot;
 use pfair_entry::{Announcement, Said};
 use std::alloc::{AllocError, Global};
-use std::collections::BTreeMap;
 
 /// What is said at each slot, as [`crate::Replica::agenda`] has it, or as it is added piece by
 /// piece: a slot is looked up in a number of steps that grows with the logarithm of the number of
-/// slots at which something is said.
+/// slots at which something is said, and at once where nothing is said at it or later.
 ///
 /// It stays what it was when the replica takes in more.
 #[derive(Drop)]
 pub struct Agenda {
-    by_slot: BTreeMap<u64, Vec<Said>>,
+    by_slot: BySlot,
     alloc: Global,
 }
 
@@ -23,20 +24,18 @@ impl Agenda {
         ensures { (t : ℕ) → said_at result t ≡ [] }
     {
         Agenda {
-            by_slot: BTreeMap::new(alloc),
+            by_slot: BySlot::new(alloc),
             alloc,
         }
     }
 
     /// What is said at a slot, in the order in which it was added: by processors, and by numbers
-    /// for each processor, where the agenda is that of a replica. It costs one look-up of the slot.
+    /// for each processor, where the agenda is that of a replica. It costs one look-up of the slot,
+    /// unless all that is said is said before it.
     pub fn at(&self, slot: u64) -> &[Said]
         ensures { result.now ≡ said_at self.now slot }
     {
-        match self.by_slot.get(&slot) {
-            Some(heard) => heard,
-            None => &[],
-        }
+        self.by_slot.at(slot)
     }
 
     /// Adds what is said at a slot behind what was said at it before. It costs one look-up of the
@@ -56,32 +55,7 @@ impl Agenda {
         ensures ok { OnOk result ((t : ℕ) → said_at self.new t ≡ said_at self.old t ++ one_at slot (proc, number, announcement) t) }
         ensures err { OnErr result ((t : ℕ) → said_at self.new t ≡ said_at self.old t) }
     {
-        push_at(
-            self.alloc,
-            &mut self.by_slot,
-            slot,
-            (proc, number, announcement),
-        )
+        self.by_slot
+            .push(self.alloc, slot, (proc, number, announcement))
     }
-}
-
-// Adds a value behind those that are listed under a key.
-fn push_at<T: Drop>(
-    alloc: Global,
-    lists: &mut BTreeMap<u64, Vec<T>>,
-    key: u64,
-    value: T,
-) -> Result<(), AllocError>
-    ensures ok { OnOk result ((t : ℕ) → listed_at lists.new t ≡ listed_at lists.old t ++ one_at key value t) }
-    ensures err { OnErr result ((t : ℕ) → listed_at lists.new t ≡ listed_at lists.old t) }
-{
-    match lists.get_mut(&key) {
-        Some(list) => list.push(value)?,
-        None => {
-            let mut list = Vec::with_capacity(alloc, 1)?;
-            list.push(value)?;
-            lists.insert(key, list)?;
-        }
-    }
-    Ok(())
 }

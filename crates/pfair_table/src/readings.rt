@@ -105,7 +105,10 @@ impl Readings {
     {
         let mut announced = Vec::new(self.alloc);
         for reading in &self.by_processor {
-            announced.extend_from_slice(reading.agenda.at(slot))?;
+            let said = reading.agenda.at(slot);
+            if !said.is_empty() {
+                announced.extend_from_slice(said)?;
+            }
         }
         Ok(announced)
     }
