@@ -1,5 +1,5 @@
-//! Worked rows of the crates below the tables: windows and weights, the order, joins, entries,
-//! replicas, members and ready structures.
+//! Worked rows of the crates below the tables: windows and weights, the order, joins, lists in
+//! pieces, entries, replicas, members and ready structures.
 //!
 //! Each module tests one crate through its public calls.
 #![tactic(auto)]
@@ -12,6 +12,8 @@ mod entry;
 mod lattice;
 #[cfg(test)]
 mod order;
+#[cfg(test)]
+mod pieces;
 #[cfg(test)]
 mod ready;
 #[cfg(test)]
