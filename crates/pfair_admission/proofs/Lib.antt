@@ -9,3 +9,4 @@ pub mod NamesKept
 mod Rows
 mod Seats
 mod Sums
+mod Swept

@@ -1,22 +1,20 @@
 -- The rows of a register, and the members that have a seat there.
-use Rattle.std.proofs.Common.{◌≡◌, ◌⊎◌, inl, inr, ℕ, zero, suc, ◌+◌, ◌<◌, ◌≤◌, true, false, cond, List, [], ◌∷◌, ◌++◌, map, length, get_or, Option, Some, None, IfSome, refl, sym, ap, subst, ◌∙◌, arith}
-use Rattle.std.specs.Prelude.{not, nat_lt, ◌&&◌, is_some, slice_get, slice_set}
-use Rattle.std.specs.List.{AllByRecursion, Any, IsDistinct, filter, sum_by}
+use Rattle.std.proofs.Common.{◌≡◌, ◌⊎◌, inl, inr, ℕ, zero, suc, ◌+◌, ◌-◌, ◌<◌, ◌≤◌, true, false, cond, List, [], ◌∷◌, ◌++◌, map, drop, length, Option, Some, None, IfSome, refl, sym, ap, ◌∙◌, arith}
+use Rattle.std.specs.Prelude.{not, slice_get, slice_set}
+use Rattle.std.specs.List.{AllByRecursion, Any, IsDistinct, sum_by}
 use Rattle.std.specs.Option.{option_map}
 use Rattle.std.specs.Cmp.Lexicographic.{bytes_decides}
-use Rattle.std.proofs.lemmas.Option.{same_Some, none-some, get_or_from_slice_get, slice_get-get_or, slice_get_past}
-use Rattle.std.proofs.lemmas.Bool.Decides.{nat_tests}
+use Rattle.std.proofs.lemmas.Option.{same_Some, none-some}
 use Rattle.pfair_weight.specs.Name.{NamesApart}
 use Rattle.pfair_entry.specs.Same.{name_eq}
 use Rattle.pfair_admission.specs.Member.{Member}
 use Rattle.pfair_weight.specs.Share.{units_of}
 use Rattle.std.proofs.lemmas.List.Sums.{sum_by-cons}
 use Rattle.pfair_admission.specs.Admission.{member_named, change, claimed, is_freed, present}
-use Rattle.pfair_admission.specs.Registry.{Places, AreFound, AreSeats, IsSeat, is_taken, place_named, row_freed_at, row_units, seated}
+use Rattle.pfair_admission.specs.Registry.{place_of, row_freed_at, row_units, seated, AreFound, AreSeats, IsRegister, IsSeat, Places}
 use Rattle.pfair_admission.specs.Removal.{NoneFreedBefore, IsNotBefore, SomeFreedAt}
 use Rattle.pfair_admission.specs.declared.registry.Row.{Row}
 use Rattle.pfair_admission.proofs.Changes.{IsWritten}
-use Rattle.pfair_admission.proofs.NamesKept.{apart_present}
 
 abbrev pub Rows : Type 0
 Rows = List Row
@@ -106,25 +104,27 @@ one_seated (x ∷ rows) name (suc p) r at seat is only =
     ]) refl
 
 -- two places of one name are one
-pub only_at : (rows : Rows) (places : Places) (name : List ℕ) (p : ℕ) → AreFound rows places → place_named places name ≡ Some p → OnlyAt rows name p
-only_at rows places name p found at q x there here named = same_Some q p (sym (found q x there here) ∙ ap (place_named places) named ∙ at)
+pub only_at : (rows : Rows) (places : Places) (name : List ℕ) (p : ℕ) → AreFound rows places → place_of places name ≡ Some p → OnlyAt rows name p
+only_at rows places name p found at q x there here named = same_Some q p (sym (found q x there here) ∙ ap (place_of places) named ∙ at)
 
-pub no_seat : (rows : Rows) (places : Places) (name : List ℕ) → AreFound rows places → place_named places name ≡ None → NoSeat rows name
-no_seat rows places name found none q x there here named = none-some q (sym none ∙ sym (ap (place_named places) named) ∙ found q x there here)
+pub no_seat : (rows : Rows) (places : Places) (name : List ℕ) → AreFound rows places → place_of places name ≡ None → NoSeat rows name
+no_seat rows places name found none q x there here named = none-some q (sym none ∙ sym (ap (place_of places) named) ∙ found q x there here)
 
 -- who is found under a name
-pub found_at : (rows : Rows) (places : Places) (name : List ℕ) (p : ℕ) (r : Row) → AreSeats rows places → AreFound rows places → place_named places name ≡ Some p → slice_get rows p ≡ Some r → member_named (seated rows) name ≡ Some r.member
+pub found_at : (rows : Rows) (places : Places) (name : List ℕ) (p : ℕ) (r : Row) → AreSeats rows places → AreFound rows places → place_of places name ≡ Some p → slice_get rows p ≡ Some r → member_named (seated rows) name ≡ Some r.member
 found_at rows places name p r seats found at there =
     let s = seats name p at in
     let same : s.0 ≡ r = same_Some s.0 r (sym s.1 ∙ there) in
     one_seated rows name p s.0 s.1 s.2 s.3 (only_at rows places name p found at) ∙ ap (λ (y : Row). Some y.member) same
 
-pub none_found : (rows : Rows) (places : Places) (name : List ℕ) → AreFound rows places → place_named places name ≡ None → member_named (seated rows) name ≡ None
+pub none_found : (rows : Rows) (places : Places) (name : List ℕ) → AreFound rows places → place_of places name ≡ None → member_named (seated rows) name ≡ None
 none_found rows places name found none = none_seated rows name (no_seat rows places name found none)
 
--- the row that an index gives is the one at the place
-pub at_index : (rows : Rows) (p : ℕ) (r x : Row) → slice_get rows p ≡ Some r → x ≡ get_or rows p x → r ≡ x
-at_index rows p r x at is = sym (is ∙ get_or_from_slice_get rows p r x at)
+-- who has the place of a name isn't vacated
+pub same_open : (rows : Rows) (places : Places) (name : List ℕ) (p : ℕ) (r : Row) → AreSeats rows places → place_of places name ≡ Some p → slice_get rows p ≡ Some r → r.is_vacated ≡ false
+same_open rows places name p r seats place at =
+    let s = seats name p place in
+    ap (λ (y : Row). y.is_vacated) (same_Some r s.0 (sym at ∙ s.1)) ∙ s.2
 
 -- ---- names
 
@@ -159,7 +159,7 @@ apart_once (x ∷ rows) once =
     ]) refl
 
 pub seats_apart : (rows : Rows) (places : Places) → AreFound rows places → NamesApart (λ (m : Member). m.name) (seated rows)
-seats_apart rows places found = apart_once rows (λ p q r s at there here free same. same_Some p q (sym (found p r at here) ∙ ap (place_named places) same ∙ found q s there free))
+seats_apart rows places found = apart_once rows (λ p q r s at there here free same. same_Some p q (sym (found p r at here) ∙ ap (place_of places) same ∙ found q s there free))
 
 -- ---- a member that is changed at its place
 
@@ -237,12 +237,12 @@ found_written rows places p r m at named found q x there here =
       | inl e ↦
           let same : with_member r m ≡ x = same_Some (with_member r m) x (sym (ap (slice_get (slice_set rows p (with_member r m))) e ∙ at_set rows p r (with_member r m) at) ∙ there) in
           let free : r.is_vacated ≡ false = ap (λ (y : Row). y.is_vacated) same ∙ here in
-          ap (place_named places) (sym (ap (λ (y : Row). y.member.name) same) ∙ named) ∙ found p r at free ∙ ap (λ (k : ℕ). Some k) (sym e)
+          ap (place_of places) (sym (ap (λ (y : Row). y.member.name) same) ∙ named) ∙ found p r at free ∙ ap (λ (k : ℕ). Some k) (sym e)
       | inr other ↦ found q x (sym (at_others rows p q (with_member r m) other) ∙ there) here
     ]
 
 -- a register whose named member, m, has become n at its place
-pub is_written : (rows : Rows) (places : Places) (name : List ℕ) (p : ℕ) (r : Row) (n : Member) → AreSeats rows places → AreFound rows places → place_named places name ≡ Some p → slice_get rows p ≡ Some r → IsWritten name r.member n (seated rows) (seated (slice_set rows p (with_member r n)))
+pub is_written : (rows : Rows) (places : Places) (name : List ℕ) (p : ℕ) (r : Row) (n : Member) → AreSeats rows places → AreFound rows places → place_of places name ≡ Some p → slice_get rows p ≡ Some r → IsWritten name r.member n (seated rows) (seated (slice_set rows p (with_member r n)))
 is_written rows places name p r n seats found place at =
     let s = seats name p place in
     let same : s.0 ≡ r = same_Some s.0 r (sym s.1 ∙ at) in
@@ -307,16 +307,16 @@ vacated_elsewhere rows p q r x at there here =
 
 -- the places, where the name is taken out
 abbrev pub IsWithout : List ℕ → Places → Places → Type 0
-IsWithout name old new = (n : List ℕ) → place_named new n ≡ cond (name_eq name n) None (place_named old n)
+IsWithout name old new = (n : List ℕ) → place_of new n ≡ cond (name_eq name n) None (place_of old n)
 
-pub no_seat_vacated : (rows : Rows) (places : Places) (name : List ℕ) (p : ℕ) (r : Row) → AreFound rows places → place_named places name ≡ Some p → slice_get rows p ≡ Some r → NoSeat (slice_set rows p (vacated r)) name
+pub no_seat_vacated : (rows : Rows) (places : Places) (name : List ℕ) (p : ℕ) (r : Row) → AreFound rows places → place_of places name ≡ Some p → slice_get rows p ≡ Some r → NoSeat (slice_set rows p (vacated r)) name
 no_seat_vacated rows places name p r found place at q x there here named =
     let s = vacated_elsewhere rows p q r x at there here in
     s.0 (only_at rows places name p found place q x s.1 here named)
 
-pub seats_vacated : (rows : Rows) (old new : Places) (name : List ℕ) (p : ℕ) (r : Row) → IsWithout name old new → AreSeats rows old → place_named old name ≡ Some p → slice_get rows p ≡ Some r → AreSeats (slice_set rows p (vacated r)) new
+pub seats_vacated : (rows : Rows) (old new : Places) (name : List ℕ) (p : ℕ) (r : Row) → IsWithout name old new → AreSeats rows old → place_of old name ≡ Some p → slice_get rows p ≡ Some r → AreSeats (slice_set rows p (vacated r)) new
 seats_vacated rows old new name p r without seats place at n q there =
-    (elim (name_eq name n) as (λ b. name_eq name n ≡ b → cond b None (place_named old n) ≡ Some q → IsSeat (slice_set rows p (vacated r)) n q) [
+    (elim (name_eq name n) as (λ b. name_eq name n ≡ b → cond b None (place_of old n) ≡ Some q → IsSeat (slice_set rows p (vacated r)) n q) [
       | true ↦ λ _ none. absurd (none-some q none)
       | false ↦ λ differ is.
           let s = seats n q is in
@@ -328,11 +328,11 @@ seats_vacated rows old new name p r without seats place at n q there =
           (s.0, at_others rows p q (vacated r) other ∙ s.1, s.2, s.3)
     ]) refl (sym (without n) ∙ there)
 
-pub found_vacated : (rows : Rows) (old new : Places) (name : List ℕ) (p : ℕ) (r : Row) → IsWithout name old new → AreFound rows old → place_named old name ≡ Some p → slice_get rows p ≡ Some r → AreFound (slice_set rows p (vacated r)) new
+pub found_vacated : (rows : Rows) (old new : Places) (name : List ℕ) (p : ℕ) (r : Row) → IsWithout name old new → AreFound rows old → place_of old name ≡ Some p → slice_get rows p ≡ Some r → AreFound (slice_set rows p (vacated r)) new
 found_vacated rows old new name p r without found place at q x there here =
     let s = vacated_elsewhere rows p q r x at there here in
     without x.member.name
-    ∙ (elim (name_eq name x.member.name) as (λ b. name_eq name x.member.name ≡ b → cond b None (place_named old x.member.name) ≡ Some q) [
+    ∙ (elim (name_eq name x.member.name) as (λ b. name_eq name x.member.name ≡ b → cond b None (place_of old x.member.name) ≡ Some q) [
       | true ↦ λ named. absurd (s.0 (only_at rows old name p found place q x s.1 here (sym ((bytes_decides name x.member.name).0 named))))
       | false ↦ λ _. found q x s.1 here
     ]) refl
@@ -355,72 +355,62 @@ length_pushed (x ∷ rows) r here =
 
 -- the places, with one more
 abbrev pub IsWith : List ℕ → ℕ → Places → Places → Type 0
-IsWith name p old new = (n : List ℕ) → place_named new n ≡ cond (name_eq name n) (Some p) (place_named old n)
+IsWith name p old new = (n : List ℕ) → place_of new n ≡ cond (name_eq name n) (Some p) (place_of old n)
 
 pub seats_pushed : (rows : Rows) (old new : Places) (name : List ℕ) (r : Row) → r.is_vacated ≡ false → r.member.name ≡ name → IsWith name (length rows) old new → AreSeats rows old → AreSeats (rows ++ r ∷ []) new
 seats_pushed rows old new name r here is more seats n q place =
-    (elim (name_eq name n) as (λ b. name_eq name n ≡ b → cond b (Some (length rows)) (place_named old n) ≡ Some q → IsSeat (rows ++ r ∷ []) n q) [
+    (elim (name_eq name n) as (λ b. name_eq name n ≡ b → cond b (Some (length rows)) (place_of old n) ≡ Some q → IsSeat (rows ++ r ∷ []) n q) [
       | true ↦ λ named last. (r, ap (slice_get (rows ++ r ∷ [])) (sym (same_Some (length rows) q last)) ∙ push_here rows r, here, is ∙ (bytes_decides name n).0 named)
       | false ↦ λ _ there. let s = seats n q there in (s.0, push_before rows r q s.0 s.1, s.2, s.3)
     ]) refl (sym (more n) ∙ place)
 
-pub found_pushed : (rows : Rows) (old new : Places) (name : List ℕ) (r : Row) → r.member.name ≡ name → place_named old name ≡ None → IsWith name (length rows) old new → AreFound rows old → AreFound (rows ++ r ∷ []) new
+pub found_pushed : (rows : Rows) (old new : Places) (name : List ℕ) (r : Row) → r.member.name ≡ name → place_of old name ≡ None → IsWith name (length rows) old new → AreFound rows old → AreFound (rows ++ r ∷ []) new
 found_pushed rows old new name r is none more found q x there here =
     elim (pushed_at rows r q x there) [
       | inl h ↦
-          more x.member.name ∙ ap (λ b. cond b (Some (length rows)) (place_named old x.member.name)) ((bytes_decides name x.member.name).1 (sym (ap (λ (y : Row). y.member.name) h.1 ∙ is))) ∙ ap (λ (k : ℕ). Some k) (sym h.0)
+          more x.member.name ∙ ap (λ b. cond b (Some (length rows)) (place_of old x.member.name)) ((bytes_decides name x.member.name).1 (sym (ap (λ (y : Row). y.member.name) h.1 ∙ is))) ∙ ap (λ (k : ℕ). Some k) (sym h.0)
       | inr before ↦
           let place = found q x before here in
           more x.member.name
-          ∙ (elim (name_eq name x.member.name) as (λ b. name_eq name x.member.name ≡ b → cond b (Some (length rows)) (place_named old x.member.name) ≡ Some q) [
-            | true ↦ λ named. absurd (none-some q (sym none ∙ ap (place_named old) ((bytes_decides name x.member.name).0 named) ∙ place))
+          ∙ (elim (name_eq name x.member.name) as (λ b. name_eq name x.member.name ≡ b → cond b (Some (length rows)) (place_of old x.member.name) ≡ Some q) [
+            | true ↦ λ named. absurd (none-some q (sym none ∙ ap (place_of old) ((bytes_decides name x.member.name).0 named) ∙ place))
             | false ↦ λ _. place
           ]) refl
     ]
 
 -- a name that no member has has no place
-pub unnamed_place : (rows : Rows) (places : Places) (name : List ℕ) → AreSeats rows places → AreFound rows places → member_named (seated rows) name ≡ None → place_named places name ≡ None
-unnamed_place rows places name seats found none = by (place_named places name) refl
+pub unnamed_place : (rows : Rows) (places : Places) (name : List ℕ) → AreSeats rows places → AreFound rows places → member_named (seated rows) name ≡ None → place_of places name ≡ None
+unnamed_place rows places name seats found none = by (place_of places name) refl
   where
-    by : (o : Option ℕ) → place_named places name ≡ o → o ≡ None
+    by : (o : Option ℕ) → place_of places name ≡ o → o ≡ None
     by None place = refl
     by (Some p) place = let s = seats name p place in absurd (none-some s.0.member (sym none ∙ found_at rows places name p s.0 seats found place s.1))
 
--- ---- those that stay
+pub same_names : (name : List ℕ) → name_eq name name ≡ true
+same_names name = (bytes_decides name name).1 refl
 
-pub seated_taken : (t : ℕ) (rows : Rows) → seated (filter (is_taken t) rows) ≡ present t (seated rows)
-seated_taken t [] = refl
-seated_taken t (x ∷ rows) =
-    (elim x.is_vacated as (λ b. x.is_vacated ≡ b → seated (cond (not b && not (is_freed t x.member.freed_at)) (x ∷ filter (is_taken t) rows) (filter (is_taken t) rows)) ≡ present t (cond b (seated rows) (x.member ∷ seated rows))) [
-      | true ↦ λ _. seated_taken t rows
-      | false ↦ λ here.
-          elim (is_freed t x.member.freed_at) as (λ g. seated (cond (true && not g) (x ∷ filter (is_taken t) rows) (filter (is_taken t) rows)) ≡ cond (not g) (x.member ∷ present t (seated rows)) (present t (seated rows))) [
-            | true ↦ seated_taken t rows
-            | false ↦ ap (λ b. cond b (seated (filter (is_taken t) rows)) (x.member ∷ seated (filter (is_taken t) rows))) here ∙ ap (λ (l : List Member). x.member ∷ l) (seated_taken t rows)
-          ]
+-- a name that is put in and taken out
+pub back_again : (name : List ℕ) (place : ℕ) (old more new : Places) → place_of old name ≡ None → IsWith name place old more → IsWithout name more new → (n : List ℕ) → place_of new n ≡ place_of old n
+back_again name place old more new none with without n =
+    without n
+    ∙ (elim (name_eq name n) as (λ b. name_eq name n ≡ b → cond b None (place_of more n) ≡ place_of old n) [
+      | true ↦ λ named. sym none ∙ ap (place_of old) ((bytes_decides name n).0 named)
+      | false ↦ λ differ. with n ∙ ap (λ b. cond b (Some place) (place_of old n)) differ
     ]) refl
 
--- none of them is vacated
-pub taken_open : (t : ℕ) (rows : Rows) → AllByRecursion (λ (r : Row). r.is_vacated ≡ false) (filter (is_taken t) rows)
-taken_open t [] = tt
-taken_open t (x ∷ rows) =
-    (elim x.is_vacated as (λ b. x.is_vacated ≡ b → AllByRecursion (λ (r : Row). r.is_vacated ≡ false) (cond (not b && not (is_freed t x.member.freed_at)) (x ∷ filter (is_taken t) rows) (filter (is_taken t) rows))) [
-      | true ↦ λ _. taken_open t rows
-      | false ↦ λ here.
-          elim (is_freed t x.member.freed_at) as (λ g. AllByRecursion (λ (r : Row). r.is_vacated ≡ false) (cond (true && not g) (x ∷ filter (is_taken t) rows) (filter (is_taken t) rows))) [
-            | true ↦ taken_open t rows
-            | false ↦ (here, taken_open t rows)
-          ]
-    ]) refl
+-- places that are found alike are as good
+pub register_same : (rows : Rows) (old new : Places) → ((name : List ℕ) → place_of new name ≡ place_of old name) → length new ≡ length old → IsRegister rows old → IsRegister rows new
+register_same rows old new same count register = record {
+  seats = λ name place at. register.seats name place (sym (same name) ∙ at);
+  found = λ place r at here. same r.member.name ∙ register.found place r at here;
+  size = count ∙ register.size;
+}
+
+-- ---- where no row is vacated
 
 pub open_seated : (rows : Rows) → AllByRecursion (λ (r : Row). r.is_vacated ≡ false) rows → seated rows ≡ map (λ (r : Row). r.member) rows
 open_seated [] h = refl
 open_seated (x ∷ rows) h = ap (λ b. cond b (seated rows) (x.member ∷ seated rows)) h.0 ∙ ap (λ (l : List Member). x.member ∷ l) (open_seated rows h.1)
-
-pub open_at : (rows : Rows) (p : ℕ) (r : Row) → AllByRecursion (λ (r : Row). r.is_vacated ≡ false) rows → slice_get rows p ≡ Some r → r.is_vacated ≡ false
-open_at [] p r h at = absurd (none-some r at)
-open_at (x ∷ rows) zero r h at = sym (ap (λ (y : Row). y.is_vacated) (same_Some x r at)) ∙ h.0
-open_at (x ∷ rows) (suc p) r h at = open_at rows p r h.1 at
 
 pub seated_at_most : (rows : Rows) → length (seated rows) ≤ length rows
 seated_at_most [] = omega arith
@@ -443,87 +433,19 @@ at_mapped [] p = refl
 at_mapped (x ∷ rows) zero = refl
 at_mapped (x ∷ rows) (suc p) = at_mapped rows p
 
--- ---- rows that are given their places
-
--- the places so far are those of rows below k
-abbrev pub AreSeatsTo : ℕ → Rows → Places → Type 0
-AreSeatsTo k rows places = (name : List ℕ) (p : ℕ) → place_named places name ≡ Some p → (p < k) × (r : Row) × (slice_get rows p ≡ Some r) × (r.member.name ≡ name)
-
--- and each of these rows has its place
-abbrev pub AreFoundTo : ℕ → Rows → Places → Type 0
-AreFoundTo k rows places = (p : ℕ) (r : Row) → p < k → slice_get rows p ≡ Some r → place_named places r.member.name ≡ Some p
-
-differ : (name : List ℕ) (rows : Rows) (q : ℕ) (s : Row) → AllByRecursion (λ n. name_eq name n ≡ false) (map (λ (r : Row). r.member.name) rows) → slice_get rows q ≡ Some s → s.member.name ≡ name → ⊥
-differ name [] q s h there is = none-some s there
-differ name (y ∷ rows) zero s h there is = let no = sym h.0 ∙ (bytes_decides name y.member.name).1 (sym (ap (λ (z : Row). z.member.name) (same_Some y s there) ∙ is)) in cc
-differ name (y ∷ rows) (suc q) s h there is = differ name rows q s h.1 there is
-
--- no two rows have one name
-pub names_once : (rows : Rows) (p q : ℕ) (r s : Row) → NamesApart (λ (r : Row). r.member.name) rows → slice_get rows p ≡ Some r → slice_get rows q ≡ Some s → r.member.name ≡ s.member.name → p ≡ q
-unfolding IsDistinct
-names_once [] p q r s apart at there same = absurd (none-some r at)
-names_once (x ∷ rows) zero zero r s apart at there same = refl
-names_once (x ∷ rows) zero (suc q) r s apart at there same = absurd (differ x.member.name rows q s apart.0 there (sym (ap (λ (y : Row). y.member.name) (same_Some x r at) ∙ same)))
-names_once (x ∷ rows) (suc p) zero r s apart at there same = absurd (differ x.member.name rows p r apart.0 at (same ∙ sym (ap (λ (y : Row). y.member.name) (same_Some x s there))))
-names_once (x ∷ rows) (suc p) (suc q) r s apart at there same = ap suc (names_once rows p q r s apart.1 at there same)
-
--- the next row's name has no place yet
-pub next_unplaced : (k : ℕ) (rows : Rows) (places : Places) (r : Row) → NamesApart (λ (r : Row). r.member.name) rows → AreSeatsTo k rows places → slice_get rows k ≡ Some r → place_named places r.member.name ≡ None
-next_unplaced k rows places r apart seats at = by (place_named places r.member.name) refl
+-- who has a seat from a row on
+pub seated_from : (rows : Rows) (k : ℕ) (r : Row) → slice_get rows k ≡ Some r → seated (drop k rows) ≡ cond r.is_vacated (seated (drop (k + 1) rows)) (r.member ∷ seated (drop (k + 1) rows))
+seated_from rows k r at = let e : suc k ≡ k + 1 = omega arith in from rows k r at ∙ ap (λ (i : ℕ). cond r.is_vacated (seated (drop i rows)) (r.member ∷ seated (drop i rows))) e
   where
-    by : (o : Option ℕ) → place_named places r.member.name ≡ o → o ≡ None
-    by None place = refl
-    by (Some p) place =
-        let s = seats r.member.name p place in
-        absurd (let e = names_once rows p k s.1 r apart s.2 at s.3 in let less = s.0 in omega (arith, e, less))
+    from : (rows : Rows) (k : ℕ) (r : Row) → slice_get rows k ≡ Some r → seated (drop k rows) ≡ cond r.is_vacated (seated (drop (suc k) rows)) (r.member ∷ seated (drop (suc k) rows))
+    from [] k r at = absurd (none-some r at)
+    from (x ∷ rows) zero r at = ap (λ (y : Row). cond y.is_vacated (seated rows) (y.member ∷ seated rows)) (same_Some x r at)
+    from (x ∷ rows) (suc k) r at = from rows k r at
 
-pub seats_to_more : (k : ℕ) (rows : Rows) (old new : Places) (r : Row) → slice_get rows k ≡ Some r → IsWith r.member.name k old new → AreSeatsTo k rows old → AreSeatsTo (k + 1) rows new
-seats_to_more k rows old new r at more seats n p place =
-    (elim (name_eq r.member.name n) as (λ b. name_eq r.member.name n ≡ b → cond b (Some k) (place_named old n) ≡ Some p → (p < k + 1) × (s : Row) × (slice_get rows p ≡ Some s) × (s.member.name ≡ n)) [
-      | true ↦ λ named last. let e = same_Some k p last in (omega (arith, e), r, ap (slice_get rows) (sym e) ∙ at, (bytes_decides r.member.name n).0 named)
-      | false ↦ λ _ there. let s = seats n p there in let less = s.0 in (omega (arith, less), s.1, s.2, s.3)
-    ]) refl (sym (more n) ∙ place)
-
-pub found_to_more : (k : ℕ) (rows : Rows) (old new : Places) (r : Row) → NamesApart (λ (r : Row). r.member.name) rows → slice_get rows k ≡ Some r → IsWith r.member.name k old new → AreFoundTo k rows old → AreFoundTo (k + 1) rows new
-found_to_more k rows old new r apart at more found p s within there =
-    more s.member.name
-    ∙ (elim (name_eq r.member.name s.member.name) as (λ b. name_eq r.member.name s.member.name ≡ b → cond b (Some k) (place_named old s.member.name) ≡ Some p) [
-      | true ↦ λ named. ap (λ (i : ℕ). Some i) (names_once rows k p r s apart at there ((bytes_decides r.member.name s.member.name).0 named))
-      | false ↦ λ other.
-          elim (same_place p k) [
-            | inl e ↦
-                let same : s ≡ r = same_Some s r (sym there ∙ ap (slice_get rows) e ∙ at) in
-                absurd (let no = sym ((bytes_decides r.member.name s.member.name).1 (sym (ap (λ (y : Row). y.member.name) same))) ∙ other in cc)
-            | inr differ ↦ found p s (less p k within differ) there
-          ]
-    ]) refl
-  where
-    less : (p k : ℕ) → p < k + 1 → (p ≡ k → ⊥) → p < k
-    less p k within differ = grind (arith, within, differ)
-
--- who stays has a name of its own
-pub taken_apart : (t : ℕ) (rows : Rows) (places : Places) → AreFound rows places → NamesApart (λ (r : Row). r.member.name) (filter (is_taken t) rows)
-taken_apart t rows places found =
-    subst (λ ns. IsDistinct name_eq ns) (sym (names (filter (is_taken t) rows) (taken_open t rows) ∙ ap (map (λ (m : Member). m.name)) (seated_taken t rows))) (apart_present t (seated rows) (seats_apart rows places found))
-  where
-    names : (rows : Rows) → AllByRecursion (λ (r : Row). r.is_vacated ≡ false) rows → map (λ (r : Row). r.member.name) rows ≡ map (λ (m : Member). m.name) (seated rows)
-    names [] h = refl
-    names (x ∷ rows) h = ap (λ (l : List (List ℕ)). x.member.name ∷ l) (names rows h.1) ∙ sym (ap (λ b. map (λ (m : Member). m.name) (cond b (seated rows) (x.member ∷ seated rows))) h.0)
-
--- and no more of them than had a seat
-pub taken_at_most : (t : ℕ) (rows : Rows) → length (filter (is_taken t) rows) ≤ length (seated rows)
-taken_at_most t [] = omega arith
-taken_at_most t (x ∷ rows) =
-    let rest = taken_at_most t rows in
-    (elim x.is_vacated as (λ b. length (cond (not b && not (is_freed t x.member.freed_at)) (x ∷ filter (is_taken t) rows) (filter (is_taken t) rows)) ≤ length (cond b (seated rows) (x.member ∷ seated rows))) [
-      | true ↦ rest
-      | false ↦
-          elim (is_freed t x.member.freed_at) as (λ g. length (cond (true && not g) (x ∷ filter (is_taken t) rows) (filter (is_taken t) rows)) ≤ suc (length (seated rows))) [ true ↦ omega (arith, rest) | false ↦ omega (arith, rest) ]
-    ])
-
-pub open_length : (rows : Rows) → AllByRecursion (λ (r : Row). r.is_vacated ≡ false) rows → length (seated rows) ≡ length rows
-open_length [] h = refl
-open_length (x ∷ rows) h = ap (λ b. length (cond b (seated rows) (x.member ∷ seated rows))) h.0 ∙ ap suc (open_length rows h.1)
+-- who comes behind the first
+pub behind_first : (m : Member) (ms : List Member) (k : ℕ) → 0 < k → slice_get (m ∷ ms) k ≡ slice_get ms (k - 1)
+behind_first m ms zero some = absurd (omega (arith, some))
+behind_first m ms (suc k) some = let e : k ≡ suc k - 1 = omega arith in ap (slice_get ms) e
 
 -- ---- sums and freeing slots
 
@@ -567,8 +489,3 @@ some_freed (Some s) rows h = some_freed_seated s rows h
 pub map_twice : {A B C : Type 0} (f : A → B) (g : B → C) (o : Option A) → option_map (λ a. g (f a)) o ≡ option_map g (option_map f o)
 map_twice f g None = refl
 map_twice f g (Some a) = refl
-
--- what a slice's get answers
-pub got : {A : Type 0} (now : A → Row) (rows : Rows) (place : ℕ) (o : Option A) → is_some o ≡ nat_lt place (length rows) → IfSome o (λ x. now x ≡ get_or rows place (now x)) → option_map now o ≡ slice_get rows place
-got now rows place None some at = sym (slice_get_past rows place (grind (arith, nat_tests)))
-got now rows place (Some x) some at = let within : place < length rows = grind (arith, nat_tests) in ap (λ (r : Row). Some r) at ∙ sym (slice_get-get_or rows place (now x) within)

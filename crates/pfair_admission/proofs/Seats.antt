@@ -3,7 +3,7 @@ use Rattle.std.proofs.Common.{◌≡◌, ℕ, true, false, List, Option, Some, N
 use Rattle.std.specs.Prelude.{IfNone, slice_get, is_some, if◌then◌else◌}
 use Rattle.std.proofs.lemmas.Option.{none-some}
 use Rattle.pfair_admission.specs.Admission.{member_named, is_freed, present}
-use Rattle.pfair_admission.specs.Registry.{AreFound, AreSeats, IsTaken, Places, place_named, seated}
+use Rattle.pfair_admission.specs.Registry.{AreFound, AreSeats, IsTaken, Places, place_of, seated}
 use Rattle.pfair_admission.specs.declared.registry.Row.{Row}
 use Rattle.pfair_admission.proofs.Gone.{found_present, unless_freed}
 use Rattle.pfair_admission.proofs.Rows.{Rows, found_at, none_found, seats_apart}
@@ -17,9 +17,9 @@ taken_found t rows places name p seats found k =
 
 -- where nobody has it, nobody is found
 pub untaken_none : (t : ℕ) (rows : Rows) (places : Places) (name : List ℕ) → AreSeats rows places → AreFound rows places → ((p : ℕ) → IsTaken t rows places name p → ⊥) → member_named (present t (seated rows)) name ≡ None
-untaken_none t rows places name seats found none = found_present t name (seated rows) (seats_apart rows places found) ∙ by (place_named places name) refl
+untaken_none t rows places name seats found none = found_present t name (seated rows) (seats_apart rows places found) ∙ by (place_of places name) refl
   where
-    by : (o : Option ℕ) → place_named places name ≡ o → unless_freed t (member_named (seated rows) name) ≡ None
+    by : (o : Option ℕ) → place_of places name ≡ o → unless_freed t (member_named (seated rows) name) ≡ None
     by None place = ap (unless_freed t) (none_found rows places name found place)
     by (Some p) place =
         let s = seats name p place in
@@ -35,7 +35,7 @@ has_seat t rows places name (Some p) seats found some none = sym (ap is_some (ta
 has_seat t rows places name None seats found some none = sym (ap is_some (untaken_none t rows places name seats found none))
 
 -- and where nobody is found, who has the place is freed
-pub untaken_freed : (t : ℕ) (rows : Rows) (places : Places) (name : List ℕ) (p : ℕ) (r : Row) → AreSeats rows places → AreFound rows places → place_named places name ≡ Some p → slice_get rows p ≡ Some r → member_named (present t (seated rows)) name ≡ None → is_freed t r.member.freed_at ≡ true
+pub untaken_freed : (t : ℕ) (rows : Rows) (places : Places) (name : List ℕ) (p : ℕ) (r : Row) → AreSeats rows places → AreFound rows places → place_of places name ≡ Some p → slice_get rows p ≡ Some r → member_named (present t (seated rows)) name ≡ None → is_freed t r.member.freed_at ≡ true
 untaken_freed t rows places name p r seats found place at none =
     (elim (is_freed t r.member.freed_at) as (λ b. is_freed t r.member.freed_at ≡ b → b ≡ true) [
       | true ↦ λ _. refl

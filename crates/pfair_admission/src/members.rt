@@ -71,10 +71,14 @@ impl Members {
     /// calls.
     ///
     /// It costs four passes over all members where a freeing slot has come since the last boundary,
-    /// three where members depart and are freed at this very slot, and none where neither is so.
-    /// Then each announcement costs a look-up of its name, and
+    /// three where members depart and are freed at this very slot, and none where neither is so;
+    /// in these passes a look-up for each member that goes, and for each that was admitted after the
+    /// first of them. Then each announcement costs a look-up of its name, and
     ///
-    /// - an arrival: three more where it is admitted, whoever had the name before;
+    /// - an arrival: three more where it is admitted, whoever had the name before. Nobody is moved
+    ///   for it, but for the first 2,048 members and the names of the first 1,024: now and then room
+    ///   is taken for twice as many names, and each arrival from then on moves eight names there,
+    ///   until when a look-up may be one in each of two maps;
     /// - a departure: a pass over the accepted delays of the member where it ran, and a second
     ///   look-up where it is freed at its very stamp;
     /// - a late release: a number of steps that grows with the logarithm of the number of later

@@ -1,13 +1,12 @@
 //! The members by name, in the order of their admission.
-ghost use Rattle.std.specs.Prelude.{◌≡◌, ◌≤◌, ◌<◌, ◌+◌, ◌++◌, ◌∷◌, [], ◌^◌, ℕ, OnOk, OnErr, IfOk, IfSome, IfNone, None, Some, is_some, not, false, length, slice_get, if◌then◌else◌};
+ghost use Rattle.std.specs.Prelude.{◌≡◌, ◌≤◌, ◌<◌, ◌+◌, ◌++◌, ◌∷◌, [], map, ◌^◌, ℕ, OnOk, OnErr, IfOk, IfSome, IfNone, None, Some, is_some, not, false, length, slice_get, slice_index_or, if◌then◌else◌};
 ghost use Rattle.std.specs.List.{AllByRecursion};
 ghost use Rattle.std.specs.Option.{ForSome, option_copied, option_map};
-ghost use Rattle.indexmap.specs.IndexMap.{index_map_len, spare};
 ghost use Rattle.pfair_weight.specs.Name.{NamesApart};
 ghost use Rattle.pfair_entry.specs.declared.announcement.Announcement.TheVariants.{Arrive, Depart, Late};
 ghost use Rattle.pfair_admission.specs.Member.{last_offset};
 ghost use Rattle.pfair_admission.specs.Admission.{member_named, departure, late_release, effect, present, claimed, running, ran, quantum_of, is_freed};
-ghost use Rattle.pfair_admission.specs.Registry.{AreSeats, AreFound, IsSeat, IsTaken, is_taken, place_named, row_freed_at, row_units, seated};
+ghost use Rattle.pfair_admission.specs.Registry.{changed_at, row_freed_at, row_units, seated, unseated, AreSeats, IsClosedTo, IsRegister, IsTaken};
 ghost use Rattle.pfair_admission.specs.Removal.{MakesWay, earlier_of, units_named, NoneFreedBefore, SomeFreedAt};
 ghost use Rattle.pfair_weight.specs.Share.{units_of};
 
@@ -15,7 +14,7 @@ use crate::decision::Decision;
 use crate::incarnation::{Incarnation, has_come};
 use crate::quantum::Quantum;
 use crate::refusal::Refusal;
-use indexmap::IndexMap;
+use pfair_pieces::{NameIndex, PieceList};
 use pfair_weight::{MAX_INDEX, MAX_OFFSET, TaskName, Weight};
 use std::alloc::{AllocError, Global};
 use std::marker::Model;
@@ -29,12 +28,13 @@ pub(crate) struct Row {
 }
 
 /// The members by name, in the order of their admission. Nobody is moved where a name is given away:
-/// its row is vacated, and all such go in one pass when the rows are swept.
+/// its row is vacated, and all such go when the rows are swept. Nor is anybody moved where one more
+/// is admitted, but for the first 2,048.
 #[derive(Drop)]
 pub(crate) struct Registry {
-    rows: Vec<Row>,
+    rows: PieceList<Row>,
     // Of each name the place of its row.
-    places: IndexMap<TaskName, usize>,
+    places: NameIndex,
 }
 
 impl Model for Registry {
@@ -55,8 +55,8 @@ impl Registry {
         ensures { result ≡ [] }
     {
         Registry {
-            rows: Vec::new(alloc),
-            places: IndexMap::new(alloc),
+            rows: PieceList::new(alloc),
+            places: NameIndex::new(alloc),
         }
     }
 
@@ -70,8 +70,8 @@ impl Registry {
     pub(crate) fn get(&self, name: &TaskName) -> Option<&Incarnation>
         ensures { option_copied result ≡ member_named self.now name.now }
     {
-        let place = *self.places.get(name)?;
-        Some(&self.rows[place].member)
+        let row = self.rows.get(self.places.get(name)?)?;
+        Some(&row.member)
     }
 
     /// The member at a place, with its name: at once, unless rows are vacated.
@@ -79,7 +79,7 @@ impl Registry {
         ensures name { option_map (λ m. m.0.now) result ≡ option_map (λ m. m.name) (slice_get self.now place) }
         ensures member { option_map (λ m. m.1.now) result ≡ slice_get self.now place }
     {
-        let row = seat_at(self.rows.as_slice(), self.places.len(), place)?;
+        let row = seat_at(&self.rows, self.places.len(), place)?;
         Some((row.member.name(), &row.member))
     }
 
@@ -89,15 +89,18 @@ impl Registry {
         ensures ok { OnOk result (self.new ≡ self.old ++ newcomer ∷ []) }
         ensures err { OnErr result (self.new ≡ self.old) }
     {
-        let (name, place) = (*newcomer.name(), self.rows.len());
-        self.places.reserve(1)?;
-        self.rows.push(Row {
+        let name = *newcomer.name();
+        self.places.insert(name, self.rows.len())?;
+        let row = Row {
             member: newcomer,
             is_vacated: false,
-        })?;
-        match self.places.insert(name, place) {
-            Ok(_) => Ok(()),
-            Err(_) => unreachable!(),
+        };
+        match self.rows.push(row) {
+            Ok(()) => Ok(()),
+            Err(refused) => {
+                self.places.remove(&name);
+                Err(refused)
+            }
         }
     }
 
@@ -105,7 +108,7 @@ impl Registry {
     pub(crate) fn has(&self, slot: u64, name: &TaskName) -> bool
         ensures { result ≡ is_some (member_named (present slot self.now) name.now) }
     {
-        seat_of(self.rows.as_slice(), &self.places, slot, name).is_some()
+        seat_of(&self.rows, &self.places, slot, name).is_some()
     }
 
     /// Where a member that is freed by `slot` has the name, the name is free. It goes through no
@@ -114,8 +117,10 @@ impl Registry {
         requires { member_named (present slot self.old) name.now ≡ None }
         ensures { MakesWay slot name.now self.old self.new }
     {
-        if let Some(place) = self.places.swap_remove(name) {
-            self.rows[place].is_vacated = true;
+        if let Some(place) = self.places.remove(name) {
+            if let Some(row) = self.rows.get_mut(place) {
+                row.is_vacated = true;
+            }
         }
     }
 
@@ -125,9 +130,12 @@ impl Registry {
         ensures members { self.new ≡ effect slot self.old (Depart name.now) result }
         ensures apart { NamesApart (λ m. m.name) self.old }
     {
-        match seat_of(self.rows.as_slice(), &self.places, slot, name) {
-            Some(place) => self.rows[place].member.depart(slot),
-            None => Decision::Refused(Refusal::NoSuchTask),
+        let Some(place) = seat_of(&self.rows, &self.places, slot, name) else {
+            return Decision::Refused(Refusal::NoSuchTask);
+        };
+        match self.rows.get_mut(place) {
+            Some(row) => row.member.depart(slot),
+            None => unreachable!(),
         }
     }
 
@@ -147,9 +155,12 @@ impl Registry {
         ensures members { IfOk result (λ d. self.new ≡ effect slot self.old (Late name.now index by) d) }
         ensures err { OnErr result (self.new ≡ self.old) }
     {
-        match seat_of(self.rows.as_slice(), &self.places, slot, name) {
-            Some(place) => self.rows[place].member.delay(slot, index, by),
-            None => Ok(Decision::Refused(Refusal::NoSuchTask)),
+        let Some(place) = seat_of(&self.rows, &self.places, slot, name) else {
+            return Ok(Decision::Refused(Refusal::NoSuchTask));
+        };
+        match self.rows.get_mut(place) {
+            Some(row) => row.member.delay(slot, index, by),
+            None => unreachable!(),
         }
     }
 
@@ -159,8 +170,8 @@ impl Registry {
         ensures quantum { result ≡ option_map quantum_of (running (member_named self.old name.now)) }
         ensures members { self.new ≡ (if is_some result then ran name.now self.old else self.old) }
     {
-        let place = *self.places.get(name)?;
-        self.rows[place].member.run_on()
+        let row = self.rows.get_mut(self.places.get(name)?)?;
+        row.member.run_on()
     }
 
     /// The units of the member of that name, and 0 where there is none.
@@ -192,12 +203,8 @@ impl Registry {
     pub(crate) fn keep_present(&mut self, slot: u64)
         ensures { self.new ≡ present slot self.old }
     {
-        self.rows.retain(
-            |row: &Row| -> bool
-                ensures { result ≡ is_taken slot row.now }
-            { !row.is_vacated && !has_come(row.member.freed_at(), slot) },
-        );
-        seat_all(self.rows.as_slice(), &mut self.places);
+        unseat_freed(&mut self.rows, &mut self.places, slot);
+        close_up(&mut self.rows, &mut self.places);
     }
 
     /// The units of all members.
@@ -207,7 +214,7 @@ impl Registry {
     {
         let mut total = 0;
         for place in 0..self.rows.len() {
-            total += units_in(&self.rows[place], frame);
+            total += units_in(row_at(&self.rows, place), frame);
         }
         total
     }
@@ -219,32 +226,39 @@ impl Registry {
     {
         let mut first = None;
         for place in 0..self.rows.len() {
-            first = earlier(first, freed_in(&self.rows[place]));
+            first = earlier(first, freed_in(row_at(&self.rows, place)));
         }
         first
     }
 }
 
-// The place of the row of that name, unless its member is freed by `slot`.
-fn seat_of(
-    rows: &[Row],
-    places: &IndexMap<TaskName, usize>,
-    slot: u64,
-    name: &TaskName,
-) -> Option<usize>
-    requires { AreSeats rows.now places.now.entries }
-    ensures some { IfSome result (λ place. IsTaken slot rows.now places.now.entries name.now place) }
-    ensures none { IfNone result ((place : ℕ) → IsTaken slot rows.now places.now.entries name.now place → ⊥) }
+// The row at a place.
+fn row_at(rows: &PieceList<Row>, place: usize) -> &Row
+    requires { place < length rows.now }
+    ensures { result.now ≡ slice_index_or rows.now place result.now }
 {
-    let place = *places.get(name)?;
-    if has_come(rows[place].member.freed_at(), slot) {
+    match rows.get(place) {
+        Some(row) => row,
+        None => unreachable!(),
+    }
+}
+
+// The place of the row of that name, unless its member is freed by `slot`.
+fn seat_of(rows: &PieceList<Row>, places: &NameIndex, slot: u64, name: &TaskName) -> Option<usize>
+    requires { AreSeats rows.now places.now }
+    ensures some { IfSome result (λ place. IsTaken slot rows.now places.now name.now place) }
+    ensures none { IfNone result ((place : ℕ) → IsTaken slot rows.now places.now name.now place → ⊥) }
+{
+    let place = places.get(name)?;
+    let row = rows.get(place)?;
+    if has_come(row.member.freed_at(), slot) {
         return None;
     }
     Some(place)
 }
 
 // The row of the member at a place, of so many that aren't vacated.
-fn seat_at(rows: &[Row], seats: usize, place: usize) -> Option<&Row>
+fn seat_at(rows: &PieceList<Row>, seats: usize, place: usize) -> Option<&Row>
     requires { seats ≡ length (seated rows.now) }
     ensures { option_map (λ r. r.now.member) result ≡ slice_get (seated rows.now) place }
 {
@@ -256,11 +270,12 @@ fn seat_at(rows: &[Row], seats: usize, place: usize) -> Option<&Row>
 }
 
 // The row of the member at a place, where some rows are vacated.
-fn seat_after(rows: &[Row], place: usize) -> Option<&Row>
+fn seat_after(rows: &PieceList<Row>, place: usize) -> Option<&Row>
     ensures { option_map (λ r. r.now.member) result ≡ slice_get (seated rows.now) place }
 {
     let mut left = place;
-    for row in rows {
+    for at in 0..rows.len() {
+        let row = rows.get(at)?;
         if !row.is_vacated {
             if left == 0 {
                 return Some(row);
@@ -271,21 +286,72 @@ fn seat_after(rows: &[Row], place: usize) -> Option<&Row>
     None
 }
 
-// Gives each name the place of its row, without any memory: there are no more names than before.
-fn seat_all(rows: &[Row], places: &mut IndexMap<TaskName, usize>)
-    requires apart { NamesApart (λ r. r.member.name) rows.now }
-    requires kept { AllByRecursion (λ r. r.is_vacated ≡ false) rows.now }
-    requires few { length rows.now ≤ index_map_len places.old + spare places.old }
-    ensures seats { AreSeats rows.now places.new.entries }
-    ensures found { AreFound rows.now places.new.entries }
-    ensures size { index_map_len places.new ≡ length rows.now }
+// Vacates each row whose member is freed by `slot`.
+fn unseat_freed(rows: &mut PieceList<Row>, places: &mut NameIndex, slot: u64)
+    requires { IsRegister rows.old places.old }
+    ensures register { IsRegister rows.new places.new }
+    ensures rows { rows.new ≡ map (unseated slot) rows.old }
 {
-    places.clear();
     for place in 0..rows.len() {
-        match places.insert(*rows[place].member.name(), place) {
-            Ok(_) => {}
-            Err(_) => unreachable!(),
+        unseat(rows, places, slot, place);
+    }
+}
+
+// Vacates the row at a place where its member is freed by `slot`.
+fn unseat(rows: &mut PieceList<Row>, places: &mut NameIndex, slot: u64, place: usize)
+    requires { IsRegister rows.old places.old }
+    ensures register { IsRegister rows.new places.new }
+    ensures rows { rows.new ≡ changed_at place (unseated slot) rows.old }
+{
+    let Some(row) = rows.get(place) else {
+        return;
+    };
+    if row.is_vacated || !has_come(row.member.freed_at(), slot) {
+        return;
+    }
+    places.remove(row.member.name());
+    match rows.get_mut(place) {
+        Some(row) => row.is_vacated = true,
+        None => unreachable!(),
+    }
+}
+
+// Rows take the places of vacated ones before them, and the vacated ones go. It takes no memory.
+fn close_up(rows: &mut PieceList<Row>, places: &mut NameIndex)
+    requires { IsRegister rows.old places.old }
+    ensures register { IsRegister rows.new places.new }
+    ensures same { seated rows.new ≡ seated rows.old }
+    ensures open { AllByRecursion (λ r. r.is_vacated ≡ false) rows.new }
+{
+    let mut kept = 0;
+    for place in 0..rows.len() {
+        if move_up(rows, places, kept, place) {
+            kept += 1;
         }
+    }
+    rows.truncate(kept);
+}
+
+// The row at a place, unless it is vacated, takes the place of the first vacated one: so many are
+// before that one, and all between are vacated. Answers whether it does.
+fn move_up(rows: &mut PieceList<Row>, places: &mut NameIndex, kept: usize, place: usize) -> bool
+    requires place { place < length rows.old }
+    requires register { IsRegister rows.old places.old }
+    requires closed { IsClosedTo kept place rows.old }
+    ensures register { IsRegister rows.new places.new }
+    ensures closed { IsClosedTo (if result then kept + 1 else kept) (place + 1) rows.new }
+    ensures same { seated rows.new ≡ seated rows.old }
+    ensures count { length rows.new ≡ length rows.old }
+{
+    match rows.get(place) {
+        Some(row) if !row.is_vacated => {
+            if kept < place {
+                places.set(row.member.name(), kept);
+                rows.swap(kept, place);
+            }
+            true
+        }
+        _ => false,
     }
 }
 

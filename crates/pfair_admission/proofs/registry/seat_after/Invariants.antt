@@ -3,5 +3,5 @@ use Rattle.std.specs.Prelude.{slice_get}
 use Rattle.pfair_admission.specs.Registry.{seated}
 use Rattle.pfair_admission.proofs.registry.seat_after.Given as goal
 
-abbrev pub invariant-loop-row : goal.invariant-loop-row
-invariant-loop-row l = slice_get (seated l.rows) l.place ≡ slice_get (seated (drop l.row-index l.rows)) l.left
+abbrev pub invariant-loop-at : goal.invariant-loop-at
+invariant-loop-at l = slice_get (seated l.rows) l.place ≡ slice_get (seated (drop l.at l.rows)) l.left

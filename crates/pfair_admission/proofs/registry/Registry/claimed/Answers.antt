@@ -8,16 +8,16 @@ use Rattle.pfair_admission.proofs.registry.Registry.claimed.Goals as goal
 
 pub overflow_add-total : goal.overflow_add-total
 overflow_add-total c =
-    let within : c.loop-place.place < length c.self.inside.rows.items = omega (arith, c.len-place-end.ensures, c.self.inside.rows.ok.0) in
-    let less = sum_by_more_le (row_units c.args.frame) c.self.inside.rows.items c.loop-place.place c.index.result.now within in
-    let units = c.units_in-total.ensures ∙ ap (row_units c.args.frame) c.index.ensures in
-    let whole = units_seated c.args.frame c.self.inside.rows.items ∙ ap (claimed c.args.frame) c.self.view_is in
+    let within : c.loop-place.place < length c.self.inside.rows = omega (arith, c.len-place-end.ensures) in
+    let less = sum_by_more_le (row_units c.args.frame) c.self.inside.rows c.loop-place.place c.row_at.result.now within in
+    let units = c.units_in-total.ensures ∙ ap (row_units c.args.frame) c.row_at.ensures in
+    let whole = units_seated c.args.frame c.self.inside.rows ∙ ap (claimed c.args.frame) c.self.view_is in
     omega (arith, less, units, whole, c.loop-place.invariant, c.requires)
 
 pub returns : goal.returns
 returns c =
-    let all : c.loop-place.place ≡ length c.self.inside.rows.items = omega (arith, c.len-place-end.ensures, c.self.inside.rows.ok.0) in
+    let all : c.loop-place.place ≡ length c.self.inside.rows = omega (arith, c.len-place-end.ensures) in
     c.loop-place.invariant
-    ∙ ap (λ (k : ℕ). sum_by (row_units c.args.frame) (take k c.self.inside.rows.items)) all
-    ∙ ap (sum_by (row_units c.args.frame)) (take-length c.self.inside.rows.items)
-    ∙ units_seated c.args.frame c.self.inside.rows.items ∙ ap (claimed c.args.frame) c.self.view_is
+    ∙ ap (λ (k : ℕ). sum_by (row_units c.args.frame) (take k c.self.inside.rows)) all
+    ∙ ap (sum_by (row_units c.args.frame)) (take-length c.self.inside.rows)
+    ∙ units_seated c.args.frame c.self.inside.rows ∙ ap (claimed c.args.frame) c.self.view_is

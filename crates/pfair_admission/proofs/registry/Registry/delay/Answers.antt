@@ -1,71 +1,65 @@
-use Rattle.std.proofs.Common.{◌≡◌, ℕ, IfOk, Some, sym, ap, subst, ◌∙◌, arith}
-use Rattle.std.specs.Prelude.{slice_get}
-use Rattle.std.proofs.lemmas.Option.{slice_get_within}
+use Rattle.std.proofs.Common.{◌≡◌, IfOk, Some, rules, sym, ap, subst, ◌∙◌}
+use Rattle.std.specs.Prelude.{slice_get, slice_set}
+use Rattle.std.proofs.lemmas.Option.{same_Some}
 use Rattle.pfair_admission.specs.Admission.{member_named, late_release, present}
 use Rattle.pfair_admission.proofs.Changes.{delayed_if_ok, stays_on_err, late_name}
 use Rattle.pfair_admission.specs.Registry.{IsTaken}
 use Rattle.pfair_admission.specs.declared.registry.Row.{Row}
-use Rattle.pfair_admission.proofs.Rows.{Rows, at_index, found_written, is_written, length_written, seats_written}
+use Rattle.pfair_admission.proofs.Rows.{found_written, is_written, length_written, seats_written, with_member}
 use Rattle.pfair_admission.proofs.Seats.{taken_found, untaken_none}
 use Rattle.pfair_admission.proofs.registry.Registry.delay.Goals as goal
-use Rattle.pfair_admission.proofs.registry.Registry.delay.Goals.{After-index_mut}
+use Rattle.pfair_admission.proofs.registry.Registry.delay.Goals.{After-delay, In-Some-get_mut}
 
-taken : (c : After-index_mut) → IsTaken c.args.slot c.self.inside.rows.items c.self.inside.places.entries c.args.name.now c.in-Some.place
-taken c = subst (λ (rows : Rows). IsTaken c.args.slot rows c.self.inside.places.entries c.args.name.now c.in-Some.place) c.as_slice.ensures.value c.in-Some.ensures.some
+taken : (c : In-Some-get_mut) → IsTaken c.args.slot c.self.inside.rows c.self.inside.places c.args.name.now c.in-Some.place
+taken c = c.in-Some.ensures.some
 
 -- the row at the place of the name
-there : (c : After-index_mut) → slice_get c.self.inside.rows.items c.in-Some.place ≡ Some c.index_mut.result.now
-there c = let k = taken c in k.2 ∙ ap (λ (r : Row). Some r) (at_index c.self.inside.rows.items c.in-Some.place k.1 c.index_mut.result.now k.2 c.index_mut.ensures.value)
+there : (c : In-Some-get_mut) → slice_get c.self.inside.rows c.in-Some.place ≡ Some c.in-Some-get_mut.row.now
+there c = search rules
 
 -- its member is the named one
-found : (c : After-index_mut) → member_named (present c.args.slot c.args.self.now) c.args.name.now ≡ Some c.index_mut.result.now.member
+found : (c : In-Some-get_mut) → member_named (present c.args.slot c.args.self.now) c.args.name.now ≡ Some c.in-Some-get_mut.row.now.member
 found c =
     let k = taken c in
     ap (λ ms. member_named (present c.args.slot ms) c.args.name.now) (sym c.self.view_is)
-    ∙ taken_found c.args.slot c.self.inside.rows.items c.self.inside.places.entries c.args.name.now c.in-Some.place c.self.invariant.seats c.self.invariant.found k
-    ∙ ap (λ (r : Row). Some r.member) (at_index c.self.inside.rows.items c.in-Some.place k.1 c.index_mut.result.now k.2 c.index_mut.ensures.value)
-
-pub index_mut-requires : goal.index_mut-requires
-index_mut-requires c =
-    let k = subst (λ (rows : Rows). IsTaken c.args.slot rows c.self.inside.places.entries c.args.name.now c.in-Some.place) c.as_slice.ensures.value c.in-Some.ensures.some in
-    let within = slice_get_within c.self.inside.rows.items c.in-Some.place k.1 k.2 in
-    omega (arith, within, c.self.inside.rows.ok.0)
+    ∙ taken_found c.args.slot c.self.inside.rows c.self.inside.places c.args.name.now c.in-Some.place c.self.invariant.seats c.self.invariant.found k
+    ∙ ap (λ (r : Row). Some r.member) (same_Some k.1 c.in-Some-get_mut.row.now (sym k.2 ∙ there c))
 
 pub delay-requires-clause-room : goal.delay-requires-clause-room
-delay-requires-clause-room c = c.requires.room c.index_mut.result.now.member (found ((goal.at.delay-requires-clause-room c).After-index_mut))
+delay-requires-clause-room c = c.requires.room c.in-Some-get_mut.row.now.member (found ((goal.at.delay-requires-clause-room c).In-Some-get_mut))
 
 pub invariant_of-self : goal.invariant_of-self
 invariant_of-self c =
-    let at = there ((goal.at.invariant_of-self c).After-index_mut) in
-    let named = late_name c.delay.result c.args.index c.args.by c.index_mut.result.now.member c.delay.new.self c.delay.ensures.member c.delay.ensures.err in
-    record {
-      seats = seats_written c.self.inside.rows.items c.self.inside.places.entries c.in-Some.place c.index_mut.result.now c.delay.new.self at named c.self.invariant.seats;
-      found = found_written c.self.inside.rows.items c.self.inside.places.entries c.in-Some.place c.index_mut.result.now c.delay.new.self at named c.self.invariant.found;
-      size = c.self.invariant.size ∙ sym (length_written c.self.inside.rows.items c.in-Some.place c.index_mut.result.now c.delay.new.self at);
-    }
+    let at = there ((goal.at.invariant_of-self c).In-Some-get_mut) in
+    let named = late_name c.delay.result c.args.index c.args.by c.in-Some-get_mut.row.now.member c.delay.new.self c.delay.ensures.member c.delay.ensures.err in
+    (record {
+      seats = seats_written c.self.inside.rows c.self.inside.places c.in-Some.place c.in-Some-get_mut.row.now c.delay.new.self at named c.self.invariant.seats;
+      found = found_written c.self.inside.rows c.self.inside.places c.in-Some.place c.in-Some-get_mut.row.now c.delay.new.self at named c.self.invariant.found;
+      size = c.self.invariant.size ∙ sym (length_written c.self.inside.rows c.in-Some.place c.in-Some-get_mut.row.now c.delay.new.self at);
+    })
 
-pub returns-in-Some-clause-decision : goal.returns-in-Some-clause-decision
-returns-in-Some-clause-decision c =
-    subst (λ o. IfOk c.delay.result (λ d. d ≡ late_release c.args.slot o c.args.index)) (sym (found ((goal.at.returns-in-Some-clause-decision c).After-index_mut))) c.delay.ensures.decision
+pub returns-clause-decision : goal.returns-clause-decision
+returns-clause-decision c =
+    subst (λ o. IfOk c.delay.result (λ d. d ≡ late_release c.args.slot o c.args.index)) (sym (found ((goal.at.returns-clause-decision c).In-Some-get_mut))) c.delay.ensures.decision
 
-pub returns-in-Some-clause-members : goal.returns-in-Some-clause-members
-returns-in-Some-clause-members c =
-    let at = (goal.at.returns-in-Some-clause-members c).After-index_mut in
+pub returns-clause-members : goal.returns-clause-members
+returns-clause-members c =
+    let at = (goal.at.returns-clause-members c).In-Some-get_mut in
     rw (← c.self.view_is)
-    (delayed_if_ok c.delay.result c.args.name.now c.index_mut.result.now.member c.delay.new.self _ _ c.args.slot c.args.index c.args.by
-    (is_written c.self.inside.rows.items c.self.inside.places.entries c.args.name.now c.in-Some.place c.index_mut.result.now c.delay.new.self c.self.invariant.seats c.self.invariant.found (taken at).0 (there at))
+    (delayed_if_ok c.delay.result c.args.name.now c.in-Some-get_mut.row.now.member c.delay.new.self _ _ c.args.slot c.args.index c.args.by
+    (is_written c.self.inside.rows c.self.inside.places c.args.name.now c.in-Some.place c.in-Some-get_mut.row.now c.delay.new.self c.self.invariant.seats c.self.invariant.found (taken at).0 (there at))
     c.delay.ensures.member)
 
-pub returns-in-Some-clause-err : goal.returns-in-Some-clause-err
-returns-in-Some-clause-err c =
-    let at = (goal.at.returns-in-Some-clause-err c).After-index_mut in
+pub returns-clause-err : goal.returns-clause-err
+returns-clause-err c =
+    let at = (goal.at.returns-clause-err c).In-Some-get_mut in
     rw (← c.self.view_is)
-    (stays_on_err c.delay.result c.args.name.now c.index_mut.result.now.member c.delay.new.self _ _
-    (is_written c.self.inside.rows.items c.self.inside.places.entries c.args.name.now c.in-Some.place c.index_mut.result.now c.delay.new.self c.self.invariant.seats c.self.invariant.found (taken at).0 (there at))
+    (stays_on_err c.delay.result c.args.name.now c.in-Some-get_mut.row.now.member c.delay.new.self _ _
+    (is_written c.self.inside.rows c.self.inside.places c.args.name.now c.in-Some.place c.in-Some-get_mut.row.now c.delay.new.self c.self.invariant.seats c.self.invariant.found (taken at).0 (there at))
     c.delay.ensures.err)
 
-pub returns-in-None-clause-decision : goal.returns-in-None-clause-decision
-returns-in-None-clause-decision c =
+pub returns-in_default-clause-decision : goal.returns-in_default-clause-decision
+returns-in_default-clause-decision c =
     sym (ap (λ ms. late_release c.args.slot (member_named (present c.args.slot ms) c.args.name.now) c.args.index) (sym c.self.view_is)
-    ∙ ap (λ o. late_release c.args.slot o c.args.index) (untaken_none c.args.slot c.self.inside.rows.items c.self.inside.places.entries c.args.name.now c.self.invariant.seats c.self.invariant.found
-    (subst (λ (rows : Rows). (p : ℕ) → IsTaken c.args.slot rows c.self.inside.places.entries c.args.name.now p → ⊥) c.as_slice.ensures.value c.in-None.ensures.none)))
+    ∙ ap (λ o. late_release c.args.slot o c.args.index) (untaken_none c.args.slot c.self.inside.rows c.self.inside.places c.args.name.now c.self.invariant.seats c.self.invariant.found
+    c.in_default.ensures.none))

@@ -1,25 +1,20 @@
-use Rattle.std.proofs.Common.{Some, sym, ap, ◌∙◌, arith}
+use Rattle.std.proofs.Common.{◌≡◌, None, Some, rules, sym, ap, ◌∙◌}
+use Rattle.std.specs.Prelude.{slice_get}
 use Rattle.std.specs.Option.{option_copied}
-use Rattle.std.proofs.lemmas.Option.{slice_get_within}
 use Rattle.pfair_admission.specs.Admission.{member_named}
-use Rattle.pfair_admission.specs.declared.registry.Row.{Row}
-use Rattle.pfair_admission.proofs.Rows.{at_index, found_at, none_found}
+use Rattle.pfair_admission.specs.Registry.{place_of}
+use Rattle.pfair_admission.proofs.Rows.{found_at, none_found}
 use Rattle.pfair_admission.proofs.registry.Registry.get.Goals as goal
 
-pub returns-in_err-place : goal.returns-in_err-place
-returns-in_err-place c =
-    ap option_copied c.from_residual.ensures
-    ∙ sym (ap (λ ms. member_named ms c.args.name.now) (sym c.self.view_is) ∙ none_found c.self.inside.rows.items c.self.inside.places.entries c.args.name.now c.self.invariant.found (sym c.in_err-place.ensures.value))
-
-pub index-requires : goal.index-requires
-index-requires c =
-    let s = c.self.invariant.seats c.args.name.now c.in_ok-place.field-0.now (sym c.in_ok-place.ensures.value) in
-    let within = slice_get_within c.self.inside.rows.items c.in_ok-place.field-0.now s.0 s.1 in
-    omega (arith, within, c.self.inside.rows.ok.0)
+pub returns-in_err-get : goal.returns-in_err-get
+returns-in_err-get c =
+    let none : place_of c.self.inside.places c.args.name.now ≡ None = search rules in
+    let same : option_copied c.from_residual.result ≡ None = search rules in
+    same ∙ sym (ap (λ ms. member_named ms c.args.name.now) (sym c.self.view_is) ∙ none_found c.self.inside.rows c.self.inside.places c.args.name.now c.self.invariant.found none)
 
 pub returns : goal.returns
 returns c =
-    let s = c.self.invariant.seats c.args.name.now c.in_ok-place.field-0.now (sym c.in_ok-place.ensures.value) in
+    let place : place_of c.self.inside.places c.args.name.now ≡ Some c.in_ok-get.field-0 = search rules in
+    let there : slice_get c.self.inside.rows c.in_ok-get.field-0 ≡ Some c.in_ok-row.row.now = search rules in
     sym (ap (λ ms. member_named ms c.args.name.now) (sym c.self.view_is)
-    ∙ found_at c.self.inside.rows.items c.self.inside.places.entries c.args.name.now c.in_ok-place.field-0.now s.0 c.self.invariant.seats c.self.invariant.found (sym c.in_ok-place.ensures.value) s.1
-    ∙ ap (λ (r : Row). Some r.member) (at_index c.self.inside.rows.items c.in_ok-place.field-0.now s.0 c.index.result.now s.1 c.index.ensures))
+    ∙ found_at c.self.inside.rows c.self.inside.places c.args.name.now c.in_ok-get.field-0 c.in_ok-row.row.now c.self.invariant.seats c.self.invariant.found place there)
