@@ -1,8 +1,6 @@
 -- The buckets of a calendar, and what moves out of them.
 use Rattle.std.proofs.Common.{◌≡◌, ℕ, zero, suc, ◌+◌, ◌<◌, ◌≤◌, ◌⊎◌, inl, inr, Bool, true, false, List, [], ◌∷◌, ◌++◌, Vec, Global, length, refl, sym, ap, subst, ◌∙◌, arith, Option, Some}
 use Rattle.std.specs.Prelude.{Contains, slice_get, slice_set, slice_index_or, option_to_list, nat_le, ◌%◌, ◌-◌}
-use Rattle.std.specs.BinaryHeap.{heap_items}
-use Rattle.std.specs.declared.cmp.Reverse.{Reverse}
 use Rattle.std.proofs.lemmas.Bool.{leb-true, leb-false}
 use Rattle.std.proofs.lemmas.List.Elements.{Contains-push_cases}
 use Rattle.std.proofs.lemmas.Option.{same_Some, slice_get_within, slice_get-get_or}
@@ -60,11 +58,11 @@ noted_near c c' i b more turned near far d noted =
         there = subst (λ (x : Buckets). Contains (under x d.release) d.place) (sym near)
             (elim (stays_or c.near.items i (d.release % 64) d.place b ⊥ (λ h. inl (more d.place h)) n.there) [ inl there ↦ there | inr none ↦ absurd none ]);
       })
-      | inr f ↦ inr (subst (λ x. IsAmong (heap_items x) d) (sym far) f)
+      | inr f ↦ inr (subst (λ x. IsAmong x d) (sym far) f)
     ]
 
 -- far dates that have lost none
-pub noted_far : (c c' : Calendar) → ((x : Reverse Date) → Contains (heap_items c.far) x → Contains (heap_items c'.far) x) → c'.turned ≡ c.turned → c'.near.items ≡ c.near.items → (d : Date) → IsNoted c d → IsNoted c' d
+pub noted_far : (c c' : Calendar) → ((x : Date) → Contains c.far x → Contains c'.far x) → c'.turned ≡ c.turned → c'.near.items ≡ c.near.items → (d : Date) → IsNoted c d → IsNoted c' d
 noted_far c c' more turned near d noted =
     elim noted [
       | inl n ↦ inl (record {
@@ -72,7 +70,7 @@ noted_far c c' more turned near d noted =
         within = let within = n.within in omega (arith, turned, within);
         there = subst (λ (x : Buckets). Contains (under x d.release) d.place) (sym near) n.there;
       })
-      | inr f ↦ inr (more (record { 0 = d }) f)
+      | inr f ↦ inr (more d f)
     ]
 
 -- ---- what moves
@@ -82,7 +80,7 @@ Heap = List (Key × ℕ)
 
 -- a bucket was emptied, or a part of it
 pub moves_bucket : (slot : ℕ) (es : SlotList) (Was : Date → Type 0) (c c' : Calendar) (i : ℕ) (b b' : Vec ℕ Global) (heap0 heap heap' : Heap) → Moves slot es Was (IsNoted c) heap0 heap
-    → in_bucket (slice_get c.near.items i) ≡ b.items → Empties slot es b.items b'.items (heap_items c.far) (heap_items c'.far) heap heap' → c'.turned ≡ c.turned → c'.near.items ≡ slice_set c.near.items i b'
+    → in_bucket (slice_get c.near.items i) ≡ b.items → Empties slot es b.items b'.items c.far c'.far heap heap' → c'.turned ≡ c.turned → c'.near.items ≡ slice_set c.near.items i b'
     → Moves slot es Was (IsNoted c') heap0 heap'
 moves_bucket slot es Was c c' i b b' heap0 heap heap' m here e turned near =
     record {
@@ -90,7 +88,7 @@ moves_bucket slot es Was c c' i b b' heap0 heap heap' m here e turned near =
       moved = λ p r k at was. elim (m.moved p r k at was) [
         | inl noted ↦ elim noted [
           | inl n ↦
-              let there = stays_or c.near.items i (r % 64) p b' (IsAmong (heap_items c'.far) (dated r p) ⊎ ((r ≤ slot) × Contains heap' (k, p)))
+              let there = stays_or c.near.items i (r % 64) p b' (IsAmong c'.far (dated r p) ⊎ ((r ≤ slot) × Contains heap' (k, p)))
               (λ h. e.emptied p r k at (subst (λ (l : List ℕ). Contains l p) here h)) n.there in
               elim there [
                 | inl stays ↦ inl (inl (record {
@@ -100,14 +98,14 @@ moves_bucket slot es Was c c' i b b' heap0 heap heap' m here e turned near =
                 }))
                 | inr goes ↦ elim goes [ inl far ↦ inl (inr far) | inr gone ↦ inr gone ]
               ]
-          | inr f ↦ inl (inr (e.far_kept (record { 0 = dated r p }) f))
+          | inr f ↦ inl (inr (e.far_kept (dated r p) f))
         ]
         | inr gone ↦ inr (gone.0, e.kept (k, p) gone.1)
       ];
     }
 
 -- and then far dates moved
-pub moves_far : (slot : ℕ) (es : SlotList) (Was : Date → Type 0) (c c' : Calendar) (heap0 heap heap' : Heap) → Moves slot es Was (IsNoted c) heap0 heap → Moves slot es (IsAmong (heap_items c.far)) (IsAmong (heap_items c'.far)) heap heap'
+pub moves_far : (slot : ℕ) (es : SlotList) (Was : Date → Type 0) (c c' : Calendar) (heap0 heap heap' : Heap) → Moves slot es Was (IsNoted c) heap0 heap → Moves slot es (IsAmong c.far) (IsAmong c'.far) heap heap'
     → c'.turned ≡ c.turned → c'.near.items ≡ c.near.items → Moves slot es Was (IsNoted c') heap0 heap'
 moves_far slot es Was c c' heap0 heap heap' m f turned near =
     record {
@@ -136,8 +134,8 @@ popped_last o xs ys last n long items value at p h =
     let popped : o ≡ Some last = value last some ∙ ap (λ m. Some (slice_index_or xs (m - 1) last)) long ∙ ap Some (sym read) in
     Contains-push_cases ys last p (subst (λ (l : List ℕ). Contains l p) (items ∙ ap (λ (o : Option ℕ). ys ++ option_to_list o) popped) h)
 
-module _ (slot : ℕ) (es : SlotList) (b0 b : List ℕ) (far0 far far' : List (Reverse Date)) (heap0 heap heap' : Heap) (e : Empties slot es b0 b far0 far heap0 heap)
-    (far_kept : (x : Reverse Date) → Contains far x → Contains far' x) (kept : (x : Key × ℕ) → Contains heap x → Contains heap' x) where
+module _ (slot : ℕ) (es : SlotList) (b0 b : List ℕ) (far0 far far' : List Date) (heap0 heap heap' : Heap) (e : Empties slot es b0 b far0 far heap0 heap)
+    (far_kept : (x : Date) → Contains far x → Contains far' x) (kept : (x : Key × ℕ) → Contains heap x → Contains heap' x) where
   -- nothing was lost
   pub empties_kept : Empties slot es b0 b far0 far' heap0 heap'
   empties_kept = record {
@@ -145,7 +143,7 @@ module _ (slot : ℕ) (es : SlotList) (b0 b : List ℕ) (far0 far far' : List (R
     kept = λ x h. kept x (e.kept x h);
     emptied = λ p r k at h. elim (e.emptied p r k at h) [
       | inl stays ↦ inl stays
-      | inr goes ↦ inr (elim goes [ inl among ↦ inl (far_kept (record { 0 = dated r p }) among) | inr gone ↦ inr (gone.0, kept (k, p) gone.1) ])
+      | inr goes ↦ inr (elim goes [ inl among ↦ inl (far_kept (dated r p) among) | inr gone ↦ inr (gone.0, kept (k, p) gone.1) ])
     ];
   }
 
@@ -170,11 +168,11 @@ module _ (slot : ℕ) (es : SlotList) (b0 b : List ℕ) (far0 far far' : List (R
       }
 
 -- nothing is noted where there is neither
-pub none_noted : (c : Calendar) → c.near.items ≡ [] → heap_items c.far ≡ [] → (d : Date) → IsNoted c d → ⊥
+pub none_noted : (c : Calendar) → c.near.items ≡ [] → c.far ≡ [] → (d : Date) → IsNoted c d → ⊥
 none_noted c near far d noted =
     elim noted [
       | inl n ↦ empty_has_none (under c.near.items d.release) d.place (ap (λ (x : Buckets). under x d.release) near) n.there
-      | inr f ↦ (let within = f.1 in let long = ap (λ (l : List (Reverse Date)). length l) far in omega (arith, within, long))
+      | inr f ↦ (let within = f.1 in let long = ap (λ (l : List Date). length l) far in omega (arith, within, long))
     ]
 
 -- ---- the buckets of one slot after another

@@ -1,30 +1,25 @@
 -- The slots of names, as the map of what they hold.
-use Rattle.std.proofs.Common.{◌≡◌, ℕ, zero, suc, ◌<◌, ◌≤◌, ◌⊎◌, inl, inr, Bool, true, false, cond, List, [], ◌∷◌, ◌++◌, length, refl, sym, ap, subst, ◌∙◌, arith, Option, Some, None}
-use Rattle.std.specs.Prelude.{Result, Ok, Err, OnErr, Contains, is_some, slice_get, position, IfSome, IfNone, slice_index_or}
+use Rattle.std.proofs.Common.{◌≡◌, ℕ, zero, suc, ◌<◌, ◌⊎◌, inl, inr, Bool, true, false, cond, List, [], ◌∷◌, ◌++◌, length, refl, sym, ap, subst, ◌∙◌, arith, Option, Some, None}
+use Rattle.std.specs.Prelude.{Result, Ok, Err, OnErr, Contains, is_some, slice_get, slice_index_or}
 use Rattle.std.specs.Ordering.{is_eq}
 use Rattle.std.specs.Cmp.{eq_by_cmp_equiv, tied_itself}
 use Rattle.std.specs.List.{AllByRecursion, IsDistinct}
 use Rattle.std.specs.List.Sorted.{IsPermutation}
 use Rattle.std.specs.Map.{lookup, keys_of}
 use Rattle.std.specs.BTreeMap.{is_at}
-use Rattle.std.specs.BinaryHeap.{heap_items, IsHeap, PopsGreatest}
 use Rattle.std.specs.FinMap as finmap
 use Rattle.std.specs.FinMap.{find, get-from_entries, get-insert, get-remove, same_map}
-use Rattle.std.specs.declared.cmp.Reverse.{Reverse}
 use Rattle.std.specs.Cmp.Lexicographic.{bytes_decides}
 use Rattle.std.proofs.lemmas.List.Sorted.{Contains-permutation}
 use Rattle.std.proofs.lemmas.List.Elements.{Contains-append_right}
 use Rattle.std.proofs.lemmas.Option.{same_Some, none-some}
-use Rattle.indexmap.specs.IndexMap.{set_value_at}
 use Rattle.pfair_order.specs.declared.Key.{Key}
 use Rattle.pfair_order.proofs.RankLemmas.{place_of, at_place}
 use Rattle.std.specs.Cmp.{Equal-is}
-use Rattle.std.proofs.lemmas.Bool.{true≢false}
-use Rattle.pfair_weight.specs.NameFacts.{name_at}
 use Rattle.pfair_ready.specs.Names.{NameValue, name_cmp, name_eq}
 use Rattle.pfair_ready.specs.declared.calendar.Calendar.{Calendar}
 use Rattle.pfair_ready.specs.declared.date.Date.{Date}
-use Rattle.pfair_ready.specs.Slots.{SlotList, with_slot, live, entry_of, in_slot, IsPlaced, Keeps, Moves, IsAmong, IsNoted, IsCovered, dated, later_cmp}
+use Rattle.pfair_ready.specs.Slots.{SlotList, with_slot, live, entry_of, in_slot, IsPlaced, Keeps, IsNoted, IsCovered, dated, with_held}
 use Rattle.pfair_ready.proofs.Names.{names_total, names_exact, tied_names}
 
 module _ {X : Type 0} where
@@ -97,7 +92,7 @@ live_at (e ∷ es) (suc p) n u at h =
     slot_other e.0 e.1 (live es) n apart ∙ live_at es p n u at h.1
 
 -- another slot of one name
-pub live_set : (es : SlotList) (p : ℕ) (n : NameValue) (u w : Option (ℕ × Key)) → slice_get es p ≡ Some (n, u) → IsDistinct name_eq (keys_of es) → (q : NameValue) → entry_of (live (set_value_at es p w)) q ≡ cond (is_at (name_cmp n) q) w (entry_of (live es) q)
+pub live_set : (es : SlotList) (p : ℕ) (n : NameValue) (u w : Option (ℕ × Key)) → slice_get es p ≡ Some (n, u) → IsDistinct name_eq (keys_of es) → (q : NameValue) → entry_of (live (with_held es p w)) q ≡ cond (is_at (name_cmp n) q) w (entry_of (live es) q)
 unfolding IsDistinct
 live_set [] p n u w at h q = absurd (none-some (n, u) at)
 live_set (e ∷ es) zero n u w at h q =
@@ -113,13 +108,13 @@ live_set (e ∷ es) zero n u w at h q =
     ] refl)
 live_set (e ∷ es) (suc p) n u w at h q =
     let rest = live_set es p n u w at h.1 q in
-    elim (is_eq (name_cmp n q)) as (λ b. is_eq (name_cmp n q) ≡ b → entry_of (live (set_value_at es p w)) q ≡ cond b w (entry_of (live es) q) → entry_of (with_slot e.0 e.1 (live (set_value_at es p w))) q ≡ cond b w (entry_of (with_slot e.0 e.1 (live es)) q)) [
+    elim (is_eq (name_cmp n q)) as (λ b. is_eq (name_cmp n q) ≡ b → entry_of (live (with_held es p w)) q ≡ cond b w (entry_of (live es) q) → entry_of (with_slot e.0 e.1 (live (with_held es p w))) q ≡ cond b w (entry_of (with_slot e.0 e.1 (live es)) q)) [
       | true ↦ λ t r.
           let apart : is_eq (name_cmp q e.0) ≡ false =
           subst (λ x. is_eq (name_cmp x e.0) ≡ false) (names_exact n q ((Equal-is (name_cmp n q)).0 t))
           ((eq_by_cmp_equiv names_total).symm n e.0 ∙ tied_names e.0 n ∙ key_holds (λ y. name_eq e.0 y ≡ false) es p n u at h.0) in
-          slot_other e.0 e.1 (live (set_value_at es p w)) q apart ∙ r
-      | false ↦ λ t r. slot_same e.0 e.1 (live (set_value_at es p w)) (live es) q r
+          slot_other e.0 e.1 (live (with_held es p w)) q apart ∙ r
+      | false ↦ λ t r. slot_same e.0 e.1 (live (with_held es p w)) (live es) q r
     ] refl rest
 
 -- what is held under a name stands in some slot
@@ -151,7 +146,7 @@ in_entry : (x y : NameValue × Option (ℕ × Key)) → Some x ≡ Some y → (x
 in_entry x y e = (ap (λ (z : NameValue × Option (ℕ × Key)). z.0) (same_Some x y e), ap (λ (z : NameValue × Option (ℕ × Key)). z.1) (same_Some x y e))
 
 -- what stands in a slot after another was emptied
-pub set_none : (es : SlotList) (p q : ℕ) (n : NameValue) (v : ℕ × Key) → slice_get (set_value_at es p None) q ≡ Some (n, Some v) → (p ≡ q → ⊥) × (slice_get es q ≡ Some (n, Some v))
+pub set_none : (es : SlotList) (p q : ℕ) (n : NameValue) (v : ℕ × Key) → slice_get (with_held es p None) q ≡ Some (n, Some v) → (p ≡ q → ⊥) × (slice_get es q ≡ Some (n, Some v))
 set_none [] p q n v e = absurd (none-some (n, Some v) e)
 set_none (e0 ∷ es) zero zero n v e = absurd (none-some v (in_entry (e0.0, None) (n, Some v) e).1)
 set_none (e0 ∷ es) zero (suc q) n v e = (λ h. omega arith, e)
@@ -164,7 +159,7 @@ pub record IsFilled (es : SlotList) (p q : ℕ) (w : ℕ × Key) (n : NameValue)
   pub is : w ≡ v
   pub named : (m : NameValue) (u : Option (ℕ × Key)) → slice_get es p ≡ Some (m, u) → m ≡ n
 
-pub set_some : (es : SlotList) (p q : ℕ) (w : ℕ × Key) (n : NameValue) (v : ℕ × Key) → slice_get (set_value_at es p (Some w)) q ≡ Some (n, Some v) → IsFilled es p q w n v ⊎ (slice_get es q ≡ Some (n, Some v))
+pub set_some : (es : SlotList) (p q : ℕ) (w : ℕ × Key) (n : NameValue) (v : ℕ × Key) → slice_get (with_held es p (Some w)) q ≡ Some (n, Some v) → IsFilled es p q w n v ⊎ (slice_get es q ≡ Some (n, Some v))
 set_some [] p q w n v e = absurd (none-some (n, Some v) e)
 set_some (e0 ∷ es) zero zero w n v e =
     inl (record {
@@ -179,35 +174,15 @@ set_some (e0 ∷ es) (suc p) (suc q) w n v e = elim (set_some es p q w n v e) [
   | inr o ↦ inr o
 ]
 
-pub keys_set : (es : SlotList) (p : ℕ) (w : Option (ℕ × Key)) → keys_of (set_value_at es p w) ≡ keys_of es
+pub keys_set : (es : SlotList) (p : ℕ) (w : Option (ℕ × Key)) → keys_of (with_held es p w) ≡ keys_of es
 keys_set [] p w = refl
 keys_set (e ∷ es) zero w = refl
 keys_set (e ∷ es) (suc p) w = ap (λ (l : List NameValue). e.0 ∷ l) (keys_set es p w)
 
--- the place that is found for a name
-key_entry : (es : SlotList) (i : ℕ) (k : NameValue) → slice_get (keys_of es) i ≡ Some k → (u : Option (ℕ × Key)) × (slice_get es i ≡ Some (k, u))
-key_entry [] i k e = absurd (none-some k e)
-key_entry (e0 ∷ es) zero k e = (e0.1, ap (λ (n : NameValue). Some (n, e0.1)) (same_Some e0.0 k e))
-key_entry (e0 ∷ es) (suc i) k e = key_entry es i k e
-
-pub placed : (es : SlotList) (name : NameValue) (i : ℕ) → position (name_eq name) (keys_of es) ≡ Some i → IsDistinct name_eq (keys_of es) → IsPlaced es i name
-placed es name i e h =
-    let there = key_entry es i name (name_at (keys_of es) name i e) in
-    record { at = there.1 ∙ ap (λ (o : Option (ℕ × Key)). Some (name, o)) (sym (live_at es i name there.0 there.1 h)); apart = h }
-
--- or stands there as it is
+-- the place of a guess
 pub guessed : (es : SlotList) (name there : NameValue) (i : ℕ) (u : Option (ℕ × Key)) → slice_get es i ≡ Some (there, u) → name_eq there name ≡ true → IsDistinct name_eq (keys_of es) → IsPlaced es i name
 guessed es name there i u at same h =
     subst (IsPlaced es i) ((bytes_decides there name).0 same) (record { at = at ∙ ap (λ (o : Option (ℕ × Key)). Some (there, o)) (sym (live_at es i there u at h)); apart = h })
-
--- nothing is held under a name that has no place
-pub not_placed : (es : SlotList) (q : NameValue) → lookup (name_eq q) es ≡ None → entry_of (live es) q ≡ None
-not_placed [] q h = refl
-not_placed (e ∷ es) q h =
-    elim (name_eq q e.0) as (λ b. name_eq q e.0 ≡ b → cond b (Some e.1) (lookup (name_eq q) es) ≡ None → entry_of (with_slot e.0 e.1 (live es)) q ≡ None) [
-      | true ↦ λ _ g. absurd (none-some e.1 (sym g))
-      | false ↦ λ t g. slot_other e.0 e.1 (live es) q (tied_names q e.0 ∙ t) ∙ not_placed es q g
-    ] refl h
 
 -- a name more, with an empty slot
 live_push : (es : SlotList) (n : NameValue) → live (es ++ (n, None) ∷ []) ≡ live es
@@ -244,46 +219,53 @@ covered_kept now es es' dates heap k c =
       named = λ p n r key at. c.named p n r key (k.slots p n (r, key) at);
       turned = c.turned;
       covered = λ p r key at. let e = entry_in (slice_get es' p) (r, key) at in c.covered p r key (ap in_slot (k.slots p e.0 (r, key) e.1));
-      date_order = c.date_order;
     }
 
 -- nothing is held
-pub covered_none : (es : SlotList) (dates : Calendar) (heap : List (Key × ℕ)) → es ≡ [] → IsDistinct name_eq (keys_of es) → dates.turned ≡ 0 → IsHeap later_cmp (heap_items dates.far) → IsCovered 0 es dates heap
-covered_none es dates heap none apart turned down =
+pub covered_none : (es : SlotList) (dates : Calendar) (heap : List (Key × ℕ)) → es ≡ [] → dates.turned ≡ 0 → IsCovered 0 es dates heap
+unfolding IsDistinct
+covered_none es dates heap none turned =
     record {
-      apart = apart;
+      apart = subst (λ (x : SlotList). IsDistinct name_eq (keys_of x)) (sym none) tt;
       named = λ p n r k at. absurd (none-some (n, Some (r, k)) (sym (ap (λ (x : SlotList). slice_get x p) none) ∙ at));
       turned = omega (arith, turned);
       covered = λ p r k at. absurd (none-some (r, k) (sym (ap (λ (x : SlotList). in_slot (slice_get x p)) none) ∙ at));
-      date_order = down;
     }
 
 -- a slot is emptied
-pub covered_emptied : (now place : ℕ) (es es' : SlotList) (dates : Calendar) (heap : List (Key × ℕ)) → es' ≡ set_value_at es place None → IsCovered now es dates heap → IsCovered now es' dates heap
+pub covered_emptied : (now place : ℕ) (es es' : SlotList) (dates : Calendar) (heap : List (Key × ℕ)) → es' ≡ with_held es place None → IsCovered now es dates heap → IsCovered now es' dates heap
 covered_emptied now place es es' dates heap e c =
     subst (λ (x : SlotList). IsCovered now x dates heap) (sym e) (record {
       apart = subst (IsDistinct name_eq) (sym (keys_set es place None)) c.apart;
       named = λ p n r key at. c.named p n r key (set_none es place p n (r, key) at).1;
       turned = c.turned;
-      covered = λ p r key at. let f = entry_in (slice_get (set_value_at es place None) p) (r, key) at in c.covered p r key (ap in_slot (set_none es place p f.0 (r, key) f.1).1);
-      date_order = c.date_order;
+      covered = λ p r key at. let f = entry_in (slice_get (with_held es place None) p) (r, key) at in c.covered p r key (ap in_slot (set_none es place p f.0 (r, key) f.1).1);
     })
 
 -- a calendar that has lost nothing
-pub covered_dates : (now : ℕ) (es : SlotList) (dates dates' : Calendar) (heap : List (Key × ℕ)) → ((d : Date) → IsNoted dates d → IsNoted dates' d) → dates'.turned ≡ dates.turned → IsHeap later_cmp (heap_items dates'.far)
+pub covered_dates : (now : ℕ) (es : SlotList) (dates dates' : Calendar) (heap : List (Key × ℕ)) → ((d : Date) → IsNoted dates d → IsNoted dates' d) → dates'.turned ≡ dates.turned
     → IsCovered now es dates heap → IsCovered now es dates' heap
-covered_dates now es dates dates' heap kept turned order c =
+covered_dates now es dates dates' heap kept turned c =
     record {
       apart = c.apart;
       named = c.named;
       turned = let before = c.turned in omega (arith, turned, before);
       covered = λ p r k at. elim (c.covered p r k at) [ inl noted ↦ inl (kept (dated r p) noted) | inr gone ↦ inr gone ];
-      date_order = order;
+    }
+
+-- the turns in another order
+pub covered_settled : (now : ℕ) (es : SlotList) (dates : Calendar) (heap heap' : List (Key × ℕ)) → IsPermutation heap heap' → IsCovered now es dates heap → IsCovered now es dates heap'
+covered_settled now es dates heap heap' p c =
+    record {
+      apart = c.apart;
+      named = c.named;
+      turned = c.turned;
+      covered = λ place r k at. elim (c.covered place r k at) [ inl noted ↦ inl noted | inr gone ↦ inr (gone.0, Contains-permutation heap heap' (k, place) p gone.1) ];
     }
 
 -- a slot is filled, and its date is in the calendar
 pub covered_filled : (now place r : ℕ) (k : Key) (es es' : SlotList) (dates : Calendar) (heap : List (Key × ℕ))
-    → IsPlaced es place k.name → es' ≡ set_value_at es place (Some (r, k)) → IsNoted dates (dated r place) → IsCovered now es dates heap → IsCovered now es' dates heap
+    → IsPlaced es place k.name → es' ≡ with_held es place (Some (r, k)) → IsNoted dates (dated r place) → IsCovered now es dates heap → IsCovered now es' dates heap
 covered_filled now place r k es es' dates heap here e noted c =
     subst (λ (x : SlotList). IsCovered now x dates heap) (sym e) (record {
       apart = subst (IsDistinct name_eq) (sym (keys_set es place (Some (r, k)))) c.apart;
@@ -293,12 +275,11 @@ covered_filled now place r k es es' dates heap here e noted c =
       ];
       turned = c.turned;
       covered = λ p r' k' at.
-          let g = entry_in (slice_get (set_value_at es place (Some (r, k))) p) (r', k') at in
+          let g = entry_in (slice_get (with_held es place (Some (r, k))) p) (r', k') at in
           elim (set_some es place p (r, k) g.0 (r', k') g.1) [
             | inl f ↦ inl (subst (λ (x : ℕ). IsNoted dates (dated r' x)) f.place (subst (λ (x : ℕ × Key). IsNoted dates (dated x.0 place)) f.is noted))
             | inr o ↦ c.covered p r' k' (ap in_slot o)
           ];
-      date_order = c.date_order;
     })
 
 in_cons : {A : Type 0} (y : A) (xs : List A) (x : A) (i : ℕ) → slice_get (y ∷ xs) i ≡ Some x → (y ≡ x) ⊎ Contains xs x
@@ -311,25 +292,6 @@ top_or_stays top x xs ys p c =
     let at = place_of (top ∷ ys) x (Contains-permutation xs (top ∷ ys) x p c) in
     in_cons top ys x at.0 at.1
 
--- one far date more has gone
-pub moves_more : (slot : ℕ) (es : SlotList) (date : Reverse Date) (dates0 dates dates' : List (Reverse Date)) (heap0 heap heap' : List (Key × ℕ))
-    → Moves slot es (IsAmong dates0) (IsAmong dates) heap0 heap → date.0.release ≤ slot → IsPermutation dates (date ∷ dates')
-    → ((x : Key × ℕ) → Contains heap x → Contains heap' x) → ((k : Key) → in_slot (slice_get es date.0.place) ≡ Some (date.0.release, k) → Contains heap' (k, date.0.place))
-    → Moves slot es (IsAmong dates0) (IsAmong dates') heap0 heap'
-moves_more slot es date dates0 dates dates' heap0 heap heap' m due perm kept there =
-    record {
-      kept = λ x h. kept x (m.kept x h);
-      moved = λ p r k at h. elim (m.moved p r k at h) [
-        | inl stays ↦ elim (top_or_stays date (record { 0 = dated r p }) dates dates' perm stays) [
-          | inl same ↦
-              let P : Reverse Date → Type 0 = λ x. in_slot (slice_get es x.0.place) ≡ Some (x.0.release, k) → (x.0.release ≤ slot) × Contains heap' (k, x.0.place) in
-              inr (subst P same (λ a. (due, there k a)) at)
-          | inr later ↦ inl later
-        ]
-        | inr gone ↦ inr (gone.0, kept (k, p) gone.1)
-      ];
-    }
-
 pub pushed_more : {A : Type 0} (item x : A) (xs ys : List A) → IsPermutation (item ∷ xs) ys → Contains xs x → Contains ys x
 pushed_more item x xs ys p h = Contains-permutation (item ∷ xs) ys x p (Contains-append_right (item ∷ []) xs x h)
 
@@ -340,33 +302,9 @@ pub same_head : {A : Type 0} (xs : List A) (x y : A) → 0 < length xs → x ≡
 same_head [] x y h e f = absurd (omega arith)
 same_head (z ∷ xs) x y h e f = e ∙ sym f
 
-pub popped : {A : Type 0} (o : Option A) (xs ys : List A) (top : A) (n : ℕ) → n ≡ length xs → 0 < length xs → top ≡ slice_index_or xs 0 top
-    → IfNone o (n ≡ 0) → IfSome o (λ x. x ≡ slice_index_or xs 0 x) → IfSome o (λ x. IsPermutation xs (x ∷ ys)) → IsPermutation xs (top ∷ ys)
-popped None xs ys top n e some t none at p = absurd (omega arith)
-popped (Some x) xs ys top n e some t none at p = subst (λ z. IsPermutation xs (z ∷ ys)) (same_head xs x top some at t) p
-
-pub popped_order : (o : Option (Reverse Date)) (xs ys : List (Reverse Date)) (n : ℕ) → n ≡ length xs → 0 < length xs → IfNone o (n ≡ 0) → IfSome o (λ x. PopsGreatest later_cmp xs x ys) → IsHeap later_cmp xs → IsHeap later_cmp ys
-popped_order None xs ys n e some none h up = absurd (omega arith)
-popped_order (Some x) xs ys n e some none h up = (h up).0
-
 pub on_err : {A E : Type 0} (r : Result A E) (P : Type 0) → P → OnErr r P
 on_err (Ok x) P h = tt
 on_err (Err e) P h = h
-
-absent_of : {A B : Type 0} (o : Option A) (v : Option B) → o ≡ None → is_some o ≡ is_some v → v ≡ None
-absent_of o None e f = refl
-absent_of o (Some x) e f = absurd (true≢false (sym f ∙ ap is_some e))
-
-pub absent : (es : SlotList) (name : NameValue) (o : Option ℕ) → o ≡ None → is_some o ≡ is_some (lookup (name_eq name) es) → lookup (name_eq name) es ≡ None
-absent es name o e f = absent_of o (lookup (name_eq name) es) e f
-
-pub some_placed : (es : SlotList) (name : NameValue) (o : Option ℕ) → o ≡ position (name_eq name) (keys_of es) → IsDistinct name_eq (keys_of es) → IfSome o (λ p. IsPlaced es p name)
-some_placed es name None e h = tt
-some_placed es name (Some i) e h = placed es name i (sym e) h
-
-pub none_placed : (es : SlotList) (name : NameValue) (o : Option ℕ) → is_some o ≡ is_some (lookup (name_eq name) es) → IfNone o (entry_of (live es) name ≡ None)
-none_placed es name None f = not_placed es name (absent_of {A = ℕ} None (lookup (name_eq name) es) refl f)
-none_placed es name (Some i) f = tt
 
 -- nothing is held under the name, so nothing goes
 pub none_gone : (es : List (NameValue × (ℕ × Key))) (name q : NameValue) → entry_of es name ≡ None → entry_of es q ≡ cond (is_at (name_cmp name) q) None (entry_of es q)
@@ -377,7 +315,7 @@ none_gone es name q h =
     ] refl
 
 -- what is held after a slot was filled, or emptied
-pub filled : (es es1 es' : SlotList) (place : ℕ) (name : NameValue) (w : Option (ℕ × Key)) → IsPlaced es1 place name → live es1 ≡ live es → es' ≡ set_value_at es1 place w → (q : NameValue) → entry_of (live es') q ≡ cond (is_at (name_cmp name) q) w (entry_of (live es) q)
+pub filled : (es es1 es' : SlotList) (place : ℕ) (name : NameValue) (w : Option (ℕ × Key)) → IsPlaced es1 place name → live es1 ≡ live es → es' ≡ with_held es1 place w → (q : NameValue) → entry_of (live es') q ≡ cond (is_at (name_cmp name) q) w (entry_of (live es) q)
 filled es es1 es' place name w here same e q =
     ap (λ (x : SlotList). entry_of (live x) q) e
     ∙ live_set es1 place name (entry_of (live es1) name) w here.at here.apart q

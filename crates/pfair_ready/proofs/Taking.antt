@@ -9,7 +9,6 @@ use Rattle.std.specs.Cmp.{tied_itself}
 use Rattle.std.specs.BTreeMap.{is_at}
 use Rattle.std.specs.FinMap as finmap
 use Rattle.std.specs.FinMap.{from_entries}
-use Rattle.std.specs.BinaryHeap.{heap_items, IsHeap}
 use Rattle.std.specs.List.Sorted.{IsPermutation}
 use Rattle.std.proofs.lemmas.List.Sorted.{IsPermutation-refl, IsPermutation-sym}
 use Rattle.std.proofs.lemmas.List.Elements.{All-contains}
@@ -28,11 +27,10 @@ use Rattle.pfair_ready.specs.Heap.{is_due}
 use Rattle.pfair_ready.specs.declared.calendar.Calendar.{Calendar}
 use Rattle.pfair_ready.specs.declared.date.Date.{Date}
 use Rattle.pfair_ready.specs.Turns.{IsFirst}
-use Rattle.pfair_ready.specs.Slots.{SlotList, live, entry_of, in_slot, later_cmp, dated, Moves, IsNoted, IsCovered}
+use Rattle.pfair_ready.specs.Slots.{SlotList, live, entry_of, in_slot, dated, Moves, IsNoted, IsCovered, with_held}
 use Rattle.std.specs.List.{IsDistinct}
 use Rattle.std.proofs.lemmas.Option.{none-some}
 use Rattle.std.proofs.lemmas.Bool.{true≢false, and_parts}
-use Rattle.indexmap.specs.IndexMap.{set_value_at}
 use Rattle.pfair_ready.proofs.Names.{names_total}
 use Rattle.pfair_ready.proofs.HeapLemmas.{get_found, one_taken, top_or_stays, live_at, live_set, stands, Stands, entry_in, set_none, keys_set}
 use Rattle.pfair_ready.proofs.Released.{IsReleased, each_released, released_remove, without_none, without_push}
@@ -75,14 +73,13 @@ held_due k slot r within =
     rw one (ap is_eq (tied_itself keys_total k))
 
 pub covered_moved : (now slot : ℕ) (es : SlotList) (dates dates' : Calendar) (heap heap' : List (Key × ℕ))
-    → IsCovered now es dates heap → now ≤ slot → Moves slot es (IsNoted dates) (IsNoted dates') heap heap' → dates'.turned ≤ slot → IsHeap later_cmp (heap_items dates'.far) → IsCovered slot es dates' heap'
-covered_moved now slot es dates dates' heap heap' c within m turned down =
+    → IsCovered now es dates heap → now ≤ slot → Moves slot es (IsNoted dates) (IsNoted dates') heap heap' → dates'.turned ≤ slot → IsCovered slot es dates' heap'
+covered_moved now slot es dates dates' heap heap' c within m turned =
     record {
       apart = c.apart;
       named = c.named;
       turned = turned;
       covered = λ p r k e. elim (c.covered p r k e) [ inl d ↦ m.moved p r k e d | inr h ↦ inr (omega arith, m.kept (k, p) h.1) ];
-      date_order = down;
     }
 
 -- at the start nothing is given
@@ -144,7 +141,6 @@ module _ (slot m room : ℕ) (start es : SlotList) (dates : Calendar) (heap : Li
                 | inr stays ↦ inr (both.0, stays)
               ]
             ];
-            date_order = t.covered.date_order;
           };
           later = t.later;
           few = t.few;
@@ -157,7 +153,7 @@ module _ (slot m room : ℕ) (start es : SlotList) (dates : Calendar) (heap : Li
         let names : top.0.name ≡ name = ap (λ (x : Key). x.name) same ∙ named in
         true≢false (sym (ap is_eq (tied_itself names_total top.0.name)) ∙ ap (λ n. is_eq (name_cmp top.0.name n)) names ∙ apart)
 
-    module _ (es' : SlotList) (cleared : es' ≡ set_value_at es top.1 None) (n : NameValue) (u : Option (ℕ × Key)) (stood : slice_get es top.1 ≡ Some (n, u)) (own : top.0.name ≡ n) where
+    module _ (es' : SlotList) (cleared : es' ≡ with_held es top.1 None) (n : NameValue) (u : Option (ℕ × Key)) (stood : slice_get es top.1 ≡ Some (n, u)) (own : top.0.name ≡ n) where
       gone : (q : NameValue) → entry_of (live es') q ≡ cond (is_at (name_cmp top.0.name) q) None (entry_of (live es) q)
       gone q =
           ap (λ (x : SlotList). entry_of (live x) q) cleared
@@ -181,7 +177,7 @@ module _ (slot m room : ℕ) (start es : SlotList) (dates : Calendar) (heap : Li
           less_of keys_total (pd2_cmp k top.0) (pd2_cmp top.0 k) (keys_total.antisymm k top.0) not_before not_same
 
     -- a live key is given, and its slot is emptied
-    pub taking_live : (es' : SlotList) → es' ≡ set_value_at es top.1 None → length first < m → IsFirst top heap → is_due top.0 slot (in_slot (slice_get es top.1)) ≡ true → IsTaking slot m room start es' dates heap' (first ++ top.0 ∷ [])
+    pub taking_live : (es' : SlotList) → es' ≡ with_held es top.1 None → length first < m → IsFirst top heap → is_due top.0 slot (in_slot (slice_get es top.1)) ≡ true → IsTaking slot m room start es' dates heap' (first ++ top.0 ∷ [])
     taking_live es' cleared few least live_there =
         let due = due_held top.0 slot (in_slot (slice_get es top.1)) live_there in
         let ent = entry_in (slice_get es top.1) (due.0, top.0) due.1 in
@@ -203,7 +199,7 @@ module _ (slot m room : ℕ) (start es : SlotList) (dates : Calendar) (heap : Li
                 named = λ q x r key at. t.covered.named q x r key (set_none es top.1 q x (r, key) at).1;
                 turned = t.covered.turned;
                 covered = λ q r key at.
-                    let f = entry_in (slice_get (set_value_at es top.1 None) q) (r, key) at in
+                    let f = entry_in (slice_get (with_held es top.1 None) q) (r, key) at in
                     let g = set_none es top.1 q f.0 (r, key) f.1 in
                     elim (t.covered.covered q r key (ap in_slot g.1)) [
                       | inl there ↦ inl there
@@ -212,7 +208,6 @@ module _ (slot m room : ℕ) (start es : SlotList) (dates : Calendar) (heap : Li
                         | inr stays ↦ inr (both.0, stays)
                       ]
                     ];
-                date_order = t.covered.date_order;
               });
           later = t.later;
           few = omega (arith, length-append first (top.0 ∷ []));

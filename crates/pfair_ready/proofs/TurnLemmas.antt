@@ -1,9 +1,9 @@
 -- Turns in two heaps.
-use Rattle.std.proofs.Common.{◌≡◌, ℕ, ◌<◌, true, false, not, List, ◌∷◌, ◌++◌, length, map, refl, sym, ap, subst, ◌∙◌}
-use Rattle.std.specs.Prelude.{All, slice_index_or}
+use Rattle.std.proofs.Common.{◌≡◌, ℕ, ◌<◌, true, false, not, List, ◌∷◌, ◌++◌, length, map, take, [], ◌+◌, arith, length-append, Option, Some, None, refl, sym, ap, subst, ◌∙◌}
+use Rattle.std.specs.Prelude.{All, Contains, IfNone, slice_index_or}
 use Rattle.std.specs.List.Sorted.{IsPermutation}
-use Rattle.std.proofs.lemmas.List.Sorted.{IsPermutation-append_left, IsPermutation-append_right, IsPermutation-map, IsPermutation-middle, IsPermutation-sym, IsPermutation-trans}
-use Rattle.std.proofs.lemmas.List.Elements.{All-append, All-from_recursion, All-map, All-weaker}
+use Rattle.std.proofs.lemmas.List.Sorted.{IsPermutation-append_left, IsPermutation-append_right, All-permutation, length_permutation, IsPermutation-map, IsPermutation-middle, IsPermutation-sym, IsPermutation-trans}
+use Rattle.std.proofs.lemmas.List.Elements.{All-append, All-contains, All-contains_itself, Contains-append_right, All-from_recursion, All-map, All-weaker}
 use Rattle.std.proofs.lemmas.Bool.{true≢false}
 use Rattle.std.specs.declared.cmp.Ordering.{Ordering}
 use Rattle.std.specs.declared.cmp.Ordering.TheVariants.{Less, Equal, Greater}
@@ -14,9 +14,12 @@ use Rattle.std.specs.declared.cmp.Reverse.{Reverse}
 use Rattle.pfair_order.specs.declared.Key.{Key}
 use Rattle.pfair_order.specs.Order.{pd2_cmp}
 use Rattle.pfair_order.proofs.KeyLaws.{keys_total}
+use Rattle.std.proofs.lemmas.List.{get_or_default}
+use Rattle.pfair_ready.specs.Older.{newest_first}
 use Rattle.pfair_ready.proofs.HeapLemmas.{same_head}
-use Rattle.pfair_ready.specs.declared.turns.Late.{Late}
-use Rattle.pfair_ready.specs.Turns.{turn_cmp, soon_turn, late_turn, turns_of, late_of, GoesFirst, IsFirst}
+use Rattle.pfair_ready.proofs.OlderLemmas.{newest_next}
+use Rattle.pfair_ready.specs.declared.heap_pair.Late.{Late}
+use Rattle.pfair_ready.specs.Turns.{turn_cmp, soon_turn, late_turn, turns_of, late_of, GoesFirst, IsFirst, Leads}
 
 -- what is not before what is not before something isn't before that
 not_before : (a b c : Key) → is_lt (pd2_cmp a b) ≡ false → is_lt (pd2_cmp b c) ≡ false → is_lt (pd2_cmp a c) ≡ false
@@ -100,3 +103,111 @@ late_given x soon a b p = IsPermutation-sym (turns_of soon b) (x ∷ turns_of so
 -- the first of one heap is the first of both
 pub first_of : (turn : Key × ℕ) (soon : List (Reverse (Key × ℕ))) (late : List Late) → IsFirst turn (map soon_turn soon) → IsFirst turn (map late_turn late) → IsFirst turn (turns_of soon late)
 first_of turn soon late a b = All-append (λ (t : Key × ℕ). is_lt (pd2_cmp t.0 turn.0) ≡ false) (map soon_turn soon) (map late_turn late) a b
+
+-- ---- of two lists, which has the first
+
+-- what goes before all of one list goes before a turn of it, so before what that turn goes before
+pub leads_by : (turns others : List (Key × ℕ)) (first next : Key × ℕ) → Contains turns first → IsFirst next others → is_lt (pd2_cmp next.0 first.0) ≡ false → Leads turns others
+leads_by turns others first next there least e =
+    record {
+      first = λ turn before.
+          let after : is_lt (pd2_cmp first.0 turn.0) ≡ false = All-contains (λ (t : Key × ℕ). is_lt (pd2_cmp t.0 turn.0) ≡ false) turns first before there in
+          All-weaker (λ (t : Key × ℕ). is_lt (pd2_cmp t.0 next.0) ≡ false) (λ (t : Key × ℕ). is_lt (pd2_cmp t.0 turn.0) ≡ false) (λ t f. not_before t.0 next.0 turn.0 f (not_before next.0 first.0 turn.0 e after)) others least;
+      some = λ _. let within = there.1 in omega (arith, within);
+    }
+
+pub leads_both : (turns one two : List (Key × ℕ)) → Leads turns one → Leads turns two → Leads turns (one ++ two)
+leads_both turns one two a b =
+    record {
+      first = λ turn h. All-append (λ (t : Key × ℕ). is_lt (pd2_cmp t.0 turn.0) ≡ false) one two (a.first turn h) (b.first turn h);
+      some = some one a.some;
+    }
+  where
+    some : (l : List (Key × ℕ)) → (0 < length l → 0 < length turns) → 0 < length (l ++ two) → 0 < length turns
+    some [] f within = b.some within
+    some (x ∷ l) f within = f (omega arith)
+
+pub leads_itself : (turns : List (Key × ℕ)) → Leads turns turns
+leads_itself turns = record { first = λ turn h. h; some = λ h. h }
+
+pub leads_through : (one two three : List (Key × ℕ)) → Leads one two → Leads two three → Leads one three
+leads_through one two three a b = record { first = λ turn h. b.first turn (a.first turn h); some = λ h. a.some (b.some h) }
+
+module _ (pairs : List (List (Key × ℕ))) (place best : ℕ) (pair best_pair : List (Key × ℕ)) (within : place < length pairs) (best_within : best < length pairs)
+    (at : pair ≡ slice_index_or pairs place pair) (best_at : best_pair ≡ slice_index_or pairs best best_pair) where
+  here : slice_index_or pairs place [] ≡ pair
+  here = get_or_default pairs place [] pair within ∙ sym at
+
+  best_here : slice_index_or pairs best [] ≡ best_pair
+  best_here = get_or_default pairs best [] best_pair best_within ∙ sym best_at
+
+  -- one pair more goes before those that the best so far goes before
+  pub next_first : Leads pair best_pair → Leads (slice_index_or pairs best []) (newest_first (take place pairs)) → Leads (slice_index_or pairs place []) (newest_first (take (place + 1) pairs))
+  next_first before leads =
+      subst (Leads (slice_index_or pairs place [])) (sym (newest_next pairs place within))
+      (leads_both (slice_index_or pairs place []) (slice_index_or pairs place []) (newest_first (take place pairs)) (leads_itself (slice_index_or pairs place []))
+      (leads_through (slice_index_or pairs place []) (slice_index_or pairs best []) (newest_first (take place pairs))
+      (subst (Leads (slice_index_or pairs place [])) (sym best_here) (subst (λ (l : List (Key × ℕ)). Leads l best_pair) (sym here) before)) leads))
+
+  -- or the best so far goes before it too
+  pub same_first : Leads best_pair pair → Leads (slice_index_or pairs best []) (newest_first (take place pairs)) → Leads (slice_index_or pairs best []) (newest_first (take (place + 1) pairs))
+  same_first after leads =
+      subst (Leads (slice_index_or pairs best [])) (sym (newest_next pairs place within))
+      (leads_both (slice_index_or pairs best []) (slice_index_or pairs place []) (newest_first (take place pairs))
+      (subst (Leads (slice_index_or pairs best [])) (sym here) (subst (λ (l : List (Key × ℕ)). Leads l pair) (sym best_here) after)) leads)
+
+-- the rest of turns that are those of a list in another order
+pub leads_rest : (turns all rest : List (Key × ℕ)) → Leads turns all → IsPermutation all (turns ++ rest) → Leads turns rest
+leads_rest turns all rest leads p =
+    record {
+      first = λ turn before.
+          let LeastOf : Key × ℕ → Type 0 = λ t. is_lt (pd2_cmp t.0 turn.0) ≡ false in
+          let each : All LeastOf (turns ++ rest) = All-permutation LeastOf all (turns ++ rest) p (leads.first turn before) in
+          All-weaker (Contains rest) LeastOf (λ t there. All-contains LeastOf (turns ++ rest) t each (Contains-append_right turns rest t there)) rest (All-contains_itself rest);
+      some = λ within.
+          let same = length_permutation all (turns ++ rest) p in
+          let long = length-append turns rest in
+          leads.some (omega (arith, within, same, long));
+    }
+
+-- the first of what has the first of all is the first of all, whatever their order
+pub first_of_all : (turn : Key × ℕ) (all turns rest : List (Key × ℕ)) → IsPermutation all (turns ++ rest) → Leads turns rest → IsFirst turn turns → IsFirst turn all
+first_of_all turn all turns rest p leads first =
+    let LeastOf : Key × ℕ → Type 0 = λ t. is_lt (pd2_cmp t.0 turn.0) ≡ false in
+    All-permutation LeastOf (turns ++ rest) all (IsPermutation-sym all (turns ++ rest) p) (All-append LeastOf turns rest first (leads.first turn first))
+
+-- a turn that is taken out of a part of all
+pub taken_out : (turn : Key × ℕ) (all turns left rest : List (Key × ℕ)) → IsPermutation all (turns ++ rest) → IsPermutation turns (turn ∷ left) → IsPermutation all (turn ∷ (left ++ rest))
+taken_out turn all turns left rest before taken = IsPermutation-trans all (turns ++ rest) (turn ∷ (left ++ rest)) before (IsPermutation-append_left rest turns (turn ∷ left) taken)
+
+-- or there is none
+no_rest : (turns rest : List (Key × ℕ)) → (0 < length rest → 0 < length turns) → length turns ≡ 0 → length rest ≡ 0
+no_rest turns [] some none = refl
+no_rest turns (x ∷ rest) some none = let there = some (omega arith) in absurd (omega (arith, there, none))
+
+pub none_left : (all turns rest : List (Key × ℕ)) → IsPermutation all (turns ++ rest) → Leads turns rest → length turns ≡ 0 → length all ≡ 0
+none_left all turns rest p leads none =
+    let same = length_permutation all (turns ++ rest) p in
+    let long = length-append turns rest in
+    let other = no_rest turns rest leads.some none in
+    omega (arith, same, long, none, other)
+
+both_empty : (all all' : List (Key × ℕ)) → length all ≡ 0 → length all' ≡ length all → all' ≡ all
+both_empty [] [] none same = refl
+both_empty [] (x ∷ all') none same = absurd (omega (arith, same))
+both_empty (x ∷ all) all' none same = absurd (omega (arith, none))
+
+-- so they are as before
+pub same_none : (all turns left rest : List (Key × ℕ)) → IsPermutation all (turns ++ rest) → Leads turns rest → left ≡ turns → length turns ≡ 0 → left ++ rest ≡ all
+same_none all turns left rest p leads is none =
+    let same = length_permutation all (turns ++ rest) p in
+    let long = ap (λ (l : List (Key × ℕ)). length (l ++ rest)) is in
+    both_empty all (left ++ rest) (none_left all turns rest p leads none) (omega (arith, same, long))
+
+pub if_none : {A P Q : Type 0} (o : Option A) → (P → Q) → IfNone o P → IfNone o Q
+if_none None f h = f h
+if_none (Some x) f h = tt
+
+pub if_none_both : {A P Q S : Type 0} (o : Option A) → (P → Q → S) → IfNone o P → IfNone o Q → IfNone o S
+if_none_both None f p q = f p q
+if_none_both (Some x) f p q = tt

@@ -1,5 +1,6 @@
 pub mod Heap
 pub mod Names
+pub mod Older
 pub mod PlainList
 pub mod Queue
 pub mod Slots

@@ -1,15 +1,16 @@
 -- The slots of names, at places, and what is held in them.
-use Rattle.std.specs.Prelude.{◌≡◌, ℕ, ◌+◌, ◌%◌, ◌≤◌, Vec, Bool, nat_eq, ◌⊎◌, List, [], ◌∷◌, Option, Some, None, slice_get, slice_index_or, length, ◌<◌, true, Contains}
+use Rattle.std.specs.Prelude.{◌≡◌, ℕ, zero, suc, ◌+◌, ◌%◌, ◌≤◌, Vec, Bool, nat_eq, ◌⊎◌, List, [], ◌∷◌, Option, Some, None, map, slice_get, slice_index_or, length, ◌<◌, true, Contains}
+use Rattle.std.specs.Coded.{Coded, coded×, coded_ℕ, coded_list, coded_option}
 use Rattle.std.specs.declared.cmp.Ordering.{Ordering}
 use Rattle.std.specs.declared.cmp.Reverse.{Reverse}
 use Rattle.std.specs.Ordering.{nat_cmp}
 use Rattle.std.specs.Map.{lookup, keys_of}
 use Rattle.std.specs.BTreeMap.{is_at}
 use Rattle.std.specs.List.{IsDistinct}
-use Rattle.std.specs.BinaryHeap.{heap_items, IsHeap}
 use Rattle.std.specs.declared.alloc.Global.{Global}
 use Rattle.pfair_order.specs.declared.Key.{Key}
-use Rattle.indexmap.specs.IndexMap.{set_value_at}
+use Rattle.pfair_order.specs.KeyCode.{key_code}
+use Rattle.pfair_pieces.specs.NameIndex.{place_of, Places}
 use Rattle.pfair_ready.specs.declared.calendar.Calendar.{Calendar}
 use Rattle.pfair_ready.specs.declared.date.Date.{Date}
 use Rattle.pfair_ready.specs.Heap.{is_due}
@@ -38,6 +39,21 @@ abbrev pub in_slot : Option (NameValue × Option (ℕ × Key)) → Option (ℕ �
 in_slot None = None
 in_slot (Some e) = e.1
 
+-- the slots, of which the one at a place holds something else
+abbrev pub with_held : SlotList → ℕ → Option (ℕ × Key) → SlotList
+with_held [] place held = []
+with_held (e ∷ es) zero held = (e.0, held) ∷ es
+with_held (e ∷ es) (suc place) held = e ∷ with_held es place held
+
+-- each slot is at the place of its name, and no name has another place
+pub record IsSlots (places : Places) (es : SlotList) : Type 0 where
+  pub found : (p : ℕ) (name : NameValue) (held : Option (ℕ × Key)) → slice_get es p ≡ Some (name, held) → place_of places name ≡ Some p
+  pub there : (name : NameValue) (p : ℕ) → place_of places name ≡ Some p → (held : Option (ℕ × Key)) × (slice_get es p ≡ Some (name, held))
+
+-- slots are stored as the list that they are
+abbrev pub slots_code : Coded SlotList
+slots_code = coded_list (coded× (coded_list coded_ℕ) (coded_option (coded× coded_ℕ key_code)))
+
 -- the name has the place, and what is held under it is in the slot there
 pub record IsPlaced (es : SlotList) (place : ℕ) (name : NameValue) : Type 0 where
   pub at : slice_get es place ≡ Some (name, entry_of (live es) name)
@@ -59,6 +75,10 @@ date_cmp a b = nat_cmp a.release b.release
 abbrev pub later_cmp : Reverse Date → Reverse Date → Ordering
 later_cmp a b = date_cmp b.0 a.0
 
+-- the dates of the elements of a heap
+abbrev pub dates_of : List (Reverse Date) → List Date
+dates_of = map (λ r. r.0)
+
 -- the date is on top of the calendar, and has come
 pub record IsNextDate (slot : ℕ) (dates : List (Reverse Date)) (date : Date) : Type 0 where
   pub due : date.release ≤ slot
@@ -69,7 +89,7 @@ pub record IsNextDate (slot : ℕ) (dates : List (Reverse Date)) (date : Date) :
 pub record IsTurn (slot : ℕ) (es es' : SlotList) (turn : Key × ℕ) (key : Key) : Type 0 where
   pub is : key ≡ turn.0
   pub due : is_due turn.0 slot (in_slot (slice_get es turn.1)) ≡ true
-  pub emptied : es' ≡ set_value_at es turn.1 None
+  pub emptied : es' ≡ with_held es turn.1 None
 
 -- ---- the calendar
 
@@ -92,12 +112,12 @@ pub record IsNear (turned : ℕ) (near : List (Vec ℕ Global)) (date : Date) : 
   pub there : Contains (under near date.release) date.place
 
 -- or among the far ones
-abbrev pub IsAmong : List (Reverse Date) → Date → Type 0
-IsAmong far date = Contains far (record { 0 = date })
+abbrev pub IsAmong : List Date → Date → Type 0
+IsAmong far date = Contains far date
 
 -- a date is in the calendar
 abbrev pub IsNoted : Calendar → Date → Type 0
-IsNoted c date = IsNear c.turned c.near.items date ⊎ IsAmong (heap_items c.far) date
+IsNoted c date = IsNear c.turned c.near.items date ⊎ IsAmong c.far date
 
 -- what moved to the turns, which lose nothing: a date of a slot that was in one place, and isn't in another, has come, and the slot's key is among the turns
 pub record Moves (slot : ℕ) (es : SlotList) (Was Is : Date → Type 0) (turns turns' : List (Key × ℕ)) : Type 0 where
@@ -105,15 +125,14 @@ pub record Moves (slot : ℕ) (es : SlotList) (Was Is : Date → Type 0) (turns 
   pub moved : (p : ℕ) (r : ℕ) (k : Key) → in_slot (slice_get es p) ≡ Some (r, k) → Was (dated r p) → Is (dated r p) ⊎ ((r ≤ slot) × Contains turns' (k, p))
 
 -- what moved from a bucket to the far dates and to the turns, which lose nothing
-pub record Empties (slot : ℕ) (es : SlotList) (bucket bucket' : List ℕ) (far far' : List (Reverse Date)) (turns turns' : List (Key × ℕ)) : Type 0 where
-  pub far_kept : (x : Reverse Date) → Contains far x → Contains far' x
+pub record Empties (slot : ℕ) (es : SlotList) (bucket bucket' : List ℕ) (far far' : List Date) (turns turns' : List (Key × ℕ)) : Type 0 where
+  pub far_kept : (d : Date) → Contains far d → Contains far' d
   pub kept : (x : Key × ℕ) → Contains turns x → Contains turns' x
   pub emptied : (p : ℕ) (r : ℕ) (k : Key) → in_slot (slice_get es p) ≡ Some (r, k) → Contains bucket p → Contains bucket' p ⊎ (IsAmong far' (dated r p) ⊎ ((r ≤ slot) × Contains turns' (k, p)))
 
--- each slot holds a key of its name, which is in the calendar at its release, or released and among the turns; and the order of the far dates
+-- each slot holds a key of its name, which is in the calendar at its release, or released and among the turns
 pub record IsCovered (now : ℕ) (es : SlotList) (dates : Calendar) (turns : List (Key × ℕ)) : Type 0 where
   pub apart : IsDistinct name_eq (keys_of es)
   pub named : (p : ℕ) (name : NameValue) (r : ℕ) (k : Key) → slice_get es p ≡ Some (name, Some (r, k)) → k.name ≡ name
   pub turned : dates.turned ≤ now
   pub covered : (p : ℕ) (r : ℕ) (k : Key) → in_slot (slice_get es p) ≡ Some (r, k) → IsNoted dates (dated r p) ⊎ ((r ≤ now) × Contains turns (k, p))
-  pub date_order : IsHeap later_cmp (heap_items dates.far)

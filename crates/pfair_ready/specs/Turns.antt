@@ -7,7 +7,7 @@ use Rattle.std.specs.Ordering.{is_lt, nat_cmp, ordering_then}
 use Rattle.pfair_order.specs.declared.Key.{Key}
 use Rattle.pfair_order.specs.Order.{pd2_cmp}
 use Rattle.pfair_order.specs.KeyCode.{key_code}
-use Rattle.pfair_ready.specs.declared.turns.Late.{Late}
+use Rattle.pfair_ready.specs.declared.heap_pair.Late.{Late}
 
 -- a key and a place, by the PD2 order first
 abbrev pub turn_cmp : Key × ℕ → Key × ℕ → Ordering
@@ -41,6 +41,11 @@ IsFirst turn turns = All (λ t. is_lt (pd2_cmp t.0 turn.0) ≡ false) turns
 pub record GoesFirst {X : Type 0} (turn : X → Key × ℕ) (heap : List X) (others : List (Key × ℕ)) : Type 0 where
   pub first : (top : X) → top ≡ slice_index_or heap 0 top → IsFirst (turn top) others
   pub some : 0 < length others → 0 < length heap
+
+-- what goes before all of one list goes before all of another, which has none where the first has none
+pub record Leads (turns others : List (Key × ℕ)) : Type 0 where
+  pub first : (turn : Key × ℕ) → IsFirst turn turns → IsFirst turn others
+  pub some : 0 < length others → 0 < length turns
 
 -- turns are stored as the list that they are
 abbrev pub turns_code : Coded (List (Key × ℕ))

@@ -17,8 +17,10 @@ ghost use Rattle.pfair_ready.specs.Queue.{Queue, released, without};
 
 mod calendar;
 mod date;
+mod far_dates;
 mod guesses;
 mod heap;
+mod heap_pair;
 mod plain;
 mod slots;
 mod turns;
@@ -28,6 +30,10 @@ use pfair_order::Key;
 use pfair_weight::TaskName;
 pub use plain::PlainReady;
 use std::alloc::{AllocError, Global};
+
+// For how many keys or dates a heap has room from which on it doesn't grow: where it is too small,
+// another one is begun beside it, so that no growth moves more than these.
+const GROWN: usize = 1024;
 
 /// A ready structure: a slot, and for each of some names a release and a key.
 ///

@@ -1,48 +1,47 @@
 //! The turns of released keys, the first in the PD2 order first.
 
-ghost use Rattle.std.specs.Prelude.{◌≡◌, ◌+◌, ◌-◌, ◌^◌, ◌∷◌, [], IfNone, IfSome, IsTrue, OnErr, OnOk, length, map, min, not, slice_index_or};
+ghost use Rattle.std.specs.Prelude.{◌≡◌, ◌<◌, ◌+◌, ◌-◌, ◌^◌, ◌∷◌, ◌++◌, [], IfNone, IfSome, IsTrue, OnErr, OnOk, length, min, not, slice_index_or};
 ghost use Rattle.std.specs.List.Sorted.{IsPermutation};
-ghost use Rattle.std.specs.BinaryHeap.{heap_items, heap_len, HeapUnchanged, IsHeap, KeepsHeap, PopsGreatest};
-ghost use Rattle.pfair_ready.specs.Turns.{late_cmp, late_of, late_turn, reverse_cmp, soon_turn, GoesFirst, IsFirst};
+ghost use Rattle.pfair_ready.specs.Older.{newest_first};
+ghost use Rattle.pfair_ready.specs.Turns.{IsFirst, Leads};
 
+use crate::GROWN;
+use crate::heap_pair::HeapPair;
 use pfair_order::Key;
 use std::alloc::{AllocError, Global};
 use std::cmp::{Ordering, Reverse};
-use std::collections::BinaryHeap;
 use std::marker::Model;
-
-// How far ahead a deadline is soon, in slots.
-const SOON: u64 = 64;
+use std::mem;
 
 /// Released keys with the places of their names, of which the first in the PD2 order goes first.
 ///
-/// They are in two heaps: what has its deadline late is out of the way of what runs soon. The late
-/// ones are of a type of their own, so that the compiler still makes one piece of planning and of
-/// the calls of the other heap.
+/// They are in a pair of heaps. Where that has too little room, and room for 1,024 or more, it
+/// becomes an older pair, which gives its keys and gets none any more, and a pair with all the room
+/// takes its place. So no growth moves more than 1,024 keys. Each older pair has at most half of
+/// the room of the next, so there are few, and they go when they are empty. While there are some,
+/// the first of all tops is given: the pair that has it stands in the place of the current one
+/// then, so that the code that takes a turn out of a pair is in one place, where the compiler
+/// makes one piece of it and of its caller.
 #[derive(Drop)]
 pub(crate) struct Turns {
-    soon: BinaryHeap<Reverse<(Key, usize)>>,
-    late: BinaryHeap<Late>,
+    // the one that turns are added to; while some are taken out the one that has the first
+    current: HeapPair,
+    // the others, the newest last where none are taken out
+    older: Vec<HeapPair>,
 }
 
-/// A turn of a late deadline, in the order of the others.
-#[derive(Clone, Copy, PartialEq, Eq, PartialOrd, Ord)]
-pub(crate) struct Late(Reverse<(Key, usize)>);
-
 impl Model for Turns {
-    ghost use Rattle.std.specs.Prelude.{List, ℕ};
+    ghost use Rattle.std.specs.Prelude.{List, ℕ, ◌++◌};
     ghost use Rattle.pfair_order.specs.declared.Key.{Key};
 
     ghost Value = { List (Key × ℕ) };
 
-    ghost use Rattle.std.specs.BinaryHeap.{heap_items, IsHeap};
-    ghost use Rattle.pfair_ready.specs.Turns.{late_cmp, reverse_cmp, turns_code, turns_of};
+    ghost use Rattle.pfair_ready.specs.Older.{newest_first};
+    ghost use Rattle.pfair_ready.specs.Turns.{turns_code};
 
     ghost coded = { turns_code };
 
-    ghost view = { λ t. turns_of (heap_items t.soon) (heap_items t.late) };
-
-    ghost invariant = { λ t. IsHeap reverse_cmp (heap_items t.soon) × IsHeap late_cmp (heap_items t.late) };
+    ghost view = { λ t. t.current ++ newest_first t.older.items };
 }
 
 impl Turns {
@@ -51,8 +50,8 @@ impl Turns {
         ensures { result ≡ [] }
     {
         Turns {
-            soon: BinaryHeap::new(alloc),
-            late: BinaryHeap::new(alloc),
+            current: HeapPair::new(alloc),
+            older: Vec::new(alloc),
         }
     }
 
@@ -60,7 +59,10 @@ impl Turns {
     pub(crate) fn len(&self) -> usize
         ensures { result ≡ min (length self.now) (2 ^ 64 - 1) }
     {
-        self.soon.len().saturating_add(self.late.len())
+        if self.older.is_empty() {
+            return self.current.len();
+        }
+        self.current.len().saturating_add(len_of(&self.older))
     }
 
     /// Adds a turn, in a selection at a slot.
@@ -72,16 +74,10 @@ impl Turns {
         ensures more { OnOk result (IsPermutation ((key, place) ∷ self.old) self.new) }
         ensures same { OnErr result (self.new ≡ self.old) }
     {
-        let deadline = key.d;
-        if deadline.saturating_sub(slot) > SOON {
-            push_late(&mut self.late, (key, place))?;
-            return Ok(());
-        }
-        self.soon.push(Reverse((key, place)))?;
-        Ok(())
+        self.current.push(slot, key, place)
     }
 
-    /// Takes out the first turn.
+    /// Takes out the first turn. Before turns are added again, [`Turns::settle`] is to be called.
     pub(crate) fn pop(&mut self) -> Option<(Key, usize)>
         ensures some { IfSome result (λ turn. IsPermutation self.old (turn ∷ self.new)) }
         ensures first { IfSome result (λ turn. IsFirst turn self.old) }
@@ -89,63 +85,156 @@ impl Turns {
         ensures none { IfNone result (length self.old ≡ 0) }
         ensures same { IfNone result (self.new ≡ self.old) }
     {
-        if is_late_first(&self.soon, &self.late) {
-            let turn = pop_late(&mut self.late)?;
-            return Some(turn);
-        }
-        let Reverse(turn) = self.soon.pop()?;
-        Some(turn)
+        bring_first(&mut self.current, &mut self.older);
+        self.current.pop()
     }
 
-    /// Takes room for so many turns more.
+    /// Makes the pair with the most room the current one again, so that there is room for what is
+    /// added next, and lets those without turns go.
+    pub(crate) fn settle(&mut self)
+        ensures { IsPermutation self.old self.new }
+    {
+        if !self.older.is_empty() {
+            settle_older(&mut self.current, &mut self.older);
+        }
+    }
+
+    /// Takes room for so many turns more. No more than 1,024 keys are moved for it.
     ///
     /// # Errors
     /// `AllocError` where memory was wanted and refused.
-    pub(crate) fn reserve(&mut self, more: usize) -> Result<(), AllocError>
+    pub(crate) fn reserve(&mut self, alloc: Global, more: usize) -> Result<(), AllocError>
         ensures { self.new ≡ self.old }
     {
-        self.soon.reserve(more.saturating_add(self.late.len()))?;
-        self.late.reserve(more.saturating_add(self.soon.len()))
+        let all = self.len().saturating_add(more);
+        let room = self.current.room();
+        if all <= room {
+            return Ok(());
+        }
+        if room < GROWN {
+            return self.current.reserve(all);
+        }
+        let next = HeapPair::with_room(alloc, all)?;
+        if self.current.is_empty() {
+            self.current = next;
+            return Ok(());
+        }
+        make_older(&mut self.current, &mut self.older, next)
     }
 }
 
-// Adds a late turn.
+// How many turns are in these pairs.
 #[inline(never)]
-fn push_late(late: &mut BinaryHeap<Late>, turn: (Key, usize)) -> Result<(), AllocError>
-    ensures more { OnOk result (IsPermutation (late_of turn ∷ heap_items late.old) (heap_items late.new)) }
-    ensures heap { OnOk result (KeepsHeap late_cmp (heap_items late.old) (heap_items late.new)) }
-    ensures same { OnErr result (HeapUnchanged late.old late.new) }
+fn len_of(pairs: &[HeapPair]) -> usize
+    ensures { result ≡ min (length (newest_first pairs.now)) (2 ^ 64 - 1) }
 {
-    late.push(Late(Reverse(turn)))?;
+    let mut turns: usize = 0;
+    for pair in pairs {
+        turns = turns.saturating_add(pair.len());
+    }
+    turns
+}
+
+// Makes the current pair an older one, and an empty pair the current one.
+#[inline(never)]
+fn make_older(
+    current: &mut HeapPair,
+    older: &mut Vec<HeapPair>,
+    next: HeapPair,
+) -> Result<(), AllocError>
+    requires { next ≡ [] }
+    ensures empty { OnOk result (current.new ≡ []) }
+    ensures same { current.new ++ newest_first older.new.items ≡ current.old ++ newest_first older.old.items }
+{
+    older.push(next)?;
+    let last = older.len() - 1;
+    mem::swap(current, &mut older[last]);
     Ok(())
 }
 
-// Takes out the first late turn.
-#[inline(never)]
-fn pop_late(late: &mut BinaryHeap<Late>) -> Option<(Key, usize)>
-    ensures some { IfSome result (λ turn. IsPermutation (heap_items late.old) (late_of turn ∷ heap_items late.new)) }
-    ensures first { IfSome result (λ turn. PopsGreatest late_cmp (heap_items late.old) (late_of turn) (heap_items late.new)) }
-    ensures top { IfSome result (λ turn. late_of turn ≡ slice_index_or (heap_items late.old) 0 (late_of turn)) }
-    ensures shorter { IfSome result (λ turn. heap_len late.new + 1 ≡ heap_len late.old) }
-    ensures none { IfNone result (heap_len late.old ≡ 0) }
-    ensures same { IfNone result (HeapUnchanged late.old late.new) }
+// Makes the pair that has the first of all turns the current one.
+#[inline(always)]
+fn bring_first(current: &mut HeapPair, older: &mut Vec<HeapPair>)
+    ensures same { IsPermutation (current.old ++ newest_first older.old.items) (current.new ++ newest_first older.new.items) }
+    ensures first { Leads current.new (newest_first older.new.items) }
 {
-    let Late(Reverse(turn)) = late.pop()?;
-    Some(turn)
+    if !older.is_empty() {
+        bring_older(current, older);
+    }
 }
 
-// Whether the first of the late turns goes before those that are soon.
-fn is_late_first(soon: &BinaryHeap<Reverse<(Key, usize)>>, late: &BinaryHeap<Late>) -> bool
-    requires soon { IsHeap reverse_cmp (heap_items soon.now) }
-    requires late { IsHeap late_cmp (heap_items late.now) }
-    ensures late { IsTrue result → GoesFirst late_turn (heap_items late.now) (map soon_turn (heap_items soon.now)) }
-    ensures soon { IsTrue (not result) → GoesFirst soon_turn (heap_items soon.now) (map late_turn (heap_items late.now)) }
+// The same, where there are older pairs.
+#[inline(never)]
+fn bring_older(current: &mut HeapPair, older: &mut Vec<HeapPair>)
+    requires { 0 < length older.old.items }
+    ensures same { IsPermutation (current.old ++ newest_first older.old.items) (current.new ++ newest_first older.new.items) }
+    ensures first { Leads current.new (newest_first older.new.items) }
 {
-    let Some(late_top) = late.peek() else {
+    let place = first_of(older);
+    if goes_before(&older[place], current) {
+        mem::swap(current, &mut older[place]);
+    }
+}
+
+// Makes the pair with the most room the current one, where there are older pairs.
+#[inline(never)]
+fn settle_older(current: &mut HeapPair, older: &mut Vec<HeapPair>)
+    requires { 0 < length older.old.items }
+    ensures { IsPermutation (current.old ++ newest_first older.old.items) (current.new ++ newest_first older.new.items) }
+{
+    let place = roomiest(older);
+    if older[place].room() > current.room() {
+        mem::swap(current, &mut older[place]);
+    }
+    drop_emptied(older);
+}
+
+// The place of a pair with the most room.
+fn roomiest(pairs: &[HeapPair]) -> usize
+    requires { 0 < length pairs.now }
+    ensures { result < length pairs.now }
+{
+    let mut most = 0;
+    for place in 0..pairs.len() {
+        if pairs[place].room() > pairs[most].room() {
+            most = place;
+        }
+    }
+    most
+}
+
+// The place of the pair whose first turn none of the others' goes before.
+fn first_of(pairs: &[HeapPair]) -> usize
+    requires { 0 < length pairs.now }
+    ensures within { result < length pairs.now }
+    ensures first { Leads (slice_index_or pairs.now result []) (newest_first pairs.now) }
+{
+    let mut first = 0;
+    for place in 0..pairs.len() {
+        if goes_before(&pairs[place], &pairs[first]) {
+            first = place;
+        }
+    }
+    first
+}
+
+// Whether the first turn of a pair goes before that of another, or is no later.
+fn goes_before(pair: &HeapPair, other: &HeapPair) -> bool
+    ensures before { IsTrue result → Leads pair.now other.now }
+    ensures after { IsTrue (not result) → Leads other.now pair.now }
+{
+    let Some(turn) = pair.first() else {
         return false;
     };
-    match soon.peek() {
-        Some(soon_top) => late_top.0.cmp(soon_top) == Ordering::Greater,
+    match other.first() {
+        Some(next) => Reverse(turn).cmp(&Reverse(next)) == Ordering::Greater,
         None => true,
     }
+}
+
+// Lets pairs without turns go.
+fn drop_emptied(older: &mut Vec<HeapPair>)
+    ensures { newest_first older.new.items ≡ newest_first older.old.items }
+{
+    older.retain(|pair| !pair.is_empty());
 }

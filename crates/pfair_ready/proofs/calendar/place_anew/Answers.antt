@@ -1,6 +1,5 @@
 use Rattle.std.proofs.Common.{◌≡◌, ◌≤◌, inl, inr, ℕ, sym, subst, ◌∙◌}
 use Rattle.std.specs.Prelude.{Contains}
-use Rattle.std.specs.BinaryHeap.{heap_items}
 use Rattle.std.proofs.lemmas.Option.{same_Some}
 use Rattle.pfair_order.specs.declared.Key.{Key}
 use Rattle.pfair_ready.specs.Slots.{IsAmong, dated}
@@ -18,12 +17,12 @@ returns-in_ok-push-clause-there c =
     inr (subst (λ (x : ℕ × Key). (x.0 ≤ c.args.slot) × Contains c.push.new.self (x.1, c.args.place)) same (c.if-release-slot.true, top))
 
 pub returns-in_ok-push-2-clause-far : goal.returns-in_ok-push-2-clause-far
-returns-in_ok-push-2-clause-far c x h = pushed_more (record { 0 = dated c.in-Some.release c.args.place }) x (heap_items c.args.far.now) (heap_items c.push-else-release-slot.new.self) c.in_ok-push-2.ensures.permutation h
+returns-in_ok-push-2-clause-far c x h = pushed_more (dated c.in-Some.release c.args.place) x c.args.far.now c.push-else-release-slot.new.self c.in_ok-push-2.ensures.more h
 
 pub returns-in_ok-push-2-clause-there : goal.returns-in_ok-push-2-clause-there
 returns-in_ok-push-2-clause-there c =
-    let top : IsAmong (heap_items c.push-else-release-slot.new.self) (dated c.in-Some.release c.args.place) =
-    pushed_top (record { 0 = dated c.in-Some.release c.args.place }) (heap_items c.args.far.now) (heap_items c.push-else-release-slot.new.self) c.in_ok-push-2.ensures.permutation in
+    let top : IsAmong c.push-else-release-slot.new.self (dated c.in-Some.release c.args.place) =
+    pushed_top (dated c.in-Some.release c.args.place) c.args.far.now c.push-else-release-slot.new.self c.in_ok-push-2.ensures.more in
     λ r k at.
     let same : (c.in-Some.release, c.in-Some.key) ≡ (r, k) = same_Some (c.in-Some.release, c.in-Some.key) (r, k) (sym c.in-Some.is ∙ c.slot_at.ensures ∙ at) in
-    inl (subst (λ (x : ℕ × Key). IsAmong (heap_items c.push-else-release-slot.new.self) (dated x.0 c.args.place)) same top)
+    inl (subst (λ (x : ℕ × Key). IsAmong c.push-else-release-slot.new.self (dated x.0 c.args.place)) same top)

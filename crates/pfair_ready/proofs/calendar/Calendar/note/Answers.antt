@@ -1,11 +1,11 @@
 use Rattle.std.proofs.Common.{◌∷◌, [], inl, inr, refl, sym, ap, subst, ◌∙◌, ℕ, List, length}
 use Rattle.std.specs.Prelude.{Contains, slice_get, slice_set}
-use Rattle.std.specs.BinaryHeap.{heap_items, IsHeap}
 use Rattle.std.specs.Vec.{with_item}
 use Rattle.std.proofs.lemmas.Option.{slice_get_read}
 use Rattle.std.proofs.lemmas.List.Elements.{Contains-append_left, Contains-push}
 use Rattle.pfair_ready.specs.declared.calendar.Calendar.{Calendar}
-use Rattle.pfair_ready.specs.Slots.{in_bucket, later_cmp}
+use Rattle.pfair_ready.specs.declared.date.Date.{Date}
+use Rattle.pfair_ready.specs.Slots.{in_bucket}
 use Rattle.pfair_ready.proofs.HeapLemmas.{pushed_more, pushed_top}
 use Rattle.pfair_ready.proofs.CalendarLemmas.{at_set, noted_far, noted_near}
 use Rattle.pfair_ready.proofs.calendar.Calendar.note.Goals as goal
@@ -36,14 +36,11 @@ returns-in_ok-push-in-Some-clause-there c =
 
 pub returns-in_err-push-in-None-clause-kept : goal.returns-in_err-push-in-None-clause-kept
 returns-in_err-push-in-None-clause-kept c =
-    λ d noted. noted_far c.make_near.new.self (record { turned = c.make_near.new.self.turned; near = c.make_near.new.self.near; far = c.push-in-None.new.self }) (λ x h. subst (λ l. Contains l x) (sym c.in_err-push-in-None.ensures.unchanged.0) h) refl refl d (c.make_near.ensures.kept d noted)
+    λ d noted. noted_far c.make_near.new.self (record { turned = c.make_near.new.self.turned; near = c.make_near.new.self.near; far = c.push-in-None.new.self }) (λ x h. subst (λ (l : List Date). Contains l x) (sym c.in_err-push-in-None.ensures.same) h) refl refl d (c.make_near.ensures.kept d noted)
 
 pub returns-in_ok-push-in-None-clause-kept : goal.returns-in_ok-push-in-None-clause-kept
 returns-in_ok-push-in-None-clause-kept c =
-    λ d noted. noted_far c.make_near.new.self (record { turned = c.make_near.new.self.turned; near = c.make_near.new.self.near; far = c.push-in-None.new.self }) (λ x h. pushed_more (record { 0 = c.args.date }) x (heap_items c.make_near.new.self.far) (heap_items c.push-in-None.new.self) c.in_ok-push-in-None.ensures.permutation h) refl refl d (c.make_near.ensures.kept d noted)
+    λ d noted. noted_far c.make_near.new.self (record { turned = c.make_near.new.self.turned; near = c.make_near.new.self.near; far = c.push-in-None.new.self }) (λ x h. pushed_more c.args.date x c.make_near.new.self.far c.push-in-None.new.self c.in_ok-push-in-None.ensures.more h) refl refl d (c.make_near.ensures.kept d noted)
 
 pub returns-in_ok-push-in-None-clause-there : goal.returns-in_ok-push-in-None-clause-there
-returns-in_ok-push-in-None-clause-there c = inr (pushed_top (record { 0 = c.args.date }) (heap_items c.make_near.new.self.far) (heap_items c.push-in-None.new.self) c.in_ok-push-in-None.ensures.permutation)
-
-pub returns-in_ok-push-in-None-clause-date_order : goal.returns-in_ok-push-in-None-clause-date_order
-returns-in_ok-push-in-None-clause-date_order c = c.in_ok-push-in-None.ensures.heap_order (subst (λ f. IsHeap later_cmp (heap_items f)) (sym c.make_near.ensures.far) c.requires)
+returns-in_ok-push-in-None-clause-there c = inr (pushed_top c.args.date c.make_near.new.self.far c.push-in-None.new.self c.in_ok-push-in-None.ensures.more)

@@ -25,6 +25,5 @@ loop-bucket-preserved c =
       kept = λ d noted. noted_near was (record { turned = was.turned; near = with_item was.near c.loop-bucket.bucket c.reserve.new.self; far = was.far }) c.loop-bucket.bucket c.reserve.new.self
           (λ p h. subst (λ (l : List ℕ). Contains l p) (here ∙ sym c.reserve.ensures.items) h) refl refl refl d (c.loop-bucket.invariant.kept d noted);
       turned = c.loop-bucket.invariant.turned;
-      date_order = c.loop-bucket.invariant.date_order;
       long = length-set was.near.items c.loop-bucket.bucket c.reserve.new.self ∙ c.loop-bucket.invariant.long;
     }

@@ -1,13 +1,11 @@
 use Rattle.std.proofs.Common.{◌≡◌, length}
-use Rattle.std.specs.BinaryHeap.{heap_items, IsHeap}
 use Rattle.pfair_ready.specs.declared.date.Date.{Date}
-use Rattle.pfair_ready.specs.Slots.{IsNoted, later_cmp}
+use Rattle.pfair_ready.specs.Slots.{IsNoted}
 use Rattle.pfair_ready.proofs.calendar.Calendar.reserve.Given as goal
 
 abbrev pub invariant-loop-bucket : goal.invariant-loop-bucket
 invariant-loop-bucket l = record {
   kept : (d : Date) → IsNoted l.fn.self d → IsNoted l.self d;
   turned : l.self.turned ≡ l.fn.self.turned;
-  date_order : IsHeap later_cmp (heap_items l.self.far);
   long : length l.self.near.items ≡ l.bucket-end;
 }

@@ -1,31 +1,32 @@
-use Rattle.std.proofs.Common.{◌∷◌, ℕ, List, refl, subst}
-use Rattle.std.specs.BinaryHeap.{heap_items}
+use Rattle.std.proofs.Common.{◌++◌, ◌∷◌, ℕ, List, arith, subst}
 use Rattle.std.specs.List.Sorted.{IsPermutation}
+use Rattle.std.proofs.lemmas.List.Sorted.{length_permutation}
+use Rattle.std.proofs.lemmas.Option.{IfSome_then}
 use Rattle.pfair_order.specs.declared.Key.{Key}
-use Rattle.pfair_ready.specs.Turns.{late_of, late_turn, soon_turn, turns_of, IsFirst}
-use Rattle.pfair_ready.proofs.TurnLemmas.{first_of, late_taken, soon_moved, top_first}
+use Rattle.pfair_ready.specs.Older.{newest_first}
+use Rattle.pfair_ready.proofs.TurnLemmas.{first_of_all, if_none, if_none_both, none_left, same_none, taken_out}
 use Rattle.pfair_ready.proofs.turns.Turns.pop.Goals as goal
 
-pub returns-then-is_late_first-clause-some : goal.returns-then-is_late_first-clause-some
-returns-then-is_late_first-clause-some c =
-    subst (λ (l : List (Key × ℕ)). IsPermutation l (c.in_ok-turn.turn ∷ turns_of (heap_items c.self.inside.soon) (heap_items c.pop_late.new.late))) c.self.view_is
-    (late_taken c.in_ok-turn.turn (heap_items c.self.inside.soon) (heap_items c.self.inside.late) (heap_items c.pop_late.new.late) c.in_ok-turn.ensures.some)
-
-pub returns-then-is_late_first-clause-first : goal.returns-then-is_late_first-clause-first
-returns-then-is_late_first-clause-first c =
-    subst (IsFirst c.in_ok-turn.turn) c.self.view_is
-    (first_of c.in_ok-turn.turn (heap_items c.self.inside.soon) (heap_items c.self.inside.late)
-    ((c.if-is_late_first.ensures.late refl).first (late_of c.in_ok-turn.turn) c.in_ok-turn.ensures.top)
-    (top_first late_turn (late_of c.in_ok-turn.turn) (heap_items c.self.inside.late) (c.in_ok-turn.ensures.first c.self.invariant.1).1))
+-- the turns before, as they stand when the pair with the first is brought
+brought : (c : goal.After-pop) → IsPermutation c.args.self.now (c.bring_first.new.current ++ newest_first c.bring_first.new.older.items)
+brought c = subst (λ (l : List (Key × ℕ)). IsPermutation l (c.bring_first.new.current ++ newest_first c.bring_first.new.older.items)) c.self.view_is c.bring_first.ensures.same
 
 pub returns-clause-some : goal.returns-clause-some
-returns-clause-some c =
-    subst (λ (l : List (Key × ℕ)). IsPermutation l (c.in_ok-turn-2.field-0.0 ∷ turns_of (heap_items c.pop.new.self) (heap_items c.self.inside.late))) c.self.view_is
-    (soon_moved (heap_items c.self.inside.soon) (c.in_ok-turn-2.field-0 ∷ heap_items c.pop.new.self) (heap_items c.self.inside.late) c.in_ok-turn-2.ensures.permutation)
+returns-clause-some c = IfSome_then c.pop.result c.pop.ensures.some (λ turn p. taken_out turn c.args.self.now c.bring_first.new.current c.pop.new.self (newest_first c.bring_first.new.older.items) (brought c) p)
 
 pub returns-clause-first : goal.returns-clause-first
 returns-clause-first c =
-    subst (IsFirst c.in_ok-turn-2.field-0.0) c.self.view_is
-    (first_of c.in_ok-turn-2.field-0.0 (heap_items c.self.inside.soon) (heap_items c.self.inside.late)
-    (top_first soon_turn c.in_ok-turn-2.field-0 (heap_items c.self.inside.soon) (c.in_ok-turn-2.ensures.heap_order c.self.invariant.0).1)
-    ((c.if-is_late_first.ensures.soon refl).first c.in_ok-turn-2.field-0 c.in_ok-turn-2.ensures.top))
+    IfSome_then c.pop.result c.pop.ensures.first (λ turn first. first_of_all turn c.args.self.now c.bring_first.new.current (newest_first c.bring_first.new.older.items) (brought c) c.bring_first.ensures.first first)
+
+pub returns-clause-shorter : goal.returns-clause-shorter
+returns-clause-shorter c =
+    let left : List (Key × ℕ) = c.pop.new.self ++ newest_first c.bring_first.new.older.items in
+    IfSome_then c.pop.result (returns-clause-some c) (λ turn p. let same = length_permutation c.args.self.now (turn ∷ left) p in omega (arith, same))
+
+pub returns-clause-none : goal.returns-clause-none
+returns-clause-none c = if_none c.pop.result (none_left c.args.self.now c.bring_first.new.current (newest_first c.bring_first.new.older.items) (brought c) c.bring_first.ensures.first) c.pop.ensures.none
+
+pub returns-clause-same : goal.returns-clause-same
+returns-clause-same c =
+    if_none_both c.pop.result (λ none same. same_none c.args.self.now c.bring_first.new.current c.pop.new.self (newest_first c.bring_first.new.older.items) (brought c) c.bring_first.ensures.first same none)
+    c.pop.ensures.none c.pop.ensures.same
