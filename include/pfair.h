@@ -369,8 +369,9 @@ struct pfair_step {
  *   0    the step is written
  * Cost: the number of processors, what is announced for the slot, the logarithm of the number of tasks for each quantum,
  * and what was taken since the last plan; not the entries held. Every 1,024 slots a block of some 72 KB is asked of
- * malloc for what is planned next, and nothing of what was planned is copied. What is held of tasks is moved to where it
- * has more room only where a task joins, but for the list of those that are released at one slot, of 8 bytes each. After
+ * malloc for what is planned next, and nothing of what was planned is copied. Where a task joins and there are more than
+ * ever before, room for twice as many is taken now and then, and what is held of no more than 1,024 tasks is moved; a slot
+ * at which none joins takes room for the list of the tasks that are released at one slot alone, 8 KB at most. After
  * pfair_reserve a slot at which nothing is announced asks malloc for nothing.
  */
 uint32_t pfair_plan_next(struct pfair_dispatcher *d, struct pfair_step *step);
@@ -395,8 +396,8 @@ uint32_t pfair_plan_to(struct pfair_dispatcher *d, uint64_t until, struct pfair_
  *   102  the handle has no dispatcher
  *   90   memory was refused: what is held and what was planned stand, plans go on, and what was taken is used by them
  *   0    the memory is there
- * Cost: for each slot for which there is no memory yet 25 bytes for each processor, and some 120 for the slot; and 600
- * to 1,200 bytes for each task for which there is none.
+ * Cost: for each slot for which there is no memory yet 25 bytes for each processor, and some 120 for the slot; and for
+ * each task for which there is none 600 to 1,200 bytes, or 110 to 230 for those after the first 1,024.
  */
 uint32_t pfair_reserve(struct pfair_dispatcher *d, uint64_t slots);
 

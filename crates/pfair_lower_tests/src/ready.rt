@@ -6,7 +6,6 @@ use pfair_order::Key;
 use pfair_ready::{HeapReady, PlainReady, Ready};
 use pfair_weight::TaskName;
 use std::alloc::Global;
-use std::ops::Range;
 use std::process::Abort;
 use std::test::Fail;
 
@@ -152,87 +151,4 @@ fn assert_rows<R: Ready>(rt: &impl Abort, alloc: Global) -> Result<(), Fail> {
 fn rows_of_lists_and_heaps(rt: HostRuntime) -> Result<(), Fail> {
     assert_rows::<PlainReady>(&rt, rt.alloc())?;
     assert_rows::<HeapReady>(&rt, rt.alloc())
-}
-
-// A key of a number, whose deadline is among 5,003 slots in an order of its own.
-fn numbered(rt: &impl Abort, number: u16) -> Key {
-    let place = |shift: u32| b'a' + (number >> shift & 15) as u8;
-    let d = u64::from(number) * 37 % 5003;
-    key(rt, d, 0, &[place(12), place(8), place(4), place(0)])
-}
-
-// Inserts the keys of some numbers at one release into both.
-fn insert_numbered<R: Ready, Q: Ready>(
-    rt: &impl Abort,
-    ready: &mut R,
-    other: &mut Q,
-    release: u64,
-    numbers: Range<u16>,
-) -> Result<(), Fail> {
-    for number in numbers {
-        let key = numbered(rt, number);
-        assert!(rt; ready.insert(release, key)?);
-        assert!(rt; other.insert(release, key)?);
-    }
-    Ok(())
-}
-
-// Asserts that the next selection, at this slot or later, takes the same keys from both, and says
-// how many.
-fn assert_same<R: Ready, Q: Ready>(
-    rt: &impl Abort,
-    ready: &mut R,
-    other: &mut Q,
-    slot: u64,
-    m: usize,
-) -> Result<usize, Fail> {
-    let slot = slot.max(ready.now()).max(other.now());
-    let first = ready.take_first(slot, m)?;
-    let same = other.take_first(slot, m)?;
-    assert!(rt; first == same);
-    Ok(first.len())
-}
-
-// Bunches of 400 keys, of each of which 80 are given before the next is inserted. So heaps that were
-// too small stand beside the new ones, with keys of both kinds of deadlines.
-#[test]
-fn gives_the_same_while_heaps_are_added(rt: HostRuntime) -> Result<(), Fail> {
-    let mut ready = HeapReady::new(rt.alloc());
-    let mut plain = PlainReady::new(rt.alloc());
-    let mut given: usize = 0;
-    for bunch in 0..5u16 {
-        let release = ready.now();
-        let first = bunch * 400;
-        insert_numbered(&rt, &mut ready, &mut plain, release, first..first + 400)?;
-        for _ in 0..8 {
-            let next = ready.now().saturating_add(1);
-            let more = assert_same(&rt, &mut ready, &mut plain, next, 10)?;
-            given = given.saturating_add(more);
-        }
-    }
-    assert_eq!(&rt; given, 400);
-    for _ in 0..32 {
-        let next = ready.now().saturating_add(1);
-        let more = assert_same(&rt, &mut ready, &mut plain, next, 50)?;
-        given = given.saturating_add(more);
-    }
-    assert_eq!(&rt; given, 2000);
-    let more = assert_same(&rt, &mut ready, &mut plain, 0, 1)?;
-    assert_eq!(&rt; more, 0);
-    Ok(())
-}
-
-// More keys of one release than the list of a slot takes, and others of a later one in two bunches.
-#[test]
-fn gives_the_same_where_a_slot_releases_many(rt: HostRuntime) -> Result<(), Fail> {
-    let mut ready = HeapReady::new(rt.alloc());
-    let mut plain = PlainReady::new(rt.alloc());
-    insert_numbered(&rt, &mut ready, &mut plain, 10, 0..1100)?;
-    insert_numbered(&rt, &mut ready, &mut plain, 30, 1100..1200)?;
-    assert_eq!(&rt; assert_same(&rt, &mut ready, &mut plain, 9, 1)?, 0);
-    assert_eq!(&rt; assert_same(&rt, &mut ready, &mut plain, 10, 100)?, 100);
-    insert_numbered(&rt, &mut ready, &mut plain, 30, 1200..1300)?;
-    assert_eq!(&rt; assert_same(&rt, &mut ready, &mut plain, 29, 1500)?, 1000);
-    assert_eq!(&rt; assert_same(&rt, &mut ready, &mut plain, 30, 2000)?, 200);
-    Ok(())
 }

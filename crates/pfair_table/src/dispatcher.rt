@@ -301,8 +301,8 @@ impl<R: Ready> Dispatcher<R> {
     /// in each slot.
     ///
     /// It costs the slots for which there is no room yet: 25 bytes for each of them and of the
-    /// processors, and some 120 for each slot; and 600 to 1,200 bytes for each task for which there is
-    /// none.
+    /// processors, and some 120 for each slot; and for each task for which there is none 600 to 1,200
+    /// bytes, or 110 to 230 for those after the first 1,024.
     ///
     /// # Errors
     /// `AllocError` where memory was wanted and refused. Here too all is as before; the room that was

@@ -36,6 +36,16 @@ fn early_log(rt: &impl Abort, alloc: Global, settled: u64) -> Result<Script, All
     Ok(Script::new(settings, logs).ok().expect(rt, "a script"))
 }
 
+// The dispatcher that has run a script.
+fn run_of(rt: &impl Abort, alloc: Global, script: &Script) -> Dispatcher<HeapReady>
+    ensures { result.forgotten ≡ 0 }
+{
+    match run_script(alloc, script) {
+        Ok(dispatcher) => dispatcher,
+        Err(_) => panic!(rt; "no run"),
+    }
+}
+
 // Asserts the texts of a run but for those of its tables.
 fn assert_told<R: Ready>(rt: &impl Abort, alloc: Global, dispatcher: &Dispatcher<R>)
     requires { dispatcher.now.forgotten ≡ 0 }
@@ -57,9 +67,7 @@ fn assert_replayed(rt: &impl Abort, alloc: Global, run: &Run) {
 #[test]
 fn texts_of_an_early_task(rt: HostRuntime) -> Result<(), Fail> {
     let script = early_log(&rt, rt.alloc(), 4)?;
-    let dispatcher: Dispatcher<HeapReady> = run_script(rt.alloc(), &script)
-        .ok()
-        .expect(&rt, "a run");
+    let dispatcher = run_of(&rt, rt.alloc(), &script);
     assert_told(&rt, rt.alloc(), &dispatcher);
     let run = dispatcher.into_run().expect(&rt, "memory");
     assert_replayed(&rt, rt.alloc(), &run);
@@ -142,9 +150,7 @@ fn busy_script(rt: &impl Abort, alloc: Global) -> Result<Script, AllocError> {
 #[test]
 fn lags_that_come_again(rt: HostRuntime) -> Result<(), Fail> {
     let script = busy_script(&rt, rt.alloc())?;
-    let dispatcher: Dispatcher<HeapReady> = run_script(rt.alloc(), &script)
-        .ok()
-        .expect(&rt, "a run");
+    let dispatcher = run_of(&rt, rt.alloc(), &script);
     let anew = lags_of(rt.alloc(), &dispatcher).expect(&rt, "memory");
     let copied = lags_of_script::<HeapReady>(rt.alloc(), &script)
         .ok()
@@ -178,9 +184,7 @@ fn letter(number: u16) -> u8 {
 #[test]
 fn lags_of_many_tasks(rt: HostRuntime) -> Result<(), Fail> {
     let script = crowded_script(&rt, rt.alloc())?;
-    let dispatcher: Dispatcher<HeapReady> = run_script(rt.alloc(), &script)
-        .ok()
-        .expect(&rt, "a run");
+    let dispatcher = run_of(&rt, rt.alloc(), &script);
     let anew = lags_of(rt.alloc(), &dispatcher).expect(&rt, "memory");
     let copied = lags_of_script::<HeapReady>(rt.alloc(), &script)
         .ok()
