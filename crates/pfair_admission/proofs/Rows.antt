@@ -14,24 +14,13 @@ use Rattle.pfair_admission.specs.Admission.{member_named, change, claimed, is_fr
 use Rattle.pfair_admission.specs.Registry.{place_of, row_freed_at, row_units, seated, AreFound, AreSeats, IsRegister, IsSeat, Places}
 use Rattle.pfair_admission.specs.Removal.{NoneFreedBefore, IsNotBefore, SomeFreedAt}
 use Rattle.pfair_admission.specs.declared.registry.Row.{Row}
+use Rattle.pfair_pieces.proofs.PlaceFacts.{push_before, push_here, pushed_at, set_here, set_others}
 use Rattle.pfair_admission.proofs.Changes.{IsWritten}
 
 abbrev pub Rows : Type 0
 Rows = List Row
 
 -- ---- rows at places
-
-pub at_set : (rows : Rows) (p : ℕ) (r new : Row) → slice_get rows p ≡ Some r → slice_get (slice_set rows p new) p ≡ Some new
-at_set [] p r new at = absurd (none-some r at)
-at_set (x ∷ rows) zero r new at = refl
-at_set (x ∷ rows) (suc p) r new at = at_set rows p r new at
-
-pub at_others : (rows : Rows) (p q : ℕ) (new : Row) → (q ≡ p → ⊥) → slice_get (slice_set rows p new) q ≡ slice_get rows q
-at_others [] p q new other = refl
-at_others (x ∷ rows) zero zero new other = absurd (other refl)
-at_others (x ∷ rows) zero (suc q) new other = refl
-at_others (x ∷ rows) (suc p) zero new other = refl
-at_others (x ∷ rows) (suc p) (suc q) new other = at_others rows p q new (λ e. other (ap suc e))
 
 pub same_place : (q p : ℕ) → (q ≡ p) ⊎ (q ≡ p → ⊥)
 same_place zero zero = inl refl
@@ -42,25 +31,6 @@ same_place (suc q) (suc p) =
       | inl e ↦ inl (ap suc e)
       | inr other ↦ inr (λ e. other (omega (arith, e)))
     ]
-
-pub pushed_at : (rows : Rows) (new : Row) (q : ℕ) (x : Row) → slice_get (rows ++ new ∷ []) q ≡ Some x → ((q ≡ length rows) × (x ≡ new)) ⊎ (slice_get rows q ≡ Some x)
-pushed_at [] new zero x at = inl (refl, sym (same_Some new x at))
-pushed_at [] new (suc q) x at = absurd (none-some x at)
-pushed_at (y ∷ rows) new zero x at = inr at
-pushed_at (y ∷ rows) new (suc q) x at =
-    elim (pushed_at rows new q x at) [
-      | inl h ↦ inl (ap suc h.0, h.1)
-      | inr h ↦ inr h
-    ]
-
-pub push_here : (rows : Rows) (new : Row) → slice_get (rows ++ new ∷ []) (length rows) ≡ Some new
-push_here [] new = refl
-push_here (y ∷ rows) new = push_here rows new
-
-pub push_before : (rows : Rows) (new : Row) (q : ℕ) (x : Row) → slice_get rows q ≡ Some x → slice_get (rows ++ new ∷ []) q ≡ Some x
-push_before [] new q x at = absurd (none-some x at)
-push_before (y ∷ rows) new zero x at = at
-push_before (y ∷ rows) new (suc q) x at = push_before rows new q x at
 
 -- ---- who is found
 
@@ -227,18 +197,18 @@ seats_written rows places p r m at named seats name q place =
     elim (same_place q p) [
       | inl e ↦
           let same : s.0 ≡ r = same_Some s.0 r (sym s.1 ∙ ap (slice_get rows) e ∙ at) in
-          (with_member r m, ap (slice_get (slice_set rows p (with_member r m))) e ∙ at_set rows p r (with_member r m) at, sym (ap (λ (y : Row). y.is_vacated) same) ∙ s.2, named ∙ sym (ap (λ (y : Row). y.member.name) same) ∙ s.3)
-      | inr other ↦ (s.0, at_others rows p q (with_member r m) other ∙ s.1, s.2, s.3)
+          (with_member r m, ap (slice_get (slice_set rows p (with_member r m))) e ∙ set_here rows p r (with_member r m) at, sym (ap (λ (y : Row). y.is_vacated) same) ∙ s.2, named ∙ sym (ap (λ (y : Row). y.member.name) same) ∙ s.3)
+      | inr other ↦ (s.0, set_others rows p q (with_member r m) other ∙ s.1, s.2, s.3)
     ]
 
 pub found_written : (rows : Rows) (places : Places) (p : ℕ) (r : Row) (m : Member) → slice_get rows p ≡ Some r → m.name ≡ r.member.name → AreFound rows places → AreFound (slice_set rows p (with_member r m)) places
 found_written rows places p r m at named found q x there here =
     elim (same_place q p) [
       | inl e ↦
-          let same : with_member r m ≡ x = same_Some (with_member r m) x (sym (ap (slice_get (slice_set rows p (with_member r m))) e ∙ at_set rows p r (with_member r m) at) ∙ there) in
+          let same : with_member r m ≡ x = same_Some (with_member r m) x (sym (ap (slice_get (slice_set rows p (with_member r m))) e ∙ set_here rows p r (with_member r m) at) ∙ there) in
           let free : r.is_vacated ≡ false = ap (λ (y : Row). y.is_vacated) same ∙ here in
           ap (place_of places) (sym (ap (λ (y : Row). y.member.name) same) ∙ named) ∙ found p r at free ∙ ap (λ (k : ℕ). Some k) (sym e)
-      | inr other ↦ found q x (sym (at_others rows p q (with_member r m) other) ∙ there) here
+      | inr other ↦ found q x (sym (set_others rows p q (with_member r m) other) ∙ there) here
     ]
 
 -- a register whose named member, m, has become n at its place
@@ -300,9 +270,9 @@ vacated_elsewhere : (rows : Rows) (p q : ℕ) (r x : Row) → slice_get rows p �
 vacated_elsewhere rows p q r x at there here =
     elim (same_place q p) [
       | inl e ↦
-          let same : vacated r ≡ x = same_Some (vacated r) x (sym (ap (slice_get (slice_set rows p (vacated r))) e ∙ at_set rows p r (vacated r) at) ∙ there) in
+          let same : vacated r ≡ x = same_Some (vacated r) x (sym (ap (slice_get (slice_set rows p (vacated r))) e ∙ set_here rows p r (vacated r) at) ∙ there) in
           absurd (let no = ap (λ (y : Row). y.is_vacated) same ∙ here in cc)
-      | inr other ↦ (other, sym (at_others rows p q (vacated r) other) ∙ there)
+      | inr other ↦ (other, sym (set_others rows p q (vacated r) other) ∙ there)
     ]
 
 -- the places, where the name is taken out
@@ -325,7 +295,7 @@ seats_vacated rows old new name p r without seats place at n q there =
           let same : s.0 ≡ own.0 = same_Some s.0 own.0 (sym s.1 ∙ ap (slice_get rows) e ∙ own.1) in
           let named : name_eq name n ≡ true = (bytes_decides name n).1 (sym own.3 ∙ sym (ap (λ (y : Row). y.member.name) same) ∙ s.3) in
           (let no = sym named ∙ differ in cc) in
-          (s.0, at_others rows p q (vacated r) other ∙ s.1, s.2, s.3)
+          (s.0, set_others rows p q (vacated r) other ∙ s.1, s.2, s.3)
     ]) refl (sym (without n) ∙ there)
 
 pub found_vacated : (rows : Rows) (old new : Places) (name : List ℕ) (p : ℕ) (r : Row) → IsWithout name old new → AreFound rows old → place_of old name ≡ Some p → slice_get rows p ≡ Some r → AreFound (slice_set rows p (vacated r)) new
@@ -388,15 +358,6 @@ unnamed_place rows places name seats found none = by (place_of places name) refl
 
 pub same_names : (name : List ℕ) → name_eq name name ≡ true
 same_names name = (bytes_decides name name).1 refl
-
--- a name that is put in and taken out
-pub back_again : (name : List ℕ) (place : ℕ) (old more new : Places) → place_of old name ≡ None → IsWith name place old more → IsWithout name more new → (n : List ℕ) → place_of new n ≡ place_of old n
-back_again name place old more new none with without n =
-    without n
-    ∙ (elim (name_eq name n) as (λ b. name_eq name n ≡ b → cond b None (place_of more n) ≡ place_of old n) [
-      | true ↦ λ named. sym none ∙ ap (place_of old) ((bytes_decides name n).0 named)
-      | false ↦ λ differ. with n ∙ ap (λ b. cond b (Some place) (place_of old n)) differ
-    ]) refl
 
 -- places that are found alike are as good
 pub register_same : (rows : Rows) (old new : Places) → ((name : List ℕ) → place_of new name ≡ place_of old name) → length new ≡ length old → IsRegister rows old → IsRegister rows new

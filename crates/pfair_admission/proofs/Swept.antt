@@ -10,7 +10,8 @@ use Rattle.pfair_admission.specs.Member.{Member}
 use Rattle.pfair_admission.specs.Admission.{is_freed, present}
 use Rattle.pfair_admission.specs.Registry.{changed_at, place_of, seated, unseated, AreFound, AreSeats, IsClosedTo, Places}
 use Rattle.pfair_admission.specs.declared.registry.Row.{Row}
-use Rattle.pfair_admission.proofs.Rows.{at_others, at_set, same_place, Rows}
+use Rattle.pfair_pieces.proofs.PlaceFacts.{set_here, set_others}
+use Rattle.pfair_admission.proofs.Rows.{same_place, Rows}
 
 -- ---- the freed are vacated
 
@@ -69,19 +70,19 @@ moved_here rows k n r v at there =
     elim (same_place k n) [
       | inl e ↦
           let same : v ≡ r = same_Some v r (sym there ∙ ap (slice_get rows) e ∙ at) in
-          ap (slice_get (moved rows k n r v)) e ∙ at_set (slice_set rows k r) n r v (ap (slice_get (slice_set rows k r)) (sym e) ∙ at_set rows k v r there) ∙ ap (λ (y : Row). Some y) same
-      | inr other ↦ at_others (slice_set rows k r) n k v other ∙ at_set rows k v r there
+          ap (slice_get (moved rows k n r v)) e ∙ set_here (slice_set rows k r) n r v (ap (slice_get (slice_set rows k r)) (sym e) ∙ set_here rows k v r there) ∙ ap (λ (y : Row). Some y) same
+      | inr other ↦ set_others (slice_set rows k r) n k v other ∙ set_here rows k v r there
     ]
 
 pub moved_there : (rows : Rows) (k n : ℕ) (r v : Row) → slice_get rows n ≡ Some r → slice_get rows k ≡ Some v → slice_get (moved rows k n r v) n ≡ Some v
 moved_there rows k n r v at there =
     elim (same_place n k) [
-      | inl e ↦ at_set (slice_set rows k r) n r v (ap (slice_get (slice_set rows k r)) e ∙ at_set rows k v r there)
-      | inr other ↦ at_set (slice_set rows k r) n r v (at_others rows k n r other ∙ at)
+      | inl e ↦ set_here (slice_set rows k r) n r v (ap (slice_get (slice_set rows k r)) e ∙ set_here rows k v r there)
+      | inr other ↦ set_here (slice_set rows k r) n r v (set_others rows k n r other ∙ at)
     ]
 
 pub moved_elsewhere : (rows : Rows) (k n p : ℕ) (r v : Row) → (p ≡ k → ⊥) → (p ≡ n → ⊥) → slice_get (moved rows k n r v) p ≡ slice_get rows p
-moved_elsewhere rows k n p r v here there = at_others (slice_set rows k r) n p v there ∙ at_others rows k p r here
+moved_elsewhere rows k n p r v here there = set_others (slice_set rows k r) n p v there ∙ set_others rows k p r here
 
 -- where all before it are vacated, it is the first that has a seat
 first_seat : (rows : Rows) (n : ℕ) (r v : Row) → slice_get rows n ≡ Some r → r.is_vacated ≡ false → v.is_vacated ≡ true → ((p : ℕ) (x : Row) → slice_get rows p ≡ Some x → p < n → x.is_vacated ≡ true) → seated rows ≡ r.member ∷ seated (slice_set rows n v)

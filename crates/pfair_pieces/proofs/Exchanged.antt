@@ -7,6 +7,7 @@ use Rattle.std.proofs.lemmas.Bool.{cases_eq, cases_lt}
 use Rattle.std.proofs.lemmas.List.Edits.{swap_is}
 use Rattle.std.proofs.lemmas.Option.{none-some, get_or_from_slice_get, slice_get-get_or, slice_get_within}
 use Rattle.pfair_pieces.specs.Pieces.{joined, ArePieces}
+use Rattle.pfair_pieces.proofs.PlaceFacts.{set_here, set_others}
 use Rattle.pfair_pieces.proofs.Pieced.{Piece, get_at, get_left, get_right, piece_at, pieces_set, place_in, set_at}
 
 module _ {A : Type 0} where
@@ -16,18 +17,6 @@ module _ {A : Type 0} where
   some_at [] i within = absurd (omega (arith, within))
   some_at (x ∷ xs) zero within = (x, refl)
   some_at (x ∷ xs) (suc i) within = some_at xs i (omega (arith, within))
-
-  get_set : (xs : List A) (i : ℕ) (x y : A) → slice_get xs i ≡ Some x → slice_get (slice_set xs i y) i ≡ Some y
-  get_set [] i x y at = absurd (none-some x at)
-  get_set (z ∷ xs) zero x y at = refl
-  get_set (z ∷ xs) (suc i) x y at = get_set xs i x y at
-
-  get_others : (xs : List A) (i j : ℕ) (y : A) → (j ≡ i → ⊥) → slice_get (slice_set xs i y) j ≡ slice_get xs j
-  get_others [] i j y other = refl
-  get_others (x ∷ xs) zero zero y other = absurd (other refl)
-  get_others (x ∷ xs) zero (suc j) y other = refl
-  get_others (x ∷ xs) (suc i) zero y other = refl
-  get_others (x ∷ xs) (suc i) (suc j) y other = get_others xs i j y (λ e. other (ap suc e))
 
   -- an exchange sets each of the two
   pub exchanged : (xs : List A) (i j : ℕ) (x y : A) → slice_get xs i ≡ Some x → slice_get xs j ≡ Some y → slice_set (slice_set xs i y) j x ≡ swap xs i j
@@ -115,7 +104,7 @@ module _ {A : Type 0} where
       let long_p : length p'.items ≡ length p.items = ap (λ (xs : List A). length xs) p_is ∙ length-set p.items (i % 2048) y in
       let long_q : length q'.items ≡ length q.items = ap (λ (xs : List A). length xs) q_is ∙ length-set q.items (j % 2048) x in
       let still : ArePieces once = pieces_set ps (i / 2048) p p' are at_p long_p in
-      let there : slice_get once (j / 2048) ≡ Some q = get_others ps (i / 2048) (j / 2048) p' other ∙ at_q in (
+      let there : slice_get once (j / 2048) ≡ Some q = set_others ps (i / 2048) (j / 2048) p' other ∙ at_q in (
         set_at once j (j / 2048) (j % 2048) q q' x still (omega arith) there (slice_get_within q.items (j % 2048) y at_y) q_is
             ∙ ap (λ (xs : List A). slice_set xs j x) (set_at ps i (i / 2048) (i % 2048) p p' y are (omega arith) at_p (slice_get_within p.items (i % 2048) x at_x) p_is)
             ∙ exchanged (joined ps) i j x y
@@ -135,7 +124,7 @@ module _ {A : Type 0} where
       let long = length-set p.items (i % 2048) y.0 in
       let at_j : slice_get ps k ≡ Some p = at in
       ap joined (sym (set-set ps k once p'))
-      ∙ set_at (slice_set ps k once) j k (j % 2048) once p' x.0 (pieces_set ps k p once are at long) (omega (arith, same)) (get_set ps k p once at) (omega (arith, j_within, long))
+      ∙ set_at (slice_set ps k once) j k (j % 2048) once p' x.0 (pieces_set ps k p once are at long) (omega (arith, same)) (set_here ps k p once at) (omega (arith, j_within, long))
       (is ∙ sym (exchanged p.items (i % 2048) (j % 2048) x.0 y.0 x.1 y.1))
       ∙ ap (λ (xs : List A). slice_set xs j x.0) (set_at ps i k (i % 2048) p once y.0 are (omega arith) at i_within refl)
       ∙ exchanged (joined ps) i j x.0 y.0 (get_at ps i k (i % 2048) p are (omega arith) (omega arith) at ∙ x.1) (get_at ps j k (j % 2048) p are (omega (arith, same)) (omega arith) at ∙ y.1)

@@ -1,3 +1,4 @@
 mod Exchanged
 mod Pieced
+pub mod PlaceFacts
 mod Places

@@ -6,7 +6,8 @@ use Rattle.std.specs.Map.{keys_of}
 use Rattle.std.specs.Cmp.Lexicographic.{bytes_decides}
 use Rattle.std.proofs.lemmas.Option.{same_Some, none-some}
 use Rattle.pfair_order.specs.declared.Key.{Key}
-use Rattle.pfair_pieces.specs.NameIndex.{place_of, Gains, Loses, Places}
+use Rattle.pfair_pieces.specs.NameIndex.{place_of, Gains, Places}
+use Rattle.pfair_pieces.proofs.PlaceFacts.{push_before, push_here, pushed_at}
 use Rattle.pfair_ready.specs.Names.{name_eq, NameValue}
 use Rattle.pfair_ready.specs.Slots.{entry_of, live, with_held, IsPlaced, IsSlots, Keeps, SlotList}
 use Rattle.pfair_ready.proofs.HeapLemmas.{live_at, stands}
@@ -63,25 +64,6 @@ has_none places es name None slots is = by (entry_of (live es) name) refl
 
 -- ---- a name more
 
-pushed_at : (es : SlotList) (new : NameValue × Option (ℕ × Key)) (q : ℕ) (x : NameValue × Option (ℕ × Key)) → slice_get (es ++ new ∷ []) q ≡ Some x → ((q ≡ length es) × (x ≡ new)) ⊎ (slice_get es q ≡ Some x)
-pushed_at [] new zero x at = inl (refl, sym (same_Some new x at))
-pushed_at [] new (suc q) x at = absurd (none-some x at)
-pushed_at (e ∷ es) new zero x at = inr at
-pushed_at (e ∷ es) new (suc q) x at =
-    elim (pushed_at es new q x at) [
-      | inl h ↦ inl (ap suc h.0, h.1)
-      | inr h ↦ inr h
-    ]
-
-push_here : (es : SlotList) (new : NameValue × Option (ℕ × Key)) → slice_get (es ++ new ∷ []) (length es) ≡ Some new
-push_here [] new = refl
-push_here (e ∷ es) new = push_here es new
-
-push_before : (es : SlotList) (new : NameValue × Option (ℕ × Key)) (q : ℕ) (x : NameValue × Option (ℕ × Key)) → slice_get es q ≡ Some x → slice_get (es ++ new ∷ []) q ≡ Some x
-push_before [] new q x at = absurd (none-some x at)
-push_before (e ∷ es) new zero x at = at
-push_before (e ∷ es) new (suc q) x at = push_before es new q x at
-
 pub slots_pushed : (old new : Places) (es : SlotList) (name : NameValue) (held : Option (ℕ × Key)) → place_of old name ≡ None → Gains name (length es) old new → IsSlots old es → IsSlots new (es ++ (name, held) ∷ [])
 slots_pushed old new es name held none gains slots =
     record {
@@ -113,15 +95,6 @@ slots_same old new es same slots =
       found = λ p name held at. same name ∙ slots.found p name held at;
       there = λ name p at. slots.there name p (sym (same name) ∙ at);
     }
-
--- a name that is put in and taken out
-pub back_again : (name : NameValue) (place : ℕ) (old more new : Places) → place_of old name ≡ None → Gains name place old more → Loses name more new → (n : NameValue) → place_of new n ≡ place_of old n
-back_again name place old more new none gains loses n =
-    loses.places n
-    ∙ (elim (name_eq name n) as (λ b. name_eq name n ≡ b → cond b None (place_of more n) ≡ place_of old n) [
-      | true ↦ λ named. sym none ∙ ap (place_of old) ((bytes_decides name n).0 named)
-      | false ↦ λ differ. gains.places n ∙ ap (λ b. cond b (Some place) (place_of old n)) differ
-    ]) refl
 
 -- what is kept as it is
 pub keeps_all : (es : SlotList) → IsDistinct name_eq (keys_of es) → Keeps es es

@@ -4,7 +4,8 @@ use Rattle.pfair_entry.specs.Same.{name_eq}
 use Rattle.pfair_admission.specs.Admission.{member_named}
 use Rattle.pfair_admission.specs.Registry.{place_of, seated}
 use Rattle.pfair_admission.specs.declared.registry.Row.{Row}
-use Rattle.pfair_admission.proofs.Rows.{back_again, found_pushed, length_pushed, register_same, same_names, seated_push, seats_pushed, unnamed_place, IsWith, Rows}
+use Rattle.pfair_pieces.proofs.PlaceFacts.{back_again}
+use Rattle.pfair_admission.proofs.Rows.{found_pushed, length_pushed, register_same, same_names, seated_push, seats_pushed, unnamed_place, IsWith, Rows}
 use Rattle.pfair_admission.proofs.registry.Registry.enter.Goals as goal
 use Rattle.pfair_admission.proofs.registry.Registry.enter.Goals.{After-push}
 
@@ -46,7 +47,7 @@ invariant_of-self-in-Err c =
     let one : ◌≡◌ {A = ℕ} (if is_some (place_of c.insert.new.self c.name.result.now) then 1 else 0) 1 = ap (λ o. if is_some o then 1 else 0) there in
     rw c.in-Err.ensures.err
     (register_same c.self.inside.rows c.self.inside.places c.remove.new.self
-    (back_again c.name.result.now (length c.self.inside.rows) c.self.inside.places c.insert.new.self c.remove.new.self (none at) (more at) c.remove.ensures.names.places)
+    (back_again c.name.result.now c.len.result c.self.inside.places c.insert.new.self c.remove.new.self (none at) c.in_ok-insert.ensures.ok c.remove.ensures.names)
     (omega (arith, one, c.remove.ensures.names.count, c.in_ok-insert.ensures.ok.count)) c.self.invariant)
 
 pub returns-in-Ok-clause-ok : goal.returns-in-Ok-clause-ok

@@ -2,7 +2,8 @@ use Rattle.std.proofs.Common.{◌≡◌, ◌++◌, ◌∷◌, [], None, Some, ru
 use Rattle.pfair_pieces.specs.NameIndex.{place_of, Gains}
 use Rattle.pfair_ready.specs.Slots.{entry_of, live, IsPlaced, IsSlots, Keeps, SlotList}
 use Rattle.pfair_ready.proofs.HeapLemmas.{on_err, pushed_keeps, pushed_place}
-use Rattle.pfair_ready.proofs.SlotPlaces.{apart, back_again, has_none, has_place, keeps_all, slots_pushed, slots_same}
+use Rattle.pfair_pieces.proofs.PlaceFacts.{back_again}
+use Rattle.pfair_ready.proofs.SlotPlaces.{apart, has_none, has_place, keeps_all, slots_pushed, slots_same}
 use Rattle.pfair_ready.proofs.slots.Slots.place_or_new.Goals as goal
 use Rattle.pfair_ready.proofs.slots.Slots.place_or_new.Goals.{After-get, In_default, In-Ok}
 
