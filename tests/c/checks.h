@@ -36,7 +36,8 @@ void *__real_realloc(void *, size_t);
 void __real_free(void *);
 /* how often memory was asked for, when it is refused, and what is in use */
 static __thread long calls, refuse_from, refuse_run, blocks, bytes, zero_sizes;
-static __thread size_t largest;
+/* the largest block that was asked for, and the largest of those that were made larger, before that */
+static __thread size_t largest, outgrown;
 static inline int refused(void) {
     calls++;
     return refuse_from && calls >= refuse_from && calls < refuse_from + refuse_run;
@@ -53,10 +54,11 @@ void *__wrap_realloc(void *old, size_t size) {
     if (!size) zero_sizes++;
     if (size > largest) largest = size;
     if (refused()) return NULL;
-    long before = old ? (long)malloc_usable_size(old) : 0;
+    size_t before = old ? malloc_usable_size(old) : 0;
+    if (size > before && before > outgrown) outgrown = before;
     void *at = __real_realloc(old, size);
     if (at && !old) blocks++;
-    if (at) bytes += (long)malloc_usable_size(at) - before;
+    if (at) bytes += (long)malloc_usable_size(at) - (long)before;
     return at;
 }
 void __wrap_free(void *at) {

@@ -1,7 +1,7 @@
 /*
  * Memory that is taken ahead. After pfair_reserve no slot asks malloc for anything, but where something is announced at
  * it; what is planned then is what a dispatcher plans that was given no memory ahead; and each allocation of the call
- * is refused in turn. And without it no heap grows where nothing is decided.
+ * is refused in turn. And without it no heap grows where nothing is decided, and where tasks join no large block is moved.
  *
  *   reserve_test [quick]
  */
@@ -125,6 +125,30 @@ static void with_many_tasks(void) {
     CHECK(of_many <= 16 * 1000, "a heap has grown");
 }
 
+/* So many tasks join, 80 at a slot, of which 16 run there: most wait in a heap, the others among the later dates. The largest
+   block that is made larger meanwhile is half of a piece of the members, 1,024 rows of 344 bytes; what grows beyond that
+   grows by new blocks, beside those that stand. Each list of 40,000 elements would be moved from a block of more. */
+static void with_many_joins(int tasks) {
+    enum { MANY = 2 * PROCESSORS, A_SLOT = 80 };
+    struct pfair_dispatcher d = PFAIR_NONE;
+    uint64_t taken, slots = (uint64_t)tasks / A_SLOT;
+    uint32_t numbers[MANY] = {0};
+    char name[20];
+    ANSWERS(0, pfair_open(&d, MANY, 1000 * FRAME, slots, (uint32_t)(tasks / MANY + 1)));
+    for (int k = 0; k < tasks; k++) {
+        int p = k % MANY;
+        snprintf(name, sizeof name, "t%d", k);
+        ANSWERS(0, take(&d, p, ++numbers[p], arrive(name, 1, 1000 * FRAME, (uint64_t)k / A_SLOT), &taken));
+    }
+    for (int p = 0; p < MANY; p++) ANSWERS(0, take(&d, p, ++numbers[p], nothing(1000000), &taken));
+    plan_one(&d, 0);
+    outgrown = 0;
+    for (uint64_t slot = 1; slot < slots; slot++) plan_one(&d, slot);
+    printf("while %d tasks joined no block of more than %zu bytes was made larger\n", tasks, outgrown);
+    CHECK(outgrown <= 400000, "what stands was moved");
+    ANSWERS(0, pfair_close(&d));
+}
+
 int main(int count, char **words) {
     int quick = count > 1 && !strcmp(words[1], "quick");
     uint64_t slots = quick ? 3000 : 100000, late_at = slots / 2;
@@ -138,6 +162,7 @@ int main(int count, char **words) {
     __real_free(rows);
     of_any_dispatcher();
     with_many_tasks();
+    with_many_joins(quick ? 4000 : 40000);
     CHECK(blocks == at_first, "%ld blocks not freed", blocks - at_first);
     return told();
 }
