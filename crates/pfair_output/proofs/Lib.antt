@@ -1,4 +1,6 @@
+mod HeldFacts
 mod NameFacts
+mod PassedFacts
 mod PlacedFacts
 mod RowParts
 pub mod RunFacts

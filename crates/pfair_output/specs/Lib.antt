@@ -1,6 +1,8 @@
 pub mod Decisions
+pub mod Held
 pub mod Kept
 pub mod Lags
+pub mod Passed
 pub mod Replay
 pub mod Runs
 pub mod Slots

@@ -2,8 +2,14 @@
 #![tactic(auto)]
 
 mod decisions;
+mod held_lags;
+mod kept_task;
+mod lag_part;
+mod lag_rows;
 mod lag_text;
 mod lags;
+mod numbers;
+mod page;
 mod paged_text;
 mod piece;
 mod replay;
@@ -11,6 +17,7 @@ mod row_writer;
 mod runs;
 
 pub use decisions::{add_decisions_from, add_decisions_header, decisions_of};
+pub use lag_rows::LagRows;
 pub use lags::{add_lags_from, add_lags_header, lags_of, tell_all, tell_slots};
 pub use replay::{
     add_placed_header, add_placed_tables_from, add_replay_header, add_table_rows, add_tables_from,

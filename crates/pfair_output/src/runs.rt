@@ -9,12 +9,14 @@ ghost use Rattle.pfair_table.specs.Script.{replica_of_logs};
 ghost use Rattle.pfair_table.specs.ScriptRun.{IsNextOf, IsScriptFaultOf, after_next};
 ghost use Rattle.pfair_text.specs.Rows.{IsOpen, lines_text, text_so_far};
 ghost use Rattle.pfair_output.specs.Decisions.{decided_rows, decisions_text};
+ghost use Rattle.pfair_output.specs.Held.{so_far};
 ghost use Rattle.pfair_output.specs.Lags.{lag_rows, lags_header, lags_text};
 ghost use Rattle.pfair_output.specs.Runs.{decided_below, decided_of};
 ghost use Rattle.pfair_output.specs.Slots.{slots_from};
 
 use crate::decisions::{add_decisions, add_decisions_header};
-use crate::lag_text::LagText;
+use crate::held_lags::HeldLags;
+use crate::lag_rows::LagRows;
 use crate::lags::{add_lags_header, tell_slot};
 use csv::Writer;
 use pfair_lag::LagBook;
@@ -40,15 +42,19 @@ pub fn decisions_of_script<R: Ready>(alloc: Global, script: &Script) -> Result<V
 }
 
 /// The lags in all slots of a script's run, as [`lags_of`](crate::lags_of) writes them of the
-/// dispatcher that [`run_script`](pfair_table::run_script) gives. One slot at a time is held, beside
-/// the text, the entries, a tally of each member, some 100 bytes for each of what its rows share, and
-/// at most 200 KB of numerators. It costs what that run costs but for places, the rows, a look-up
-/// for each decision and quantum, and a pass over the members for each departure.
+/// dispatcher that [`run_script`](pfair_table::run_script) gives. Of the plan one slot at a time is
+/// held, beside the entries, a tally of each member, some 100 bytes for each of what its rows share,
+/// and 200 KB of digits. Of the lags a number of 8 bytes is held for each row, and for each slot,
+/// where the slot has the tasks of the slot before; else its rows are held as text. Where the tasks
+/// change that were the same in fewer than 64 slots, all later rows are held as text.
+///
+/// It costs what that run costs but for places, the rows, a look-up for each decision and quantum,
+/// and a pass over the members for each departure.
 ///
 /// # Errors
 /// As [`run_script`](pfair_table::run_script).
-pub fn lags_of_script<R: Ready>(alloc: Global, script: &Script) -> Result<Vec<u8>, ScriptFault>
-    ensures text { IfOk result (λ text. text.items ≡ lags_text script.now.settings (replica_of_logs script.now.logs)) }
+pub fn lags_of_script<R: Ready>(alloc: Global, script: &Script) -> Result<LagRows, ScriptFault>
+    ensures text { IfOk result (λ rows. rows ≡ lags_text script.now.settings (replica_of_logs script.now.logs)) }
     ensures settled { OnOk result (script.now.settings.slots ≤ frontier (replica_of_logs script.now.logs)) }
     ensures fault { IfErr result (IsScriptFaultOf script.now) }
 {
@@ -68,16 +74,16 @@ fn decisions_of_run<R: Ready>(alloc: Global, run: &mut ScriptRun<R>) -> Result<V
 }
 
 // The lags in all slots of a run of which none is planned.
-fn lags_of_run<R: Ready>(alloc: Global, run: &mut ScriptRun<R>) -> Result<Vec<u8>, AllocError>
+fn lags_of_run<R: Ready>(alloc: Global, run: &mut ScriptRun<R>) -> Result<LagRows, AllocError>
     requires { run.old.planned ≡ 0 }
-    ensures { IfOk result (λ text. text.items ≡ lines_text (lags_header
+    ensures { IfOk result (λ rows. rows ≡ lines_text (lags_header
         ∷ flat_map (lag_rows run.old.settings (replica_of run.old.held)) (numbers_below run.old.settings.slots))) }
 {
     let mut writer = new_text(alloc);
     add_lags_header(&mut writer)?;
-    let mut text = LagText::new(alloc, finish(writer)?);
-    add_all_lags(&mut text, &mut LagBook::new(alloc), run)?;
-    text.finish()
+    let mut lags = HeldLags::new(alloc, finish(writer)?)?;
+    add_all_lags(&mut lags, &mut LagBook::new(alloc), run)?;
+    lags.finish()
 }
 
 // Plans all slots of a run, and adds the rows of what is decided at each.
@@ -99,20 +105,20 @@ fn add_all_decisions<R: Ready>(
 
 // Plans all slots of a run, tells a book of each, and adds the rows after it.
 fn add_all_lags<R: Ready>(
-    text: &mut LagText,
+    lags: &mut HeldLags,
     book: &mut LagBook,
     run: &mut ScriptRun<R>,
 ) -> Result<(), AllocError>
     requires book { book.old ≡ empty_book }
     requires start { run.old.planned ≡ 0 }
-    ensures { OnOk result (text.new.text ≡ text.old.text
+    ensures { OnOk result (so_far lags.new ≡ so_far lags.old
         ++ lines_text (flat_map (lag_rows run.old.settings (replica_of run.old.held)) (numbers_below run.old.settings.slots))) }
 {
     'slots: while let Some(_) = plan_one(run)? {
         // a run has at most 1,000,000 slots
         prove!(run.next_slot() <= Settings::MAX_SLOTS);
         tell_slot(book, run.decisions(), run.table())?;
-        text.add_lags(book)?;
+        lags.add_lags(book)?;
     }
     Ok(())
 }

@@ -6,7 +6,6 @@ ghost use Rattle.pfair_reports.specs.Runs.{IsOutputOf, lags_of_run};
 
 use crate::fault::ProgramFault;
 use crate::schedule_rows::scheduled_lags;
-use pfair_text::send;
 use std::alloc::Global;
 use std::io::{Read, Write};
 
@@ -15,8 +14,8 @@ use std::io::{Read, Write};
 /// admission: the time t + 1, the task, and its lag at that time as a numerator over its period,
 /// counted from its joining slot.
 ///
-/// The whole text is made before the first byte goes out; of the slots one at a time is held. No more
-/// than 67,108,864 bytes are taken from the reader, but where the file is too long or memory was
+/// The whole run is made before the first byte goes out, and no memory is wanted after that; of each
+/// slot most numerators alone are held. No more than 67,108,864 bytes are taken from the reader, but where the file is too long or memory was
 /// wanting: one more may then be. It costs the reading of the file, a run of its script, and the rows.
 ///
 /// # Errors
@@ -33,6 +32,6 @@ pub fn lags<R: Read, W: Write>(
     ensures { IsCommandOf of_schedule ProgramFault.WriteFailed (IsOutputOf lags_of_run) (IsFaultBy of_schedule) result
         (R.remaining reader.old) (R.remaining reader.new) (W.contents writer.old) (W.contents writer.new) }
 {
-    let text = scheduled_lags(alloc, reader)?;
-    Ok(send(writer, text.as_slice())?)
+    let mut rows = scheduled_lags(alloc, reader)?;
+    Ok(rows.send(writer)?)
 }

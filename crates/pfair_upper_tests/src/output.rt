@@ -4,7 +4,8 @@ ghost use Rattle.std.specs.Prelude.{◌≡◌};
 
 use pfair_entry::{Announcement, Entry};
 use pfair_output::{
-    decisions_of, decisions_of_script, lags_of, lags_of_script, placed_replay_of, replay_of,
+    LagRows, decisions_of, decisions_of_script, lags_of, lags_of_script, placed_replay_of,
+    replay_of,
 };
 use pfair_ready::{HeapReady, Ready};
 use pfair_table::{Dispatcher, Run, Script, ScriptFault, Settings, run_script};
@@ -85,8 +86,15 @@ fn texts_slot_by_slot(rt: HostRuntime) -> Result<(), Fail> {
     let lags = lags_of_script::<HeapReady>(rt.alloc(), &script)
         .ok()
         .expect(&rt, "lags");
-    assert_eq!(&rt; lags.as_slice(), LAGS.as_bytes());
+    assert_eq!(&rt; text_of(&rt, rt.alloc(), lags).as_slice(), LAGS.as_bytes());
     Ok(())
+}
+
+// The text that lags send.
+fn text_of(rt: &impl Abort, alloc: Global, mut lags: LagRows) -> Vec<u8> {
+    let mut text = Vec::new(alloc);
+    lags.send(&mut text).ok().expect(rt, "a writer");
+    text
 }
 
 #[test]
@@ -112,9 +120,9 @@ fn arrival(rt: &impl Abort, name: &[u8], cost: u64, period: u64) -> Announcement
     }
 }
 
-// The script of two processors over 60 slots in whose rows of lags most tails come again, but not
-// those of a long name with a long period: one task leaves and comes again with another weight, so
-// that all after it move up by a place, and one comes late, so that its lag grows past its period.
+// The script of two processors over 120 slots whose lags are held in each way: for 80 slots the tasks
+// are the same, one leaves then, and comes again with another weight 11 slots later, so that all rows
+// from there on are spelled at once; and one comes late, so that its lag grows past its period.
 fn busy_script(rt: &impl Abort, alloc: Global) -> Result<Script, AllocError> {
     let leaver = TaskName::from_bytes(b"a").expect(rt, "a name");
     let late = TaskName::from_bytes(b"b").expect(rt, "a name");
@@ -131,33 +139,33 @@ fn busy_script(rt: &impl Abort, alloc: Global) -> Result<Script, AllocError> {
                 by: 9
             }
         ),
-        (20, Announcement::Depart { name: leaver }),
-        (31, arrival(rt, b"a", 1, 3)),
-        (40, arrival(rt, b"d", 1, 12)),
+        (80, Announcement::Depart { name: leaver }),
+        (91, arrival(rt, b"a", 1, 3)),
+        (100, arrival(rt, b"d", 1, 12)),
     ]?;
     let mut log = Vec::new(alloc);
     for (stamp, announcement) in &said {
         log.push(Entry::new(*stamp, Some((*stamp, *announcement))).expect(rt, "an entry"))?;
     }
-    let last = Entry::new(60, None).expect(rt, "an entry");
+    let last = Entry::new(120, None).expect(rt, "an entry");
     log.push(last)?;
     let logs = vec![in alloc; log, vec![in alloc; last]?]?;
-    let settings = Settings::new(2, 3_000_000, 60).expect(rt, "settings");
+    let settings = Settings::new(2, 3_000_000, 120).expect(rt, "settings");
     Ok(Script::new(settings, logs).ok().expect(rt, "a script"))
 }
 
-// The rows of lags of which most are copied are those that are each written anew.
+// The rows of lags that are held are those that are each written anew.
 #[test]
-fn lags_that_come_again(rt: HostRuntime) -> Result<(), Fail> {
+fn lags_that_are_held(rt: HostRuntime) -> Result<(), Fail> {
     let script = busy_script(&rt, rt.alloc())?;
     let dispatcher = run_of(&rt, rt.alloc(), &script);
     let anew = lags_of(rt.alloc(), &dispatcher).expect(&rt, "memory");
-    let copied = lags_of_script::<HeapReady>(rt.alloc(), &script)
+    let held = lags_of_script::<HeapReady>(rt.alloc(), &script)
         .ok()
         .expect(&rt, "lags");
-    assert_eq!(&rt; copied.as_slice(), anew.as_slice());
+    assert_eq!(&rt; text_of(&rt, rt.alloc(), held).as_slice(), anew.as_slice());
     assert!(&rt; is_line_of(anew.as_slice(), b"21,name_of_16_bytes,-999979,1000000"));
-    assert!(&rt; is_line_of(anew.as_slice(), b"60,d,-4,12"));
+    assert!(&rt; is_line_of(anew.as_slice(), b"120,d,-4,12"));
     Ok(())
 }
 
@@ -186,10 +194,10 @@ fn lags_of_many_tasks(rt: HostRuntime) -> Result<(), Fail> {
     let script = crowded_script(&rt, rt.alloc())?;
     let dispatcher = run_of(&rt, rt.alloc(), &script);
     let anew = lags_of(rt.alloc(), &dispatcher).expect(&rt, "memory");
-    let copied = lags_of_script::<HeapReady>(rt.alloc(), &script)
+    let held = lags_of_script::<HeapReady>(rt.alloc(), &script)
         .ok()
         .expect(&rt, "lags");
-    assert_eq!(&rt; copied.as_slice(), anew.as_slice());
+    assert_eq!(&rt; text_of(&rt, rt.alloc(), held).as_slice(), anew.as_slice());
     assert!(&rt; is_line_of(anew.as_slice(), b"1,taa,-599,600"));
     assert!(&rt; is_line_of(anew.as_slice(), b"2,txb,2,600"));
     Ok(())

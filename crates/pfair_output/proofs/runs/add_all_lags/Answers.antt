@@ -6,6 +6,7 @@ use Rattle.pfair_replica.specs.Replica.{numbers_below}
 use Rattle.pfair_table.specs.ScriptRun.{SlotBySlot, IsNextOf}
 use Rattle.pfair_table.specs.Table.{Settings, table, decisions}
 use Rattle.pfair_text.specs.Rows.{lines_text}
+use Rattle.pfair_output.specs.Held.{so_far}
 use Rattle.pfair_output.specs.Lags.{lag_rows}
 use Rattle.pfair_output.specs.Told.{slot_told}
 use Rattle.pfair_output.proofs.RunFacts.{next_is, book_more, lags_more}
@@ -34,13 +35,13 @@ slots-preserved g c =
     c.decisions.ensures ∙ ap (λ (b : SlotBySlot). b.decided) next ∙ (λ i. decisions (settings i) (replica_of (c.slots.invariant.held i)) old.planned) in
     let rows : c.table.result.now ≡ table s (replica_of held) old.planned =
     c.table.ensures ∙ ap (λ (b : SlotBySlot). b.table) next ∙ (λ i. table (settings i) (replica_of (c.slots.invariant.held i)) old.planned) in
-    let told = book_more s (replica_of held) old.planned (c.args.text.now.text) (c.slots.text.text) (c.add_lags.new.self.text) c.slots.book c.tell_slot.new.book c.slots.invariant.book
+    let told = book_more s (replica_of held) old.planned (so_far c.args.lags.now) (so_far c.slots.lags) (so_far c.add_lags.new.self) c.slots.book c.tell_slot.new.book c.slots.invariant.book
     (c.in_ok-tell_slot.ensures ∙ (λ i. slot_told (decided i) (rows i) c.slots.book)) in
     record {
       settings = ap (λ (b : SlotBySlot). b.settings) next ∙ settings;
       held = ap (λ (b : SlotBySlot). b.held) next ∙ c.slots.invariant.held;
       within = omega (arith, planned, is.1, ap (λ (t : Settings). t.slots) settings);
       book = told ∙ ap (book_after s (replica_of held)) (sym planned);
-      text = lags_more s (replica_of held) old.planned (c.args.text.now.text) (c.slots.text.text) (c.add_lags.new.self.text) c.tell_slot.new.book told c.slots.invariant.text c.in_ok-add_lags.ensures
-          ∙ ap (λ n. c.args.text.now.text ++ lines_text (flat_map (lag_rows s (replica_of held)) (numbers_below n))) (sym planned);
+      text = lags_more s (replica_of held) old.planned (so_far c.args.lags.now) (so_far c.slots.lags) (so_far c.add_lags.new.self) c.tell_slot.new.book told c.slots.invariant.text c.in_ok-add_lags.ensures
+          ∙ ap (λ n. so_far c.args.lags.now ++ lines_text (flat_map (lag_rows s (replica_of held)) (numbers_below n))) (sym planned);
     }
