@@ -1,117 +1,113 @@
--- Lags that are held as numerators.
-use Rattle.std.proofs.Common.{ℕ, suc, zero, ◌+◌, ◌-◌, ◌*◌, ◌<◌, ◌≤◌, ◌≡◌, refl, sym, ap, ◌∙◌, arith, List, [], ◌∷◌, ◌++◌, map, length, take, drop, append_assoc}
-use Rattle.std.specs.Prelude.{ℤ}
-use Rattle.std.proofs.Math.Nat.{suc-mul}
-use Rattle.std.proofs.lemmas.List.{append-nil, drop-append-le, length-append, length-drop, length-take, take-append-drop}
-use Rattle.std.specs.Fmt.{decimal, signed_decimal}
+-- Lags that are held as the tables of their slots.
+use Rattle.std.proofs.Common.{ℕ, ◌+◌, ◌<◌, ◌≤◌, ◌≡◌, refl, sym, ap, ◌∙◌, arith, List, [], ◌∷◌, ◌++◌, Some, map, length, take, drop, get_or, slice_get, append_assoc}
+use Rattle.std.proofs.lemmas.List.{append-nil, drop-append-le, length-drop, length-map, take-append-le, take_all}
+use Rattle.std.proofs.lemmas.Grind.{flat_map-append}
+use Rattle.std.specs.Iterator.{Yields}
+use Rattle.std.specs.Vec.Iter.{into_iter_items, into_iter_steps}
+use Rattle.std.specs.declared.vec.IntoIter.{IntoIter}
+use Rattle.std.proofs.lemmas.Option.{get_or_from_slice_get, same_Some, slice_get-map}
+use Rattle.std.specs.Option.{option_map}
 use Rattle.pfair_weight.specs.Name.{NameValue}
-use Rattle.pfair_lag.specs.Book.{Tally}
-use Rattle.pfair_text.specs.Rows.{line, lines_text}
-use Rattle.pfair_output.specs.Held.{held_text, rows_at}
-use Rattle.pfair_output.specs.Told.{tally_row}
+use Rattle.pfair_lag.specs.Book.{Tally, Book, slot_more}
+use Rattle.pfair_table.specs.declared.pick.Pick.{Pick}
+use Rattle.pfair_text.specs.Rows.{lines_text}
+use Rattle.pfair_output.specs.Held.{book_held, held_text, part_text, parts_text, slot_passed}
+use Rattle.pfair_output.specs.Parts.{AreTasksOf, entered_kind, kept_kind, quanta}
+use Rattle.pfair_output.specs.Told.{book_rows}
 use Rattle.pfair_output.specs.declared.kept_task.KeptTask.{KeptTask}
+use Rattle.pfair_output.specs.declared.lag_part.LagPart.{LagPart}
+use Rattle.pfair_output.proofs.SlotFacts.{first_left}
 
--- ---- the numerators of a slot, one more each time
+-- ---- one slot more
 
--- so many numerators were added, and the rows of those that are left make the rows of all
-abbrev pub AreHeld : ℕ → List KeptTask → List (NameValue × Tally) → ℕ → List ℤ → List ℤ → Type 0
-AreHeld time tasks entered place old now =
-    (more : List ℤ) × (now ≡ old ++ more) × (length more ≡ place)
-    × ((rest : List ℤ) → rows_at time (drop place tasks) rest ≡ map (tally_row time) (drop place entered) → rows_at time tasks (more ++ rest) ≡ map (tally_row time) entered)
+-- the first of slots takes its quanta from the front
+front : (count : ℕ) (counts : List ℕ) (picks : List Pick) → quanta (count ∷ counts) ≡ length picks → count ≤ length picks
+front count counts picks e = omega (arith, e)
 
-pub none_held : (time : ℕ) (tasks : List KeptTask) (entered : List (NameValue × Tally)) (old : List ℤ) → AreHeld time tasks entered 0 old old
-none_held time tasks entered old = ([], sym (append-nil old), refl, λ rest same. same)
+behind : (count : ℕ) (counts : List ℕ) (picks : List Pick) → quanta (count ∷ counts) ≡ length picks → quanta counts ≡ length (drop count picks)
+behind count counts picks e = (let left = length-drop count picks in omega (arith, e, left))
 
-pub one_held : (time : ℕ) (tasks : List KeptTask) (entered : List (NameValue × Tally)) (place : ℕ) (old now : List ℤ) (task : KeptTask) (e : NameValue × Tally) (n : ℤ)
-    → drop place tasks ≡ task ∷ drop (place + 1) tasks → drop place entered ≡ e ∷ drop (place + 1) entered
-    → (decimal time ∷ task.name ∷ signed_decimal n ∷ decimal task.period ∷ []) ≡ tally_row time e
-    → AreHeld time tasks entered place old now → AreHeld time tasks entered (place + 1) old (now ++ n ∷ [])
-one_held time tasks entered place old now task e n left left' row are =
-    let size = length-append are.0 (n ∷ []) in
-    let long = are.2 in (
-      are.0 ++ n ∷ [],
-      ap (λ (l : List ℤ). l ++ n ∷ []) are.1 ∙ append_assoc old are.0 (n ∷ []),
-      omega (arith, size, long),
-      λ rest same.
-          ap (rows_at time tasks) (append_assoc are.0 (n ∷ []) rest)
-          ∙ are.3 (n ∷ rest) (ap (λ ts. rows_at time ts (n ∷ rest)) left ∙ (λ i. row i ∷ same i) ∙ sym (ap (map (tally_row time)) left')),
-    )
+pub held_push : (book : Book) (counts : List ℕ) (picks table : List Pick) → quanta counts ≡ length picks
+    → held_text book (counts ++ length table ∷ []) (picks ++ table) ≡ held_text book counts picks ++ lines_text (book_rows (slot_passed table (book_held book counts picks)))
+held_push book [] [] table e =
+    append-nil (lines_text (book_rows (slot_passed (take (length table) table) book)))
+    ∙ ap (λ (t : List Pick). lines_text (book_rows (slot_passed t book))) (take_all (length table) table (omega arith))
+held_push book [] (p ∷ picks) table e = absurd (omega (arith, e))
+held_push book (count ∷ counts) picks table e =
+    let next : Book = slot_passed (take count picks) book in
+    ap (λ (t : List Pick). lines_text (book_rows (slot_passed t book)) ++ held_text (slot_passed t book) (counts ++ length table ∷ []) (drop count (picks ++ table))) (take-append-le count picks table (front count counts picks e))
+    ∙ ap (λ (l : List Pick). lines_text (book_rows next) ++ held_text next (counts ++ length table ∷ []) l) (drop-append-le count picks table (front count counts picks e))
+    ∙ ap (λ (l : List ℕ). lines_text (book_rows next) ++ l) (held_push next counts (drop count picks) table (behind count counts picks e))
+    ∙ sym (append_assoc (lines_text (book_rows next)) (held_text next counts (drop count picks)) (lines_text (book_rows (slot_passed table (book_held next counts (drop count picks))))))
 
-pub all_held : (time : ℕ) (tasks : List KeptTask) (entered : List (NameValue × Tally)) (place : ℕ) (old now : List ℤ) → drop place tasks ≡ [] → drop place entered ≡ []
-    → AreHeld time tasks entered place old now → (more : List ℤ) × (now ≡ old ++ more) × (length more ≡ place) × (rows_at time tasks more ≡ map (tally_row time) entered)
-all_held time tasks entered place old now none none' are =
-    (are.0, are.1, are.2, ap (rows_at time tasks) (sym (append-nil are.0)) ∙ are.3 [] (ap (λ ts. rows_at time ts []) none ∙ sym (ap (map (tally_row time)) none')))
+pub book_push : (book : Book) (counts : List ℕ) (picks table : List Pick) → quanta counts ≡ length picks
+    → book_held book (counts ++ length table ∷ []) (picks ++ table) ≡ slot_passed table (book_held book counts picks)
+book_push book [] [] table e = ap (λ (t : List Pick). slot_passed t book) (take_all (length table) table (omega arith))
+book_push book [] (p ∷ picks) table e = absurd (omega (arith, e))
+book_push book (count ∷ counts) picks table e =
+    let next : Book = slot_passed (take count picks) book in
+    ap (λ (t : List Pick). book_held (slot_passed t book) (counts ++ length table ∷ []) (drop count (picks ++ table))) (take-append-le count picks table (front count counts picks e))
+    ∙ ap (λ (l : List Pick). book_held next (counts ++ length table ∷ []) l) (drop-append-le count picks table (front count counts picks e))
+    ∙ book_push next counts (drop count picks) table (behind count counts picks e)
 
--- ---- slots
+pub quanta_push : (counts : List ℕ) (count : ℕ) → quanta (counts ++ count ∷ []) ≡ quanta counts + count
+quanta_push [] count = omega arith
+quanta_push (c ∷ counts) count = (let more = quanta_push counts count in omega (arith, more))
 
-rows_front : (time : ℕ) (tasks : List KeptTask) (ns more : List ℤ) → length tasks ≤ length ns → rows_at time tasks (ns ++ more) ≡ rows_at time tasks ns
-rows_front time [] ns more h = refl
-rows_front time (t ∷ tasks) [] more h = absurd (omega (arith, h))
-rows_front time (t ∷ tasks) (n ∷ ns) more h = ap (λ rows. (decimal time ∷ t.name ∷ signed_decimal n ∷ decimal t.period ∷ []) ∷ rows) (rows_front time tasks ns more (omega (arith, h)))
+pub time_held : (book : Book) (counts : List ℕ) (picks : List Pick) → (book_held book counts picks).time ≡ book.time + length counts
+time_held book [] picks = omega arith
+time_held book (count ∷ counts) picks = (let more = time_held (slot_passed (take count picks) book) counts (drop count picks) in omega (arith, more))
 
--- what stands behind the numerators of the slots isn't looked at
-pub held_front : (tasks : List KeptTask) (times : List ℕ) (ns more : List ℤ) → length times * length tasks ≤ length ns → held_text tasks times (ns ++ more) ≡ held_text tasks times ns
-held_front tasks [] ns more h = refl
-held_front tasks (t ∷ ts) ns more h =
-    let size = suc-mul (length ts) (length tasks) in
-    let first : length tasks ≤ length ns = omega (arith, h, size) in
-    let left = length-drop (length tasks) ns in
-    ap (λ rows. lines_text rows ++ held_text tasks ts (drop (length tasks) (ns ++ more))) (rows_front t tasks ns more first)
-    ∙ ap (λ (l : List ℤ). lines_text (rows_at t tasks ns) ++ held_text tasks ts l) (drop-append-le (length tasks) ns more first)
-    ∙ ap (λ text. lines_text (rows_at t tasks ns) ++ text) (held_front tasks ts (drop (length tasks) ns) more (omega (arith, h, size, left)))
+-- ---- what is left of slots
 
--- one slot more
-pub held_push : (tasks : List KeptTask) (times : List ℕ) (time : ℕ) (ns more : List ℤ) → length ns ≡ length times * length tasks
-    → held_text tasks (times ++ time ∷ []) (ns ++ more) ≡ held_text tasks times ns ++ lines_text (rows_at time tasks more)
-held_push tasks [] time [] more e = append-nil (lines_text (rows_at time tasks more))
-held_push tasks [] time (n ∷ ns) more e = absurd (omega (arith, e))
-held_push tasks (t ∷ ts) time ns more e =
-    let size = suc-mul (length ts) (length tasks) in
-    let first : length tasks ≤ length ns = omega (arith, e, size) in
-    let left = length-drop (length tasks) ns in
-    ap (λ rows. lines_text rows ++ held_text tasks (ts ++ time ∷ []) (drop (length tasks) (ns ++ more))) (rows_front t tasks ns more first)
-    ∙ ap (λ (l : List ℤ). lines_text (rows_at t tasks ns) ++ held_text tasks (ts ++ time ∷ []) l) (drop-append-le (length tasks) ns more first)
-    ∙ ap (λ text. lines_text (rows_at t tasks ns) ++ text) (held_push tasks ts time (drop (length tasks) ns) more (omega (arith, e, size, left)))
-    ∙ sym (append_assoc (lines_text (rows_at t tasks ns)) (held_text tasks ts (drop (length tasks) ns)) (lines_text (rows_at time tasks more)))
+pub slot_left : (book : Book) (counts : List ℕ) (rest first later : List Pick) (slot count : ℕ) → drop slot counts ≡ count ∷ drop (slot + 1) counts → first ≡ take count rest → later ≡ drop count rest
+    → held_text book (drop slot counts) rest ≡ lines_text (book_rows (slot_passed first book)) ++ held_text (slot_passed first book) (drop (slot + 1) counts) later
+slot_left book counts rest first later slot count left is is' =
+    ap (λ cs. held_text book cs rest) left
+    ∙ ap (λ (t : List Pick). lines_text (book_rows (slot_passed t book)) ++ held_text (slot_passed t book) (drop (slot + 1) counts) (drop count rest)) (sym is)
+    ∙ ap (λ (l : List Pick). lines_text (book_rows (slot_passed first book)) ++ held_text (slot_passed first book) (drop (slot + 1) counts) l) (sym is')
 
--- what is held of some slots, behind which there may be more
-pub held_kept : (tasks : List KeptTask) (times : List ℕ) (ns front more : List ℤ) → front ≡ take (length times * length tasks) ns → length times * length tasks ≤ length ns → held_text tasks times (front ++ more) ≡ held_text tasks times ns
-held_kept tasks times ns front more is fits =
-    let cut = length-take (length times * length tasks) ns in
-    let k = length times * length tasks in
-    ap (λ (l : List ℤ). held_text tasks times (l ++ more)) is
-    ∙ held_front tasks times (take k ns) more (omega (arith, cut, fits))
-    ∙ sym (held_front tasks times (take k ns) (drop k ns) (omega (arith, cut, fits)))
-    ∙ ap (held_text tasks times) (take-append-drop k ns)
+-- the quanta of the slots that are left
+pub later_fits : (counts : List ℕ) (rest later : List Pick) (slot count : ℕ) → drop slot counts ≡ count ∷ drop (slot + 1) counts → later ≡ drop count rest → quanta (drop slot counts) ≡ length rest
+    → quanta (drop (slot + 1) counts) ≡ length later
+later_fits counts rest later slot count is is' e =
+    let sum = ap quanta is in
+    let left = length-drop count rest in
+    let long = ap (λ (l : List Pick). length l) is' in
+    omega (arith, sum, left, long, e)
 
-pub held_longer : (tasks : List KeptTask) (times : List ℕ) (time : ℕ) (ns front more : List ℤ) (text : List ℕ) (rows : List (List (List ℕ))) → front ≡ take (length times * length tasks) ns → length times * length tasks ≤ length ns
-    → rows_at time tasks more ≡ rows → text ++ held_text tasks (times ++ time ∷ []) (front ++ more) ≡ (text ++ held_text tasks times ns) ++ lines_text rows
-held_longer tasks times time ns front more text rows is fits same =
-    let k = length times * length tasks in
-    let cut = length-take k ns in
-    let long : length front ≡ k = ap (λ (l : List ℤ). length l) is ∙ omega (arith, cut, fits) in
-    ap (λ (l : List ℕ). text ++ l) (held_push tasks times time front more long ∙ ap (λ (l : List ℕ). l ++ lines_text (rows_at time tasks more)) held ∙ ap (λ r. held_text tasks times ns ++ lines_text r) same)
-    ∙ sym (append_assoc text (held_text tasks times ns) (lines_text rows))
-  where
-    held : held_text tasks times front ≡ held_text tasks times ns
-    held = ap (held_text tasks times) (sym (append-nil front)) ∙ held_kept tasks times ns front [] is fits
+-- ---- tasks
 
--- ---- what is left of a slot, and of slots
+kinds_passed : (names : List NameValue) (entered : List (NameValue × Tally)) → map entered_kind (map (λ e. (e.0, slot_more names e.0 e.1)) entered) ≡ map entered_kind entered
+kinds_passed names [] = refl
+kinds_passed names (e ∷ entered) = ap (λ l. entered_kind e ∷ l) (kinds_passed names entered)
 
-pub row_left : (time : ℕ) (tasks : List KeptTask) (ns : List ℤ) (place : ℕ) (task : KeptTask) (n : ℤ) → drop place tasks ≡ task ∷ drop (place + 1) tasks → drop place ns ≡ n ∷ drop (place + 1) ns
-    → lines_text (rows_at time (drop place tasks) (drop place ns)) ≡ line (decimal time ∷ task.name ∷ signed_decimal n ∷ decimal task.period ∷ []) ++ lines_text (rows_at time (drop (place + 1) tasks) (drop (place + 1) ns))
-row_left time tasks ns place task n left left' = λ i. lines_text (rows_at time (left i) (left' i))
+-- a slot changes no task
+pub still_tasks : (tasks : List KeptTask) (table : List Pick) (book : Book) → AreTasksOf tasks book.entered → AreTasksOf tasks (slot_passed table book).entered
+still_tasks tasks table book are = are ∙ sym (kinds_passed (map (λ p. p.name) table) book.entered)
 
-pub slot_left : (tasks : List KeptTask) (times : List ℕ) (ns first later : List ℤ) (slot time : ℕ) → drop slot times ≡ time ∷ drop (slot + 1) times → first ≡ take (length tasks) ns → later ≡ drop (length tasks) ns → length tasks ≤ length ns
-    → held_text tasks (drop slot times) ns ≡ lines_text (rows_at time tasks first) ++ held_text tasks (drop (slot + 1) times) later
-slot_left tasks times ns first later slot time left is is' fits =
-    ap (λ ts. held_text tasks ts ns) left
-    ∙ ap (λ r. lines_text r ++ held_text tasks (drop (slot + 1) times) (drop (length tasks) ns)) rows
-    ∙ ap (λ (l : List ℤ). lines_text (rows_at time tasks first) ++ held_text tasks (drop (slot + 1) times) l) (sym is')
-  where
-    rows : rows_at time tasks ns ≡ rows_at time tasks first
-    rows =
-        let cut = length-take (length tasks) ns in
-        ap (rows_at time tasks) (sym (take-append-drop (length tasks) ns))
-        ∙ rows_front time tasks (take (length tasks) ns) (drop (length tasks) ns) (omega (arith, cut, fits))
-        ∙ ap (rows_at time tasks) (sym is)
+pub as_many : (tasks : List KeptTask) (entered : List (NameValue × Tally)) → AreTasksOf tasks entered → length tasks ≡ length entered
+as_many tasks entered are = sym (length-map tasks kept_kind) ∙ ap (λ (l : List (NameValue × ℕ)). length l) are ∙ length-map entered entered_kind
+
+-- the task at a place of a list of them, and of the book
+pub kind_at : (tasks : List KeptTask) (entered : List (NameValue × Tally)) (place : ℕ) (task : KeptTask) (e : NameValue × Tally) → place < length tasks → task ≡ get_or tasks place task → slice_get entered place ≡ Some e → AreTasksOf tasks entered → kept_kind task ≡ entered_kind e
+kind_at tasks entered place task e inside is at are =
+    let t = first_left tasks place inside in
+    let same : task ≡ t.0 = is ∙ get_or_from_slice_get tasks place t.0 task t.1 in
+    ap kept_kind same
+    ∙ same_Some (kept_kind t.0) (entered_kind e)
+    (sym (ap (option_map kept_kind) t.1)
+    ∙ sym (slice_get-map kept_kind tasks place)
+    ∙ ap (λ (l : List (NameValue × ℕ)). slice_get l place) are
+    ∙ slice_get-map entered_kind entered place
+    ∙ ap (option_map entered_kind) at)
+
+-- ---- parts
+
+pub parts_push : (parts : List LagPart) (part : LagPart) → parts_text (parts ++ part ∷ []) ≡ parts_text parts ++ part_text part
+parts_push parts part = flat_map-append part_text parts (part ∷ []) ∙ ap (λ (l : List ℕ). parts_text parts ++ l) (append-nil (part_text part))
+
+-- what the iterator of a list has given is a front of it
+pub taken_front : {X A : Type 0} (s : IntoIter X A) (xs : List X) (t : IntoIter X A) → Yields into_iter_steps s xs t → into_iter_items s ≡ xs ++ into_iter_items t
+taken_front s [] t y = ap into_iter_items y
+taken_front s (x ∷ xs) t y = y.1.0 ∙ ap (λ ys. x ∷ ys) (taken_front y.0 xs t y.2)

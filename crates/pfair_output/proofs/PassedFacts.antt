@@ -1,5 +1,5 @@
 -- Texts that go through a page to a writer, one after another.
-use Rattle.std.proofs.Common.{ℕ, ◌+◌, ◌≤◌, ◌≡◌, refl, sym, ap, ◌∙◌, subst, arith, List, [], ◌∷◌, ◌++◌, Option, Some, None, Ok, Err, length, take, append_assoc}
+use Rattle.std.proofs.Common.{ℕ, ◌+◌, ◌≤◌, ◌≡◌, refl, sym, ap, ◌∙◌, subst, arith, List, [], ◌++◌, Option, Some, None, Ok, Err, length, take, append_assoc}
 use Rattle.std.proofs.lemmas.List.{append-nil, length-append, take-append-le}
 use Rattle.std.proofs.Math.Seq.{take-append-add}
 use Rattle.std.specs.Prelude.{OnErr, OnOk}
@@ -14,10 +14,6 @@ appends_none None = tt
 appends_none (Some xs) = sym (append-nil xs)
 
 module _ (a b : Option (List ℕ)) where
-  -- a page that was sent
-  pub sent_page : (page text : List ℕ) → Appends a b page → Passes a b page text text
-  sent_page page text sent = (page, sent, refl)
-
   -- a first part of a text is one of more
   pub stops_early : (page text more : List ℕ) → Stops a b page text → Stops a b page (text ++ more)
   stops_early page text more stops =

@@ -2,6 +2,7 @@ pub mod Decisions
 pub mod Held
 pub mod Kept
 pub mod Lags
+pub mod Parts
 pub mod Passed
 pub mod Replay
 pub mod Runs

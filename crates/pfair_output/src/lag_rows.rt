@@ -5,8 +5,10 @@ ghost use Rattle.std.specs.Fmt.{decimal, signed_decimal};
 ghost use Rattle.std.specs.Io.KnownBytes.{Appends};
 ghost use Rattle.pfair_text.specs.Output.{TakesPrefix};
 ghost use Rattle.pfair_text.specs.Rows.{line, lines_text};
-ghost use Rattle.pfair_output.specs.Held.{held_text, part_text, parts_text, rows_at};
+ghost use Rattle.pfair_output.specs.Held.{held_text, part_text, parts_text};
 ghost use Rattle.pfair_output.specs.Passed.{Passes, Stops};
+ghost use Rattle.pfair_output.specs.Parts.{AreTasksOf};
+ghost use Rattle.pfair_output.specs.Told.{book_rows};
 
 use crate::kept_task::KeptTask;
 use crate::lag_part::LagPart;
@@ -14,6 +16,7 @@ use crate::numbers::Numbers;
 use crate::page::Page;
 use crate::piece::Piece;
 use itoa::Buffer;
+use pfair_lag::LagBook;
 use pfair_text::{WriteFailed, send};
 use std::io::Write;
 use std::marker::Model;
@@ -36,20 +39,21 @@ impl Model for LagRows {
 }
 
 impl LagRows {
-    /// Sends the text to a writer, in pieces of some 32 KB. It takes no memory, and costs the rows.
+    /// Sends the text to a writer, in pieces of some 32 KB. It takes no memory, and costs the rows, and
+    /// a look-up for each quantum.
     ///
     /// At `Ok` the writer has gained the whole text, and after a failure a prefix of it. An error of
     /// the writer ends the call at once, whatever its kind.
     ///
     /// # Errors
     /// [`WriteFailed`] where the writer answered an error, or took nothing.
-    pub fn send<W: Write>(&mut self, writer: &mut W) -> Result<(), WriteFailed>
-        ensures ok { OnOk result (Appends (W.contents writer.old) (W.contents writer.new) self.old) }
-        ensures failed { OnErr result (TakesPrefix (W.contents writer.old) (W.contents writer.new) self.old) }
-        ensures same { self.new ≡ self.old }
+    pub fn send<W: Write>(self, writer: &mut W) -> Result<(), WriteFailed>
+        ensures ok { OnOk result (Appends (W.contents writer.old) (W.contents writer.new) self) }
+        ensures failed { OnErr result (TakesPrefix (W.contents writer.old) (W.contents writer.new) self) }
     {
         let mut page = Page::new();
-        send_parts(writer, &mut page, &mut self.numbers, &self.parts)?;
+        let mut numbers = self.numbers;
+        send_parts(writer, &mut page, &mut numbers, self.parts)?;
         send_page(writer, &mut page)
     }
 }
@@ -59,13 +63,13 @@ fn send_parts<W: Write>(
     writer: &mut W,
     page: &mut Page,
     numbers: &mut Numbers,
-    parts: &[LagPart],
+    parts: Vec<LagPart>,
 ) -> Result<(), WriteFailed>
-    ensures ok { OnOk result (Passes (W.contents writer.old) (W.contents writer.new) page.old page.new (parts_text parts.now)) }
-    ensures failed { OnErr result (Stops (W.contents writer.old) (W.contents writer.new) page.old (parts_text parts.now)) }
+    ensures ok { OnOk result (Passes (W.contents writer.old) (W.contents writer.new) page.old page.new (parts_text parts.items)) }
+    ensures failed { OnErr result (Stops (W.contents writer.old) (W.contents writer.new) page.old (parts_text parts.items)) }
 {
-    for place in 0..parts.len() {
-        send_part(writer, page, numbers, &parts[place])?;
+    for part in parts {
+        send_part(writer, page, numbers, part)?;
     }
     Ok(())
 }
@@ -86,10 +90,10 @@ fn send_part<W: Write>(
     writer: &mut W,
     page: &mut Page,
     numbers: &mut Numbers,
-    part: &LagPart,
+    part: LagPart,
 ) -> Result<(), WriteFailed>
-    ensures ok { OnOk result (Passes (W.contents writer.old) (W.contents writer.new) page.old page.new (part_text part.now)) }
-    ensures failed { OnErr result (Stops (W.contents writer.old) (W.contents writer.new) page.old (part_text part.now)) }
+    ensures ok { OnOk result (Passes (W.contents writer.old) (W.contents writer.new) page.old page.new (part_text part)) }
+    ensures failed { OnErr result (Stops (W.contents writer.old) (W.contents writer.new) page.old (part_text part)) }
 {
     send_page(writer, page)?;
     send(writer, part.text.as_slice())?;
@@ -101,55 +105,47 @@ fn send_slots<W: Write>(
     writer: &mut W,
     page: &mut Page,
     numbers: &mut Numbers,
-    part: &LagPart,
+    part: LagPart,
 ) -> Result<(), WriteFailed>
-    ensures ok { OnOk result (Passes (W.contents writer.old) (W.contents writer.new) page.old page.new (held_text part.now.tasks.items part.now.times.items part.now.numerators.items)) }
-    ensures failed { OnErr result (Stops (W.contents writer.old) (W.contents writer.new) page.old (held_text part.now.tasks.items part.now.times.items part.now.numerators.items)) }
+    ensures ok { OnOk result (Passes (W.contents writer.old) (W.contents writer.new) page.old page.new (held_text part.book part.counts.items part.picks.items)) }
+    ensures failed { OnErr result (Stops (W.contents writer.old) (W.contents writer.new) page.old (held_text part.book part.counts.items part.picks.items)) }
 {
-    let mut rest = part.numerators.as_slice();
-    for slot in 0..part.times.len() {
-        let (numerators, later) = rest.split_at(part.tasks.len());
-        send_slot(
-            writer,
-            page,
-            numbers,
-            part.times[slot],
-            &part.tasks,
-            numerators,
-        )?;
+    let mut book = part.book;
+    let mut rest = part.picks.as_slice();
+    for slot in 0..part.counts.len() {
+        let (table, later) = rest.split_at(part.counts[slot]);
+        book.record(table);
+        send_slot(writer, page, numbers, &part.tasks, &book)?;
         rest = later;
     }
     Ok(())
 }
 
-// Sends a row for each of these tasks, with its numerator at a time.
+// Sends a row for each of these tasks, which are those of the book, in order of entering.
 fn send_slot<W: Write>(
     writer: &mut W,
     page: &mut Page,
     numbers: &mut Numbers,
-    time: u64,
     tasks: &[KeptTask],
-    numerators: &[i64],
+    book: &LagBook,
 ) -> Result<(), WriteFailed>
-    requires { length numerators.now ≡ length tasks.now }
-    ensures ok { OnOk result (Passes (W.contents writer.old) (W.contents writer.new) page.old page.new (lines_text (rows_at time tasks.now numerators.now))) }
-    ensures failed { OnErr result (Stops (W.contents writer.old) (W.contents writer.new) page.old (lines_text (rows_at time tasks.now numerators.now))) }
+    requires { AreTasksOf tasks.now book.now.entered }
+    ensures ok { OnOk result (Passes (W.contents writer.old) (W.contents writer.new) page.old page.new (lines_text (book_rows book.now))) }
+    ensures failed { OnErr result (Stops (W.contents writer.old) (W.contents writer.new) page.old (lines_text (book_rows book.now))) }
 {
-    let time = Piece::from_bytes(Buffer::new().format(time).as_bytes());
+    let time = Piece::from_bytes(Buffer::new().format(book.time()).as_bytes());
     for place in 0..tasks.len() {
-        send_row(
-            writer,
-            page,
-            numbers,
-            &time,
-            &tasks[place],
-            numerators[place],
-        )?;
+        let Some((_, (numerator, _))) = book.row_at(place) else {
+            // the book has as many tasks
+            unreachable!()
+        };
+        send_row(writer, page, numbers, &time, &tasks[place], numerator)?;
     }
     Ok(())
 }
 
 // Sends a row.
+#[inline(always)]
 fn send_row<W: Write>(
     writer: &mut W,
     page: &mut Page,
@@ -169,6 +165,7 @@ fn send_row<W: Write>(
 }
 
 // Sends what is in a page, where it has no room for a row.
+#[inline(always)]
 fn make_room<W: Write>(writer: &mut W, page: &mut Page) -> Result<(), WriteFailed>
     ensures ok { OnOk result (Passes (W.contents writer.old) (W.contents writer.new) page.old page.new []) }
     ensures room { OnOk result (length page.new + 128 ≤ 32768) }

@@ -49,6 +49,7 @@ impl Numbers {
     }
 
     /// The digits of a numerator, with a sign where it is negative. It takes no memory.
+    #[inline(always)]
     pub(crate) fn digits(&mut self, numerator: i64) -> &Piece
         ensures { take result.now.length result.now.bytes ≡ signed_decimal numerator }
     {

@@ -9,7 +9,7 @@ ghost use Rattle.pfair_table.specs.Script.{replica_of_logs};
 ghost use Rattle.pfair_table.specs.ScriptRun.{IsNextOf, IsScriptFaultOf, after_next};
 ghost use Rattle.pfair_text.specs.Rows.{IsOpen, lines_text, text_so_far};
 ghost use Rattle.pfair_output.specs.Decisions.{decided_rows, decisions_text};
-ghost use Rattle.pfair_output.specs.Held.{so_far};
+ghost use Rattle.pfair_output.specs.Held.{book_so_far, so_far};
 ghost use Rattle.pfair_output.specs.Lags.{lag_rows, lags_header, lags_text};
 ghost use Rattle.pfair_output.specs.Runs.{decided_below, decided_of};
 ghost use Rattle.pfair_output.specs.Slots.{slots_from};
@@ -17,7 +17,7 @@ ghost use Rattle.pfair_output.specs.Slots.{slots_from};
 use crate::decisions::{add_decisions, add_decisions_header};
 use crate::held_lags::HeldLags;
 use crate::lag_rows::LagRows;
-use crate::lags::{add_lags_header, tell_slot};
+use crate::lags::add_lags_header;
 use csv::Writer;
 use pfair_lag::LagBook;
 use pfair_ready::Ready;
@@ -42,14 +42,14 @@ pub fn decisions_of_script<R: Ready>(alloc: Global, script: &Script) -> Result<V
 }
 
 /// The lags in all slots of a script's run, as [`lags_of`](crate::lags_of) writes them of the
-/// dispatcher that [`run_script`](pfair_table::run_script) gives. Of the plan one slot at a time is
-/// held, beside the entries, a tally of each member, some 100 bytes for each of what its rows share,
-/// and 200 KB of digits. Of the lags a number of 8 bytes is held for each row, and for each slot,
-/// where the slot has the tasks of the slot before; else its rows are held as text. Where the tasks
+/// dispatcher that [`run_script`](pfair_table::run_script) gives. Beside the entries there is a tally
+/// of each member, some 100 bytes for each of what its rows share, and 200 KB of digits. Of a slot in
+/// which no task enters or leaves the table is held, 24 bytes for each quantum and 8 for the slot, and
+/// its rows are spelled as they are sent; of the others the rows are held as text. Where the tasks
 /// change that were the same in fewer than 64 slots, all later rows are held as text.
 ///
-/// It costs what that run costs but for places, the rows, a look-up for each decision and quantum,
-/// and a pass over the members for each departure.
+/// It costs what that run costs but for places, a look-up for each decision and at most two for each
+/// quantum, a pass over the members for each slot in which tasks change, and the rows of the text.
 ///
 /// # Errors
 /// As [`run_script`](pfair_table::run_script).
@@ -81,8 +81,8 @@ fn lags_of_run<R: Ready>(alloc: Global, run: &mut ScriptRun<R>) -> Result<LagRow
 {
     let mut writer = new_text(alloc);
     add_lags_header(&mut writer)?;
-    let mut lags = HeldLags::new(alloc, finish(writer)?)?;
-    add_all_lags(&mut lags, &mut LagBook::new(alloc), run)?;
+    let mut lags = HeldLags::new(alloc, finish(writer)?, LagBook::new(alloc))?;
+    add_all_lags(&mut lags, run)?;
     lags.finish()
 }
 
@@ -103,13 +103,9 @@ fn add_all_decisions<R: Ready>(
     Ok(())
 }
 
-// Plans all slots of a run, tells a book of each, and adds the rows after it.
-fn add_all_lags<R: Ready>(
-    lags: &mut HeldLags,
-    book: &mut LagBook,
-    run: &mut ScriptRun<R>,
-) -> Result<(), AllocError>
-    requires book { book.old ≡ empty_book }
+// Plans all slots of a run, and adds the rows after each.
+fn add_all_lags<R: Ready>(lags: &mut HeldLags, run: &mut ScriptRun<R>) -> Result<(), AllocError>
+    requires book { book_so_far lags.old ≡ empty_book }
     requires start { run.old.planned ≡ 0 }
     ensures { OnOk result (so_far lags.new ≡ so_far lags.old
         ++ lines_text (flat_map (lag_rows run.old.settings (replica_of run.old.held)) (numbers_below run.old.settings.slots))) }
@@ -117,8 +113,7 @@ fn add_all_lags<R: Ready>(
     'slots: while let Some(_) = plan_one(run)? {
         // a run has at most 1,000,000 slots
         prove!(run.next_slot() <= Settings::MAX_SLOTS);
-        tell_slot(book, run.decisions(), run.table())?;
-        lags.add_lags(book)?;
+        lags.add_slot(run.decisions(), run.table())?;
     }
     Ok(())
 }

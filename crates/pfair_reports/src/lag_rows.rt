@@ -32,6 +32,6 @@ pub fn lags<R: Read, W: Write>(
     ensures { IsCommandOf of_schedule ProgramFault.WriteFailed (IsOutputOf lags_of_run) (IsFaultBy of_schedule) result
         (R.remaining reader.old) (R.remaining reader.new) (W.contents writer.old) (W.contents writer.new) }
 {
-    let mut rows = scheduled_lags(alloc, reader)?;
+    let rows = scheduled_lags(alloc, reader)?;
     Ok(rows.send(writer)?)
 }

@@ -91,7 +91,7 @@ fn texts_slot_by_slot(rt: HostRuntime) -> Result<(), Fail> {
 }
 
 // The text that lags send.
-fn text_of(rt: &impl Abort, alloc: Global, mut lags: LagRows) -> Vec<u8> {
+fn text_of(rt: &impl Abort, alloc: Global, lags: LagRows) -> Vec<u8> {
     let mut text = Vec::new(alloc);
     lags.send(&mut text).ok().expect(rt, "a writer");
     text

@@ -3,7 +3,7 @@ use Rattle.std.specs.List.{flat_map}
 use Rattle.pfair_replica.specs.HeldRows.{replica_of}
 use Rattle.pfair_replica.specs.Replica.{numbers_below}
 use Rattle.pfair_text.specs.Rows.{lines_text}
-use Rattle.pfair_output.specs.Held.{so_far}
+use Rattle.pfair_output.specs.Held.{book_so_far, so_far}
 use Rattle.pfair_output.specs.Lags.{lag_rows}
 use Rattle.pfair_output.proofs.WorldFacts.{book_after}
 use Rattle.pfair_output.proofs.runs.add_all_lags.Given as goal
@@ -14,7 +14,7 @@ invariant-slots g l = record {
   settings : l.run.settings ≡ l.fn.run.settings;
   held : l.run.held ≡ l.fn.run.held;
   within : l.run.planned ≤ l.fn.run.settings.slots;
-  book : l.book ≡ book_after l.fn.run.settings (replica_of l.fn.run.held) l.run.planned;
+  book : book_so_far l.lags ≡ book_after l.fn.run.settings (replica_of l.fn.run.held) l.run.planned;
   text : so_far l.lags ≡ so_far l.fn.lags ++ lines_text (flat_map (lag_rows l.fn.run.settings (replica_of l.fn.run.held)) (numbers_below l.run.planned));
 }
 
