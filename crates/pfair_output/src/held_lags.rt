@@ -20,20 +20,19 @@ use pfair_table::{Decided, Pick};
 use std::alloc::{AllocError, Global};
 use std::mem;
 
-// As many slots are to be held of one set of tasks, so that what is kept of the tasks is small
-// beside them.
-const FEWEST: usize = 64;
+// So many parts may end at first, and one more for each so many slots: what a part keeps of its tasks
+// is as much as the text of some twelve slots.
+const PARTS_AT_FIRST: usize = 8;
+
+const SLOTS_A_PART: usize = 16;
 
 /// Lags of slots, one slot after another. The table of a slot is held where the tasks are those of
-/// the slot before, and its rows are spelled else.
-///
-/// Where a set of tasks changes that had less than 64 slots, all later rows are spelled.
+/// the slot before, and its rows are spelled else, and where tasks have changed too often.
 #[derive(Drop)]
 pub(crate) struct HeldLags {
     alloc: Global,
     parts: Vec<LagPart>,
     current: OpenPart,
-    holds: bool,
     numbers: Numbers,
 }
 
@@ -51,7 +50,6 @@ impl HeldLags {
             alloc,
             parts: Vec::new(alloc),
             current: OpenPart::new(alloc, text, book),
-            holds: true,
             numbers,
         })
     }
@@ -81,7 +79,7 @@ impl HeldLags {
         ensures book { OnOk result (book_so_far self.new ≡ slot_told decided.now table.now (book_so_far self.old)) }
         ensures text { OnOk result (so_far self.new ≡ so_far self.old ++ lines_text (book_rows (slot_told decided.now table.now (book_so_far self.old)))) }
     {
-        if self.holds && !change_tasks(decided) && self.current.hold(table)? {
+        if self.may_hold() && !change_tasks(decided) && self.current.hold(table)? {
             return Ok(());
         }
         if !self.current.counts.is_empty() {
@@ -90,13 +88,18 @@ impl HeldLags {
         self.current.spell(&mut self.numbers, decided, table)
     }
 
+    // Whether a slot may be held: where one of this part is, or the parts are few beside all slots.
+    fn may_hold(&self) -> bool {
+        let slots = self.current.book.time() as usize;
+        !self.current.counts.is_empty() || self.parts.len() < PARTS_AT_FIRST + slots / SLOTS_A_PART
+    }
+
     // Begins a part without rows.
     fn end_part(&mut self) -> Result<(), AllocError>
         ensures text { OnOk result (so_far self.new ≡ so_far self.old) }
         ensures book { OnOk result (book_so_far self.new ≡ book_so_far self.old) }
         ensures none { OnOk result (self.new.current.counts.items ≡ []) }
     {
-        self.holds = self.current.counts.len() >= FEWEST;
         let book = self.current.book_after()?;
         let next = OpenPart::new(self.alloc, Vec::new(self.alloc), book);
         let ended = mem::replace(&mut self.current, next).close()?;

@@ -45,8 +45,9 @@ pub fn decisions_of_script<R: Ready>(alloc: Global, script: &Script) -> Result<V
 /// dispatcher that [`run_script`](pfair_table::run_script) gives. Beside the entries there is a tally
 /// of each member, some 100 bytes for each of what its rows share, and 200 KB of digits. Of a slot in
 /// which no task enters or leaves the table is held, 24 bytes for each quantum and 8 for the slot, and
-/// its rows are spelled as they are sent; of the others the rows are held as text. Where the tasks
-/// change that were the same in fewer than 64 slots, all later rows are held as text.
+/// its rows are spelled as they are sent; of the others the rows are held as text. So are those of the
+/// slots after a change of tasks, where more than eight changes and one for each sixteen slots were
+/// before it.
 ///
 /// It costs what that run costs but for places, a look-up for each decision and at most two for each
 /// quantum, a pass over the members for each slot in which tasks change, and the rows of the text.

@@ -21,13 +21,13 @@ enum Over {
     Lags,
 }
 
-// Each command, what it writes of the sample file, and in how many pieces. Of lags the slots after
-// the first, up to where the tasks change, are a piece of their own.
+// Each command, what it writes of the sample file, and in how many pieces. Of lags the slots in which
+// tasks change are pieces of their own, and those between.
 const COMMANDS: [(Over, &str, usize); 4] = [
     (Over::Replay, TABLES, 1),
     (Over::Placed, PLACED, 1),
     (Over::Decisions, DECISIONS, 1),
-    (Over::Lags, LAGS, 3),
+    (Over::Lags, LAGS, 4),
 ];
 
 fn run_over<P: Threads + Wait + Sync, R: Read, W: Write>(
