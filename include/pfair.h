@@ -549,23 +549,6 @@ struct pfair_member {
  */
 uint32_t pfair_members(struct pfair_dispatcher *d, uint64_t *count, struct pfair_member *rows, size_t room);
 
-/* ---- pictures: SVG documents, byte for byte those that the program pfair_picture writes of the same slots */
-
-/*
- * The picture of the schedule in the slots `from` to `to` - 1, and that of the lags in them.
- *   102  the handle has no dispatcher
- *   100  `from` isn't below `to`, or there are more than 4,096 slots
- *   104  slot `to` - 1 isn't planned, or any slot is forgotten, since a picture tells of tasks that came before it
- *   90   memory was refused
- *   103  the picture has more than `room` bytes: `size` is written, but no byte
- *   0    `size` and the first `size` bytes are written, with no zero behind them
- * Cost: the slots 0 to `to` - 1, with a look-up for each of their decisions and quanta, what is drawn, and the bytes. It is
- * the same where there is no room, so that a guess of the size saves drawing twice: some 10 KB, and 500 bytes for each
- * quantum or 150 for each lag. As much memory is asked of malloc.
- */
-uint32_t pfair_schedule_svg(struct pfair_dispatcher *d, uint64_t from, uint64_t to, uint64_t *size, uint8_t *bytes, size_t room);
-uint32_t pfair_lags_svg(struct pfair_dispatcher *d, uint64_t from, uint64_t to, uint64_t *size, uint8_t *bytes, size_t room);
-
 #ifdef __cplusplus
 }
 #endif

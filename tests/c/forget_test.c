@@ -36,7 +36,6 @@ static void told_from(struct pfair_dispatcher *d, uint64_t first, uint64_t plann
     static struct pfair_quantum quanta[PROCESSORS * 4];
     static struct pfair_decision decisions[TASKS + 1];
     static struct pfair_lag lags[TASKS];
-    static uint8_t bytes_of[100];
     uint64_t count, next;
     ANSWERS(0, pfair_next_slot(d, &next));
     CHECK(next == planned, "%" PRIu64 " planned", next);
@@ -54,8 +53,6 @@ static void told_from(struct pfair_dispatcher *d, uint64_t first, uint64_t plann
         ANSWERS(104, pfair_quanta(d, first - 1, first + 1, &count, quanta, PROCESSORS * 4));
         ANSWERS(104, pfair_decisions_of(d, first - 1, first, &count, decisions, TASKS + 1));
         ANSWERS(104, pfair_lags(d, planned - 1, planned, &count, lags, TASKS));
-        ANSWERS(104, pfair_schedule_svg(d, planned - 1, planned, &count, bytes_of, sizeof bytes_of));
-        ANSWERS(104, pfair_lags_svg(d, planned - 1, planned, &count, bytes_of, sizeof bytes_of));
         CHECK(count == 77, "%" PRIu64 " rows counted", count);
         ANSWERS(0, pfair_quanta(d, 0, 0, &count, quanta, 0));
         CHECK(count == 0, "%" PRIu64 " quanta of no slots", count);

@@ -11,7 +11,6 @@ mod file;
 mod held;
 mod lags;
 mod members;
-mod picture;
 mod plan;
 mod plan_to;
 mod quanta;
@@ -28,7 +27,6 @@ pub use held::{
 };
 pub use lags::pfair_lags;
 pub use members::pfair_members;
-pub use picture::{pfair_lags_svg, pfair_schedule_svg};
 pub use plan::{
     PfairStep, pfair_forget, pfair_frontier, pfair_next_slot, pfair_plan_next, pfair_reopen,
     pfair_reserve,

@@ -18,10 +18,6 @@ OUTCOMES = {
     0: "admitted", 1: "departing", 2: "delayed", 20: "name taken", 21: "period outside frame", 22: "no room", 23: "no such task",
     24: "already departing", 25: "already released",
 }
-#: What a picture can show.
-PICTURES = ("schedule", "lags")
-# a picture is drawn anew for each room that is offered, and most small ones fit in here
-_FIRST_ROOM = 1 << 18
 STEPS = ("planned", "waiting", "done")
 TAKEN = ("new", "known", "torn")
 
@@ -299,20 +295,6 @@ class Dispatcher:
                 answer = library.pfair_members(self._handle, count, rows.ctypes.data, len(rows))
             check(answer)
         return rows
-
-    def svg(self, start: int = 0, stop: Optional[int] = None, picture: str = "schedule") -> str:
-        """The picture of slots `start` to `stop - 1` (of all that are planned, at most 4,096), an SVG document: of the "schedule" or of the
-        "lags", byte for byte what the program pfair_picture writes of these slots."""
-        if picture not in PICTURES:
-            raise ValueError(f"no such picture: {picture}")
-        with self._lock:
-            first, behind = whole(start, 64, "start"), self.planned if stop is None else whole(stop, 64, "stop")
-            size, answer = c.c_uint64(_FIRST_ROOM), 103
-            while answer == 103:
-                text = np.empty(size.value, np.uint8)
-                answer = getattr(library, f"pfair_{picture}_svg")(self._handle, first, behind, size, text.ctypes.data, len(text))
-            check(answer, f"slots {first} to {behind - 1}" if answer != 104 else f"slot {behind - 1}")
-        return text[: size.value].tobytes().decode()
 
     def table(self, slot: int) -> list[tuple[str, int]]:
         """The table of a slot: task and subtask of each row."""

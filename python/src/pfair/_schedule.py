@@ -14,8 +14,6 @@ from ._errors import Stalled
 from ._trace import Decided, Lag, Quantum, Source, quanta_of, words_of, write_trace
 
 
-# as many slots of a picture have windows that can be told apart
-_SHOWN = 480
 # as many lags are looked at at once
 _LAGS_AT_ONCE = 1 << 21
 
@@ -96,14 +94,6 @@ class Schedule:
         """Writes a trace for a viewer: "json", the Trace Event Format of Perfetto and chrome://tracing, or "vcd", a value change dump for
         GTKWave. In it a slot takes `slot` milliseconds."""
         write_trace(_Source(self), format, slot, out)
-
-    def svg(self, start: int = 0, stop: Optional[int] = None, picture: str = "schedule") -> str:
-        """The picture of slots `start` to `stop - 1` (of all, at most 4,096), an SVG document: of the "schedule" or of the "lags"."""
-        return self._dispatcher.svg(start, stop, picture)
-
-    def _repr_svg_(self) -> str:
-        """The picture that a notebook shows: of the first slots, as many as it can make out."""
-        return self.svg(0, min(self.script.slots, _SHOWN))
 
     def to_pandas(self) -> Any:
         """The quanta and the decisions as two DataFrames, with the tasks as categories. Wants pandas."""
