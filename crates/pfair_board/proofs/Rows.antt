@@ -1,24 +1,18 @@
 -- Facts of the works of a run, row by row.
-use Rattle.std.proofs.Common.{◌≡◌, ◌<◌, ◌∙◌, ℕ, List, [], ◌∷◌, length, slice_get, slice_index_or, Some, Ok, Err, IsOk, IfOk, subst, ap, sym, arith}
+use Rattle.std.proofs.Common.{◌≡◌, ◌<◌, ℕ, List, [], ◌∷◌, length, slice_get, slice_index_or, Some, Ok, Err, IsOk, IfOk, subst, ap, sym, arith}
 use Rattle.std.proofs.lemmas.Bool.{true≢false}
-use Rattle.pfair_replica.specs.HeldRows.{replica_of}
-use Rattle.pfair_table.specs.Table.{Settings, Table, plan}
+use Rattle.pfair_table.specs.Table.{Table, plan}
 use Rattle.pfair_table.specs.Script.{LoggedRun, replica_of_logs}
 use Rattle.pfair_board.specs.declared.worked.Worked.{Worked}
 use Rattle.pfair_board.specs.declared.fault.RunFault.{RunFault}
 use Rattle.pfair_desk.specs.Boards.{BoardFrame}
-use Rattle.pfair_desk.specs.Desks.{IsDeskOf}
 use Rattle.pfair_board.specs.Works.{IsWorkOf}
 use Rattle.pfair_board.specs.Finish.{IsGood}
 
 -- the same work of a row that is known by other names
-pub work_moves : {K : Type 0} (has : K → ℕ → List Table → Type 0) (m : _) (b b' : BoardFrame) (s s' : Settings) (k k' : ℕ) (w : Worked K) → b ≡ b' → s ≡ s' → k ≡ k' → IsWorkOf has m b s k w → IsWorkOf has m b' s' k' w
-work_moves has m b b' s s' k k' w eb es ek h = record {
-  desk = subst (IsDeskOf w.desk) eb h.desk;
-  processor = h.processor ∙ ek;
-  gate = h.gate;
-  plan = subst (λ j. IfOk w.kept (λ kept. has kept j (plan s' (replica_of w.desk.replica)))) ek (subst (λ (t : Settings). IfOk w.kept (λ kept. has kept k (plan t (replica_of w.desk.replica)))) es h.plan);
-}
+pub work_moves : {K : Type 0} (has : K → ℕ → List Table → Type 0) (m : _) (b b' : BoardFrame) (r r' : LoggedRun) (k k' : ℕ) (w : Worked K) → b ≡ b' → r ≡ r' → k ≡ k' → IsWorkOf has m b r k w → IsWorkOf has m b' r' k' w
+work_moves has m b b' r r' k k' w eb er ek h =
+    subst (λ j. IsWorkOf has m b' r' j w) ek (subst (λ x. IsWorkOf has m b' x k w) er (subst (λ x. IsWorkOf has m x r k w) eb h))
 
 -- nothing stands in an empty list
 pub none_in_empty : {A : Type 0} (xs : List A) (k : ℕ) (x : A) → xs ≡ [] → slice_get xs k ≡ Some x → ⊥

@@ -4,4 +4,5 @@ pub mod Laws
 pub mod Logs
 pub mod RunFaults
 pub mod Sinks
+pub mod WorkerFaults
 pub mod Works

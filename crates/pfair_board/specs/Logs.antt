@@ -1,11 +1,16 @@
 -- What a desk holds of a log.
-use Rattle.std.specs.Prelude.{◌≡◌, ◌≢◌, ℕ, ◌+◌, List, Some, false, slice_get}
+use Rattle.std.specs.Prelude.{◌≡◌, ◌≢◌, ℕ, ◌+◌, List, [], Some, false, slice_get, slice_index_or}
 use Rattle.pfair_lattice.specs.declared.flat.Flat.TheVariants.{One}
 use Rattle.pfair_entry.specs.Entry.{Logged}
 use Rattle.pfair_replica.specs.HeldRows.{held, replica_of, SameShape}
 use Rattle.pfair_replica.specs.Replica.{Below}
 use Rattle.pfair_table.specs.Refinement.{Dispatch}
+use Rattle.pfair_table.specs.Script.{LoggedRun}
 use Rattle.pfair_desk.specs.Desks.{DeskView}
+
+-- the log of a processor
+abbrev pub log_of : LoggedRun → (k : ℕ) → List Logged
+log_of r k = slice_index_or r.logs k []
 
 -- it holds the log in its own row, from that number on
 abbrev pub HoldsLog : DeskView → (first : ℕ) → List Logged → Type 0

@@ -1,5 +1,5 @@
 //! Dispatchers in threads of their own.
-ghost use Rattle.std.specs.Prelude.{◌≡◌, ◌≤◌, ◌↔◌, ℕ, [], List, IfOk, IfErr, OnOk, IsTrue, Some, slice_get, vec_len};
+ghost use Rattle.std.specs.Prelude.{◌≡◌, ◌≤◌, ◌↔◌, ℕ, [], List, IfOk, IfErr, OnOk, IsTrue, false, Some, slice_get, vec_len};
 ghost use Rattle.pfair_replica.specs.HeldRows.{replica_of};
 ghost use Rattle.pfair_replica.specs.Replica.{frontier};
 ghost use Rattle.pfair_table.specs.Script.{capacity_of, replica_of_logs};
@@ -7,7 +7,7 @@ ghost use Rattle.pfair_desk.specs.Boards.{BoardFrame};
 ghost use Rattle.pfair_desk.specs.Desks.{IsDeskOf};
 ghost use Rattle.pfair_board.specs.Works.{IsWorkOf, AreWorks, AreWorkplaces};
 ghost use Rattle.pfair_board.specs.Finish.{IsFinished, IsGood, HasPlan};
-ghost use Rattle.pfair_board.specs.FirstFault.{SomeEndsIn, Holds, AllHold, IsFirstFault};
+ghost use Rattle.pfair_board.specs.FirstFault.{SomeEndsIn, SomeStrays, Holds, AllHold, IsFirstFault};
 ghost use Rattle.pfair_board.specs.RunFaults.{IsRunFaultOf};
 ghost use Rattle.pfair_board.specs.Sinks.{has_built, first_has};
 ghost use Rattle.pfair_board.specs.declared.sink.OfFirst.{OfFirst};
@@ -24,7 +24,7 @@ use pfair_desk::{Board, Desk};
 use pfair_ready::Ready;
 use pfair_replica::Replica;
 use pfair_replica::laws::least_join;
-use pfair_table::{Run, RunBuilder, Script, Settings, take_script};
+use pfair_table::{Run, RunBuilder, Script, take_script};
 use std::alloc::{AllocError, Global};
 use std::marker::PhantomData;
 use std::snapshot::Snapshot;
@@ -56,10 +56,12 @@ pub struct Finished {
 /// holds each entry once, in its desk.
 ///
 /// # Errors
-/// The first of these that applies: `Memory` where memory was wanted and refused, or a thread
-/// couldn't be started. `GateGaveUp`, only where the gate's type may give up. `Astray`, of a
-/// worker, or where a worker's replica isn't the script's. `Stalled` only where the script's
-/// frontier, which is that slot, is below the number of slots.
+/// The first of these that applies to the run's workers:
+/// - `Memory` if an allocation fails, or a thread can't be started.
+/// - `GateGaveUp` if the gate gives up, as only some types of gates may.
+/// - `Astray` if a worker's row has another entry at a number of its log, or a worker's replica
+///   isn't the script's.
+/// - `Stalled` if the script's frontier, which is that slot, is below the number of slots.
 pub fn run_dispatchers<R: Ready + Send, G: Gate + Sync>(
     rt: &(impl Threads + Wait + Sync),
     alloc: Global,
@@ -171,18 +173,18 @@ fn fault_of<R: Ready, K>(
     Ok(first_fault(works, &whole, script.settings().slots()))
 }
 
-// Whose thread it is: the row's processor, on this board, under these settings.
+// Whose thread it is: the row's processor, on this board, in a run of this script.
 #[derive(Drop)]
 struct RowOf<G, K> {
     board: Snapshot<Board>,
     of: PhantomData<G>,
     to: PhantomData<K>,
-    settings: Settings,
+    script: Snapshot<Script>,
     processor: u8,
 }
 
 impl<G: Gate, K: Sink> Promise<Worked<K>> for RowOf<G, K> {
-    ghost kept_by = { λ p r. IsWorkOf K.has G.may_give_up p.board.value p.settings p.processor r };
+    ghost kept_by = { λ p r. IsWorkOf K.has G.may_give_up p.board.value p.script.value p.processor r };
 }
 
 // What a worker's thread does.
@@ -199,7 +201,7 @@ fn work<P: Wait, R: Ready, G: Gate, K: Sink>(
     requires empty { K.has workplace.sink workplace.desk.processor [] }
     requires processors { board.now.processors ≡ script.now.settings.processors }
     requires capacity { board.now.capacity ≡ capacity_of script.now.logs }
-    ensures { IsWorkOf K.has G.may_give_up board.now script.now.settings workplace.desk.processor result }
+    ensures { IsWorkOf K.has G.may_give_up board.now script.now workplace.desk.processor result }
 {
     let Workplace {
         mut desk,
@@ -228,16 +230,15 @@ fn run_all<P: Threads + Wait + Sync, R: Ready + Send, G: Gate + Sync, K: Sink + 
     requires capacity { board.now.capacity ≡ capacity_of script.now.logs }
     requires count { vec_len sinks ≡ board.now.processors }
     requires empty { (k : ℕ) (sink : K) → slice_get sinks.items k ≡ Some sink → K.has sink k [] }
-    ensures { IfOk result (λ works. AreWorks K.has G.may_give_up board.now script.now.settings works.items) }
+    ensures { IfOk result (λ works. AreWorks K.has G.may_give_up board.now script.now works.items) }
 {
-    let settings = script.settings();
     let workplaces = Workplace::<R, K>::all(alloc, board, sinks)?;
     thread::scope(
         thread::scope_env(),
         rt,
         move |scope| -> Result<Vec<Worked<K>>, AllocError>
-            requires { (settings ≡ script.now.settings) × (board.now.processors ≡ script.now.settings.processors) × (board.now.capacity ≡ capacity_of script.now.logs) × AreWorkplaces K.has board.now workplaces.items }
-            ensures { IfOk result (λ works. AreWorks K.has G.may_give_up board.entry.now settings works.items) }
+            requires { (board.now.processors ≡ script.now.settings.processors) × (board.now.capacity ≡ capacity_of script.now.logs) × AreWorkplaces K.has board.now workplaces.items }
+            ensures { IfOk result (λ works. AreWorks K.has G.may_give_up board.entry.now script.entry.now works.items) }
         {
             let mut threads = Vec::new(alloc);
             for workplace in workplaces {
@@ -245,14 +246,14 @@ fn run_all<P: Threads + Wait + Sync, R: Ready + Send, G: Gate + Sync, K: Sink + 
                     board: Snapshot::of(board),
                     of: PhantomData,
                     to: PhantomData,
-                    settings,
+                    script: Snapshot::of(script),
                     processor: workplace.desk.proc(),
                 };
                 let started = scope.spawn_with(
                     row,
                     move || -> Worked<K>
                         requires { IsDeskOf workplace.desk board.now × (workplace.desk.next_number ≡ 1) × K.has workplace.sink workplace.desk.processor [] × (board.now.processors ≡ script.now.settings.processors) × (board.now.capacity ≡ capacity_of script.now.logs) }
-                        ensures { IsWorkOf K.has G.may_give_up board.entry.now script.entry.now.settings workplace.desk.processor result }
+                        ensures { IsWorkOf K.has G.may_give_up board.entry.now script.entry.now workplace.desk.processor result }
                     { work(rt, alloc, script, board, workplace, gate) },
                 )?;
                 threads.push(started)?;
@@ -298,7 +299,8 @@ fn some_ends_in<K>(works: &[Worked<K>], fault: RunFault) -> bool
 
 // Whether each worker came to its end and holds what this replica holds.
 fn all_hold<K>(works: &[Worked<K>], replica: &Replica) -> bool
-    ensures { IsTrue result ↔ AllHold works.now (replica_of replica.now) }
+    ensures all { IsTrue result → AllHold works.now (replica_of replica.now) }
+    ensures some { result ≡ false → SomeStrays works.now (replica_of replica.now) }
 {
     for work in works {
         if !holds(work, replica) {

@@ -7,7 +7,7 @@ ghost use Rattle.pfair_table.specs.Places.{places_of};
 ghost use Rattle.pfair_table.specs.Planned.{as_tables, as_places};
 ghost use Rattle.pfair_desk.specs.Desks.{IsDeskOf, GrownDesk};
 ghost use Rattle.pfair_board.specs.Logs.{HoldsLog, IsBehind};
-ghost use Rattle.pfair_board.specs.RunFaults.{IsWorkerFault, IsPlanningFault};
+ghost use Rattle.pfair_board.specs.WorkerFaults.{IsWorkerFault, IsPlanningFault};
 ghost use Rattle.pfair_board.specs.declared.fault.RunFault.TheVariants.{Memory};
 
 use crate::fault::RunFault;

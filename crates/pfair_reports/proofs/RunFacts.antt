@@ -63,7 +63,7 @@ places_made made built {places = places} tables_are placed are places_are run is
 -- a run that isn't finished is a fault of a replay
 pub fault_of_replay : {K : Type 0} (has : K → ℕ → List Table → Type 0) (may_give_up : Bool) (script : LoggedRun) (fault : RunFault) → IsRunFaultOf has may_give_up script fault → IsFaultOfReplay may_give_up (of_run fault)
 fault_of_replay has may_give_up script run.Memory is = (schedule.Memory, refl)
-fault_of_replay has may_give_up script run.GateGaveUp is = is
+fault_of_replay has may_give_up script run.GateGaveUp is = is.0
 fault_of_replay has may_give_up script run.Astray is = tt
 fault_of_replay has may_give_up script (run.Stalled slot) is = (schedule.Stalled slot, refl)
 

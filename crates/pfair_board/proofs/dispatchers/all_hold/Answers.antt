@@ -6,10 +6,10 @@ use Rattle.pfair_board.specs.declared.worked.Worked.{Worked}
 use Rattle.pfair_board.specs.FirstFault.{Holds}
 use Rattle.pfair_board.proofs.dispatchers.all_hold.Goals as goal
 
-pub returns-then-not-holds : goal.returns-then-not-holds
-returns-then-not-holds g c =
-    let at = slice_get_read c.args.works.now (length c.args.works.now) c.loop-work.work-index c.work-item.result refl c.loop-work-test.true c.work-item.is in
-    (λ yes. absurd (true≢false (sym yes)), λ all. sym c.if-not-holds.true ∙ c.holds.ensures.1 (all c.loop-work.work-index c.work-item.result at))
+pub returns-then-not-holds-clause-some : goal.returns-then-not-holds-clause-some
+returns-then-not-holds-clause-some g c = λ no.
+    (let at = slice_get_read c.args.works.now (length c.args.works.now) c.loop-work.work-index c.work-item.result refl c.loop-work-test.true c.work-item.is in
+    (c.loop-work.work-index, c.work-item.result, at, λ holds. true≢false (sym (c.holds.ensures.1 holds) ∙ c.if-not-holds.true)))
 
 pub loop-work-preserved : goal.loop-work-preserved
 loop-work-preserved g c = λ k w below at. ⊎_elim (λ before. c.loop-work.invariant k w before at)
@@ -19,10 +19,7 @@ loop-work-preserved g c = λ k w below at. ⊎_elim (λ before. c.loop-work.inva
     subst (λ (v : Worked g.row.K.Denot). Holds v (replica_of c.args.replica.now)) item (c.holds.ensures.0 c.if-not-holds.false))
     (cases_lt k c.loop-work.work-index)
 
-pub returns : goal.returns
-returns g c = (
-  λ yes k w at.
-      (let within = slice_get_within c.args.works.now k w at in
-      c.loop-work.invariant k w (omega (arith, within, c.loop-work-test.false, c.loop-work.auto.work-index-end)) at),
-  λ all. refl,
-)
+pub returns-clause-all : goal.returns-clause-all
+returns-clause-all g c = λ yes k w at.
+    (let within = slice_get_within c.args.works.now k w at in
+    c.loop-work.invariant k w (omega (arith, within, c.loop-work-test.false, c.loop-work.auto.work-index-end)) at)

@@ -18,6 +18,10 @@ spawn_with-requires-clause-runs g c κs within =
     let empty = subst (λ j. g.K.Sink.has c.in-Some.workplace.sink j []) (sym first.processor) first.empty in
     (first.desk, first.first, empty, search rules, search rules)
 
+-- the work of the workplace's row is that of the row that is promised
+pub spawn_with-requires-clause-keeps : goal.spawn_with-requires-clause-keeps
+spawn_with-requires-clause-keeps g c κs within = λ r is. work_moves _ _ _ _ _ _ _ _ r (sym c.of.ensures) (sym c.of-in-loop-workplace.ensures) (sym c.proc.ensures.value) is
+
 pub loop-workplace-init : goal.loop-workplace-init
 loop-workplace-init g c = record {
   count = grind (arith, common_steps);
@@ -25,7 +29,7 @@ loop-workplace-init g c = record {
       (let all : into_iter_items c.into_iter-workplace-iterator.result ≡ c.captures.workplaces.items = c.into_iter-workplace-iterator.ensures.into_iter_gives.0 in
       let there : slice_get c.captures.workplaces.items k ≡ Some w = subst (λ xs. slice_get xs k ≡ Some w) all at in
       let place : k ≡ vec_len c.new-threads.result + k = omega (arith, c.new-threads.ensures.len) in
-      subst (λ j. IsWorkplaceOf g.K.Sink.has c.captures.board.now j w) place (c.requires.3.each k w there));
+      subst (λ j. IsWorkplaceOf g.K.Sink.has c.captures.board.now j w) place (c.requires.2.each k w there));
   promised = λ k h at. absurd (none_in_empty c.new-threads.result.items k h c.new-threads.ensures.items at);
 }
 
@@ -43,18 +47,20 @@ loop-workplace-preserved g c =
           let place : started + (k + 1) ≡ vec_len c.push.new.self + k = omega (arith, more) in
           record { desk = is.desk; processor = (let row = is.processor in omega arith); first = is.first; empty = subst (λ j. g.K.Sink.has w.sink j []) place is.empty });
       promised = λ k h at.
-          (let P = (λ (j : ℕ) (x : PromisedHandle (Worked g.row.K.Denot) (RowOf g.row.G.Denot g.row.K.Denot)). (x.promise.board.value ≡ c.captures.board.now) × (x.promise.processor ≡ j) × (x.promise.settings ≡ c.captures.settings)) in
+          (let P = (λ (j : ℕ) (x : PromisedHandle (Worked g.row.K.Denot) (RowOf g.row.G.Denot g.row.K.Denot)). (x.promise.board.value ≡ c.captures.board.now) × (x.promise.processor ≡ j) × (x.promise.script.value ≡ c.captures.script.now)) in
           let count : length c.loop-workplace.threads.items ≡ started = search rules in
           let first : slice_get (into_iter_items c.loop-workplace.workplace-iterator) 0 ≡ Some c.in-Some.workplace = grind (arith, common_steps) in
           let row = c.in_ok-started.ensures.ok in
           let processor : c.in_ok-started.started.promise.processor ≡ length c.loop-workplace.threads.items = omega (arith, ap (λ r. r.processor) row, c.proc.ensures.value, (was.left 0 c.in-Some.workplace first).processor) in
-          let new : P (length c.loop-workplace.threads.items) c.in_ok-started.started = (ap (λ r. r.board.value) row ∙ c.of.ensures, processor, ap (λ r. r.settings) row) in
+          let new : P (length c.loop-workplace.threads.items) c.in_ok-started.started = (ap (λ r. r.board.value) row ∙ c.of.ensures, processor, ap (λ r. r.script.value) row ∙ c.of-in-loop-workplace.ensures) in
           let at' : slice_get (c.loop-workplace.threads.items ++ c.in_ok-started.started ∷ []) k ≡ Some h = rw (← c.in_ok-push.ensures.items) at in
           each_snoc P c.loop-workplace.threads.items c.in_ok-started.started was.promised new k h at');
     }
 
 pub returns : goal.returns
 returns g c = record {
+  processors = c.requires.0;
+  capacity = c.requires.1;
   count = search rules;
   each = λ k w at.
       let hs = c.loop-workplace.threads.items in
@@ -65,5 +71,5 @@ returns g c = record {
       let here : slice_get hs k ≡ Some kept.handle = slice_get_read hs (length hs) k kept.handle refl (omega arith) kept.handle_is in
       let is = c.loop-workplace.invariant.promised k kept.handle here in
       let w_is = get_or_from_slice_get ws k w w at in
-      work_moves _ _ _ _ _ _ _ _ w is.0 is.2 is.1 (subst (λ x. IsWorkOf g.K.Sink.has g.G.Gate.may_give_up kept.handle.promise.board.value kept.handle.promise.settings kept.handle.promise.processor x) w_is kept.kept);
+      work_moves _ _ _ _ _ _ _ _ w is.0 is.2 is.1 (subst (λ x. IsWorkOf g.K.Sink.has g.G.Gate.may_give_up kept.handle.promise.board.value kept.handle.promise.script.value kept.handle.promise.processor x) w_is kept.kept);
 }

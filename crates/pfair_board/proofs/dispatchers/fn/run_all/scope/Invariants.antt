@@ -10,5 +10,5 @@ invariant-loop-workplace g l =
     record {
       count : started + into_iter_len rest ≡ l.board.processors;
       left : (k : ℕ) (w : _) → slice_get (into_iter_items rest) k ≡ Some w → IsWorkplaceOf g.K.Sink.has l.board (started + k) w;
-      promised : (k : ℕ) (h : _) → slice_get l.threads.items k ≡ Some h → (h.promise.board.value ≡ l.board) × (h.promise.processor ≡ k) × (h.promise.settings ≡ l.settings);
+      promised : (k : ℕ) (h : _) → slice_get l.threads.items k ≡ Some h → (h.promise.board.value ≡ l.board) × (h.promise.processor ≡ k) × (h.promise.script.value ≡ l.script);
     }
