@@ -16,11 +16,14 @@ mod lattice;
 mod ready;
 mod replica;
 mod table;
+mod threads;
 mod twins;
 
 use pfair_ready::{HeapReady, PlainReady};
 use std::alloc::{AllocError, Global};
 use std::process::ExitCode;
+use std::sync::Wait;
+use std::thread::Threads;
 
 // What a look answers: whether all was as promised, or want of memory for the looking.
 type Look = Result<bool, AllocError>;
@@ -36,6 +39,7 @@ fn main(rt: HostRuntime) -> ExitCode {
     let over_lists = over_lists(rt.alloc());
     let over_heaps = over_heaps(rt.alloc());
     let of_books_and_boards = of_books_and_boards(rt.alloc());
+    let of_threads = of_threads(&rt, rt.alloc());
     let groups = [
         of_maps.as_slice(),
         of_ready.as_slice(),
@@ -44,6 +48,7 @@ fn main(rt: HostRuntime) -> ExitCode {
         over_lists.as_slice(),
         over_heaps.as_slice(),
         of_books_and_boards.as_slice(),
+        of_threads.as_slice(),
     ];
     for looks in groups {
         let status = told(&rt, looks);
@@ -216,5 +221,19 @@ fn of_books_and_boards(alloc: Global) -> [Named; 7] {
         ("look of a desk", board::look(alloc)),
         ("refresh of a desk", board::refresh(alloc)),
         ("meet of two desks", board::meet(alloc)),
+    ]
+}
+
+fn of_threads<P: Threads + Wait + Sync>(rt: &P, alloc: Global) -> [Named; 3] {
+    [
+        ("run_worker without hints", threads::worker(rt, alloc)),
+        (
+            "run_dispatchers of two processors",
+            threads::kept(rt, alloc),
+        ),
+        (
+            "run_dispatchers_into of two processors",
+            threads::handed_on(rt, alloc),
+        ),
     ]
 }

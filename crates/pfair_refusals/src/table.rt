@@ -301,8 +301,8 @@ fn has_whole<R: Ready>(alloc: Global, dispatcher: &Dispatcher<R>) -> Look {
     Ok(is_planned(dispatcher, 6) && are_equal(dispatcher.replica(), &whole))
 }
 
-// The logs of the two processors.
-fn logs(alloc: Global) -> Result<Vec<Vec<Entry>>, AllocError> {
+/// The logs of the two processors.
+pub(crate) fn logs(alloc: Global) -> Result<Vec<Vec<Entry>>, AllocError> {
     let mut first = Vec::new(alloc);
     let mut second = Vec::new(alloc);
     for (processor, _, entry) in ten().ok_or(AllocError)? {
