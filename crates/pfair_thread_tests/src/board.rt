@@ -98,25 +98,6 @@ impl Gate for ShutTo {
     }
 }
 
-// Opens to each of three workers at slots 0, 1, 2 and so on, once for each.
-#[derive(Drop)]
-struct InTurn {
-    calls: [AtomicU64; 3],
-}
-
-impl Gate for InTurn {
-    ghost use Rattle.std.specs.Prelude.{true};
-
-    ghost may_give_up = { true };
-
-    fn come<P: Wait>(&self, _rt: &P, worker: u8, slot: u64) -> bool {
-        match self.calls.get(worker as usize) {
-            Some(calls) => calls.fetch_add(1, Ordering::SeqCst) == slot,
-            None => false,
-        }
-    }
-}
-
 // Counts the calls.
 #[derive(Drop)]
 struct Counting {
@@ -258,8 +239,8 @@ fn second_log(rt: &impl Abort) -> [Entry; 5] {
     ]
 }
 
-// The sample's script.
-fn sample(rt: &impl Abort, alloc: Global) -> Result<Script, AllocError> {
+/// The sample's script.
+pub(crate) fn sample(rt: &impl Abort, alloc: Global) -> Result<Script, AllocError> {
     let first = Vec::from_array(alloc, first_log(rt))?;
     let second = Vec::from_array(alloc, second_log(rt))?;
     let settings = Settings::new(2, 6, 6).expect(rt, "settings");
@@ -414,20 +395,6 @@ fn a_shut_gate_comes_before_a_stall(rt: HostRuntime) -> Result<(), Fail> {
     let script = of_one_log(&rt, rt.alloc(), 8, log)?;
     let run = run_dispatchers::<HeapReady, _>(&rt, rt.alloc(), &script, &ShutGate);
     assert!(&rt; matches!(run, Err(RunFault::GateGaveUp)));
-    Ok(())
-}
-
-#[test]
-fn workers_come_to_each_slot_in_turn(rt: HostRuntime) -> Result<(), Fail> {
-    let script = silent(&rt, rt.alloc(), 3, 8)?;
-    let gate = InTurn {
-        calls: [AtomicU64::new(0), AtomicU64::new(0), AtomicU64::new(0)],
-    };
-    let run = run_dispatchers::<HeapReady, _>(&rt, rt.alloc(), &script, &gate);
-    assert!(&rt; run.is_ok());
-    for calls in &gate.calls {
-        assert!(&rt; calls.load(Ordering::SeqCst) == 8);
-    }
     Ok(())
 }
 
@@ -601,8 +568,8 @@ fn hints_are_planned_before_the_last_refresh(rt: HostRuntime) -> Result<(), Fail
     plans_what_hints_tell(&rt, rt.alloc(), &board, &gate)
 }
 
-// A script of processors that say nothing.
-fn silent(
+/// A script of processors that announce nothing.
+pub(crate) fn silent(
     rt: &impl Abort,
     alloc: Global,
     processors: u8,

@@ -70,6 +70,42 @@ fn a_fresh_desk_finds_what_was_published(rt: HostRuntime) -> Result<(), Fail> {
     refresh_finds_one(&rt, &board, &mut row(&board, 1)?)
 }
 
+// Publishes the same entry until the row is full. Answers whether each publish went well.
+fn fills_its_row(board: &Board, writer: &mut Desk, entry: Entry) -> bool
+    requires { IsDeskOf writer.old board.now }
+    ensures { IsDeskOf writer.new board.now }
+{
+    for _ in 0..board.capacity() {
+        if writer.publish(board, entry).is_err() {
+            return false;
+        }
+    }
+    true
+}
+
+// The last cell of a row is found by a look, and each cell before it by a refresh.
+fn finds_the_row(
+    rt: &impl Abort,
+    board: &Board,
+    reader: &mut Desk,
+    proc: u8,
+    entry: Entry,
+) -> Result<(), Fail>
+    requires { IsDeskOf reader.old board.now }
+{
+    assert!(rt; reader.look(board, proc, 4096) == Ok(Some(entry)));
+    assert!(rt; reader.refresh(board)? == 4095);
+    Ok(())
+}
+
+#[test]
+fn the_last_row_of_the_largest_board(rt: HostRuntime) -> Result<(), Fail> {
+    let board = Board::new(rt.alloc(), 64, 4096)?;
+    let entry = floor(&rt, 3);
+    assert!(&rt; fills_its_row(&board, &mut row(&board, 63)?, entry));
+    finds_the_row(&rt, &board, &mut row(&board, 9)?, 63, entry)
+}
+
 #[test]
 fn two_pens_of_one_row(rt: HostRuntime) -> Result<(), Fail> {
     let board = Board::new(rt.alloc(), 1, 2)?;

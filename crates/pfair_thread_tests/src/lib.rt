@@ -8,4 +8,6 @@ mod board;
 #[cfg(test)]
 mod desk;
 #[cfg(test)]
+mod gates;
+#[cfg(test)]
 mod notes;
