@@ -40,6 +40,21 @@ const TWO_THIRDS: &str = "version = 1\nprocessors = 2\nframe = 3\nslots = 3\n
 const TWO_THIRDS_PLACED: &str =
     "slot,processor,task,index,place\n0,0,a,1,0\n0,1,b,1,1\n1,0,c,1,1\n1,1,a,2,0\n2,0,b,2,0\n2,1,c,2,1\n";
 
+// Five arrivals at slot 0, of which the first and the fourth are admitted.
+const FIVE_ARRIVALS: &str = "version = 1\nprocessors = 1\nframe = 4\nslots = 4\n
+[[entry]]\nprocessor = 0\nfloor = 0\nkind = \"arrive\"\nat = 0\nname = \"a\"\ncost = 1\nperiod = 2\n
+[[entry]]\nprocessor = 0\nfloor = 0\nkind = \"arrive\"\nat = 0\nname = \"a\"\ncost = 1\nperiod = 4\n
+[[entry]]\nprocessor = 0\nfloor = 0\nkind = \"arrive\"\nat = 0\nname = \"d\"\ncost = 1\nperiod = 3\n
+[[entry]]\nprocessor = 0\nfloor = 0\nkind = \"arrive\"\nat = 0\nname = \"b\"\ncost = 1\nperiod = 4\n
+[[entry]]\nprocessor = 0\nfloor = 0\nkind = \"arrive\"\nat = 0\nname = \"c\"\ncost = 1\nperiod = 2\n";
+
+// A task that departs at slot 1, and one whose weight needs all of the processor, at slots 2 and 3.
+const LEAVER: &str = "version = 1\nprocessors = 1\nframe = 2\nslots = 4\n
+[[entry]]\nprocessor = 0\nfloor = 0\nkind = \"arrive\"\nat = 0\nname = \"a\"\ncost = 1\nperiod = 2\n
+[[entry]]\nprocessor = 0\nfloor = 1\nkind = \"depart\"\nat = 1\nname = \"a\"\n
+[[entry]]\nprocessor = 0\nfloor = 2\nkind = \"arrive\"\nat = 2\nname = \"b\"\ncost = 1\nperiod = 1\n
+[[entry]]\nprocessor = 0\nfloor = 3\nkind = \"arrive\"\nat = 3\nname = \"b\"\ncost = 1\nperiod = 1\n";
+
 pub(crate) const DECISIONS: &str =
     "slot,processor,number,task,outcome,value\n0,0,1,a,admitted,-\n0,0,2,b,admitted,-\n0,1,1,c,admitted,-\n2,0,3,a,departing,3\n3,1,2,d,admitted,-\n4,1,3,b,delayed,-\n";
 
@@ -153,6 +168,28 @@ fn no_task_on_64_processors(rt: HostRuntime) {
         rt.alloc(),
         &mut reader,
         "slot,processor,task,index,place\n",
+    );
+    let mut again = whole("version = 1\nprocessors = 64\nframe = 1\nslots = 2\n");
+    assert_rows(&rt, rt.alloc(), &mut again, "slot,processor,task,index\n");
+}
+
+#[test]
+fn refused_arrivals_have_no_rows(rt: HostRuntime) {
+    assert_rows(
+        &rt,
+        rt.alloc(),
+        &mut whole(FIVE_ARRIVALS),
+        "slot,processor,task,index\n0,0,a,1\n1,0,b,1\n2,0,a,2\n",
+    );
+}
+
+#[test]
+fn a_leaver_holds_its_weight_until_it_is_freed(rt: HostRuntime) {
+    assert_decisions(
+        &rt,
+        rt.alloc(),
+        &mut whole(LEAVER),
+        "slot,processor,number,task,outcome,value\n0,0,1,a,admitted,-\n1,0,2,a,departing,3\n2,0,3,b,refused,22\n3,0,4,b,admitted,-\n",
     );
 }
 

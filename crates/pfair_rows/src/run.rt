@@ -4,6 +4,7 @@ ghost use Rattle.std.specs.Prelude.{◌≡◌, IfOk};
 
 use crate::notation::{number, push, push_all, word};
 use crate::shown::{push_answer, push_decisions, push_places, push_tables};
+use pfair_in_time::never_misses;
 use pfair_ready::{HeapReady, PlainReady, Ready};
 use pfair_replica::Replica;
 use pfair_table::{Dispatcher, Event, Settings, run_events};
@@ -143,15 +144,21 @@ fn assert_stepped<R: Ready>(
     assert_steps(rt, &mut dispatcher, &mut String::new(alloc), events, run)
 }
 
-// Asserts what `run_events` leaves.
-fn assert_run<R: Ready>(
+// Asserts what `run_events` leaves, over two ready structures. The laws of dispatchers in hand hold
+// of both.
+fn assert_run<R: Ready, Q: Ready>(
     rt: &impl Abort,
     alloc: Global,
     events: &[Event],
     run: Run<'_>,
 ) -> Result<(), AllocError> {
-    let left: Dispatcher<R> = left_by(alloc, settings_of(rt, run.machine), events)?;
-    assert_left(rt, &left, &mut String::new(alloc), run)
+    let settings = settings_of(rt, run.machine);
+    let one: Dispatcher<R> = left_by(alloc, settings, events)?;
+    let other: Dispatcher<Q> = left_by(alloc, settings, events)?;
+    one.plans_alike(&other);
+    never_misses(&one);
+    assert_left(rt, &one, &mut String::new(alloc), run)?;
+    assert_left(rt, &other, &mut String::new(alloc), run)
 }
 
 /// Asserts what is wanted of runs, over plain lists and over heaps.
@@ -165,8 +172,7 @@ pub(crate) fn assert_runs(
         push_run(rt, alloc, &mut events, *run)?;
         assert_stepped::<PlainReady>(rt, alloc, &events, *run)?;
         assert_stepped::<HeapReady>(rt, alloc, &events, *run)?;
-        assert_run::<PlainReady>(rt, alloc, &events, *run)?;
-        assert_run::<HeapReady>(rt, alloc, &events, *run)?;
+        assert_run::<PlainReady, HeapReady>(rt, alloc, &events, *run)?;
     }
     Ok(())
 }

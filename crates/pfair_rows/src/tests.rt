@@ -193,7 +193,7 @@ fn second_contents(rt: HostRuntime) -> Result<(), AllocError> {
             Run {
                 machine: (1, 1, 9),
                 others: &[],
-                events: "0 1 3; plan 3; 0 2 4; 0 2 5; plan 1; 0 2 4; plan 1",
+                events: "0 1 3; plan 3; 0 2 5; 0 2 6; plan 1; 0 2 5; plan 1",
                 answers: "new, slot 0, slot 1, slot 2, new, torn, fault 30 at 0.2, torn, fault 30 at 0.2",
                 tables: "[][][]",
                 decisions: "[][][]",
