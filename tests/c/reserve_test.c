@@ -64,6 +64,66 @@ static void refused_ahead(uint64_t slots, uint64_t late_at, const uint64_t *rows
     CHECK(refusals > 20, "%ld refusals alone", refusals);
 }
 
+/* Plans some slots from `first` on while all memory is refused. */
+static void plan_without(struct pfair_dispatcher *d, uint64_t first, uint64_t slots) {
+    refuse_all();
+    for (uint64_t slot = first; slot < first + slots; slot++) {
+        plan_one(d, slot);
+        CHECK(calls == 0, "slot %" PRIu64 " asked for memory", slot);
+    }
+    ample();
+}
+
+/* Before the first slot: as nothing is announced, slot 0 needs no memory either. */
+static void reserved_first(void) {
+    enum { SLOTS = 3000 };
+    struct pfair_dispatcher d = PFAIR_NONE;
+    uint64_t taken;
+    ANSWERS(0, pfair_open(&d, 1, 6, SLOTS, 5));
+    ANSWERS(0, take(&d, 0, 1, nothing(SLOTS), &taken));
+    ANSWERS(0, pfair_reserve(&d, SLOTS));
+    plan_without(&d, 0, SLOTS);
+    ANSWERS(0, pfair_close(&d));
+}
+
+/* After `forget` gave the memory of planned slots back. */
+static void reserved_after_forgetting(void) {
+    enum { SLOTS = 5000 };
+    struct pfair_dispatcher d = PFAIR_NONE;
+    filled(&d, 2 * SLOTS, 2 * SLOTS);
+    for (uint64_t slot = 0; slot < SLOTS; slot++) plan_one(&d, slot);
+    ANSWERS(0, pfair_forget(&d, SLOTS));
+    ANSWERS(0, pfair_reserve(&d, SLOTS));
+    plan_without(&d, SLOTS, SLOTS);
+    ANSWERS(0, pfair_close(&d));
+}
+
+/* Slot 0 has one row, and slot 50 is the first in which all processors have one: the room for a slot's rows was taken ahead. */
+static void reserved_for_all_rows(void) {
+    enum { SLOTS = 200 };
+    struct pfair_dispatcher d = PFAIR_NONE;
+    struct pfair_pick picks[PROCESSORS];
+    uint64_t taken, count;
+    uint32_t number = 0;
+    char name[20];
+    ANSWERS(0, pfair_open(&d, PROCESSORS, FRAME, SLOTS, 20));
+    for (int k = 0; k < PROCESSORS; k++) {
+        snprintf(name, sizeof name, "t%d", k);
+        ANSWERS(0, take(&d, 0, ++number, arrive(name, 1, 1, 0), &taken));
+        if (k > 0) ANSWERS(0, take(&d, 0, ++number, late(name, 1, 50, 0), &taken));
+    }
+    ANSWERS(0, take(&d, 0, ++number, nothing(SLOTS), &taken));
+    for (int p = 1; p < PROCESSORS; p++) ANSWERS(0, take(&d, p, 1, nothing(SLOTS), &taken));
+    plan_one(&d, 0);
+    ANSWERS(0, pfair_reserve(&d, SLOTS));
+    plan_without(&d, 1, SLOTS - 1);
+    ANSWERS(0, pfair_table(&d, 49, &count, picks, PROCESSORS));
+    CHECK(count == 1, "%" PRIu64 " rows at 49", count);
+    ANSWERS(0, pfair_table(&d, 50, &count, picks, PROCESSORS));
+    CHECK(count == PROCESSORS, "%" PRIu64 " rows at 50", count);
+    ANSWERS(0, pfair_close(&d));
+}
+
 /* It takes no more than the slots that are left want, and says nothing of a dispatcher that is torn or spent. */
 static void of_any_dispatcher(void) {
     struct pfair_dispatcher d = PFAIR_NONE;
@@ -151,7 +211,7 @@ static void with_many_joins(int tasks) {
 
 int main(int count, char **words) {
     int quick = count > 1 && !strcmp(words[1], "quick");
-    uint64_t slots = quick ? 3000 : 100000, late_at = slots / 2;
+    uint64_t slots = quick ? 3000 : 150000, late_at = slots / 2;
     long at_first = blocks;
     uint64_t *rows = without(slots, late_at);
     with_memory(slots, late_at, slots, rows);
@@ -161,6 +221,9 @@ int main(int count, char **words) {
     refused_ahead(40, 20, rows);
     __real_free(rows);
     of_any_dispatcher();
+    reserved_first();
+    reserved_after_forgetting();
+    reserved_for_all_rows();
     with_many_tasks();
     with_many_joins(quick ? 4000 : 40000);
     CHECK(blocks == at_first, "%ld blocks not freed", blocks - at_first);

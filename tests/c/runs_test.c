@@ -494,6 +494,37 @@ static void limits(uint64_t slots) {
     printf("the largest block that was asked for: %zu bytes\n", largest);
 }
 
+/* The lags of so many slots in one call: `ROWED` rows for each slot, of which the first and the last slots' are known. */
+static void many_lags(uint64_t slots) {
+    enum { ROWED = 11 };
+    struct pfair_dispatcher d = PFAIR_NONE;
+    struct pfair_step s;
+    struct pfair_lag last[ROWED], *rows = malloc((slots * ROWED + 1) * sizeof *rows);
+    uint64_t taken, count = 77;
+    char name[20];
+    ANSWERS(0, pfair_open(&d, 1, 12, slots, 20));
+    for (uint32_t k = 1; k <= ROWED; k++) {
+        snprintf(name, sizeof name, "t%d", (int)k);
+        ANSWERS(0, take(&d, 0, k, arrive(name, 1, 12, 0), &taken));
+    }
+    ANSWERS(0, take(&d, 0, ROWED + 1, nothing(1000000), &taken));
+    ANSWERS(0, pfair_plan_to(&d, slots, &s));
+    ANSWERS(103, pfair_lags(&d, 0, slots, &count, rows, slots * ROWED - 1));
+    CHECK(count == slots * ROWED, "%" PRIu64 " rows", count);
+    rows[slots * ROWED].time = 77;
+    ANSWERS(0, pfair_lags(&d, 0, slots, &count, rows, slots * ROWED));
+    CHECK(count == slots * ROWED && rows[count].time == 77, "%" PRIu64 " rows written", count);
+    ANSWERS(0, pfair_lags(&d, slots - 1, slots, &count, last, ROWED));
+    CHECK(!memcmp(last, rows + (slots - 1) * ROWED, sizeof last), "the last rows");
+    for (uint64_t k = 0; k < slots * ROWED; k++) {
+        /* each runs once in 12 slots, so its lag is at most 11 twelfths */
+        int right = rows[k].time == k / ROWED + 1 && rows[k].period == 12 && rows[k].numerator >= -11 && rows[k].numerator <= 11;
+        if (!right) CHECK(right, "row %" PRIu64, k);
+    }
+    free(rows);
+    ANSWERS(0, pfair_close(&d));
+}
+
 /* ---- threads: a handle each, with little stack; and one handle that goes from thread to thread */
 
 static void *in_thread(void *at) {
@@ -555,6 +586,7 @@ int main(int count, char **words) {
     for (int k = 20; k < 26; k++) CHECK(outcomes[k] > 0, "outcome %d not met", k);
     memory();
     limits(quick ? 20000 : 1000000);
+    many_lags(quick ? 2000 : 1000000);
     CHECK(blocks == at_first, "%ld blocks not freed", blocks - at_first);
     threads();
     handed_on();
