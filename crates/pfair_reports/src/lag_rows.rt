@@ -14,9 +14,11 @@ use std::io::{Read, Write};
 /// admission: the time t + 1, the task, and its lag at that time as a numerator over its period,
 /// counted from its joining slot.
 ///
-/// The whole run is made before the first byte goes out, and no memory is wanted after that; of each
-/// slot most numerators alone are held. No more than 67,108,864 bytes are taken from the reader, but where the file is too long or memory was
-/// wanting: one more may then be. It costs the reading of the file, a run of its script, and the rows.
+/// The whole run is made before the first byte goes out, and nothing is allocated after that. Of a
+/// slot at which no task joins or leaves, the table is kept, 24 bytes a quantum, and its rows are
+/// worked out as they are written; the rows of other slots are kept as text. At most 67,108,864
+/// bytes are read, and one more if the file is too long or an allocation fails. It costs the reading
+/// of the file, a run of its script, and the rows.
 ///
 /// # Errors
 /// [`ProgramFault::Schedule`] with the cause where the file has no schedule, as
