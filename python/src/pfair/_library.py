@@ -8,8 +8,7 @@ from typing import Any
 
 import numpy as np
 
-#: The version of this package, and of the library that it goes with.
-VERSION = "0.2.0"
+from ._version import VERSION as VERSION
 
 
 class Handle(c.Structure):

@@ -8,12 +8,16 @@ from typing import Any, Iterator, NamedTuple, Optional, TextIO, Union
 import numpy as np
 import numpy.typing as npt
 
+from . import picture as pictures
 from ._dispatcher import LONGEST_FILE, OUTCOMES, Dispatcher
-from ._entries import Entry, Rows, Script, promise
-from ._errors import Stalled
-from ._trace import Decided, Lag, Quantum, Source, quanta_of, words_of, write_trace
+from ._entries import Entry, Rows, Script, promise, whole
+from ._errors import Stalled, check
+from ._figure import MOST_SLOTS
+from ._trace import Decided, Lag, Quantum, Source, quanta_of, write_trace
 
 
+# as many slots of a picture have windows that can be told apart
+_SHOWN = 400
 # as many lags are looked at at once
 _LAGS_AT_ONCE = 1 << 21
 
@@ -66,10 +70,10 @@ class Schedule:
     def _behind(self) -> int:
         return sum(int((rows["numerator"] >= rows["period"].astype(np.int64)).sum()) for rows in self._lags_by_pieces())
 
-    def _lags_by_pieces(self) -> Iterator[Rows]:
+    def _lags_by_pieces(self, first: int = 0) -> Iterator[Rows]:
         admitted = int((self.decisions["outcome"] == 0).sum())
         step = max(1, _LAGS_AT_ONCE // max(1, admitted))
-        return (self.lags(start, min(start + step, self.script.slots)) for start in range(0, self.script.slots, step))
+        return (self.lags(start, min(start + step, self.script.slots)) for start in range(first, self.script.slots, step))
 
     def _entry(self, decision: Any) -> Any:
         return self.script.log(int(decision["processor"]))[int(decision["number"]) - 1]
@@ -95,6 +99,26 @@ class Schedule:
         GTKWave. In it a slot takes `slot` milliseconds."""
         write_trace(_Source(self), format, slot, out)
 
+    def svg(self, start: int = 0, stop: Optional[int] = None, picture: str = "schedule") -> str:
+        """The picture of slots `start` to `stop - 1` (of all, at most 4,096), an SVG document: of the "schedule" or of the "lags"."""
+        if picture not in pictures.PICTURES:
+            raise ValueError(f"no such picture: {picture}")
+        first, behind = whole(start, 64, "start"), self.script.slots if stop is None else whole(stop, 64, "stop")
+        check(100 if first >= behind or behind - first > MOST_SLOTS else 0, f"slots {first} to {behind - 1}")
+        check(104 if behind > self.script.slots else 0, f"slot {behind - 1}")
+        return pictures.svg(_Source(self), picture, first, behind)
+
+    def _repr_svg_(self) -> str:
+        """The picture that a notebook shows: of the first slots, as many as it can make out."""
+        return self.svg(0, min(self.script.slots, _SHOWN))
+
+    def plot(self, start: int = 0, stop: Optional[int] = None, picture: str = "schedule", width: float = 7.0) -> Any:
+        """The picture of `svg` as a Figure of Matplotlib, `width` inches wide, for a paper: `plot().savefig("schedule.pdf")` writes
+        vectors. Wants matplotlib."""
+        from ._plot import Plot
+
+        return Plot(self.svg(start, stop, picture), width).figure
+
     def to_pandas(self) -> Any:
         """The quanta and the decisions as two DataFrames, with the tasks as categories. Wants pandas."""
         import pandas
@@ -112,27 +136,26 @@ class _Source(Source):
     """A schedule, as traces are made of it."""
 
     def __init__(self, schedule: Schedule) -> None:
-        self.schedule, self.processors, self.slots = schedule, schedule.script.processors, schedule.script.slots
+        script = schedule.script
+        self.schedule, self.processors, self.frame, self.slots = schedule, script.processors, script.frame, script.slots
 
-    def _decided(self) -> Iterator[tuple[int, int, int, str, str, int, Entry]]:
+    def names(self) -> list[str]:
+        return list(dict.fromkeys(row.task for row in self.decisions() if row.outcome == "admitted"))
+
+    def decisions(self) -> Iterator[Decided]:
         for row in self.schedule.decisions:
             outcome = int(row["outcome"])
             word, value = (OUTCOMES[outcome], int(row["freed_at"])) if outcome < 20 else ("refused", outcome)
-            yield int(row["slot"]), int(row["processor"]), int(row["number"]), row["task"].decode(), word, value, self.schedule._entry(row)
-
-    def names(self) -> list[str]:
-        return list(dict.fromkeys(task for _, _, _, task, outcome, _, _ in self._decided() if outcome == "admitted"))
-
-    def decisions(self) -> Iterator[Decided]:
-        for slot, processor, number, task, outcome, value, entry in self._decided():
-            yield Decided(slot, processor, number, task, words_of(entry.kind or "", task, outcome, value, asdict(entry)))
+            entry = asdict(self.schedule._entry(row))
+            yield Decided(int(row["slot"]), int(row["processor"]), int(row["number"]), row["task"].decode(), word, value, entry)
 
     def quanta(self) -> Iterator[Quantum]:
-        rows = ((int(row["slot"]), int(row["place"]), row["task"].decode(), int(row["index"])) for row in self.schedule.quanta)
-        return quanta_of(rows, ((slot, task, outcome, asdict(entry)) for slot, _, _, task, outcome, _, entry in self._decided()))
+        quanta = self.schedule.quanta
+        rows = ((int(row["slot"]), int(row["place"]), row["task"].decode(), int(row["index"])) for row in quanta)
+        return quanta_of(rows, self.decisions())
 
-    def lags(self) -> Iterator[Lag]:
-        for rows in self.schedule._lags_by_pieces():
+    def lags(self, start: int = 0) -> Iterator[Lag]:
+        for rows in self.schedule._lags_by_pieces(start):
             for row in rows:
                 yield Lag(int(row["time"]), row["task"].decode(), int(row["numerator"]), int(row["period"]))
 

@@ -1,0 +1,187 @@
+"""What pictures have in common: where slots and rows lie, names, times, weights and the key, and the tasks of a run."""
+from __future__ import annotations
+
+from typing import Callable, Iterator, NamedTuple, Optional
+
+from ._svg import bar, document, line, text
+from ._trace import Decided, Member, Source
+
+#: The most slots of one picture.
+MOST_SLOTS = 4096
+# up to so many slots: how wide one is, in pixels
+WIDTHS = ((14, 40), (40, 28), (72, 18), (120, 12), (240, 8), (400, 4), (MOST_SLOTS, 2))
+NARROWEST, LEFT, RIGHT, TOP = 640, 118, 40, 76
+# every how many rows the scale stands again
+ROWS_OF_SCALE = 16
+#: An entry of the key: the kind of thing, its width, where its words begin, the words, and the sample at a place.
+Entry = tuple[str, int, int, str, Callable[[int, int], str]]
+
+
+class Sizes(NamedTuple):
+    """Pixels: of a slot and a lane, above and below the lanes, around a quantum, between rows, of a processor's row."""
+
+    slot: int
+    lane: int
+    above: int
+    below: int
+    gap: int
+    strip: int
+    cell: int
+
+
+def slot_width(slots: int) -> int:
+    """How wide a slot is in a picture of so many."""
+    return next(width for most, width in WIDTHS if slots <= most)
+
+
+def scale_step(wide: int, end: int) -> int:
+    """Every how many slots a number stands: as many as its digits take."""
+    need = max(24, 6 * len(str(end)) + 4)
+    return next(some for tens in (1, 10, 100) for some in (tens, 2 * tens, 5 * tens) if some * wide >= need)
+
+
+def name_width(name: str) -> int:
+    """As many pixels as a name takes at most."""
+    return sum(12 if letter in "mw" else 8 for letter in name)
+
+
+class Life(Member):
+    """A task from its admission on: when it departs and when its weight is free, the last of its subtasks that ran, and
+    its late releases: the slot, the first subtask, by how many slots, and where the window of that opened before."""
+
+    leave: Optional[int] = None
+    freed: Optional[int] = None
+    ran = 0
+
+    def __init__(self, row: Decided) -> None:
+        super().__init__(row.entry["cost"], row.entry["period"], row.slot)
+        self.name, self.weight = row.task, f"{row.entry['cost']}/{row.entry['period']}"
+        self.late: list[tuple[int, int, int, int]] = []
+
+    def departure(self) -> str:
+        return f"{self.name} departs at slot {self.leave}, weight held until slot {self.freed}"
+
+    def windows(self, start: int, stop: int) -> Iterator[tuple[int, int, int]]:
+        """The subtasks whose windows are in sight, with the slots in which these open and before which they close. The
+        window of a subtask that never ran ends where its task departs."""
+        latest = self.joined + sum(by for _, by in self.delays)
+        # all subtasks up to this one have closed by the first slot
+        index = max(0, (start - latest) * self.cost // self.period)
+        while True:
+            index += 1
+            opens, closes = self.window(index)
+            end = stop
+            if self.leave is not None and index > self.ran:
+                closes, end = min(closes, self.leave), min(stop, self.leave)
+            if opens >= end:
+                return
+            if closes > start:
+                yield index, opens, closes
+
+
+def lives_of(decided: list[Decided]) -> list[Life]:
+    """The tasks that were admitted."""
+    last: dict[str, Life] = {}
+    lives = []
+    for row in decided:
+        if row.outcome == "admitted":
+            last[row.task] = Life(row)
+            lives.append(last[row.task])
+        elif row.outcome == "departing":
+            last[row.task].leave, last[row.task].freed = row.slot, row.value
+        elif row.outcome == "delayed":
+            life, index, by = last[row.task], row.entry["index"], row.entry["by"]
+            life.late.append((row.slot, index, by, life.window(index)[0]))
+            life.delays.append((index, by))
+    return lives
+
+
+class Figure:
+    """A picture of the slots `start` to `stop - 1`: its parts, in the order in which they are drawn."""
+
+    title = ""
+
+    def __init__(self, source: Source, start: int, stop: int, names: list[str], sizes: Sizes, processors: int) -> None:
+        self.start, self.stop, self.names, self.sizes, self.processors = start, stop, names, sizes, processors
+        self.row_of = {name: row for row, name in enumerate(names)}
+        self.left = max(LEFT, 64 + max(map(name_width, names), default=0))
+        self.lanes = sizes.above + 2 * sizes.lane + 1 + sizes.below
+        self.step = scale_step(sizes.slot, stop)
+        self.bottom = self.cell_y(processors) + 4
+        shown = f"slots: {start} to {stop - 1} of {source.slots}"
+        self.told, self.colours = f"processors: {source.processors}, frame: {source.frame}, {shown}", source.processors
+        self.width, self.key_lines = max(self.x(stop) + RIGHT, NARROWEST), 0
+        self.parts: list[str] = []
+        self.kinds: set[str] = set()  # of things that the key has to name
+
+    def x(self, slot: int) -> int:
+        """Where a slot begins; one that isn't shown counts as the nearest that is."""
+        return self.left + (min(max(slot, self.start), self.stop) - self.start) * self.sizes.slot
+
+    def y(self, row: int) -> int:
+        """Where a row begins."""
+        return TOP + row * (self.lanes + self.sizes.strip)
+
+    def cell_y(self, processor: int) -> int:
+        """Where a processor's row begins."""
+        return self.y(len(self.names)) + (12 if self.processors else 0) + processor * self.sizes.cell
+
+    def svg(self) -> str:
+        height = self.bottom + (40 + 20 * self.key_lines if self.key_lines else 26)
+        return document(self.width, height, self.title, self.told, self.colours, self.parts)
+
+    def ground(self, admitted: set[str]) -> None:
+        """The title, and a band and a name for each row."""
+        self.parts += [text(16, 24, "title", self.title), text(16, 42, "entry", self.told)]
+        wide, high = self.x(self.stop) - self.left, self.lanes + self.sizes.strip
+        for row, name in enumerate(self.names):
+            y, style = self.y(row), "name" if name in admitted else "absent"
+            if row % 2 == 0:
+                self.parts.append(bar(self.left, y, wide, high, "band"))
+            self.parts.append(text(self.left - 46, y + self.sizes.above + self.sizes.lane + 4, style, name))
+            if name not in admitted:
+                self.kinds.add("absent")
+
+    def frame(self, has_slots: bool) -> None:
+        """The lines and the numbers of times."""
+        for time in range(self.start, self.stop + 1):
+            is_numbered = time % self.step == 0
+            if is_numbered or self.sizes.slot >= 8:
+                style = "tick" if is_numbered and self.step > 1 else "grid"
+                self.parts.append(line(self.x(time), TOP, self.x(time), self.bottom, style))
+        self.scale(TOP - 5, has_slots)
+        for row in range(ROWS_OF_SCALE, len(self.names), ROWS_OF_SCALE):
+            self.scale(self.y(row) - 2, has_slots)
+        self.scale(self.bottom + 15, False)
+        self.parts.append(line(self.left, self.bottom, self.x(self.stop), self.bottom, "edge"))
+
+    def scale(self, y: int, has_slots: bool) -> None:
+        """Numbers of slots, in their middle, or of times, where they are."""
+        aside, end = (self.sizes.slot // 2, self.stop) if has_slots else (0, self.stop + 1)
+        first = -(-self.start // self.step) * self.step
+        self.parts += [text(self.x(time) + aside, y, "scale", time) for time in range(first, end, self.step)]
+        self.parts.append(text(self.left - 22, y, "side", "slot" if has_slots else "time"))
+
+    def weights(self, lives: list[Life], down: int) -> None:
+        """The weight of each task that isn't free before, where it joins."""
+        for life in lives:
+            if life.freed is None or life.freed > self.start:
+                x = self.x(life.joined) + 5
+                self.parts.append(text(x, self.y(self.row_of[life.name]) + down, "weight", life.weight))
+                self.width = max(self.width, x + 6 * len(life.weight) + 4)
+                self.kinds.add("weight")
+
+    def key(self, *lines: tuple[Entry, ...]) -> None:
+        """The key: an entry stands behind the one before it, if the picture has such a thing."""
+        for entries in lines:
+            x, y = 16, self.bottom + 36 + 20 * self.key_lines
+            for kind, width, begins, words, sample in entries:
+                if kind in self.kinds:
+                    self.parts += [sample(x, y), text(x + begins, y + 9, "entry", words)]
+                    x += width
+            self.key_lines += any(entry[0] in self.kinds for entry in entries)
+
+
+def blank(x: int, y: int) -> str:
+    """No sample: the words say all."""
+    return ""

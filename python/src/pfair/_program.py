@@ -1,0 +1,102 @@
+"""The rows that the program `pfair` prints of a task file, as a source of pictures and traces."""
+from __future__ import annotations
+
+import importlib
+import itertools
+import os
+import shutil
+import subprocess
+import tempfile
+from typing import Any, Iterator, Union
+
+from ._trace import Decided, Lag, Quantum, Source, quanta_of
+
+
+class Refused(Exception):
+    """The program refused a file: its fault, a number and a text, and its status."""
+
+    def __init__(self, text: str, status: int) -> None:
+        super().__init__(text)
+        self.status = status
+
+
+class Program(Source):
+    """A task file, what was decided of its entries, and the rows of its slots, which are read as they come."""
+
+    def __init__(self, path: Union[str, "os.PathLike[str]"], program: Union[str, "os.PathLike[str]"]) -> None:
+        self.path, self.program = os.fspath(path), os.fspath(program)
+        if os.path.exists(path) and not os.path.isfile(path) and not os.path.isdir(path):
+            self.keep_pipe()
+        # what is wrong in the file is for the program to say
+        rows = list(self.rows("decisions"))
+        read = tables_of(self.path)
+        self.processors, self.frame, self.slots = read["processors"], read["frame"], read["slots"]
+        logs: dict[int, list[dict[str, Any]]] = {}
+        for table in read.get("entry", []):
+            logs.setdefault(table["processor"], []).append(table)
+        self.decided = []
+        for slot, processor, number, task, outcome, value in rows:
+            entry = logs[int(processor)][int(number) - 1]
+            said = 0 if value == "-" else int(value)
+            self.decided.append(Decided(int(slot), int(processor), int(number), task, outcome, said, entry))
+
+    def keep_pipe(self) -> None:
+        """Keeps what comes through a pipe in a file, since each command reads it anew."""
+        self.kept = tempfile.NamedTemporaryFile()
+        with open(self.path, "rb") as pipe:
+            shutil.copyfileobj(pipe, self.kept)
+        self.kept.flush()
+        self.path = self.kept.name
+
+    def rows(self, *command: str) -> Iterator[list[str]]:
+        """The rows of a command, without their header."""
+        words = [self.program, *command, self.path]
+        try:
+            none, pipe = subprocess.DEVNULL, subprocess.PIPE
+            made = subprocess.Popen(words, stdin=none, stdout=pipe, stderr=pipe, text=True, errors="replace")
+        except OSError:
+            raise Refused(f"70 reading failed: the program {self.program} can't be run", 5) from None
+        with made as running:
+            assert running.stdout and running.stderr
+            try:
+                for line in itertools.islice(running.stdout, 1, None):
+                    yield line.rstrip("\n").split(",")
+                said, status = running.stderr.read().strip().rpartition("\n")[2], running.wait()
+            finally:
+                # the reader may end before the rows do
+                running.kill()
+        if status:
+            raise Refused(said.partition(": ")[2] or f"{self.program} ended with status {status}", status)
+
+    def names(self) -> list[str]:
+        return list(dict.fromkeys(row.task for row in self.decided if row.outcome == "admitted"))
+
+    def decisions(self) -> list[Decided]:
+        return self.decided
+
+    def quanta(self) -> Iterator[Quantum]:
+        rows = self.rows("replay", "--affinity")
+        quanta = ((int(slot), int(place), task, int(index)) for slot, _, task, index, place in rows)
+        return quanta_of(quanta, self.decided)
+
+    def lags(self, start: int = 0) -> Iterator[Lag]:
+        for time, task, numerator, period in self.rows("lags"):
+            if int(time) > start:
+                yield Lag(int(time), task, int(numerator), int(period))
+
+
+def tables_of(path: str) -> Any:
+    """A task file by Python's reader, which comes with Python 3.11."""
+    for name in ("tomllib", "tomli"):
+        try:
+            reader = importlib.import_module(name)
+            break
+        except ModuleNotFoundError:
+            pass
+    else:
+        raise Refused("70 reading failed: Python 3.11 is needed, or Python's module tomli", 5)
+    try:
+        with open(path, "rb") as file:
+            return reader.load(file)
+    except ValueError:
+        raise Refused("60 not TOML", 2) from None

@@ -1,0 +1,211 @@
+"""The command that draws pictures: `pfair_picture`, or `python3 -m pfair.draw`.
+
+It draws a task file's schedule or lags by the rows of the program `pfair`, or of the library if no program is given.
+"""
+from __future__ import annotations
+
+import argparse
+import functools
+import os
+import pathlib
+import re
+import shutil
+import subprocess
+import sys
+import tempfile
+from typing import NoReturn, Optional
+
+from . import picture
+from ._program import Program, Refused
+from ._trace import Source
+from ._version import VERSION
+
+NAME = "pfair_picture"
+FORMATS = ("html", "png", "pdf")
+USAGE = "pfair_picture schedule|lags [--html|--png|--pdf] [--slots A..B] [-o OUT] FILE"
+DESCRIPTION = """Draws a task file: its schedule, or the lags of its tasks. Writes SVG to standard output.
+
+  schedule  a row for each task, in the order in which they are first named: windows as outlined
+            bars, each quantum in the colour of the processor that runs it with the index of its
+            subtask, and what was decided; below, a row for each processor
+  lags      a row for each task that was admitted: how far it is from its fluid share, with the
+            bounds of -1 and 1
+  FILE      task file, as `pfair replay --help` describes it"""
+EPILOG = """FILE FROM TO, without --slots, asks for the slots FROM to TO - 1 too.
+
+Examples:
+  pfair_picture schedule examples/two_processors.toml >schedule.svg
+  pfair_picture schedule --html -o schedule.html examples/two_processors.toml
+  pfair_picture lags --slots 1000..1048 long.toml >lags.svg
+
+A fault is one line on standard error, `pfair_picture: NUMBER TEXT`, with the numbers of `pfair`.
+Nothing is written to OUT then; only a writer that fails (71) may have taken the beginning.
+
+Exit status, by the numbers of the faults:
+  0  done
+  1  refused: the command line (80), or slots that no picture shows (81): A isn't below B, B is
+     past the slots of the file, or they are more than 4096
+  2  refused: the task file (60 to 66)
+  3  its logs settle too few slots (52)
+  4  out of memory (90)
+  5  reading or writing failed (70, 71)"""
+
+
+class Fault(Exception):
+    """Nothing is drawn: a number and a text, and the status."""
+
+    def __init__(self, text: str, status: int) -> None:
+        super().__init__(text)
+        self.status = status
+
+
+class Parser(argparse.ArgumentParser):
+    def error(self, message: str) -> NoReturn:
+        # FROM and TO may be left out
+        raise Fault(f"80 command line refused: {message.replace(', FROM TO', '')}", 1)
+
+
+def slots_of(text: str) -> tuple[int, int]:
+    found = re.fullmatch(r"(\d+)\.\.(\d+)", text, re.ASCII)
+    if not found:
+        raise argparse.ArgumentTypeError(f"'{text}' is not A..B, the slots A to B - 1")
+    return int(found[1]), int(found[2])
+
+
+def number(text: str) -> int:
+    if not re.fullmatch(r"\+?\d+", text, re.ASCII):
+        raise argparse.ArgumentTypeError(f"'{text}' is no slot")
+    return int(text)
+
+
+def words_of(argv: Optional[list[str]]) -> argparse.Namespace:
+    """What the command line asks for."""
+    layout = functools.partial(argparse.RawDescriptionHelpFormatter, width=100)
+    parser = Parser(NAME, USAGE, DESCRIPTION, EPILOG, formatter_class=layout, allow_abbrev=False, add_help=False)
+    parser.add_argument("picture", choices=picture.PICTURES, help=argparse.SUPPRESS)
+    parser.add_argument("file", metavar="FILE", help=argparse.SUPPRESS)
+    parser.add_argument("range", metavar="FROM TO", nargs="*", type=number, help=argparse.SUPPRESS)
+    forms = parser.add_mutually_exclusive_group()
+    forms.add_argument(
+        "--html", dest="format", action="store_const", const="html",
+        help="a page around the picture: one HTML file with no outside parts, to zoom, move and point at in a browser, "
+        "with names and times in sight",
+    )
+    for format in ("png", "pdf"):
+        said = f"the picture in {format.upper()}, if the command rsvg-convert or Python's matplotlib is here"
+        forms.add_argument(f"--{format}", dest="format", action="store_const", const=format, help=said)
+    said = "the slots A to B - 1, at most 4096; without it all slots of the file"
+    parser.add_argument("--slots", type=slots_of, metavar="A..B", help=said)
+    parser.add_argument("-o", dest="out", metavar="OUT", help="a file to write, in place of standard output")
+    parser.add_argument("--program", help="the program pfair, if it isn't the one beside this command or on the path")
+    parser.add_argument("--help", "-h", action="help", help="this text")
+    parser.add_argument("--version", action="version", version=f"{NAME} {VERSION}", help="the version")
+    words = parser.parse_intermixed_args(argv)
+    if len(words.range) not in (0, 2) or (words.range and words.slots):
+        parser.error("slots are asked for by --slots A..B, or by FROM TO behind the file")
+    if words.range:
+        words.slots = tuple(words.range)
+    return words
+
+
+def source_of(file: str, program: Optional[str]) -> Source:
+    """The rows of a task file: of the program, or of the library."""
+    if program is not None:
+        return Program(file, program)
+    from ._errors import PfairError, Stalled, TaskFileError
+    from ._schedule import Schedule, _Source, read_task_file
+
+    try:
+        return _Source(Schedule(read_task_file(file)))
+    except PfairError as fault:
+        status = 2 if isinstance(fault, TaskFileError) else 3 if isinstance(fault, Stalled) else 4
+        raise Fault(f"{fault.number} {fault}", status) from None
+
+
+def drawn(words: argparse.Namespace, source: Source) -> bytes:
+    """The bytes of what is asked for."""
+    start, stop = words.slots or (0, source.slots)
+    if refused := picture.refusal(start, stop, source.slots):
+        raise Fault(f"81 {refused}", 1)
+    svg = picture.svg(source, words.picture, start, stop)
+    if words.format == "html":
+        return picture.page(svg).encode()
+    return converted(svg, words.format) if words.format else svg.encode()
+
+
+def converted(svg: str, format: str) -> bytes:
+    """A picture in another format."""
+    if shutil.which("rsvg-convert"):
+        words = ["rsvg-convert", "--unlimited", "--format", format, *(["--zoom", "2"] if format == "png" else [])]
+        done = subprocess.run(words, input=svg.encode(), stdout=subprocess.PIPE, stderr=subprocess.PIPE)
+        if done.returncode:
+            raise Fault(f"71 writing failed: rsvg-convert: {done.stderr.decode(errors='replace').strip()[:200]!r}", 5)
+        return done.stdout
+    try:
+        from ._plot import file_of
+    except ImportError:
+        lacks = f"--{format} needs the command rsvg-convert or Python's matplotlib"
+        raise Fault(f"80 command line refused: {lacks}", 1) from None
+    return file_of(svg, format)
+
+
+def write(content: bytes, out: Optional[str]) -> None:
+    """Writes all, or leaves a file as it was."""
+    if out is None:
+        with open(1, "wb", buffering=0, closefd=False) as stdout:
+            left = memoryview(content)
+            while left:
+                left = left[stdout.write(left):]
+        return
+    target = pathlib.Path(out)
+    if target.exists() and not target.is_file():
+        target.write_bytes(content)
+        return
+    with tempfile.NamedTemporaryFile(dir=target.absolute().parent, delete=False) as made:
+        try:
+            made.write(content)
+            made.flush()
+            os.chmod(made.name, target.stat().st_mode if target.exists() else 0o666 & ~umask())
+            os.replace(made.name, target)
+        except OSError:
+            os.unlink(made.name)
+            raise
+
+
+def umask() -> int:
+    mask = os.umask(0)
+    os.umask(mask)
+    return mask
+
+
+def draw(argv: Optional[list[str]], program: Optional[str]) -> None:
+    words = words_of(argv)
+    try:
+        source = source_of(words.file, words.program or program)
+        content = drawn(words, source)
+    except OSError:
+        raise Fault("70 reading failed", 5) from None
+    try:
+        write(content, words.out)
+    except OSError:
+        raise Fault("71 writing failed", 5) from None
+
+
+def main(argv: Optional[list[str]] = None, program: Optional[str] = None) -> int:
+    """Runs the command by these words, with the program `pfair` or with the library. Returns the exit status."""
+    try:
+        draw(argv, program)
+    except (Fault, Refused) as fault:
+        text, status = str(fault), fault.status
+    except MemoryError:
+        text, status = "90 out of memory", 4
+    except KeyboardInterrupt:
+        return 130
+    else:
+        return 0
+    os.write(2, f"{NAME}: {text}\n".encode())
+    return status
+
+
+if __name__ == "__main__":
+    sys.exit(main())

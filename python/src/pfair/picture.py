@@ -1,0 +1,388 @@
+"""Pictures of schedules and of lags in SVG, and the page around one for a browser.
+
+A figure places bars, lines, words and marks by the rows of a `Source`. Nothing of numpy or of the shared library is
+used here, so that scripts/pfair_picture draws by the same code with Python alone.
+"""
+from __future__ import annotations
+
+import pathlib
+from collections import Counter
+from typing import Callable, Iterator, Optional
+
+from ._figure import MOST_SLOTS, Figure, Life, Sizes, blank, lives_of, slot_width
+from ._svg import COLOURS, arrow, bar, group, layer, line, mark, step, style_on, swatch, text
+from ._trace import Decided, Lag, Quantum, Source
+
+#: What a picture can show.
+PICTURES = ("schedule", "lags")
+PAGE = """<!DOCTYPE html>
+<html lang="en">
+<head>
+<meta charset="utf-8">
+<meta name="viewport" content="width=device-width">
+<title>Pfair picture</title>
+<style>
+{}</style>
+</head>
+<body>
+<div id="view" tabindex="0">
+{}<canvas id="times" aria-hidden="true"></canvas><canvas id="names" aria-hidden="true"></canvas>
+<div id="glass"></div>
+<div id="keys">drag or arrows: move &#183; wheel or + and -: zoom &#183; 0: as at first</div>
+<div id="box" role="status" hidden></div>
+</div>
+<script>
+{}</script>
+</body>
+</html>
+"""
+
+
+def schedule_sizes(slots: int, tasks: int) -> Sizes:
+    """The more tasks and slots, the thinner the lanes."""
+    wide, cell = slot_width(slots), 15 if slots <= 120 else 7
+    if tasks <= 24 and slots <= 120:
+        return Sizes(wide, 13, 7, 7, 2, 13, cell)
+    if tasks <= 60 and slots <= 400:
+        return Sizes(wide, 10, 7, 3, 1, 7, cell)
+    return Sizes(wide, 6, 7, 2, 0, 7, cell)
+
+
+def lag_sizes(slots: int, tasks: int) -> Sizes:
+    """A lane is as high as a lag of 1; above both there is room for a weight, and for lags past the bound."""
+    lane = 20 if tasks <= 24 else 14 if tasks <= 60 else 9
+    return Sizes(slot_width(slots), lane, 8 + lane // 4, lane // 4, 0, 3, 0)
+
+
+class ScheduleFigure(Figure):
+    """A row for each task, with windows, quanta and decisions, and one for each processor."""
+
+    title = "Schedule"
+
+    def __init__(self, source: Source, start: int, stop: int) -> None:
+        decided = [row for row in source.decisions() if row.slot < stop]
+        names = list(dict.fromkeys(row.task for row in decided))
+        super().__init__(source, start, stop, names, schedule_sizes(stop - start, len(names)), source.processors)
+        self.lives = lives_of(decided)
+        quanta = self.ran(source)
+        self.ground({life.name for life in self.lives})
+        self.frame(True)
+        self.bars(quanta)
+        self.labels(quanta)
+        self.weights(self.lives, 6)
+        for marks in (self.life_marks, self.late_marks):
+            self.parts += [some for life in self.lives for some in marks(life)]
+        self.refusals(decided)
+        self.keys({quantum.place for quantum in quanta})
+
+    def ran(self, source: Source) -> list[Quantum]:
+        """The quanta in sight; each task is told the last of its subtasks that ran."""
+        waiting: dict[str, list[Life]] = {}
+        for life in reversed(self.lives):
+            waiting.setdefault(life.name, []).append(life)
+        shown = []
+        for quantum in source.quanta():
+            if quantum.slot >= self.stop:
+                break
+            lives = waiting[quantum.task]
+            while len(lives) > 1 and lives[-2].joined <= quantum.slot:
+                lives.pop()
+            lives[-1].ran = quantum.subtask
+            if quantum.slot >= self.start:
+                shown.append(quantum)
+        return shown
+
+    def lane_y(self, task: str, index: int) -> int:
+        """Odd subtasks lie above, even ones below."""
+        return self.y(self.row_of[task]) + self.sizes.above + (1 - index % 2) * (self.sizes.lane + 1)
+
+    def bars(self, quanta: list[Quantum]) -> None:
+        """Weights that are held, lines from quanta to their windows, windows, and quanta by tasks and by processors."""
+        held = [mark for life in self.lives for mark in self.held(life)]
+        ties = [mark for quantum in quanta for mark in self.tie(quantum)]
+        windows = [mark for life in self.lives for mark in self.windows(life)]
+        self.kinds.update(kind for kind, marks in (("held", held), ("tie", ties), ("window", windows)) if marks)
+        bars, cells = [], []
+        wide, lane, gap, cell = self.sizes.slot, self.sizes.lane, self.sizes.gap, self.sizes.cell
+        for slot, place, task, index, _, _ in quanta:
+            x, y, style = self.x(slot), self.lane_y(task, index), f"p{place}"
+            told = f"{task}, subtask {index}, slot {slot}, processor {place}"
+            bars.append(bar(x + gap, y + gap, wide - 2 * gap, lane - 2 * gap, style, told))
+            cells.append(bar(x, self.cell_y(place) + 1, wide - 1, cell - 2, style, told))
+        self.parts += [*held, *ties, layer("windows", windows), layer("quanta", bars), layer("processors", cells)]
+
+    def tie(self, quantum: Quantum) -> Iterator[str]:
+        """A line between a quantum and its window, if it lies apart from that."""
+        slot, opens, closes = quantum.slot, quantum.release, quantum.deadline
+        y = self.lane_y(quantum.task, quantum.subtask) + self.sizes.lane // 2
+        if slot + 1 < opens:
+            yield line(self.x(slot + 1), y, self.x(opens), y, "edge")
+        elif slot > closes:
+            yield line(self.x(closes), y, self.x(slot), y, "edge")
+
+    def windows(self, life: Life) -> Iterator[str]:
+        for index, opens, closes in life.windows(self.start, self.stop):
+            x, told = self.x(opens), f"{life.name}, subtask {index}, window {opens} to {closes}"
+            yield bar(x, self.lane_y(life.name, index), self.x(closes) - x, self.sizes.lane, self.window_style(), told)
+
+    def window_style(self) -> str:
+        """With narrow slots outlines would fill the windows."""
+        return "window" if self.sizes.slot >= 8 else "dense"
+
+    def held(self, life: Life) -> Iterator[str]:
+        """The weight that a task holds from its departure until it is freed."""
+        if life.leave is not None and life.freed is not None and self.x(life.leave) < self.x(life.freed):
+            x, high = self.x(life.leave), 2 * self.sizes.lane + 1
+            yield bar(x, self.lane_y(life.name, 1), self.x(life.freed) - x, high, "held", life.departure())
+
+    def labels(self, quanta: list[Quantum]) -> None:
+        """The processors at the left, and what quanta have room for."""
+        wide, lane, gap, cell = self.sizes.slot, self.sizes.lane, self.sizes.gap, self.sizes.cell
+        for processor in range(self.processors):
+            y = self.cell_y(processor) + cell
+            if cell > 8:
+                self.parts.append(text(self.left - 8, y - 4, "side", f"processor {processor}"))
+            elif processor % 2 == 0:
+                self.parts.append(text(self.left - 8, y, "side", processor))
+        room = (wide - 2) // 6 if cell > 8 else 0
+        small = "" if lane > 10 else " small"
+        for slot, place, task, index, _, _ in quanta:
+            x, style, words = self.x(slot) + wide // 2, style_on(place), self.words_on(index, place)
+            if words:
+                self.parts.append(text(x, self.lane_y(task, index) + lane - gap - 1, style + small, words))
+                self.kinds.update(("index", "place") if " " in words else ("index",))
+            if len(task) <= room or room >= 2:
+                short = task if len(task) <= room else f"{task[:room - 1]}."
+                self.parts.append(text(x, self.cell_y(place) + cell - 4, style, short))
+
+    def words_on(self, index: int, place: int) -> str:
+        """The index of a quantum, and its processor if colours repeat; nothing if there is no room."""
+        digits, wide = len(str(index)), self.sizes.slot if self.sizes.lane >= 10 else 0
+        if self.processors > len(COLOURS) and 5 * (digits + len(str(place))) + 10 < wide:
+            return f"{index} p{place}"
+        return str(index) if 5 * max(digits, 2) + 2 < wide else ""
+
+    def life_marks(self, life: Life) -> Iterator[str]:
+        """An arrow up where a task joins, and one down where it departs."""
+        top = self.y(self.row_of[life.name])
+        bottom = top + self.lanes
+        if life.joined >= self.start:
+            self.kinds.add("join")
+            told = f"{life.name} joins at slot {life.joined}, weight {life.weight}"
+            yield group(told, arrow(self.x(life.joined), top + 4, bottom - 2, top + 2, "join"))
+        if life.leave is not None and life.leave >= self.start:
+            self.kinds.add("departure")
+            yield group(life.departure(), arrow(self.x(life.leave), top + 2, bottom - 4, bottom - 2, "departure"))
+
+    def late_marks(self, life: Life) -> Iterator[str]:
+        """A stamp where it was said, and an arrow from the old window to the new one."""
+        for slot, index, by, old in life.late:
+            if slot >= self.start:
+                self.kinds.add("late")
+                middle = self.lane_y(life.name, index) + self.sizes.lane // 2
+                parts = [mark(self.x(slot), middle, "stamp")]
+                if old < self.stop:
+                    parts += self.later(middle, old, index, by)
+                yield group(f"{life.name}, slot {slot}: from subtask {index} on later by {by}", *parts)
+
+    def later(self, middle: int, old: int, index: int, by: int) -> Iterator[str]:
+        """The arrow of a late release, with its length if there is room."""
+        left, right = self.x(old), self.x(old + by)
+        self.kinds.add("later")
+        yield line(left, middle, right, middle, "late")
+        yield mark(right, middle, "later")
+        if right - left >= 24:
+            self.kinds.add("more")
+            yield text((left + right) // 2, middle - 4 if index % 2 else middle + 11, "more", f"+{by}")
+
+    def refusals(self, decided: list[Decided]) -> None:
+        """A cross for what was refused of a task at a slot, with the number, or how many there are."""
+        refused: dict[tuple[int, str], list[int]] = {}
+        for row in decided:
+            if row.outcome == "refused" and row.slot >= self.start:
+                refused.setdefault((row.slot, row.task), []).append(row.value)
+        for (slot, task), numbers in refused.items():
+            counts = sorted(Counter(numbers).items())
+            told = " ".join(f"{number} x{count}" if count > 1 else str(number) for number, count in counts)
+            x, y = self.x(slot) + min(7, self.sizes.slot // 2), self.y(self.row_of[task]) + self.lanes + 3
+            parts = [mark(x, y, "refusal")]
+            self.kinds.add("refusal")
+            if self.sizes.slot >= 28:
+                kind, words = ("reason", str(numbers[0])) if len(numbers) == 1 else ("times", f"x{len(numbers)}")
+                self.kinds.add(kind)
+                parts.append(text(x + 6, y + 4, "number", words))
+            self.parts.append(group(f"{task}, slot {slot}: refused {told}", *parts))
+
+    def keys(self, places: set[int]) -> None:
+        self.kinds.update(["processor"] if places else [], ["repeat"] if max(places, default=0) >= len(COLOURS) else [])
+        colours, style = sorted({place % len(COLOURS) for place in places}), self.window_style()
+
+        def swatches(x: int, y: int) -> str:
+            return "".join(swatch(x + 60 + 20 * colour, y, colour) for colour in colours)
+
+        self.key(
+            (
+                ("processor", 228, 0, "processor", swatches),
+                ("repeat", 210, 0, "8 has the colour of 0, and so on", blank),
+                ("place", 0, 0, "p12 is processor 12", blank),
+            ),
+            (
+                ("window", 86, 30, "window", lambda x, y: bar(x, y, 24, 11, style)),
+                ("tie", 216, 30, "from a quantum to its window", across("edge")),
+                ("index", 0, 0, "the number in a quantum is that of its subtask", blank),
+            ),
+            (
+                ("join", 52, 13, "joins", lambda x, y: arrow(x + 4, y + 1, y + 12, y - 2, "join")),
+                ("departure", 64, 13, "departs", lambda x, y: arrow(x + 4, y - 2, y + 10, y + 13, "departure")),
+                ("held", 168, 26, "weight held until freed", lambda x, y: bar(x, y, 20, 11, "held")),
+                ("weight", 106, 0, "1/2 is a weight", blank),
+                ("absent", 0, 0, "a grey name: not admitted", blank),
+            ),
+            (
+                ("late", 98, 12, "late release", lambda x, y: mark(x + 4, y + 6, "stamp")),
+                ("later", 148, 30, "to its new window", late_sample),
+                ("more", 98, 0, "+3: by 3 slots", blank),
+                ("refusal", 70, 14, "refused", lambda x, y: mark(x + 5, y + 6, "refusal")),
+                ("reason", 98, 0, "22: its number", blank),
+                ("times", 0, 0, "x3: three at once", blank),
+            ),
+        )
+
+
+class LagsFigure(Figure):
+    """A row for each task that was admitted: its lag from each time to the next, and the bounds of -1 and 1."""
+
+    title = "Lags"
+
+    def __init__(self, source: Source, start: int, stop: int) -> None:
+        lives = lives_of([row for row in source.decisions() if row.slot < stop])
+        names = list(dict.fromkeys(life.name for life in lives))
+        super().__init__(source, start, stop, names, lag_sizes(stop - start, len(names)), 0)
+        above = self.sizes.above + self.sizes.lane
+        self.zero = {name: self.y(row) + above for row, name in enumerate(names)}
+        self.ground(set(names))
+        for name in names:
+            self.bounds(name)
+        self.frame(False)
+        self.steps(source, {(life.name, life.joined) for life in lives})
+        self.weights(lives, 7)
+        self.keys()
+
+    def bounds(self, task: str) -> None:
+        right, zero, lane = self.x(self.stop), self.zero[task], self.sizes.lane
+        self.parts.append(bar(self.left, zero - lane, right - self.left, 2 * lane, "within"))
+        self.parts.append(line(self.left, zero, right, zero, "zero"))
+        self.parts += [line(self.left, y, right, y, "bound") for y in (zero - lane, zero + lane)]
+        self.kinds.add("bounds")
+
+    def steps(self, source: Source, joined: set[tuple[str, int]]) -> None:
+        """A step for each lag in sight, from the one before it: 0 where the task has just joined."""
+        last: dict[str, tuple[int, bool]] = {}
+        for lag in source.lags(max(0, self.start - 1)):
+            if lag.time > self.stop:
+                break
+            y, is_beyond = self.lag_y(lag)
+            is_past = abs(lag.numerator) >= lag.period
+            if lag.time > self.start:
+                has_joined = (lag.task, lag.time - 1) in joined
+                y1, was = (self.zero[lag.task], False) if has_joined else last[lag.task]
+                parts = self.lag(self.x(lag.time - 1), y1, self.x(lag.time), y, was, is_past)
+                more = self.beyond(lag, self.x(lag.time), y) if is_beyond else ""
+                told = f"{lag.task}, time {lag.time}: lag {lag.numerator}/{lag.period}"
+                self.parts.append(group(told, parts, more))
+            last[lag.task] = y, is_past
+
+    def lag_y(self, lag: Lag) -> tuple[int, bool]:
+        """Where a lag is drawn, and whether it is further away than that."""
+        most, far = self.sizes.lane + self.sizes.lane // 4, abs(lag.numerator) * self.sizes.lane // lag.period
+        return self.zero[lag.task] + (min(far, most) if lag.numerator < 0 else -min(far, most)), far > most
+
+    def lag(self, x1: int, y1: int, x2: int, y2: int, was_past: bool, is_past: bool) -> str:
+        """A step, in red while the lag is at or past a bound, with a dot if there is room."""
+        self.kinds.update(("past",) if was_past else (), ("lag",) if not (was_past and is_past) else ())
+        if was_past and not is_past:
+            drawn = line(x1, y1, x2, y1, "past") + line(x2, y1, x2, y2, "lag")
+        else:
+            drawn = step(x1, y1, x2, y2, "past" if was_past else "lag")
+        if self.sizes.slot < 12:
+            return drawn
+        dot = "outside" if is_past else "inside"
+        self.kinds.add(dot)
+        return drawn + mark(x2, y2, dot)
+
+    def beyond(self, lag: Lag, x: int, y: int) -> str:
+        """A triangle for a lag that is further than is drawn, with its number if there is room."""
+        name = "below" if lag.numerator < 0 else "above"
+        self.kinds.add(name)
+        if self.sizes.slot < 28:
+            return mark(x, y, name)
+        self.kinds.add("number")
+        words = f"{lag.numerator}/{lag.period}"
+        return mark(x, y, name) + text(x, y - 5 if lag.numerator < 0 else y + 10, "beyond", words)
+
+    def keys(self) -> None:
+        kinds = self.kinds
+        kinds.update(["far"] if kinds & {"past", "outside"} else [])
+
+        def both(style: str, dot: str) -> Callable[[int, int], str]:
+            """A line, a dot or both, as the lags have them."""
+
+            def drawn(x: int, y: int) -> str:
+                drawn_line = across(style)(x, y) if style in kinds else ""
+                return drawn_line + (mark(x + 24, y + 6, dot) if dot in kinds else "")
+
+            return drawn
+
+        self.key(
+            (
+                ("lag", 230, 32, "lag, from each time to the next", both("lag", "inside")),
+                ("bounds", 222, 30, "the bounds of 1 on both sides", across("bound")),
+                ("weight", 0, 0, "1/2 is a weight", blank),
+            ),
+            (("far", 0, 32, "at or past a bound (late releases are not taken into account)", both("past", "outside")),),
+            (
+                ("above", 144, 13, "above what is drawn", lambda x, y: mark(x + 4, y + 10, "above")),
+                ("below", 144, 13, "below what is drawn", lambda x, y: mark(x + 4, y, "below")),
+                ("number", 0, 0, "with the lag itself", blank),
+            ),
+        )
+
+
+def across(style: str) -> Callable[[int, int], str]:
+    """A line of a style, as the key has it."""
+    return lambda x, y: line(x, y + 6, x + 24, y + 6, style)
+
+
+def late_sample(x: int, y: int) -> str:
+    return line(x, y + 6, x + 18, y + 6, "late") + mark(x + 24, y + 6, "later")
+
+
+def refusal(start: int, stop: int, slots: int) -> str:
+    """Why no picture of a run of so many slots shows `start` to `stop - 1`, or nothing if one does."""
+    if start >= stop:
+        return f"slots from {start} to before {stop} refused: there are none"
+    if stop > slots:
+        return f"slots {start} to {stop - 1} refused: the file has {slots}"
+    if stop - start > MOST_SLOTS:
+        return f"slots {start} to {stop - 1} refused: {MOST_SLOTS:,} at most"
+    return ""
+
+
+def svg(source: Source, picture: str = "schedule", start: int = 0, stop: Optional[int] = None) -> str:
+    """Returns a picture of slots `start` to `stop - 1` (of all, 4,096 at most), the "schedule" or the "lags", in SVG.
+
+    Raises ValueError if there is no such picture, or if it can't show these slots.
+    """
+    end = source.slots if stop is None else stop
+    if picture not in PICTURES:
+        raise ValueError(f"no such picture: {picture}")
+    if refused := refusal(start, end, source.slots):
+        raise ValueError(refused)
+    return (ScheduleFigure if picture == "schedule" else LagsFigure)(source, start, end).svg()
+
+
+def page(picture: str) -> str:
+    """Returns the page around a picture, to zoom, move and point at in a browser: HTML that asks for no other file."""
+    folder = pathlib.Path(__file__).parent
+    css, js = ((folder / name).read_text(encoding="utf-8") for name in ("page.css", "page.js"))
+    return PAGE.format(css, picture, js)
