@@ -1,4 +1,0 @@
-pub mod Faults
-pub mod Pages
-pub mod Pictures
-pub mod Words

@@ -1,8 +1,0 @@
-use Rattle.std.proofs.lemmas.Result.{on_ok_weaker}
-use Rattle.pfair_svg.specs.Svg.{cells_text}
-use Rattle.pfair_svg.proofs.TextFacts.{three}
-use Rattle.pfair_svg.proofs.svg.add_cells.Goals as goal
-
-pub returns : goal.returns
-unfolding cells_text
-returns c = on_ok_weaker c.add_text-2.result (three _ _ _ _ _ _ _ c.in_ok-add_text.ensures c.in_ok-add_each.ensures) c.add_text-2.ensures
