@@ -35,8 +35,8 @@
 #include <stddef.h>
 #include <stdint.h>
 
-#define PFAIR_VERSION "0.2.0"
-#define PFAIR_VERSION_NUMBER 200
+#define PFAIR_VERSION "0.3.0"
+#define PFAIR_VERSION_NUMBER 300
 
 #ifdef __cplusplus
 extern "C" {

@@ -14,7 +14,7 @@ use pfair_table::Settings;
 use std::alloc::{AllocError, Global};
 
 // The program's version, which `--version` prints after its name.
-const VERSION: &str = "0.2.0";
+const VERSION: &str = "0.3.0";
 
 const ENTRIES_USAGE: &str = "pfair_follow entries <FILE>";
 

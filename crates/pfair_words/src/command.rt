@@ -13,7 +13,7 @@ use clap::{Arg, ArgAction, Command, value_parser};
 use std::alloc::{AllocError, Global};
 
 // The program's version, which `--version` prints after its name.
-const VERSION: &str = "0.2.0";
+const VERSION: &str = "0.3.0";
 
 const REPLAY_USAGE: &str = "pfair replay [--affinity] <FILE>";
 
