@@ -119,8 +119,9 @@ class Figure:
         return self.left + (min(max(slot, self.start), self.stop) - self.start) * self.sizes.slot
 
     def y(self, row: int) -> int:
-        """Where a row begins."""
-        return TOP + row * (self.lanes + self.sizes.strip)
+        """Where a row begins; above every sixteenth there is room for a scale."""
+        scales = max(0, min(row, len(self.names) - 1)) // ROWS_OF_SCALE
+        return TOP + row * (self.lanes + self.sizes.strip) + 12 * scales
 
     def cell_y(self, processor: int) -> int:
         """Where a processor's row begins."""

@@ -9,7 +9,7 @@ import pathlib
 from collections import Counter
 from typing import Callable, Iterator, Optional
 
-from ._figure import MOST_SLOTS, Figure, Life, Sizes, blank, lives_of, slot_width
+from ._figure import MOST_SLOTS, Figure, Life, Sizes, blank, lives_of, name_width, slot_width
 from ._svg import COLOURS, arrow, bar, group, layer, line, mark, step, style_on, swatch, text
 from ._trace import Decided, Lag, Quantum, Source
 
@@ -52,6 +52,14 @@ def lag_sizes(slots: int, tasks: int) -> Sizes:
     """A lane is as high as a lag of 1; above both there is room for a weight, and for lags past the bound."""
     lane = 20 if tasks <= 24 else 14 if tasks <= 60 else 9
     return Sizes(slot_width(slots), lane, 8 + lane // 4, lane // 4, 0, 3, 0)
+
+
+def shortened(name: str, room: int) -> str:
+    """A name in the small letters of a processor's row, or as many of its first letters as there is room for."""
+    short = name
+    while short and name_width(short) * 3 // 4 + (0 if short == name else 6) > room:
+        short = short[:-1]
+    return short if short == name else f"{short}." if short else ""
 
 
 class ScheduleFigure(Figure):
@@ -144,15 +152,13 @@ class ScheduleFigure(Figure):
                 self.parts.append(text(self.left - 8, y - 4, "side", f"processor {processor}"))
             elif processor % 2 == 0:
                 self.parts.append(text(self.left - 8, y, "side", processor))
-        room = (wide - 2) // 6 if cell > 8 else 0
         small = "" if lane > 10 else " small"
         for slot, place, task, index, _, _ in quanta:
             x, style, words = self.x(slot) + wide // 2, style_on(place), self.words_on(index, place)
             if words:
                 self.parts.append(text(x, self.lane_y(task, index) + lane - gap - 1, style + small, words))
                 self.kinds.update(("index", "place") if " " in words else ("index",))
-            if len(task) <= room or room >= 2:
-                short = task if len(task) <= room else f"{task[:room - 1]}."
+            if cell > 8 and (short := shortened(task, wide - 2)):
                 self.parts.append(text(x, self.cell_y(place) + cell - 4, style, short))
 
     def words_on(self, index: int, place: int) -> str:
