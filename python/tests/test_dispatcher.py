@@ -48,32 +48,6 @@ def test_rows_of_the_examples(file):
         assert placed_of(schedule.quanta) == file.with_suffix(".placed").read_text().splitlines()
 
 
-@pytest.mark.parametrize("file", FILES, ids=lambda file: file.stem)
-def test_pictures_of_the_examples(file):
-    schedule = pfair.schedule(script_of(file))
-    stored = {picture: file.with_suffix(f".{picture}.svg").read_text() for picture in ("schedule", "lags")}
-    for picture, text in stored.items():
-        assert schedule.svg(picture=picture) == text == schedule.svg(0, schedule.script.slots, picture)
-        assert schedule.svg(1, 2, picture).startswith("<svg ")
-    assert schedule._repr_svg_() == stored["schedule"]
-
-
-def test_pictures():
-    script = drawn(3, slots=5000)
-    schedule = pfair.schedule(script)
-    assert schedule._repr_svg_() == schedule.svg(stop=480) and len(schedule.svg(900, 4996)) > 1 << 18
-    assert schedule.svg(7, 9, "lags") == schedule._dispatcher.svg(7, 9, "lags") != schedule.svg(7, 10, "lags")
-    for start, stop in ((0, None), (0, 4097), (7, 7), (8, 7), (5001, 5001)):
-        with pytest.raises(pfair.OutOfRange):
-            schedule.svg(start, stop)
-    with pytest.raises(pfair.NotPlanned):
-        schedule.svg(4999, 5001)
-    with pytest.raises(pfair.OutOfRange):
-        schedule.svg(-1)
-    with pytest.raises(ValueError):
-        schedule.svg(picture="table")
-
-
 def test_traces():
     schedule = pfair.schedule(EXAMPLES / "two_processors.toml")
     for format, begins in (("json", '{"displayTimeUnit":"ms","traceEvents":[\n'), ("vcd", "$timescale 1 us $end\n")):
@@ -182,7 +156,7 @@ def test_forgotten_slots():
         assert one.planned == script.slots
         assert (one.quanta(first) == whole.quanta[whole.quanta["slot"] >= first]).all()
         assert (one.decisions(first) == whole.decisions[whole.decisions["slot"] >= first]).all()
-        for asked in (one.quanta, one.decisions, one.lags, one.svg, lambda: one.quanta(first - 1), lambda: one.table(first - 1), lambda: one.lags(first)):
+        for asked in (one.quanta, one.decisions, one.lags, lambda: one.quanta(first - 1), lambda: one.table(first - 1), lambda: one.lags(first)):
             with pytest.raises(pfair.NotPlanned):
                 asked()
         one.forget(2**64 - 1)
@@ -278,7 +252,7 @@ def test_refusals():
         one.plan(0)
     one.close()
     one.close()
-    for call in (one.plan, one.quanta, one.faults, lambda: one.take(0, 1, pfair.promise(1)), lambda: one.planned, lambda: one.absorb(pfair.Dispatcher(1, 6, 6)), one.lags, one.decisions, one.members, one.svg):
+    for call in (one.plan, one.quanta, one.faults, lambda: one.take(0, 1, pfair.promise(1)), lambda: one.planned, lambda: one.absorb(pfair.Dispatcher(1, 6, 6)), one.lags, one.decisions, one.members):
         with pytest.raises(pfair.NotOpen):
             call()
 

@@ -36,7 +36,7 @@ def slot_width(slots: int) -> int:
 
 def scale_step(wide: int, end: int) -> int:
     """Every how many slots a number stands: as many as its digits take."""
-    need = max(24, 6 * len(str(end)) + 4)
+    need = max(24, 7 * len(str(end)) + 4)
     return next(some for tens in (1, 10, 100) for some in (tens, 2 * tens, 5 * tens) if some * wide >= need)
 
 

@@ -1,7 +1,6 @@
 """The elements of a picture as SVG: its style, and bars, lines, texts and marks as text."""
 from __future__ import annotations
 
-from html import escape
 from typing import Iterable
 
 # the colours of Okabe and Ito, two of them darker; words on the light ones are dark
@@ -47,8 +46,12 @@ def document(width: int, height: int, title: str, told: str, processors: int, pa
     return f"{head}<style>{STYLE}{colours}</style>\n{MARKS}{''.join(parts)}</svg>\n"
 
 
+def escaped(words: str) -> str:
+    return words.replace("&", "&amp;").replace("<", "&lt;").replace(">", "&gt;")
+
+
 def text(x: int, y: int, style: str, words: object) -> str:
-    return f'<text x="{x}" y="{y}" class="{style}">{escape(str(words), False)}</text>\n'
+    return f'<text x="{x}" y="{y}" class="{style}">{escaped(str(words))}</text>\n'
 
 
 def line(x1: int, y1: int, x2: int, y2: int, style: str) -> str:
@@ -69,12 +72,12 @@ def bar(x: int, y: int, width: int, height: int, style: str, told: str = "") -> 
     """A rectangle, and what a viewer shows where it is pointed at."""
     shape = f'<rect x="{x}" y="{y}" width="{width}" height="{height}" class="{style}"'
     round = ' rx="2"' if style == "window" else ""
-    return f"{shape}{round}><title>{escape(told, False)}</title></rect>\n" if told else f"{shape}{round}/>\n"
+    return f"{shape}{round}><title>{escaped(told)}</title></rect>\n" if told else f"{shape}{round}/>\n"
 
 
 def group(told: str, *parts: str) -> str:
     """Elements that are told of together."""
-    return f"<g><title>{escape(told, False)}</title>\n{''.join(parts)}</g>\n"
+    return f"<g><title>{escaped(told)}</title>\n{''.join(parts)}</g>\n"
 
 
 def layer(name: str, parts: list[str]) -> str:

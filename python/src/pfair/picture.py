@@ -13,6 +13,8 @@ from ._figure import MOST_SLOTS, Figure, Life, Sizes, blank, lives_of, name_widt
 from ._svg import COLOURS, arrow, bar, group, layer, line, mark, step, style_on, swatch, text
 from ._trace import Decided, Lag, Quantum, Source
 
+# the width of an entry of the key with nothing behind it
+LAST = 0
 #: What a picture can show.
 PICTURES = ("schedule", "lags")
 PAGE = """<!DOCTYPE html>
@@ -146,24 +148,27 @@ class ScheduleFigure(Figure):
     def labels(self, quanta: list[Quantum]) -> None:
         """The processors at the left, and what quanta have room for."""
         wide, lane, gap, cell = self.sizes.slot, self.sizes.lane, self.sizes.gap, self.sizes.cell
+        has_names = wide >= 12
         for processor in range(self.processors):
             y = self.cell_y(processor) + cell
-            if cell > 8:
+            if has_names:
                 self.parts.append(text(self.left - 8, y - 4, "side", f"processor {processor}"))
             elif processor % 2 == 0:
                 self.parts.append(text(self.left - 8, y, "side", processor))
-        small = "" if lane > 10 else " small"
+        small = " small" if lane == 10 else ""
         for slot, place, task, index, _, _ in quanta:
             x, style, words = self.x(slot) + wide // 2, style_on(place), self.words_on(index, place)
             if words:
                 self.parts.append(text(x, self.lane_y(task, index) + lane - gap - 1, style + small, words))
                 self.kinds.update(("index", "place") if " " in words else ("index",))
-            if cell > 8 and (short := shortened(task, wide - 2)):
+            if has_names and (short := shortened(task, wide - 1)):
                 self.parts.append(text(x, self.cell_y(place) + cell - 4, style, short))
 
     def words_on(self, index: int, place: int) -> str:
         """The index of a quantum, and its processor if colours repeat; nothing if there is no room."""
-        digits, wide = len(str(index)), self.sizes.slot if self.sizes.lane >= 10 else 0
+        digits, wide = len(str(index)), self.sizes.slot
+        if self.sizes.lane < 10:
+            return ""
         if self.processors > len(COLOURS) and 5 * (digits + len(str(place))) + 10 < wide:
             return f"{index} p{place}"
         return str(index) if 5 * max(digits, 2) + 2 < wide else ""
@@ -230,27 +235,27 @@ class ScheduleFigure(Figure):
             (
                 ("processor", 228, 0, "processor", swatches),
                 ("repeat", 210, 0, "8 has the colour of 0, and so on", blank),
-                ("place", 0, 0, "p12 is processor 12", blank),
+                ("place", LAST, 0, "p12 is processor 12", blank),
             ),
             (
                 ("window", 86, 30, "window", lambda x, y: bar(x, y, 24, 11, style)),
                 ("tie", 216, 30, "from a quantum to its window", across("edge")),
-                ("index", 0, 0, "the number in a quantum is that of its subtask", blank),
+                ("index", LAST, 0, "the number in a quantum is that of its subtask", blank),
             ),
             (
                 ("join", 52, 13, "joins", lambda x, y: arrow(x + 4, y + 1, y + 12, y - 2, "join")),
                 ("departure", 64, 13, "departs", lambda x, y: arrow(x + 4, y - 2, y + 10, y + 13, "departure")),
                 ("held", 168, 26, "weight held until freed", lambda x, y: bar(x, y, 20, 11, "held")),
                 ("weight", 106, 0, "1/2 is a weight", blank),
-                ("absent", 0, 0, "a grey name: not admitted", blank),
+                ("absent", LAST, 0, "a grey name: not admitted", blank),
             ),
             (
                 ("late", 98, 12, "late release", lambda x, y: mark(x + 4, y + 6, "stamp")),
                 ("later", 148, 30, "to its new window", late_sample),
                 ("more", 98, 0, "+3: by 3 slots", blank),
-                ("refusal", 70, 14, "refused", lambda x, y: mark(x + 5, y + 6, "refusal")),
+                ("refusal", 66, 14, "refused", lambda x, y: mark(x + 5, y + 6, "refusal")),
                 ("reason", 98, 0, "22: its number", blank),
-                ("times", 0, 0, "x3: three at once", blank),
+                ("times", LAST, 0, "x3: three at once", blank),
             ),
         )
 
@@ -343,13 +348,13 @@ class LagsFigure(Figure):
             (
                 ("lag", 230, 32, "lag, from each time to the next", both("lag", "inside")),
                 ("bounds", 222, 30, "the bounds of 1 on both sides", across("bound")),
-                ("weight", 0, 0, "1/2 is a weight", blank),
+                ("weight", LAST, 0, "1/2 is a weight", blank),
             ),
-            (("far", 0, 32, "at or past a bound (late releases are not taken into account)", both("past", "outside")),),
+            (("far", LAST, 32, "at or past a bound (late releases are not taken into account)", both("past", "outside")),),
             (
                 ("above", 144, 13, "above what is drawn", lambda x, y: mark(x + 4, y + 10, "above")),
                 ("below", 144, 13, "below what is drawn", lambda x, y: mark(x + 4, y, "below")),
-                ("number", 0, 0, "with the lag itself", blank),
+                ("number", LAST, 0, "with the lag itself", blank),
             ),
         )
 

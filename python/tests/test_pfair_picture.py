@@ -1,0 +1,129 @@
+"""The command that draws pictures: its words, its files and its faults."""
+import os
+import pathlib
+
+import pytest
+
+import pfair
+from conftest import EXAMPLES
+from made_rows import CASES
+from pfair import draw, picture
+
+FILES = sorted(EXAMPLES.glob("*.toml"))
+STORED = pathlib.Path(__file__).parent / "pictures"
+
+
+@pytest.fixture
+def command(monkeypatch, capfdbinary):
+    """Runs the command over made up rows: its status and what it writes."""
+    asked = []
+    rows = CASES["every_kind"][0]
+    monkeypatch.setattr(draw, "source_of", lambda file, program: asked.append((file, program)) or rows)
+
+    def run(*words, program=None):
+        try:
+            status = draw.main(list(words), program)
+        except SystemExit as ended:
+            status = ended.code
+        return (status, *capfdbinary.readouterr())
+
+    run.asked = asked
+    return run
+
+
+def test_words(command):
+    rows = CASES["every_kind"][0]
+    whole, some = picture.svg(rows, "schedule").encode(), picture.svg(rows, "lags", 2, 7).encode()
+    page = picture.page(some.decode()).encode()
+    assert command("schedule", "file") == (0, whole, b"")
+    for words in (("file", "2", "7"), ("file", "+2", "7"), ("--slots", "2..7", "file"), ("file", "--slots", "2..7")):
+        assert command("lags", *words) == (0, some, b"")
+        assert command("lags", "--html", *words) == command("lags", *words, "--html") == (0, page, b"")
+    assert command("schedule", "file", "--program", "other", program="pfair")[0] == 0
+    assert command("schedule", "file", program="pfair")[0] == 0
+    assert command.asked[0] == ("file", None) and command.asked[-2:] == [("file", "other"), ("file", "pfair")]
+    assert command("--version") == (0, f"pfair_picture {pfair.__version__}\n".encode(), b"")
+
+
+def test_help(command):
+    kept = STORED / "help.txt"
+    for words in (("--help",), ("schedule", "--help"), ("lags", "-h")):
+        status, said, wrong = command(*words)
+        if os.environ.get("PFAIR_KEEP_PICTURES"):
+            kept.write_bytes(said)
+        assert (status, said, wrong) == (0, kept.read_bytes(), b"")
+    assert max(map(len, said.decode().splitlines())) <= 100
+
+
+@pytest.mark.parametrize("words, said", [
+    ("", "the following arguments are required: picture, FILE"),
+    ("schedule", "the following arguments are required: FILE"),
+    ("replay file", "argument picture: invalid choice: 'replay' (choose from 'schedule', 'lags')"),
+    ("schedule file 0", "slots are asked for by --slots A..B, or by FROM TO behind the file"),
+    ("schedule file 0 1 2", "slots are asked for by --slots A..B, or by FROM TO behind the file"),
+    ("schedule file 0 1 --slots 0..1", "slots are asked for by --slots A..B, or by FROM TO behind the file"),
+    ("schedule file 0 x", "argument FROM TO: 'x' is no slot"),
+    ("schedule file --slots 3", "argument --slots: '3' is not A..B, the slots A to B - 1"),
+    ("schedule file --slots 3..x", "argument --slots: '3..x' is not A..B, the slots A to B - 1"),
+    ("schedule file --gif", "unrecognized arguments: --gif"),
+    ("schedule file --htm", "unrecognized arguments: --htm"),
+    ("schedule file --html --pdf", "argument --pdf: not allowed with argument --html"),
+])  # fmt: skip
+def test_words_that_ask_for_nothing(command, words, said):
+    assert command(*words.split()) == (1, b"", f"pfair_picture: 80 command line refused: {said}\n".encode())
+
+
+def test_faults(command, monkeypatch):
+    none, past = b"81 slots from 3 to before 2 refused: there are none", b"81 slots 0 to 130 refused: the file has 130"
+    assert command("lags", "file", "3", "2") == (1, b"", b"pfair_picture: " + none + b"\n")
+    assert command("lags", "file", "0", "131") == (1, b"", b"pfair_picture: " + past + b"\n")
+    raised = {
+        b"70 reading failed": (OSError(), 5), b"90 out of memory": (MemoryError(), 4),
+        b"60 not TOML": (draw.Fault("60 not TOML", 2), 2),
+        b"52 stalled at slot 4": (draw.Refused("52 stalled at slot 4", 3), 3),
+    }  # fmt: skip
+    for said, (fault, status) in raised.items():
+        monkeypatch.setattr(draw, "source_of", lambda *_, fault=fault: (_ for _ in ()).throw(fault))
+        assert command("lags", "file") == (status, b"", b"pfair_picture: " + said + b"\n")
+    monkeypatch.setattr(draw, "source_of", lambda *_: (_ for _ in ()).throw(KeyboardInterrupt()))
+    assert command("lags", "file") == (130, b"", b"")
+
+
+def test_files(command, tmp_path, monkeypatch):
+    """A file is written whole or not at all."""
+    out = tmp_path / "made.svg"
+    assert command("schedule", "file", "-o", str(out)) == (0, b"", b"")
+    assert out.read_text() == picture.svg(CASES["every_kind"][0])
+    assert out.stat().st_mode & 0o777 == 0o666 & ~draw.umask()
+    out.chmod(0o640)
+    for form, start in (("png", b"\x89PNG"), ("pdf", b"%PDF")):
+        for found in (draw.shutil.which("rsvg-convert"), None):
+            monkeypatch.setattr(draw.shutil, "which", lambda _, found=found: found)
+            assert command("schedule", "file", f"--{form}", "-o", str(out)) == (0, b"", b"")
+            assert out.read_bytes().startswith(start) and out.stat().st_mode & 0o777 == 0o640
+    before = out.read_bytes()
+    assert command("schedule", "file", "9", "8", "-o", str(out))[0] == 1
+    monkeypatch.setattr(draw.os, "replace", lambda *_: (_ for _ in ()).throw(OSError()))
+    assert command("schedule", "file", "-o", str(out)) == (5, b"", b"pfair_picture: 71 writing failed\n")
+    assert out.read_bytes() == before and list(tmp_path.iterdir()) == [out]
+    for nowhere in (str(tmp_path / "none" / "made.svg"), "/dev/full"):
+        assert command("schedule", "file", "-o", nowhere) == (5, b"", b"pfair_picture: 71 writing failed\n")
+
+
+def test_formats_that_are_not_here(command, monkeypatch):
+    monkeypatch.setattr(draw.shutil, "which", lambda _: None)
+    monkeypatch.setitem(draw.sys.modules, "pfair._plot", None)
+    said = b"pfair_picture: 80 command line refused: --png needs the command rsvg-convert or Python's matplotlib\n"
+    assert command("schedule", "file", "--png") == (1, b"", said)
+
+
+def test_command_over_the_library(capfdbinary, tmp_path):
+    file = FILES[0]
+    assert draw.main(["schedule", str(file)]) == 0
+    assert capfdbinary.readouterr() == (file.with_suffix(".schedule.svg").read_bytes(), b"")
+    bad = tmp_path / "bad.toml"
+    for text, status, start in (("version = ", 2, b"60 "), ("version = 9", 2, b"6"), (None, 5, b"70 reading failed\n")):
+        bad.write_text(text) if text else bad.unlink()
+        assert draw.main(["lags", str(bad)]) == status
+        said = capfdbinary.readouterr()
+        assert said.out == b"" and said.err.startswith(b"pfair_picture: " + start) and said.err.count(b"\n") == 1

@@ -1,0 +1,241 @@
+"""Pictures: small ones byte for byte, and what holds of any, over made up rows and over those of the library."""
+import hashlib
+import os
+import pathlib
+import random
+import re
+from collections import Counter
+from xml.etree import ElementTree
+
+import pytest
+from hypothesis import example, given, settings
+from hypothesis import strategies as st
+
+import pfair
+from conftest import EXAMPLES, script_of
+from made_rows import CASES, KEPT, WHOLE, Rows, random_run
+from pfair import _figure, _plot, picture
+
+FILES = sorted(EXAMPLES.glob("*.toml"))
+STORED = pathlib.Path(__file__).parent / "pictures"
+SVG = "{http://www.w3.org/2000/svg}"
+ANCHORS = {"name": 1, "absent": 1, "side": 1, "beyond": 1, "scale": 0.5, "on": 0.5, "on dark": 0.5, "more": 0.5}
+SIZES = {"title": 14, "side": 10, "scale": 10, "on": 9, "on dark": 9, "weight": 8, "more": 9, "number": 9, "beyond": 9}
+
+
+@pytest.mark.parametrize("name, kind, start, stop", KEPT)
+def test_kept_pictures(name, kind, start, stop):
+    """Pictures that were looked at: some are kept, and the sums of all. PFAIR_KEEP_PICTURES=yes writes them anew."""
+    drawn, title = picture.svg(CASES[name][0], kind, start, stop), f"{name}.{kind}.{start}.{stop}"
+    assert_inside(drawn)
+    sums = dict(line.split() for line in (STORED / "sums").read_text().splitlines())
+    digest, file = hashlib.sha256(drawn.encode()).hexdigest(), STORED / f"{title}.svg"
+    if os.environ.get("PFAIR_KEEP_PICTURES"):
+        lines = [f"{key} {value}\n" for key, value in sorted({**sums, title: digest}.items())]
+        (STORED / "sums").write_text("".join(lines))
+        if title in WHOLE:
+            file.write_text(drawn)
+    else:
+        assert title not in WHOLE or drawn == file.read_text()
+        assert digest == sums[title]
+
+
+# ---- what holds of any picture
+
+
+def assert_inside(drawn):
+    """Well-formed XML, with each shape and each text on the page."""
+    root = ElementTree.fromstring(drawn)
+    wide, high = int(root.get("width")), int(root.get("height"))
+    assert root.get("viewBox") == f"0 0 {wide} {high}" and root.get("role") == "img"
+    for element in root.iter():
+        if element.tag in (SVG + "path", SVG + "circle", SVG + "pattern") and element.get("id"):
+            continue
+        at = {key: float(element.get(key, 0)) for key in ("x", "y", "x1", "y1", "x2", "y2")}
+        across = [at["x"], at["x1"], at["x2"]]
+        down = [at["y"], at["y1"], at["y2"]]
+        if element.tag == SVG + "rect" and element.get("width") != "100%":
+            size = float(element.get("width")), float(element.get("height"))
+            assert min(size) >= 0, element.attrib
+            across, down = [*across, at["x"] + size[0]], [*down, at["y"] + size[1]]
+        if element.tag == SVG + "text":
+            style = element.get("class").removesuffix(" small")
+            length = len(element.text) * 0.62 * SIZES.get(style, 11)
+            left = at["x"] - length * ANCHORS.get(style, 0)
+            across, down = [left, left + length], [at["y"] - SIZES.get(style, 11), at["y"] + 3]
+        is_inside = 0 <= min(across) and max(across) <= wide and 0 <= min(down) and max(down) <= high
+        assert is_inside, (element.attrib, element.text)
+
+
+RUNS = st.builds(random_run, st.integers(0, 2**32), st.integers(1, 45), st.integers(1, 12), st.integers(0, 9))
+
+
+def bars_of(drawn, layer):
+    """What each bar of a layer tells, with its left and right edge and its class."""
+    group = next(group for group in ElementTree.fromstring(drawn).iter(SVG + "g") if group.get("id") == layer)
+    bars = [(one.findtext(SVG + "title"), int(one.get("x")), int(one.get("width")), one.get("class")) for one in group]
+    return [(told, x, x + wide, style) for told, x, wide, style in bars]
+
+
+@settings(max_examples=200, deadline=None)
+@given(RUNS, st.data())
+def test_one_bar_for_each_window_and_quantum(run, data):
+    rows, tasks = run
+    start = data.draw(st.integers(0, rows.slots - 1))
+    stop = data.draw(st.integers(start + 1, rows.slots))
+    drawn = picture.svg(rows, "schedule", start, stop)
+    assert_inside(drawn)
+    lines = ElementTree.fromstring(drawn).iter(SVG + "line")
+    left = min(int(one.get("x1")) for one in lines if one.get("class") in ("grid", "tick"))
+    wide = _figure.slot_width(stop - start)
+
+    def x(slot):
+        return left + (min(max(slot, start), stop) - start) * wide
+
+    windows = []
+    for task in (task.before(stop) for task in tasks if task.joined < stop):
+        for index, opens, closes in task.in_sight(start, stop):
+            windows.append((f"{task.name}, subtask {index}, window {opens} to {closes}", x(opens), x(closes), "window"))
+    assert Counter(bars_of(drawn, "windows")) == Counter(windows)
+    quanta, cells = [], []
+    for slot, place, task, index in sorted(rows.ran):
+        if start <= slot < stop:
+            told = f"{task}, subtask {index}, slot {slot}, processor {place}"
+            quanta.append((told, x(slot) + 2, x(slot + 1) - 2, f"p{place}"))
+            cells.append((told, x(slot), x(slot + 1) - 1, f"p{place}"))
+    assert (bars_of(drawn, "quanta"), bars_of(drawn, "processors")) == (quanta, cells)
+
+
+@settings(max_examples=100, deadline=None)
+@given(RUNS, st.data())
+def test_one_step_for_each_lag(run, data):
+    rows, _ = run
+    start = data.draw(st.integers(0, rows.slots - 1))
+    stop = data.draw(st.integers(start + 1, rows.slots))
+    drawn = picture.svg(rows, "lags", start, stop)
+    assert_inside(drawn)
+    told = [group.findtext(SVG + "title") for group in ElementTree.fromstring(drawn).iter(SVG + "g")]
+    lags = [lag for lag in rows.lags() if start < lag.time <= stop]
+    assert told == [f"{lag.task}, time {lag.time}: lag {lag.numerator}/{lag.period}" for lag in lags]
+
+
+@settings(max_examples=100, deadline=None)
+@given(st.text(st.characters(min_codepoint=32, max_codepoint=0x2FF), min_size=1, max_size=16))
+@example("a<b>&'c'\"")
+def test_text_is_escaped(name):
+    rows = Rows(slots=3).join(0, name, 1, 2).run(0, 0, name, 1).lag(name, 2, 1).refuse(1, name, 20).leave(2, name, 3)
+    for kind in picture.PICTURES:
+        texts = {text.text for text in ElementTree.fromstring(picture.svg(rows, kind)).iter(SVG + "text")}
+        assert name in texts
+
+
+def test_names_are_cut_to_their_room():
+    cut = {room: picture.shortened("camera", room) for room in (11, 12, 17, 18, 26, 27, 38, 39)}
+    assert cut == {11: "", 12: "c.", 17: "c.", 18: "ca.", 26: "ca.", 27: "cam.", 38: "came.", 39: "camera"}
+    assert [picture.shortened("a", room) for room in (5, 6)] == ["", "a"]
+
+
+def test_letters_have_room():
+    assert [_figure.name_width(name) for name in ("", "a", "xyz", "m", "w", "mw_1")] == [0, 8, 24, 12, 12, 40]
+
+
+def test_numbers_of_a_scale_have_room():
+    for wide in (2, 4, 8, 12, 18, 28, 40):
+        for end in (1, 9, 10, 999, 1000, 9999, 10_000, 1_000_000):
+            step = _figure.scale_step(wide, end)
+            need = max(24, 7 * len(str(end)) + 4)
+            assert step * wide >= need
+            smaller = [some for some in (1, 2, 5, 10, 20, 50, 100, 200, 500) if some < step]
+            assert step in (1, 2, 5, 10, 20, 50, 100) and (not smaller or smaller[-1] * wide < need)
+
+
+def test_slots_that_no_picture_shows():
+    rows = Rows(slots=5000)
+    refused = {
+        (3, 3): "slots from 3 to before 3 refused: there are none",
+        (4, 2): "slots from 4 to before 2 refused: there are none",
+        (0, 5001): "slots 0 to 5000 refused: the file has 5000",
+        (5000, 5001): "slots 5000 to 5000 refused: the file has 5000",
+        (0, 4097): "slots 0 to 4096 refused: 4,096 at most",
+    }
+    for slots, said in refused.items():
+        with pytest.raises(ValueError, match=f"^{re.escape(said)}$"):
+            picture.svg(rows, "schedule", *slots)
+    with pytest.raises(ValueError, match="^no such picture: table$"):
+        picture.svg(rows, "table", 0, 1)
+    assert picture.svg(rows, "schedule", 904) == picture.svg(rows, "schedule", 904, 5000)
+    assert picture.svg(rows, stop=4096) == picture.svg(rows, "schedule", 0, 4096)
+
+
+def test_page():
+    svg = picture.svg(CASES["every_kind"][0])
+    page = picture.page(svg)
+    folder = pathlib.Path(picture.__file__).parent
+    css, js = ((folder / name).read_text() for name in ("page.css", "page.js"))
+    assert page == picture.PAGE.replace("{}", "%s") % (css, svg, js)
+    assert page.startswith("<!DOCTYPE html>") and page.endswith("</body>\n</html>\n")
+    assert not re.search(r"(src|href)\s*=|url\(|https?:|import\s|fetch\(|XMLHttp", page.replace(svg, ""))
+
+
+def test_plot():
+    """Matplotlib's figure has the texts, the bars and the marks of the picture, each where it is."""
+    for name in ("every_kind", "lags"):
+        svg = picture.svg(CASES[name][0], "lags" if name == "lags" else "schedule")
+        root = ElementTree.fromstring(svg)
+        figure = _plot.Plot(svg, 5.0).figure
+        wide, high = int(root.get("width")), int(root.get("height"))
+        assert figure.get_size_inches().tolist() == [5.0, 5.0 * high / wide]
+        axes = figure.axes[0]
+        assert (axes.get_xlim(), axes.get_ylim()) == ((0, wide), (high, 0))
+        texts = [((int(text.get("x")), int(text.get("y"))), text.text) for text in root.iter(SVG + "text")]
+        assert [(text.get_position(), text.get_text()) for text in axes.texts] == texts
+        kinds = Counter(type(made).__name__ for made in axes.collections for _ in getattr(made, "get_paths", list)())
+        assert kinds["PolyCollection"] == sum(1 for _ in root.iter(SVG + "rect")) - 2
+        marks = [made for made in axes.collections if type(made).__name__ == "PathCollection"]
+        assert sum(len(made.get_offsets()) for made in marks) == sum(1 for _ in root.iter(SVG + "use"))
+    assert _plot.file_of(svg, "pdf").startswith(b"%PDF") and _plot.file_of(svg, "png").startswith(b"\x89PNG")
+
+
+# ---- over the library
+
+
+@pytest.mark.parametrize("file", FILES, ids=lambda file: file.stem)
+def test_pictures_of_the_examples(file):
+    """The pictures of the library's rows are those of the program's, which stand beside the examples."""
+    schedule = pfair.schedule(script_of(file))
+    for kind in picture.PICTURES:
+        text = file.with_suffix(f".{kind}.svg").read_text()
+        assert schedule.svg(picture=kind) == text == schedule.svg(0, schedule.script.slots, kind)
+        assert schedule.svg(1, 2, kind).startswith("<svg ")
+    assert schedule._repr_svg_() == schedule.svg()
+    assert schedule.plot(1, 3, "lags", 4.0).get_size_inches()[0] == 4.0
+
+
+def test_slots_of_schedules():
+    schedule = pfair.schedule(pfair.Script(1, 4, 5000, [[pfair.arrive("a", 1, 4)]]))
+    assert schedule._repr_svg_() == schedule.svg(stop=400) and len(schedule.svg(900, 4996)) > 1 << 18
+    assert schedule.svg(7, 9, "lags") != schedule.svg(7, 10, "lags")
+    for start, stop in ((0, None), (0, 4097), (7, 7), (8, 7), (5001, 5001), (-1, None)):
+        with pytest.raises(pfair.OutOfRange):
+            schedule.svg(start, stop)
+    with pytest.raises(pfair.NotPlanned):
+        schedule.svg(4999, 5001)
+    with pytest.raises(ValueError, match="^no such picture: table$"):
+        schedule.svg(picture="table")
+
+
+@settings(max_examples=60, deadline=None)
+@given(st.integers(0, 2**32), st.integers(1, 40), st.integers(1, 4))
+def test_pictures_of_legal_scripts(seed, slots, processors):
+    """Whatever a script announces, its pictures are well-formed and have one bar for each quantum."""
+    rng, logs = random.Random(seed), [[] for _ in range(processors)]
+    for slot in sorted(rng.randrange(slots) for _ in range(rng.randrange(12))):
+        name, period = rng.choice("abcd"), rng.choice((1, 2, 3, 4, 6, 12, 5))
+        arrival = pfair.arrive(name, rng.randrange(1, period + 1), period, slot)
+        late = pfair.late(name, rng.randrange(1, 9), rng.randrange(1, 5), slot)
+        rng.choice(logs).append(rng.choice((arrival, late, pfair.depart(name, slot))))
+    schedule = pfair.schedule(pfair.Script(processors, 12, slots, logs))
+    drawn = schedule.svg()
+    assert_inside(drawn)
+    assert_inside(schedule.svg(picture="lags"))
+    assert len(bars_of(drawn, "quanta")) == len(bars_of(drawn, "processors")) == len(schedule.quanta)
