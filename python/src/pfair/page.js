@@ -7,21 +7,26 @@ const all = (selector, kind) => [...picture.querySelectorAll(selector)].map(kind
 const least = values => values.reduce((one, other) => Math.min(one, other), Infinity);
 const most = values => values.reduce((one, other) => Math.max(one, other), -Infinity);
 
-// The picture's own measures: its size, the edges of its chart, where its times stand, and what is written beside its rows.
+// The picture's own measures: its size, the edges of its chart, where its times stand, and the names beside its rows.
 const size = { x: number(picture, "width"), y: number(picture, "height") };
-const lines = all("line.grid, line.tick", line => ({ x: number(line, "x1"), top: number(line, "y1"), bottom: number(line, "y2") }));
+const lineOf = line => ({ x: number(line, "x1"), top: number(line, "y1"), bottom: number(line, "y2") });
+const lines = all("line.grid, line.tick", lineOf);
 const left = least(lines.map(line => line.x)), right = most(lines.map(line => line.x));
 const upper = least(lines.map(line => line.top)), lower = most(lines.map(line => line.bottom));
-const scale = all("text.scale", text => ({ x: number(text, "x"), y: number(text, "y"), time: Number(text.textContent) }));
+const tickOf = text => ({ x: number(text, "x"), y: number(text, "y"), time: Number(text.textContent) });
+const scale = all("text.scale", tickOf);
 const lowest = most(scale.map(tick => tick.y)), ticks = scale.filter(tick => tick.y === lowest);
 const first = ticks[0], last = ticks[ticks.length - 1], wide = (last.x - first.x) / (last.time - first.time);
-const sides = all("text.name, text.absent, text.side", text => ({ x: number(text, "x"), y: number(text, "y"), said: text.firstChild.data, kind: text.getAttribute("class") }))
+const sideOf = text => ({
+    x: number(text, "x"), y: number(text, "y"), said: text.firstChild.data, kind: text.getAttribute("class"),
+});
+const sides = all("text.name, text.absent, text.side", sideOf)
     .filter(side => side.x < left && side.y > upper && side.y < lower);
 const COLOURS = { name: "#1f2933", absent: "#8a94a1", side: "#5b6673" };
 const FONTS = { name: ["bold", 11], absent: ["", 11], side: ["", 10] };
 const HIGH = 20, EDGE = 12, LARGEST = 32, FAR = 50, SQUARE = 64;
 
-// Where the picture's corner is, how many times larger it is, and how many times larger it was when it was last drawn sharp.
+// Where the picture's corner is, how many times larger it is, and how many times it was when it was last drawn sharp.
 let at = { x: 0, y: 0 }, zoom = 1, sharp = 1, room = { x: 0, y: 0 }, held = null, shapes = null, frame = 0, idle = 0;
 
 function within(place, length, space) {
@@ -46,7 +51,8 @@ function fit(pen, width, height) {
 
 // The names beside the rows, once the picture's own are out of sight.
 function drawNames() {
-    const small = Math.min(1, zoom), top = Math.max(0, upper * zoom + at.y), end = Math.min(room.y, lower * zoom + at.y);
+    const small = Math.min(1, zoom);
+    const top = Math.max(0, upper * zoom + at.y), end = Math.min(room.y, lower * zoom + at.y);
     names.canvas.hidden = left * zoom + at.x >= left * small || end <= top;
     if (names.canvas.hidden) {
         return;
@@ -152,12 +158,14 @@ function tell(across, down) {
     shapes = shapes || sayingShapes();
     const x = (across - at.x) / zoom, y = (down - at.y) / zoom;
     const near = shapes.get(Math.floor(x / SQUARE) * 65536 + Math.floor(y / SQUARE)) || [];
-    const shape = near.findLast(({ edge }) => edge.x <= x && x <= edge.x + edge.width && edge.y <= y && y <= edge.y + edge.height);
+    const isIn = ({ edge }) => edge.x <= x && x <= edge.x + edge.width && edge.y <= y && y <= edge.y + edge.height;
+    const shape = near.findLast(isIn);
     box.hidden = !shape;
     if (shape) {
         box.textContent = shape.said;
         box.style.left = Math.max(0, Math.min(across + 14, room.x - box.offsetWidth - 4)) + "px";
-        box.style.top = (down + 18 + box.offsetHeight > room.y ? Math.max(0, down - 8 - box.offsetHeight) : down + 18) + "px";
+        const isLow = down + 18 + box.offsetHeight > room.y;
+        box.style.top = (isLow ? Math.max(0, down - 8 - box.offsetHeight) : down + 18) + "px";
     }
 }
 
