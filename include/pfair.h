@@ -3,7 +3,8 @@
  * does not execute tasks.
  *
  * Build with the flags of `pkg-config --cflags --libs pfair`, once scripts/install has installed the library: they take
- * the shared one, libpfair.so, and with -static or -Wl,-Bstatic before them the static one, libpfair.a.
+ * the shared one, libpfair.so, and with -static or -Wl,-Bstatic before them the static one, libpfair.a. A program that
+ * takes the shared one finds it when it runs, in the folder where it was installed.
  *
  * Without a C library. This header wants <stdbool.h>, <stddef.h> and <stdint.h>, which each compiler brings, and nothing
  * else. The archive as rt builds it wants rattle_alloc, rattle_realloc and rattle_dealloc, which call
