@@ -1,14 +1,23 @@
-"""Task files as scripts, by Python's own reader."""
+"""What the tests share: task files as scripts by Python's own reader, and the scripts of the repository."""
+import importlib.machinery
+import importlib.util
+import io
 import os
 import pathlib
+import sys
 import tomllib
+from typing import NamedTuple
 
-import pfair
+import pytest
 
-EXAMPLES = pathlib.Path(os.environ.get("PFAIR_EXAMPLES", pathlib.Path(__file__).resolve().parents[2] / "examples"))
+TOP = pathlib.Path(__file__).resolve().parents[2]
+EXAMPLES = pathlib.Path(os.environ.get("PFAIR_EXAMPLES", TOP / "examples"))
+SCRIPTS = pathlib.Path(os.environ.get("PFAIR_SCRIPTS", TOP / "scripts"))
 
 
 def script_of(file):
+    import pfair
+
     told = tomllib.loads(pathlib.Path(file).read_text())
     logs = [[] for _ in range(told["processors"])]
     for table in told.get("entry", []):
@@ -21,3 +30,63 @@ def script_of(file):
         if log and log[-1] == pfair.promise(told["slots"]):
             log.pop()
     return pfair.Script(told["processors"], told["frame"], told["slots"], logs)
+
+
+def refusal(kind, text, call, *words, **named):
+    """Makes a call that has to be refused so. Returns what was found."""
+    with pytest.raises(kind) as refused:
+        call(*words, **named)
+    assert type(refused.value) is kind and str(refused.value) == text
+    return getattr(refused.value, "found", None)
+
+
+def module_of(name):
+    """A script of the repository as a module."""
+    sys.dont_write_bytecode = True
+    loader = importlib.machinery.SourceFileLoader(f"script_{name}", str(SCRIPTS / name))
+    module = importlib.util.module_from_spec(importlib.util.spec_from_loader(loader.name, loader))
+    loader.exec_module(module)
+    return module
+
+
+class Done(NamedTuple):
+    """How a run of a script ended, and what it wrote."""
+
+    status: int
+    out: str
+    err: str
+
+
+@pytest.fixture
+def call(monkeypatch, capsys):
+    """Runs a script's main() in this process."""
+
+    def called(module, *words, given=""):
+        monkeypatch.setattr(sys, "argv", [module.__name__, *map(str, words)])
+        monkeypatch.setattr(sys, "stdin", io.StringIO(given))
+        status, more = 0, ""
+        try:
+            status = module.main() or 0
+        except SystemExit as ended:
+            status = ended.code or 0
+            if isinstance(status, str):
+                status, more = 1, f"{status}\n"
+        out, err = capsys.readouterr()
+        return Done(status, out, err + more)
+
+    return called
+
+
+@pytest.fixture
+def stand_in(tmp_path):
+    """Makes a program that answers by rows of the test's own, in the place of `pfair`."""
+
+    def made(answers, name="pfair"):
+        cases = "".join(f"{command}) cat <<'ROWS'\n{rows}ROWS\n;;\n" for command, rows in answers.items())
+        program = tmp_path / "programs" / name
+        program.parent.mkdir(exist_ok=True)
+        program.write_text(f'#!/bin/sh\necho "$@" >>"{tmp_path}/calls"\ncase "$1" in\n{cases}esac\n')
+        program.chmod(0o755)
+        return program
+
+    return made
