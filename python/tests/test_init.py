@@ -1,0 +1,40 @@
+"""What `import pfair` gives: its public names, and no others."""
+import pathlib
+import types
+
+import pfair
+
+TYPES = "Counts Dispatcher Entry Faults Planned Schedule Script TakenCounts"
+CALLS = "arrive depart late promise read_task_file rows_of schedule windows"
+TABLES = "BY_NUMBER DECISION ENTRY LAG MEMBER OUTCOMES QUANTUM WINDOW study"
+
+
+def test_public_names():
+    errors = {name for name, kind in vars(pfair).items() if isinstance(kind, type) and issubclass(kind, Exception)}
+    wanted = {*TYPES.split(), *CALLS.split(), *TABLES.split(), *errors}
+    assert set(pfair.__all__) >= wanted and len(pfair.__all__) == len(set(pfair.__all__)) and len(errors) == 29
+    assert all(hasattr(pfair, name) for name in pfair.__all__) and isinstance(pfair.study, types.ModuleType)
+    names = {}
+    exec("from pfair import *", names)
+    assert wanted <= set(names)
+    # each name without an underscore is public, but those of modules and the version, which is __version__
+    plain = {name for name, value in vars(pfair).items() if name[0] != "_" and not isinstance(value, types.ModuleType)}
+    assert plain - {"VERSION"} == set(pfair.__all__) - {"study"}
+
+
+def test_outcomes():
+    assert pfair.OUTCOMES == {
+        0: "admitted",
+        1: "departing",
+        2: "delayed",
+        20: "name taken",
+        21: "period outside frame",
+        22: "no room",
+        23: "no such task",
+        24: "already departing",
+        25: "already released",
+    }
+
+
+def test_types_are_shipped():
+    assert pathlib.Path(pfair.__file__).with_name("py.typed").exists()
