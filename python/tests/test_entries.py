@@ -172,6 +172,13 @@ def test_text_of_a_script():
     assert pfair.Script(1, 2, 3).text() == "version = 2\nprocessors = 1\nframe = 2\nslots = 3\nentry = [\n]\n"
 
 
+def test_text_of_what_announces_nothing():
+    """Its other fields aren't told; a name of no bytes is."""
+    script = pfair.Script(1, 2, 3, [[pfair.Entry(5, name="a", cost=1), pfair.depart("", 2)]])
+    lines = ["{ processor = 0, floor = 5 },", '{ processor = 0, floor = 0, kind = "depart", at = 2, name = "" },']
+    assert script.text().splitlines()[5:7] == [f"    {line}" for line in lines]
+
+
 def test_logs_of_a_script():
     script = pfair.Script(3, 6, 8, [LOG, [], [pfair.promise(8)]])
     assert [script.log(processor) for processor in range(4)] == [LOG, [], [pfair.promise(8)], []]

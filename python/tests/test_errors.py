@@ -1,5 +1,6 @@
 """The exceptions: number, text and base classes of each, and what check() makes of answers."""
 import inspect
+import re
 
 import pytest
 
@@ -69,6 +70,8 @@ def test_number_text_and_bases(name):
 @pytest.mark.parametrize("name", ALL)
 def test_what_an_answer_raises(name):
     kind, (number, text) = getattr(pfair, name), ALL[name]
+    with pytest.raises(kind, match=f"^{re.escape(text)}$"):
+        _errors.check(number)
     for where, found in (("", {}), ("slot 7", {}), ("here", {"place": 3, "number": 4})):
         with pytest.raises(kind) as raised:
             _errors.check(number, where, **found)
