@@ -1,5 +1,6 @@
 -- What a follower is seen as, and what its calls leave.
-use Rattle.std.specs.Prelude.{ℕ, ⊤, ◌+◌, ◌≡◌, ◌≢◌, ◌≤◌, ◌<◌, ◌⊎◌, IsTrue, true, false, ◌&&◌, nat_lt, nat_le, is_none, List, [], length, Option, Some, None, slice_get, if◌then◌else◌}
+use Rattle.std.specs.Prelude.{ℕ, ◌+◌, ◌≡◌, ◌≢◌, ◌≤◌, ◌<◌, ◌⊎◌, IsTrue, true, false, ◌&&◌, nat_lt, nat_le, is_none, List, [], length, max, Option, Some, None, slice_get, if◌then◌else◌}
+use Rattle.std.specs.Io.KnownBytes.{Appends}
 use Rattle.pfair_text.specs.Rows.{lines_text}
 use Rattle.pfair_entry.specs.Entry.{Logged}
 use Rattle.pfair_replica.specs.HeldRows.{held, replica_of}
@@ -13,6 +14,7 @@ use Rattle.pfair_table.specs.Laws.{IsPrefixOf}
 use Rattle.pfair_table.specs.Table.{Settings}
 use Rattle.pfair_table.specs.Refinement.{Dispatch, IsWholePlan}
 use Rattle.pfair_stream.specs.declared.output.Output.{Output}
+use Rattle.pfair_stream.specs.declared.output.Output.TheVariants.{Lags}
 use Rattle.pfair_stream.specs.declared.fault.FollowFault.{FollowFault}
 use Rattle.pfair_stream.specs.declared.fault.FollowFault.TheVariants.{NoSuchProcessor, NumberOutOfRange, Torn, Spent, WriteFailed, Memory}
 use Rattle.pfair_stream.specs.Rows.{rows_from}
@@ -43,34 +45,54 @@ IsEndOfPlans before after plan.Spent = (has_torn (replica_of before.held) ≡ fa
 IsEndOfPlans before after plan.Memory =
     (has_torn (replica_of before.held) ≡ false) × (before.spent ≡ false) × (after.spent ≡ true) × IsTrue (is_plannable after.settings (replica_of after.held) (length after.tables))
 
--- ---- faults
+-- ---- one entry
 
--- a fault for the key of an entry
-abbrev pub IsRefusal : FollowFault → Type 0
-IsRefusal fault = (fault ≡ NoSuchProcessor) ⊎ (fault ≡ NumberOutOfRange)
+-- the same run goes on: more may be planned of it, and none of the slots that lags count is forgotten
+pub record IsSameRun (before after : Follow) : Type 0 where
+  pub output_is : after.output ≡ before.output
+  pub grown : IsGrown (record before.dispatch { held = after.dispatch.held }) after.dispatch
+  pub counted : after.output ≡ Lags → after.dispatch.forgotten ≡ 0
 
--- Why a follower stops at an entry, by what its dispatcher was before: the key is none of the logs', or what is then held is torn, or the
--- dispatcher was spent, or else the writer failed. Want of memory can come at any key of the logs.
-abbrev pub IsStopOf : Dispatch → (k n : ℕ) → Logged → FollowFault → Type 0
-IsStopOf d k n e NoSuchProcessor = d.held.processors ≤ k
-IsStopOf d k n e NumberOutOfRange = (k < d.held.processors) × ((n ≡ 0) ⊎ (d.held.capacity < n))
-IsStopOf d k n e (Torn proc number) = IsKeyOf d.held k n × (slice_get (torn_keys (taken (replica_of d.held) k n e)) 0 ≡ Some (proc, number))
-IsStopOf d k n e Spent = IsKeyOf d.held k n × (has_torn (taken (replica_of d.held) k n e) ≡ false) × (d.spent ≡ true)
-IsStopOf d k n e WriteFailed = IsKeyOf d.held k n × (has_torn (taken (replica_of d.held) k n e) ≡ false) × (d.spent ≡ false)
-IsStopOf d k n e Memory = IsKeyOf d.held k n
+-- nothing held is torn, and no plan had failed before
+abbrev pub IsAble : (before after : Follow) → Type 0
+IsAble before after = (has_torn (replica_of after.dispatch.held) ≡ false) × (before.dispatch.spent ≡ false)
 
--- What gave cause for a fault that no entry has by itself: memory is wanted for a key that wasn't held, for a slot that is settled and not
--- planned, or for slots that are planned and not told; and the writer is wanted for rows.
-abbrev pub HasCause : (before after : Follow) → (k n : ℕ) → FollowFault → Type 0
-HasCause before after k n Memory =
-    (held before.dispatch.held k n ≡ None)
-    ⊎ (IsTrue (is_plannable after.dispatch.settings (replica_of after.dispatch.held) (length after.dispatch.tables))
-    ⊎ (IsWholePlan after.dispatch × (before.told < length after.dispatch.tables)))
-HasCause before after k n WriteFailed = news before after ≢ []
-HasCause before after k n NoSuchProcessor = ⊤
-HasCause before after k n NumberOutOfRange = ⊤
-HasCause before after k n (Torn proc number) = ⊤
-HasCause before after k n Spent = ⊤
+-- an entry was taken: all that is settled is planned, told and written, and it is forgotten unless lags count it
+pub record HasFollowed (before after : Follow) (k n : ℕ) (old new : Option (List ℕ)) : Type 0 where
+  pub key : IsKeyOf before.dispatch.held k n
+  pub able : IsAble before after
+  pub unspent : after.dispatch.spent ≡ false
+  pub whole : IsWholePlan after.dispatch
+  pub told_is : after.told ≡ max before.told (length after.dispatch.tables)
+  pub forgotten_is : (after.output ≡ Lags → ⊥) → after.dispatch.forgotten ≡ length after.dispatch.tables
+  pub written : Appends old new (news before after)
+
+-- ---- faults at an entry
+
+-- nothing has changed but what is held
+abbrev pub IsOnlyTaken : (before after : Follow) → Type 0
+IsOnlyTaken before after = after ≡ record before { dispatch = record before.dispatch { held = after.dispatch.held } }
+
+-- the next slot is settled, and its plan has failed
+abbrev pub IsStuck : Dispatch → Type 0
+IsStuck d = (d.spent ≡ true) × IsTrue (is_plannable d.settings (replica_of d.held) (length d.tables))
+
+-- all that is settled is planned, and not all of it is told
+abbrev pub AreDue : (before after : Follow) → Type 0
+AreDue before after = (after.dispatch.spent ≡ false) × IsWholePlan after.dispatch × (before.told < length after.dispatch.tables)
+
+-- Why a follower stops at an entry, and what it is then. An allocation fails for the entry, and nothing has changed; or, if nothing held is torn
+-- and the dispatcher wasn't spent, in the plan of a slot, or for rows that are due.
+abbrev pub IsStopOf : (before after : Follow) → (k n : ℕ) → Logged → FollowFault → Type 0
+IsStopOf f g k n e NoSuchProcessor = (f.dispatch.held.processors ≤ k) × (g ≡ f)
+IsStopOf f g k n e NumberOutOfRange = (k < f.dispatch.held.processors) × ((n ≡ 0) ⊎ (f.dispatch.held.capacity < n)) × (g ≡ f)
+IsStopOf f g k n e (Torn proc number) = IsKeyOf f.dispatch.held k n × (slice_get (torn_keys (replica_of g.dispatch.held)) 0 ≡ Some (proc, number)) × IsOnlyTaken f g
+IsStopOf f g k n e Spent = IsKeyOf f.dispatch.held k n × (has_torn (replica_of g.dispatch.held) ≡ false) × (f.dispatch.spent ≡ true) × IsOnlyTaken f g
+IsStopOf f g k n e WriteFailed = IsKeyOf f.dispatch.held k n × IsAble f g × AreDue f g × (news f g ≢ [])
+IsStopOf f g k n e Memory =
+    IsKeyOf f.dispatch.held k n
+    × (((held f.dispatch.held k n ≡ None) × (g ≡ f))
+    ⊎ ((replica_of g.dispatch.held ≡ taken (replica_of f.dispatch.held) k n e) × IsAble f g × (IsStuck g.dispatch ⊎ AreDue f g)))
 
 -- ---- what would settle more
 

@@ -1,17 +1,16 @@
 //! The follower.
 
-ghost use Rattle.std.specs.Prelude.{◌≡◌, ◌≢◌, ◌⊎◌, ◌<◌, ◌≤◌, ◌&&◌, [], Err, IfErr, IfOk, IfSome, IsErrOf, None, OnErr, OnOk, false, length, max};
+ghost use Rattle.std.specs.Prelude.{◌≡◌, ◌≢◌, ◌⊎◌, ◌<◌, ◌≤◌, [], Err, IfErr, IfOk, IfSome, IsErrOf, OnErr, OnOk, false, length, max};
 ghost use Rattle.std.specs.Io.KnownBytes.{Appends, Keeps};
 ghost use Rattle.pfair_text.specs.Output.{TakesPrefix};
 ghost use Rattle.pfair_text.specs.Rows.{line};
 ghost use Rattle.pfair_replica.specs.HeldRows.{IsShape, held, replica_of};
 ghost use Rattle.pfair_replica.specs.Offered.{taken};
-ghost use Rattle.pfair_replica.specs.Replica.{has_torn};
 ghost use Rattle.pfair_replica.specs.Faults.{IsKeyOf, IsTakenAs};
 ghost use Rattle.pfair_table.specs.Events.{start};
 ghost use Rattle.pfair_table.specs.Refinement.{IsWholePlan, course_of};
 ghost use Rattle.pfair_stream.specs.Rows.{header_of};
-ghost use Rattle.pfair_stream.specs.Follow.{HasCause, HaveToldAlike, IsGrown, IsRefusal, IsStopOf, missing_of, news};
+ghost use Rattle.pfair_stream.specs.Follow.{HasFollowed, HaveToldAlike, IsSameRun, IsStopOf, missing_of, news};
 ghost use Rattle.pfair_stream.specs.declared.fault.FollowFault.TheVariants.{Memory, WriteFailed};
 ghost use Rattle.pfair_stream.specs.declared.output.Output.TheVariants.{Lags};
 
@@ -95,23 +94,25 @@ impl<R: Ready> Follower<R> {
         write_header(self.alloc, self.output, writer)
     }
 
-    /// Takes entry `number` (from 1) of the log of `processor` (from 0), plans all that is then
-    /// settled, and writes the rows of the slots that are new, flushed before it returns; where
-    /// there are none, it writes nothing and flushes nothing.
+    /// Takes entry `number` (from 1) of the log of `proc` (from 0), plans all that is then settled, and writes
+    /// and flushes the rows of the new slots. If there are none, nothing is written or flushed.
     ///
-    /// It costs what [`Dispatcher::take`] and [`Dispatcher::plan_next`] cost for each new slot, and
+    /// It costs what [`Dispatcher::take`] costs, what [`Dispatcher::plan_next`] costs for each new slot, and
     /// the new rows.
     ///
     /// # Errors
-    /// [`FollowFault::NoSuchProcessor`] and [`FollowFault::NumberOutOfRange`] exactly where the key
-    /// is none of the logs': nothing has then changed. [`FollowFault::Torn`] exactly where something
-    /// is then torn, else [`FollowFault::Spent`] exactly where a plan wanted memory before: the entry
-    /// is taken, and nothing planned or written. [`FollowFault::Memory`] where memory was wanted and
-    /// refused, for an entry whose key wasn't held, for a slot that is settled and not planned, or for
-    /// a slot that is planned and not told: slots may have been planned, and nothing is written.
-    /// [`FollowFault::WriteFailed`] where a row was due and the writer failed: all is planned, and the
-    /// writer has a part of the new rows. After these two no row counts as told, so that a later call
-    /// would write the rows from the first of them on.
+    /// The first of these that applies:
+    /// - [`FollowFault::NoSuchProcessor`] or [`FollowFault::NumberOutOfRange`] if no log has the key, and
+    ///   [`FollowFault::Memory`] if the key wasn't held and an allocation for its entry fails: nothing has changed.
+    /// - [`FollowFault::Torn`] if something held is then torn, and [`FollowFault::Spent`] if an allocation failed
+    ///   in an earlier plan: the entry is held, and nothing else has changed.
+    /// - [`FollowFault::Memory`] if an allocation fails in the plan of a slot: the slots before it are planned, and
+    ///   the dispatcher is spent.
+    /// - [`FollowFault::Memory`] if an allocation for the new rows fails, and [`FollowFault::WriteFailed`] if the
+    ///   writer fails: all slots are planned.
+    ///
+    /// After a fault no new row counts as told: a later call writes all of them. Only after `WriteFailed` may the
+    /// writer have gained anything: a part of the new rows.
     pub fn take<W: Write>(
         &mut self,
         writer: &mut W,
@@ -120,23 +121,13 @@ impl<R: Ready> Follower<R> {
         entry: Entry,
     ) -> Result<Taken, FollowFault>
         ensures answer { IfOk result (IsTakenAs (held self.old.dispatch.held proc number) entry) }
-        ensures key { OnOk result (IsKeyOf self.old.dispatch.held proc number) }
         ensures offered { (result ≡ Err Memory → ⊥) → replica_of self.new.dispatch.held ≡ taken (replica_of self.old.dispatch.held) proc number entry }
-        ensures wanted { result ≡ Err Memory → (self.new.dispatch.held ≡ self.old.dispatch.held) ⊎ (replica_of self.new.dispatch.held ≡ taken (replica_of self.old.dispatch.held) proc number entry) }
-        ensures grown { IsGrown (record self.old.dispatch { held = self.new.dispatch.held }) self.new.dispatch }
-        ensures whole { OnOk result (IsWholePlan self.new.dispatch) }
-        ensures sound { OnOk result ((has_torn (replica_of self.new.dispatch.held) ≡ false) × (self.old.dispatch.spent ≡ false) × (self.new.dispatch.spent ≡ false)) }
-        ensures output { self.new.output ≡ self.old.output }
-        ensures written { OnOk result (Appends (W.contents writer.old) (W.contents writer.new) (news self.old self.new)) }
-        ensures told { OnOk result (self.new.told ≡ max self.old.told (length self.new.dispatch.tables)) }
-        ensures fault { IfErr result (IsStopOf self.old.dispatch proc number entry) }
-        ensures refused { IfErr result (λ e. IsRefusal e → self.new ≡ self.old) }
-        ensures stands { OnErr result (self.new.told ≡ self.old.told) }
-        ensures cut { IsErrOf result WriteFailed → IsWholePlan self.new.dispatch × TakesPrefix (W.contents writer.old) (W.contents writer.new) (news self.old self.new) }
+        ensures run { IsSameRun self.old self.new }
+        ensures followed { OnOk result (HasFollowed self.old self.new proc number (W.contents writer.old) (W.contents writer.new)) }
+        ensures stopped { IfErr result (IsStopOf self.old self.new proc number entry) }
+        ensures stands { OnErr result ((self.new.told ≡ self.old.told) × (self.new.dispatch.forgotten ≡ self.old.dispatch.forgotten)) }
+        ensures cut { IsErrOf result WriteFailed → TakesPrefix (W.contents writer.old) (W.contents writer.new) (news self.old self.new) }
         ensures nothing { IfErr result (λ e. e ≢ WriteFailed → Keeps (W.contents writer.old) (W.contents writer.new)) }
-        ensures due { IfErr result (HasCause self.old self.new proc number) }
-        ensures forgotten { OnOk result ((self.new.output ≡ Lags → ⊥) → self.new.dispatch.forgotten ≡ length self.new.dispatch.tables) }
-        ensures lags { self.new.output ≡ Lags → self.new.dispatch.forgotten ≡ 0 }
     {
         // as many slots have decisions as have tables
         prove!(self.dispatcher.next_slot() <= Settings::MAX_SLOTS);

@@ -1,4 +1,4 @@
-use Rattle.std.proofs.Common.{◌≡◌, ◌∙◌, sym, ap, arith, max, min, length}
+use Rattle.std.proofs.Common.{◌≡◌, ◌∙◌, sym, ap}
 use Rattle.pfair_table.specs.Refinement.{Dispatch}
 use Rattle.pfair_stream.specs.Follow.{Follow}
 use Rattle.pfair_stream.proofs.follower.Follower.forget_told.Goals as goal
