@@ -1,20 +1,19 @@
 -- Bytes that have the rows of a script give its text.
-use Rattle.std.proofs.Common.{ℕ, ◌≤◌, ◌≡◌, refl, sym, ap, subst, ◌∙◌, List, ◌++◌, Option, append_assoc}
+use Rattle.std.proofs.Common.{ℕ, ◌≡◌, sym, ap, subst, ◌∙◌, List, ◌++◌}
 use Rattle.std.specs.Io.KnownBytes.{Appends}
 use Rattle.csv.proofs.WriteFacts.{appends-more}
 use Rattle.pfair_text.specs.Rows.{line}
 use Rattle.pfair_replica.specs.HeldRows.{replica_of}
-use Rattle.pfair_replica.specs.Replica.{Replica, empty_replica}
+use Rattle.pfair_replica.specs.Replica.{Replica}
 use Rattle.pfair_table.specs.Events.{Course}
-use Rattle.pfair_table.specs.Script.{LoggedRun, replica_of_logs}
-use Rattle.pfair_table.specs.Table.{Settings}
+use Rattle.pfair_table.specs.Script.{replica_of_logs}
 use Rattle.pfair_stream.specs.declared.output.Output.{Output}
-use Rattle.pfair_stream.specs.Follow.{Follow, news}
+use Rattle.pfair_stream.specs.Follow.{news}
 use Rattle.pfair_stream.specs.Laws.{text_of}
 use Rattle.pfair_stream.specs.Rows.{header_of}
 use Rattle.pfair_feed.specs.Feeding.{AreTakenFrom}
 use Rattle.pfair_feed.specs.Laws.{EntriesGiveTheirSchedule, FedEntriesGiveTheirText, WholeText}
-use Rattle.pfair_feed.specs.RoundTrip.{HasScheduleOf, HaveTheRows, rows_of}
+use Rattle.pfair_feed.specs.RoundTrip.{HaveTheRows, rows_of}
 use Rattle.pfair_feed.proofs.OneWay.{lines_are_one}
 
 pub fed_entries_give_their_text : EntriesGiveTheirSchedule → WholeText → FedEntriesGiveTheirText

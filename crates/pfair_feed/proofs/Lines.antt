@@ -1,6 +1,6 @@
 -- Lines that are fed, byte after byte.
-use Rattle.std.proofs.Common.{ℕ, true, false, ◌+◌, ◌≡◌, ◌≢◌, ◌≤◌, ◌<◌, refl, sym, ap, subst, ◌∙◌, arith, inl, inr, List, [], ◌∷◌, ◌++◌, length, take, drop, get_or, Option, Some, None, Result, Ok, Err, append_assoc}
-use Rattle.std.specs.Prelude.{◌⊎◌, IfErr, IsErrOf}
+use Rattle.std.proofs.Common.{ℕ, zero, suc, true, false, ◌+◌, ◌≡◌, ◌≢◌, ◌≤◌, ◌<◌, refl, sym, ap, subst, ◌∙◌, arith, inl, inr, List, [], ◌∷◌, ◌++◌, length, take, drop, get_or, Option, Some, None, Result, Ok, Err, append_assoc}
+use Rattle.std.specs.Prelude.{◌⊎◌, IfErr, slice_get}
 use Rattle.std.specs.Result.{IsErrAnd}
 use Rattle.std.specs.List.{AllByRecursion, flat_map}
 use Rattle.std.specs.Io.KnownBytes.{Consumes, Keeps}
@@ -10,14 +10,14 @@ use Rattle.std.proofs.lemmas.List.{append-nil, length-append, length-drop, lengt
 use Rattle.pfair_entry_row.specs.Laws.{RowsAreShort}
 use Rattle.pfair_replica.specs.HeldRows.{replica_of}
 use Rattle.pfair_replica.specs.Replica.{Replica}
-use Rattle.pfair_text.specs.Output.{TakesPrefix}
-use Rattle.pfair_stream.specs.declared.fault.FollowFault.TheVariants.{Memory, WriteFailed}
-use Rattle.pfair_stream.specs.Follow.{Follow, news}
+use Rattle.pfair_stream.specs.declared.fault.FollowFault.TheVariants.{Memory}
+use Rattle.pfair_stream.specs.Follow.{Follow}
 use Rattle.pfair_feed.specs.Faults.{IsCauseIn, is_refusal}
-use Rattle.pfair_feed.specs.Feeding.{AreFedBytes, AreLines, AreTakenFrom, AreWelcome, HasStood, IsCaughtUp, IsFedByte, IsFedKept, IsFedLine, IsLeft, IsOneLine, IsStopped, IsTakenFrom, IsWelcome, ended, question}
+use Rattle.pfair_feed.specs.Feeding.{AreFedBytes, AreLines, AreTakenFrom, AreWelcome, HasFailed, IsCaughtUp, IsFedByte, IsFedKept, IsFedLine, IsLeft, IsOneLine, IsStopped, IsTakenFrom, IsWelcome, ended, question}
 use Rattle.pfair_feed.specs.declared.fault.FeedFault.{FeedFault}
-use Rattle.pfair_feed.specs.declared.fault.FeedFault.TheVariants.{Follow as Fault, ReadFailed}
-use Rattle.pfair_feed.proofs.Going.{gone_trans, keeps_self, stays, stood_same}
+use Rattle.pfair_feed.specs.declared.fault.FeedFault.TheVariants.{Follow as Fault, ReadFailed, Row}
+use Rattle.pfair_entry_row.specs.declared.fault.RowFault.TheVariants.{NoRow}
+use Rattle.pfair_feed.proofs.Going.{gone_trans, keeps_self, stays}
 
 all_more : {A : Type 0} (P : A → Type 0) (xs : List A) (y : A) → AllByRecursion P xs → P y → AllByRecursion P (xs ++ y ∷ [])
 all_more P [] y a p = (p, tt)
@@ -136,7 +136,7 @@ fed_byte short bytes before f g u v w rest kept kept' byte a k fed = by (cases_o
     by (inr (inr more)) = inside (λ e. absurd (omega (arith, e, more)))
 
 -- a fault at a byte
-pub stopped_at : (bytes more : List ℕ) (e : FeedFault) (before mid after : Follow) (u v w : Option (List ℕ)) (rest : List ℕ) → AreFedBytes bytes before mid u v rest → IsLeft (take 257 rest) e mid after v w
+pub stopped_at : (bytes more : List ℕ) (e : FeedFault) (before mid after : Follow) (u v w : Option (List ℕ)) (rest : List ℕ) → AreFedBytes bytes before mid u v rest → IsLeft (take 257 rest) (slice_get more 0) e mid after v w
     → (is_refusal e ≡ true → take 257 rest ≢ question) → length more ≤ 4096 → (e ≡ ReadFailed → more ≡ []) → IsStopped (bytes ++ more) e before after u w
 stopped_at bytes more e before mid after u v w rest a left asked near all_read =
     record { fed = bytes; more = more; rest = rest; mid = mid; reached = v; bytes_are = refl; near = near; all_read = all_read; are_fed = a; left = left; asked = λ refused same. asked refused (ap (take 257) same) }
@@ -158,15 +158,31 @@ piece_none piece bytes before f u v rest a = subst (λ (l : List ℕ). AreFedByt
 pub piece_whole : (piece bytes : List ℕ) (i : ℕ) → length piece ≤ i → (before f : Follow) (u v : Option (List ℕ)) (rest : List ℕ) → AreFedBytes (bytes ++ take i piece) before f u v rest → AreFedBytes (bytes ++ piece) before f u v rest
 piece_whole piece bytes i past before f u v rest a = subst (λ (l : List ℕ). AreFedBytes (bytes ++ l) before f u v rest) (take_all i piece past) a
 
-pub piece_stopped : (piece bytes : List ℕ) (i : ℕ) (e : FeedFault) (before mid after : Follow) (u v w : Option (List ℕ)) (rest kept : List ℕ) → AreFedBytes (bytes ++ take i piece) before mid u v rest → kept ≡ take 257 rest
-    → IsLeft kept e mid after v w → (is_refusal e ≡ true → kept ≢ question) → length piece ≤ 4096 → e ≢ ReadFailed → IsStopped (bytes ++ piece) e before after u w
-piece_stopped piece bytes i e before mid after u v w rest kept a k left asked short read =
+-- where a byte was read
+not_reading : (kept : List ℕ) (byte : ℕ) (e : FeedFault) (f g : Follow) (v w : Option (List ℕ)) → IsLeft kept (Some byte) e f g v w → e ≢ ReadFailed
+not_reading kept byte e f g v w (inl (inl (is, none), unchanged, keeps)) same = absurd (cc none)
+not_reading kept byte e f g v w (inl (inr (inl (is, other, at, inside)), unchanged, keeps)) same = absurd (let h : Fault Memory ≡ ReadFailed = sym is ∙ same in cc h)
+not_reading kept byte e f g v w (inl (inr (inr (is, ended, long)), unchanged, keeps)) same = absurd (let h : Row NoRow ≡ ReadFailed = sym is ∙ same in cc h)
+not_reading kept byte e f g v w (inr (ended, short, failed)) same = absurd (subst (λ (d : FeedFault). IsCauseIn f g kept d) same failed.cause)
+
+-- the byte behind the first ones
+byte_at : (piece : List ℕ) (i : ℕ) → i < length piece → slice_get (drop i piece) 0 ≡ Some (get_or piece i 0)
+byte_at [] i h = absurd (omega arith)
+byte_at (b ∷ piece) zero h = refl
+byte_at (b ∷ piece) (suc i) h = byte_at piece i (omega (arith, h))
+
+pub piece_stopped : (piece bytes : List ℕ) (i : ℕ) → i < length piece → (e : FeedFault) (before mid after : Follow) (u v w : Option (List ℕ)) (rest kept : List ℕ)
+    → AreFedBytes (bytes ++ take i piece) before mid u v rest → kept ≡ take 257 rest
+    → IsLeft kept (Some (get_or piece i 0)) e mid after v w → (is_refusal e ≡ true → kept ≢ question) → length piece ≤ 4096 → IsStopped (bytes ++ piece) e before after u w
+piece_stopped piece bytes i inside e before mid after u v w rest kept a k left asked short =
     subst (λ (l : List ℕ). IsStopped l e before after u w) (append_assoc bytes (take i piece) (drop i piece) ∙ ap (λ l. bytes ++ l) (take-append-drop i piece))
-    (stopped_at (bytes ++ take i piece) (drop i piece) e before mid after u v w rest a (subst (λ (l : List ℕ). IsLeft l e mid after v w) k left) (λ refused same. asked refused (k ∙ same))
-    (let less = length-drop i piece in omega (arith, less, short)) (λ same. absurd (read same)))
+    (stopped_at (bytes ++ take i piece) (drop i piece) e before mid after u v w rest a
+    (subst (λ (next : Option ℕ). IsLeft (take 257 rest) next e mid after v w) (sym (byte_at piece i inside)) (subst (λ (l : List ℕ). IsLeft l (Some (get_or piece i 0)) e mid after v w) k left))
+    (λ refused same. asked refused (k ∙ same))
+    (let less = length-drop i piece in omega (arith, less, short)) (λ same. absurd (not_reading kept (get_or piece i 0) e mid after v w left same)))
 
 -- where nothing more came
-pub stopped_here : (bytes : List ℕ) (e : FeedFault) (before mid : Follow) (u v : Option (List ℕ)) (rest : List ℕ) → AreFedBytes bytes before mid u v rest → IsLeft (take 257 rest) e mid mid v v
+pub stopped_here : (bytes : List ℕ) (e : FeedFault) (before mid : Follow) (u v : Option (List ℕ)) (rest : List ℕ) → AreFedBytes bytes before mid u v rest → IsLeft (take 257 rest) None e mid mid v v
     → is_refusal e ≡ false → IsStopped bytes e before mid u v
 stopped_here bytes e before mid u v rest a left read =
     subst (λ (l : List ℕ). IsStopped l e before mid u v) (append-nil bytes) (stopped_at bytes [] e before mid mid u v v rest a left (λ refused. absurd (let h : false ≡ true = sym read ∙ refused in cc h)) (omega arith) (λ same. refl))
@@ -253,27 +269,21 @@ pub consumes_end : (old mid new : Option (List ℕ)) (bytes none : List ℕ) →
 consumes_end old mid new bytes none e a b = subst (λ (l : List ℕ). Consumes old new l) (ap (λ l. bytes ++ l) e ∙ append-nil bytes) (consumes_more old mid new bytes none a b)
 
 -- a reader that fails
-pub not_read : (kept : List ℕ) (f : Follow) (w : Option (List ℕ)) → IsLeft kept ReadFailed f f w w
-not_read kept f w = record { cause = inl refl; nothing = λ other. keeps_self w; cut = λ same. absurd (cc same); due = λ same. absurd (cc same); stood = stood_same kept f f refl }
+pub not_read : (kept : List ℕ) (f : Follow) (w : Option (List ℕ)) → IsLeft kept None ReadFailed f f w w
+not_read kept f w = inl (inl (refl, refl), refl, keeps_self w)
 
 -- ---- what a fault at a line leaves
 
-pub line_left : {T : Type 0} (r : Result T FeedFault) (line : List ℕ) (f g : Follow) (v w : Option (List ℕ)) → length line ≤ 256 → IfErr r (IsCauseIn f line) → IfErr r (λ e. e ≢ Fault WriteFailed → Keeps v w)
-    → (IsErrOf r (Fault WriteFailed) → TakesPrefix v w (news f g)) → (IsErrOf r (Fault WriteFailed) → news f g ≢ []) → IfErr r (λ e. HasStood line f g) → IfErr r (λ e. IsLeft line e f g v w)
-line_left (Ok x) line f g v w short cause nothing cut due stood = tt
-line_left (Err e) line f g v w short cause nothing cut due stood =
-    record { cause = inr (inr (inl (short, cause))); nothing = nothing; cut = λ same. cut (ap Err same); due = λ same. due (ap Err same); stood = stood }
+pub line_left : {T : Type 0} (r : Result T FeedFault) (line : List ℕ) (f g : Follow) (v w : Option (List ℕ)) → length line ≤ 256 → IfErr r (λ e. HasFailed line e f g v w)
+    → IfErr r (λ e. IsLeft line (Some 10) e f g v w)
+line_left (Ok x) line f g v w short failed = tt
+line_left (Err e) line f g v w short failed = inr (refl, short, failed)
 
--- memory was wanting for a byte
-pub byte_left : {T : Type 0} (r : Result T FeedFault) (kept : List ℕ) (f : Follow) (w : Option (List ℕ)) → IfErr r (λ e. e ≡ Fault Memory) → IfErr r (λ e. IsLeft kept e f f w w)
-byte_left (Ok x) kept f w is = tt
-byte_left (Err e) kept f w is = record {
-  cause = inr (inl is);
-  nothing = λ other. keeps_self w;
-  cut = λ same. absurd (let h : Fault Memory ≡ Fault WriteFailed = sym is ∙ same in cc h);
-  due = λ same. absurd (let h : Fault Memory ≡ Fault WriteFailed = sym is ∙ same in cc h);
-  stood = stood_same kept f f refl;
-}
+-- an allocation failed for a byte
+pub byte_left : {T : Type 0} (r : Result T FeedFault) (kept : List ℕ) (byte : ℕ) (f : Follow) (w : Option (List ℕ)) → byte ≢ 10 → IfErr r (λ e. e ≡ Fault Memory)
+    → IfErr r (λ e. IsLeft kept (Some byte) e f f w w)
+byte_left (Ok x) kept byte f w inside is = tt
+byte_left (Err e) kept byte f w inside is = inl (inr (inl (is, byte, refl, inside)), refl, keeps_self w)
 
 -- ---- the first bytes of an open line
 

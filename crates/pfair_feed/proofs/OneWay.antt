@@ -1,6 +1,6 @@
 -- Bytes are lines in one way.
-use Rattle.std.proofs.Common.{ℕ, ◌≡◌, ◌≢◌, refl, sym, ap, subst, ◌∙◌, List, [], ◌∷◌, ◌++◌, append_assoc, flat_map}
-use Rattle.pfair_feed.specs.Feeding.{AreLines, IsOneLine, ended}
+use Rattle.std.proofs.Common.{ℕ, ◌≡◌, ◌≢◌, refl, sym, ap, ◌∙◌, List, [], ◌∷◌, ◌++◌, append_assoc, flat_map}
+use Rattle.pfair_feed.specs.Feeding.{IsOneLine, ended}
 use Rattle.pfair_feed.specs.Laws.{LinesAreOne}
 
 -- the head and the tail of equal lists

@@ -2,21 +2,21 @@
 use Rattle.std.proofs.Common.{ℕ, ◌≡◌, ◌≢◌, refl, sym, ap, subst, ◌∙◌, List, Option, Ok, Err, true, false, inl, inr}
 use Rattle.std.specs.Prelude.{◌⊎◌}
 use Rattle.std.specs.Io.KnownBytes.{Keeps}
+use Rattle.pfair_text.specs.Output.{TakesPrefix}
 use Rattle.pfair_entry.specs.Entry.{Logged}
 use Rattle.pfair_entry_row.specs.declared.fault.RowFault.{RowFault}
-use Rattle.pfair_entry_row.specs.Faults.{Reading}
+use Rattle.pfair_entry_row.specs.Faults.{Reading, IsRowFaultOf}
 use Rattle.pfair_entry_row.specs.Row.{entry_row, IsEntryAt}
 use Rattle.pfair_replica.specs.HeldRows.{replica_of}
 use Rattle.pfair_replica.specs.Offered.{taken}
 use Rattle.pfair_replica.specs.Replica.{Replica}
-use Rattle.pfair_stream.specs.Follow.{Follow, IsGrown, IsRefusal}
+use Rattle.pfair_stream.specs.Follow.{Follow, IsSameRun, IsStopOf, news}
 use Rattle.pfair_stream.specs.declared.fault.FollowFault.{FollowFault}
 use Rattle.pfair_stream.specs.declared.fault.FollowFault.TheVariants.{NoSuchProcessor, NumberOutOfRange, Torn, Spent, WriteFailed, Memory}
-use Rattle.pfair_feed.specs.Faults.{IsCauseIn, is_key_refusal}
-use Rattle.pfair_feed.specs.declared.fault.FeedFault.{FeedFault}
-use Rattle.pfair_feed.specs.declared.fault.FeedFault.TheVariants.{ReadFailed}
-use Rattle.pfair_feed.specs.Feeding.{HasStood, IsCaughtUp, IsFedLine, IsTakenFrom}
-use Rattle.pfair_feed.proofs.Going.{stays}
+use Rattle.pfair_feed.specs.Faults.{is_key_refusal}
+use Rattle.pfair_feed.specs.declared.fault.FeedFault.TheVariants.{Follow as Fault, Row}
+use Rattle.pfair_feed.specs.Feeding.{HasFailed, HasStood, IsCaughtUp, IsFedLine, IsTakenFrom}
+use Rattle.pfair_feed.proofs.Going.{keeps_self, stays, stood_same}
 
 -- what is held after a reading
 abbrev after_reading : Replica → Reading → Replica
@@ -53,26 +53,45 @@ held_left line x y z (Torn proc number) t offered wanted = inr (t (offered (λ e
 held_left line x y z Spent t offered wanted = inr (t (offered (λ e. absurd (cc e))))
 held_left line x y z WriteFailed t offered wanted = inr (t (offered (λ e. absurd (cc e))))
 
-pub stood_taken : (line : List ℕ) (f g : Follow) (p n : ℕ) (e : Logged) (r : Reading) (fault : FollowFault) → r ≡ Ok (p, n, e)
-    → ((q m : ℕ) (d : Logged) → IsEntryAt q m d → line ≡ entry_row q m d → r ≡ Ok (q, m, d)) → IsEntryAt p n e → line ≡ entry_row p n e
-    → g.output ≡ f.output → g.told ≡ f.told → IsGrown (record f.dispatch { held = g.dispatch.held }) g.dispatch
-    → (fault ≢ Memory → replica_of g.dispatch.held ≡ taken (replica_of f.dispatch.held) p n e)
-    → (fault ≡ Memory → (g.dispatch.held ≡ f.dispatch.held) ⊎ (replica_of g.dispatch.held ≡ taken (replica_of f.dispatch.held) p n e)) → HasStood line f g
-stood_taken line f g p n e r fault ok back at row output told grown offered wanted = record {
-  output_is = output;
+stood_taken : (line : List ℕ) (f g : Follow) (p n : ℕ) (e : Logged) (fault : FollowFault) → (replica_of g.dispatch.held ≡ taken (replica_of f.dispatch.held) p n e → IsTakenFrom line (replica_of f.dispatch.held) (replica_of g.dispatch.held))
+    → IsSameRun f g → g.told ≡ f.told → IsStopOf f g p n e fault → (fault ≢ Memory → replica_of g.dispatch.held ≡ taken (replica_of f.dispatch.held) p n e) → HasStood line f g
+stood_taken line f g p n e fault row run told stop offered = record {
+  output_is = run.output_is;
   told_is = told;
-  grown = grown;
-  held_is = held_left line (replica_of f.dispatch.held) (taken (replica_of f.dispatch.held) p n e) (replica_of g.dispatch.held) fault
-      (taken_from_row line (replica_of f.dispatch.held) (replica_of g.dispatch.held) p n e r ok back at row) offered
-      (λ memory. elim (wanted memory) [
-        | inl same ↦ inl (ap replica_of same)
-        | inr taken ↦ inr taken
-      ]);
+  grown = run.grown;
+  held_is = held_left line (replica_of f.dispatch.held) (taken (replica_of f.dispatch.held) p n e) (replica_of g.dispatch.held) fault row offered
+      (λ memory. wanted (subst (λ (h : FollowFault). IsStopOf f g p n e h) memory stop));
 }
+  where
+    wanted : IsStopOf f g p n e Memory → (replica_of g.dispatch.held ≡ replica_of f.dispatch.held) ⊎ (replica_of g.dispatch.held ≡ taken (replica_of f.dispatch.held) p n e)
+    wanted (key, inl (none, same)) = inl (ap (λ (h : Follow). replica_of h.dispatch.held) same)
+    wanted (key, inr (held, able, cause)) = inr held
 
--- the reader doesn't come into it
-pub not_failed : (f : Follow) (line : List ℕ) (e : FeedFault) → IsCauseIn f line e → e ≢ ReadFailed
-not_failed f line e cause same = absurd (subst (λ (d : FeedFault). IsCauseIn f line d) same cause)
+-- the follower stopped at the entry whose row the line is
+pub failed_at : (line : List ℕ) (f g : Follow) (v w : Option (List ℕ)) (p n : ℕ) (e : Logged) (r : Reading) (fault : FollowFault) → r ≡ Ok (p, n, e)
+    → ((q m : ℕ) (d : Logged) → IsEntryAt q m d → line ≡ entry_row q m d → r ≡ Ok (q, m, d)) → IsEntryAt p n e → line ≡ entry_row p n e
+    → IsSameRun f g → g.told ≡ f.told → IsStopOf f g p n e fault → (fault ≢ Memory → replica_of g.dispatch.held ≡ taken (replica_of f.dispatch.held) p n e)
+    → (fault ≢ WriteFailed → Keeps v w) → (fault ≡ WriteFailed → TakesPrefix v w (news f g)) → HasFailed line (Fault fault) f g v w
+failed_at line f g v w p n e r fault ok back at row run told stop offered nothing cut =
+    let taken_so = taken_from_row line (replica_of f.dispatch.held) (replica_of g.dispatch.held) p n e r ok back at row in
+    record {
+      cause = record { processor = p; number = n; entry = e; is_entry = at; row_is = row; stop = stop };
+      taken_is = λ other. taken_so (offered (λ same. other (ap Fault same)));
+      stood = stood_taken line f g p n e fault taken_so run told stop offered;
+      nothing = λ other. nothing (λ same. other (ap Fault same));
+      cut = λ same. cut (cc same);
+    }
+
+-- the line is no entry's row
+pub failed_row : (line : List ℕ) (f : Follow) (w : Option (List ℕ)) (fault : RowFault) (r : Reading) → r ≡ Err fault
+    → ((q m : ℕ) (d : Logged) → IsEntryAt q m d → line ≡ entry_row q m d → r ≡ Ok (q, m, d)) → IsRowFaultOf line fault → HasFailed line (Row fault) f f w w
+failed_row line f w fault r err back cause = record {
+  cause = (cause, refl);
+  taken_is = λ other. taken_from_none line (replica_of f.dispatch.held) fault r err back;
+  stood = stood_same line f f refl;
+  nothing = λ other. keeps_self w;
+  cut = λ same. absurd (cc same);
+}
 
 -- nothing changed
 pub fed_none : (line : List ℕ) (f g : Follow) (v w : Option (List ℕ)) → IsCaughtUp f → g ≡ f → Keeps v w → IsTakenFrom line (replica_of f.dispatch.held) (replica_of f.dispatch.held) → IsFedLine line f g v w
@@ -81,13 +100,13 @@ fed_none line f g v w caught same k held =
 
 -- ---- keys that are refused
 
-key_refusal : (fault : FollowFault) → is_key_refusal fault ≡ true → IsRefusal fault
-key_refusal NoSuchProcessor e = inl refl
-key_refusal NumberOutOfRange e = inr refl
-key_refusal (Torn proc number) e = absurd (cc e)
-key_refusal Spent e = absurd (cc e)
-key_refusal WriteFailed e = absurd (cc e)
-key_refusal Memory e = absurd (cc e)
+unchanged : (f g : Follow) (p n : ℕ) (e : Logged) (fault : FollowFault) → is_key_refusal fault ≡ true → IsStopOf f g p n e fault → g ≡ f
+unchanged f g p n e NoSuchProcessor is stop = stop.1
+unchanged f g p n e NumberOutOfRange is stop = stop.2
+unchanged f g p n e (Torn proc number) is stop = absurd (cc is)
+unchanged f g p n e Spent is stop = absurd (cc is)
+unchanged f g p n e WriteFailed is stop = absurd (cc is)
+unchanged f g p n e Memory is stop = absurd (cc is)
 
 not_memory : (fault : FollowFault) → is_key_refusal fault ≡ true → fault ≢ Memory
 not_memory fault e same = absurd (let h : false ≡ true = ap is_key_refusal (sym same) ∙ e in cc h)
@@ -97,9 +116,9 @@ not_writing fault e same = absurd (let h : false ≡ true = ap is_key_refusal (s
 
 pub refused_line : (line : List ℕ) (f g : Follow) (v w : Option (List ℕ)) (p n : ℕ) (e : Logged) (r : Reading) (fault : FollowFault) → IsCaughtUp f → is_key_refusal fault ≡ true → r ≡ Ok (p, n, e)
     → ((q m : ℕ) (d : Logged) → IsEntryAt q m d → line ≡ entry_row q m d → r ≡ Ok (q, m, d)) → IsEntryAt p n e → line ≡ entry_row p n e
-    → (IsRefusal fault → g ≡ f) → (fault ≢ Memory → replica_of g.dispatch.held ≡ taken (replica_of f.dispatch.held) p n e) → (fault ≢ WriteFailed → Keeps v w)
+    → IsStopOf f g p n e fault → (fault ≢ Memory → replica_of g.dispatch.held ≡ taken (replica_of f.dispatch.held) p n e) → (fault ≢ WriteFailed → Keeps v w)
     → (g ≡ f) × IsFedLine line f g v w
-refused_line line f g v w p n e r fault caught refused ok back at row same offered nothing =
-    let stays_so : g ≡ f = same (key_refusal fault refused) in
+refused_line line f g v w p n e r fault caught refused ok back at row stop offered nothing =
+    let stays_so : g ≡ f = unchanged f g p n e fault refused stop in
     let held : replica_of f.dispatch.held ≡ taken (replica_of f.dispatch.held) p n e = ap (λ (h : Follow). replica_of h.dispatch.held) (sym stays_so) ∙ offered (not_memory fault refused) in
     (stays_so, fed_none line f g v w caught stays_so (nothing (not_writing fault refused)) (taken_from_row line (replica_of f.dispatch.held) (replica_of f.dispatch.held) p n e r ok back at row held))

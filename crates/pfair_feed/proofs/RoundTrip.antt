@@ -1,14 +1,12 @@
 -- Lines that have the rows of a script leave the script.
-use Rattle.std.proofs.Common.{ℕ, ◌+◌, ◌<◌, ◌≤◌, ◌≡◌, ◌≢◌, inl, inr, refl, sym, ap, subst, ◌∙◌, arith, Bool, true, false, List, [], ◌∷◌, length, map, Some, None, Option}
-use Rattle.std.specs.Prelude.{◌⊎◌, ◌↔◌, ◌&&◌, nat_le, nat_lt, if◌then◌else◌}
+use Rattle.std.proofs.Common.{ℕ, ◌+◌, ◌<◌, ◌≤◌, ◌≡◌, inl, inr, refl, sym, ap, subst, ◌∙◌, arith, Bool, true, false, List, [], ◌∷◌, map, Some, None}
+use Rattle.std.specs.Prelude.{◌⊎◌, ◌&&◌, nat_le, nat_lt, if◌then◌else◌}
 use Rattle.std.specs.List.{AllByRecursion}
 use Rattle.std.proofs.lemmas.Bool.{and_parts, leb-true, ltb-true}
-use Rattle.pfair_lattice.specs.declared.flat.Flat.{Flat}
 use Rattle.pfair_lattice.specs.declared.flat.Flat.TheVariants.{One}
 use Rattle.pfair_lattice.specs.Held.{HeldBelow}
 use Rattle.pfair_entry.specs.Entry.{Logged}
 use Rattle.pfair_entry_row.specs.Laws.{EachEntryHasItsRow, RowsAreLines}
-use Rattle.pfair_entry_row.specs.Row.{IsEntryAt, entry_row}
 use Rattle.pfair_replica.specs.Offered.{has_key, taken}
 use Rattle.pfair_replica.specs.Replica.{Below, Replica, empty_replica, with_entry}
 use Rattle.pfair_table.specs.EventLaws.{EventsLeaveTheLeast, IsBroughtBelow}
@@ -17,7 +15,7 @@ use Rattle.pfair_table.specs.Script.{LoggedRun, capacity_of, contents_of}
 use Rattle.pfair_table.specs.Table.{Settings}
 use Rattle.pfair_feed.specs.Feeding.{AreTakenFrom, IsTakenFrom}
 use Rattle.pfair_feed.specs.Laws.{EntriesAreTheirRows, EntriesGiveTheirSchedule}
-use Rattle.pfair_feed.specs.RoundTrip.{AreAmong, BringsNothing, HasScheduleOf, HaveTheRows, IsOneOf, IsPlaced, IsRowElsewhere, IsScript, Placed, placed_in, replica_with_room, row_of, rows_of}
+use Rattle.pfair_feed.specs.RoundTrip.{AreAmong, BringsNothing, HasScheduleOf, IsOneOf, IsPlaced, IsScript, Placed, placed_in, replica_with_room, row_of, rows_of}
 use Rattle.pfair_feed.proofs.Orders.{all_among, all_from_map, all_of, all_to_map, event_of, held_after, run_held, same_replica, shape_after, taken_all}
 use Rattle.pfair_feed.proofs.ScriptRows.{all_placed, at_logs, entries_are_lines, in_logs}
 use Rattle.pfair_feed.proofs.Schedules.{schedule_with_room}

@@ -1,15 +1,13 @@
 -- Two runs whose followers hold what agrees have written texts of which one begins the other.
-use Rattle.std.proofs.Common.{ℕ, ◌<◌, ◌≤◌, ◌≡◌, ◌≢◌, inl, inr, refl, sym, ap, subst, ◌∙◌, arith, List, [], ◌∷◌, ◌++◌, length, map, min, None, Some, slice_get, Option}
+use Rattle.std.proofs.Common.{ℕ, ◌<◌, ◌≡◌, inl, inr, refl, sym, ap, subst, ◌∙◌, arith, List, [], ◌∷◌, ◌++◌, length, map, min, Some, slice_get}
 use Rattle.std.specs.Prelude.{◌⊎◌}
 use Rattle.std.specs.List.{AllByRecursion}
 use Rattle.std.proofs.lemmas.Bool.{cases_order}
 use Rattle.pfair_text.specs.Rows.{lines_text}
 use Rattle.pfair_text.proofs.RowFacts.{lines_text-append}
-use Rattle.pfair_entry.specs.Entry.{Logged}
-use Rattle.pfair_entry_row.specs.Row.{IsEntryAt, entry_row}
 use Rattle.pfair_replica.specs.HeldRows.{replica_of}
 use Rattle.pfair_replica.specs.Offered.{taken}
-use Rattle.pfair_replica.specs.Replica.{Agree, Replica, empty_replica, frontier, numbers_below}
+use Rattle.pfair_replica.specs.Replica.{Replica, empty_replica, frontier, numbers_below}
 use Rattle.pfair_table.specs.declared.pick.Decided.{Decided}
 use Rattle.pfair_table.specs.Events.{Course}
 use Rattle.pfair_table.specs.Laws.{IsOf, IsPrefixOf, OneTable}
@@ -20,7 +18,7 @@ use Rattle.pfair_stream.specs.declared.output.Output.{Output}
 use Rattle.pfair_stream.specs.Follow.{Follow, news}
 use Rattle.pfair_stream.specs.Rows.{rows_from}
 use Rattle.pfair_stream.proofs.Alike.{told_alike}
-use Rattle.pfair_feed.specs.Feeding.{AreFedBytes, AreTakenFrom}
+use Rattle.pfair_feed.specs.Feeding.{AreTakenFrom}
 use Rattle.pfair_feed.specs.Laws.{RunsWriteAlike}
 use Rattle.pfair_feed.specs.RoundTrip.{IsNew, IsPlaced, Placed}
 use Rattle.pfair_feed.proofs.Going.{even}

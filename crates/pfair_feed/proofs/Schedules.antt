@@ -1,16 +1,13 @@
 -- More room in the logs doesn't change the schedule of what is held.
-use Rattle.std.proofs.Common.{ℕ, zero, suc, ◌+◌, ◌<◌, ◌≤◌, ◌≡◌, inl, inr, refl, sym, ap, subst, ◌∙◌, arith, List, [], ◌∷◌, ◌++◌, length, map, min, Option, Some, None, flat_map, filter}
+use Rattle.std.proofs.Common.{ℕ, zero, suc, ◌+◌, ◌<◌, ◌≤◌, ◌≡◌, inl, inr, refl, ap, arith, [], ◌∷◌, map, min, None, flat_map, filter}
 use Rattle.std.specs.Prelude.{fold}
 use Rattle.pfair_lattice.specs.Held.{Held}
 use Rattle.pfair_entry.specs.Entry.{Logged}
-use Rattle.pfair_entry.specs.Said.{Said}
-use Rattle.pfair_admission.specs.Member.{Member}
-use Rattle.pfair_replica.specs.Replica.{Replica, frontier, goes_on, last_floor, mark, numbers_below, run_from, run_on, said, said_in, sound_beginning}
-use Rattle.pfair_table.specs.declared.pick.Decided.{Decided}
+use Rattle.pfair_replica.specs.Replica.{Replica, frontier, goes_on, last_floor, numbers_below, run_from, run_on, said, said_in, sound_beginning}
 use Rattle.pfair_table.specs.Script.{LoggedRun, capacity_of, contents_of, replica_of_logs}
-use Rattle.pfair_table.specs.Table.{History, Settings, Table, decided_at, decisions, history, members_at, plan, slot_after, table, table_of, world}
+use Rattle.pfair_table.specs.Table.{Settings, decided_at, decisions, history, members_at, plan, slot_after, table, table_of, world}
 use Rattle.pfair_output.specs.Decisions.{decisions_text}
-use Rattle.pfair_output.specs.Lags.{is_staying, lag_row, lag_rows, lags_header, lags_text}
+use Rattle.pfair_output.specs.Lags.{is_staying, lag_row, lag_rows, lags_header}
 use Rattle.pfair_output.specs.Replay.{placed_replay_text, replay_text}
 use Rattle.pfair_text.specs.Rows.{lines_text}
 use Rattle.pfair_stream.specs.declared.output.Output.{Output}

@@ -1,11 +1,11 @@
 -- The entries of logs: their rows, and where they stand.
-use Rattle.std.proofs.Common.{ℕ, zero, suc, ◌+◌, ◌<◌, ◌≤◌, ◌≡◌, ◌≢◌, ◌^◌, inl, inr, refl, sym, ap, subst, ◌∙◌, arith, true, Bool, List, [], ◌∷◌, ◌++◌, length, map, Some, None, flat_map, max}
-use Rattle.std.specs.Prelude.{◌⊎◌, IsTrue, nat_le}
+use Rattle.std.proofs.Common.{ℕ, zero, suc, ◌+◌, ◌<◌, ◌≤◌, ◌≡◌, inl, inr, refl, sym, ap, subst, ◌∙◌, arith, true, List, [], ◌∷◌, ◌++◌, length, map, Some, None, flat_map}
+use Rattle.std.specs.Prelude.{◌⊎◌}
 use Rattle.std.specs.List.{AllByRecursion, list_all}
 use Rattle.std.proofs.lemmas.Bool.{and_parts, leb-true}
 use Rattle.std.proofs.lemmas.Grind.{flat_map-append}
 use Rattle.std.proofs.lemmas.List.{append-nil, map-append}
-use Rattle.pfair_text.specs.Rows.{line, lines_text}
+use Rattle.pfair_text.specs.Rows.{lines_text}
 use Rattle.pfair_text.proofs.RowFacts.{lines_text-append}
 use Rattle.pfair_lattice.specs.declared.flat.Flat.TheVariants.{One}
 use Rattle.pfair_entry.specs.Entry.{Logged}

@@ -1,9 +1,9 @@
 -- Texts that are sent piece by piece.
-use Rattle.std.proofs.Common.{ℕ, zero, suc, ◌+◌, ◌≡◌, ◌≤◌, ◌<◌, inl, inr, refl, sym, ap, subst, ◌∙◌, arith, List, [], ◌∷◌, ◌++◌, append_assoc, flat_map, length, take, Option, Result, Ok, Err, OnErr}
+use Rattle.std.proofs.Common.{ℕ, zero, suc, ◌+◌, ◌≡◌, ◌<◌, inl, inr, sym, ap, subst, ◌∙◌, arith, List, [], ◌∷◌, ◌++◌, append_assoc, flat_map, length, take, Option, Result, Ok, Err, OnErr, OnOk}
 use Rattle.std.specs.Io.KnownBytes.{Appends}
 use Rattle.std.proofs.lemmas.Bool.{cases_lt}
 use Rattle.std.proofs.lemmas.Grind.{flat_map-append}
-use Rattle.std.proofs.lemmas.List.{length-append, take-append-le}
+use Rattle.std.proofs.lemmas.List.{length-append, take-append-le, take_all}
 use Rattle.csv.proofs.WriteFacts.{appends-more}
 use Rattle.pfair_text.specs.Output.{TakesPrefix}
 use Rattle.pfair_replica.specs.Replica.{numbers_below}
@@ -31,6 +31,11 @@ prefix_behind old mid new xs ys first (n, few, took) = (
 pub on_err : {T E P : Type 0} (r : Result T E) → P → OnErr r P
 on_err (Ok x) p = tt
 on_err (Err e) p = p
+
+-- all of a text went out, or a prefix
+pub all_or_cut : {T E : Type 0} (r : Result T E) (old new : Option (List ℕ)) (text : List ℕ) → OnOk r (Appends old new text) → OnErr r (TakesPrefix old new text) → TakesPrefix old new text
+all_or_cut (Ok x) old new text all cut = (length text, omega arith, subst (λ (l : List ℕ). Appends old new l) (sym (take_all (length text) text (omega arith))) all)
+all_or_cut (Err e) old new text all cut = cut
 
 -- ---- a line for each number
 

@@ -31,16 +31,16 @@ is_refusal (Follow fault) = is_key_refusal fault
 is_refusal ReadFailed = false
 
 -- the line is the row of an entry at which the follower stops so
-pub record IsRowOfStop (f : Follower) (line : List ℕ) (fault : FollowFault) : Type 0 where
+pub record IsRowOfStop (f g : Follower) (line : List ℕ) (fault : FollowFault) : Type 0 where
   pub processor : ℕ
   pub number : ℕ
   pub entry : Logged
   pub is_entry : IsEntryAt processor number entry
   pub row_is : line ≡ entry_row processor number entry
-  pub stop : IsStopOf f.dispatch processor number entry fault
+  pub stop : IsStopOf f g processor number entry fault
 
--- why a line is not taken
-abbrev pub IsCauseIn : Follower → List ℕ → FeedFault → Type 0
-IsCauseIn f line (Row fault) = IsRowFaultOf line fault
-IsCauseIn f line (Follow fault) = IsRowOfStop f line fault
-IsCauseIn f line ReadFailed = ⊥
+-- why a line is not taken, and what the follower is then
+abbrev pub IsCauseIn : (f g : Follower) → List ℕ → FeedFault → Type 0
+IsCauseIn f g line (Row fault) = IsRowFaultOf line fault × (g ≡ f)
+IsCauseIn f g line (Follow fault) = IsRowOfStop f g line fault
+IsCauseIn f g line ReadFailed = ⊥

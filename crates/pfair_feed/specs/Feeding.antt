@@ -1,5 +1,5 @@
 -- What lines bring to a follower, and what is written of it.
-use Rattle.std.specs.Prelude.{ℕ, false, true, ◌≡◌, ◌≢◌, ◌≤◌, ◌<◌, ◌⊎◌, List, [], ◌∷◌, ◌++◌, length, max, take, Option}
+use Rattle.std.specs.Prelude.{ℕ, false, true, ◌≡◌, ◌≢◌, ◌≤◌, ◌<◌, ◌⊎◌, List, [], ◌∷◌, ◌++◌, length, max, take, slice_get, Option, Some, None}
 use Rattle.std.specs.List.{AllByRecursion, flat_map}
 use Rattle.std.specs.Io.KnownBytes.{Appends, Keeps}
 use Rattle.pfair_entry.specs.Entry.{Logged}
@@ -109,9 +109,7 @@ pub record IsFedByte (byte : ℕ) (kept kept' : List ℕ) (before after : Follow
   pub inside : byte ≢ 10 → (kept' ≡ take 257 (kept ++ byte ∷ [])) × (after ≡ before) × Keeps old new
   pub at_end : byte ≡ 10 → (kept' ≡ []) × IsFedKept kept before after old new
 
--- why a line that is kept so far isn't taken, or no more is read
-abbrev pub IsCauseAt : Follow → (kept : List ℕ) → FeedFault → Type 0
-IsCauseAt f kept e = (e ≡ ReadFailed) ⊎ (e ≡ Fault Memory) ⊎ ((length kept ≤ 256) × IsCauseIn f kept e) ⊎ ((256 < length kept) × (e ≡ Row NoRow))
+-- ---- faults
 
 -- What stands of a follower after a fault at a line: more may be planned, no row counts as told, and what is held is as before, or with the
 -- entry whose row the line is.
@@ -121,13 +119,26 @@ pub record HasStood (line : List ℕ) (before after : Follow) : Type 0 where
   pub grown : IsGrown (record before.dispatch { held = after.dispatch.held }) after.dispatch
   pub held_is : (replica_of after.dispatch.held ≡ replica_of before.dispatch.held) ⊎ IsTakenFrom line (replica_of before.dispatch.held) (replica_of after.dispatch.held)
 
--- what a fault leaves: the writer was not written to, or has a part of what is new
-pub record IsLeft (kept : List ℕ) (e : FeedFault) (before after : Follow) (old new : Option (List ℕ)) : Type 0 where
-  pub cause : IsCauseAt before kept e
+-- a line was fed, and a fault came: the writer was not written to, or it failed and has a part of what is new
+pub record HasFailed (line : List ℕ) (e : FeedFault) (before after : Follow) (old new : Option (List ℕ)) : Type 0 where
+  pub cause : IsCauseIn before after line e
+  pub taken_is : e ≢ Fault Memory → IsTakenFrom line (replica_of before.dispatch.held) (replica_of after.dispatch.held)
+  pub stood : HasStood line before after
   pub nothing : e ≢ Fault WriteFailed → Keeps old new
   pub cut : e ≡ Fault WriteFailed → TakesPrefix old new (news before after)
-  pub due : e ≡ Fault WriteFailed → news before after ≢ []
-  pub stood : HasStood kept before after
+
+-- The next byte, where there is one, shows that no line was fed: the reader failed, or an allocation for a byte inside a line, or the line that
+-- ends is longer than any row.
+abbrev pub IsUnfed : (kept : List ℕ) → (next : Option ℕ) → FeedFault → Type 0
+IsUnfed kept next e =
+    ((e ≡ ReadFailed) × (next ≡ None))
+    ⊎ ((e ≡ Fault Memory) × (byte : ℕ) × (next ≡ Some byte) × (byte ≢ 10))
+    ⊎ ((e ≡ Row NoRow) × (next ≡ Some 10) × (256 < length kept))
+
+-- what a fault leaves at a line that is kept so far: all is as before, or the line has ended, and was fed
+abbrev pub IsLeft : (kept : List ℕ) → (next : Option ℕ) → FeedFault → (before after : Follow) → (old new : Option (List ℕ)) → Type 0
+IsLeft kept next e before after old new =
+    (IsUnfed kept next e × (after ≡ before) × Keeps old new) ⊎ ((next ≡ Some 10) × (length kept ≤ 256) × HasFailed kept e before after old new)
 
 -- What had been fed of some bytes when a fault came: all of them where the reader failed, else all but a part of what one read gave. The
 -- question is never refused.
@@ -141,5 +152,5 @@ pub record IsStopped (bytes : List ℕ) (e : FeedFault) (before after : Follow) 
   pub near : length more ≤ 4096
   pub all_read : e ≡ ReadFailed → more ≡ []
   pub are_fed : AreFedBytes fed before mid old reached rest
-  pub left : IsLeft (take 257 rest) e mid after reached new
+  pub left : IsLeft (take 257 rest) (slice_get more 0) e mid after reached new
   pub asked : is_refusal e ≡ true → rest ≢ question

@@ -68,21 +68,20 @@ fn tell_key<E: Write>(complaints: &mut E, processor: u8, number: u32) -> Result<
     send(complaints, b"\n")
 }
 
-// Tells of a line that was refused, or what it asks for where it is a question, and says whether it
-// is one.
+// Answers a line if it is the question, and else tells that it was refused. Returns whether it is the question.
 pub(crate) fn complain<R: Ready, E: Write>(
     follower: &Follower<R>,
     complaints: &mut E,
     fault: &FeedFault,
     line: &[u8],
 ) -> bool
-    ensures { (result ≡ true) ↔ (line.now ≡ question) }
+    ensures asked { (result ≡ true) ↔ (line.now ≡ question) }
+    ensures answered { line.now ≡ question → TakesPrefix (E.contents complaints.old) (E.contents complaints.new) (missing_text follower.now) }
 {
-    let is_question = line == b"?".as_slice();
-    if is_question {
+    if line == b"?".as_slice() {
         let _ = tell_missing(follower, complaints);
-    } else {
-        tell_refused(complaints, fault, line);
+        return true;
     }
-    is_question
+    tell_refused(complaints, fault, line);
+    false
 }

@@ -1,12 +1,12 @@
 //! The lines of a reader, one after another.
 
-ghost use Rattle.std.specs.Prelude.{◌≡◌, ◌≢◌, ◌≤◌, ◌++◌, ◌∷◌, [], ℕ, List, Option, IfErr, OnErr, OnOk, length, take, false, true};
+ghost use Rattle.std.specs.Prelude.{◌≡◌, ◌≢◌, ◌≤◌, ◌++◌, ◌∷◌, [], ℕ, List, Option, Some, IfErr, OnErr, OnOk, length, take, false, true};
 ghost use Rattle.std.specs.Io.KnownBytes.{Consumes, IsAtEnd};
 ghost use Rattle.pfair_replica.specs.HeldRows.{SameShape};
 ghost use Rattle.pfair_stream.specs.Follow.{Follow};
 ghost use Rattle.pfair_stream.specs.declared.fault.FollowFault.TheVariants.{Memory};
 ghost use Rattle.pfair_feed.specs.Faults.{is_refusal};
-ghost use Rattle.pfair_feed.specs.declared.fault.FeedFault.TheVariants.{Follow as Fault, ReadFailed};
+ghost use Rattle.pfair_feed.specs.declared.fault.FeedFault.TheVariants.{Follow as Fault};
 ghost use Rattle.pfair_feed.specs.Feeding.{AreFedBytes, AreWelcome, IsCaughtUp, IsFedByte, IsFedKept, IsLeft, IsRowAt, IsStopped, IsWelcome, question};
 
 use crate::complaint::complain;
@@ -31,9 +31,10 @@ const PIECE: usize = 4096;
 /// costs what [`feed`] costs for each line.
 ///
 /// # Errors
-/// [`FeedFault::ReadFailed`] where the reader answers an error, at once and whatever its kind;
-/// [`FeedFault::Follow`] with the fault of the line at which the follower stopped, or with want of
-/// memory; where `is_strict`, also the fault of the first line that is refused.
+/// - [`FeedFault::ReadFailed`] if the reader answers an error, at once and whatever its kind.
+/// - [`FeedFault::Follow`] if the follower stops at the entry of a line, with its fault; with
+///   [`FollowFault::Memory`] also if an allocation for a line fails, of which nothing is then taken.
+/// - the fault of the first line that is refused, if `is_strict`.
 pub fn follow<R: Ready, I: Read, W: Write, E: Write>(
     alloc: Global,
     follower: &mut Follower<R>,
@@ -118,11 +119,10 @@ fn feed_byte<R: Ready, W: Write, E: Write>(
     ensures caught_up { OnOk result (IsCaughtUp follower.new) }
     ensures few { OnOk result (length kept.new.items ≤ 257) }
     ensures fed { OnOk result (IsFedByte byte kept.old.items kept.new.items follower.old follower.new (W.contents writer.old) (W.contents writer.new)) }
-    ensures left { IfErr result (λ e. IsLeft kept.old.items e follower.old follower.new (W.contents writer.old) (W.contents writer.new)) }
+    ensures left { IfErr result (λ e. IsLeft kept.old.items (Some byte) e follower.old follower.new (W.contents writer.old) (W.contents writer.new)) }
     ensures shape { OnOk result (SameShape follower.old.dispatch.held follower.new.dispatch.held) }
     ensures strict { OnOk result (is_strict ≡ true → byte ≡ 10 → IsWelcome follower.old.dispatch.held.processors follower.old.dispatch.held.capacity kept.old.items) }
     ensures asked { IfErr result (λ e. is_refusal e ≡ true → kept.old.items ≢ question) }
-    ensures read { IfErr result (λ e. e ≢ ReadFailed) }
     ensures lenient { IfErr result (λ e. is_strict ≡ false → is_refusal e ≡ false) }
 {
     if byte == b'\n' {
@@ -160,11 +160,10 @@ fn feed_kept<R: Ready, W: Write, E: Write>(
     requires { IsCaughtUp follower.old }
     ensures caught_up { OnOk result (IsCaughtUp follower.new) }
     ensures fed { OnOk result (IsFedKept line.now follower.old follower.new (W.contents writer.old) (W.contents writer.new)) }
-    ensures left { IfErr result (λ e. IsLeft line.now e follower.old follower.new (W.contents writer.old) (W.contents writer.new)) }
+    ensures left { IfErr result (λ e. IsLeft line.now (Some 10) e follower.old follower.new (W.contents writer.old) (W.contents writer.new)) }
     ensures shape { OnOk result (SameShape follower.old.dispatch.held follower.new.dispatch.held) }
     ensures strict { OnOk result (is_strict ≡ true → IsWelcome follower.old.dispatch.held.processors follower.old.dispatch.held.capacity line.now) }
     ensures asked { IfErr result (λ e. is_refusal e ≡ true → line.now ≢ question) }
-    ensures read { IfErr result (λ e. e ≢ ReadFailed) }
     ensures lenient { IfErr result (λ e. is_strict ≡ false → is_refusal e ≡ false) }
 {
     match feed_short(follower, writer, line) {
@@ -191,10 +190,9 @@ fn feed_short<R: Ready, W: Write>(
     ensures caught_up { OnOk result (IsCaughtUp follower.new) }
     ensures fed { OnOk result (IsFedKept line.now follower.old follower.new (W.contents writer.old) (W.contents writer.new)) }
     ensures refused { IfErr result (λ e. is_refusal e ≡ true → (follower.new ≡ follower.old) × IsFedKept line.now follower.old follower.new (W.contents writer.old) (W.contents writer.new)) }
-    ensures read { IfErr result (λ e. e ≢ ReadFailed) }
     ensures row { OnOk result (IsRowAt follower.old.dispatch.held.processors follower.old.dispatch.held.capacity line.now) }
     ensures shape { OnOk result (SameShape follower.old.dispatch.held follower.new.dispatch.held) }
-    ensures left { IfErr result (λ e. IsLeft line.now e follower.old follower.new (W.contents writer.old) (W.contents writer.new)) }
+    ensures left { IfErr result (λ e. IsLeft line.now (Some 10) e follower.old follower.new (W.contents writer.old) (W.contents writer.new)) }
 {
     if line.len() > LONGEST_ROW {
         return Err(FeedFault::Row(RowFault::NoRow));

@@ -1,16 +1,13 @@
 //! One line.
 
-ghost use Rattle.std.specs.Prelude.{◌≡◌, ◌≢◌, ℕ, [], IfErr, IsErrOf, OnOk, Some, true};
-ghost use Rattle.std.specs.Io.KnownBytes.{Keeps};
-ghost use Rattle.pfair_text.specs.Output.{TakesPrefix};
+ghost use Rattle.std.specs.Prelude.{◌≡◌, ℕ, IfErr, IsErrOf, OnOk, Some, true};
 ghost use Rattle.pfair_lattice.specs.declared.flat.Flat.TheVariants.{One};
 ghost use Rattle.pfair_entry.specs.Entry.{Logged};
 ghost use Rattle.pfair_entry_row.specs.Row.{IsEntryAt, entry_row};
-ghost use Rattle.pfair_replica.specs.HeldRows.{SameShape, held, replica_of};
-ghost use Rattle.pfair_stream.specs.declared.fault.FollowFault.TheVariants.{Memory, WriteFailed};
-ghost use Rattle.pfair_stream.specs.Follow.{news};
-ghost use Rattle.pfair_feed.specs.Faults.{IsCauseIn, is_refusal};
-ghost use Rattle.pfair_feed.specs.Feeding.{HasStood, IsCaughtUp, IsFedLine, IsRowAt, IsTakenFrom};
+ghost use Rattle.pfair_replica.specs.HeldRows.{SameShape, held};
+ghost use Rattle.pfair_stream.specs.declared.fault.FollowFault.TheVariants.{Memory};
+ghost use Rattle.pfair_feed.specs.Faults.{is_refusal};
+ghost use Rattle.pfair_feed.specs.Feeding.{HasFailed, IsCaughtUp, IsFedLine, IsRowAt};
 ghost use Rattle.pfair_feed.specs.declared.fault.FeedFault.TheVariants.{Follow};
 
 use crate::fault::FeedFault;
@@ -23,11 +20,10 @@ use std::io::Write;
 /// [`Follower::take`]. It costs that, and a few passes over the line.
 ///
 /// # Errors
-/// [`FeedFault::Row`] exactly where the line is no entry's row, with what is wrong with it, and
-/// else [`FeedFault::Follow`] with the fault of [`Follower::take`]. After a refusal the follower
-/// and the writer are as before; after any other fault the entry is taken, but maybe where memory
-/// was wanting, and no row of it counts as told. The writer is wanted only where rows are due, and
-/// memory isn't for the row of an entry that is held already.
+/// - [`FeedFault::Row`] if the line is no entry's row, with what is wrong with it: nothing has changed.
+/// - [`FeedFault::Follow`] if [`Follower::take`] answers a fault for its entry: the follower and the writer are
+///   then as that call leaves them. The row of an entry that is held already never gives
+///   [`FollowFault::Memory`](pfair_stream::FollowFault::Memory).
 pub fn feed<R: Ready, W: Write>(
     follower: &mut Follower<R>,
     writer: &mut W,
@@ -38,12 +34,7 @@ pub fn feed<R: Ready, W: Write>(
     ensures row { OnOk result (IsRowAt follower.old.dispatch.held.processors follower.old.dispatch.held.capacity line.now) }
     ensures shape { OnOk result (SameShape follower.old.dispatch.held follower.new.dispatch.held) }
     ensures refused { IfErr result (λ e. is_refusal e ≡ true → (follower.new ≡ follower.old) × IsFedLine line.now follower.old follower.new (W.contents writer.old) (W.contents writer.new)) }
-    ensures cause { IfErr result (IsCauseIn follower.old line.now) }
-    ensures taken { IfErr result (λ e. e ≢ Follow Memory → IsTakenFrom line.now (replica_of follower.old.dispatch.held) (replica_of follower.new.dispatch.held)) }
-    ensures stood { IfErr result (λ _. HasStood line.now follower.old follower.new) }
-    ensures nothing { IfErr result (λ e. e ≢ Follow WriteFailed → Keeps (W.contents writer.old) (W.contents writer.new)) }
-    ensures cut { IsErrOf result (Follow WriteFailed) → TakesPrefix (W.contents writer.old) (W.contents writer.new) (news follower.old follower.new) }
-    ensures due { IsErrOf result (Follow WriteFailed) → news follower.old follower.new ≢ [] }
+    ensures failed { IfErr result (λ e. HasFailed line.now e follower.old follower.new (W.contents writer.old) (W.contents writer.new)) }
     ensures repeat { (processor number : ℕ) (e : Logged) → IsEntryAt processor number e → line.now ≡ entry_row processor number e
         → held follower.old.dispatch.held processor number ≡ Some (One e) → IsErrOf result (Follow Memory) → ⊥ }
 {

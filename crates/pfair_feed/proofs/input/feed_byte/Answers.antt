@@ -18,4 +18,4 @@ returns-then-byte-eq10-clause-strict g c =
     subst (λ (l : List ℕ). IsWelcome c.args.follower.now.dispatch.held.processors c.args.follower.now.dispatch.held.capacity l) c.as_slice.ensures.value (welcome is)) c.feed_kept-fed.ensures.strict
 
 pub returns-clause-left : goal.returns-clause-left
-returns-clause-left g c = byte_left c.keep.result c.args.kept.now.items c.args.follower.now (g.W.Write.contents c.args.writer.now) c.keep.ensures.memory
+returns-clause-left g c = byte_left c.keep.result c.args.kept.now.items c.args.byte c.args.follower.now (g.W.Write.contents c.args.writer.now) (λ same. absurd (c.if-byte-eq10.false same)) c.keep.ensures.memory

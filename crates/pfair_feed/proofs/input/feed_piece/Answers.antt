@@ -1,4 +1,4 @@
-use Rattle.std.proofs.Common.{refl, sym, subst, ◌∙◌, [], ◌≡◌, ◌<◌, ◌≤◌, ◌++◌, ℕ, List, Option, arith, length, take}
+use Rattle.std.proofs.Common.{refl, sym, subst, ◌∙◌, ◌≡◌, ◌<◌, ◌≤◌, ◌++◌, ℕ, List, Option, arith, length, take}
 use Rattle.std.proofs.lemmas.List.{append-nil, take_all}
 use Rattle.pfair_stream.specs.Follow.{Follow}
 use Rattle.pfair_feed.specs.Feeding.{AreFedBytes, AreWelcome, IsStopped}
@@ -53,5 +53,6 @@ returns-in_err-feed_byte-clause-stopped g c =
     c.from_residual.result c.in_err-feed_byte.field-0.0 c.from_residual.ensures.1
     (λ bytes rest before old kept a.
     (let now = c.loop-byte.invariant.fed bytes rest before old kept a in
-    piece_stopped c.args.piece.now bytes c.loop-byte.byte-index c.in_err-feed_byte.field-0.0 before c.loop-byte.follower c.feed_byte.new.follower old (g.W.Write.contents c.loop-byte.writer)
-    (g.W.Write.contents c.feed_byte.new.writer) now.0 c.loop-byte.kept.items now.2 now.1 c.in_err-feed_byte.ensures.left c.in_err-feed_byte.ensures.asked c.requires.short c.in_err-feed_byte.ensures.read))
+    let inside : c.loop-byte.byte-index < length c.args.piece.now = omega arith in
+    piece_stopped c.args.piece.now bytes c.loop-byte.byte-index inside c.in_err-feed_byte.field-0.0 before c.loop-byte.follower c.feed_byte.new.follower old (g.W.Write.contents c.loop-byte.writer)
+    (g.W.Write.contents c.feed_byte.new.writer) now.0 c.loop-byte.kept.items now.2 now.1 c.in_err-feed_byte.ensures.left c.in_err-feed_byte.ensures.asked c.requires.short))

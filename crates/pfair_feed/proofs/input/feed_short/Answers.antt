@@ -4,5 +4,4 @@ use Rattle.pfair_feed.proofs.input.feed_short.Goals as goal
 
 pub returns-clause-left : goal.returns-clause-left
 returns-clause-left g c =
-    line_left c.feed.result c.args.line.now c.args.follower.now c.feed.new.follower (g.W.Write.contents c.args.writer.now) (g.W.Write.contents c.feed.new.writer) (omega arith)
-    c.feed.ensures.cause c.feed.ensures.nothing c.feed.ensures.cut c.feed.ensures.due c.feed.ensures.stood
+    line_left c.feed.result c.args.line.now c.args.follower.now c.feed.new.follower (g.W.Write.contents c.args.writer.now) (g.W.Write.contents c.feed.new.writer) (omega arith) c.feed.ensures.failed
