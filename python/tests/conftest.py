@@ -9,10 +9,14 @@ import tomllib
 from typing import NamedTuple
 
 import pytest
+from hypothesis import settings
 
 TOP = pathlib.Path(__file__).resolve().parents[2]
 EXAMPLES = pathlib.Path(os.environ.get("PFAIR_EXAMPLES", TOP / "examples"))
 SCRIPTS = pathlib.Path(os.environ.get("PFAIR_SCRIPTS", TOP / "scripts"))
+# each run tries the same examples, however long one takes
+settings.register_profile("steady", derandomize=True, deadline=None, database=None)
+settings.load_profile("steady")
 
 
 def script_of(file):

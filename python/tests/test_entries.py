@@ -29,7 +29,7 @@ ANY = some.builds(
 )
 
 
-@settings(max_examples=100, deadline=None, database=None)
+@settings(max_examples=100)
 @given(some.lists(ANY, max_size=5))
 def test_rows_of_entries(entries):
     """Each field of each entry stands in its own column, and comes back."""

@@ -22,19 +22,5 @@ def test_public_names():
     assert plain - {"VERSION"} == set(pfair.__all__) - {"study"}
 
 
-def test_outcomes():
-    assert pfair.OUTCOMES == {
-        0: "admitted",
-        1: "departing",
-        2: "delayed",
-        20: "name taken",
-        21: "period outside frame",
-        22: "no room",
-        23: "no such task",
-        24: "already departing",
-        25: "already released",
-    }
-
-
 def test_types_are_shipped():
     assert pathlib.Path(pfair.__file__).with_name("py.typed").exists()

@@ -63,7 +63,7 @@ LAGGED = some.lists(
 BOUNDS = some.sampled_from([Fraction(1), Fraction(0), Fraction(3, 2), Fraction(-1, 2)])
 
 
-@settings(max_examples=60, deadline=None, database=None)
+@settings(max_examples=60)
 @given(DECIDED, LAGGED, BOUNDS)
 def test_sums(decided, lags, bound):
     schedule = MISSES.Schedule(bound)

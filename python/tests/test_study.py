@@ -6,14 +6,203 @@ from fractions import Fraction
 
 import numpy as np
 import pytest
+from conftest import refusal
+from hypothesis import given, settings
+from hypothesis import strategies as some
 
 import pfair
 from pfair import study
 
 
-def drawn(seed, processors=3, slots=300, tasks=9):
-    rng = np.random.default_rng(seed)
-    return study.task_set(study.rand_fixed_sum(tasks, 0.85 * processors, rng), processors, slots, rng)
+class Draws:
+    """In the place of a random generator: it gives numbers of the test's own, and keeps the order."""
+
+    def __init__(self, *numbers, periods=()):
+        self.numbers, self.periods = list(numbers), periods
+
+    def random(self, size=None):
+        return self.numbers.pop(0) if size is None else np.array([self.numbers.pop(0) for _ in range(size)])
+
+    def permutation(self, weights):
+        return weights
+
+    def choice(self, periods, size):
+        assert len(self.periods) == size
+        return np.array(self.periods)
+
+
+def test_uunifast_by_hand():
+    """0.9, of which a share is cut by the square root of 0.25, and then by 0.5."""
+    assert np.allclose(study.uunifast_discard(3, 0.9, Draws(0.25, 0.5)), [0.45, 0.225, 0.225])
+    # a weight over 1 is drawn anew, one of 1 isn't
+    assert np.allclose(study.uunifast_discard(2, 1.5, Draws(0.25, 0.5)), [0.75, 0.75])
+    assert study.uunifast_discard(2, 1.25, Draws(0.2, 0.5)).tolist() == [1.0, 0.25] and study.uunifast_discard(
+        1, 0.7, Draws()
+    ).tolist() == [0.7]
+
+
+def test_uunifast_is_given_up(monkeypatch):
+    assert study._MOST_DRAWN == 1_000_000
+    monkeypatch.setattr(study, "_MOST_DRAWN", 3)
+    draws = Draws(*[0.0] * 4)
+    refusal(ValueError, "no set without a weight over 1 in 3 draws", study.uunifast_discard, 2, 1.5, draws)
+    assert draws.numbers == [0.0]
+
+
+def test_loads_out_of_range():
+    for draw in (study.uunifast_discard, study.rand_fixed_sum):
+        for load in (0, -1, 5.5):
+            refusal(
+                ValueError,
+                f"a load of {load} isn't in 0 .. 5, the number of tasks",
+                draw,
+                5,
+                load,
+                np.random.default_rng(3),
+            )
+        assert draw(1, 1, np.random.default_rng(3)).tolist() == [1]
+    assert np.allclose(study.rand_fixed_sum(5, 5, np.random.default_rng(3)), 1)
+
+
+def test_faces_by_hand():
+    """Half the way from the middle to an end: there one of two weights is 1 if their sum is 1.3, and 0 if it is 0.6."""
+    assert np.allclose(study.rand_fixed_sum(2, 1.3, Draws(0.7, 0.5)), [0.475, 0.825])
+    assert np.allclose(study.rand_fixed_sum(2, 0.6, Draws(0.7, 0.5)), [0.45, 0.15])
+    # of three with the sum 1.5 either face is as likely; near to the tip by the square root of what is drawn
+    full, empty = (study.rand_fixed_sum(3, 1.5, Draws(face, 0.5, 1.0, 0.25)) for face in (0.5, 0.499))
+    assert np.allclose(full, [0.5, 0.25, 0.75]) and np.allclose(empty, [0.5, 0.75, 0.25])
+
+
+@settings(max_examples=60)
+@given(some.integers(1, 9), some.floats(0.05, 0.95), some.integers(-2, 11))
+def test_volumes(number, part, whole):
+    """Those of slices of cubes are the density of a sum of uniform numbers, and nothing outside."""
+    volume = study._volumes(9, 3 + part)
+    inside = irwin_hall(number, part + whole) if number > 1 else 1
+    wanted = inside if 0 <= whole < number else 0
+    assert math.isclose(volume(number, part + whole), wanted, rel_tol=1e-6, abs_tol=1e-9)
+
+
+def irwin_hall(number, at):
+    """The density of the sum of so many uniform numbers."""
+    terms = ((-1) ** k * math.comb(number, k) * np.maximum(at - k, 0) ** (number - 1) for k in range(number + 1))
+    return np.asarray(sum(terms)) / math.factorial(number - 1)
+
+
+@settings(max_examples=60)
+@given(some.lists(some.tuples(some.integers(1, 999), some.sampled_from(study.PERIODS)), min_size=1, max_size=9))
+def test_costs(drawn_):
+    """Whole costs from 1 to the period, whose weights add to at most the sum, and to less than 1/8 below it."""
+    weights, periods = [number / 1000 for number, _ in drawn_], [period for _, period in drawn_]
+    total = sum(Fraction(number, 1000) for number, _ in drawn_)
+    if total < sum(Fraction(1, period) for period in periods):
+        text = f"{len(periods)} tasks of cost 1 are already over this load: longer periods are wanted"
+        refusal(ValueError, text, study._costs, weights, periods)
+        return
+    costs = study._costs(weights, periods)
+    left = total - sum(Fraction(cost, period) for cost, period in zip(costs, periods))
+    assert all(1 <= cost <= period for cost, period in zip(costs, periods)) and len(costs) == len(periods)
+    assert left >= Fraction(-2, 10**9) and (left < Fraction(1, 8) or costs == periods)
+
+
+def test_costs_by_hand():
+    # 6.2, 2.5 and 1.3 quanta: what is left goes to the task that lost the most
+    assert study._costs([0.62, 0.25, 0.13], [10, 10, 10]) == [6, 3, 1]
+    # light tasks take a whole quantum, so that the heaviest is lowered, as far as it is wanted
+    assert study._costs([0.28, 0.01, 0.01], [10, 10, 10]) == [1, 1, 1]
+    assert study._costs([0.48, 0.01, 0.01], [10, 10, 10]) == [3, 1, 1]
+    assert study._costs([0.31, 0.27, 0.01, 0.01], [10] * 4) == [2, 2, 1, 1]
+    assert study._costs([0.52, 0.24, 0.02, 0.02, 0.01, 0.01], [20, 10, 10, 10, 10, 10]) == [4, 2, 1, 1, 1, 1]
+    assert study._costs([1.0, 0.25], [100, 10]) == [100, 2] and study._costs([1.0, 1.0], [7, 9]) == [7, 9]
+    # ten floats of 0.1 add to a little less than 1; what is less by more than a billionth is less
+    assert sum([0.1] * 10) < 1 and study._costs([0.1] * 10, [10] * 10) == [1] * 10
+    assert study._costs([0.1] * 9 + [0.1 - 0.9e-9], [10] * 10) == [1] * 10
+    text = "10 tasks of cost 1 are already over this load: longer periods are wanted"
+    refusal(ValueError, text, study._costs, [0.1] * 9 + [0.1 - 1.5e-9], [10] * 10)
+
+
+def test_sets():
+    """The tasks are dealt to the logs in turn, all at slot 0; the frame is the least common multiple of the periods."""
+    script = study.task_set([0.5, 0.25, 0.75], 2, 77, Draws(periods=[4, 6, 8]), (4, 6, 8))
+    assert script == pfair.Script(
+        2, 24, 77, [[pfair.arrive("t0", 2, 4), pfair.arrive("t2", 6, 8)], [pfair.arrive("t1", 1, 6)]]
+    )
+    early = study.task_set([0.5, 0.25], 1, 9, Draws(periods=[4, 6]), early=True)
+    assert early.logs == [[pfair.arrive("t0", 2, 4, early=True), pfair.arrive("t1", 1, 6, early=True)]]
+    rng, asked = np.random.default_rng(1), []
+    for _ in range(40):
+        script = study.task_set(study.rand_fixed_sum(9, 2.5, rng), 3, 9, rng)
+        asked += [entry.period for log in script.logs for entry in log]
+        assert not any(entry.early for log in script.logs for entry in log)
+    assert set(asked) == set(study.PERIODS) and study.PERIODS == (8, 10, 12, 15, 16, 20, 24, 30, 40, 48, 60)
+
+
+def test_early_sets_are_planned():
+    """Early tasks run ahead of their fluid share: some lag is -1 or less, which none is without."""
+    for early in (False, True):
+        rng = np.random.default_rng(7)
+        script = study.task_set(study.rand_fixed_sum(5, 1.2, rng), 2, 200, rng, early=early)
+        lags = pfair.schedule(script).lags()
+        assert (
+            bool((lags["numerator"] <= -lags["period"].astype(np.int64)).any()) == early
+            and pfair.schedule(script).counts().behind == 0
+        )
+
+
+def test_weights_of_sets():
+    log = [pfair.arrive("a", 1, 2), pfair.depart("a", 3), pfair.arrive("b", 2, 6, at=4, floor=4)]
+    assert study.weights_of(pfair.Script(2, 6, 9, [log, [pfair.arrive("c", 3, 4)]])) == [
+        Fraction(1, 2),
+        Fraction(1, 3),
+        Fraction(3, 4),
+    ]
+    for seed in range(40):
+        rng = np.random.default_rng(seed)
+        script = study.task_set(study.rand_fixed_sum(9, 2.55, rng), 3, 100, rng)
+        total = sum(study.weights_of(script))
+        assert total <= Fraction(2.55) + Fraction(1, 10**9) and total > 2.35
+
+
+def test_fits_by_hand():
+    half, third = Fraction(1, 2), Fraction(1, 3)
+    # three tasks of 2/3 on two processors: none of the partitioned tests, but PD2 has room
+    heavy = [Fraction(2, 3)] * 3
+    assert not study.fits_partitioned_edf(heavy, 2) and not study.fits_global_edf(heavy, 2)
+    script = pfair.Script(2, 3, 30, [[pfair.arrive(name, 2, 3) for name in "abc"]])
+    assert study.summary_of(script) == pfair.schedule(script).counts() and study.summary_of(script).refused == 0
+    assert study.fits_partitioned_edf([half] * 4, 2) and not study.fits_partitioned_edf([half] * 5, 2)
+    # the heaviest first, each on the first processor that has room
+    tenths = [Fraction(tenth, 10) for tenth in (3, 3, 7, 7)]
+    assert study.fits_partitioned_edf(tenths, 2) and not study.fits_partitioned_edf([*tenths, Fraction(1, 100)], 2)
+    assert not study.fits_partitioned_edf([Fraction(tenth, 10) for tenth in (6, 5, 4, 3, 2, 1)][:5], 1)
+    # at most 2 - 1/2, and 3 - 2 * 1/2
+    assert study.fits_global_edf([half] * 3, 2) and not study.fits_global_edf([half, half, half, Fraction(1, 60)], 2)
+    assert study.fits_global_edf([half] * 4, 3) and not study.fits_global_edf([half] * 5, 3)
+    assert study.fits_global_edf([third] * 5, 2) and study.fits_global_edf([], 2) and study.fits_partitioned_edf([], 1)
+
+
+class Recording(concurrent.futures.Executor):
+    """Runs here, and keeps how it was asked."""
+
+    def map(self, call, *given_, timeout=None, chunksize=1):
+        self.asked = call, given_, chunksize
+        return map(call, *given_)
+
+
+def test_runs_as_they_are_asked():
+    executor = Recording()
+    assert study.run([3, 1, 2], lambda number: 10 * number, executor) == [30, 10, 20] and executor.asked[1:] == (
+        ([3, 1, 2],),
+        16,
+    )
+    assert study.run([], executor=executor, chunk=5) == [] and executor.asked == (study.summary_of, ([],), 5)
+
+
+def test_runs_alone(monkeypatch):
+    """On processes of this machine, in pieces of the same length."""
+    monkeypatch.setattr(study, "ProcessPoolExecutor", lambda: made)
+    made = Recording()
+    assert study.run([4, 5], str) == ["4", "5"] and made.asked == (str, ([4, 5],), 16)
 
 
 @pytest.mark.parametrize("draw", (study.uunifast_discard, study.rand_fixed_sum))
@@ -23,16 +212,16 @@ def test_generators_keep_the_sum(draw):
         sets = np.array([draw(tasks, load, rng) for _ in range(400)])
         assert np.allclose(sets.sum(axis=1), load) and (sets >= -1e-12).all() and (sets <= 1 + 1e-12).all()
         assert np.allclose(sets.mean(axis=0), load / tasks, atol=0.06)
-    for load in (0, -1, 6):
-        with pytest.raises(ValueError):
-            draw(5, load, rng)
 
 
 def test_generators_draw_alike():
-    """Both draw each set as likely as any other: the means of the least, the middle and the greatest weight agree within their errors."""
+    """Both draw each set as likely as any other: the means of the least, the middle and the greatest weight agree."""
     rng = np.random.default_rng(4)
     for tasks, load in ((2, 1.3), (3, 1.5), (5, 2.0), (6, 1.2), (8, 2.5)):
-        ordered = [np.sort([draw(tasks, load, rng) for _ in range(1000)], axis=1) for draw in (study.uunifast_discard, study.rand_fixed_sum)]
+        ordered = [
+            np.sort([draw(tasks, load, rng) for _ in range(1000)], axis=1)
+            for draw in (study.uunifast_discard, study.rand_fixed_sum)
+        ]
         error = np.sqrt(sum(sets.var(axis=0) for sets in ordered) / 1000)
         assert (abs(ordered[0].mean(axis=0) - ordered[1].mean(axis=0)) < 5 * error).all()
 
@@ -45,17 +234,11 @@ def test_two_weights_are_uniform():
     assert counts.sum() == 5_000 and (abs(counts - 500) < 5 * np.sqrt(500)).all()
 
 
-def irwin_hall(number, at):
-    """The density of the sum of so many uniform numbers."""
-    terms = ((-1) ** k * math.comb(number, k) * np.maximum(at - k, 0) ** (number - 1) for k in range(number + 1))
-    return np.asarray(sum(terms)) / math.factorial(number - 1)
-
-
 @pytest.mark.parametrize("draw", (study.uunifast_discard, study.rand_fixed_sum))
 def test_one_weight_has_its_distribution(draw):
-    """Where each set with a sum is as likely as any other, a weight x of n with the sum u has a density in proportion to that of a sum
-    u - x of n - 1 uniform numbers. By Kolmogorov and Smirnov: the greatest distance of what was drawn from that, which 4,000 draws of
-    it pass in one of 1,000 cases."""
+    """If each set with the sum u is as likely as any other, the density of a weight x of n is in proportion to that of
+    a sum u - x of n - 1 uniform numbers. By Kolmogorov and Smirnov: the greatest distance of what was drawn from that.
+    4,000 draws of it pass the limit in one of 1,000 cases."""
     rng = np.random.default_rng(6)
     for tasks, load in ((3, 1.5), (4, 1.3), (5, 2.2)):
         weights = np.sort([draw(tasks, load, rng)[0] for _ in range(4_000)])
@@ -68,67 +251,9 @@ def test_one_weight_has_its_distribution(draw):
         assert distance < 1.95 / np.sqrt(4_000)
 
 
-def test_weights_of_sets_stay_below():
-    for seed in range(40):
-        rng = np.random.default_rng(seed)
-        script = study.task_set(study.rand_fixed_sum(9, 2.55, rng), 3, 100, rng)
-        total = sum(study.weights_of(script))
-        assert total <= Fraction(2.55) + Fraction(1, 10**9) and total > 2.35
-    with pytest.raises(ValueError):
-        study.task_set([0.01] * 20, 1, 100, np.random.default_rng(1), periods=(10,))
-
-
-def test_fits_by_hand():
-    half, third = Fraction(1, 2), Fraction(1, 3)
-    # three tasks of 2/3 on two processors: none of the partitioned tests, but PD2 has room
-    heavy = [Fraction(2, 3)] * 3
-    assert not study.fits_partitioned_edf(heavy, 2) and not study.fits_global_edf(heavy, 2)
-    script = pfair.Script(2, 3, 30, [[pfair.arrive(name, 2, 3) for name in "abc"]])
-    assert pfair.schedule(script).counts().refused == 0
-    assert study.fits_partitioned_edf([half, half, half, half], 2) and not study.fits_partitioned_edf([half] * 5, 2)
-    # at most 2 - 1/2
-    assert study.fits_global_edf([half, half, half], 2) and not study.fits_global_edf([half, half, half, Fraction(1, 60)], 2)
-    assert study.fits_global_edf([third] * 5, 2) and study.fits_global_edf([], 2) and study.fits_partitioned_edf([], 1)
-
-
-def plain_counts(script):
-    """The counts by a loop over the quanta. A name that joins again is another task."""
-    schedule = pfair.schedule(script)
-    costs, joined, refused, arrivals, decided = {}, {}, 0, 0, {}
-    for row in schedule.decisions:
-        decided.setdefault(int(row["slot"]), []).append(row)
-    last, wanted = {}, [0, 0, 0]
-    rows = iter(schedule.quanta)
-    row = next(rows, None)
-    for slot in range(script.slots):
-        for decision in decided.get(slot, []):
-            entry = script.log(int(decision["processor"]))[int(decision["number"]) - 1]
-            if entry.kind == "arrive":
-                arrivals += 1
-                refused += decision["outcome"] != 0
-                if decision["outcome"] == 0:
-                    costs[entry.name], joined[entry.name] = entry.cost, slot
-                    last.pop(entry.name, None)
-        while row is not None and row["slot"] == slot:
-            name, place = row["task"].decode(), int(row["place"])
-            wanted[0] += 1
-            if name in last:
-                was, where = last[name]
-                wanted[1] += slot - was > 1 and (int(row["index"]) - 1) % costs[name] != 0
-                wanted[2] += place != where
-            last[name] = slot, place
-            row = next(rows, None)
-    return (arrivals, refused, *wanted, sum(row["numerator"] >= int(row["period"]) for row in schedule.lags()))
-
-
-def test_counts_by_a_loop():
-    for seed in range(10):
-        script = drawn(seed)
-        assert pfair.schedule(script).counts() == plain_counts(script)
-    again = pfair.Script(1, 6, 60, [[pfair.arrive("a", 1, 3), pfair.arrive("b", 2, 3), pfair.depart("a", 10), pfair.arrive("a", 1, 6, at=20, floor=20), pfair.arrive("c", 1, 5, at=21, floor=21)]])
-    counts = pfair.schedule(again).counts()
-    assert counts == plain_counts(again) and counts.refused == 1 and counts.arrivals == 4
-    assert pfair.schedule(pfair.Script(1, 1, 3)).counts() == (0, 0, 0, 0, 0, 0)
+def drawn(seed, processors=3, slots=300, tasks=9):
+    rng = np.random.default_rng(seed)
+    return study.task_set(study.rand_fixed_sum(tasks, 0.85 * processors, rng), processors, slots, rng)
 
 
 SETS = [drawn(seed) for seed in range(12)]
@@ -145,11 +270,3 @@ def test_runs_on_threads_and_alone():
     with concurrent.futures.ThreadPoolExecutor(4) as threads:
         assert study.run(SETS, executor=threads) == WANTED
     assert study.run(SETS) == WANTED
-
-
-def test_pandas():
-    pandas = pytest.importorskip("pandas")
-    schedule = pfair.schedule(SETS[0])
-    quanta, decisions = schedule.to_pandas()
-    assert list(quanta["task"]) == [name.decode() for name in schedule.quanta["task"]] and isinstance(quanta["task"].dtype, pandas.CategoricalDtype)
-    assert list(quanta.columns) == ["task", "slot", "row", "place", "index"] and len(decisions) == len(schedule.decisions)

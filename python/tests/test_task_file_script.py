@@ -213,7 +213,7 @@ def arrivals_in(text):
     return [entry for entry in tomllib.loads(text)["entry"] if entry["kind"] == "arrive"]
 
 
-@settings(max_examples=60, deadline=None, database=None)
+@settings(max_examples=60)
 @given(some.integers(1, 12), some.integers(1, 100), some.integers(1, 4), some.integers(0, 10**6))
 def test_loads(tasks, load, processors, seed):
     """The weights add to at most the load, and to less than a quantum of the shortest period below it."""

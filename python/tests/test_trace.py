@@ -167,7 +167,7 @@ def test_dump():
 RUN = some.lists(some.dictionaries(some.integers(0, 3), some.integers(0, 119), max_size=4), max_size=12)
 
 
-@settings(max_examples=60, deadline=None, database=None)
+@settings(max_examples=60)
 @given(RUN)
 def test_dumps_read_back(run):
     """Of 4 processors and 120 tasks, which is more signals than one byte has codes for: what runs in each slot."""
@@ -212,7 +212,7 @@ def test_words():
     assert trace.words_of("arrive", "a", "refused", 22, arrival) == "arrive a refused: 22"
 
 
-@settings(max_examples=100, deadline=None, database=None)
+@settings(max_examples=100)
 @given(
     some.integers(1, 9),
     some.integers(0, 5),

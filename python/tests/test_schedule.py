@@ -1,0 +1,312 @@
+"""Schedules of scripts and task files: rows, counts, tables for pandas, traces, and files as they are read."""
+import io
+import json
+import pathlib
+
+import numpy as np
+import pytest
+from conftest import EXAMPLES, refusal, script_of
+from hypothesis import given, settings
+from hypothesis import strategies as some
+
+import pfair
+from pfair import _schedule
+
+FILES = sorted(EXAMPLES.glob("*.toml"))
+NAMED = {0: "admitted", 1: "departing", 2: "delayed"}
+
+
+def test_there_are_examples():
+    assert len(FILES) >= 7
+
+
+def rows_of_table(quanta, *more):
+    head = ",".join(["slot,processor,task,index", *more])
+    rows = [[q["slot"], q["row"], q["task"].decode(), q["index"], *(q[key] for key in more)] for q in quanta]
+    return [head, *(",".join(map(str, row)) for row in rows)]
+
+
+def decisions_of(decisions):
+    lines = ["slot,processor,number,task,outcome,value"]
+    for row in decisions:
+        outcome = int(row["outcome"])
+        value = row["freed_at"] if outcome == 1 else "-" if outcome in NAMED else outcome
+        told = [
+            row["slot"],
+            row["processor"],
+            row["number"],
+            row["task"].decode(),
+            NAMED.get(outcome, "refused"),
+            value,
+        ]
+        lines.append(",".join(map(str, told)))
+    return lines
+
+
+def lags_of(lags):
+    rows = [f"{row['time']},{row['task'].decode()},{row['numerator']},{row['period']}" for row in lags]
+    return ["time,task,numerator,period", *rows]
+
+
+@pytest.mark.parametrize("file", FILES, ids=lambda file: file.stem)
+def test_rows_of_the_examples(file):
+    schedule = pfair.schedule(script_of(file))
+    assert rows_of_table(schedule.quanta) == file.with_suffix(".replay").read_text().splitlines()
+    assert decisions_of(schedule.decisions) == file.with_suffix(".decisions").read_text().splitlines()
+    assert lags_of(schedule.lags()) == file.with_suffix(".lags").read_text().splitlines()
+    middle = schedule.script.slots // 2
+    assert (np.concatenate([schedule.lags(0, middle), schedule.lags(middle)]) == schedule.lags()).all()
+    assert (schedule.lags(start=1, stop=2) == schedule._dispatcher.lags(1, 2)).all()
+    if file.with_suffix(".placed").exists():
+        assert rows_of_table(schedule.quanta, "place") == file.with_suffix(".placed").read_text().splitlines()
+
+
+def drawn(seed, processors=4, slots=200, early=False):
+    rng = np.random.default_rng(seed)
+    weights = pfair.study.rand_fixed_sum(10, 0.7 * processors, rng)
+    return pfair.study.task_set(weights, processors, slots, rng, early=early)
+
+
+def test_any_order_and_repeats():
+    rng, script = np.random.default_rng(1), drawn(1)
+    whole = pfair.schedule(script)
+    pair = [pfair.Dispatcher(4, script.frame, script.slots, 16) for _ in range(2)]
+    for processor in range(4):
+        log = script.closed(processor)
+        for number in rng.permutation(len(log)):
+            one = pair[int(rng.integers(2))]
+            assert one.take(processor, int(number) + 1, log[number]) == "new"
+            assert one.take(processor, int(number) + 1, log[number]) == "known"
+    assert pair[0].missing(0) is not None or pair[1].missing(0) is not None
+    pair[0].absorb(pair[1])
+    assert pair[1].is_below(pair[0]) and not pair[0].is_below(pair[1])
+    pair[1].absorb(pair[0])
+    for one in pair:
+        assert one.is_below(pair[0]) and one.plan() == ("planned", script.slots - 1)
+        assert (one.quanta() == whole.quanta).all() and (one.decisions() == whole.decisions).all()
+        assert one.table(3) == [(q["task"].decode(), int(q["index"])) for q in one.quanta(3, 4)]
+        assert sorted(one.places(3)) == sorted(set(one.places(3)))
+
+
+def test_capacity_is_that_of_the_longest_log():
+    script = pfair.Script(2, 6, 9, [[pfair.arrive("a", 1, 2), pfair.arrive("b", 1, 2)]])
+    schedule = pfair.schedule(script)
+    assert schedule.script is script and schedule._dispatcher.capacity == 3
+
+
+def test_a_log_that_stalls():
+    script = pfair.Script(1, 6, 6, [[pfair.promise(4), pfair.promise(2)]])
+    text = f"{pfair.Stalled.__doc__}: 4"
+    assert refusal(pfair.Stalled, text, pfair.schedule, script) == {"frontier": 4}
+
+
+def counts_by_a_loop(script):
+    """The counts by a loop over the quanta. A name that joins again is another task."""
+    schedule = pfair.schedule(script)
+    costs, refused, arrivals, decided = {}, 0, 0, {}
+    for row in schedule.decisions:
+        decided.setdefault(int(row["slot"]), []).append(row)
+    last, wanted = {}, [0, 0, 0]
+    for slot in range(script.slots):
+        for decision in decided.get(slot, []):
+            entry = script.log(int(decision["processor"]))[int(decision["number"]) - 1]
+            arrivals += entry.kind == "arrive"
+            refused += entry.kind == "arrive" and decision["outcome"] != 0
+            if decision["outcome"] == 0:
+                costs[entry.name] = entry.cost
+                last.pop(entry.name, None)
+        for row in schedule.quanta[schedule.quanta["slot"] == slot]:
+            name, place = row["task"].decode(), int(row["place"])
+            wanted[0] += 1
+            if name in last:
+                was, where = last[name]
+                wanted[1] += slot - was > 1 and (int(row["index"]) - 1) % costs[name] != 0
+                wanted[2] += place != where
+            last[name] = slot, place
+    behind = sum(int(row["numerator"]) >= int(row["period"]) for row in schedule.lags())
+    return (arrivals, refused, *wanted, behind)
+
+
+AGAIN = [
+    pfair.arrive("a", 1, 3),
+    pfair.arrive("b", 2, 3),
+    pfair.depart("a", 10),
+    pfair.arrive("a", 1, 6, at=20, floor=20),
+    pfair.arrive("c", 1, 5, at=21, floor=21),
+    pfair.depart("x", 22, floor=22),
+    pfair.late("b", 20, 5, at=23, floor=23),
+]
+
+
+@pytest.mark.parametrize(
+    "script", [drawn(1, 2, 60), drawn(2, 3, 80), drawn(3, 4, 60, True), pfair.Script(1, 6, 60, [AGAIN])]
+)
+def test_counts(script, monkeypatch):
+    counts = pfair.schedule(script).counts()
+    assert counts == counts_by_a_loop(script) and all(type(count) is int for count in counts)
+    assert counts._fields == ("arrivals", "refused", "quanta", "preemptions", "moves", "behind")
+
+
+@pytest.mark.parametrize("limit", [7, 25, 1_000])
+def test_lags_by_pieces(limit, monkeypatch):
+    """As many slots at once as have no more lags than the limit, and at least one; nothing else depends on them."""
+    script = drawn(1, 2, 60)
+    counts, lags = pfair.schedule(script).counts(), pfair.schedule(script).lags()
+    monkeypatch.setattr(_schedule, "_LAGS_AT_ONCE", limit)
+    schedule = pfair.schedule(script)
+    pieces = list(schedule._lags_by_pieces())
+    assert schedule.counts() == counts and (np.concatenate(pieces) == lags).all()
+    slots = max(1, limit // 10)
+    assert [len(set(piece["time"].tolist())) for piece in pieces[:-1]] == [slots] * (59 // slots)
+
+
+def test_counts_by_hand():
+    assert pfair.schedule(pfair.Script(1, 6, 60, [AGAIN])).counts()[:2] == (4, 1)
+    assert pfair.schedule(pfair.Script(1, 1, 3)).counts() == (0, 0, 0, 0, 0, 0)
+    late = pfair.Script(1, 4, 12, [[pfair.arrive("a", 1, 4), pfair.late("a", 2, 5, at=1, floor=1)]])
+    # one quantum was had by the times 8 and 9, with shares of 2 and 9/4, and two by 12, with a share of 3
+    assert pfair.schedule(late).counts() == (1, 0, 2, 0, 0, 3)
+
+
+NAMES = some.lists(some.text("ab", max_size=4).map(lambda end: ("longname" + end).encode()), max_size=12)
+MIXED = some.lists(
+    some.sampled_from([b"a", b"b", b"longnamea", b"longnameb", b"longname", b"othernamea", b"othername"]), max_size=14
+)
+
+
+@settings(max_examples=100)
+@given(some.one_of(NAMES, MIXED))
+def test_numbers_of_names(names):
+    """Names of more than 8 bytes with one beginning are apart, also where they end alike behind another beginning."""
+    rows = np.zeros(len(names), pfair.QUANTUM)
+    rows["task"] = names
+    codes, known = _schedule.numbered(rows["task"])
+    assert [known[code] for code in codes] == names and len(known) == len(set(names)) and set(known) == set(names)
+
+
+def test_long_names_with_one_beginning():
+    log = [pfair.arrive(f"beginning_{end}", 1, 4) for end in "abc"] + [pfair.arrive("zzzzzzzz_a", 1, 4)]
+    schedule = pfair.schedule(pfair.Script(1, 4, 40, [log]))
+    assert schedule.counts() == counts_by_a_loop(schedule.script) == (4, 0, 40, 0, 0, 0)
+
+
+def test_pandas():
+    pandas = pytest.importorskip("pandas")
+    script = pfair.Script(2, 12, 60, [[pfair.arrive("beginning_b", 5, 12), pfair.arrive("beginning_a", 1, 3)], AGAIN])
+    schedule = pfair.schedule(script)
+    for frame, rows in zip(schedule.to_pandas(), (schedule.quanta, schedule.decisions)):
+        others = [name for name in rows.dtype.names if name != "task"]
+        assert list(frame.columns) == ["task", *others] and len(frame) == len(rows) > 5
+        assert list(frame["task"]) == [name.decode() for name in rows["task"]]
+        assert isinstance(frame["task"].dtype, pandas.CategoricalDtype) and sorted(
+            frame["task"].cat.categories
+        ) == sorted(set(frame["task"]))
+        for name in others:
+            assert frame[name].dtype == np.uint64 and (frame[name].to_numpy() == rows[name]).all()
+
+
+@pytest.mark.parametrize("file", FILES, ids=lambda file: file.stem)
+def test_text_and_back(file, tmp_path):
+    script = script_of(file)
+    again = tmp_path / "again.toml"
+    again.write_text(script.text())
+    assert script_of(again) == script and pfair.read_task_file(file) == script == pfair.read_task_file(
+        script.text().encode()
+    )
+
+
+def test_what_a_schedule_is_made_of():
+    file = EXAMPLES / "two_processors.toml"
+    for given_ in (file, str(file), file.read_bytes(), script_of(file)):
+        assert pfair.schedule(given_).counts() == pfair.Counts(4, 0, 8, 0, 2, 1)
+        assert isinstance(pfair.schedule(given_), pfair.Schedule)
+
+
+HEAD = b"version = 1\nprocessors = 2\nframe = 6\nslots = 6\n"
+ARRIVE = b"[[entry]]\nprocessor = 1\nfloor = 3\nkind = 'arrive'\nat = 4\nname = 'a'\ncost = 1\nperiod = 2\n"
+
+
+def test_a_file_one_byte_too_long(tmp_path):
+    file = tmp_path / "long.toml"
+    for size, kind in ((67_108_865, pfair.FileTooLong), (67_108_864, pfair.PfairError)):
+        with open(file, "wb") as opened:
+            opened.write(HEAD + b"#")
+            opened.truncate(size)
+        for given_ in (file, str(file)):
+            with pytest.raises(kind) as refused:
+                pfair.read_task_file(given_)
+            assert isinstance(refused.value, pfair.FileTooLong) == (size == 67_108_865)
+
+
+def test_logs_of_files():
+    """A log is as the file has it, without the promise that closes it; another last promise stands."""
+    text = HEAD + ARRIVE + b"[[entry]]\nprocessor = 1\nfloor = 5\n" + b"[[entry]]\nprocessor = 0\nfloor = 6\n"
+    assert pfair.read_task_file(text) == pfair.Script(
+        2, 6, 6, [[], [pfair.arrive("a", 1, 2, at=4, floor=3), pfair.promise(5)]]
+    )
+
+
+def events_of(schedule, **how):
+    out = io.StringIO()
+    schedule.write_trace(out, **how)
+    return out.getvalue(), json.loads(out.getvalue())["traceEvents"]
+
+
+LOG = [
+    pfair.arrive("b", 1, 2),
+    pfair.arrive("a", 1, 3),
+    pfair.arrive("c", 1, 2),
+    pfair.late("a", 2, 2, at=1, floor=1),
+    pfair.depart("b", 4, floor=4),
+    pfair.arrive("b", 1, 3, at=8, floor=8),
+    pfair.arrive("b", 1, 6, at=9, floor=9),
+]
+# of each entry what is said, on which track, and at which slot
+TOLD = [
+    ("b joins with 1/2", 1, 0),
+    ("a joins with 1/3", 2, 0),
+    ("arrive c refused: 22", 0, 0),
+    ("a: subtask 2 and later ones put off by 2", 2, 1),
+    ("b departs, free at 5", 1, 4),
+    ("b joins with 1/3", 1, 8),
+    ("arrive b refused: 20", 1, 9),
+]
+WINDOWS = {("b1", "0 to 1"), ("a1", "0 to 2"), ("b2", "2 to 3"), ("a2", "5 to 7"), ("a3", "8 to 10"), ("b1", "8 to 10")}
+
+
+def test_traces():
+    """The words of each decision, the windows of each quantum, and the lags, by hand."""
+    schedule = pfair.schedule(pfair.Script(1, 6, 10, [LOG]))
+    text, events = events_of(schedule)
+    assert text == events_of(schedule, format="json", slot=1.0)[0]
+    instants = [(e["name"], e["tid"], e["ts"] / 1000, e["args"]) for e in events if e["ph"] == "i"]
+    assert instants == [(*told, {"processor": 0, "number": number}) for number, told in enumerate(TOLD, 1)]
+    quanta = [e for e in events if e["ph"] == "X"]
+    assert {(e["name"], e["args"]["window"]) for e in quanta} == WINDOWS and quanta[-1]["ts"] == 9000
+    assert all(e["args"]["deadline"] == int(e["args"]["window"].split()[2]) + 1 for e in quanta)
+    counters = [(e["name"], e["ts"] / 1000, e["args"]["lag"]) for e in events if e["ph"] == "C"]
+    lags = [
+        (row["task"].decode(), *(int(row[key]) for key in ("time", "numerator", "period"))) for row in schedule.lags()
+    ]
+    assert counters == [(f"lag of {task}", time, numerator / period) for task, time, numerator, period in lags]
+    tracks = [(e["pid"], e["tid"], e["args"]["name"]) for e in events if e["name"] == "thread_name"]
+    assert tracks == [(1, 1, "processor 0"), (2, 1, "b"), (2, 2, "a")]
+
+
+def test_dumps():
+    schedule, out = pfair.schedule(EXAMPLES / "two_processors.toml"), io.StringIO()
+    schedule.write_trace(out, "vcd", 0.5)
+    text = out.getvalue()
+    assert text.startswith("$timescale 1 us $end\n") and text.endswith(f"\n#{500 * schedule.script.slots}\n")
+    with pytest.raises(ValueError, match="^a trace is json or vcd, and not svg$"):
+        schedule.write_trace(out, "svg")
+
+
+def test_paths_of_all_kinds():
+    """A path may be anything that os.fspath takes."""
+
+    class Named:
+        def __fspath__(self):
+            return str(EXAMPLES / "two_processors.toml")
+
+    assert pfair.read_task_file(Named()) == script_of(pathlib.Path(EXAMPLES, "two_processors.toml"))
