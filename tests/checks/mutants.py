@@ -1,0 +1,69 @@
+"""Wrong values in Python sources: other comparisons, constants, fields, signs and branches, one at a time."""
+import ast
+
+SWAPS = {ast.Lt: ast.LtE, ast.Gt: ast.GtE, ast.Eq: ast.NotEq, ast.In: ast.NotIn, ast.Is: ast.IsNot, ast.And: ast.Or}
+SWAPS |= {ast.Add: ast.Sub, ast.Mult: ast.FloorDiv, ast.BitAnd: ast.BitOr, ast.USub: ast.UAdd, ast.LShift: ast.RShift}
+SWAPS |= {new: old for old, new in SWAPS.items()} | {ast.Div: ast.Mult, ast.Mod: ast.FloorDiv, ast.Pow: ast.Mult}
+
+
+def nodes_of(tree, has_texts):
+    """The nodes that do something: neither types nor documentation, unless a class's is the text of an exception."""
+    documented = (ast.Module, ast.FunctionDef) if has_texts else (ast.Module, ast.FunctionDef, ast.ClassDef)
+    skipped = set()
+    for node in ast.walk(tree):
+        text = node.body[:1] if isinstance(node, documented) and ast.get_docstring(node) is not None else []
+        for part in (getattr(node, "annotation", None), getattr(node, "returns", None), *text):
+            skipped.update(ast.walk(part) if part else ())
+    return [node for node in ast.walk(tree) if node not in skipped]
+
+
+def named(nodes):
+    """Of each field of an object, and of each key of an array, the names that stand in the same place elsewhere."""
+    modules = {name.asname or name.name for node in nodes if isinstance(node, ast.Import) for name in node.names}
+    called = {node.func for node in nodes if isinstance(node, ast.Call)}
+    fields = [node for node in nodes if isinstance(node, ast.Attribute) and node not in called]
+    keys = [node.slice for node in nodes if isinstance(node, ast.Subscript)]
+    groups = [("attr", node, node.attr, ast.unparse(node.value)) for node in fields]
+    groups += [("value", key, key.value, "") for key in keys if isinstance(getattr(key, "value", None), str)]
+    for name, node, value, group in groups:
+        others = sorted({other for _, _, other, same in groups if same == group and other != value})
+        if others and group not in modules:
+            # the next in their order, and after the last the first
+            yield node, (name, next((other for other in others if other > value), others[0]))
+
+
+def changes(tree, has_texts):
+    """Each change as a node, the name of what changes in it, and the new value."""
+    nodes = nodes_of(tree, has_texts)
+    others = dict(named(nodes))
+    for node in nodes:
+        if isinstance(node, ast.Compare):
+            for place, op in enumerate(node.ops):
+                yield node, "ops", [*node.ops[:place], SWAPS[type(op)](), *node.ops[place + 1 :]]
+        elif isinstance(node, (ast.BoolOp, ast.BinOp, ast.AugAssign, ast.UnaryOp)) and type(node.op) in SWAPS:
+            yield node, "op", SWAPS[type(node.op)]()
+        elif isinstance(node, ast.UnaryOp):
+            yield node, "operand", ast.UnaryOp(ast.Not(), node.operand)
+        elif isinstance(node, (ast.If, ast.IfExp, ast.While)):
+            yield node, "test", ast.UnaryOp(ast.Not(), node.test)
+        elif isinstance(node, ast.comprehension) and node.ifs:
+            yield node, "ifs", [ast.UnaryOp(ast.Not(), node.ifs[0]), *node.ifs[1:]]
+        elif node in others:
+            yield node, *others[node]
+        elif isinstance(node, ast.Constant) and isinstance(node.value, (bool, int, float, str, bytes)):
+            more = {str: "x", bytes: b"x"}.get(type(node.value), 1)
+            yield node, "value", not node.value if isinstance(node.value, bool) else node.value + more
+
+
+def mutants_of(file, source):
+    """The mutants of a file: its new text, and by what it is known: the file, and the line in it that is new."""
+    tree = ast.parse(source)
+    lines = ast.unparse(tree).splitlines()
+    for node, name, new in changes(tree, file.endswith("_errors.py")):
+        old = getattr(node, name)
+        setattr(node, name, new)
+        text = ast.unparse(tree)
+        setattr(node, name, old)
+        changed = next((one for one, other in zip(text.splitlines(), lines) if one != other), None)
+        if changed is not None:
+            yield text, f"{file}: {changed.strip()}"
