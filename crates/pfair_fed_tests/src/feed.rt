@@ -5,7 +5,7 @@ ghost use Rattle.pfair_feed.specs.Feeding.{IsCaughtUp};
 
 use pfair_entry::{Announcement, Entry};
 use pfair_entry_row::RowFault;
-use pfair_feed::{FeedFault, entries_of, follow, tell_missing};
+use pfair_feed::{FeedFault, entries_of, follow, tell_missing, tell_refused};
 use pfair_ready::HeapReady;
 use pfair_stream::{FollowFault, Follower, Output};
 use pfair_table::{Script, Settings};
@@ -28,6 +28,14 @@ fn follower(rt: &impl Abort, alloc: Global) -> Follower<HeapReady>
     ensures { IsCaughtUp result }
 {
     let settings = Settings::new(1, 4, 4).expect(rt, "settings");
+    Follower::new(alloc, settings, 4096, Output::Tables, 0).expect(rt, "memory")
+}
+
+// So many processors for so many slots.
+fn follower_of(rt: &impl Abort, alloc: Global, processors: u8, slots: u64) -> Follower<HeapReady>
+    ensures { IsCaughtUp result }
+{
+    let settings = Settings::new(processors, 4, slots).expect(rt, "settings");
     Follower::new(alloc, settings, 4096, Output::Tables, 0).expect(rt, "memory")
 }
 
@@ -65,7 +73,19 @@ struct End {
 
 // The follower is made here and dropped here, where nothing returns early.
 fn feed_all<I: Read>(rt: &impl Abort, alloc: Global, reader: &mut I, is_strict: bool) -> End {
-    let mut follower = follower(rt, alloc);
+    let follower = follower(rt, alloc);
+    feed_to(alloc, follower, reader, is_strict)
+}
+
+fn feed_to<I: Read>(
+    alloc: Global,
+    follower: Follower<HeapReady>,
+    reader: &mut I,
+    is_strict: bool,
+) -> End
+    requires { IsCaughtUp follower }
+{
+    let mut follower = follower;
     let mut rows = Vec::new(alloc);
     let mut told = Vec::new(alloc);
     let mut asked = Vec::new(alloc);
@@ -143,6 +163,97 @@ fn refused_rows_are_told_and_skipped(rt: HostRuntime) -> Result<(), Fail> {
         strict.told.as_slice(),
         b"pfair_follow: 67 no entry's row: x?\n".as_slice()
     );
+    Ok(())
+}
+
+#[test]
+fn each_question_is_answered(rt: HostRuntime) -> Result<(), Fail> {
+    let mut text: Vec<u8> = Vec::new(rt.alloc());
+    let mut answers: Vec<u8> = Vec::new(rt.alloc());
+    for slot in 1..=300u32 {
+        assert!(rt; write!(&mut text, "?\n0,{slot},{slot},-,-,-,-,-,-,-,-\n").is_ok());
+        assert!(rt; write!(&mut answers, "missing 0,{slot}\n").is_ok());
+    }
+    text.extend_from_slice(b"?\n")?;
+    let follower = follower_of(&rt, rt.alloc(), 1, 300);
+    let end = feed_to(rt.alloc(), follower, &mut text.as_slice(), true);
+    assert!(rt; end.fault == None && end.rows.is_empty());
+    assert!(rt; end.told.as_slice() == answers.as_slice());
+    Ok(())
+}
+
+// Gives one byte at a time.
+#[derive(Drop)]
+struct Drip {
+    text: Vec<u8>,
+    given: usize,
+}
+
+impl Read for Drip {
+    fn read(&mut self, buf: &mut [u8]) -> io::Result<usize> {
+        match (self.text.get(self.given), buf.first_mut()) {
+            (Some(byte), Some(first)) => {
+                *first = *byte;
+                self.given = self.given.saturating_add(1);
+                Ok(1)
+            }
+            _ => Ok(0),
+        }
+    }
+}
+
+#[test]
+fn a_reader_that_gives_100000_times(rt: HostRuntime) -> Result<(), Fail> {
+    let mut text: Vec<u8> = Vec::new(rt.alloc());
+    for _ in 0..100_000 {
+        text.push(b'1')?;
+    }
+    text.push(b'\n')?;
+    text.extend_from_slice(FIRST.as_bytes())?;
+    text.extend_from_slice(LAST.as_bytes())?;
+    let mut drip = Drip { text, given: 0 };
+    let end = feed_all(&rt, rt.alloc(), &mut drip, false);
+    assert!(rt; end.fault == None && drip.given == drip.text.len());
+    assert_eq!(rt; end.rows.as_slice(), WHOLE.as_bytes());
+    Ok(())
+}
+
+// Counts the calls, and takes all that it is given.
+#[derive(Drop)]
+struct Counter {
+    taken: Vec<u8>,
+    calls: usize,
+}
+
+impl Write for Counter {
+    fn write(&mut self, buf: &[u8]) -> io::Result<usize> {
+        self.taken.extend_from_slice(buf)?;
+        self.calls = self.calls.saturating_add(1);
+        Ok(buf.len())
+    }
+
+    fn flush(&mut self) -> io::Result<()> {
+        Ok(())
+    }
+}
+
+#[test]
+fn a_refusal_is_told_in_one_write(rt: HostRuntime) -> Result<(), Fail> {
+    let long = [b'1'; 257];
+    let lines = [b"".as_slice(), b"x", b"1,1,0,-,-,-,-,-,-,-,-", &long];
+    for line in lines {
+        let mut counter = Counter {
+            taken: Vec::new(rt.alloc()),
+            calls: 0,
+        };
+        tell_refused(&mut counter, &FeedFault::Row(RowFault::NoRow), line);
+        let mut told: Vec<u8> = Vec::new(rt.alloc());
+        told.extend_from_slice(b"pfair_follow: 67 no entry's row: ")?;
+        told.extend_from_slice(line)?;
+        told.push(b'\n')?;
+        assert_eq!(rt; counter.taken.as_slice(), told.as_slice());
+        assert_eq!(rt; counter.calls, 1);
+    }
     Ok(())
 }
 
@@ -280,6 +391,19 @@ fn missing_entries_are_told_as_far_as_the_writer_takes_them(rt: HostRuntime) -> 
     let (room, is_told) = told_of_two(&rt, rt.alloc(), TOLD.len());
     assert!(rt; is_told);
     assert_eq!(rt; room.taken.as_slice(), TOLD.as_bytes());
+    Ok(())
+}
+
+#[test]
+fn a_line_is_told_for_each_of_64_logs(rt: HostRuntime) -> Result<(), Fail> {
+    let mut answers: Vec<u8> = Vec::new(rt.alloc());
+    for processor in 0..64u8 {
+        assert!(rt; write!(&mut answers, "missing {processor},1\n").is_ok());
+    }
+    let follower = follower_of(&rt, rt.alloc(), 64, 4);
+    let end = feed_to(rt.alloc(), follower, &mut b"?\n".as_slice(), true);
+    assert!(rt; end.told.as_slice() == answers.as_slice());
+    assert!(rt; end.asked.as_slice() == answers.as_slice());
     Ok(())
 }
 

@@ -154,6 +154,64 @@ fn rows_by_slot(
     Ok(())
 }
 
+// Shows what it has taken once it is flushed.
+#[derive(Drop)]
+struct Screen {
+    taken: usize,
+    shown: usize,
+}
+
+impl Write for Screen {
+    fn write(&mut self, buf: &[u8]) -> io::Result<usize> {
+        self.taken = self.taken.saturating_add(buf.len());
+        Ok(buf.len())
+    }
+
+    fn flush(&mut self) -> io::Result<()> {
+        self.shown = self.taken;
+        Ok(())
+    }
+}
+
+#[test]
+fn rows_of_more_than_65536_bytes_are_flushed(rt: HostRuntime) -> Result<(), Fail> {
+    let settings = Settings::new(1, 1, 2_500).expect(&rt, "settings");
+    let mut follower: Follower<HeapReady> = Follower::new(
+        rt.alloc(),
+        settings,
+        LOG,
+        Output::Tables,
+        0,
+    ).expect(&rt, "memory");
+    let mut screen = Screen { taken: 0, shown: 0 };
+    many_rows(&rt, &mut follower, &mut screen)
+}
+
+fn many_rows(
+    rt: &impl Abort,
+    follower: &mut Follower<HeapReady>,
+    screen: &mut Screen,
+) -> Result<(), Fail> {
+    let arrives = Announcement::Arrive {
+        name: TaskName::from_bytes(b"abcdefghijklmnop").expect(rt, "a name"),
+        weight: Weight::new(1, 1).expect(rt, "a weight"),
+        early: false,
+    };
+    let first = Entry::new(0, Some((0, arrives))).expect(rt, "an entry");
+    assert!(rt; follower.take(screen, 0, 1, first).is_ok() && screen.taken == 0);
+    assert!(rt;
+        follower
+            .take(screen, 0, 2, closing_entry(rt, 2_500))
+            .is_ok()
+    );
+    // a row has 21 bytes beside its slot and its index
+    assert_eq!(rt;
+        screen.shown,
+        2_500 * 21 + (10 + 180 + 2_700 + 6_000) + (9 + 180 + 2_700 + 6_004)
+    );
+    Ok(())
+}
+
 #[test]
 fn rows_of_a_later_slot_on(rt: HostRuntime) -> Result<(), Fail> {
     let rows = [
