@@ -1,18 +1,18 @@
 """Rows of runs that are made up, and pictures of them that are kept."""
 import random
 
-from pfair import _trace
+from pfair import _rows, _trace
 
 
-class Rows(_trace.Source):
+class Rows(_rows.Rows):
     """Rows that are made up: of tasks that come, leave and run as the caller says."""
 
     def __init__(self, processors=1, slots=14, frame=12):
         self.processors, self.slots, self.frame = processors, slots, frame
-        self.decided, self.ran, self.members, self.told = [], [], {}, []
+        self.made, self.ran, self.told = [], [], []
 
     def decide(self, slot, task, outcome, value=0, **entry):
-        self.decided.append(_trace.Decided(slot, 0, len(self.decided) + 1, task, outcome, value, entry))
+        self.made.append(_rows.Decision(slot, task, outcome, value, entry))
         return self
 
     def join(self, slot, task, cost, period):
@@ -37,11 +37,12 @@ class Rows(_trace.Source):
         self.told += [_trace.Lag(time, task, numerator, period) for time, numerator in enumerate(numerators, first)]
         return self
 
-    def decisions(self):
-        return sorted(self.decided, key=lambda row: row.slot)
+    def decided(self):
+        return sorted(self.made, key=lambda row: row.slot)
 
     def quanta(self):
-        return _trace.quanta_of(sorted(self.ran), self.decisions())
+        told = [(row.slot, row.task, row.outcome, row.entry) for row in self.decided()]
+        return _trace.quanta_of(sorted(self.ran), told)
 
     def lags(self, start=0):
         return (lag for lag in sorted(self.told, key=lambda lag: lag.time) if lag.time > start)

@@ -3,8 +3,9 @@ from __future__ import annotations
 
 from typing import Callable, Iterator, NamedTuple, Optional
 
+from ._rows import Decision, Rows
 from ._svg import bar, document, line, text
-from ._trace import Decided, Member, Source
+from ._trace import Member
 
 #: The most slots of one picture.
 MOST_SLOTS = 4096
@@ -53,7 +54,7 @@ class Life(Member):
     freed: Optional[int] = None
     ran = 0
 
-    def __init__(self, row: Decided) -> None:
+    def __init__(self, row: Decision) -> None:
         super().__init__(row.entry["cost"], row.entry["period"], row.slot)
         self.name, self.weight = row.task, f"{row.entry['cost']}/{row.entry['period']}"
         self.late: list[tuple[int, int, int, int]] = []
@@ -79,7 +80,7 @@ class Life(Member):
                 yield index, opens, closes
 
 
-def lives_of(decided: list[Decided]) -> list[Life]:
+def lives_of(decided: list[Decision]) -> list[Life]:
     """The tasks that were admitted."""
     last: dict[str, Life] = {}
     lives = []
@@ -101,7 +102,7 @@ class Figure:
 
     title = ""
 
-    def __init__(self, source: Source, start: int, stop: int, names: list[str], sizes: Sizes, processors: int) -> None:
+    def __init__(self, source: Rows, start: int, stop: int, names: list[str], sizes: Sizes, processors: int) -> None:
         self.start, self.stop, self.names, self.sizes, self.processors = start, stop, names, sizes, processors
         self.row_of = {name: row for row, name in enumerate(names)}
         self.left = max(LEFT, 64 + max(map(name_width, names), default=0))

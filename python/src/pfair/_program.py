@@ -1,4 +1,4 @@
-"""The rows that the program `pfair` prints of a task file, as a source of pictures and traces."""
+"""The rows that the program `pfair` prints of a task file, as a source of pictures."""
 from __future__ import annotations
 
 import importlib
@@ -9,7 +9,8 @@ import subprocess
 import tempfile
 from typing import Any, Iterator, Union
 
-from ._trace import Decided, Lag, Quantum, Source, quanta_of
+from ._rows import Decision, Rows
+from ._trace import Lag, Quantum, quanta_of
 
 
 class Refused(Exception):
@@ -20,7 +21,7 @@ class Refused(Exception):
         self.status = status
 
 
-class Program(Source):
+class Program(Rows):
     """A task file, what was decided of its entries, and the rows of its slots, which are read as they come."""
 
     def __init__(self, path: Union[str, "os.PathLike[str]"], program: Union[str, "os.PathLike[str]"]) -> None:
@@ -34,11 +35,10 @@ class Program(Source):
         logs: dict[int, list[dict[str, Any]]] = {}
         for table in read.get("entry", []):
             logs.setdefault(table["processor"], []).append(table)
-        self.decided = []
+        self.told = []
         for slot, processor, number, task, outcome, value in rows:
             entry = logs[int(processor)][int(number) - 1]
-            said = 0 if value == "-" else int(value)
-            self.decided.append(Decided(int(slot), int(processor), int(number), task, outcome, said, entry))
+            self.told.append(Decision(int(slot), task, outcome, 0 if value == "-" else int(value), entry))
 
     def keep_pipe(self) -> None:
         """Keeps what comes through a pipe in a file, since each command reads it anew."""
@@ -68,16 +68,13 @@ class Program(Source):
         if status:
             raise Refused(said.partition(": ")[2] or f"{self.program} ended with status {status}", status)
 
-    def names(self) -> list[str]:
-        return list(dict.fromkeys(row.task for row in self.decided if row.outcome == "admitted"))
-
-    def decisions(self) -> list[Decided]:
-        return self.decided
+    def decided(self) -> list[Decision]:
+        return self.told
 
     def quanta(self) -> Iterator[Quantum]:
         rows = self.rows("replay", "--affinity")
         quanta = ((int(slot), int(place), task, int(index)) for slot, _, task, index, place in rows)
-        return quanta_of(quanta, self.decided)
+        return quanta_of(quanta, ((row.slot, row.task, row.outcome, row.entry) for row in self.told))
 
     def lags(self, start: int = 0) -> Iterator[Lag]:
         for time, task, numerator, period in self.rows("lags"):

@@ -13,7 +13,8 @@ from ._dispatcher import LONGEST_FILE, OUTCOMES, Dispatcher
 from ._entries import Entry, Rows, Script, promise, whole
 from ._errors import Stalled, check
 from ._figure import MOST_SLOTS
-from ._trace import Decided, Lag, Quantum, Source, quanta_of, write_trace
+from ._rows import Decision, Rows as PictureRows
+from ._trace import Decided, Lag, Quantum, quanta_of, words_of, write_trace
 
 
 # as many slots of a picture have windows that can be told apart
@@ -73,7 +74,8 @@ class Schedule:
     def _lags_by_pieces(self, first: int = 0) -> Iterator[Rows]:
         admitted = int((self.decisions["outcome"] == 0).sum())
         step = max(1, _LAGS_AT_ONCE // max(1, admitted))
-        return (self.lags(start, min(start + step, self.script.slots)) for start in range(first, self.script.slots, step))
+        slots = self.script.slots
+        return (self.lags(start, min(start + step, slots)) for start in range(first, slots, step))
 
     def _entry(self, decision: Any) -> Any:
         return self.script.log(int(decision["processor"]))[int(decision["number"]) - 1]
@@ -132,27 +134,33 @@ class Schedule:
         return frame(self.quanta), frame(self.decisions)
 
 
-class _Source(Source):
-    """A schedule, as traces are made of it."""
+class _Source(PictureRows):
+    """A schedule, as traces and pictures are made of it."""
 
     def __init__(self, schedule: Schedule) -> None:
         script = schedule.script
         self.schedule, self.processors, self.frame, self.slots = schedule, script.processors, script.frame, script.slots
 
-    def names(self) -> list[str]:
-        return list(dict.fromkeys(row.task for row in self.decisions() if row.outcome == "admitted"))
-
-    def decisions(self) -> Iterator[Decided]:
+    def _decided(self) -> Iterator[tuple[int, int, int, str, str, int, Entry]]:
         for row in self.schedule.decisions:
             outcome = int(row["outcome"])
             word, value = (OUTCOMES[outcome], int(row["freed_at"])) if outcome < 20 else ("refused", outcome)
-            entry = asdict(self.schedule._entry(row))
-            yield Decided(int(row["slot"]), int(row["processor"]), int(row["number"]), row["task"].decode(), word, value, entry)
+            yield int(row["slot"]), int(row["processor"]), int(row["number"]), row["task"].decode(), word, value, self.schedule._entry(row)
+
+    def names(self) -> list[str]:
+        return list(dict.fromkeys(task for _, _, _, task, outcome, _, _ in self._decided() if outcome == "admitted"))
+
+    def decisions(self) -> Iterator[Decided]:
+        for slot, processor, number, task, outcome, value, entry in self._decided():
+            yield Decided(slot, processor, number, task, words_of(entry.kind or "", task, outcome, value, asdict(entry)))
+
+    def decided(self) -> Iterator[Decision]:
+        for slot, _, _, task, outcome, value, entry in self._decided():
+            yield Decision(slot, task, outcome, value, asdict(entry))
 
     def quanta(self) -> Iterator[Quantum]:
-        quanta = self.schedule.quanta
-        rows = ((int(row["slot"]), int(row["place"]), row["task"].decode(), int(row["index"])) for row in quanta)
-        return quanta_of(rows, self.decisions())
+        rows = ((int(row["slot"]), int(row["place"]), row["task"].decode(), int(row["index"])) for row in self.schedule.quanta)
+        return quanta_of(rows, ((slot, task, outcome, asdict(entry)) for slot, _, _, task, outcome, _, entry in self._decided()))
 
     def lags(self, start: int = 0) -> Iterator[Lag]:
         for rows in self.schedule._lags_by_pieces(start):

@@ -1,28 +1,24 @@
 """Traces of schedules that viewers open: the Trace Event Format (chrome://tracing, Perfetto) and value change dumps (GTKWave).
 
-The rows come from a `Source`, of which pictures are made too. Nothing of numpy or of the shared library is used here, so that
-scripts work by the same code without them.
+Nothing of the package or of numpy is used here, so that scripts/trace writes its traces by the same code.
 """
 from __future__ import annotations
 
 import itertools
 import json
-from typing import Any, Iterable, Iterator, Mapping, NamedTuple, TextIO, Union
+from typing import Any, Iterable, Iterator, NamedTuple, TextIO, Union
 
 PROCESSORS, TASKS, LAGS = 1, 2, 3
 
 
 class Decided(NamedTuple):
-    """A decision at the boundary of a slot. `value` is the slot from which a departing task's weight is free, or the number of a
-    refusal; `entry` has the fields of the announcement by their keys."""
+    """A decision at the boundary of a slot, in words."""
 
     slot: int
     processor: int
     number: int
     task: str
-    outcome: str
-    value: int
-    entry: Mapping[str, Any]
+    text: str
 
 
 class Quantum(NamedTuple):
@@ -46,10 +42,9 @@ class Lag(NamedTuple):
 
 
 class Source:
-    """What traces and pictures are made of: rows in the order of slots."""
+    """What a trace is made of: rows in the order of slots."""
 
     processors: int
-    frame: int
     slots: int
 
     def names(self) -> list[str]:
@@ -57,14 +52,12 @@ class Source:
         raise NotImplementedError
 
     def decisions(self) -> Iterable[Decided]:
-        """All decisions."""
         raise NotImplementedError
 
     def quanta(self) -> Iterable[Quantum]:
         raise NotImplementedError
 
-    def lags(self, start: int = 0) -> Iterable[Lag]:
-        """The lags at times after `start`."""
+    def lags(self) -> Iterable[Lag]:
         raise NotImplementedError
 
 
@@ -81,16 +74,15 @@ class Member:
         return theta + (index - 1) * self.period // self.cost, theta - (-index * self.period // self.cost)
 
 
-def words_of(row: Decided) -> str:
-    """A decision in words."""
-    task, entry = row.task, row.entry
-    if row.outcome == "admitted":
+def words_of(kind: str, task: str, outcome: str, value: Any, entry: Any) -> str:
+    """A decision in words; `entry` has the fields of the announcement by their keys."""
+    if outcome == "admitted":
         return f"{task} joins with {entry['cost']}/{entry['period']}"
-    if row.outcome == "departing":
-        return f"{task} departs, free at {row.value}"
-    if row.outcome == "delayed":
+    if outcome == "departing":
+        return f"{task} departs, free at {value}"
+    if outcome == "delayed":
         return f"{task}: subtask {entry['index']} and later ones put off by {entry['by']}"
-    return f"{entry['kind']} {task} refused: {row.value}"
+    return f"{kind} {task} refused: {value}"
 
 
 class JsonTrace:
@@ -120,7 +112,7 @@ class JsonTrace:
         out.write('{"displayTimeUnit":"ms","traceEvents":[\n')
         self.tracks(names)
         for row in source.decisions():
-            self.event(ph="i", s="t", name=words_of(row), pid=TASKS, tid=track.get(row.task, 0), ts=self.at(row.slot), args={"processor": row.processor, "number": row.number})
+            self.event(ph="i", s="t", name=row.text, pid=TASKS, tid=track.get(row.task, 0), ts=self.at(row.slot), args={"processor": row.processor, "number": row.number})
         for slot, place, task, index, release, deadline in source.quanta():
             said = {"subtask": index, "window": f"{release} to {deadline - 1}", "deadline": deadline, "slack": deadline - slot - 1, "processor": place}
             for process, thread in ((PROCESSORS, place + 1), (TASKS, track[task])):
@@ -187,19 +179,19 @@ def code_of(number: int) -> str:
             return code
 
 
-def quanta_of(rows: Iterable[tuple[int, int, str, int]], decisions: Iterable[Decided]) -> Iterator[Quantum]:
-    """Quanta with their windows: of quanta as (slot, place, task, index), and of decisions, both in the order of slots. A name that
-    joins again is another task from then on."""
+def quanta_of(rows: Iterable[tuple[int, int, str, int]], decisions: Iterable[tuple[int, str, str, Any]]) -> Iterator[Quantum]:
+    """Quanta with their windows: of quanta as (slot, place, task, index), and of decisions as (slot, task, outcome, entry), both in the
+    order of slots. A name that joins again is another task from then on."""
     members: dict[str, Member] = {}
     waiting = iter(decisions)
     decided = next(waiting, None)
     for slot, place, task, index in rows:
-        while decided and decided.slot <= slot:
-            entry = decided.entry
-            if decided.outcome == "admitted":
-                members[decided.task] = Member(entry["cost"], entry["period"], decided.slot)
-            elif decided.outcome == "delayed":
-                members[decided.task].delays.append((entry["index"], entry["by"]))
+        while decided and decided[0] <= slot:
+            at, name, outcome, entry = decided
+            if outcome == "admitted":
+                members[name] = Member(entry["cost"], entry["period"], at)
+            elif outcome == "delayed":
+                members[name].delays.append((entry["index"], entry["by"]))
             decided = next(waiting, None)
         yield Quantum(slot, place, task, index, *members[task].window(index))
 

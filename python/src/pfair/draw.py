@@ -17,7 +17,7 @@ from typing import NoReturn, Optional
 
 from . import picture
 from ._program import Program, Refused
-from ._trace import Source
+from ._rows import Rows
 from ._version import VERSION
 
 NAME = "pfair_picture"
@@ -108,7 +108,7 @@ def words_of(argv: Optional[list[str]]) -> argparse.Namespace:
     return words
 
 
-def source_of(file: str, program: Optional[str]) -> Source:
+def source_of(file: str, program: Optional[str]) -> Rows:
     """The rows of a task file: of the program, or of the library."""
     if program is not None:
         return Program(file, program)
@@ -122,7 +122,7 @@ def source_of(file: str, program: Optional[str]) -> Source:
         raise Fault(f"{fault.number} {fault}", status) from None
 
 
-def drawn(words: argparse.Namespace, source: Source) -> bytes:
+def drawn(words: argparse.Namespace, source: Rows) -> bytes:
     """The bytes of what is asked for."""
     start, stop = words.slots or (0, source.slots)
     if refused := picture.refusal(start, stop, source.slots):

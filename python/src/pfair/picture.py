@@ -1,6 +1,6 @@
 """Pictures of schedules and of lags in SVG, and the page around one for a browser.
 
-A figure places bars, lines, words and marks by the rows of a `Source`. Nothing of numpy or of the shared library is
+A figure places bars, lines, words and marks by the rows of a source. Nothing of numpy or of the shared library is
 used here, so that scripts/pfair_picture draws by the same code with Python alone.
 """
 from __future__ import annotations
@@ -10,9 +10,11 @@ from collections import Counter
 from typing import Callable, Iterator, Optional
 
 from ._figure import MOST_SLOTS, Figure, Life, Sizes, blank, lives_of, name_width, slot_width
+from ._rows import Decision, Rows
 from ._svg import COLOURS, arrow, bar, group, layer, line, mark, step, style_on, swatch, text
-from ._trace import Decided, Lag, Quantum, Source
+from ._trace import Lag, Quantum
 
+PAST = "at or past a bound (late releases are not taken into account)"
 # the width of an entry of the key with nothing behind it
 LAST = 0
 #: What a picture can show.
@@ -69,8 +71,8 @@ class ScheduleFigure(Figure):
 
     title = "Schedule"
 
-    def __init__(self, source: Source, start: int, stop: int) -> None:
-        decided = [row for row in source.decisions() if row.slot < stop]
+    def __init__(self, source: Rows, start: int, stop: int) -> None:
+        decided = [row for row in source.decided() if row.slot < stop]
         names = list(dict.fromkeys(row.task for row in decided))
         super().__init__(source, start, stop, names, schedule_sizes(stop - start, len(names)), source.processors)
         self.lives = lives_of(decided)
@@ -85,7 +87,7 @@ class ScheduleFigure(Figure):
         self.refusals(decided)
         self.keys({quantum.place for quantum in quanta})
 
-    def ran(self, source: Source) -> list[Quantum]:
+    def ran(self, source: Rows) -> list[Quantum]:
         """The quanta in sight; each task is told the last of its subtasks that ran."""
         waiting: dict[str, list[Life]] = {}
         for life in reversed(self.lives):
@@ -206,7 +208,7 @@ class ScheduleFigure(Figure):
             self.kinds.add("more")
             yield text((left + right) // 2, middle - 4 if index % 2 else middle + 11, "more", f"+{by}")
 
-    def refusals(self, decided: list[Decided]) -> None:
+    def refusals(self, decided: list[Decision]) -> None:
         """A cross for what was refused of a task at a slot, with the number, or how many there are."""
         refused: dict[tuple[int, str], list[int]] = {}
         for row in decided:
@@ -265,8 +267,8 @@ class LagsFigure(Figure):
 
     title = "Lags"
 
-    def __init__(self, source: Source, start: int, stop: int) -> None:
-        lives = lives_of([row for row in source.decisions() if row.slot < stop])
+    def __init__(self, source: Rows, start: int, stop: int) -> None:
+        lives = lives_of([row for row in source.decided() if row.slot < stop])
         names = list(dict.fromkeys(life.name for life in lives))
         super().__init__(source, start, stop, names, lag_sizes(stop - start, len(names)), 0)
         above = self.sizes.above + self.sizes.lane
@@ -286,7 +288,7 @@ class LagsFigure(Figure):
         self.parts += [line(self.left, y, right, y, "bound") for y in (zero - lane, zero + lane)]
         self.kinds.add("bounds")
 
-    def steps(self, source: Source, joined: set[tuple[str, int]]) -> None:
+    def steps(self, source: Rows, joined: set[tuple[str, int]]) -> None:
         """A step for each lag in sight, from the one before it: 0 where the task has just joined."""
         last: dict[str, tuple[int, bool]] = {}
         for lag in source.lags(max(0, self.start - 1)):
@@ -350,7 +352,7 @@ class LagsFigure(Figure):
                 ("bounds", 222, 30, "the bounds of 1 on both sides", across("bound")),
                 ("weight", LAST, 0, "1/2 is a weight", blank),
             ),
-            (("far", LAST, 32, "at or past a bound (late releases are not taken into account)", both("past", "outside")),),
+            (("far", LAST, 32, PAST, both("past", "outside")),),
             (
                 ("above", 144, 13, "above what is drawn", lambda x, y: mark(x + 4, y + 10, "above")),
                 ("below", 144, 13, "below what is drawn", lambda x, y: mark(x + 4, y, "below")),
@@ -379,7 +381,7 @@ def refusal(start: int, stop: int, slots: int) -> str:
     return ""
 
 
-def svg(source: Source, picture: str = "schedule", start: int = 0, stop: Optional[int] = None) -> str:
+def svg(source: Rows, picture: str = "schedule", start: int = 0, stop: Optional[int] = None) -> str:
     """Returns a picture of slots `start` to `stop - 1` (of all, 4,096 at most), the "schedule" or the "lags", in SVG.
 
     Raises ValueError if there is no such picture, or if it can't show these slots.
