@@ -77,7 +77,7 @@ def bars_of(drawn, layer):
     return [(told, x, x + wide, style) for told, x, wide, style in bars]
 
 
-@settings(max_examples=200, deadline=None)
+@settings(max_examples=100, deadline=None)
 @given(RUNS, st.data())
 def test_one_bar_for_each_window_and_quantum(run, data):
     rows, tasks = run

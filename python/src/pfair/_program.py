@@ -77,9 +77,10 @@ class Program(Rows):
         return quanta_of(quanta, ((row.slot, row.task, row.outcome, row.entry) for row in self.told))
 
     def lags(self, start: int = 0) -> Iterator[Lag]:
-        for time, task, numerator, period in self.rows("lags"):
-            if int(time) > start:
-                yield Lag(int(time), task, int(numerator), int(period))
+        for row in self.rows("lags"):
+            time = int(row[0])
+            if time > start:
+                yield Lag(time, row[1], int(row[2]), int(row[3]))
 
 
 def tables_of(path: str) -> Any:

@@ -291,17 +291,20 @@ class LagsFigure(Figure):
     def steps(self, source: Rows, joined: set[tuple[str, int]]) -> None:
         """A step for each lag in sight, from the one before it: 0 where the task has just joined."""
         last: dict[str, tuple[int, bool]] = {}
+        time = x1 = x2 = -1
         for lag in source.lags(max(0, self.start - 1)):
             if lag.time > self.stop:
                 break
+            if lag.time != time:
+                time, x1, x2 = lag.time, self.x(lag.time - 1), self.x(lag.time)
             y, is_beyond = self.lag_y(lag)
             is_past = abs(lag.numerator) >= lag.period
-            if lag.time > self.start:
-                has_joined = (lag.task, lag.time - 1) in joined
+            if time > self.start:
+                has_joined = (lag.task, time - 1) in joined
                 y1, was = (self.zero[lag.task], False) if has_joined else last[lag.task]
-                parts = self.lag(self.x(lag.time - 1), y1, self.x(lag.time), y, was, is_past)
-                more = self.beyond(lag, self.x(lag.time), y) if is_beyond else ""
-                told = f"{lag.task}, time {lag.time}: lag {lag.numerator}/{lag.period}"
+                parts = self.lag(x1, y1, x2, y, was, is_past)
+                more = self.beyond(lag, x2, y) if is_beyond else ""
+                told = f"{lag.task}, time {time}: lag {lag.numerator}/{lag.period}"
                 self.parts.append(group(told, parts, more))
             last[lag.task] = y, is_past
 
