@@ -112,6 +112,7 @@ CASES = {
     "wide_lags": (lags_of_all_kinds(80), [("lags", 0, 40), ("lags", 0, 80)]),
     "narrow_lags": (lags_of_all_kinds(500), [("lags", 0, 121), ("lags", 0, 401)]),
     "far": (wide_gap(), [("schedule", *slots) for slots in FAR] + [("lags", 199_960, 200_000)]),
+    "name_that_just_fits": (Rows().join(0, "camera", 1, 2).run(0, 0, "camera", 1), [("schedule", 0, 2)]),
     "nothing": (Rows(3, 5), [("schedule", 0, 5), ("lags", 4, 5)]),
 }
 # those that are kept whole; of the others their sums
