@@ -12,7 +12,7 @@ from conftest import SCRIPTS, module_of
 
 MAKE = module_of("make_wheel")
 PACKAGE = SCRIPTS.parent / "python"
-ABOUT = "ramluhay-0.2.0.dist-info"
+ABOUT = "ramluhay-0.3.0.dist-info"
 
 
 @pytest.fixture
@@ -23,15 +23,16 @@ def wheel(tmp_path):
 
 
 def test_files(wheel):
-    """The package's own files as they are, the library, and three files about it, in one order and of one time."""
-    assert wheel.name == "ramluhay-0.2.0-py3-none-linux_x86_64.whl"
+    """The package's own files as they are, the library, and four files about it, in one order and of one time."""
+    assert wheel.name == "ramluhay-0.3.0-py3-none-linux_x86_64.whl"
     with zipfile.ZipFile(wheel) as packed:
         members = packed.infolist()
-        files = [file for file in (PACKAGE / "src" / "pfair").iterdir() if file.suffix in (".py", ".typed")]
+        files = [file for file in (PACKAGE / "src" / "pfair").iterdir() if file.is_file() and file.suffix != ".so"]
         sources = {f"pfair/{file.name}": file.read_bytes() for file in files}
-        about = [f"{ABOUT}/METADATA", f"{ABOUT}/WHEEL", f"{ABOUT}/RECORD"]
+        about = [f"{ABOUT}/METADATA", f"{ABOUT}/WHEEL", f"{ABOUT}/entry_points.txt", f"{ABOUT}/RECORD"]
         assert [member.filename for member in members] == [*sorted(sources), "pfair/libpfair.so", *about]
-        assert "pfair/__init__.py" in sources and "pfair/py.typed" in sources
+        assert {"pfair/__init__.py", "pfair/py.typed", "pfair/page.css", "pfair/page.js"} <= sources.keys()
+        assert packed.read(about[2]) == b"[console_scripts]\npfair_picture = pfair.draw:main\n"
         assert all(packed.read(name) == content for name, content in sources.items())
         assert packed.read("pfair/libpfair.so") == b"\x7fELF library" and packed.testzip() is None
     for member in members:
@@ -63,7 +64,7 @@ def test_metadata(wheel):
     assert told.items() == [
         ("Metadata-Version", "2.1"),
         ("Name", "ramluhay"),
-        ("Version", "0.2.0"),
+        ("Version", "0.3.0"),
         ("Summary", "A proved Pfair (PD2) multiprocessor executive, for studies of schedulability"),
         ("Classifier", "Typing :: Typed"),
         ("Classifier", "Operating System :: POSIX :: Linux"),
@@ -73,6 +74,8 @@ def test_metadata(wheel):
         ("Requires-Dist", "numpy>=1.22"),
         ("Provides-Extra", "tables"),
         ("Requires-Dist", "pandas>=1.5 ; extra == 'tables'"),
+        ("Provides-Extra", "plots"),
+        ("Requires-Dist", "matplotlib>=3.5 ; extra == 'plots'"),
     ]
     assert told.get_payload() == (PACKAGE / "README.md").read_text()
     wanted = [("Wheel-Version", "1.0"), ("Generator", "scripts/make_wheel"), ("Root-Is-Purelib", "false")]
