@@ -97,22 +97,26 @@ def loaded(monkeypatch, version):
     return module, asked
 
 
+# of the version A.B.C: 10,000 times A, 100 times B, and C
+FIRST, SECOND, THIRD = map(int, pfair.__version__.split("."))
+NUMBER_OF_VERSION = 10_000 * FIRST + 100 * SECOND + THIRD
+
+
 def test_which_library(monkeypatch):
     beside = str(pathlib.Path(_library.__file__).with_name("libpfair.so"))
     for named, wanted in ((None, beside), ("", beside), ("another.so", "another.so")):
         monkeypatch.delenv("PFAIR_LIBRARY", raising=False)
         if named is not None:
             monkeypatch.setenv("PFAIR_LIBRARY", named)
-        assert loaded(monkeypatch, 300)[1] == [wanted]
+        assert loaded(monkeypatch, NUMBER_OF_VERSION)[1] == [wanted]
 
 
 def test_version(monkeypatch):
     """10,000 times the first part and 100 times the second and the third: a library of any other number is refused."""
-    assert pfair.__version__ == _library.VERSION == "0.3.0" and _library.library.pfair_version() == 300
-    for version in (0, 299, 301, 30_000, 200):
-        with pytest.raises(
-            ImportError, match=f"^the shared library has version number {version}, and this package is 0.3.0$"
-        ):
+    assert pfair.__version__ == _library.VERSION and _library.library.pfair_version() == NUMBER_OF_VERSION
+    for version in (0, NUMBER_OF_VERSION - 1, NUMBER_OF_VERSION + 1, NUMBER_OF_VERSION + 100):
+        said = f"^the shared library has version number {version}, and this package is {pfair.__version__}$"
+        with pytest.raises(ImportError, match=said):
             loaded(monkeypatch, version)
     monkeypatch.setattr("pfair._version.VERSION", "3.45.6")
     assert loaded(monkeypatch, 34_506)[0].VERSION == "3.45.6"
@@ -126,7 +130,7 @@ BYTE, SHORT, LONG, SIZE, ROW = ctypes.c_uint8, ctypes.c_uint32, ctypes.c_uint64,
 
 
 def test_types_of_calls(monkeypatch):
-    module, _ = loaded(monkeypatch, 300)
+    module, _ = loaded(monkeypatch, NUMBER_OF_VERSION)
     library = module.library
     handle, number, step = (ctypes.POINTER(kind) for kind in (module.Handle, LONG, module.Step))
     several = [handle, LONG, LONG, number, ROW, SIZE]

@@ -5,6 +5,7 @@ import email
 import hashlib
 import subprocess
 import sys
+import tomllib
 import zipfile
 
 import pytest
@@ -12,7 +13,8 @@ from conftest import SCRIPTS, module_of
 
 MAKE = module_of("make_wheel")
 PACKAGE = SCRIPTS.parent / "python"
-ABOUT = "ramluhay-0.3.0.dist-info"
+VERSION = tomllib.loads((PACKAGE / "pyproject.toml").read_text())["project"]["version"]
+ABOUT = f"ramluhay-{VERSION}.dist-info"
 
 
 @pytest.fixture
@@ -24,7 +26,7 @@ def wheel(tmp_path):
 
 def test_files(wheel):
     """The package's own files as they are, the library, and four files about it, in one order and of one time."""
-    assert wheel.name == "ramluhay-0.3.0-py3-none-linux_x86_64.whl"
+    assert wheel.name == f"ramluhay-{VERSION}-py3-none-linux_x86_64.whl"
     with zipfile.ZipFile(wheel) as packed:
         members = packed.infolist()
         files = [file for file in (PACKAGE / "src" / "pfair").iterdir() if file.is_file() and file.suffix != ".so"]
@@ -64,7 +66,7 @@ def test_metadata(wheel):
     assert told.items() == [
         ("Metadata-Version", "2.1"),
         ("Name", "ramluhay"),
-        ("Version", "0.3.0"),
+        ("Version", VERSION),
         ("Summary", "A proved Pfair (PD2) multiprocessor executive, for studies of schedulability"),
         ("Classifier", "Typing :: Typed"),
         ("Classifier", "Operating System :: POSIX :: Linux"),
