@@ -14,7 +14,7 @@ from hypothesis import strategies as st
 import pfair
 from conftest import EXAMPLES, script_of
 from made_rows import CASES, KEPT, WHOLE, Rows, random_run
-from pfair import _figure, _plot, picture
+from pfair import _figure, picture
 
 FILES = sorted(EXAMPLES.glob("*.toml"))
 STORED = pathlib.Path(__file__).parent / "pictures"
@@ -175,25 +175,6 @@ def test_page():
     assert page == picture.PAGE.replace("{}", "%s") % (css, svg, js)
     assert page.startswith("<!DOCTYPE html>") and page.endswith("</body>\n</html>\n")
     assert not re.search(r"(src|href)\s*=|url\(|https?:|import\s|fetch\(|XMLHttp", page.replace(svg, ""))
-
-
-def test_plot():
-    """Matplotlib's figure has the texts, the bars and the marks of the picture, each where it is."""
-    for name in ("every_kind", "lags"):
-        svg = picture.svg(CASES[name][0], "lags" if name == "lags" else "schedule")
-        root = ElementTree.fromstring(svg)
-        figure = _plot.Plot(svg, 5.0).figure
-        wide, high = int(root.get("width")), int(root.get("height"))
-        assert figure.get_size_inches().tolist() == [5.0, 5.0 * high / wide]
-        axes = figure.axes[0]
-        assert (axes.get_xlim(), axes.get_ylim()) == ((0, wide), (high, 0))
-        texts = [((int(text.get("x")), int(text.get("y"))), text.text) for text in root.iter(SVG + "text")]
-        assert [(text.get_position(), text.get_text()) for text in axes.texts] == texts
-        kinds = Counter(type(made).__name__ for made in axes.collections for _ in getattr(made, "get_paths", list)())
-        assert kinds["PolyCollection"] == sum(1 for _ in root.iter(SVG + "rect")) - 2
-        marks = [made for made in axes.collections if type(made).__name__ == "PathCollection"]
-        assert sum(len(made.get_offsets()) for made in marks) == sum(1 for _ in root.iter(SVG + "use"))
-    assert _plot.file_of(svg, "pdf").startswith(b"%PDF") and _plot.file_of(svg, "png").startswith(b"\x89PNG")
 
 
 # ---- over the library

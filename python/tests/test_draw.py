@@ -7,7 +7,7 @@ import pytest
 import pfair
 from conftest import EXAMPLES
 from made_rows import CASES
-from pfair import draw, picture
+from pfair import _schedule, draw, picture
 
 FILES = sorted(EXAMPLES.glob("*.toml"))
 STORED = pathlib.Path(__file__).parent / "pictures"
@@ -115,6 +115,18 @@ def test_formats_that_are_not_here(command, monkeypatch):
     monkeypatch.setitem(draw.sys.modules, "pfair._plot", None)
     said = b"pfair_picture: 80 command line refused: --png needs the command rsvg-convert or Python's matplotlib\n"
     assert command("schedule", "file", "--png") == (1, b"", said)
+
+
+def test_sources(monkeypatch):
+    """The rows are those of a program if one is given, else those of the library, with its refusals by their numbers."""
+    monkeypatch.setattr(draw, "Program", lambda *words: words)
+    assert draw.source_of("file", "pfair") == ("file", "pfair")
+    for kind, status in ((pfair.NotToml, 2), (pfair.EntryRefused, 2), (pfair.Stalled, 3), (pfair.OutOfMemory, 4)):
+        fault = kind("said so")
+        monkeypatch.setattr(_schedule, "read_task_file", lambda _, fault=fault: (_ for _ in ()).throw(fault))
+        with pytest.raises(draw.Fault, match=f"^{kind.number} said so$") as refused:
+            draw.source_of("file", None)
+        assert refused.value.status == status
 
 
 def test_command_over_the_library(capfdbinary, tmp_path):
