@@ -118,7 +118,7 @@ def test_formats_that_are_not_here(command, monkeypatch):
 
 
 def test_sources(monkeypatch):
-    """The rows are those of a program if one is given, else those of the library, with its refusals by their numbers."""
+    """The rows are those of a program if one is given, else those of the library, with the numbers of its refusals."""
     monkeypatch.setattr(draw, "Program", lambda *words: words)
     assert draw.source_of("file", "pfair") == ("file", "pfair")
     for kind, status in ((pfair.NotToml, 2), (pfair.EntryRefused, 2), (pfair.Stalled, 3), (pfair.OutOfMemory, 4)):

@@ -39,7 +39,7 @@ def told(figure):
 
 @pytest.mark.parametrize("name, kind", [("every_kind", "schedule"), ("lags", "lags"), ("widths", "schedule")])
 def test_plot(name, kind):
-    """The figure has what the picture has, and looks as it is kept, by a sum: PFAIR_KEEP_PICTURES=yes writes it anew."""
+    """The figure has what the picture has, and its looks have the kept sum; PFAIR_KEEP_PICTURES=yes writes that anew."""
     svg = picture.svg(CASES[name][0], kind, 0, 14)
     root = ElementTree.fromstring(svg)
     figure = _plot.Plot(svg, 5.0).figure
