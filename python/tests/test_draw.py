@@ -1,6 +1,7 @@
 """The command that draws pictures: its words, its files and its faults."""
 import os
 import pathlib
+import shutil
 
 import pytest
 
@@ -10,6 +11,7 @@ from made_rows import CASES
 from pfair import _schedule, draw, picture
 
 FILES = sorted(EXAMPLES.glob("*.toml"))
+RSVG = shutil.which("rsvg-convert")
 STORED = pathlib.Path(__file__).parent / "pictures"
 
 
@@ -97,8 +99,8 @@ def test_files(command, tmp_path, monkeypatch):
     assert out.stat().st_mode & 0o777 == 0o666 & ~draw.umask()
     out.chmod(0o640)
     for form, start in (("png", b"\x89PNG"), ("pdf", b"%PDF")):
-        for found in (draw.shutil.which("rsvg-convert"), None):
-            monkeypatch.setattr(draw.shutil, "which", lambda _, found=found: found)
+        for found in (RSVG, None):
+            monkeypatch.setattr(draw.shutil, "which", {"rsvg-convert": found}.__getitem__)
             assert command("schedule", "file", f"--{form}", "-o", str(out)) == (0, b"", b"")
             assert out.read_bytes().startswith(start) and out.stat().st_mode & 0o777 == 0o640
     before = out.read_bytes()
@@ -111,7 +113,7 @@ def test_files(command, tmp_path, monkeypatch):
 
 
 def test_formats_that_are_not_here(command, monkeypatch):
-    monkeypatch.setattr(draw.shutil, "which", lambda _: None)
+    monkeypatch.setattr(draw.shutil, "which", {"rsvg-convert": None}.__getitem__)
     monkeypatch.setitem(draw.sys.modules, "pfair._plot", None)
     said = b"pfair_picture: 80 command line refused: --png needs the command rsvg-convert or Python's matplotlib\n"
     assert command("schedule", "file", "--png") == (1, b"", said)

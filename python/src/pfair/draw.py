@@ -21,7 +21,6 @@ from ._rows import Rows
 from ._version import VERSION
 
 NAME = "pfair_picture"
-FORMATS = ("html", "png", "pdf")
 USAGE = "pfair_picture schedule|lags [--html|--png|--pdf] [--slots A..B] [-o OUT] FILE"
 DESCRIPTION = """Draws a task file: its schedule, or the lags of its tasks. Writes SVG to standard output.
 
