@@ -21,6 +21,8 @@ from ._trace import Decided, Lag, Quantum, quanta_of, words_of, write_trace
 _SHOWN = 400
 # as many lags are looked at at once
 _LAGS_AT_ONCE = 1 << 21
+# as many of them are turned into numbers of Python at once
+_READ_AT_ONCE = 1 << 15
 
 
 class Counts(NamedTuple):
@@ -164,8 +166,10 @@ class _Source(PictureRows):
 
     def lags(self, start: int = 0) -> Iterator[Lag]:
         for rows in self.schedule._lags_by_pieces(start):
-            for row in rows:
-                yield Lag(int(row["time"]), row["task"].decode(), int(row["numerator"]), int(row["period"]))
+            for first in range(0, len(rows), _READ_AT_ONCE):
+                some = rows[first : first + _READ_AT_ONCE]
+                times, numerators, periods = (some[key].tolist() for key in ("time", "numerator", "period"))
+                yield from map(Lag, times, np.char.decode(some["task"]).tolist(), numerators, periods)
 
 
 def numbered(names: npt.NDArray[np.bytes_]) -> tuple[npt.NDArray[np.int64], list[bytes]]:
