@@ -51,17 +51,20 @@ class Program(Rows):
     def rows(self, *command: str) -> Iterator[list[str]]:
         """The rows of a command, without their header."""
         words = [self.program, *command, self.path]
+        complaint = tempfile.TemporaryFile("w+", errors="replace")
         try:
             none, pipe = subprocess.DEVNULL, subprocess.PIPE
-            made = subprocess.Popen(words, stdin=none, stdout=pipe, stderr=pipe, text=True, errors="replace")
+            made = subprocess.Popen(words, stdin=none, stdout=pipe, stderr=complaint, text=True, errors="replace")
         except OSError:
             raise Refused(f"70 reading failed: the program {self.program} can't be run", 5) from None
-        with made as running:
-            assert running.stdout and running.stderr
+        with made as running, complaint:
+            assert running.stdout
             try:
                 for line in itertools.islice(running.stdout, 1, None):
                     yield line.rstrip("\n").split(",")
-                said, status = running.stderr.read().strip().rpartition("\n")[2], running.wait()
+                status = running.wait()
+                complaint.seek(0)
+                said = complaint.read().strip().rpartition("\n")[2]
             finally:
                 # the reader may end before the rows do
                 running.kill()
