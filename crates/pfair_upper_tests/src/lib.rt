@@ -8,6 +8,8 @@ mod command;
 #[cfg(test)]
 mod file;
 #[cfg(test)]
+mod follower;
+#[cfg(test)]
 mod given;
 #[cfg(test)]
 mod lag;
