@@ -2,6 +2,8 @@
 import os
 import pathlib
 import shutil
+import subprocess
+import sys
 
 import pytest
 
@@ -141,3 +143,8 @@ def test_command_over_the_library(capfdbinary, tmp_path):
         assert draw.main(["lags", str(bad)]) == status
         said = capfdbinary.readouterr()
         assert said.out == b"" and said.err.startswith(b"pfair_picture: " + start) and said.err.count(b"\n") == 1
+
+
+def test_as_a_module():
+    done = subprocess.run([sys.executable, "-m", "pfair.draw", "--version"], capture_output=True, text=True)
+    assert (done.returncode, done.stdout, done.stderr) == (0, f"pfair_picture {pfair.__version__}\n", "")

@@ -310,3 +310,9 @@ def test_paths_of_all_kinds():
             return str(EXAMPLES / "two_processors.toml")
 
     assert pfair.read_task_file(Named()) == script_of(pathlib.Path(EXAMPLES, "two_processors.toml"))
+
+
+def test_pictures_know_the_settings():
+    """The slots of the run and its frame are two numbers."""
+    drawn = pfair.schedule(pfair.Script(2, 6, 9, [[pfair.arrive("a", 1, 2)], []])).svg()
+    assert "processors: 2, frame: 6, slots: 0 to 8 of 9" in drawn
