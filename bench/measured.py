@@ -35,7 +35,7 @@ def program_beside(folder, name, stands_on, sources):
             todo.extend(lines[crate][1])
     copy = folder / name
     for crate in crates:
-        shutil.copytree(TOP / "crates" / crate, copy / "crates" / crate, ignore=shutil.ignore_patterns("must-fail", "wrong-bodies"))
+        shutil.copytree(TOP / "crates" / crate, copy / "crates" / crate, ignore=shutil.ignore_patterns("must-fail", "mutants"))
     (copy / "crates" / name / "src").mkdir(parents=True)
     for target, source in sources.items():
         shutil.copy(source, copy / "crates" / name / "src" / target)

@@ -112,7 +112,7 @@ def test_what_is_missing(call, tmp_path, monkeypatch):
 def test_library_is_made_first(call, tmp_path, monkeypatch):
     monkeypatch.setattr(MAKE, "TOP", tmp_path)
     monkeypatch.setattr(MAKE.shutil, "which", lambda name: name)
-    made, maker = tmp_path / "deep" / "made", tmp_path / "scripts" / "make_library"
+    made, maker = tmp_path / "deep" / "made", tmp_path / "tools" / "make_library"
     maker.parent.mkdir()
     maker.write_text('#!/bin/sh\necho proving\nprintf made >"$1/libpfair.so"\n')
     maker.chmod(0o755)

@@ -1,4 +1,4 @@
-"""What a picture has to hold, element by element, by formulas of its own, for scripts/check_pictures."""
+"""What a picture has to hold, element by element, by formulas of its own, for tests/checks/check_pictures."""
 import collections
 import itertools
 import tomllib
