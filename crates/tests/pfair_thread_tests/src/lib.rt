@@ -1,4 +1,4 @@
-//! Notes, boards and desks, and runs of scripts in threads.
+//! Boards and desks, and runs of scripts in threads.
 //!
 //! Each module tests one crate through its public calls.
 #![tactic(auto)]
@@ -9,5 +9,3 @@ mod board;
 mod desk;
 #[cfg(test)]
 mod gates;
-#[cfg(test)]
-mod notes;

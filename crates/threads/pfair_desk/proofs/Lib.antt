@@ -2,4 +2,5 @@ mod Following
 mod Gains
 mod NoteLists
 mod NotedLemmas
+mod Peeks
 pub mod Rows

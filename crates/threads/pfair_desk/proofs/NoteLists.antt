@@ -7,8 +7,7 @@ use Rattle.std.proofs.Math.ListN.{get_or-map as seen_or}
 use Rattle.once_cell.specs.declared.race.note.Note.{Note}
 use Rattle.pfair_entry.specs.Entry.{Logged}
 use Rattle.once_cell.specs.Once.{Agrees}
-use Rattle.pfair_notes.specs.Knowledge.{told}
-use Rattle.pfair_desk.specs.Knowledge.{Knowledge, knowing}
+use Rattle.pfair_desk.specs.Knowledge.{Knowledge, knowing, told}
 use Rattle.pfair_desk.specs.Noted.{KnowMore}
 use Rattle.pfair_desk.proofs.NotedLemmas.{more_refl, more_learned, learned_at}
 

@@ -9,6 +9,7 @@ mod board;
 mod desk;
 mod fault;
 pub mod laws;
+mod note;
 mod notes;
 
 pub use board::Board;

@@ -5,9 +5,9 @@ ghost use Rattle.pfair_entry.specs.Entry.{Logged};
 ghost use Rattle.pfair_desk.specs.Knowledge.{Knowledge, knowing};
 ghost use Rattle.pfair_desk.specs.Noted.{Grows, KnowMore};
 
+use crate::note::learn;
 use once_cell::race::{Note, OnceBox};
 use pfair_entry::Entry;
-use pfair_notes::learn;
 use std::alloc::{AllocError, Global};
 use std::marker::Model;
 
