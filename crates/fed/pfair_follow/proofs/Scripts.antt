@@ -13,7 +13,7 @@ use Rattle.pfair_stream.specs.Rows.{rows_from}
 use Rattle.pfair_feed.specs.Feeding.{AreTakenFrom}
 use Rattle.pfair_feed.specs.Laws.{EntriesGiveTheirSchedule, LinesAreOne}
 use Rattle.pfair_feed.specs.RoundTrip.{HasScheduleOf, HaveTheRows, rows_of}
-use Rattle.pfair_command.specs.declared.fault.ScheduleFault.TheVariants as schedule
+use Rattle.pfair_file.specs.declared.schedule_fault.ScheduleFault.TheVariants as schedule
 use Rattle.pfair_stream.specs.declared.fault.FollowFault.{FollowFault}
 use Rattle.pfair_stream.specs.declared.fault.FollowFault.TheVariants as follow
 use Rattle.pfair_feed.specs.declared.fault.FeedFault.{FeedFault}

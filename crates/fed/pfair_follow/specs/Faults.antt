@@ -1,8 +1,8 @@
 -- The numbers and the exit statuses of the program's faults, and which of them the faults of the crates below are.
 use Rattle.std.specs.Prelude.{ℕ, Bool, false, Result, Ok, Err, if◌then◌else◌}
-use Rattle.pfair_command.specs.Faults.{schedule_fault_number, schedule_fault_status}
-use Rattle.pfair_command.specs.declared.fault.ScheduleFault.{ScheduleFault}
-use Rattle.pfair_command.specs.declared.fault.ScheduleFault.TheVariants as schedule
+use Rattle.pfair_file.specs.ScheduleFaults.{schedule_fault_number, schedule_fault_status}
+use Rattle.pfair_file.specs.declared.schedule_fault.ScheduleFault.{ScheduleFault}
+use Rattle.pfair_file.specs.declared.schedule_fault.ScheduleFault.TheVariants as schedule
 use Rattle.pfair_stream.specs.declared.fault.FollowFault.{FollowFault}
 use Rattle.pfair_stream.specs.declared.fault.FollowFault.TheVariants as follow
 use Rattle.pfair_feed.specs.Faults.{feed_fault_number, is_refusal}

@@ -1,12 +1,12 @@
 //! The command `entries`: the entries of a task file as rows.
 
-ghost use Rattle.pfair_command.specs.Commands.{IsCommandOf, IsFaultBy};
+ghost use Rattle.pfair_file.specs.Commands.{IsCommandOf, IsFaultBy};
 ghost use Rattle.pfair_follow.specs.Faults.{of_schedule};
 ghost use Rattle.pfair_follow.specs.Entries.{IsOutputOf};
 
 use crate::fault::ProgramFault;
-use pfair_command::read_script;
 use pfair_feed::entries_of;
+use pfair_file::read_script;
 use pfair_text::send;
 use std::alloc::Global;
 use std::io::{Read, Write};
@@ -20,7 +20,7 @@ use std::io::{Read, Write};
 ///
 /// # Errors
 /// [`ProgramFault::Schedule`] with the cause where the file has no script, as
-/// [`read_script`](pfair_command::read_script) says, and [`ProgramFault::Memory`] where memory was
+/// [`read_script`](pfair_file::read_script) says, and [`ProgramFault::Memory`] where memory was
 /// wanted and refused: nothing has then been written. [`ProgramFault::WriteFailed`] where the writer
 /// answered an error, or took nothing; a prefix of the text has then gone out.
 pub fn entries<R: Read, W: Write>(

@@ -10,7 +10,7 @@ mod words;
 
 use entries::entries;
 use fault::{ProgramFault, write_fault};
-use pfair_command::{given_words, opened};
+use pfair_file::{given_words, opened};
 use pfair_follow_words::{Asked, Run};
 use pfair_stream::Output;
 use pfair_text::send;

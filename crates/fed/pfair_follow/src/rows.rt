@@ -10,9 +10,9 @@ ghost use Rattle.pfair_follow.specs.Runs.{AreTakenAll, IsEndOf, IsFed, IsFedEndO
 ghost use Rattle.pfair_follow.specs.Scripts.{IsScriptStalled, IsScriptWritten, OfItsScript};
 
 use crate::fault::ProgramFault;
-use pfair_command::ScheduleFault;
 use pfair_feed::laws::{entries_give_their_schedule, lines_are_one, text_is_whole};
 use pfair_feed::{follow, tell_missing};
+use pfair_file::ScheduleFault;
 use pfair_follow_words::Run;
 use pfair_ready::{HeapReady, Ready};
 use pfair_stream::{FollowFault, Follower, Output};

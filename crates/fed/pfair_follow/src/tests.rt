@@ -4,9 +4,9 @@
 use crate::entries::entries;
 use crate::fault::{ProgramFault, write_fault};
 use crate::rows::follow_rows;
-use pfair_command::ScheduleFault;
 use pfair_entry_row::RowFault;
 use pfair_feed::FeedFault;
+use pfair_file::ScheduleFault;
 use pfair_follow_words::Run;
 use pfair_stream::{FollowFault, Output};
 use pfair_table::Settings;

@@ -6,7 +6,7 @@ mod tests;
 mod words;
 
 use pfair_board::OpenGate;
-use pfair_command::{given_words, opened};
+use pfair_file::{given_words, opened};
 use pfair_reports::{ProgramFault, decisions, lags, replay, replay_placed, windows, write_fault};
 use pfair_text::send;
 use pfair_words::Asked;

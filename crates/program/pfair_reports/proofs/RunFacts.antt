@@ -4,11 +4,11 @@ use Rattle.std.proofs.lemmas.Option.{IfSome_then}
 use Rattle.std.specs.Prelude.{IfSome, Vec, Result, Err, IsErrAnd}
 use Rattle.pfair_text.specs.Input.{TakesOneFile}
 use Rattle.std.specs.declared.alloc.Global.{Global}
-use Rattle.pfair_command.specs.Commands.{IsRefusalBy}
-use Rattle.pfair_command.specs.Schedules.{IsRefusalOf}
-use Rattle.pfair_command.specs.declared.fault.ScheduleFault.{ScheduleFault}
-use Rattle.pfair_command.specs.declared.fault.ScheduleFault.TheVariants as schedule
-use Rattle.pfair_command.proofs.CommandFacts.{TakesOver, err_is}
+use Rattle.pfair_file.specs.Commands.{IsRefusalBy}
+use Rattle.pfair_file.specs.Schedules.{IsRefusalOf}
+use Rattle.pfair_file.specs.declared.schedule_fault.ScheduleFault.{ScheduleFault}
+use Rattle.pfair_file.specs.declared.schedule_fault.ScheduleFault.TheVariants as schedule
+use Rattle.pfair_file.proofs.CommandFacts.{TakesOver, err_is}
 use Rattle.pfair_reports.specs.declared.fault.ProgramFault.{ProgramFault}
 use Rattle.pfair_reports.specs.declared.fault.ProgramFault.TheVariants.{Memory, Schedule, WriteFailed}
 use Rattle.pfair_reports.specs.Faults.{of_run, of_schedule}

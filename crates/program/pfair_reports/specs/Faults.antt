@@ -3,9 +3,9 @@ use Rattle.std.specs.Prelude.{ℕ}
 use Rattle.pfair_weight.specs.WeightFault.{weight_fault_number}
 use Rattle.pfair_board.specs.declared.fault.RunFault.{RunFault}
 use Rattle.pfair_board.specs.declared.fault.RunFault.TheVariants as run
-use Rattle.pfair_command.specs.Faults.{schedule_fault_number, schedule_fault_status}
-use Rattle.pfair_command.specs.declared.fault.ScheduleFault.{ScheduleFault}
-use Rattle.pfair_command.specs.declared.fault.ScheduleFault.TheVariants as schedule
+use Rattle.pfair_file.specs.ScheduleFaults.{schedule_fault_number, schedule_fault_status}
+use Rattle.pfair_file.specs.declared.schedule_fault.ScheduleFault.{ScheduleFault}
+use Rattle.pfair_file.specs.declared.schedule_fault.ScheduleFault.TheVariants as schedule
 use Rattle.pfair_reports.specs.declared.fault.ProgramFault.{ProgramFault}
 use Rattle.pfair_reports.specs.declared.fault.ProgramFault.TheVariants.{Weight, Schedule, GateGaveUp, Astray, WriteFailed, CommandLine, Memory}
 

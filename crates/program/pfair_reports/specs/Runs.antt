@@ -9,7 +9,7 @@ use Rattle.pfair_output.specs.Decisions.{decisions_text}
 use Rattle.pfair_output.specs.Lags.{lags_text}
 use Rattle.pfair_output.specs.Runs.{decided_of}
 use Rattle.pfair_file.specs.Documents.{script_of_file}
-use Rattle.pfair_command.specs.Commands.{IsFaultBy}
+use Rattle.pfair_file.specs.Commands.{IsFaultBy}
 use Rattle.pfair_reports.specs.declared.fault.ProgramFault.{ProgramFault}
 use Rattle.pfair_reports.specs.declared.fault.ProgramFault.TheVariants.{GateGaveUp, Astray}
 use Rattle.pfair_reports.specs.Faults.{of_schedule}

@@ -5,15 +5,15 @@ ghost use Rattle.pfair_text.specs.Input.{TakesOneFile};
 ghost use Rattle.pfair_table.specs.Script.{LoggedRun};
 ghost use Rattle.pfair_board.specs.Finish.{HasPlan};
 ghost use Rattle.pfair_file.specs.Documents.{script_of_file};
-ghost use Rattle.pfair_command.specs.Commands.{IsRefusalBy};
+ghost use Rattle.pfair_file.specs.Commands.{IsRefusalBy};
 ghost use Rattle.pfair_reports.specs.Faults.{of_schedule};
 ghost use Rattle.pfair_reports.specs.Runs.{IsFaultOfReplay};
-ghost use Rattle.pfair_command.specs.declared.fault.ScheduleFault.TheVariants.{FileTooLong, ReadFailed};
+ghost use Rattle.pfair_file.specs.declared.schedule_fault.ScheduleFault.TheVariants.{FileTooLong, ReadFailed};
 ghost use Rattle.pfair_reports.specs.declared.fault.ProgramFault.TheVariants.{Memory, Schedule};
 
 use crate::fault::ProgramFault;
 use pfair_board::{Gate, Sink, run_dispatchers_into};
-use pfair_command::read_script;
+use pfair_file::read_script;
 use pfair_ready::HeapReady;
 use std::alloc::Global;
 use std::io::Read;

@@ -5,7 +5,7 @@ ghost use Rattle.pfair_reports.specs.Faults.{number_of, status_of, of_run, of_sc
 ghost use Rattle.pfair_reports.specs.declared.fault.ProgramFault.TheVariants.{Memory, WriteFailed};
 
 use pfair_board::RunFault;
-use pfair_command::{ScheduleFault, write_line};
+use pfair_file::{ScheduleFault, write_line};
 use pfair_text::WriteFailed;
 use pfair_weight::WeightFault;
 use std::alloc::AllocError;

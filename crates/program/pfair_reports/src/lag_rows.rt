@@ -1,6 +1,6 @@
 //! The command `lags`: the lags of the tasks of a task file.
 
-ghost use Rattle.pfair_command.specs.Commands.{IsCommandOf, IsFaultBy};
+ghost use Rattle.pfair_file.specs.Commands.{IsCommandOf, IsFaultBy};
 ghost use Rattle.pfair_reports.specs.Faults.{of_schedule};
 ghost use Rattle.pfair_reports.specs.Runs.{IsOutputOf, lags_of_run};
 
@@ -22,7 +22,7 @@ use std::io::{Read, Write};
 ///
 /// # Errors
 /// [`ProgramFault::Schedule`] with the cause where the file has no schedule, as
-/// [`scheduled`](pfair_command::scheduled) says, and [`ProgramFault::Memory`] where memory was wanted
+/// [`scheduled`](pfair_file::scheduled) says, and [`ProgramFault::Memory`] where memory was wanted
 /// and refused: nothing has then been written.
 /// [`ProgramFault::WriteFailed`] where the writer answered an error, or took nothing; a prefix of
 /// the text has then gone out.

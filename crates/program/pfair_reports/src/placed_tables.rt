@@ -1,7 +1,7 @@
 //! The command `replay` with places: the tables of a task file, and the processor that runs each
 //! row.
 
-ghost use Rattle.pfair_command.specs.Commands.{IsCommandOf};
+ghost use Rattle.pfair_file.specs.Commands.{IsCommandOf};
 ghost use Rattle.pfair_reports.specs.Faults.{of_schedule};
 ghost use Rattle.pfair_reports.specs.Runs.{IsFaultOfReplay, IsOutputOf, placed_replay_of_run};
 

@@ -2,11 +2,11 @@
 
 ghost use Rattle.std.specs.Prelude.{◌≡◌, IfErr, IfOk, IfSome};
 ghost use Rattle.pfair_text.specs.Input.{TakesOneFile};
-ghost use Rattle.pfair_command.specs.Schedules.{IsRefusalOf};
-ghost use Rattle.pfair_command.specs.declared.fault.ScheduleFault.TheVariants.{FileTooLong, ReadFailed, Memory};
+ghost use Rattle.pfair_file.specs.Schedules.{IsRefusalOf};
+ghost use Rattle.pfair_file.specs.declared.schedule_fault.ScheduleFault.TheVariants.{FileTooLong, ReadFailed, Memory};
 ghost use Rattle.pfair_reports.specs.Runs.{IsOutputOf, decisions_of_run, lags_of_run};
 
-use pfair_command::{ScheduleFault, read_script};
+use pfair_file::{ScheduleFault, read_script};
 use pfair_output::{LagRows, decisions_of_script, lags_of_script};
 use pfair_ready::HeapReady;
 use std::alloc::Global;
@@ -15,7 +15,7 @@ use std::io::Read;
 /// The decisions of the script that a reader's bytes hold, as rows. One slot at a time is held.
 ///
 /// # Errors
-/// As [`scheduled`](pfair_command::scheduled).
+/// As [`scheduled`](pfair_file::scheduled).
 pub(crate) fn scheduled_decisions<R: Read>(
     alloc: Global,
     reader: &mut R,
@@ -31,7 +31,7 @@ pub(crate) fn scheduled_decisions<R: Read>(
 /// The lags of the script that a reader's bytes hold, as rows.
 ///
 /// # Errors
-/// As [`scheduled`](pfair_command::scheduled).
+/// As [`scheduled`](pfair_file::scheduled).
 pub(crate) fn scheduled_lags<R: Read>(
     alloc: Global,
     reader: &mut R,

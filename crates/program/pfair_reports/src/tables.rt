@@ -1,7 +1,7 @@
 //! The command `replay`: the tables of a task file, worked out by a dispatcher for each processor
 //! in a thread of its own.
 
-ghost use Rattle.pfair_command.specs.Commands.{IsCommandOf};
+ghost use Rattle.pfair_file.specs.Commands.{IsCommandOf};
 ghost use Rattle.pfair_reports.specs.Faults.{of_schedule};
 ghost use Rattle.pfair_reports.specs.Runs.{IsFaultOfReplay, IsOutputOf, replay_of_run};
 
@@ -28,7 +28,7 @@ use std::thread::Threads;
 ///
 /// # Errors
 /// [`ProgramFault::Schedule`] with the cause where the file has no schedule, as
-/// [`scheduled`](pfair_command::scheduled) says, [`ProgramFault::Memory`] where memory was wanted
+/// [`scheduled`](pfair_file::scheduled) says, [`ProgramFault::Memory`] where memory was wanted
 /// and refused or a thread couldn't be started, [`ProgramFault::GateGaveUp`] only where the gate's
 /// type may give up, and [`ProgramFault::Astray`] where a worker learned something else than the
 /// logs say: nothing has then been written.

@@ -1,9 +1,8 @@
 //! What no contract says of faults: the text of each, and that its line goes out in one write.
 
 use pfair_board::{LookFault, PublishFault};
-use pfair_command::ScheduleFault;
 use pfair_entry::{Entry, EntryFault, NoteFault};
-use pfair_file::{EntryCause, Field, FileFault};
+use pfair_file::{EntryCause, Field, FileFault, ScheduleFault};
 use pfair_replica::{MergeFault, TakeFault};
 use pfair_reports::{ProgramFault, write_fault};
 use pfair_table::PlanFault;

@@ -1,6 +1,6 @@
 //! What no contract says: that schedules and files come out, and that a line goes out in one write.
 
-use pfair_command::{ScheduleFault, opened, read_script, scheduled, write_line};
+use pfair_file::{ScheduleFault, opened, read_script, scheduled, write_line};
 use std::io;
 use std::io::Write;
 use std::test::Fail;

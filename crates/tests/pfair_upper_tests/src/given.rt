@@ -1,6 +1,6 @@
 //! What no contract says: which words come out of a command line.
 
-use pfair_command::given_words;
+use pfair_file::given_words;
 use std::alloc::AllocError;
 use std::env::FillError;
 use std::rt::Env;

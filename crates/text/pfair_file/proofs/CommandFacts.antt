@@ -5,10 +5,10 @@ use Rattle.std.specs.Prelude.{IfSome, IsErrAnd}
 use Rattle.std.specs.Io.KnownBytes.{Appends, Keeps}
 use Rattle.pfair_text.specs.Input.{TakesOneFile}
 use Rattle.pfair_text.specs.Output.{TakesPrefix}
-use Rattle.pfair_command.specs.Commands.{IsCommandOf, IsRefusalBy}
-use Rattle.pfair_command.specs.Schedules.{IsRefusalOf}
-use Rattle.pfair_command.specs.declared.fault.ScheduleFault.{ScheduleFault}
-use Rattle.pfair_command.specs.declared.fault.ScheduleFault.TheVariants.{FileTooLong, ReadFailed, Memory}
+use Rattle.pfair_file.specs.Commands.{IsCommandOf, IsRefusalBy}
+use Rattle.pfair_file.specs.Schedules.{IsRefusalOf}
+use Rattle.pfair_file.specs.declared.schedule_fault.ScheduleFault.{ScheduleFault}
+use Rattle.pfair_file.specs.declared.schedule_fault.ScheduleFault.TheVariants.{FileTooLong, ReadFailed, Memory}
 
 -- what holds of the answer with the only fault holds of the answer
 pub err_is : {T F : Type 0} (P : Result T F → Type 0) (r : Result T F) (own : F) → IsErrAnd r (λ e. e ≡ own) → P (Err own) → P r

@@ -1,3 +1,4 @@
+pub mod CommandFacts
 mod TableFacts
 mod NameFacts
 mod LogFacts

@@ -4,9 +4,9 @@ use Rattle.std.specs.Prelude.{ℕ, List, ◌≡◌, ◌≢◌, ◌⊎◌, Option
 use Rattle.std.specs.Io.KnownBytes.{Appends, Keeps}
 use Rattle.pfair_text.specs.Input.{TakesOneFile}
 use Rattle.pfair_text.specs.Output.{TakesPrefix}
-use Rattle.pfair_command.specs.Schedules.{IsRefusalOf}
-use Rattle.pfair_command.specs.declared.fault.ScheduleFault.{ScheduleFault}
-use Rattle.pfair_command.specs.declared.fault.ScheduleFault.TheVariants.{FileTooLong, ReadFailed, Memory}
+use Rattle.pfair_file.specs.Schedules.{IsRefusalOf}
+use Rattle.pfair_file.specs.declared.schedule_fault.ScheduleFault.{ScheduleFault}
+use Rattle.pfair_file.specs.declared.schedule_fault.ScheduleFault.TheVariants.{FileTooLong, ReadFailed, Memory}
 
 -- the faults that say why a file has no schedule
 abbrev pub IsFaultBy : {F : Type 0} → (ScheduleFault → F) → F → Type 0

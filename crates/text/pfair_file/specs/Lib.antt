@@ -1,4 +1,5 @@
 pub mod Causes
+pub mod Commands
 pub mod Documents
 pub mod Entries
 pub mod Faults
@@ -9,4 +10,6 @@ pub mod Headers
 pub mod Keys
 pub mod Kinds
 pub mod Results
+pub mod ScheduleFaults
+pub mod Schedules
 pub mod Tables

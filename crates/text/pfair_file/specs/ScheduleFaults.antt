@@ -7,8 +7,8 @@ use Rattle.pfair_table.specs.declared.single.ScriptFault.{ScriptFault}
 use Rattle.pfair_table.specs.declared.single.ScriptFault.TheVariants as script
 use Rattle.pfair_text.specs.declared.input.ReadFault.{ReadFault}
 use Rattle.pfair_text.specs.declared.input.ReadFault.TheVariants as read
-use Rattle.pfair_command.specs.declared.fault.ScheduleFault.{ScheduleFault}
-use Rattle.pfair_command.specs.declared.fault.ScheduleFault.TheVariants.{Stalled, File, FileTooLong, ReadFailed, Memory}
+use Rattle.pfair_file.specs.declared.schedule_fault.ScheduleFault.{ScheduleFault}
+use Rattle.pfair_file.specs.declared.schedule_fault.ScheduleFault.TheVariants.{Stalled, File, FileTooLong, ReadFailed, Memory}
 
 abbrev pub schedule_fault_number : ScheduleFault → ℕ
 schedule_fault_number (Stalled slot) = 52

@@ -5,8 +5,8 @@ use Rattle.pfair_table.specs.Script.{LoggedRun, replica_of_logs}
 use Rattle.pfair_table.specs.ScriptRun.{IsRunOf}
 use Rattle.pfair_table.specs.Refinement.{Dispatch}
 use Rattle.pfair_file.specs.Documents.{script_of_file}
-use Rattle.pfair_command.specs.declared.fault.ScheduleFault.{ScheduleFault}
-use Rattle.pfair_command.specs.declared.fault.ScheduleFault.TheVariants.{Stalled, File}
+use Rattle.pfair_file.specs.declared.schedule_fault.ScheduleFault.{ScheduleFault}
+use Rattle.pfair_file.specs.declared.schedule_fault.ScheduleFault.TheVariants.{Stalled, File}
 
 -- the bytes are those of a script, and the dispatcher has planned all its slots
 abbrev pub IsScheduleOf : List ℕ → Dispatch → Type 0

@@ -1,21 +1,32 @@
-//! Reading task files: the script of a run, or the first fault of the file.
+//! Task files: the script of a run and its schedule, or why a file has none.
 //!
 //! A task file is a TOML document. Its header says how many processors, which frame and how many
 //! slots a run has; each table of `entry` is the next entry of one processor's log. The modules go
-//! from single keys to whole files.
+//! from single keys to whole files, and on to what each command over a task file does: it takes the
+//! program's words, opens and reads the file, works out the schedule, and writes the line of a
+//! fault.
 #![tactic(auto)]
 
 pub(crate) mod document;
 pub(crate) mod fault;
 pub(crate) mod field;
+mod given;
 pub(crate) mod header;
 pub(crate) mod kind;
 pub mod laws;
+mod line;
 pub(crate) mod lookup;
 pub(crate) mod made;
+mod memory;
 pub(crate) mod notice;
+mod schedule;
+mod schedule_fault;
 pub(crate) mod tables;
 
 pub use document::read_file;
 pub use fault::{EntryCause, FileFault};
 pub use field::Field;
+pub use given::given_words;
+pub use line::write_line;
+pub use schedule::{opened, read_script, scheduled};
+pub use schedule_fault::ScheduleFault;

@@ -3,12 +3,12 @@
 ghost use Rattle.std.specs.Prelude.{◌≡◌, ◌⊎◌, Ok, IfErr, IfOk, IfSome};
 ghost use Rattle.pfair_text.specs.Input.{TakesOneFile};
 ghost use Rattle.pfair_file.specs.Documents.{script_of_file};
-ghost use Rattle.pfair_command.specs.Schedules.{IsRefusalOf, IsScheduleOf};
-ghost use Rattle.pfair_command.specs.declared.fault.ScheduleFault.TheVariants.{FileTooLong, ReadFailed, Memory};
+ghost use Rattle.pfair_file.specs.Schedules.{IsRefusalOf, IsScheduleOf};
+ghost use Rattle.pfair_file.specs.declared.schedule_fault.ScheduleFault.TheVariants.{FileTooLong, ReadFailed, Memory};
 
-use crate::fault::ScheduleFault;
+use crate::document::read_file;
 use crate::memory::is_want_of_memory;
-use pfair_file::read_file;
+use crate::schedule_fault::ScheduleFault;
 use pfair_ready::HeapReady;
 use pfair_table::{Dispatcher, Script, run_script};
 use pfair_text::read_bytes;

@@ -1,9 +1,9 @@
 //! Why a task file has no schedule.
 
 ghost use Rattle.std.specs.Prelude.{◌≡◌};
-ghost use Rattle.pfair_command.specs.Faults.{of_file, of_read, of_script, schedule_fault_number, schedule_fault_status};
+ghost use Rattle.pfair_file.specs.ScheduleFaults.{of_file, of_read, of_script, schedule_fault_number, schedule_fault_status};
 
-use pfair_file::FileFault;
+use crate::fault::FileFault;
 use pfair_table::ScriptFault;
 use pfair_text::ReadFault;
 use thiserror::Error;

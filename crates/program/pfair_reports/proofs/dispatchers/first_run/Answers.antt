@@ -1,8 +1,8 @@
 use Rattle.std.specs.Prelude.{IfErr, IfSome}
 use Rattle.pfair_board.specs.Sinks.{first_has}
-use Rattle.pfair_command.specs.Commands.{IsRefusalBy}
+use Rattle.pfair_file.specs.Commands.{IsRefusalBy}
 use Rattle.pfair_reports.specs.Faults.{of_schedule}
-use Rattle.pfair_command.proofs.CommandFacts.{err_is}
+use Rattle.pfair_file.proofs.CommandFacts.{err_is}
 use Rattle.pfair_reports.specs.Runs.{IsFaultOfReplay}
 use Rattle.pfair_reports.proofs.RunFacts.{fault_of_replay, refused_by_run, taken_as_schedule}
 use Rattle.pfair_reports.proofs.dispatchers.first_run.Goals as goal

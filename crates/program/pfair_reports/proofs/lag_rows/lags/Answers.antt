@@ -1,5 +1,5 @@
 use Rattle.std.proofs.Common.{refl}
-use Rattle.pfair_command.proofs.CommandFacts.{ends_cut, ends_refused, ends_well}
+use Rattle.pfair_file.proofs.CommandFacts.{ends_cut, ends_refused, ends_well}
 use Rattle.pfair_reports.specs.Runs.{lags_of_run}
 use Rattle.pfair_reports.proofs.RunFacts.{output_shown, takes_over}
 use Rattle.pfair_reports.proofs.lag_rows.lags.Goals as goal

@@ -1,5 +1,5 @@
 use Rattle.std.proofs.Common.{◌∙◌}
-use Rattle.pfair_command.proofs.CommandFacts.{ends_cut, ends_well}
+use Rattle.pfair_file.proofs.CommandFacts.{ends_cut, ends_well}
 use Rattle.pfair_board.specs.Sinks.{has_built}
 use Rattle.pfair_reports.specs.Runs.{placed_replay_of_run}
 use Rattle.pfair_reports.proofs.RunFacts.{output_of_plan, places_made, takes_over}

@@ -1,5 +1,5 @@
 use Rattle.std.proofs.Common.{◌∙◌}
-use Rattle.pfair_command.proofs.CommandFacts.{ends_cut, ends_well}
+use Rattle.pfair_file.proofs.CommandFacts.{ends_cut, ends_well}
 use Rattle.pfair_reports.specs.Runs.{has_rows, replay_of_run}
 use Rattle.pfair_reports.proofs.RunFacts.{output_of_plan, takes_over}
 use Rattle.pfair_reports.proofs.tables.replay.Goals as goal
