@@ -7,10 +7,10 @@ use Rattle.pfair_table.specs.declared.pick.Decided.{Decided}
 use Rattle.pfair_table.specs.Laws.{IsPrefixOf}
 use Rattle.pfair_table.specs.Table.{Table}
 use Rattle.pfair_table.specs.Refinement.{HavePlannedAlike}
-use Rattle.pfair_stream.specs.declared.output.Output.{Output}
-use Rattle.pfair_stream.specs.Follow.{Follow, HaveToldAlike}
-use Rattle.pfair_stream.specs.Rows.{rows_from}
-use Rattle.pfair_stream.proofs.Going.{rows_go_on}
+use Rattle.pfair_feed.specs.declared.output.Output.{Output}
+use Rattle.pfair_feed.specs.Follow.{Follow, HaveToldAlike}
+use Rattle.pfair_feed.specs.Rows.{rows_from}
+use Rattle.pfair_feed.proofs.RowsGoOn.{rows_go_on}
 
 -- a list whose elements are the first of another
 first_of_other : {A : Type 0} (xs ys : List A) → length xs ≤ length ys → ((t : ℕ) → t < length xs → slice_get xs t ≡ slice_get ys t) → IsPrefixOf xs ys

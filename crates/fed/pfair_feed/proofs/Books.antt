@@ -9,11 +9,11 @@ use Rattle.pfair_table.specs.declared.pick.Decided.{Decided}
 use Rattle.pfair_table.specs.Laws.{IsPrefixOf}
 use Rattle.pfair_table.specs.Table.{Table}
 use Rattle.pfair_table.specs.Refinement.{Dispatch}
-use Rattle.pfair_stream.specs.Follow.{IsGrown}
+use Rattle.pfair_feed.specs.Follow.{IsGrown}
 use Rattle.pfair_output.specs.Told.{all_slots_told, book_rows, rows_told, slot_told}
 use Rattle.pfair_output.proofs.ToldFacts.{time-all_told}
-use Rattle.pfair_stream.specs.declared.output.Output.TheVariants.{Lags}
-use Rattle.pfair_stream.specs.Rows.{IsBookOf, book_before, rows_from}
+use Rattle.pfair_feed.specs.declared.output.Output.TheVariants.{Lags}
+use Rattle.pfair_feed.specs.Rows.{IsBookOf, book_before, rows_from}
 
 pub told-append : (book : Book) (ds es : List (List Decided)) (ts us : List Table) → length ds ≡ length ts
     → all_slots_told book (ds ++ es) (ts ++ us) ≡ all_slots_told (all_slots_told book ds ts) es us

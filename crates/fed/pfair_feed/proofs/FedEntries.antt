@@ -7,10 +7,10 @@ use Rattle.pfair_replica.specs.HeldRows.{replica_of}
 use Rattle.pfair_replica.specs.Replica.{Replica}
 use Rattle.pfair_table.specs.Events.{Course}
 use Rattle.pfair_table.specs.Script.{replica_of_logs}
-use Rattle.pfair_stream.specs.declared.output.Output.{Output}
-use Rattle.pfair_stream.specs.Follow.{news}
-use Rattle.pfair_stream.specs.Laws.{text_of}
-use Rattle.pfair_stream.specs.Rows.{header_of}
+use Rattle.pfair_feed.specs.declared.output.Output.{Output}
+use Rattle.pfair_feed.specs.Follow.{news}
+use Rattle.pfair_feed.specs.RowLaws.{text_of}
+use Rattle.pfair_feed.specs.Rows.{header_of}
 use Rattle.pfair_feed.specs.Feeding.{AreTakenFrom}
 use Rattle.pfair_feed.specs.Laws.{EntriesGiveTheirSchedule, FedEntriesGiveTheirText, WholeText}
 use Rattle.pfair_feed.specs.RoundTrip.{HaveTheRows, rows_of}

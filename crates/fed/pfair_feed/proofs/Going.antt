@@ -11,11 +11,11 @@ use Rattle.pfair_table.specs.declared.pick.Decided.{Decided}
 use Rattle.pfair_table.specs.Laws.{IsPrefixOf}
 use Rattle.pfair_table.specs.Table.{Table, decisions, table}
 use Rattle.pfair_table.specs.Refinement.{Dispatch, IsWholePlan}
-use Rattle.pfair_stream.specs.declared.output.Output.{Output}
-use Rattle.pfair_stream.specs.Follow.{Follow, news}
-use Rattle.pfair_stream.specs.Rows.{rows_from}
-use Rattle.pfair_stream.proofs.Going.{none_behind, rows_go_on}
-use Rattle.pfair_stream.proofs.Plans.{grown_same, prefix_trans}
+use Rattle.pfair_feed.specs.declared.output.Output.{Output}
+use Rattle.pfair_feed.specs.Follow.{Follow, news}
+use Rattle.pfair_feed.specs.Rows.{rows_from}
+use Rattle.pfair_feed.proofs.RowsGoOn.{none_behind, rows_go_on}
+use Rattle.pfair_feed.proofs.Plans.{grown_same, prefix_trans}
 use Rattle.pfair_feed.specs.Feeding.{HasGoneOn, HasStood, IsCaughtUp}
 
 pub even : (d : Dispatch) → IsWholePlan d → length d.tables ≡ length d.decided

@@ -1,3 +1,5 @@
+mod Alike
+mod Books
 mod FedEntries
 mod Going
 mod Lines
@@ -5,10 +7,13 @@ mod Numbered
 mod OneWay
 mod Orders
 mod Planned
+mod Plans
 mod Reading
 mod Repeats
 mod RoundTrip
+mod RowsGoOn
 mod RunsAlike
 mod Schedules
 mod ScriptRows
+mod Starting
 mod Telling

@@ -10,8 +10,8 @@ use Rattle.std.proofs.lemmas.List.{append-nil, length-append, length-drop, lengt
 use Rattle.pfair_entry_row.specs.Laws.{RowsAreShort}
 use Rattle.pfair_replica.specs.HeldRows.{replica_of}
 use Rattle.pfair_replica.specs.Replica.{Replica}
-use Rattle.pfair_stream.specs.declared.fault.FollowFault.TheVariants.{Memory}
-use Rattle.pfair_stream.specs.Follow.{Follow}
+use Rattle.pfair_feed.specs.declared.follow_fault.FollowFault.TheVariants.{Memory}
+use Rattle.pfair_feed.specs.Follow.{Follow}
 use Rattle.pfair_feed.specs.Faults.{IsCauseIn, is_refusal}
 use Rattle.pfair_feed.specs.Feeding.{AreFedBytes, AreLines, AreTakenFrom, AreWelcome, HasFailed, IsCaughtUp, IsFedByte, IsFedKept, IsFedLine, IsLeft, IsOneLine, IsStopped, IsTakenFrom, IsWelcome, ended, question}
 use Rattle.pfair_feed.specs.declared.fault.FeedFault.{FeedFault}

@@ -13,9 +13,9 @@ use Rattle.pfair_table.specs.declared.event.Event.TheVariants.{Take}
 use Rattle.pfair_table.specs.EventLaws.{EventsLeaveTheLeast, IsBroughtBelow}
 use Rattle.pfair_table.specs.Events.{Course, run, run_of}
 use Rattle.pfair_table.specs.Table.{Settings}
-use Rattle.pfair_stream.specs.declared.output.Output.{Output}
-use Rattle.pfair_stream.specs.Laws.{WholeRows}
-use Rattle.pfair_stream.specs.Rows.{header_of, rows_from}
+use Rattle.pfair_feed.specs.declared.output.Output.{Output}
+use Rattle.pfair_feed.specs.RowLaws.{WholeRows}
+use Rattle.pfair_feed.specs.Rows.{header_of, rows_from}
 use Rattle.pfair_feed.specs.Feeding.{AreTakenFrom}
 use Rattle.pfair_feed.specs.Laws.{OrderIsNothing, WholeText}
 use Rattle.pfair_feed.specs.RoundTrip.{AreAmong, IsOneOf, IsPlaced, Placed, row_of}

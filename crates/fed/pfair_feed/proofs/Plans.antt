@@ -11,7 +11,7 @@ use Rattle.pfair_table.specs.declared.event.Event.TheVariants.{Plan}
 use Rattle.pfair_table.specs.Events.{Course, happens, is_plannable, with_next_slot}
 use Rattle.pfair_table.specs.Laws.{IsPrefixOf}
 use Rattle.pfair_table.specs.Refinement.{Dispatch, IsPlanFault, after_fault, course_of}
-use Rattle.pfair_stream.specs.Follow.{IsEndOfPlans, IsGrown}
+use Rattle.pfair_feed.specs.Follow.{IsEndOfPlans, IsGrown}
 
 pub prefix_same : {A : Type 0} (xs ys : List A) → ys ≡ xs → IsPrefixOf xs ys
 prefix_same xs ys e = ([], append-nil xs ∙ sym e)

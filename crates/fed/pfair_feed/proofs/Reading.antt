@@ -10,9 +10,9 @@ use Rattle.pfair_entry_row.specs.Row.{entry_row, IsEntryAt}
 use Rattle.pfair_replica.specs.HeldRows.{replica_of}
 use Rattle.pfair_replica.specs.Offered.{taken}
 use Rattle.pfair_replica.specs.Replica.{Replica}
-use Rattle.pfair_stream.specs.Follow.{Follow, IsSameRun, IsStopOf, news}
-use Rattle.pfair_stream.specs.declared.fault.FollowFault.{FollowFault}
-use Rattle.pfair_stream.specs.declared.fault.FollowFault.TheVariants.{NoSuchProcessor, NumberOutOfRange, Torn, Spent, WriteFailed, Memory}
+use Rattle.pfair_feed.specs.Follow.{Follow, IsSameRun, IsStopOf, news}
+use Rattle.pfair_feed.specs.declared.follow_fault.FollowFault.{FollowFault}
+use Rattle.pfair_feed.specs.declared.follow_fault.FollowFault.TheVariants.{NoSuchProcessor, NumberOutOfRange, Torn, Spent, WriteFailed, Memory}
 use Rattle.pfair_feed.specs.Faults.{is_key_refusal}
 use Rattle.pfair_feed.specs.declared.fault.FeedFault.TheVariants.{Follow as Fault, Row}
 use Rattle.pfair_feed.specs.Feeding.{HasFailed, HasStood, IsCaughtUp, IsFedLine, IsTakenFrom}

@@ -14,9 +14,9 @@ use Rattle.pfair_replica.specs.HeldRows.{held, replica_of}
 use Rattle.pfair_replica.specs.Offered.{has_key, taken}
 use Rattle.pfair_replica.specs.Replica.{Replica, frontier, has_torn, only, with_entry}
 use Rattle.pfair_table.specs.Table.{Settings}
-use Rattle.pfair_stream.specs.Follow.{Follow, IsGrown, IsStopOf}
-use Rattle.pfair_stream.specs.declared.fault.FollowFault.{FollowFault}
-use Rattle.pfair_stream.specs.declared.fault.FollowFault.TheVariants.{Memory}
+use Rattle.pfair_feed.specs.Follow.{Follow, IsGrown, IsStopOf}
+use Rattle.pfair_feed.specs.declared.follow_fault.FollowFault.{FollowFault}
+use Rattle.pfair_feed.specs.declared.follow_fault.FollowFault.TheVariants.{Memory}
 use Rattle.pfair_feed.specs.Feeding.{IsCaughtUp}
 use Rattle.pfair_feed.proofs.Going.{longer}
 use Rattle.pfair_feed.proofs.Planned.{planned}

@@ -12,12 +12,12 @@ use Rattle.pfair_output.specs.Replay.{placed_rows_from, placed_table_rows, table
 use Rattle.pfair_output.specs.Decisions.{decided_rows}
 use Rattle.pfair_output.specs.Told.{all_slots_told, rows_told}
 use Rattle.pfair_output.proofs.WorldFacts.{whole_rows}
-use Rattle.pfair_stream.specs.declared.output.Output.{Output}
-use Rattle.pfair_stream.specs.declared.output.Output.TheVariants.{Tables, PlacedTables, Decisions, Lags}
-use Rattle.pfair_stream.specs.Laws.{RowsGoOn, WholeRows}
-use Rattle.pfair_stream.specs.Rows.{book_before, rows_from, header_of}
+use Rattle.pfair_feed.specs.declared.output.Output.{Output}
+use Rattle.pfair_feed.specs.declared.output.Output.TheVariants.{Tables, PlacedTables, Decisions, Lags}
+use Rattle.pfair_feed.specs.RowLaws.{RowsGoOn, WholeRows}
+use Rattle.pfair_feed.specs.Rows.{book_before, rows_from, header_of}
 use Rattle.pfair_text.specs.Rows.{lines_text}
-use Rattle.pfair_stream.proofs.Books.{all_told_before, rows-append}
+use Rattle.pfair_feed.proofs.Books.{all_told_before, rows-append}
 
 -- ---- slot after slot
 

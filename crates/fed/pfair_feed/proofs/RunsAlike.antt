@@ -14,10 +14,10 @@ use Rattle.pfair_table.specs.Laws.{IsOf, IsPrefixOf, OneTable}
 use Rattle.pfair_table.specs.Refinement.{Dispatch, HavePlannedAlike, IsWholePlan}
 use Rattle.pfair_table.specs.Table.{Settings, Table, decisions, table}
 use Rattle.pfair_replica.proofs.OfferedTo.{offered_stays}
-use Rattle.pfair_stream.specs.declared.output.Output.{Output}
-use Rattle.pfair_stream.specs.Follow.{Follow, news}
-use Rattle.pfair_stream.specs.Rows.{rows_from}
-use Rattle.pfair_stream.proofs.Alike.{told_alike}
+use Rattle.pfair_feed.specs.declared.output.Output.{Output}
+use Rattle.pfair_feed.specs.Follow.{Follow, news}
+use Rattle.pfair_feed.specs.Rows.{rows_from}
+use Rattle.pfair_feed.proofs.Alike.{told_alike}
 use Rattle.pfair_feed.specs.Feeding.{AreTakenFrom}
 use Rattle.pfair_feed.specs.Laws.{RunsWriteAlike}
 use Rattle.pfair_feed.specs.RoundTrip.{IsNew, IsPlaced, Placed}

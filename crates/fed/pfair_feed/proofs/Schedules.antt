@@ -10,9 +10,9 @@ use Rattle.pfair_output.specs.Decisions.{decisions_text}
 use Rattle.pfair_output.specs.Lags.{is_staying, lag_row, lag_rows, lags_header}
 use Rattle.pfair_output.specs.Replay.{placed_replay_text, replay_text}
 use Rattle.pfair_text.specs.Rows.{lines_text}
-use Rattle.pfair_stream.specs.declared.output.Output.{Output}
-use Rattle.pfair_stream.specs.declared.output.Output.TheVariants.{Tables, PlacedTables, Decisions, Lags}
-use Rattle.pfair_stream.specs.Laws.{text_of}
+use Rattle.pfair_feed.specs.declared.output.Output.{Output}
+use Rattle.pfair_feed.specs.declared.output.Output.TheVariants.{Tables, PlacedTables, Decisions, Lags}
+use Rattle.pfair_feed.specs.RowLaws.{text_of}
 use Rattle.pfair_feed.specs.RoundTrip.{HasScheduleOf, replica_with_room}
 use Rattle.pfair_feed.proofs.ScriptRows.{at_logs}
 

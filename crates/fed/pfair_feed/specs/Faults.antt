@@ -3,10 +3,10 @@ use Rattle.std.specs.Prelude.{ℕ, ◌≡◌, Bool, true, false, List}
 use Rattle.pfair_entry.specs.Entry.{Logged}
 use Rattle.pfair_entry_row.specs.Faults.{row_fault_number, IsRowFaultOf}
 use Rattle.pfair_entry_row.specs.Row.{entry_row, IsEntryAt}
-use Rattle.pfair_stream.specs.declared.fault.FollowFault.{FollowFault}
-use Rattle.pfair_stream.specs.declared.fault.FollowFault.TheVariants.{NoSuchProcessor, NumberOutOfRange, Torn, Spent, WriteFailed, Memory}
-use Rattle.pfair_stream.specs.Faults.{follow_fault_number}
-use Rattle.pfair_stream.specs.Follow.{Follow as Follower, IsStopOf}
+use Rattle.pfair_feed.specs.declared.follow_fault.FollowFault.{FollowFault}
+use Rattle.pfair_feed.specs.declared.follow_fault.FollowFault.TheVariants.{NoSuchProcessor, NumberOutOfRange, Torn, Spent, WriteFailed, Memory}
+use Rattle.pfair_feed.specs.FollowFaults.{follow_fault_number}
+use Rattle.pfair_feed.specs.Follow.{Follow as Follower, IsStopOf}
 use Rattle.pfair_feed.specs.declared.fault.FeedFault.{FeedFault}
 use Rattle.pfair_feed.specs.declared.fault.FeedFault.TheVariants.{Row, Follow, ReadFailed}
 

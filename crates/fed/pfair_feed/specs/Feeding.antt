@@ -9,12 +9,12 @@ use Rattle.pfair_replica.specs.Offered.{taken}
 use Rattle.pfair_replica.specs.Replica.{Replica, has_torn}
 use Rattle.pfair_table.specs.Refinement.{IsWholePlan}
 use Rattle.pfair_text.specs.Output.{TakesPrefix}
-use Rattle.pfair_stream.specs.declared.fault.FollowFault.TheVariants.{Memory, WriteFailed}
+use Rattle.pfair_feed.specs.declared.follow_fault.FollowFault.TheVariants.{Memory, WriteFailed}
 use Rattle.pfair_entry_row.specs.declared.fault.RowFault.TheVariants.{NoRow}
 use Rattle.pfair_feed.specs.Faults.{IsCauseIn, is_refusal}
 use Rattle.pfair_feed.specs.declared.fault.FeedFault.{FeedFault}
 use Rattle.pfair_feed.specs.declared.fault.FeedFault.TheVariants.{Follow as Fault, ReadFailed, Row}
-use Rattle.pfair_stream.specs.Follow.{Follow, IsGrown, news}
+use Rattle.pfair_feed.specs.Follow.{Follow, IsGrown, news}
 
 -- ---- lines
 

@@ -13,11 +13,11 @@ use Rattle.pfair_table.specs.Events.{is_plannable}
 use Rattle.pfair_table.specs.Laws.{IsPrefixOf}
 use Rattle.pfair_table.specs.Table.{Settings}
 use Rattle.pfair_table.specs.Refinement.{Dispatch, IsWholePlan}
-use Rattle.pfair_stream.specs.declared.output.Output.{Output}
-use Rattle.pfair_stream.specs.declared.output.Output.TheVariants.{Lags}
-use Rattle.pfair_stream.specs.declared.fault.FollowFault.{FollowFault}
-use Rattle.pfair_stream.specs.declared.fault.FollowFault.TheVariants.{NoSuchProcessor, NumberOutOfRange, Torn, Spent, WriteFailed, Memory}
-use Rattle.pfair_stream.specs.Rows.{rows_from}
+use Rattle.pfair_feed.specs.declared.output.Output.{Output}
+use Rattle.pfair_feed.specs.declared.output.Output.TheVariants.{Lags}
+use Rattle.pfair_feed.specs.declared.follow_fault.FollowFault.{FollowFault}
+use Rattle.pfair_feed.specs.declared.follow_fault.FollowFault.TheVariants.{NoSuchProcessor, NumberOutOfRange, Torn, Spent, WriteFailed, Memory}
+use Rattle.pfair_feed.specs.Rows.{rows_from}
 
 -- a follower, as a contract sees it: what it writes, its dispatcher, and the first slot whose rows are still to be written
 pub record Follow : Type 0 where

@@ -8,9 +8,9 @@ use Rattle.pfair_replica.specs.Replica.{Agree, Replica, empty_replica}
 use Rattle.pfair_table.specs.Laws.{IsPrefixOf}
 use Rattle.pfair_table.specs.Script.{LoggedRun, capacity_of, replica_of_logs}
 use Rattle.pfair_table.specs.Table.{Settings}
-use Rattle.pfair_stream.specs.Follow.{Follow, news}
-use Rattle.pfair_stream.specs.Laws.{text_of}
-use Rattle.pfair_stream.specs.Rows.{header_of}
+use Rattle.pfair_feed.specs.Follow.{Follow, news}
+use Rattle.pfair_feed.specs.RowLaws.{text_of}
+use Rattle.pfair_feed.specs.Rows.{header_of}
 use Rattle.pfair_feed.specs.Entries.{entries_text}
 use Rattle.pfair_feed.specs.Feeding.{AreFedBytes, AreLines, AreTakenFrom}
 use Rattle.pfair_feed.specs.RoundTrip.{AreAmong, HasScheduleOf, HaveTheRows, IsNew, IsPlaced, IsScript, Placed, replica_with_room, row_of, rows_of}

@@ -1,6 +1,10 @@
 pub mod Entries
 pub mod Faults
 pub mod Feeding
+pub mod Follow
+pub mod FollowFaults
 pub mod Laws
 pub mod Missing
 pub mod RoundTrip
+pub mod RowLaws
+pub mod Rows

@@ -4,7 +4,7 @@ use Rattle.std.specs.Fmt.{decimal}
 use Rattle.std.specs.List.{flat_map}
 use Rattle.pfair_replica.specs.HeldRows.{replica_of}
 use Rattle.pfair_replica.specs.Replica.{numbers_below}
-use Rattle.pfair_stream.specs.Follow.{Follow, missing_of}
+use Rattle.pfair_feed.specs.Follow.{Follow, missing_of}
 
 -- the line of a key
 abbrev pub missing_line : (processor number : ℕ) → List ℕ

@@ -8,9 +8,9 @@ use Rattle.pfair_table.specs.Events.{start}
 use Rattle.pfair_table.specs.Refinement.{course_of}
 use Rattle.pfair_table.specs.Script.{IsLoggedRun, LoggedRun, replica_of_logs}
 use Rattle.pfair_table.specs.Table.{Settings, decisions, plan}
-use Rattle.pfair_stream.specs.declared.output.Output.{Output}
-use Rattle.pfair_stream.specs.Follow.{Follow}
-use Rattle.pfair_stream.specs.Laws.{text_of}
+use Rattle.pfair_feed.specs.declared.output.Output.{Output}
+use Rattle.pfair_feed.specs.Follow.{Follow}
+use Rattle.pfair_feed.specs.RowLaws.{text_of}
 
 -- ---- entries
 

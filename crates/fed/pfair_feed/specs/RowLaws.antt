@@ -9,9 +9,9 @@ use Rattle.pfair_table.specs.Refinement.{Dispatch, IsWholePlan}
 use Rattle.pfair_output.specs.Replay.{placed_replay_text, replay_text}
 use Rattle.pfair_output.specs.Decisions.{decisions_text}
 use Rattle.pfair_output.specs.Lags.{lags_text}
-use Rattle.pfair_stream.specs.declared.output.Output.{Output}
-use Rattle.pfair_stream.specs.declared.output.Output.TheVariants.{Tables, PlacedTables, Decisions, Lags}
-use Rattle.pfair_stream.specs.Rows.{header_of, rows_from}
+use Rattle.pfair_feed.specs.declared.output.Output.{Output}
+use Rattle.pfair_feed.specs.declared.output.Output.TheVariants.{Tables, PlacedTables, Decisions, Lags}
+use Rattle.pfair_feed.specs.Rows.{header_of, rows_from}
 
 -- The rows of slots and of more behind them, from a slot on, are those of the slots, and then those of the rest.
 abbrev pub RowsGoOn : Type 0

@@ -9,8 +9,8 @@ use Rattle.pfair_output.specs.Replay.{placed_header, placed_table_rows, replay_h
 use Rattle.pfair_output.specs.Decisions.{decided_rows, decisions_header}
 use Rattle.pfair_output.specs.Lags.{lags_header}
 use Rattle.pfair_output.specs.Told.{all_slots_told, rows_told}
-use Rattle.pfair_stream.specs.declared.output.Output.{Output}
-use Rattle.pfair_stream.specs.declared.output.Output.TheVariants.{Tables, PlacedTables, Decisions, Lags}
+use Rattle.pfair_feed.specs.declared.output.Output.{Output}
+use Rattle.pfair_feed.specs.declared.output.Output.TheVariants.{Tables, PlacedTables, Decisions, Lags}
 
 abbrev pub header_of : Output → List (List ℕ)
 header_of Tables = replay_header

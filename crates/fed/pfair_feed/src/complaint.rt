@@ -7,9 +7,9 @@ ghost use Rattle.pfair_feed.specs.Feeding.{question};
 ghost use Rattle.pfair_feed.specs.Missing.{missing_line, missing_text};
 
 use crate::fault::FeedFault;
+use crate::follower::Follower;
 use itoa::Buffer;
 use pfair_ready::Ready;
-use pfair_stream::Follower;
 use pfair_text::{WriteFailed, send};
 use std::io::Write;
 

@@ -3,8 +3,8 @@
 ghost use Rattle.std.specs.Prelude.{◌≡◌};
 ghost use Rattle.pfair_feed.specs.Faults.{feed_fault_number, is_refusal};
 
+use crate::follow_fault::FollowFault;
 use pfair_entry_row::RowFault;
-use pfair_stream::FollowFault;
 use thiserror::Error;
 
 /// Why a line was not taken, or the input not read on.

@@ -1,8 +1,8 @@
 //! Why a follower did not go on.
 
 ghost use Rattle.std.specs.Prelude.{◌≡◌};
-ghost use Rattle.pfair_stream.specs.Faults.{follow_fault_number, of_plan, of_take};
-ghost use Rattle.pfair_stream.specs.declared.fault.FollowFault.TheVariants.{Memory, WriteFailed as WriteFailure};
+ghost use Rattle.pfair_feed.specs.FollowFaults.{follow_fault_number, of_plan, of_take};
+ghost use Rattle.pfair_feed.specs.declared.follow_fault.FollowFault.TheVariants.{Memory, WriteFailed as WriteFailure};
 
 use pfair_replica::TakeFault;
 use pfair_table::PlanFault;

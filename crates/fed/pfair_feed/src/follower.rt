@@ -9,12 +9,12 @@ ghost use Rattle.pfair_replica.specs.Offered.{taken};
 ghost use Rattle.pfair_replica.specs.Faults.{IsKeyOf, IsTakenAs};
 ghost use Rattle.pfair_table.specs.Events.{start};
 ghost use Rattle.pfair_table.specs.Refinement.{IsWholePlan, course_of};
-ghost use Rattle.pfair_stream.specs.Rows.{header_of};
-ghost use Rattle.pfair_stream.specs.Follow.{HasFollowed, HaveToldAlike, IsSameRun, IsStopOf, missing_of, news};
-ghost use Rattle.pfair_stream.specs.declared.fault.FollowFault.TheVariants.{Memory, WriteFailed};
-ghost use Rattle.pfair_stream.specs.declared.output.Output.TheVariants.{Lags};
+ghost use Rattle.pfair_feed.specs.Rows.{header_of};
+ghost use Rattle.pfair_feed.specs.Follow.{HasFollowed, HaveToldAlike, IsSameRun, IsStopOf, missing_of, news};
+ghost use Rattle.pfair_feed.specs.declared.follow_fault.FollowFault.TheVariants.{Memory, WriteFailed};
+ghost use Rattle.pfair_feed.specs.declared.output.Output.TheVariants.{Lags};
 
-use crate::fault::FollowFault;
+use crate::follow_fault::FollowFault;
 use crate::output::{Output, write_header, write_rows};
 use crate::planning::plan_all;
 use pfair_entry::Entry;
@@ -38,8 +38,8 @@ pub struct Follower<R: Ready> {
 }
 
 impl<R: Ready> Model for Follower<R> {
-    ghost use Rattle.pfair_stream.specs.Rows.{IsBookOf, IsTold};
-    ghost use Rattle.pfair_stream.specs.Follow.{Follow};
+    ghost use Rattle.pfair_feed.specs.Rows.{IsBookOf, IsTold};
+    ghost use Rattle.pfair_feed.specs.Follow.{Follow};
 
     ghost Value = { Follow };
 

@@ -3,19 +3,20 @@
 ghost use Rattle.std.specs.Prelude.{◌≡◌, ◌≢◌, ◌≤◌, ◌++◌, ◌∷◌, [], ℕ, List, Option, Some, IfErr, OnErr, OnOk, length, take, false, true};
 ghost use Rattle.std.specs.Io.KnownBytes.{Consumes, IsAtEnd};
 ghost use Rattle.pfair_replica.specs.HeldRows.{SameShape};
-ghost use Rattle.pfair_stream.specs.Follow.{Follow};
-ghost use Rattle.pfair_stream.specs.declared.fault.FollowFault.TheVariants.{Memory};
+ghost use Rattle.pfair_feed.specs.Follow.{Follow};
+ghost use Rattle.pfair_feed.specs.declared.follow_fault.FollowFault.TheVariants.{Memory};
 ghost use Rattle.pfair_feed.specs.Faults.{is_refusal};
 ghost use Rattle.pfair_feed.specs.declared.fault.FeedFault.TheVariants.{Follow as Fault};
 ghost use Rattle.pfair_feed.specs.Feeding.{AreFedBytes, AreWelcome, IsCaughtUp, IsFedByte, IsFedKept, IsLeft, IsRowAt, IsStopped, IsWelcome, question};
 
 use crate::complaint::complain;
 use crate::fault::FeedFault;
+use crate::follow_fault::FollowFault;
+use crate::follower::Follower;
 use crate::line::feed;
 use pfair_entry_row::laws::rows_are_short;
 use pfair_entry_row::{LONGEST_ROW, RowFault};
 use pfair_ready::Ready;
-use pfair_stream::{FollowFault, Follower};
 use std::alloc::Global;
 use std::io::{Read, Write};
 

@@ -1,11 +1,23 @@
-//! The laws of whole inputs. Each function does nothing, or calls other laws: its contract is the
-//! law.
+//! The laws of rows that are written slot after slot, and of whole inputs. Each function does
+//! nothing, or calls other laws: its contract is the law.
 
 ghost use Rattle.pfair_feed.specs.Laws.{EntriesAreTheirRows, EntriesGiveTheirSchedule, FedEntriesGiveTheirText, LinesAreOne, OrderIsNothing, RunsWriteAlike, WholeText};
+ghost use Rattle.pfair_feed.specs.RowLaws.{RowsGoOn, WholeRows};
 
 use pfair_entry_row::laws::{each_entry_has_its_row, rows_are_lines};
-use pfair_stream::laws::whole_rows;
 use pfair_table::laws::{events_leave_the_least, one_table};
+
+/// The rows of what was planned, and of more behind it, are those of what was planned, and then
+/// those of the rest from there on.
+pub fn rows_go_on()
+    ensures { RowsGoOn }
+{}
+
+/// The header and the rows of a whole plan, from the first slot on, are the text that is written of
+/// a run at once.
+pub fn whole_rows()
+    ensures { WholeRows }
+{}
 
 /// The rows of the same entries, in whatever order and however often they come, leave the same to
 /// be held, and so the same plan, the same decisions and the same text.

@@ -1,15 +1,24 @@
-//! Rows of entries, from a reader into a dispatcher that is fed.
+//! A dispatcher that is fed: a [`Follower`] takes entries one after another, in whatever order they
+//! come, and writes the rows of each slot as soon as what it holds settles it. [`follow`] feeds it
+//! the rows of entries that a reader gives.
 #![tactic(auto)]
 
 mod complaint;
 mod entries;
 mod fault;
+mod follow_fault;
+mod follower;
 mod input;
 pub mod laws;
 mod line;
+mod output;
+mod planning;
 
 pub use complaint::{tell_missing, tell_refused};
 pub use entries::entries_of;
 pub use fault::FeedFault;
+pub use follow_fault::FollowFault;
+pub use follower::Follower;
 pub use input::follow;
 pub use line::feed;
+pub use output::Output;

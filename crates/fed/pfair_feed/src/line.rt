@@ -5,15 +5,15 @@ ghost use Rattle.pfair_lattice.specs.declared.flat.Flat.TheVariants.{One};
 ghost use Rattle.pfair_entry.specs.Entry.{Logged};
 ghost use Rattle.pfair_entry_row.specs.Row.{IsEntryAt, entry_row};
 ghost use Rattle.pfair_replica.specs.HeldRows.{SameShape, held};
-ghost use Rattle.pfair_stream.specs.declared.fault.FollowFault.TheVariants.{Memory};
+ghost use Rattle.pfair_feed.specs.declared.follow_fault.FollowFault.TheVariants.{Memory};
 ghost use Rattle.pfair_feed.specs.Faults.{is_refusal};
 ghost use Rattle.pfair_feed.specs.Feeding.{HasFailed, IsCaughtUp, IsFedLine, IsRowAt};
 ghost use Rattle.pfair_feed.specs.declared.fault.FeedFault.TheVariants.{Follow};
 
 use crate::fault::FeedFault;
+use crate::follower::Follower;
 use pfair_entry_row::read_row;
 use pfair_ready::Ready;
-use pfair_stream::Follower;
 use std::io::Write;
 
 /// Takes the entry whose row a line is, and writes the rows of the slots that it settles, as
@@ -23,7 +23,7 @@ use std::io::Write;
 /// - [`FeedFault::Row`] if the line is no entry's row, with what is wrong with it: nothing has changed.
 /// - [`FeedFault::Follow`] if [`Follower::take`] answers a fault for its entry: the follower and the writer are
 ///   then as that call leaves them. The row of an entry that is held already never gives
-///   [`FollowFault::Memory`](pfair_stream::FollowFault::Memory).
+///   [`FollowFault::Memory`](crate::FollowFault::Memory).
 pub fn feed<R: Ready, W: Write>(
     follower: &mut Follower<R>,
     writer: &mut W,

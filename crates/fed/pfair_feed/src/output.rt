@@ -4,10 +4,10 @@ ghost use Rattle.std.specs.Prelude.{◌≡◌, ◌⊎◌, ◌++◌, ◌≢◌, [
 ghost use Rattle.std.specs.Io.KnownBytes.{Appends, Keeps};
 ghost use Rattle.pfair_text.specs.Output.{TakesPrefix};
 ghost use Rattle.pfair_text.specs.Rows.{IsOpen, line, lines_text, text_so_far};
-ghost use Rattle.pfair_stream.specs.Rows.{IsTold, IsBookOf, header_of, rows_from};
-ghost use Rattle.pfair_stream.specs.declared.fault.FollowFault.TheVariants.{Memory, WriteFailed};
+ghost use Rattle.pfair_feed.specs.Rows.{IsTold, IsBookOf, header_of, rows_from};
+ghost use Rattle.pfair_feed.specs.declared.follow_fault.FollowFault.TheVariants.{Memory, WriteFailed};
 
-use crate::fault::FollowFault;
+use crate::follow_fault::FollowFault;
 use csv::Writer;
 use pfair_lag::LagBook;
 use pfair_output::{

@@ -4,7 +4,7 @@ ghost use Rattle.std.specs.Prelude.{◌≡◌, false, IfErr, IsErrOf, OnOk};
 ghost use Rattle.pfair_replica.specs.Replica.{has_torn};
 ghost use Rattle.pfair_replica.specs.HeldRows.{replica_of};
 ghost use Rattle.pfair_table.specs.Refinement.{IsWholePlan};
-ghost use Rattle.pfair_stream.specs.Follow.{IsGrown, IsEndOfPlans};
+ghost use Rattle.pfair_feed.specs.Follow.{IsGrown, IsEndOfPlans};
 
 use pfair_ready::Ready;
 use pfair_table::{Dispatcher, PlanFault, Step};

@@ -10,10 +10,10 @@ use Rattle.pfair_replica.specs.Replica.{Replica, empty_replica, frontier, has_to
 use Rattle.pfair_table.specs.Events.{Course}
 use Rattle.pfair_table.specs.Refinement.{Dispatch, IsWholePlan}
 use Rattle.pfair_table.specs.Table.{Settings, Table, decisions, plan, table}
-use Rattle.pfair_stream.specs.declared.output.Output.{Output}
-use Rattle.pfair_stream.specs.Follow.{Follow, news}
-use Rattle.pfair_stream.specs.Laws.{text_of}
-use Rattle.pfair_stream.specs.Rows.{header_of, rows_from}
+use Rattle.pfair_feed.specs.declared.output.Output.{Output}
+use Rattle.pfair_feed.specs.Follow.{Follow, news}
+use Rattle.pfair_feed.specs.RowLaws.{text_of}
+use Rattle.pfair_feed.specs.Rows.{header_of, rows_from}
 use Rattle.pfair_feed.specs.Feeding.{AreFedBytes, AreTakenFrom, AreWelcome}
 use Rattle.pfair_feed.specs.Laws.{WholeText}
 use Rattle.pfair_follow_words.specs.declared.words.Run.{Run}

@@ -8,14 +8,14 @@ use Rattle.pfair_text.specs.Rows.{lines_text}
 use Rattle.pfair_replica.specs.Replica.{Replica, empty_replica, frontier, numbers_below}
 use Rattle.pfair_table.specs.Script.{LoggedRun, capacity_of, is_short, replica_of_logs}
 use Rattle.pfair_table.specs.Table.{Settings}
-use Rattle.pfair_stream.specs.declared.output.Output.{Output}
-use Rattle.pfair_stream.specs.Rows.{rows_from}
+use Rattle.pfair_feed.specs.declared.output.Output.{Output}
+use Rattle.pfair_feed.specs.Rows.{rows_from}
 use Rattle.pfair_feed.specs.Feeding.{AreTakenFrom}
 use Rattle.pfair_feed.specs.Laws.{EntriesGiveTheirSchedule, LinesAreOne}
 use Rattle.pfair_feed.specs.RoundTrip.{HasScheduleOf, HaveTheRows, rows_of}
 use Rattle.pfair_file.specs.declared.schedule_fault.ScheduleFault.TheVariants as schedule
-use Rattle.pfair_stream.specs.declared.fault.FollowFault.{FollowFault}
-use Rattle.pfair_stream.specs.declared.fault.FollowFault.TheVariants as follow
+use Rattle.pfair_feed.specs.declared.follow_fault.FollowFault.{FollowFault}
+use Rattle.pfair_feed.specs.declared.follow_fault.FollowFault.TheVariants as follow
 use Rattle.pfair_feed.specs.declared.fault.FeedFault.{FeedFault}
 use Rattle.pfair_feed.specs.declared.fault.FeedFault.TheVariants as feed
 use Rattle.pfair_follow_words.specs.declared.words.Run.{Run}

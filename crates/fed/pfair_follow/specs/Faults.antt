@@ -3,8 +3,8 @@ use Rattle.std.specs.Prelude.{ℕ, Bool, false, Result, Ok, Err, if◌then◌els
 use Rattle.pfair_file.specs.ScheduleFaults.{schedule_fault_number, schedule_fault_status}
 use Rattle.pfair_file.specs.declared.schedule_fault.ScheduleFault.{ScheduleFault}
 use Rattle.pfair_file.specs.declared.schedule_fault.ScheduleFault.TheVariants as schedule
-use Rattle.pfair_stream.specs.declared.fault.FollowFault.{FollowFault}
-use Rattle.pfair_stream.specs.declared.fault.FollowFault.TheVariants as follow
+use Rattle.pfair_feed.specs.declared.follow_fault.FollowFault.{FollowFault}
+use Rattle.pfair_feed.specs.declared.follow_fault.FollowFault.TheVariants as follow
 use Rattle.pfair_feed.specs.Faults.{feed_fault_number, is_refusal}
 use Rattle.pfair_feed.specs.declared.fault.FeedFault.{FeedFault}
 use Rattle.pfair_feed.specs.declared.fault.FeedFault.TheVariants as feed

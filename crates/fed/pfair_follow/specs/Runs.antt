@@ -7,10 +7,10 @@ use Rattle.pfair_replica.specs.Replica.{Replica, empty_replica, frontier, has_to
 use Rattle.pfair_table.specs.Events.{start}
 use Rattle.pfair_table.specs.Refinement.{course_of}
 use Rattle.pfair_table.specs.Table.{Settings, decisions, plan}
-use Rattle.pfair_stream.specs.declared.output.Output.{Output}
-use Rattle.pfair_stream.specs.Follow.{Follow}
-use Rattle.pfair_stream.specs.Laws.{text_of}
-use Rattle.pfair_stream.specs.Rows.{header_of, rows_from}
+use Rattle.pfair_feed.specs.declared.output.Output.{Output}
+use Rattle.pfair_feed.specs.Follow.{Follow}
+use Rattle.pfair_feed.specs.RowLaws.{text_of}
+use Rattle.pfair_feed.specs.Rows.{header_of, rows_from}
 use Rattle.pfair_feed.specs.declared.fault.FeedFault.{FeedFault}
 use Rattle.pfair_feed.specs.Feeding.{AreFedBytes, AreLines, AreTakenFrom, AreWelcome, IsStopped}
 use Rattle.pfair_follow_words.specs.declared.words.Run.{Run}

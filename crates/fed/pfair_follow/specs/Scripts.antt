@@ -3,7 +3,7 @@ use Rattle.std.specs.Prelude.{ℕ, ◌≡◌, ◌≤◌, ◌<◌, List, Option, 
 use Rattle.std.specs.Io.KnownBytes.{Appends}
 use Rattle.pfair_replica.specs.Replica.{frontier}
 use Rattle.pfair_table.specs.Script.{LoggedRun, replica_of_logs}
-use Rattle.pfair_stream.specs.declared.output.Output.{Output}
+use Rattle.pfair_feed.specs.declared.output.Output.{Output}
 use Rattle.pfair_feed.specs.Feeding.{AreLines}
 use Rattle.pfair_feed.specs.RoundTrip.{HaveTheRows, IsScript, rows_of}
 use Rattle.pfair_follow_words.specs.declared.words.Run.{Run}

@@ -4,10 +4,9 @@ ghost use Rattle.std.specs.Prelude.{◌≡◌};
 ghost use Rattle.pfair_follow.specs.Faults.{number_of, of_feed, of_follow, of_schedule, of_words, status_of};
 ghost use Rattle.pfair_follow.specs.declared.fault.ProgramFault.TheVariants.{Memory, WriteFailed};
 
-use pfair_feed::FeedFault;
+use pfair_feed::{FeedFault, FollowFault};
 use pfair_file::{ScheduleFault, write_line};
 use pfair_follow_words::WordsFault;
-use pfair_stream::FollowFault;
 use pfair_text::WriteFailed;
 use std::alloc::AllocError;
 use std::io::Write;

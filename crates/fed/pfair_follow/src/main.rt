@@ -10,9 +10,9 @@ mod words;
 
 use entries::entries;
 use fault::{ProgramFault, write_fault};
+use pfair_feed::Output;
 use pfair_file::{given_words, opened};
 use pfair_follow_words::{Asked, Run};
-use pfair_stream::Output;
 use pfair_text::send;
 use rows::follow_rows;
 use std::process::ExitCode;

@@ -3,7 +3,7 @@
 ghost use Rattle.std.specs.Prelude.{ℕ, List, true, false, ◌≡◌, ◌≢◌, ◌⊎◌, ◌<◌, ◌≤◌, IfErr, IsErrOf, OnOk, length};
 ghost use Rattle.std.specs.Io.KnownBytes.{Appends, Consumes, Keeps};
 ghost use Rattle.pfair_text.specs.Output.{TakesPrefix};
-ghost use Rattle.pfair_stream.specs.declared.fault.FollowFault.TheVariants as follow;
+ghost use Rattle.pfair_feed.specs.declared.follow_fault.FollowFault.TheVariants as follow;
 ghost use Rattle.pfair_feed.specs.Feeding.{AreWelcome, IsCaughtUp};
 ghost use Rattle.pfair_follow.specs.Faults.{is_row_fault, stalled};
 ghost use Rattle.pfair_follow.specs.Runs.{AreTakenAll, IsEndOf, IsFed, IsFedEndOf, IsFollowed, IsSettled, head_from};
@@ -11,11 +11,10 @@ ghost use Rattle.pfair_follow.specs.Scripts.{IsScriptStalled, IsScriptWritten, O
 
 use crate::fault::ProgramFault;
 use pfair_feed::laws::{entries_give_their_schedule, lines_are_one, text_is_whole};
-use pfair_feed::{follow, tell_missing};
+use pfair_feed::{FollowFault, Follower, Output, follow, tell_missing};
 use pfair_file::ScheduleFault;
 use pfair_follow_words::Run;
 use pfair_ready::{HeapReady, Ready};
-use pfair_stream::{FollowFault, Follower, Output};
 use pfair_table::Script;
 use std::alloc::Global;
 use std::io::{Read, Write};

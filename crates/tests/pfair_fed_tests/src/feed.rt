@@ -5,9 +5,10 @@ ghost use Rattle.pfair_feed.specs.Feeding.{IsCaughtUp};
 
 use pfair_entry::{Announcement, Entry};
 use pfair_entry_row::RowFault;
-use pfair_feed::{FeedFault, entries_of, follow, tell_missing, tell_refused};
+use pfair_feed::{
+    FeedFault, FollowFault, Follower, Output, entries_of, follow, tell_missing, tell_refused,
+};
 use pfair_ready::HeapReady;
-use pfair_stream::{FollowFault, Follower, Output};
 use pfair_table::{Script, Settings};
 use pfair_weight::{TaskName, Weight};
 use std::alloc::Global;

@@ -2,9 +2,9 @@
 //! that were worked out by hand.
 
 use pfair_entry::{Announcement, Entry};
+use pfair_feed::{FollowFault, Follower, Output};
 use pfair_ready::HeapReady;
 use pfair_replica::Taken;
-use pfair_stream::{FollowFault, Follower, Output};
 use pfair_table::Settings;
 use pfair_weight::{TaskName, Weight};
 use std::alloc::Global;

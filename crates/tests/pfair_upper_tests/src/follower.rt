@@ -1,8 +1,8 @@
 //! Followers over a heap and over a list: the law of followers in hand, at both types.
 
 use pfair_entry::{Announcement, Entry};
+use pfair_feed::{Follower, Output};
 use pfair_ready::{HeapReady, PlainReady, Ready};
-use pfair_stream::{Follower, Output};
 use pfair_table::Settings;
 use pfair_weight::{TaskName, Weight};
 use std::alloc::Global;

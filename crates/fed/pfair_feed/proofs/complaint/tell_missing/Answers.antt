@@ -2,7 +2,7 @@ use Rattle.std.proofs.Common.{ℕ, ◌≡◌, ◌<◌, sym, ap, ◌∙◌, arith
 use Rattle.pfair_replica.specs.HeldRows.{replica_of}
 use Rattle.pfair_table.specs.Refinement.{Dispatch}
 use Rattle.pfair_table.specs.Table.{Settings}
-use Rattle.pfair_stream.specs.Follow.{missing_of}
+use Rattle.pfair_feed.specs.Follow.{missing_of}
 use Rattle.pfair_feed.specs.Missing.{missing_line, missing_lines}
 use Rattle.pfair_feed.proofs.Telling.{on_err, told_short}
 use Rattle.pfair_feed.proofs.complaint.tell_missing.Goals as goal

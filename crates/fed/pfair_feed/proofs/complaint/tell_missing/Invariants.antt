@@ -2,7 +2,7 @@ use Rattle.std.specs.Io.KnownBytes.{Appends}
 use Rattle.std.proofs.Common.{flat_map}
 use Rattle.pfair_replica.specs.HeldRows.{replica_of}
 use Rattle.pfair_replica.specs.Replica.{numbers_below}
-use Rattle.pfair_stream.specs.Follow.{missing_of}
+use Rattle.pfair_feed.specs.Follow.{missing_of}
 use Rattle.pfair_feed.specs.Missing.{missing_lines}
 use Rattle.pfair_feed.proofs.complaint.tell_missing.Given as goal
 

@@ -1,6 +1,6 @@
 use Rattle.std.proofs.Common.{refl, sym, subst, ◌∙◌, ◌≡◌, ◌<◌, ◌≤◌, ◌++◌, ℕ, List, Option, arith, length, take}
 use Rattle.std.proofs.lemmas.List.{append-nil, take_all}
-use Rattle.pfair_stream.specs.Follow.{Follow}
+use Rattle.pfair_feed.specs.Follow.{Follow}
 use Rattle.pfair_feed.specs.Feeding.{AreFedBytes, AreWelcome, IsStopped}
 use Rattle.pfair_feed.proofs.Lines.{if_err, piece_more, piece_none, piece_whole, piece_stopped, welcome_more, welcome_same}
 use Rattle.pfair_feed.proofs.input.feed_piece.Goals as goal

@@ -1,6 +1,6 @@
 use Rattle.std.proofs.Common.{true, ◌≡◌, ◌++◌, ◌≤◌, ℕ, List, Option, length, take}
 use Rattle.pfair_replica.specs.HeldRows.{SameShape}
-use Rattle.pfair_stream.specs.Follow.{Follow}
+use Rattle.pfair_feed.specs.Follow.{Follow}
 use Rattle.pfair_feed.specs.Feeding.{AreFedBytes, AreWelcome, IsCaughtUp}
 use Rattle.pfair_feed.proofs.input.feed_piece.Given as goal
 

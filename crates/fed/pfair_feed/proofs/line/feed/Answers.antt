@@ -1,6 +1,6 @@
 use Rattle.std.proofs.Common.{◌≡◌, ap, subst, Err, rules}
 use Rattle.pfair_entry.specs.Entry.{Logged}
-use Rattle.pfair_stream.specs.Follow.{IsStopOf}
+use Rattle.pfair_feed.specs.Follow.{IsStopOf}
 use Rattle.pfair_feed.proofs.Reading.{failed_at, refused_line}
 use Rattle.pfair_feed.proofs.Repeats.{repeat_wants_none}
 use Rattle.pfair_feed.proofs.line.feed.Goals as goal

@@ -1,9 +1,9 @@
 use Rattle.std.proofs.Common.{◌≡◌, ◌++◌, ◌∙◌, sym, ap}
 use Rattle.std.proofs.lemmas.Result.{on_ok_weaker}
 use Rattle.pfair_text.specs.Rows.{lines_text, text_so_far}
-use Rattle.pfair_stream.specs.Rows.{book_before}
-use Rattle.pfair_stream.proofs.Books.{caught_up, rows_on, book_whole}
-use Rattle.pfair_stream.proofs.output.add_lags.Goals as goal
+use Rattle.pfair_feed.specs.Rows.{book_before}
+use Rattle.pfair_feed.proofs.Books.{caught_up, rows_on, book_whole}
+use Rattle.pfair_feed.proofs.output.add_lags.Goals as goal
 
 pub returns-clause-book : goal.returns-clause-book
 returns-clause-book g c =

@@ -1,8 +1,8 @@
 use Rattle.std.proofs.Common.{◌≡◌, ◌-◌, true, length}
 use Rattle.pfair_replica.specs.HeldRows.{replica_of}
 use Rattle.pfair_replica.specs.Replica.{has_torn}
-use Rattle.pfair_stream.specs.Follow.{IsGrown}
-use Rattle.pfair_stream.proofs.planning.plan_all.Given as goal
+use Rattle.pfair_feed.specs.Follow.{IsGrown}
+use Rattle.pfair_feed.proofs.planning.plan_all.Given as goal
 
 -- more is planned, but where something is torn or the dispatcher is spent
 abbrev pub invariant-slots : goal.invariant-slots

@@ -1,5 +1,5 @@
 use Rattle.std.proofs.Common.{◌≡◌, false, refl, sym, subst, inl, inr, Ok, Err, Result, IfErr, IsErrAnd}
-use Rattle.pfair_stream.specs.declared.fault.FollowFault.TheVariants as follow
+use Rattle.pfair_feed.specs.declared.follow_fault.FollowFault.TheVariants as follow
 use Rattle.pfair_feed.specs.Faults.{is_refusal}
 use Rattle.pfair_feed.specs.declared.fault.FeedFault.{FeedFault}
 use Rattle.pfair_feed.specs.declared.fault.FeedFault.TheVariants as feed

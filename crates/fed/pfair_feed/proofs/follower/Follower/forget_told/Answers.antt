@@ -1,7 +1,7 @@
 use Rattle.std.proofs.Common.{◌≡◌, ◌∙◌, sym, ap}
 use Rattle.pfair_table.specs.Refinement.{Dispatch}
-use Rattle.pfair_stream.specs.Follow.{Follow}
-use Rattle.pfair_stream.proofs.follower.Follower.forget_told.Goals as goal
+use Rattle.pfair_feed.specs.Follow.{Follow}
+use Rattle.pfair_feed.proofs.follower.Follower.forget_told.Goals as goal
 
 pub returns-in_default-clause-rest : goal.returns-in_default-clause-rest
 returns-in_default-clause-rest g c =

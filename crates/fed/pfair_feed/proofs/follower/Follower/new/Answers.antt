@@ -1,7 +1,7 @@
 use Rattle.std.proofs.Common.{ap, length}
 use Rattle.pfair_table.specs.Events.{Course}
-use Rattle.pfair_stream.proofs.Starting.{whole_start}
-use Rattle.pfair_stream.proofs.follower.Follower.new.Goals as goal
+use Rattle.pfair_feed.proofs.Starting.{whole_start}
+use Rattle.pfair_feed.proofs.follower.Follower.new.Goals as goal
 
 pub returns-clause-nothing : goal.returns-clause-nothing
 returns-clause-nothing g c = ap (λ (x : Course). length x.tables) c.in_ok-new.ensures.course

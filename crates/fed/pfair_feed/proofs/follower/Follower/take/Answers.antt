@@ -1,8 +1,8 @@
 use Rattle.std.proofs.Common.{◌∙◌, sym, ap, subst}
 use Rattle.pfair_table.specs.Refinement.{Dispatch}
-use Rattle.pfair_stream.specs.Rows.{IsTold}
-use Rattle.pfair_stream.proofs.Books.{book_after_plans}
-use Rattle.pfair_stream.proofs.follower.Follower.take.Goals as goal
+use Rattle.pfair_feed.specs.Rows.{IsTold}
+use Rattle.pfair_feed.proofs.Books.{book_after_plans}
+use Rattle.pfair_feed.proofs.follower.Follower.take.Goals as goal
 
 pub invariant_of-self-in_err-plan_all : goal.invariant_of-self-in_err-plan_all
 invariant_of-self-in_err-plan_all g c = (

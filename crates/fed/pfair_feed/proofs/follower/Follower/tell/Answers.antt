@@ -1,7 +1,7 @@
 use Rattle.std.proofs.Common.{subst}
 use Rattle.pfair_text.specs.Output.{TakesPrefix}
-use Rattle.pfair_stream.specs.Follow.{Follow, news}
-use Rattle.pfair_stream.proofs.follower.Follower.tell.Goals as goal
+use Rattle.pfair_feed.specs.Follow.{Follow, news}
+use Rattle.pfair_feed.proofs.follower.Follower.tell.Goals as goal
 
 pub returns-in-Err-clause-cut : goal.returns-in-Err-clause-cut
 returns-in-Err-clause-cut g c is =

@@ -1,7 +1,7 @@
 use Rattle.std.proofs.Common.{◌∙◌, sym, subst}
-use Rattle.pfair_stream.specs.Follow.{Follow, HaveToldAlike}
-use Rattle.pfair_stream.proofs.Alike.{told_alike}
-use Rattle.pfair_stream.proofs.follower.Follower.tells_alike.Goals as goal
+use Rattle.pfair_feed.specs.Follow.{Follow, HaveToldAlike}
+use Rattle.pfair_feed.proofs.Alike.{told_alike}
+use Rattle.pfair_feed.proofs.follower.Follower.tells_alike.Goals as goal
 
 pub returns : goal.returns
 returns g c =

@@ -1,5 +1,0 @@
-mod Books
-pub mod Plans
-pub mod Going
-pub mod Alike
-mod Starting

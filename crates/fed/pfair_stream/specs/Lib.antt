@@ -1,4 +1,0 @@
-pub mod Faults
-pub mod Follow
-pub mod Laws
-pub mod Rows
