@@ -8,4 +8,4 @@ mod entry_row;
 #[cfg(test)]
 mod feed;
 #[cfg(test)]
-mod stream;
+mod follower;
