@@ -14,6 +14,7 @@ use Rattle.pfair_output.specs.Told.{all_slots_told, book_rows, rows_told, slot_t
 use Rattle.pfair_output.proofs.ToldFacts.{time-all_told}
 use Rattle.pfair_feed.specs.declared.output.Output.TheVariants.{Lags}
 use Rattle.pfair_feed.specs.Rows.{IsBookOf, book_before, rows_from}
+use Rattle.pfair_feed.proofs.Plans.{longer}
 
 pub told-append : (book : Book) (ds es : List (List Decided)) (ts us : List Table) → length ds ≡ length ts
     → all_slots_told book (ds ++ es) (ts ++ us) ≡ all_slots_told (all_slots_told book ds ts) es us
@@ -67,10 +68,6 @@ book_grown slot ts us ds es book same more_ts more_ds b =
     let decided : take book.time ds ≡ take book.time es = sym (take-append-le book.time ds more_ds.0 there') ∙ ap (take book.time) more_ds.1 in
     let long : length ts ≤ length us = longer ts us more_ts in
     record { early = b.early; there = omega arith; told_is = b.told_is ∙ (λ i. all_slots_told empty_book (decided i) (tables i)) }
-  where
-    longer : {A : Type 0} (xs ys : List A) → IsPrefixOf xs ys → length xs ≤ length ys
-    longer [] ys p = omega arith
-    longer (x ∷ xs) ys p = subst (λ (l : List _). length (x ∷ xs) ≤ length l) p.1 (let h = longer xs (xs ++ p.0) (p.0, refl) in omega arith)
 
 -- an entry was taken, and more is planned
 pub book_after_plans : (slot : ℕ) (d taken after : Dispatch) (book : Book) → length d.tables ≡ length d.decided → taken ≡ record d { held = taken.held } → IsGrown taken after

@@ -1,8 +1,8 @@
 -- Followers that go on, one step after another.
-use Rattle.std.proofs.Common.{ℕ, ◌≡◌, ◌≤◌, inl, refl, sym, ap, subst, ◌∙◌, arith, List, [], ◌++◌, length, Option, Some, None}
+use Rattle.std.proofs.Common.{ℕ, ◌≡◌, inl, refl, sym, ap, subst, ◌∙◌, arith, List, [], ◌++◌, length, Option, Some, None}
 use Rattle.std.specs.Prelude.{max}
 use Rattle.std.specs.Io.KnownBytes.{Appends, Keeps}
-use Rattle.std.proofs.lemmas.List.{append-nil, length-map, length-append}
+use Rattle.std.proofs.lemmas.List.{append-nil, length-map}
 use Rattle.csv.proofs.WriteFacts.{appends-more}
 use Rattle.pfair_text.specs.Rows.{lines_text}
 use Rattle.pfair_text.proofs.RowFacts.{lines_text-append}
@@ -15,7 +15,7 @@ use Rattle.pfair_feed.specs.declared.output.Output.{Output}
 use Rattle.pfair_feed.specs.Follow.{Follow, news}
 use Rattle.pfair_feed.specs.Rows.{rows_from}
 use Rattle.pfair_feed.proofs.RowsGoOn.{none_behind, rows_go_on}
-use Rattle.pfair_feed.proofs.Plans.{grown_same, prefix_trans}
+use Rattle.pfair_feed.proofs.Plans.{grown_same, longer, prefix_trans}
 use Rattle.pfair_feed.specs.Feeding.{HasGoneOn, HasStood, IsCaughtUp}
 
 pub even : (d : Dispatch) → IsWholePlan d → length d.tables ≡ length d.decided
@@ -42,9 +42,6 @@ stays f old new caught k = record {
   sound = λ none. none;
   written = keeps_all old new (news f f) (ap lines_text (none_behind f.output f.told f.dispatch.tables f.dispatch.decided (even f.dispatch caught.whole) caught.all_told)) k;
 }
-
-pub longer : {A : Type 0} (xs ys : List A) → IsPrefixOf xs ys → length xs ≤ length ys
-longer xs ys p = let l = length-append xs p.0 in let e = ap length p.1 in omega (arith, l, e)
 
 news_more : (f g h : Follow) → g.output ≡ f.output → g.told ≡ max f.told (length g.dispatch.tables) → length g.dispatch.tables ≡ length g.dispatch.decided
     → IsPrefixOf g.dispatch.tables h.dispatch.tables → IsPrefixOf g.dispatch.decided h.dispatch.decided → news f g ++ news g h ≡ news f h

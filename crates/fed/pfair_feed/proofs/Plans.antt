@@ -1,8 +1,8 @@
 -- What plans add to what was planned.
-use Rattle.std.proofs.Common.{◌≡◌, refl, sym, ap, subst, ◌∙◌, Bool, true, false, List, [], ◌++◌, length, append_assoc}
+use Rattle.std.proofs.Common.{◌≡◌, ◌≤◌, refl, sym, ap, subst, ◌∙◌, arith, Bool, true, false, List, [], ◌++◌, length, append_assoc}
 use Rattle.std.specs.Prelude.{Some, slice_get, nat_lt, not, ◌&&◌, if◌then◌else◌}
 use Rattle.std.proofs.lemmas.Bool.{and_parts}
-use Rattle.std.proofs.lemmas.List.{append-nil}
+use Rattle.std.proofs.lemmas.List.{append-nil, length-append}
 use Rattle.pfair_replica.specs.HeldRows.{HeldRows, replica_of}
 use Rattle.pfair_replica.specs.Replica.{frontier, has_torn, torn_keys}
 use Rattle.pfair_table.specs.declared.answer.PlanFault.{PlanFault}
@@ -18,6 +18,9 @@ prefix_same xs ys e = ([], append-nil xs ∙ sym e)
 
 pub prefix_trans : {A : Type 0} (xs ys zs : List A) → IsPrefixOf xs ys → IsPrefixOf ys zs → IsPrefixOf xs zs
 prefix_trans xs ys zs p q = (p.0 ++ q.0, sym (append_assoc xs p.0 q.0) ∙ ap (λ l. l ++ q.0) p.1 ∙ q.1)
+
+pub longer : {A : Type 0} (xs ys : List A) → IsPrefixOf xs ys → length xs ≤ length ys
+longer xs ys p = let l = length-append xs p.0 in let e = ap length p.1 in omega (arith, l, e)
 
 pub grown_same : (d e : Dispatch) → e ≡ d → IsGrown d e
 grown_same d e same = record {

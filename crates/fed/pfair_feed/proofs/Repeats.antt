@@ -18,7 +18,7 @@ use Rattle.pfair_feed.specs.Follow.{Follow, IsGrown, IsStopOf}
 use Rattle.pfair_feed.specs.declared.follow_fault.FollowFault.{FollowFault}
 use Rattle.pfair_feed.specs.declared.follow_fault.FollowFault.TheVariants.{Memory}
 use Rattle.pfair_feed.specs.Feeding.{IsCaughtUp}
-use Rattle.pfair_feed.proofs.Going.{longer}
+use Rattle.pfair_feed.proofs.Plans.{longer}
 use Rattle.pfair_feed.proofs.Planned.{planned}
 
 -- what is held already changes nothing
