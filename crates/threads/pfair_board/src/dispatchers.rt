@@ -1,5 +1,6 @@
 //! Dispatchers in threads of their own.
 ghost use Rattle.std.specs.Prelude.{◌≡◌, ◌≤◌, ◌↔◌, ℕ, [], List, IfOk, IfErr, OnOk, IsTrue, false, Some, slice_get, vec_len};
+ghost use Rattle.std.specs.PromisedHandle.{KeepsEach};
 ghost use Rattle.pfair_replica.specs.HeldRows.{replica_of};
 ghost use Rattle.pfair_replica.specs.Replica.{frontier};
 ghost use Rattle.pfair_table.specs.Script.{capacity_of, replica_of_logs};
@@ -240,7 +241,7 @@ fn run_all<P: Threads + Wait + Sync, R: Ready + Send, G: Gate + Sync, K: Sink + 
             requires { (board.now.processors ≡ script.now.settings.processors) × (board.now.capacity ≡ capacity_of script.now.logs) × AreWorkplaces K.has board.now workplaces.items }
             ensures { IfOk result (λ works. AreWorks K.has G.may_give_up board.entry.now script.entry.now works.items) }
         {
-            let mut threads = Vec::new(alloc);
+            let mut threads = Vec::with_capacity(alloc, workplaces.len())?;
             for workplace in workplaces {
                 let row: RowOf<G, K> = RowOf {
                     board: Snapshot::of(board),
@@ -255,12 +256,40 @@ fn run_all<P: Threads + Wait + Sync, R: Ready + Send, G: Gate + Sync, K: Sink + 
                         requires { IsDeskOf workplace.desk board.now × (workplace.desk.next_number ≡ 1) × K.has workplace.sink workplace.desk.processor [] × (board.now.processors ≡ script.now.settings.processors) × (board.now.capacity ≡ capacity_of script.now.logs) }
                         ensures { IsWorkOf K.has G.may_give_up board.entry.now script.entry.now workplace.desk.processor result }
                     { work(rt, alloc, script, board, workplace, gate) },
-                )?;
-                threads.push(started)?;
+                );
+                match started {
+                    Ok(started) => threads.push_reserved(started),
+                    Err(_) => break,
+                }
             }
-            Ok(thread::join_promised(rt, threads)?)
+            // by now no workplace is left whose hints a worker would wait for
+            join_all(rt, threads, board.processors())
         },
     )
+}
+
+// Joins the threads that were started, and answers what they hand back where there are as many as
+// processors. Else each is joined alone, so that what it hands back is dropped.
+fn join_all<W: Threads, T: Drop, P: Promise<T>>(
+    rt: &W,
+    threads: Vec<PromisedHandle<T, P>>,
+    processors: u8,
+) -> Result<Vec<T>, AllocError>
+    ensures count { OnOk result (vec_len threads ≡ processors) }
+    ensures len { IfOk result (λ results. vec_len results ≡ vec_len threads) }
+    ensures each { IfOk result (λ results. KeepsEach P.Promise (vec_len threads) threads.items results.items) }
+{
+    let is_whole = threads.len() == processors as usize;
+    match thread::join_promised(rt, threads) {
+        Ok(results) if is_whole => Ok(results),
+        Ok(_) => Err(AllocError),
+        Err(refused) => {
+            for started in refused.value {
+                drop(started.join(rt));
+            }
+            Err(AllocError)
+        }
+    }
 }
 
 // The first of these works' faults, where they have one.
