@@ -8,7 +8,7 @@ use pfair_entry_row::RowFault;
 use pfair_feed::{
     FeedFault, FollowFault, Follower, Output, entries_of, follow, tell_missing, tell_refused,
 };
-use pfair_ready::HeapReady;
+use pfair_ready::{HeapReady, Ready};
 use pfair_table::{Script, Settings};
 use pfair_weight::{TaskName, Weight};
 use std::alloc::Global;
@@ -24,16 +24,8 @@ const LAST: &str = "0,2,4,-,-,-,-,-,-,-,-\n";
 
 const WHOLE: &str = "0,0,a,1\n1,0,a,2\n";
 
-// One processor for four slots.
-fn follower(rt: &impl Abort, alloc: Global) -> Follower<HeapReady>
-    ensures { IsCaughtUp result }
-{
-    let settings = Settings::new(1, 4, 4).expect(rt, "settings");
-    Follower::new(alloc, settings, 4096, Output::Tables, 0).expect(rt, "memory")
-}
-
 // So many processors for so many slots.
-fn follower_of(rt: &impl Abort, alloc: Global, processors: u8, slots: u64) -> Follower<HeapReady>
+fn follower_of<R: Ready>(rt: &impl Abort, alloc: Global, processors: u8, slots: u64) -> Follower<R>
     ensures { IsCaughtUp result }
 {
     let settings = Settings::new(processors, 4, slots).expect(rt, "settings");
@@ -72,15 +64,26 @@ struct End {
     asked: Vec<u8>,
 }
 
-// The follower is made here and dropped here, where nothing returns early.
 fn feed_all<I: Read>(rt: &impl Abort, alloc: Global, reader: &mut I, is_strict: bool) -> End {
-    let follower = follower(rt, alloc);
+    feed_slots::<HeapReady, I>(rt, alloc, 1, 4, reader, is_strict)
+}
+
+fn feed_slots<R: Ready, I: Read>(
+    rt: &impl Abort,
+    alloc: Global,
+    processors: u8,
+    slots: u64,
+    reader: &mut I,
+    is_strict: bool,
+) -> End {
+    let follower: Follower<R> = follower_of(rt, alloc, processors, slots);
     feed_to(alloc, follower, reader, is_strict)
 }
 
-fn feed_to<I: Read>(
+// The follower is dropped here, where nothing returns early.
+fn feed_to<R: Ready, I: Read>(
     alloc: Global,
-    follower: Follower<HeapReady>,
+    follower: Follower<R>,
     reader: &mut I,
     is_strict: bool,
 ) -> End
@@ -176,8 +179,8 @@ fn each_question_is_answered(rt: HostRuntime) -> Result<(), Fail> {
         assert!(rt; write!(&mut answers, "missing 0,{slot}\n").is_ok());
     }
     text.extend_from_slice(b"?\n")?;
-    let follower = follower_of(&rt, rt.alloc(), 1, 300);
-    let end = feed_to(rt.alloc(), follower, &mut text.as_slice(), true);
+    let mut reader = text.as_slice();
+    let end = feed_slots::<HeapReady, _>(&rt, rt.alloc(), 1, 300, &mut reader, true);
     assert!(rt; end.fault == None && end.rows.is_empty());
     assert!(rt; end.told.as_slice() == answers.as_slice());
     Ok(())
@@ -360,15 +363,8 @@ const TOLD: &str = "missing 0,1\nmissing 11,1\n";
 
 // What a writer with so much room takes of what is told of twelve logs, of which the first and the
 // last are short, and whether it took all.
-fn told_of_two(rt: &impl Abort, alloc: Global, left: usize) -> (Room, bool) {
-    let settings = Settings::new(12, 4, 4).expect(rt, "settings");
-    let mut follower: Follower<HeapReady> = Follower::new(
-        alloc,
-        settings,
-        4096,
-        Output::Tables,
-        0,
-    ).expect(rt, "memory");
+fn told_of_two<R: Ready>(rt: &impl Abort, alloc: Global, left: usize) -> (Room, bool) {
+    let mut follower: Follower<R> = follower_of(rt, alloc, 12, 4);
     let mut out: Vec<u8> = Vec::new(alloc);
     let entry = Entry::new(4, None).expect(rt, "an entry");
     for processor in 1..11 {
@@ -385,11 +381,11 @@ fn told_of_two(rt: &impl Abort, alloc: Global, left: usize) -> (Room, bool) {
 #[test]
 fn missing_entries_are_told_as_far_as_the_writer_takes_them(rt: HostRuntime) -> Result<(), Fail> {
     for left in 0..TOLD.len() {
-        let (room, is_told) = told_of_two(&rt, rt.alloc(), left);
+        let (room, is_told) = told_of_two::<HeapReady>(&rt, rt.alloc(), left);
         assert!(rt; !is_told);
         assert_eq!(rt; room.taken.as_slice(), &TOLD.as_bytes()[..left]);
     }
-    let (room, is_told) = told_of_two(&rt, rt.alloc(), TOLD.len());
+    let (room, is_told) = told_of_two::<HeapReady>(&rt, rt.alloc(), TOLD.len());
     assert!(rt; is_told);
     assert_eq!(rt; room.taken.as_slice(), TOLD.as_bytes());
     Ok(())
@@ -401,8 +397,8 @@ fn a_line_is_told_for_each_of_64_logs(rt: HostRuntime) -> Result<(), Fail> {
     for processor in 0..64u8 {
         assert!(rt; write!(&mut answers, "missing {processor},1\n").is_ok());
     }
-    let follower = follower_of(&rt, rt.alloc(), 64, 4);
-    let end = feed_to(rt.alloc(), follower, &mut b"?\n".as_slice(), true);
+    let mut reader = b"?\n".as_slice();
+    let end = feed_slots::<HeapReady, _>(&rt, rt.alloc(), 64, 4, &mut reader, true);
     assert!(rt; end.told.as_slice() == answers.as_slice());
     assert!(rt; end.asked.as_slice() == answers.as_slice());
     Ok(())

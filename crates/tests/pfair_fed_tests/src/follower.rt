@@ -3,7 +3,7 @@
 
 use pfair_entry::{Announcement, Entry};
 use pfair_feed::{FollowFault, Follower, Output};
-use pfair_ready::HeapReady;
+use pfair_ready::{HeapReady, Ready};
 use pfair_replica::Taken;
 use pfair_table::Settings;
 use pfair_weight::{TaskName, Weight};
@@ -53,7 +53,7 @@ fn closing_entry(rt: &impl Abort, floor: u64) -> Entry {
     Entry::new(floor, None).expect(rt, "an entry")
 }
 
-fn follower(rt: &impl Abort, alloc: Global, output: Output, from: u64) -> Follower<HeapReady> {
+fn follower<R: Ready>(rt: &impl Abort, alloc: Global, output: Output, from: u64) -> Follower<R> {
     Follower::new(alloc, settings(rt), LOG, output, from).expect(rt, "memory")
 }
 
@@ -93,21 +93,31 @@ impl Write for Terminal {
 #[test]
 fn rows_come_out_once_they_are_settled(rt: HostRuntime) -> Result<(), Fail> {
     for (output, whole) in WHOLE {
-        let mut terminal = Terminal::new(rt.alloc(), 1000);
-        let mut follower = follower(&rt, rt.alloc(), output, 0);
-        rows_once_settled(&rt, &mut follower, &mut terminal, whole)?;
-        // what is written is forgotten, but where lags are counted
-        let forgotten = if output == Output::Lags { 0 } else { 4 };
-        assert_eq!(&rt; follower.dispatcher().forgotten(), forgotten);
+        once_settled::<HeapReady>(&rt, rt.alloc(), output, whole)?;
     }
     Ok(())
 }
 
-// Each function with the looks is lent what it looks at, so that none owns a follower where it
-// returns early.
-fn rows_once_settled(
+// A function that owns a follower is generic over its ready structure and has no early return but
+// its last; one with the looks is lent what it looks at.
+fn once_settled<R: Ready>(
     rt: &impl Abort,
-    follower: &mut Follower<HeapReady>,
+    alloc: Global,
+    output: Output,
+    whole: &str,
+) -> Result<(), Fail> {
+    let mut terminal = Terminal::new(alloc, 1000);
+    let mut follower: Follower<R> = follower(rt, alloc, output, 0);
+    let looked = rows_once_settled(rt, &mut follower, &mut terminal, whole);
+    // what is written is forgotten, but where lags are counted
+    let forgotten = if output == Output::Lags { 0 } else { 4 };
+    assert_eq!(rt; follower.dispatcher().forgotten(), forgotten);
+    looked
+}
+
+fn rows_once_settled<R: Ready>(
+    rt: &impl Abort,
+    follower: &mut Follower<R>,
     terminal: &mut Terminal,
     whole: &str,
 ) -> Result<(), Fail> {
@@ -129,16 +139,25 @@ fn rows_once_settled(
 #[test]
 fn rows_come_out_slot_by_slot(rt: HostRuntime) -> Result<(), Fail> {
     for (output, whole) in WHOLE {
-        let mut terminal = Terminal::new(rt.alloc(), 1000);
-        let mut follower = follower(&rt, rt.alloc(), output, 0);
-        rows_by_slot(&rt, &mut follower, &mut terminal, whole)?;
+        by_slot::<HeapReady>(&rt, rt.alloc(), output, whole)?;
     }
     Ok(())
 }
 
-fn rows_by_slot(
+fn by_slot<R: Ready>(
     rt: &impl Abort,
-    follower: &mut Follower<HeapReady>,
+    alloc: Global,
+    output: Output,
+    whole: &str,
+) -> Result<(), Fail> {
+    let mut terminal = Terminal::new(alloc, 1000);
+    let mut follower: Follower<R> = follower(rt, alloc, output, 0);
+    rows_by_slot(rt, &mut follower, &mut terminal, whole)
+}
+
+fn rows_by_slot<R: Ready>(
+    rt: &impl Abort,
+    follower: &mut Follower<R>,
     terminal: &mut Terminal,
     whole: &str,
 ) -> Result<(), Fail> {
@@ -175,21 +194,21 @@ impl Write for Screen {
 
 #[test]
 fn rows_of_more_than_65536_bytes_are_flushed(rt: HostRuntime) -> Result<(), Fail> {
-    let settings = Settings::new(1, 1, 2_500).expect(&rt, "settings");
-    let mut follower: Follower<HeapReady> = Follower::new(
-        rt.alloc(),
-        settings,
-        LOG,
-        Output::Tables,
-        0,
-    ).expect(&rt, "memory");
-    let mut screen = Screen { taken: 0, shown: 0 };
-    many_rows(&rt, &mut follower, &mut screen)
+    on_a_screen::<HeapReady>(&rt, rt.alloc())
 }
 
-fn many_rows(
+fn on_a_screen<R: Ready>(rt: &impl Abort, alloc: Global) -> Result<(), Fail> {
+    let settings = Settings::new(1, 1, 2_500).expect(rt, "settings");
+    let mut follower: Follower<R> = Follower::new(alloc, settings, LOG, Output::Tables, 0).expect(
+        rt, "memory",
+    );
+    let mut screen = Screen { taken: 0, shown: 0 };
+    many_rows(rt, &mut follower, &mut screen)
+}
+
+fn many_rows<R: Ready>(
     rt: &impl Abort,
-    follower: &mut Follower<HeapReady>,
+    follower: &mut Follower<R>,
     screen: &mut Screen,
 ) -> Result<(), Fail> {
     let arrives = Announcement::Arrive {
@@ -221,16 +240,25 @@ fn rows_of_a_later_slot_on(rt: HostRuntime) -> Result<(), Fail> {
         (Output::Lags, "2,a,-4,4\n3,a,-2,4\n4,a,0,4\n"),
     ];
     for (output, rows) in rows {
-        let mut terminal = Terminal::new(rt.alloc(), 1000);
-        let mut follower = follower(&rt, rt.alloc(), output, 1);
-        later_rows(&rt, &mut follower, &mut terminal, rows)?;
+        from_the_second_slot::<HeapReady>(&rt, rt.alloc(), output, rows)?;
     }
     Ok(())
 }
 
-fn later_rows(
+fn from_the_second_slot<R: Ready>(
     rt: &impl Abort,
-    follower: &mut Follower<HeapReady>,
+    alloc: Global,
+    output: Output,
+    rows: &str,
+) -> Result<(), Fail> {
+    let mut terminal = Terminal::new(alloc, 1000);
+    let mut follower: Follower<R> = follower(rt, alloc, output, 1);
+    later_rows(rt, &mut follower, &mut terminal, rows)
+}
+
+fn later_rows<R: Ready>(
+    rt: &impl Abort,
+    follower: &mut Follower<R>,
     terminal: &mut Terminal,
     rows: &str,
 ) -> Result<(), Fail> {
@@ -244,14 +272,18 @@ fn later_rows(
 
 #[test]
 fn refused_entries_change_nothing(rt: HostRuntime) -> Result<(), Fail> {
-    let mut out: Vec<u8> = Vec::new(rt.alloc());
-    let mut follower = follower(&rt, rt.alloc(), Output::Tables, 0);
-    refused_entries(&rt, &mut follower, &mut out)
+    refused::<HeapReady>(&rt, rt.alloc())
 }
 
-fn refused_entries(
+fn refused<R: Ready>(rt: &impl Abort, alloc: Global) -> Result<(), Fail> {
+    let mut out: Vec<u8> = Vec::new(alloc);
+    let mut follower: Follower<R> = follower(rt, alloc, Output::Tables, 0);
+    refused_entries(rt, &mut follower, &mut out)
+}
+
+fn refused_entries<R: Ready>(
     rt: &impl Abort,
-    follower: &mut Follower<HeapReady>,
+    follower: &mut Follower<R>,
     out: &mut Vec<u8>,
 ) -> Result<(), Fail> {
     let no_processor = follower.take(out, 1, 1, first_entry(rt)).err();
@@ -272,16 +304,20 @@ fn refused_entries(
 
 #[test]
 fn no_entry_is_missing_of_a_log_that_is_closed(rt: HostRuntime) -> Result<(), Fail> {
-    let mut follower = follower(&rt, rt.alloc(), Output::Tables, 0);
-    let mut closed = follower_of_one(&rt, rt.alloc());
-    let mut out: Vec<u8> = Vec::new(rt.alloc());
-    missing_entries(&rt, &mut follower, &mut closed, &mut out)
+    missing::<HeapReady>(&rt, rt.alloc())
 }
 
-fn missing_entries(
+fn missing<R: Ready>(rt: &impl Abort, alloc: Global) -> Result<(), Fail> {
+    let mut follower: Follower<R> = follower(rt, alloc, Output::Tables, 0);
+    let mut closed = follower_of_one(rt, alloc);
+    let mut out: Vec<u8> = Vec::new(alloc);
+    missing_entries(rt, &mut follower, &mut closed, &mut out)
+}
+
+fn missing_entries<R: Ready>(
     rt: &impl Abort,
-    follower: &mut Follower<HeapReady>,
-    closed: &mut Follower<HeapReady>,
+    follower: &mut Follower<R>,
+    closed: &mut Follower<R>,
     out: &mut Vec<u8>,
 ) -> Result<(), Fail> {
     assert!(rt; follower.take(out, 0, 1, closing_entry(rt, 3)).is_ok());
@@ -295,7 +331,7 @@ fn missing_entries(
 }
 
 // A follower whose logs have room for one entry.
-fn follower_of_one(rt: &impl Abort, alloc: Global) -> Follower<HeapReady> {
+fn follower_of_one<R: Ready>(rt: &impl Abort, alloc: Global) -> Follower<R> {
     Follower::new(alloc, settings(rt), 1, Output::Tables, 0).expect(rt, "memory")
 }
 
@@ -303,17 +339,27 @@ fn follower_of_one(rt: &impl Abort, alloc: Global) -> Follower<HeapReady> {
 fn a_writer_that_fails(rt: HostRuntime) -> Result<(), Fail> {
     for (output, whole) in WHOLE {
         for room in 0..whole.len() {
-            let mut terminal = Terminal::new(rt.alloc(), room);
-            let mut follower = follower(&rt, rt.alloc(), output, 0);
-            failing_writer(&rt, &mut follower, &mut terminal, whole)?;
+            with_room::<HeapReady>(&rt, rt.alloc(), output, whole, room)?;
         }
     }
     Ok(())
 }
 
-fn failing_writer(
+fn with_room<R: Ready>(
     rt: &impl Abort,
-    follower: &mut Follower<HeapReady>,
+    alloc: Global,
+    output: Output,
+    whole: &str,
+    room: usize,
+) -> Result<(), Fail> {
+    let mut terminal = Terminal::new(alloc, room);
+    let mut follower: Follower<R> = follower(rt, alloc, output, 0);
+    failing_writer(rt, &mut follower, &mut terminal, whole)
+}
+
+fn failing_writer<R: Ready>(
+    rt: &impl Abort,
+    follower: &mut Follower<R>,
     terminal: &mut Terminal,
     whole: &str,
 ) -> Result<(), Fail> {
@@ -372,8 +418,7 @@ fn a_writer_that_fails_at_each_call(rt: HostRuntime) -> Result<(), Fail> {
                 taken: Vec::new(rt.alloc()),
                 calls,
             };
-            let mut follower = follower(&rt, rt.alloc(), output, 0);
-            is_whole = is_written(&rt, &mut follower, &mut brittle)?;
+            is_whole = until_it_fails::<HeapReady>(&rt, rt.alloc(), output, &mut brittle)?;
             assert!(rt; whole.as_bytes().starts_with(brittle.taken.as_slice()));
         }
         assert!(rt; is_whole);
@@ -381,10 +426,20 @@ fn a_writer_that_fails_at_each_call(rt: HostRuntime) -> Result<(), Fail> {
     Ok(())
 }
 
-// Whether nothing failed.
-fn is_written(
+fn until_it_fails<R: Ready>(
     rt: &impl Abort,
-    follower: &mut Follower<HeapReady>,
+    alloc: Global,
+    output: Output,
+    brittle: &mut Brittle,
+) -> Result<bool, Fail> {
+    let mut follower: Follower<R> = follower(rt, alloc, output, 0);
+    is_written(rt, &mut follower, brittle)
+}
+
+// Whether nothing failed.
+fn is_written<R: Ready>(
+    rt: &impl Abort,
+    follower: &mut Follower<R>,
     brittle: &mut Brittle,
 ) -> Result<bool, Fail> {
     if follower.write_header(brittle).is_err() {
@@ -403,16 +458,25 @@ fn is_written(
 #[test]
 fn rows_that_failed_come_anew(rt: HostRuntime) -> Result<(), Fail> {
     for (output, whole) in WHOLE {
-        let mut terminal = Terminal::new(rt.alloc(), 1);
-        let mut follower = follower(&rt, rt.alloc(), output, 0);
-        rows_anew(&rt, &mut follower, &mut terminal, whole)?;
+        after_a_failure::<HeapReady>(&rt, rt.alloc(), output, whole)?;
     }
     Ok(())
 }
 
-fn rows_anew(
+fn after_a_failure<R: Ready>(
     rt: &impl Abort,
-    follower: &mut Follower<HeapReady>,
+    alloc: Global,
+    output: Output,
+    whole: &str,
+) -> Result<(), Fail> {
+    let mut terminal = Terminal::new(alloc, 1);
+    let mut follower: Follower<R> = follower(rt, alloc, output, 0);
+    rows_anew(rt, &mut follower, &mut terminal, whole)
+}
+
+fn rows_anew<R: Ready>(
+    rt: &impl Abort,
+    follower: &mut Follower<R>,
     terminal: &mut Terminal,
     whole: &str,
 ) -> Result<(), Fail> {

@@ -38,17 +38,23 @@ fn fed<R: Ready>(
     assert!(rt; follower.take(text, 0, number, entry).is_ok());
 }
 
+// What two followers write that take the entries in another order, once each tells what the other does.
+fn told<R: Ready, Q: Ready>(rt: &impl Abort, alloc: Global) -> (Vec<u8>, Vec<u8>) {
+    let mut one: Follower<R> = follower(rt, alloc);
+    let mut other: Follower<Q> = follower(rt, alloc);
+    let (mut first, mut second) = (Vec::new(alloc), Vec::new(alloc));
+    let [arrives, closes] = log(rt);
+    fed(rt, &mut one, &mut first, 1, arrives);
+    fed(rt, &mut one, &mut first, 2, closes);
+    fed(rt, &mut other, &mut second, 2, closes);
+    fed(rt, &mut other, &mut second, 1, arrives);
+    one.tells_alike(&other);
+    (first, second)
+}
+
 #[test]
 fn two_followers_tell_alike(rt: HostRuntime) -> Result<(), Fail> {
-    let mut heap: Follower<HeapReady> = follower(&rt, rt.alloc());
-    let mut list: Follower<PlainReady> = follower(&rt, rt.alloc());
-    let (mut first, mut second) = (Vec::new(rt.alloc()), Vec::new(rt.alloc()));
-    let [arrives, closes] = log(&rt);
-    fed(&rt, &mut heap, &mut first, 1, arrives);
-    fed(&rt, &mut heap, &mut first, 2, closes);
-    fed(&rt, &mut list, &mut second, 2, closes);
-    fed(&rt, &mut list, &mut second, 1, arrives);
-    heap.tells_alike(&list);
+    let (first, second) = told::<HeapReady, PlainReady>(&rt, rt.alloc());
     assert_eq!(&rt; first.as_slice(), b"0,0,a,1\n2,0,a,2\n".as_slice());
     assert_eq!(&rt; second.as_slice(), first.as_slice());
     Ok(())
