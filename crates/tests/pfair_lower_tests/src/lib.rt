@@ -1,7 +1,8 @@
 //! Worked rows of the crates below the tables: windows and weights, the order, joins, lists in
 //! pieces, entries, replicas, members and ready structures.
 //!
-//! Each module tests one crate through its public calls.
+//! Each module tests one crate through its public calls; `many_arrivals` and `full_replicas` do so at
+//! the sizes that users have, with ample memory.
 #![tactic(auto)]
 
 #[cfg(test)]
@@ -9,7 +10,11 @@ mod admission;
 #[cfg(test)]
 mod entry;
 #[cfg(test)]
+mod full_replicas;
+#[cfg(test)]
 mod lattice;
+#[cfg(test)]
+mod many_arrivals;
 #[cfg(test)]
 mod order;
 #[cfg(test)]

@@ -137,11 +137,25 @@ fn gives_sixty_four<R: Ready>(rt: &impl Abort, ready: &mut R) -> Result<(), Fail
     Ok(())
 }
 
+// Room is taken ahead, and a selection comes in the list of the one before.
+fn gives_into_a_list<R: Ready>(rt: &impl Abort, ready: &mut R) -> Result<(), Fail>
+    requires { R.now ready.old ≡ 0 }
+{
+    let a = key(rt, 4, 0, b"a");
+    assert!(rt; ready.insert(1, a)?);
+    ready.reserve()?;
+    let none = ready.take_first(0, 1)?;
+    let first = ready.take_first_into(1, 1, none)?;
+    assert_eq!(rt; first.as_slice(), [a].as_slice());
+    Ok(())
+}
+
 fn assert_rows<R: Ready>(rt: &impl Abort, alloc: Global) -> Result<(), Fail> {
     holds_until_release(rt, &mut R::new(alloc))?;
     waits_near_and_far(rt, &mut R::new(alloc))?;
     waits_long(rt, &mut R::new(alloc))?;
     gives_sixty_four(rt, &mut R::new(alloc))?;
+    gives_into_a_list(rt, &mut R::new(alloc))?;
     let mut ready = R::new(alloc);
     gives_by_rank(rt, &mut ready)?;
     forgets_removed(rt, &mut ready)

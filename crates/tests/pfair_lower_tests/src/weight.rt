@@ -1,7 +1,9 @@
 //! Worked windows, weights and names, and the group deadline beside its form in the textbooks.
 ghost use Rattle.std.specs.Prelude.{◌≤◌, ◌<◌};
 
-use pfair_weight::{Stepper, TaskName, Weight, b_bit, deadline, group_deadline, release};
+use pfair_weight::{
+    Stepper, TaskName, Weight, b_bit, deadline, group_deadline, release, starts_job,
+};
 use std::collections::HashSet;
 use std::test::Fail;
 
@@ -87,6 +89,15 @@ fn faults_have_texts(rt: HostRuntime) -> Result<(), Fail> {
         assert_eq!(&rt; shown.as_str(), text);
     }
     Ok(())
+}
+
+// What no other test asks of a weight.
+#[test]
+fn weights_are_read(rt: HostRuntime) {
+    let weight = Weight::new(8, 11).expect(&rt, "a weight");
+    assert_eq!(&rt; (weight.cost(), weight.period()), (8, 11));
+    assert!(&rt; weight.is_heavy() && starts_job(weight, 9));
+    assert_eq!(&rt; weight.units(22), Some(16));
 }
 
 #[test]

@@ -15,7 +15,7 @@ fn floor(rt: &impl Abort, floor: u64) -> Entry {
 }
 
 // The desk of a row, one of a new set.
-fn row(board: &Board, processor: u8) -> Result<Desk, AllocError>
+pub(crate) fn row(board: &Board, processor: u8) -> Result<Desk, AllocError>
     requires { processor < board.now.processors }
     ensures { IfOk result (λ desk. IsDeskOf desk board.now) }
 {
@@ -237,19 +237,21 @@ fn four_threads_publish_at_once(rt: HostRuntime) -> Result<(), Fail> {
 #[test]
 fn faults_have_their_texts(rt: HostRuntime) -> Result<(), Fail> {
     for (fault, text) in [
-        (LookFault::NoSuchProcessor, "no such processor"),
-        (LookFault::NumberOutOfRange, "number out of range"),
-        (LookFault::Memory, "out of memory"),
+        (LookFault::NoSuchProcessor, "13 no such processor"),
+        (LookFault::NumberOutOfRange, "14 number out of range"),
+        (LookFault::Memory, "90 out of memory"),
     ] {
-        assert!(&rt; format!(in rt.alloc(); "{fault}")?.as_str() == text);
+        let shown = format!(in rt.alloc(); "{} {fault}", fault.number())?;
+        assert!(&rt; shown.as_str() == text);
     }
     let standing = floor(&rt, 3);
     for (fault, text) in [
-        (PublishFault::RowFull, "row full"),
-        (PublishFault::Taken { standing }, "number taken"),
-        (PublishFault::Memory, "out of memory"),
+        (PublishFault::RowFull, "50 row full"),
+        (PublishFault::Taken { standing }, "51 number taken"),
+        (PublishFault::Memory, "90 out of memory"),
     ] {
-        assert!(&rt; format!(in rt.alloc(); "{fault}")?.as_str() == text);
+        let shown = format!(in rt.alloc(); "{} {fault}", fault.number())?;
+        assert!(&rt; shown.as_str() == text);
     }
     Ok(())
 }

@@ -1,24 +1,14 @@
 //! Boards with rows as long as may be.
-ghost use Rattle.std.specs.Prelude.{◌<◌, ◌≡◌, IfOk};
 ghost use Rattle.pfair_desk.specs.Desks.{IsDeskOf};
 
+use crate::desk::row;
 use pfair_desk::{Board, Desk};
 use pfair_entry::Entry;
-use std::alloc::AllocError;
 use std::process::Abort;
 use std::test::Fail;
 
 // The most entries of a log.
 const ENTRIES: u32 = 4096;
-
-// The desk of a row, one of a new set.
-fn row(board: &Board, proc: u8) -> Result<Desk, AllocError>
-    requires { proc < board.now.processors }
-    ensures { IfOk result (λ desk. IsDeskOf desk board.now) }
-{
-    let mut desks = board.desks()?;
-    Ok(desks.swap_remove(proc as usize))
-}
 
 // Publishes an entry for each cell of a row. Answers whether all went well.
 fn fill(board: &Board, desk: &mut Desk) -> bool

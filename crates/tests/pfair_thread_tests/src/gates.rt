@@ -1,7 +1,7 @@
 //! What the workers of a run come to their gate with.
 
 use crate::board::{sample, silent};
-use pfair_board::{Gate, RunFault, run_dispatchers};
+use pfair_board::{Gate, OpenGate, RunFault, run_dispatchers};
 use pfair_ready::HeapReady;
 use std::alloc::{AllocError, Global};
 use std::sync::Wait;
@@ -22,6 +22,42 @@ impl Gate for ShutAt {
     fn come<P: Wait>(&self, _rt: &P, _worker: u8, slot: u64) -> bool {
         slot != self.slot
     }
+}
+
+// A gate that asks another one, and so gives up no more than that.
+#[derive(Drop)]
+struct Asking;
+
+impl Gate for Asking {
+    ghost use Rattle.std.specs.Prelude.{false};
+
+    ghost may_give_up = { false };
+
+    fn come<P: Wait>(&self, rt: &P, worker: u8, slot: u64) -> bool {
+        OpenGate.come(rt, worker, slot)
+    }
+}
+
+#[test]
+fn a_gate_asks_another(rt: HostRuntime) -> Result<(), Fail> {
+    let script = sample(&rt, rt.alloc())?;
+    let run = run_dispatchers::<HeapReady, _>(&rt, rt.alloc(), &script, &Asking);
+    assert!(&rt; run.is_ok());
+    Ok(())
+}
+
+#[test]
+fn faults_have_texts(rt: HostRuntime) -> Result<(), Fail> {
+    for (fault, text) in [
+        (RunFault::Stalled { slot: 7 }, "52 stalled at slot 7"),
+        (RunFault::GateGaveUp, "53 gate gave up"),
+        (RunFault::Astray, "54 gone astray"),
+        (RunFault::Memory, "90 out of memory"),
+    ] {
+        let shown = format!(in rt.alloc(); "{} {fault}", fault.number())?;
+        assert!(&rt; shown.as_str() == text);
+    }
+    Ok(())
 }
 
 #[test]

@@ -1,7 +1,8 @@
 //! Worked rows of schedules and of the book.
 
 use pfair_lag::{
-    LagBook, Miss, first_late, first_miss, in_windows, lag_below, lag_within, meets_deadlines,
+    LagBook, Miss, PickFault, first_late, first_miss, in_windows, lag_below, lag_within,
+    meets_deadlines,
 };
 use pfair_table::Pick;
 use pfair_weight::{TaskName, Weight};
@@ -83,11 +84,19 @@ fn weight(rt: &impl Abort, share: (u64, u64)) -> Weight {
 #[test]
 fn faults_have_places(rt: HostRuntime) -> Result<(), Fail> {
     let half = weight(&rt, (1, 2));
-    for (picks, text) in [
-        ([0, 0].as_slice(), "40 picks not rising at 1"),
-        ([4].as_slice(), "41 pick past horizon at 0"),
+    for (picks, fault, text) in [
+        (
+            [0, 0].as_slice(),
+            PickFault::PicksNotRising { at: 1 },
+            "40 picks not rising at 1",
+        ),
+        (
+            [4].as_slice(),
+            PickFault::PickPastHorizon { at: 0 },
+            "41 pick past horizon at 0",
+        ),
     ] {
-        let fault = first_miss(half, picks, 4).err().expect(&rt, "a fault");
+        assert_eq!(&rt; first_miss(half, picks, 4), Err(fault));
         let shown = format!(in rt.alloc(); "{} {fault}", fault.number())?;
         assert_eq!(&rt; shown.as_str(), text);
         assert_eq!(&rt; in_windows(half, picks, 4), Err(fault));
@@ -114,6 +123,7 @@ fn counts(rt: &impl Abort, book: &mut LagBook) -> Result<(), Fail> {
     assert_eq!(rt; (book.time(), book.len()), (3, 2));
     assert!(rt; book.name_at(0) == Some(&a) && book.name_at(1) == Some(&b));
     assert!(rt; book.name_at(2).is_none());
+    assert!(rt; book.leave(&a) && book.len() == 1);
     Ok(())
 }
 

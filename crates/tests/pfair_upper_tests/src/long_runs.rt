@@ -140,6 +140,21 @@ fn script_of_one(rt: &impl Abort, alloc: Global, name: TaskName) -> Result<Scrip
     Ok(Script::new(settings, logs).ok().expect(rt, "a script"))
 }
 
+// What a script of one processor is read by.
+fn reads(rt: &impl Abort, script: &Script, settings: Settings) {
+    assert!(rt; script.settings() == settings && settings.processors() == 1);
+    assert_eq!(rt; (settings.frame(), settings.slots()), (2, 3000));
+    assert_eq!(rt; script.log(0).len(), 2);
+}
+
+#[test]
+fn a_script_is_read(rt: HostRuntime) -> Result<(), Fail> {
+    let name = TaskName::from_bytes(b"a")?;
+    let script = script_of_one(&rt, rt.alloc(), name)?;
+    reads(&rt, &script, script.settings());
+    Ok(())
+}
+
 // The task has a quantum in each slot of an even number, and is admitted in slot 0.
 fn gives_each_slot<R: Ready>(
     rt: &impl Abort,
