@@ -18,7 +18,7 @@ use Rattle.pfair_feed.specs.declared.follow_fault.FollowFault.{FollowFault}
 use Rattle.pfair_feed.specs.declared.follow_fault.FollowFault.TheVariants as follow
 use Rattle.pfair_feed.specs.declared.fault.FeedFault.{FeedFault}
 use Rattle.pfair_feed.specs.declared.fault.FeedFault.TheVariants as feed
-use Rattle.pfair_follow_words.specs.declared.words.Run.{Run}
+use Rattle.pfair_words.specs.declared.follow.Run.{Run}
 use Rattle.pfair_follow.specs.declared.fault.ProgramFault.{ProgramFault}
 use Rattle.pfair_follow.specs.declared.fault.ProgramFault.TheVariants.{Memory, Schedule, WriteFailed}
 use Rattle.pfair_follow.specs.Faults.{of_feed, of_follow, stalled}

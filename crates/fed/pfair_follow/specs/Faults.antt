@@ -8,8 +8,8 @@ use Rattle.pfair_feed.specs.declared.follow_fault.FollowFault.TheVariants as fol
 use Rattle.pfair_feed.specs.Faults.{feed_fault_number, is_refusal}
 use Rattle.pfair_feed.specs.declared.fault.FeedFault.{FeedFault}
 use Rattle.pfair_feed.specs.declared.fault.FeedFault.TheVariants as feed
-use Rattle.pfair_follow_words.specs.declared.words.WordsFault.{WordsFault}
-use Rattle.pfair_follow_words.specs.declared.words.WordsFault.TheVariants as words
+use Rattle.pfair_words.specs.declared.follow.WordsFault.{WordsFault}
+use Rattle.pfair_words.specs.declared.follow.WordsFault.TheVariants as words
 use Rattle.pfair_follow.specs.declared.fault.ProgramFault.{ProgramFault}
 use Rattle.pfair_follow.specs.declared.fault.ProgramFault.TheVariants.{Schedule, Feed, WriteFailed, CommandLine, Memory}
 

@@ -13,7 +13,7 @@ use Rattle.pfair_feed.specs.RowLaws.{text_of}
 use Rattle.pfair_feed.specs.Rows.{header_of, rows_from}
 use Rattle.pfair_feed.specs.declared.fault.FeedFault.{FeedFault}
 use Rattle.pfair_feed.specs.Feeding.{AreFedBytes, AreLines, AreTakenFrom, AreWelcome, IsStopped}
-use Rattle.pfair_follow_words.specs.declared.words.Run.{Run}
+use Rattle.pfair_words.specs.declared.follow.Run.{Run}
 use Rattle.pfair_follow.specs.declared.fault.ProgramFault.{ProgramFault}
 use Rattle.pfair_follow.specs.declared.fault.ProgramFault.TheVariants.{Memory, WriteFailed}
 use Rattle.pfair_follow.specs.Faults.{of_feed, stalled}

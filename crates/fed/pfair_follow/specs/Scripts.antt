@@ -6,7 +6,7 @@ use Rattle.pfair_table.specs.Script.{LoggedRun, replica_of_logs}
 use Rattle.pfair_feed.specs.declared.output.Output.{Output}
 use Rattle.pfair_feed.specs.Feeding.{AreLines}
 use Rattle.pfair_feed.specs.RoundTrip.{HaveTheRows, IsScript, rows_of}
-use Rattle.pfair_follow_words.specs.declared.words.Run.{Run}
+use Rattle.pfair_words.specs.declared.follow.Run.{Run}
 use Rattle.pfair_follow.specs.Runs.{text_from}
 
 -- The lines of these bytes have the rows of a script with the run's settings, in whatever order and however often each, and beside them only

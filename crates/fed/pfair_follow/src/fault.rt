@@ -6,8 +6,8 @@ ghost use Rattle.pfair_follow.specs.declared.fault.ProgramFault.TheVariants.{Mem
 
 use pfair_feed::{FeedFault, FollowFault};
 use pfair_file::{ScheduleFault, write_line};
-use pfair_follow_words::WordsFault;
 use pfair_text::WriteFailed;
+use pfair_words::follow::WordsFault;
 use std::alloc::AllocError;
 use std::io::Write;
 use thiserror::Error;

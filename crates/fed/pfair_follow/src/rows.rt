@@ -13,9 +13,9 @@ use crate::fault::ProgramFault;
 use pfair_feed::laws::{entries_give_their_schedule, lines_are_one, text_is_whole};
 use pfair_feed::{FollowFault, Follower, Output, follow, tell_missing};
 use pfair_file::ScheduleFault;
-use pfair_follow_words::Run;
 use pfair_ready::{HeapReady, Ready};
 use pfair_table::Script;
+use pfair_words::follow::Run;
 use std::alloc::Global;
 use std::io::{Read, Write};
 

@@ -1,7 +1,7 @@
 -- Which of the program's faults those of the words of the command line are.
 use Rattle.std.specs.Prelude.{Result, Ok, Err}
-use Rattle.pfair_words.specs.declared.words.WordsFault.{WordsFault}
-use Rattle.pfair_words.specs.declared.words.WordsFault.TheVariants as words
+use Rattle.pfair_words.specs.declared.schedule.WordsFault.{WordsFault}
+use Rattle.pfair_words.specs.declared.schedule.WordsFault.TheVariants as words
 use Rattle.pfair_reports.specs.declared.fault.ProgramFault.{ProgramFault}
 use Rattle.pfair_reports.specs.declared.fault.ProgramFault.TheVariants.{Weight, CommandLine, Memory}
 

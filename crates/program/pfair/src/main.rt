@@ -9,7 +9,7 @@ use pfair_board::OpenGate;
 use pfair_file::{given_words, opened};
 use pfair_reports::{ProgramFault, decisions, lags, replay, replay_placed, windows, write_fault};
 use pfair_text::send;
-use pfair_words::Asked;
+use pfair_words::schedule::Asked;
 use std::process::ExitCode;
 use std::sync::Wait;
 use std::thread::Threads;

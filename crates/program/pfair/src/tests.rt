@@ -2,7 +2,7 @@
 
 use crate::words::read_words;
 use pfair_reports::{windows, write_fault};
-use pfair_words::Asked;
+use pfair_words::schedule::Asked;
 use std::alloc::{AllocError, Global};
 use std::process::Abort;
 use std::test::Fail;

@@ -13,7 +13,7 @@ use Rattle.clap.specs.Facts.{parser_of_value}
 use Rattle.clap.specs.ValueTests.{accepts}
 use Rattle.clap.specs.declared.error.kind.ErrorKind.TheVariants.{DisplayHelp, DisplayVersion, MissingSubcommand, ValueValidation}
 use Rattle.clap.proofs.OnLiterals.{clap_on_literals}
-use Rattle.pfair_words.specs.Line.{line, cost, count, decisions, lags, period, replay, windows}
+use Rattle.pfair_words.specs.ScheduleLine.{line, cost, count, decisions, lags, period, replay, windows}
 use Rattle.pfair_words.specs.Plain.{IsPlain}
 
 -- the word is one that the parser of the argument takes

@@ -9,14 +9,15 @@ use Rattle.clap.specs.ValueTests.{accepts}
 use Rattle.clap.specs.declared.builder.value_parser.ValueParser.TheVariants.{Unsigned}
 use Rattle.std.specs.Str.Parse.{digits_value, without_leading_plus}
 use Rattle.clap.proofs.ValueTestLemmas.{Accepts-accepts}
-use Rattle.pfair_words.specs.Asked.{AskWindows, IsAnswer, IsFlag, IsAnswerTo, IsAnswerToAny, IsAnswerToKind, IsAnswerToTaken, IsAnswerToUntaken, Named, Spells, SpellsIfAny}
-use Rattle.pfair_words.specs.Line.{line, count}
+use Rattle.pfair_words.specs.Parse.{IsFlag, Named, Spells, SpellsIfAny}
+use Rattle.pfair_words.specs.ScheduleAsked.{AskWindows, IsAnswer, IsAnswerTo, IsAnswerToAny, IsAnswerToKind, IsAnswerToTaken, IsAnswerToUntaken}
+use Rattle.pfair_words.specs.ScheduleLine.{line}
 use Rattle.pfair_words.specs.Plain.{AskNumbers, HasCount, IsDecisionsAnswer, IsLagsAnswer, IsPlain, IsPlainAnswer, IsRefusal, IsReplayAnswer, IsTextAnswer, IsWindowsAnswer}
-use Rattle.pfair_words.specs.declared.words.Asked.{Asked}
-use Rattle.pfair_words.specs.declared.words.Asked.TheVariants.{Windows, Replay, Decisions, Lags, Help}
-use Rattle.pfair_words.specs.declared.words.WordsFault.{WordsFault}
-use Rattle.pfair_words.specs.declared.words.WordsFault.TheVariants.{Weight, Refused, Memory}
-use Rattle.pfair_words.specs.declared.words.TheConstants.{MAX_COUNT}
+use Rattle.pfair_words.specs.declared.schedule.Asked.{Asked}
+use Rattle.pfair_words.specs.declared.schedule.Asked.TheVariants.{Windows, Replay, Decisions, Lags, Help}
+use Rattle.pfair_words.specs.declared.schedule.WordsFault.{WordsFault}
+use Rattle.pfair_words.specs.declared.schedule.WordsFault.TheVariants.{Weight, Refused, Memory}
+use Rattle.pfair_words.specs.declared.schedule.TheConstants.{MAX_COUNT}
 use Rattle.pfair_words.proofs.FirstWord.{first_answer}
 use Rattle.pfair_words.proofs.LineFacts as line
 

@@ -1,14 +1,8 @@
--- The command line as the parser reads it: the commands, and the words of each by their names.
-use Rattle.std.specs.Prelude.{◌≡◌, ℕ, true, false, List, [], ◌∷◌, Some, codes}
-use Rattle.clap.specs.Words.{App, Rule, app_of, new_app, new_rule, with_rule, with_subcommand}
-use Rattle.clap.specs.declared.builder.action.ArgAction.TheVariants.{SetTrue, Version}
-use Rattle.clap.specs.declared.builder.command.Command.{Command}
-use Rattle.clap.specs.declared.builder.command.Command.TheViews.{out-Command}
+-- The command line of `pfair_follow` as the parser reads it: the commands, and the words of each by their names.
+use Rattle.std.specs.Prelude.{ℕ, true, List, [], ◌∷◌, Some, codes}
+use Rattle.clap.specs.Words.{App, Rule, new_app, new_rule, with_rule, with_subcommand}
 use Rattle.clap.specs.declared.builder.value_parser.ValueParser.TheVariants.{Unsigned}
-
--- the task file, which has to be there
-abbrev pub file : Rule
-file = record (new_rule (codes "file")) { value_names = 1; required = true }
+use Rattle.pfair_words.specs.Line.{affinity, file, flag, program}
 
 -- an option of this name, behind which stands a number from `least` to `most`
 abbrev pub option : List ℕ → (least most : ℕ) → Rule
@@ -27,24 +21,13 @@ frame = needed (codes "frame") 1000000000
 abbrev pub slots : Rule
 slots = needed (codes "slots") 1000000
 
--- the first slot whose rows are written: 0 where it isn't said
+-- the first slot whose rows are written: 0 if it isn't given
 abbrev pub from : Rule
 from = record (option (codes "from") 0 1000000) { defaults = codes "0" ∷ [] }
-
-abbrev pub flag : List ℕ → Rule
-flag name = record (new_rule name) { long = Some name; action = Some SetTrue }
 
 -- the flag by which a refused row ends the run
 abbrev pub strict : Rule
 strict = flag (codes "strict")
-
--- the flag by which rows get their places
-abbrev pub affinity : Rule
-affinity = flag (codes "affinity")
-
--- the request for the version
-abbrev pub version : Rule
-version = record (new_rule (codes "version")) { long = Some (codes "version"); action = Some Version }
 
 -- a command with the options of settings
 abbrev pub with_settings : App → App
@@ -66,22 +49,6 @@ decisions = with_run (new_app (codes "decisions"))
 abbrev pub lags : App
 lags = with_run (new_app (codes "lags"))
 
--- the program without its commands: no name stands before its words, a command has to be named, and help is a flag alone
-abbrev pub program : App
-program = with_rule (record (new_app (codes "pfair_follow")) {
-  top = record (new_app (codes "pfair_follow")).top {
-    no_binary_name = true;
-    subcommand_required = true;
-    disable_help_subcommand = true;
-    disable_version_flag = true;
-    has_version = true;
-  };
-}) version
-
 -- the command line whole
 abbrev pub line : App
-line = with_subcommand (with_subcommand (with_subcommand (with_subcommand program entries.top) replay.top) decisions.top) lags.top
-
--- the parser reads this of a command
-abbrev pub IsRead : App → Command → Type 0
-IsRead app c = (app_of c ≡ app) × ((out-Command c).has_globals ≡ false)
+line = with_subcommand (with_subcommand (with_subcommand (with_subcommand (program (codes "pfair_follow")) entries.top) replay.top) decisions.top) lags.top

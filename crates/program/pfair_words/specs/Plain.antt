@@ -1,13 +1,13 @@
--- What is answered to the forms of the commands, where none of their words begins as a flag does.
+-- What is answered to the forms of the commands of `pfair`, where none of their words begins as a flag does.
 use Rattle.std.specs.Prelude.{ℕ, ◌≡◌, ◌≢◌, ◌≤◌, ⊤, Bool, true, false, List, [], ◌∷◌, Result, Ok, Err, codes, string_bytes}
 use Rattle.clap.specs.Words.{Text}
 use Rattle.pfair_weight.specs.WeightFault.{IsFaultOf}
-use Rattle.pfair_words.specs.Asked.{Spells}
-use Rattle.pfair_words.specs.declared.words.TheConstants.{MAX_COUNT}
-use Rattle.pfair_words.specs.declared.words.Asked.{Asked}
-use Rattle.pfair_words.specs.declared.words.Asked.TheVariants.{Windows, Replay, Decisions, Lags, Help}
-use Rattle.pfair_words.specs.declared.words.WordsFault.{WordsFault}
-use Rattle.pfair_words.specs.declared.words.WordsFault.TheVariants.{Weight, Refused, Memory}
+use Rattle.pfair_words.specs.Parse.{Spells}
+use Rattle.pfair_words.specs.declared.schedule.TheConstants.{MAX_COUNT}
+use Rattle.pfair_words.specs.declared.schedule.Asked.{Asked}
+use Rattle.pfair_words.specs.declared.schedule.Asked.TheVariants.{Windows, Replay, Decisions, Lags, Help}
+use Rattle.pfair_words.specs.declared.schedule.WordsFault.{WordsFault}
+use Rattle.pfair_words.specs.declared.schedule.WordsFault.TheVariants.{Weight, Refused, Memory}
 
 -- the number of windows that is asked for is in its range
 abbrev pub HasCount : Asked → Type 0

@@ -1,9 +1,9 @@
-//! Reading the words.
+//! The words of `pfair_follow`.
 
-ghost use Rattle.std.specs.Prelude.{◌≡◌, ◌≤◌, ◌^◌, ℕ, MatchOption, codes};
-ghost use Rattle.clap.specs.Walk.{one_of};
-ghost use Rattle.clap.specs.Words.{first_of, found_of, kind_of, rows_of, subcommand_rows_of};
-ghost use Rattle.pfair_follow_words.specs.Asked.{
+ghost use Rattle.std.specs.Prelude.{◌≡◌, ◌≤◌, ◌^◌, MatchOption, codes};
+ghost use Rattle.clap.specs.Words.{found_of, rows_of, subcommand_rows_of};
+ghost use Rattle.pfair_words.specs.Parse.{texts};
+ghost use Rattle.pfair_words.specs.FollowAsked.{
   AskRun,
   AskSettings,
   AsksNoRun,
@@ -11,17 +11,15 @@ ghost use Rattle.pfair_follow_words.specs.Asked.{
   IsAnswer,
   IsAnswerTo,
   IsAnswerToAny,
-  IsAnswerToKind,
-  IsFileName,
-  IsFlag,
-  SpellsIfAny,
-  texts,
 };
-ghost use Rattle.pfair_follow_words.specs.declared.words.WordsFault.TheVariants.{Memory};
+ghost use Rattle.pfair_words.specs.declared.follow.WordsFault.TheVariants.{Memory};
 
-use crate::command::command;
-use clap::error::ErrorKind;
-use clap::{ArgMatches, Error};
+mod command;
+mod help;
+
+use crate::parse::{Parsed, file_name, is_set, number, parse};
+use clap::ArgMatches;
+use command::command_line;
 use pfair_table::Settings;
 use std::alloc::{AllocError, Global};
 
@@ -56,7 +54,7 @@ pub enum Asked {
 pub enum WordsFault {
     /// No command has this form.
     Refused,
-    /// Want of memory.
+    /// An allocation failed.
     Memory,
 }
 
@@ -71,20 +69,23 @@ impl From<AllocError> for WordsFault {
 /// Reads the words after the program's name.
 ///
 /// `entries FILE` asks for the rows of the entries of that file, whatever its name is. `replay`,
-/// `decisions` and `lags` ask for the rows of a run, each with the options `--processors M`, 1 to
-/// 64, `--frame F`, 1 to 1,000,000,000, and `--slots S`, 1 to 1,000,000, which have to be there, and
-/// `--from SLOT`, 0 to 1,000,000 and 0 where it isn't given, and `--strict`; `replay` also takes
-/// `--affinity`. Options stand in any order, each once. A number that isn't spelt as one or is out of
-/// its range, a missing or surplus word, an unknown command and no words at all are `Refused`. Takes
-/// memory.
+/// `decisions` and `lags` ask for the rows of a run. Each of them has to have the options
+/// `--processors M`, 1 to 64, `--frame F`, 1 to 1,000,000,000, and `--slots S`, 1 to 1,000,000, and
+/// may have `--from SLOT`, 0 to 1,000,000, which is 0 if it isn't given, and `--strict`; `replay` may
+/// have `--affinity` too. Options stand in any order, each once. The clause says by `clap`'s own
+/// definitions what is answered to any words.
 ///
-/// The clause says by `clap`'s own definitions what is answered to any words.
+/// # Errors
+/// [`WordsFault::Refused`] if a number isn't spelt as one or is out of its range, a word is missing or
+/// surplus, the command is unknown, or there are no words. [`WordsFault::Memory`] if an allocation
+/// fails.
 pub fn read_words(alloc: Global, words: &[String]) -> Result<Asked, WordsFault>
     ensures { IsAnswer (texts words.now) result }
 {
-    match command(alloc)?.try_get_matches_from(words) {
-        Ok(matches) => read_matches(alloc, &matches),
-        Err(error) => refusal(alloc, &error),
+    match parse(alloc, command_line(alloc)?, words)? {
+        Parsed::Taken(matches) => read_matches(alloc, &matches),
+        Parsed::Help(text) => Ok(Asked::Help { text }),
+        Parsed::Refused => Err(WordsFault::Refused),
     }
 }
 
@@ -118,17 +119,8 @@ fn read_command(alloc: Global, name: &str, words: &ArgMatches<'_>) -> Result<Ask
 fn read_entries(alloc: Global, words: &ArgMatches<'_>) -> Result<Asked, WordsFault>
     ensures { IsAnswerTo (codes "entries", rows_of (found_of words.now)) result }
 {
-    Ok(Asked::Entries {
-        file: read_file_name(alloc, words)?,
-    })
-}
-
-// The name of the task file.
-fn read_file_name(alloc: Global, words: &ArgMatches<'_>) -> Result<String, WordsFault>
-    ensures { IsFileName (first_of (codes "file") (rows_of (found_of words.now))) result }
-{
-    match words.get_str("file") {
-        Some(file) => Ok(String::from_str(alloc, file)?),
+    match file_name(alloc, words)? {
+        Some(file) => Ok(Asked::Entries { file }),
         None => Err(WordsFault::Refused),
     }
 }
@@ -192,32 +184,4 @@ fn small(number: u64) -> Option<u8>
     ensures { MatchOption result (2 ^ 8 ≤ number) (λ n. n ≡ number) }
 {
     u8::try_from(number).ok()
-}
-
-// The number under a name.
-fn number(words: &ArgMatches<'_>, name: &str) -> Option<u64>
-    ensures { MatchOption result ((n : ℕ) → ¬ SpellsIfAny (one_of name.now (rows_of (found_of words.now))) n)
-        (SpellsIfAny (one_of name.now (rows_of (found_of words.now)))) }
-{
-    words.get_one::<u64>(name)
-}
-
-// Whether a flag is set.
-fn is_set(words: &ArgMatches<'_>, name: &str) -> bool
-    ensures { IsFlag (one_of name.now (rows_of (found_of words.now))) result }
-{
-    words.get_flag(name)
-}
-
-// Help or the version, or the fault.
-fn refusal(alloc: Global, error: &Error) -> Result<Asked, WordsFault>
-    ensures { IsAnswerToKind (kind_of error.now) result }
-{
-    match error.kind() {
-        ErrorKind::DisplayHelp | ErrorKind::DisplayVersion => Ok(Asked::Help {
-            text: error.to_string(alloc)?,
-        }),
-        ErrorKind::OutOfMemory => Err(WordsFault::Memory),
-        _ => Err(WordsFault::Refused),
-    }
 }

@@ -2,7 +2,7 @@
 
 ghost use Rattle.std.specs.Prelude.{◌≡◌};
 
-use crate::words::MAX_COUNT;
+use crate::schedule::MAX_COUNT;
 
 /// The most windows that a command line can ask for are a million.
 pub fn limits()

@@ -1,9 +1,8 @@
-//! The words of the command line: what they ask for.
+//! The words of both programs' command lines: what they ask for.
 #![tactic(auto)]
 
 mod command;
-mod help;
+pub mod follow;
 pub mod laws;
-mod words;
-
-pub use words::{Asked, MAX_COUNT, WordsFault, read_words};
+mod parse;
+pub mod schedule;

@@ -1,24 +1,18 @@
-//! Reading the words.
+//! The words of `pfair`.
 
-ghost use Rattle.std.specs.Prelude.{◌≡◌, ℕ, IfOk, MatchOption, codes};
-ghost use Rattle.clap.specs.Walk.{one_of};
-ghost use Rattle.clap.specs.Words.{first_of, found_of, kind_of, rows_of, subcommand_rows_of};
-ghost use Rattle.pfair_words.specs.Asked.{
-  IsAnswer,
-  IsAnswerTo,
-  IsAnswerToAny,
-  IsAnswerToKind,
-  IsFileName,
-  IsFlag,
-  SpellsIfAny,
-  texts,
-};
+ghost use Rattle.std.specs.Prelude.{◌≡◌, IfOk, codes};
+ghost use Rattle.clap.specs.Words.{found_of, rows_of, subcommand_rows_of};
+ghost use Rattle.pfair_words.specs.Parse.{texts};
+ghost use Rattle.pfair_words.specs.ScheduleAsked.{IsAnswer, IsAnswerTo, IsAnswerToAny};
 ghost use Rattle.pfair_words.specs.Plain.{HasCount, IsPlainAnswer};
-ghost use Rattle.pfair_words.specs.declared.words.WordsFault.TheVariants.{Memory};
+ghost use Rattle.pfair_words.specs.declared.schedule.WordsFault.TheVariants.{Memory};
 
-use crate::command::command;
-use clap::error::ErrorKind;
-use clap::{ArgMatches, Error};
+mod command;
+mod help;
+
+use crate::parse::{Parsed, file_name, is_set, number, parse};
+use clap::ArgMatches;
+use command::command_line;
 use pfair_weight::{Weight, WeightFault};
 use std::alloc::{AllocError, Global};
 
@@ -47,7 +41,7 @@ pub enum WordsFault {
     Weight(WeightFault),
     /// No command has this form.
     Refused,
-    /// Want of memory.
+    /// An allocation failed.
     Memory,
 }
 
@@ -61,22 +55,25 @@ impl From<AllocError> for WordsFault {
 
 /// Reads the words after the program's name.
 ///
-/// `windows E P COUNT` asks for that many windows of the weight E/P, `replay [--affinity] FILE`,
-/// `decisions FILE` and `lags FILE` for the rows of that file, whatever its name and its length
-/// are. A word that doesn't read as the number it should be, a count past [`MAX_COUNT`], a missing
-/// or surplus word, an unknown command and no words at all are `Refused`, before a weight is looked
-/// at. Takes memory.
-///
+/// `windows E P COUNT` asks for that many windows of the weight E/P, and `replay [--affinity] FILE`,
+/// `decisions FILE` and `lags FILE` for the rows of that file, whatever its name and its length are.
 /// `parsed` says by `clap`'s own definitions what is answered to any words, and `plain` in plain
-/// words what is answered to each form of a command where no word but the flag begins with `-`.
+/// words what is answered to each form of a command if no word but the flag begins with `-`.
+///
+/// # Errors
+/// [`WordsFault::Refused`] if a word doesn't read as the number that it should be, the count is past
+/// [`MAX_COUNT`], a word is missing or surplus, the command is unknown, or there are no words. The
+/// weight is looked at after that: [`WordsFault::Weight`] if it is none. [`WordsFault::Memory`] if an
+/// allocation fails.
 pub fn read_words(alloc: Global, words: &[String]) -> Result<Asked, WordsFault>
     ensures parsed { IsAnswer (texts words.now) result }
     ensures plain { IsPlainAnswer (texts words.now) result }
     ensures count { IfOk result HasCount }
 {
-    match command(alloc)?.try_get_matches_from(words) {
-        Ok(matches) => read_matches(alloc, &matches),
-        Err(error) => refusal(alloc, &error),
+    match parse(alloc, command_line(alloc)?, words)? {
+        Parsed::Taken(matches) => read_matches(alloc, &matches),
+        Parsed::Help(text) => Ok(Asked::Help { text }),
+        Parsed::Refused => Err(WordsFault::Refused),
     }
 }
 
@@ -128,66 +125,30 @@ fn read_windows(words: &ArgMatches<'_>) -> Result<Asked, WordsFault>
     }
 }
 
-// The number under a name.
-fn number(words: &ArgMatches<'_>, name: &str) -> Option<u64>
-    ensures { MatchOption result ((n : ℕ) → ¬ SpellsIfAny (one_of name.now (rows_of (found_of words.now))) n)
-        (SpellsIfAny (one_of name.now (rows_of (found_of words.now)))) }
-{
-    words.get_one::<u64>(name)
-}
-
-// The task file of a replay, and whether the flag asks for places.
 fn read_replay(alloc: Global, words: &ArgMatches<'_>) -> Result<Asked, WordsFault>
     ensures { IsAnswerTo (codes "replay", rows_of (found_of words.now)) result }
 {
-    let affinity = flag(words);
-    Ok(Asked::Replay {
-        file: read_file_name(alloc, words)?,
-        affinity,
-    })
-}
-
-fn flag(words: &ArgMatches<'_>) -> bool
-    ensures { IsFlag (one_of (codes "affinity") (rows_of (found_of words.now))) result }
-{
-    words.get_flag("affinity")
+    let affinity = is_set(words, "affinity");
+    match file_name(alloc, words)? {
+        Some(file) => Ok(Asked::Replay { file, affinity }),
+        None => Err(WordsFault::Refused),
+    }
 }
 
 fn read_decisions(alloc: Global, words: &ArgMatches<'_>) -> Result<Asked, WordsFault>
     ensures { IsAnswerTo (codes "decisions", rows_of (found_of words.now)) result }
 {
-    Ok(Asked::Decisions {
-        file: read_file_name(alloc, words)?,
-    })
+    match file_name(alloc, words)? {
+        Some(file) => Ok(Asked::Decisions { file }),
+        None => Err(WordsFault::Refused),
+    }
 }
 
 fn read_lags(alloc: Global, words: &ArgMatches<'_>) -> Result<Asked, WordsFault>
     ensures { IsAnswerTo (codes "lags", rows_of (found_of words.now)) result }
 {
-    Ok(Asked::Lags {
-        file: read_file_name(alloc, words)?,
-    })
-}
-
-// The name of the task file.
-fn read_file_name(alloc: Global, words: &ArgMatches<'_>) -> Result<String, WordsFault>
-    ensures { IsFileName (first_of (codes "file") (rows_of (found_of words.now))) result }
-{
-    match words.get_str("file") {
-        Some(file) => Ok(String::from_str(alloc, file)?),
+    match file_name(alloc, words)? {
+        Some(file) => Ok(Asked::Lags { file }),
         None => Err(WordsFault::Refused),
-    }
-}
-
-// Help or the version, or the fault.
-fn refusal(alloc: Global, error: &Error) -> Result<Asked, WordsFault>
-    ensures { IsAnswerToKind (kind_of error.now) result }
-{
-    match error.kind() {
-        ErrorKind::DisplayHelp | ErrorKind::DisplayVersion => Ok(Asked::Help {
-            text: error.to_string(alloc)?,
-        }),
-        ErrorKind::OutOfMemory => Err(WordsFault::Memory),
-        _ => Err(WordsFault::Refused),
     }
 }

@@ -1,19 +1,9 @@
-//! The texts of help. Each line of them has at most 100 characters.
+//! The texts of help of `pfair_follow`. Each line of them has at most 100 characters.
+
+use crate::command::Texts;
 
 pub(crate) const ABOUT: &str =
     "Plans Pfair schedules from rows of entries as they come, in any order, slot by slot";
-
-pub(crate) const ENTRIES_ABOUT: &str =
-    "Prints the entries of a task file as rows, one for each entry of each log";
-
-pub(crate) const REPLAY_ABOUT: &str =
-    "Reads rows of entries, and prints the schedule slot by slot as soon as it is settled";
-
-pub(crate) const DECISIONS_ABOUT: &str =
-    "Reads rows of entries, and prints who is admitted or refused and who departs";
-
-pub(crate) const LAGS_ABOUT: &str =
-    "Reads rows of entries, and prints how far each task is from its fluid share";
 
 pub(crate) const PROCESSORS_HELP: &str = "How many processors, and so how many logs: 1 to 64";
 
@@ -25,8 +15,6 @@ pub(crate) const SLOTS_HELP: &str = "How many slots are planned: 1 to 1000000";
 pub(crate) const FROM_HELP: &str = "First slot with rows; no header unless it is 0: 0 to 1000000";
 
 pub(crate) const STRICT_HELP: &str = "End with status 2 at the first row that is refused";
-
-pub(crate) const AFFINITY_HELP: &str = "End each row with its place, the processor that runs it";
 
 pub(crate) const AFTER: &str = "Examples:
   pfair_follow entries examples/two_processors.toml
@@ -50,13 +38,17 @@ Documents of the repository:
   docs/SPECIFICATION.md  the model, rows of entries, each fault
   docs/PROOFS.md         what is proved, and what isn't";
 
-pub(crate) const ENTRIES_AFTER: &str = "Columns, of which no header is printed:
+pub(crate) const ENTRIES_TEXTS: Texts = Texts {
+    about: "Prints the entries of a task file as rows, one for each entry of each log",
+    usage: "pfair_follow entries <FILE>",
+    after: "Columns, of which no header is printed:
   processor,number,floor,at,kind,name,cost,period,early,index,by
 The logs come in order of processors, and each is closed by an entry with floor `slots`, as the
 reader of task files closes it. `pfair replay --help` shows a task file. Where an entry has nothing
 stands a dash.
 
-Example: pfair_follow entries examples/two_processors.toml";
+Example: pfair_follow entries examples/two_processors.toml",
+};
 
 // What the commands that read rows share, behind the columns of each.
 macro_rules! with_rows {
@@ -85,17 +77,24 @@ Restart: a reader that has the rows of all slots below S asks with `--from S` fo
     };
 }
 
-pub(crate) const REPLAY_AFTER: &str = with_rows!(
-    "Columns:
+pub(crate) const REPLAY_TEXTS: Texts = Texts {
+    about: "Reads rows of entries, and prints the schedule slot by slot as soon as it is settled",
+    usage: "pfair_follow replay --processors <M> --frame <F> --slots <S> [OPTIONS]",
+    after: with_rows!(
+        "Columns:
   slot       the slot, from 0; a slot in which nobody runs has no row
   processor  the row of the slot's table, from 0, in the PD2 order: not a log, nor where it runs
   task       the task that has the quantum
   index      the index of its subtask, from 1
   place      (--affinity) the processor that runs it"
-);
+    ),
+};
 
-pub(crate) const DECISIONS_AFTER: &str = with_rows!(
-    "Columns:
+pub(crate) const DECISIONS_TEXTS: Texts = Texts {
+    about: "Reads rows of entries, and prints who is admitted or refused and who departs",
+    usage: "pfair_follow decisions --processors <M> --frame <F> --slots <S> [OPTIONS]",
+    after: with_rows!(
+        "Columns:
   slot       the slot of the stamp, at whose beginning it is decided
   processor  the processor whose log says it
   number     the number of the entry in that log, from 1
@@ -103,12 +102,17 @@ pub(crate) const DECISIONS_AFTER: &str = with_rows!(
   outcome    `admitted`, `departing`, `delayed`, or `refused`
   value      departing: the slot from which its weight and its name are free; refused: the number
              of the refusal, as `pfair decisions --help` lists them; else -"
-);
+    ),
+};
 
-pub(crate) const LAGS_AFTER: &str = with_rows!(
-    "Columns:
+pub(crate) const LAGS_TEXTS: Texts = Texts {
+    about: "Reads rows of entries, and prints how far each task is from its fluid share",
+    usage: "pfair_follow lags --processors <M> --frame <F> --slots <S> [OPTIONS]",
+    after: with_rows!(
+        "Columns:
   time       the end of a slot: the slot, and 1
   task       a task that is there and doesn't depart
   numerator  cost * (time since it joined) - period * (quanta that it had)
   period     its period: the lag is the numerator over the period, positive where it is behind"
-);
+    ),
+};

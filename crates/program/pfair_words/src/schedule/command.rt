@@ -1,167 +1,73 @@
-//! The commands that the program has, one level of them.
+//! The command line of `pfair`, one level of commands.
 
-ghost use Rattle.std.specs.Prelude.{◌≡◌, IfOk, Ok, false};
-ghost use Rattle.clap.specs.Words.{AddsSubcommand, rule_of};
-ghost use Rattle.pfair_words.specs.Line as line;
+ghost use Rattle.std.specs.Prelude.{◌≡◌, IfOk, false};
+ghost use Rattle.clap.specs.Words.{rule_of};
+ghost use Rattle.pfair_words.specs.Line.{IsRead};
+ghost use Rattle.pfair_words.specs.ScheduleLine as line;
 
-use crate::help::{
-    ABOUT, AFFINITY_HELP, AFTER, DECISIONS_ABOUT, DECISIONS_AFTER, LAGS_ABOUT, LAGS_AFTER,
-    REPLAY_ABOUT, REPLAY_AFTER, WINDOWS_ABOUT, WINDOWS_AFTER,
+use super::MAX_COUNT;
+use super::help::{
+    ABOUT, AFTER, COST_HELP, COUNT_HELP, DECISIONS_TEXTS, LAGS_TEXTS, PERIOD_HELP, REPLAY_TEXTS,
+    WINDOWS_TEXTS,
 };
-use crate::words::MAX_COUNT;
-use clap::{Arg, ArgAction, Command, value_parser};
+use crate::command::{affinity, command, file, program, with};
+use clap::builder::ValueParser;
+use clap::{Arg, Command};
 use std::alloc::{AllocError, Global};
 
-// The program's version, which `--version` prints after its name.
-const VERSION: &str = "0.3.0";
-
-const REPLAY_USAGE: &str = "pfair replay [--affinity] <FILE>";
-
-const DECISIONS_USAGE: &str = "pfair decisions <FILE>";
-
-const LAGS_USAGE: &str = "pfair lags <FILE>";
-
-const WINDOWS_USAGE: &str = "pfair windows <E> <P> <COUNT>";
-
 /// The command line as `clap` is to read it.
-pub(crate) fn command<'a>(alloc: Global) -> Result<Command<'a>, AllocError>
-    ensures { IfOk result (line.IsRead line.line) }
+pub(crate) fn command_line<'a>(alloc: Global) -> Result<Command<'a>, AllocError>
+    ensures { IfOk result (IsRead line.line) }
 {
-    let command = with(program(alloc)?, windows(alloc))?;
-    let command = with(command, replay(alloc))?;
-    let command = with(command, decisions(alloc))?;
-    with(command, lags(alloc))
+    let pfair = with(program(alloc, "pfair", ABOUT, AFTER)?, windows(alloc))?;
+    let pfair = with(pfair, replay(alloc))?;
+    let pfair = with(pfair, decisions(alloc))?;
+    with(pfair, lags(alloc))
 }
 
-// A command with one more below it.
-fn with<'a>(
-    command: Command<'a>,
-    below: Result<Command<'a>, AllocError>,
-) -> Result<Command<'a>, AllocError>
-    ensures { IfOk result (λ r. (b : _) × (below.entry ≡ Ok b) × AddsSubcommand command.entry b r) }
+fn windows<'a>(alloc: Global) -> Result<Command<'a>, AllocError>
+    ensures { IfOk result (IsRead line.windows) }
 {
-    command.subcommand(below?)
-}
-
-// The program without its commands.
-fn program<'a>(alloc: Global) -> Result<Command<'a>, AllocError>
-    ensures { IfOk result (line.IsRead line.program) }
-{
-    Command::new(alloc, "pfair")
-        .version(VERSION)
-        .disable_version_flag(true)
-        .about(ABOUT)
-        .after_help(AFTER)
-        .no_binary_name(true)
-        .subcommand_required(true)
-        .disable_help_subcommand(true)
-        .arg(version(alloc))
-}
-
-// The flag that `clap` would add has a short form too.
-fn version<'a>(alloc: Global) -> Arg<'a>
-    ensures rule { rule_of result ≡ line.version }
-    ensures here { result.global ≡ false }
-{
-    Arg::new(alloc, "version")
-        .long("version")
-        .help("Print name and version")
-        .action(ArgAction::Version)
+    command(alloc, "windows", WINDOWS_TEXTS)
+        .arg(number(alloc, "cost", "E", COST_HELP, u64::MAX))?
+        .arg(number(alloc, "period", "P", PERIOD_HELP, u64::MAX))?
+        .arg(number(alloc, "count", "COUNT", COUNT_HELP, MAX_COUNT))
 }
 
 fn replay<'a>(alloc: Global) -> Result<Command<'a>, AllocError>
-    ensures { IfOk result (line.IsRead line.replay) }
+    ensures { IfOk result (IsRead line.replay) }
 {
-    Command::new(alloc, "replay")
-        .about(REPLAY_ABOUT)
-        .override_usage(REPLAY_USAGE)
-        .after_help(REPLAY_AFTER)
+    command(alloc, "replay", REPLAY_TEXTS)
         .arg(file(alloc))?
         .arg(affinity(alloc))
 }
 
-fn affinity<'a>(alloc: Global) -> Arg<'a>
-    ensures rule { rule_of result ≡ line.affinity }
-    ensures here { result.global ≡ false }
-{
-    Arg::new(alloc, "affinity")
-        .long("affinity")
-        .help(AFFINITY_HELP)
-        .action(ArgAction::SetTrue)
-}
-
 fn decisions<'a>(alloc: Global) -> Result<Command<'a>, AllocError>
-    ensures { IfOk result (line.IsRead line.decisions) }
+    ensures { IfOk result (IsRead line.decisions) }
 {
-    Command::new(alloc, "decisions")
-        .about(DECISIONS_ABOUT)
-        .override_usage(DECISIONS_USAGE)
-        .after_help(DECISIONS_AFTER)
-        .arg(file(alloc))
+    command(alloc, "decisions", DECISIONS_TEXTS).arg(file(alloc))
 }
 
 fn lags<'a>(alloc: Global) -> Result<Command<'a>, AllocError>
-    ensures { IfOk result (line.IsRead line.lags) }
+    ensures { IfOk result (IsRead line.lags) }
 {
-    Command::new(alloc, "lags")
-        .about(LAGS_ABOUT)
-        .override_usage(LAGS_USAGE)
-        .after_help(LAGS_AFTER)
-        .arg(file(alloc))
+    command(alloc, "lags", LAGS_TEXTS).arg(file(alloc))
 }
 
-// The task file that a command is over.
-fn file<'a>(alloc: Global) -> Arg<'a>
-    ensures rule { rule_of result ≡ line.file }
+// A number from 0 to `most`, which has to be there.
+fn number<'a>(
+    alloc: Global,
+    name: &'a str,
+    value_name: &'a str,
+    help: &'a str,
+    most: u64,
+) -> Arg<'a>
+    ensures rule { rule_of result ≡ line.number name.now most }
     ensures here { result.global ≡ false }
 {
-    Arg::new(alloc, "file")
-        .value_name("FILE")
-        .help("Task file: TOML, at most 67108864 bytes")
+    Arg::new(alloc, name)
+        .value_name(value_name)
+        .help(help)
         .required(true)
-}
-
-fn windows<'a>(alloc: Global) -> Result<Command<'a>, AllocError>
-    ensures { IfOk result (line.IsRead line.windows) }
-{
-    Command::new(alloc, "windows")
-        .about(WINDOWS_ABOUT)
-        .override_usage(WINDOWS_USAGE)
-        .after_help(WINDOWS_AFTER)
-        .arg(cost(alloc))?
-        .arg(period(alloc))?
-        .arg(count(alloc))
-}
-
-fn cost<'a>(alloc: Global) -> Arg<'a>
-    ensures rule { rule_of result ≡ line.cost }
-    ensures here { result.global ≡ false }
-{
-    Arg::new(alloc, "cost")
-        .value_name("E")
-        .help("Cost: quanta in each period, 1 to the period")
-        .required(true)
-        .value_parser(value_parser!(u64))
-}
-
-fn period<'a>(alloc: Global) -> Arg<'a>
-    ensures rule { rule_of result ≡ line.period }
-    ensures here { result.global ≡ false }
-{
-    Arg::new(alloc, "period")
-        .value_name("P")
-        .help("Period in slots, at most 1000000000")
-        .required(true)
-        .value_parser(value_parser!(u64))
-}
-
-fn count<'a>(alloc: Global) -> Arg<'a>
-    ensures rule { rule_of result ≡ line.count }
-    ensures here { result.global ≡ false }
-{
-    Arg::new(alloc, "count")
-        .value_name("COUNT")
-        .help("How many subtasks, 0 to 1000000")
-        .required(true)
-        .value_parser(value_parser!(u64).range(0..=MAX_COUNT as i64))
+        .value_parser(ValueParser::Unsigned(0, most))
 }

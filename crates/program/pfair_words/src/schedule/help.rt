@@ -1,21 +1,15 @@
-//! The texts of help. Each line of them has at most 100 characters.
+//! The texts of help of `pfair`. Each line of them has at most 100 characters.
+
+use crate::command::Texts;
 
 pub(crate) const ABOUT: &str =
     "Proportionate-fair (Pfair) scheduling of quanta on several processors, in the PD2 order";
 
-pub(crate) const WINDOWS_ABOUT: &str =
-    "Prints the windows of a weight's subtasks at offset 0, one row each";
+pub(crate) const COST_HELP: &str = "Cost: quanta in each period, 1 to the period";
 
-pub(crate) const REPLAY_ABOUT: &str =
-    "Prints the schedule of a task file, one row for each quantum";
+pub(crate) const PERIOD_HELP: &str = "Period in slots, at most 1000000000";
 
-pub(crate) const AFFINITY_HELP: &str = "End each row with its place, the processor that runs it";
-
-pub(crate) const DECISIONS_ABOUT: &str =
-    "Prints who was admitted or refused and who departs, one row for each announcement";
-
-pub(crate) const LAGS_ABOUT: &str =
-    "Prints how far each task is from its fluid share, one row for each time and task";
+pub(crate) const COUNT_HELP: &str = "How many subtasks, 0 to 1000000";
 
 pub(crate) const AFTER: &str = "Examples:
   pfair windows 8 11 8
@@ -41,7 +35,10 @@ Documents of the repository:
   docs/SPECIFICATION.md  the model, the rules, the task file, the outputs, each fault
   docs/PROOFS.md         what is proved, and what isn't";
 
-pub(crate) const WINDOWS_AFTER: &str = "Columns:
+pub(crate) const WINDOWS_TEXTS: Texts = Texts {
+    about: "Prints the windows of a weight's subtasks at offset 0, one row each",
+    usage: "pfair windows <E> <P> <COUNT>",
+    after: "Columns:
   i  index of the subtask, from 1
   r  release: the slot in which its window opens
   d  deadline: the slot before which its window closes
@@ -50,7 +47,8 @@ pub(crate) const WINDOWS_AFTER: &str = "Columns:
 
 Faults: 4 zero cost, 5 cost over period, 6 period too long, 80 command line refused (status 1).
 
-Example: pfair windows 8 11 8";
+Example: pfair windows 8 11 8",
+};
 
 // The columns of a command over a task file, and then what all of them share.
 macro_rules! with_task_file {
@@ -97,8 +95,11 @@ entries of a log in the order of their floors, or ask for at most S slots."
     };
 }
 
-pub(crate) const REPLAY_AFTER: &str = with_task_file!(
-    "Columns:
+pub(crate) const REPLAY_TEXTS: Texts = Texts {
+    about: "Prints the schedule of a task file, one row for each quantum",
+    usage: "pfair replay [--affinity] <FILE>",
+    after: with_task_file!(
+        "Columns:
   slot       the slot, from 0; a slot in which nobody runs has no row
   processor  the row of the slot's table, from 0, in the PD2 order: not a log, nor where it runs
   task       the task that has the quantum
@@ -106,10 +107,14 @@ pub(crate) const REPLAY_AFTER: &str = with_task_file!(
   place      (--affinity) the processor that runs it. A task that ran in the slot before stays on
              its processor; each other row, in order, takes the least one left. That a task
              seldom changes processors isn't promised"
-);
+    ),
+};
 
-pub(crate) const DECISIONS_AFTER: &str = with_task_file!(
-    "Columns:
+pub(crate) const DECISIONS_TEXTS: Texts = Texts {
+    about: "Prints who was admitted or refused and who departs, one row for each announcement",
+    usage: "pfair decisions <FILE>",
+    after: with_task_file!(
+        "Columns:
   slot       the slot of the stamp, at whose beginning it is decided
   processor  the processor whose log says it, as in the file
   number     the number of the entry in that log, from 1
@@ -117,14 +122,19 @@ pub(crate) const DECISIONS_AFTER: &str = with_task_file!(
   outcome    `admitted`, `departing`, `delayed`, or `refused`
   value      departing: the slot from which its weight and its name are free; refused: the number
              of the refusal; else -"
-);
+    ),
+};
 
-pub(crate) const LAGS_AFTER: &str = with_task_file!(
-    "Columns:
+pub(crate) const LAGS_TEXTS: Texts = Texts {
+    about: "Prints how far each task is from its fluid share, one row for each time and task",
+    usage: "pfair lags <FILE>",
+    after: with_task_file!(
+        "Columns:
   time       the end of a slot: the slot, and 1
   task       a task that is there and doesn't depart
   numerator  cost * (time since it joined) - period * (quanta that it had)
   period     its period: the lag is the numerator over the period, positive where it is behind
 A schedule is Pfair where each lag stays between -1 and 1, and meets deadlines where it stays below
 1. Late releases are left out of account."
-);
+    ),
+};

@@ -4,8 +4,8 @@ use Rattle.std.specs.contracts.prelude.U64FromStr.TheImpl.{ghosts}
 use Rattle.clap.specs.Matches.{ReadsOne}
 use Rattle.clap.specs.Words.{Text, found_of}
 use Rattle.clap.proofs.WalkLemmas.{one_text-rows}
-use Rattle.pfair_words.specs.Asked.{Spells, SpellsIfAny}
-use Rattle.pfair_words.proofs.words.number.Goals as goal
+use Rattle.pfair_words.specs.Parse.{Spells, SpellsIfAny}
+use Rattle.pfair_words.proofs.parse.number.Goals as goal
 
 read : {E : Type 0} (gives : Text → Result ℕ E → Type 0) (at : Option Text) (r : Option ℕ) → (at ≡ None → r ≡ None) → ((t : Text) → at ≡ Some t → ReadsOne gives t r)
     → ((t : Text) (n : ℕ) → gives t (Ok n) → Spells t n) → ((t : Text) (e : E) (n : ℕ) → gives t (Err e) → ¬ Spells t n) → MatchOption r ((n : ℕ) → ¬ SpellsIfAny at n) (SpellsIfAny at)

@@ -1,56 +1,44 @@
--- The parser's clauses on its command line, at the line of these commands.
-use Rattle.std.proofs.Common.{rules, ◌≡◌, ◌⊎◌, inl, inr, true, refl, subst, List, [], IfOk, Result, Ok, Err}
+-- The parser's clauses, at any command line of the simple form.
+use Rattle.std.proofs.Common.{rules, ◌≡◌, ◌&&◌, inl, inr, Bool, true, false, refl, subst, List, [], IfOk, Result, Ok, Err}
+use Rattle.std.specs.declared.alloc.AllocError.{AllocError}
 use Rattle.clap.specs.Kinds.{HasKind}
-use Rattle.clap.specs.Words.{App, HasMatchesOf, Text, fault_of, kind_of, subcommand_rows_of, is_simple_and_free}
+use Rattle.clap.specs.Words.{App, HasMatchesOf, IsAmong, Text, app_of, fault_of, is_simple, is_simple_and_free, kind_of}
 use Rattle.clap.specs.declared.error.Error.{Error}
 use Rattle.clap.specs.declared.error.kind.ErrorKind.{ErrorKind}
 use Rattle.clap.specs.declared.error.kind.ErrorKind.TheVariants.{OutOfMemory}
 use Rattle.clap.specs.declared.parser.matches.ArgMatches.{ArgMatches}
-use Rattle.pfair_words.specs.Asked.{IsAnswer, IsAnswerToAny, IsAnswerToKind, IsAnswerToTaken, IsAnswerToUntaken, texts}
-use Rattle.pfair_words.specs.Line.{line}
-use Rattle.pfair_words.specs.declared.words.Asked.{Asked}
-use Rattle.pfair_words.specs.declared.words.Asked.TheVariants.{Help}
-use Rattle.pfair_words.specs.declared.words.WordsFault.{WordsFault}
-use Rattle.pfair_words.specs.declared.words.WordsFault.TheVariants.{Memory, Refused, Weight}
-use Rattle.pfair_words.specs.Plain.{HasCount, IsPlainAnswer}
-use Rattle.pfair_words.proofs.PlainFacts.{has_count, plain_answer}
-use Rattle.pfair_words.proofs.words.read_words.Goals as goal
+use Rattle.pfair_words.specs.Parse.{IsParsed, IsUntakenAs, texts}
+use Rattle.pfair_words.specs.declared.parse.Parsed.{Parsed}
+use Rattle.pfair_words.specs.declared.parse.Parsed.TheVariants.{Taken, Help, Refused}
+use Rattle.pfair_words.proofs.parse.parse.Goals as goal
 
-answer : (words : List Text) (r : Result Asked WordsFault) → IsAnswerToTaken words r ⊎ IsAnswerToUntaken words r → IsAnswer words r
-answer words (Ok a) h = h
-answer words (Err Memory) h = tt
-answer words (Err Refused) h = h
-answer words (Err (Weight f)) h = h
+left_of : (a b : Bool) → (a && b) ≡ true → a ≡ true
+left_of true b h = refl
+left_of false b h = h
 
--- out of memory, the answer is want of memory
-wanting : (words : List Text) (k : ErrorKind) (r : Result Asked WordsFault) → k ≡ OutOfMemory → IsAnswerToKind k r → IsAnswer words r
-wanting words k r e h = go r (subst (λ k. IsAnswerToKind k r) e h)
-  where
-    go : (r : Result Asked WordsFault) → IsAnswerToKind OutOfMemory r → IsAnswer words r
-    go (Ok (Help text)) (inl h) = absurd (search rules)
-    go (Ok (Help text)) (inr h) = absurd (search rules)
-    go (Err Memory) h = tt
-    go (Err Refused) h = absurd (h.2 refl)
-    go r h = absurd h
+taken : (line : App) (words : List Text) (m : ArgMatches) → is_simple_and_free line ≡ true → HasMatchesOf line words m → (is_simple_and_free line ≡ true → fault_of line words ≡ []) → IsParsed line words (Taken m)
+taken line words m simple matches faults = (faults simple, (matches (left_of (is_simple line) _ simple)).1)
 
-taken : (words : List Text) (app : App) (m : ArgMatches) (r : Result Asked WordsFault) → app ≡ line → HasMatchesOf app words m → (is_simple_and_free app ≡ true → fault_of app words ≡ []) → IsAnswerToAny (subcommand_rows_of m) r → IsAnswer words r
-taken words app m r e matches faults h =
-    let rows = (subst (λ a. HasMatchesOf a words m) e matches refl).1 in
-    let none = subst (λ a. is_simple_and_free a ≡ true → fault_of a words ≡ []) e faults refl in
-    answer words r (inl (none, subst (λ n. IsAnswerToAny n r) rows h))
+-- an error out of memory leaves only want of memory to answer
+wanting : (line : App) (words : List Text) (r : Result Parsed AllocError) → IfOk r (IsUntakenAs OutOfMemory) → IfOk r (IsParsed line words)
+wanting line words (Err e) h = tt
+wanting line words (Ok (Taken m)) h = absurd h
+wanting line words (Ok (Help text)) (inl h) = absurd (search rules)
+wanting line words (Ok (Help text)) (inr h) = absurd (search rules)
+wanting line words (Ok Refused) h = absurd (h.2 refl)
 
-untaken : (words : List Text) (app : App) (error : Error) (r : Result Asked WordsFault) → app ≡ line → (is_simple_and_free app ≡ true → HasKind (fault_of app words) error) → IsAnswerToKind (kind_of error) r → IsAnswer words r
-untaken words app error r e faults h =
-    elim (subst (λ a. is_simple_and_free a ≡ true → HasKind (fault_of a words) error) e faults refl) [
-      | inl memory ↦ wanting words (kind_of error) r memory h
-      | inr among ↦ answer words r (inr (kind_of error, among, h))
-    ]
+among : (line : App) (words : List Text) (kind : ErrorKind) (r : Result Parsed AllocError) → IsAmong kind (fault_of line words) → IfOk r (IsUntakenAs kind) → IfOk r (IsParsed line words)
+among line words kind (Err e) is h = tt
+among line words kind (Ok (Taken m)) is h = absurd h
+among line words kind (Ok (Help text)) is h = (kind, is, h)
+among line words kind (Ok Refused) is h = (kind, is, h)
 
-together : (words : List Text) (r : Result Asked WordsFault) → IsAnswer words r → record { parsed : IsAnswer words r; plain : IsPlainAnswer words r; count : IfOk r HasCount }
-together words r h = record { parsed = h; plain = plain_answer words r h; count = has_count words r h }
+untaken : (line : App) (words : List Text) (error : Error) (r : Result Parsed AllocError) → HasKind (fault_of line words) error → IfOk r (IsUntakenAs (kind_of error)) → IfOk r (IsParsed line words)
+untaken line words error r (inl memory) h = wanting line words r (subst (λ kind. IfOk r (IsUntakenAs kind)) memory h)
+untaken line words error r (inr is) h = among line words (kind_of error) r is h
 
 pub returns-in-Ok : goal.returns-in-Ok
-returns-in-Ok c = together _ _ (taken (texts c.args.words.now) _ c.in-Ok.matches c.read_matches.result c.in_ok-command.ensures.0 c.in-Ok.ensures.matches c.in-Ok.ensures.kinds c.read_matches.ensures)
+returns-in-Ok c = taken (app_of c.args.command) (texts c.args.words.now) c.in-Ok.matches c.requires c.in-Ok.ensures.matches c.in-Ok.ensures.kinds
 
 pub returns-in-Err : goal.returns-in-Err
-returns-in-Err c = together _ _ (untaken (texts c.args.words.now) _ c.in-Err.error c.refusal.result c.in_ok-command.ensures.0 c.in-Err.ensures.kinds c.refusal.ensures)
+returns-in-Err c = untaken (app_of c.args.command) (texts c.args.words.now) c.in-Err.error c.untaken.result (c.in-Err.ensures.kinds c.requires) c.untaken.ensures

@@ -1,0 +1,77 @@
+//! The one reading of words, by `clap`: what it makes of them, and what stands under a name.
+
+ghost use Rattle.std.specs.Prelude.{◌≡◌, ℕ, IfOk, MatchOption, codes, option_map, string_bytes, true};
+ghost use Rattle.clap.specs.Walk.{one_of};
+ghost use Rattle.clap.specs.Words.{app_of, first_of, found_of, is_simple_and_free, kind_of, rows_of};
+ghost use Rattle.pfair_words.specs.Parse.{IsFlag, IsParsed, IsUntakenAs, SpellsIfAny, texts};
+
+use clap::error::ErrorKind;
+use clap::{ArgMatches, Command, Error};
+use std::alloc::{AllocError, Global};
+
+/// What the parser makes of words.
+#[derive(Drop)]
+pub(crate) enum Parsed<'a> {
+    /// It takes them.
+    Taken(ArgMatches<'a>),
+    /// They ask for a text about the program: how it is used, or its name and version.
+    Help(String),
+    /// It refuses them.
+    Refused,
+}
+
+/// Reads the words after the program's name by its command line.
+///
+/// # Errors
+/// [`AllocError`] if an allocation fails.
+pub(crate) fn parse<'a>(
+    alloc: Global,
+    command: Command<'a>,
+    words: &'a [String],
+) -> Result<Parsed<'a>, AllocError>
+    requires { is_simple_and_free (app_of command) ≡ true }
+    ensures { IfOk result (IsParsed (app_of command.entry) (texts words.now)) }
+{
+    match command.try_get_matches_from(words) {
+        Ok(matches) => Ok(Parsed::Taken(matches)),
+        Err(error) => untaken(alloc, &error),
+    }
+}
+
+// Help, the version, or a refusal.
+fn untaken<'a>(alloc: Global, error: &Error) -> Result<Parsed<'a>, AllocError>
+    ensures { IfOk result (IsUntakenAs (kind_of error.now)) }
+{
+    match error.kind() {
+        ErrorKind::DisplayHelp | ErrorKind::DisplayVersion => {
+            Ok(Parsed::Help(error.to_string(alloc)?))
+        }
+        ErrorKind::OutOfMemory => Err(AllocError),
+        _ => Ok(Parsed::Refused),
+    }
+}
+
+/// The name of the task file.
+pub(crate) fn file_name(alloc: Global, words: &ArgMatches<'_>) -> Result<Option<String>, AllocError>
+    ensures { IfOk result (λ name. option_map string_bytes name ≡ first_of (codes "file") (rows_of (found_of words.now))) }
+{
+    match words.get_str("file") {
+        Some(file) => Ok(Some(String::from_str(alloc, file)?)),
+        None => Ok(None),
+    }
+}
+
+/// The number under a name.
+pub(crate) fn number(words: &ArgMatches<'_>, name: &str) -> Option<u64>
+    ensures { MatchOption result ((n : ℕ) → ¬ SpellsIfAny (one_of name.now (rows_of (found_of words.now))) n)
+        (SpellsIfAny (one_of name.now (rows_of (found_of words.now)))) }
+{
+    words.get_one::<u64>(name)
+}
+
+/// Whether a flag is set.
+pub(crate) fn is_set(words: &ArgMatches<'_>, name: &str) -> bool
+    ensures { IsFlag (one_of name.now (rows_of (found_of words.now))) result }
+{
+    words.get_flag(name)
+}
