@@ -1,4 +1,4 @@
-"""The rows that the program `pfair` prints of a task file, as a source of pictures."""
+"""The rows that the program `pfair` prints of a task file, as a source of pictures and traces."""
 from __future__ import annotations
 
 import importlib
@@ -10,7 +10,7 @@ import tempfile
 from typing import Any, Iterator, Union
 
 from ._rows import Decision, Rows
-from ._trace import Lag, Quantum, quanta_of
+from ._trace import Decided, Lag, Quantum, quanta_of, words_of
 
 
 class Refused(Exception):
@@ -35,9 +35,12 @@ class Program(Rows):
         logs: dict[int, list[dict[str, Any]]] = {}
         for table in read.get("entry", []):
             logs.setdefault(table["processor"], []).append(table)
-        self.told = []
+        self.told: list[Decision] = []
+        self.keys: list[tuple[int, int]] = []
         for slot, processor, number, task, outcome, value in rows:
-            entry = logs[int(processor)][int(number) - 1]
+            key = int(processor), int(number)
+            self.keys.append(key)
+            entry = logs[key[0]][key[1] - 1]
             self.told.append(Decision(int(slot), task, outcome, 0 if value == "-" else int(value), entry))
 
     def keep_pipe(self) -> None:
@@ -73,6 +76,14 @@ class Program(Rows):
 
     def decided(self) -> list[Decision]:
         return self.told
+
+    def names(self) -> list[str]:
+        return list(dict.fromkeys(row.task for row in self.told if row.outcome == "admitted"))
+
+    def decisions(self) -> Iterator[Decided]:
+        for (processor, number), (slot, task, outcome, value, entry) in zip(self.keys, self.told):
+            text = words_of(entry["kind"], task, outcome, value, entry)
+            yield Decided(slot, processor, number, task, text)
 
     def quanta(self) -> Iterator[Quantum]:
         rows = self.rows("replay", "--affinity")
