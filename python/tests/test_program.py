@@ -7,7 +7,7 @@ import pytest
 
 from pfair import _program, picture
 from pfair._rows import Decision
-from pfair._trace import Lag, Quantum
+from pfair._trace import Decided, Lag, Quantum
 
 FILE = """version = 1
 processors = 2
@@ -64,6 +64,16 @@ def test_rows(stands):
     assert picture.svg(rows, "lags").count("<title>") == 4
 
 
+def test_decisions_in_words(stands):
+    rows = stands()
+    assert rows.names() == ["b", "a"]
+    assert list(rows.decisions()) == [
+        Decided(0, 0, 1, "b", "b joins with 1/3"), Decided(0, 1, 1, "a", "a joins with 1/2"),
+        Decided(1, 1, 2, "a", "a: subtask 2 and later ones put off by 3"),
+        Decided(2, 0, 2, "b", "b departs, free at 3"), Decided(3, 0, 3, "a", "arrive a refused: 20"),
+    ]  # fmt: skip
+
+
 def test_a_reader_that_ends_first(stands):
     rows = stands({**ANSWERS, "lags": "time,task,numerator,period\n" + 200_000 * "1,b,-2,3\n"})
     lags = rows.lags()
@@ -80,6 +90,9 @@ def test_a_file_without_entries(stands):
 @pytest.mark.parametrize("ends, said, status", [
     ("sys.stderr.write('pfair: 61 missing slots at 0\\n'); sys.exit(2)", "61 missing slots at 0", 2),
     ("sys.stderr.write('a word\\npfair: 52 stalled at slot 4\\n'); sys.exit(3)", "52 stalled at slot 4", 3),
+    ("sys.stderr.write('7: 61 missing slots at 0'); sys.exit(2)", "61 missing slots at 0", 2),
+    ("sys.stderr.buffer.write(b'pfair: 61 missing \\xff at 0'); sys.exit(2)", "61 missing \ufffd at 0", 2),
+    ("sys.stdout.buffer.write(b'\\xff\\n\\xff\\n'); sys.exit(4)", "{} ended with status 4", 4),
     ("sys.exit(4)", "{} ended with status 4", 4),
 ])  # fmt: skip
 def test_refused(stands, ends, said, status):
