@@ -114,6 +114,33 @@ def test_files(command, tmp_path, monkeypatch):
         assert command("schedule", "file", "-o", nowhere) == (5, b"", b"pfair_picture: 71 writing failed\n")
 
 
+CONVERTS = """#!/bin/sh
+echo a warning >&2
+echo "$@"
+cat
+"""
+FAILS = r"""#!/bin/sh
+cat > /dev/null
+printf '\377%0299d' 0 >&2
+echo nothing useful
+exit 3
+"""
+
+
+def test_rsvg_convert(command, tmp_path, monkeypatch):
+    """What the command rsvg-convert is called with, and what becomes of its output and of its complaint."""
+    stand_in = tmp_path / "rsvg-convert"
+    monkeypatch.setenv("PATH", f"{tmp_path}{os.pathsep}{os.environ['PATH']}")
+    stand_in.write_text(CONVERTS)
+    stand_in.chmod(0o755)
+    svg = picture.svg(CASES["every_kind"][0]).encode()
+    for form, words in (("png", b"--format png --zoom 2"), ("pdf", b"--format pdf")):
+        assert command("schedule", "file", f"--{form}") == (0, b"--unlimited " + words + b"\n" + svg, b"")
+    stand_in.write_text(FAILS)
+    said = f"pfair_picture: 71 writing failed: rsvg-convert: {chr(0xFFFD) + '0' * 199!r}\n"
+    assert command("schedule", "file", "--png") == (5, b"", said.encode())
+
+
 def test_formats_that_are_not_here(command, monkeypatch):
     monkeypatch.setattr(draw.shutil, "which", {"rsvg-convert": None}.__getitem__)
     monkeypatch.setitem(draw.sys.modules, "pfair._plot", None)

@@ -192,19 +192,6 @@ def test_pictures_of_the_examples(file):
     assert schedule.plot(1, 3, "lags", 4.0).get_size_inches()[0] == 4.0
 
 
-def test_slots_of_schedules():
-    schedule = pfair.schedule(pfair.Script(1, 4, 5000, [[pfair.arrive("a", 1, 4)]]))
-    assert schedule._repr_svg_() == schedule.svg(stop=400) and len(schedule.svg(900, 4996)) > 1 << 18
-    assert schedule.svg(7, 9, "lags") != schedule.svg(7, 10, "lags")
-    for start, stop in ((0, None), (0, 4097), (7, 7), (8, 7), (5001, 5001), (-1, None)):
-        with pytest.raises(pfair.OutOfRange):
-            schedule.svg(start, stop)
-    with pytest.raises(pfair.NotPlanned):
-        schedule.svg(4999, 5001)
-    with pytest.raises(ValueError, match="^no such picture: table$"):
-        schedule.svg(picture="table")
-
-
 @settings(max_examples=60, deadline=None)
 @given(st.integers(0, 2**32), st.integers(1, 40), st.integers(1, 4))
 def test_pictures_of_legal_scripts(seed, slots, processors):

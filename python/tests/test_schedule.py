@@ -2,6 +2,8 @@
 import io
 import json
 import pathlib
+import sys
+import types
 
 import numpy as np
 import pytest
@@ -316,3 +318,35 @@ def test_pictures_know_the_settings():
     """The slots of the run and its frame are two numbers."""
     drawn = pfair.schedule(pfair.Script(2, 6, 9, [[pfair.arrive("a", 1, 2)], []])).svg()
     assert "processors: 2, frame: 6, slots: 0 to 8 of 9" in drawn
+
+
+ONE = pfair.Script(1, 4, 5000, [[pfair.arrive("a", 1, 4)]])
+
+
+def test_slots_of_pictures():
+    """At most 4,096 slots of the run; a notebook shows the first 400."""
+    schedule = pfair.schedule(ONE)
+    assert schedule._repr_svg_() == schedule.svg(0, 400) == schedule.svg(stop=400)
+    assert len(schedule.svg(900, 4996)) > 1 << 18 and schedule.svg(7, 9, "lags") != schedule.svg(7, 10, "lags")
+    for slots, text in (
+        ((0, None), "slots 0 to 4999"),
+        ((903, 5000), "slots 903 to 4999"),
+        ((7, 7), "slots 7 to 6"),
+        ((8, 7), "slots 8 to 6"),
+        ((-1, None), "start = -1"),
+        ((2**64, 2**64), f"start = {2**64}"),
+        ((0, 2**64), f"stop = {2**64}"),
+    ):
+        refusal(pfair.OutOfRange, f"a number is out of its range: {text}", schedule.svg, *slots)
+    refusal(pfair.NotPlanned, "the slot isn't planned: slot 5000", schedule.svg, 4999, 5001)
+    refusal(ValueError, "no such picture: table", schedule.svg, picture="table")
+
+
+def test_plots_are_made_of_the_picture(monkeypatch):
+    def plot(svg, width):
+        return types.SimpleNamespace(figure=(svg, width))
+
+    monkeypatch.setitem(sys.modules, "pfair._plot", types.SimpleNamespace(Plot=plot))
+    schedule = pfair.schedule(pfair.Script(2, 6, 9, [[pfair.arrive("a", 1, 2)], []]))
+    assert schedule.plot() == (schedule.svg(), 7.0)
+    assert schedule.plot(1, 3, "lags", 4.0) == (schedule.svg(1, 3, "lags"), 4.0)
