@@ -68,23 +68,6 @@ impl Model for LagBook {
     ghost invariant = { λ a. IsKept a.time a.accounts.entries };
 }
 
-impl Clone for LagBook {
-    ghost use Rattle.std.specs.Prelude.{◌≡◌};
-
-    ghost is_clone = { λ book copy. copy ≡ book };
-
-    /// A book of the same tasks, with the same lags. It costs the tasks.
-    ///
-    /// # Errors
-    /// `AllocError` where memory was wanted and refused.
-    fn clone(&self) -> Result<LagBook, AllocError> {
-        Ok(LagBook {
-            time: self.time,
-            accounts: self.accounts.clone()?,
-        })
-    }
-}
-
 impl LagBook {
     /// A book in which no task is entered and no slot recorded. It takes no memory; what is entered
     /// later comes from `alloc`.

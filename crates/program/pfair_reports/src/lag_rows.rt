@@ -6,6 +6,7 @@ ghost use Rattle.pfair_reports.specs.Runs.{IsOutputOf, lags_of_run};
 
 use crate::fault::ProgramFault;
 use crate::schedule_rows::scheduled_lags;
+use pfair_text::send;
 use std::alloc::Global;
 use std::io::{Read, Write};
 
@@ -14,11 +15,9 @@ use std::io::{Read, Write};
 /// admission: the time t + 1, the task, and its lag at that time as a numerator over its period,
 /// counted from its joining slot.
 ///
-/// The whole run is made before the first byte goes out, and nothing is allocated after that. Of a
-/// slot at which no task joins or leaves, the table is kept, 24 bytes a quantum, and its rows are
-/// worked out as they are written; the rows of other slots are kept as text. At most 67,108,864
-/// bytes are read, and one more if the file is too long or an allocation fails. It costs the reading
-/// of the file, a run of its script, and the rows.
+/// The whole text is made before the first byte goes out; one slot at a time is held. At most
+/// 67,108,864 bytes are read, and one more if the file is too long or an allocation fails. It takes
+/// the time of reading the file, of a run of its script, and O(rows).
 ///
 /// # Errors
 /// [`ProgramFault::Schedule`] with the cause where the file has no schedule, as
@@ -34,6 +33,6 @@ pub fn lags<R: Read, W: Write>(
     ensures { IsCommandOf of_schedule ProgramFault.WriteFailed (IsOutputOf lags_of_run) (IsFaultBy of_schedule) result
         (R.remaining reader.old) (R.remaining reader.new) (W.contents writer.old) (W.contents writer.new) }
 {
-    let rows = scheduled_lags(alloc, reader)?;
-    Ok(rows.send(writer)?)
+    let text = scheduled_lags(alloc, reader)?;
+    Ok(send(writer, text.as_slice())?)
 }

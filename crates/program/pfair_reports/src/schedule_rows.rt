@@ -7,7 +7,7 @@ ghost use Rattle.pfair_file.specs.declared.schedule_fault.ScheduleFault.TheVaria
 ghost use Rattle.pfair_reports.specs.Runs.{IsOutputOf, decisions_of_run, lags_of_run};
 
 use pfair_file::{ScheduleFault, read_script};
-use pfair_output::{LagRows, decisions_of_script, lags_of_script};
+use pfair_output::{decisions_of_script, lags_of_script};
 use pfair_ready::HeapReady;
 use std::alloc::Global;
 use std::io::Read;
@@ -28,15 +28,15 @@ pub(crate) fn scheduled_decisions<R: Read>(
     Ok(decisions_of_script::<HeapReady>(alloc, &script)?)
 }
 
-/// The lags of the script that a reader's bytes hold, as rows.
+/// The lags of the script that a reader's bytes hold, as rows. One slot at a time is held.
 ///
 /// # Errors
 /// As [`scheduled`](pfair_file::scheduled).
 pub(crate) fn scheduled_lags<R: Read>(
     alloc: Global,
     reader: &mut R,
-) -> Result<LagRows, ScheduleFault>
-    ensures ok { IfOk result (λ lags. IfSome (R.remaining reader.old) (λ bytes. IsOutputOf lags_of_run bytes (λ rows. lags ≡ rows))) }
+) -> Result<Vec<u8>, ScheduleFault>
+    ensures ok { IfOk result (λ text. IfSome (R.remaining reader.old) (λ bytes. IsOutputOf lags_of_run bytes (λ rows. text.items ≡ rows))) }
     ensures refused { IfErr result (λ e. IfSome (R.remaining reader.old) (λ bytes. IsRefusalOf bytes e)) }
     ensures taken { TakesOneFile FileTooLong ReadFailed Memory result (R.remaining reader.old) (R.remaining reader.new) }
 {

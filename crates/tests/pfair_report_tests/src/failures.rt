@@ -21,13 +21,12 @@ enum Over {
     Lags,
 }
 
-// Each command, what it writes of the sample file, and in how many pieces. Of lags the slots in which
-// tasks change are pieces of their own, and those between.
-const COMMANDS: [(Over, &str, usize); 4] = [
-    (Over::Replay, TABLES, 1),
-    (Over::Placed, PLACED, 1),
-    (Over::Decisions, DECISIONS, 1),
-    (Over::Lags, LAGS, 4),
+// Each command, and what it writes of the sample file.
+const COMMANDS: [(Over, &str); 4] = [
+    (Over::Replay, TABLES),
+    (Over::Placed, PLACED),
+    (Over::Decisions, DECISIONS),
+    (Over::Lags, LAGS),
 ];
 
 fn run_over<P: Threads + Wait + Sync, R: Read, W: Write>(
@@ -118,7 +117,7 @@ fn assert_read_fails<P: Abort + Threads + Wait + Sync>(
 
 #[test]
 fn a_reader_that_fails_once(rt: HostRuntime) {
-    for (command, _, _) in COMMANDS {
+    for (command, _) in COMMANDS {
         for failing in 0..SAMPLE.len() / 64 + 2 {
             assert_read_fails(&rt, rt.alloc(), command, failing);
         }
@@ -131,7 +130,6 @@ fn assert_write_fails<P: Abort + Threads + Wait + Sync>(
     command: Over,
     writer: &mut OnceFailingWriter,
     rows: &str,
-    pieces: usize,
 ) {
     let failing = writer.failing;
     let fault = run_over(rt, alloc, command, &mut SAMPLE.as_bytes(), writer)
@@ -139,17 +137,13 @@ fn assert_write_fails<P: Abort + Threads + Wait + Sync>(
         .expect(rt, "a fault");
     assert_fault(rt, alloc, &fault, b"pfair: 71 writing failed\n", 5);
     assert!(rt; writer.calls == failing.saturating_add(1));
-    // each call took ten bytes, but for the last one of each piece
-    let most = failing.saturating_mul(10);
-    let short = pieces.saturating_sub(1).saturating_mul(9);
-    assert!(rt; writer.taken.len() <= most);
-    assert!(rt; most <= writer.taken.len().saturating_add(short));
+    assert!(rt; writer.taken.len() == failing.saturating_mul(10));
     assert!(rt; rows.as_bytes().starts_with(writer.taken.as_slice()));
 }
 
 #[test]
 fn a_writer_that_fails_once(rt: HostRuntime) {
-    for (command, rows, pieces) in COMMANDS {
+    for (command, rows) in COMMANDS {
         for failing in 0..rows.len().div_ceil(10) {
             for takes_none in [false, true] {
                 let mut writer = OnceFailingWriter {
@@ -158,7 +152,7 @@ fn a_writer_that_fails_once(rt: HostRuntime) {
                     failing,
                     takes_none,
                 };
-                assert_write_fails(&rt, rt.alloc(), command, &mut writer, rows, pieces);
+                assert_write_fails(&rt, rt.alloc(), command, &mut writer, rows);
             }
         }
     }

@@ -4,8 +4,7 @@ ghost use Rattle.std.specs.Prelude.{◌≡◌};
 
 use pfair_entry::{Announcement, Entry};
 use pfair_output::{
-    LagRows, decisions_of, decisions_of_script, lags_of, lags_of_script, placed_replay_of,
-    replay_of,
+    decisions_of, decisions_of_script, lags_of, lags_of_script, placed_replay_of, replay_of,
 };
 use pfair_ready::{HeapReady, Ready};
 use pfair_table::{Dispatcher, Run, Script, ScriptFault, Settings, run_script};
@@ -86,15 +85,8 @@ fn texts_slot_by_slot(rt: HostRuntime) -> Result<(), Fail> {
     let lags = lags_of_script::<HeapReady>(rt.alloc(), &script)
         .ok()
         .expect(&rt, "lags");
-    assert_eq!(&rt; text_of(&rt, rt.alloc(), lags).as_slice(), LAGS.as_bytes());
+    assert_eq!(&rt; lags.as_slice(), LAGS.as_bytes());
     Ok(())
-}
-
-// The text that lags send.
-fn text_of(rt: &impl Abort, alloc: Global, lags: LagRows) -> Vec<u8> {
-    let mut text = Vec::new(alloc);
-    lags.send(&mut text).ok().expect(rt, "a writer");
-    text
 }
 
 #[test]
@@ -120,9 +112,9 @@ fn arrival(rt: &impl Abort, name: &[u8], cost: u64, period: u64) -> Announcement
     }
 }
 
-// The script of two processors over 120 slots whose lags are held in parts: for 80 slots the tasks are
-// the same, one leaves then, and comes again with another weight 11 slots later, and another one joins;
-// and one comes late, so that its lag grows past its period.
+// The script of two processors over 120 slots: for 80 slots the tasks are the same, one leaves then,
+// and comes again with another weight 11 slots later, and another one joins; and one comes late, so
+// that its lag grows past its period.
 fn busy_script(rt: &impl Abort, alloc: Global) -> Result<Script, AllocError> {
     let leaver = TaskName::from_bytes(b"a").expect(rt, "a name");
     let late = TaskName::from_bytes(b"b").expect(rt, "a name");
@@ -154,77 +146,14 @@ fn busy_script(rt: &impl Abort, alloc: Global) -> Result<Script, AllocError> {
     Ok(Script::new(settings, logs).ok().expect(rt, "a script"))
 }
 
-// The rows of a script's lags, each written anew, after those that are held were held against them.
-fn lags_twice(rt: &impl Abort, alloc: Global, script: &Script) -> Vec<u8> {
-    let dispatcher = run_of(rt, alloc, script);
-    let anew = lags_of(alloc, &dispatcher).expect(rt, "memory");
-    let held = lags_of_script::<HeapReady>(alloc, script)
-        .ok()
-        .expect(rt, "lags");
-    assert_eq!(rt; text_of(rt, alloc, held).as_slice(), anew.as_slice());
-    anew
-}
-
 #[test]
-fn lags_that_are_held(rt: HostRuntime) -> Result<(), Fail> {
+fn lags_of_tasks_that_come_and_go(rt: HostRuntime) -> Result<(), Fail> {
     let script = busy_script(&rt, rt.alloc())?;
-    let anew = lags_twice(&rt, rt.alloc(), &script);
-    assert!(&rt; is_line_of(anew.as_slice(), b"21,name_of_16_bytes,-999979,1000000"));
-    assert!(&rt; is_line_of(anew.as_slice(), b"120,d,-4,12"));
-    Ok(())
-}
-
-// The script of 600 tasks that all arrive at slot 0, over two slots.
-fn crowded_script(rt: &impl Abort, alloc: Global) -> Result<Script, AllocError> {
-    let mut log = Vec::new(alloc);
-    for number in 0..600_u16 {
-        let name = [b't', letter(number / 26), letter(number)];
-        let said = Some((0, arrival(rt, &name, 1, 600)));
-        log.push(Entry::new(0, said).expect(rt, "an entry"))?;
-    }
-    log.push(Entry::new(2, None).expect(rt, "an entry"))?;
-    let logs = vec![in alloc; log]?;
-    let settings = Settings::new(1, 600, 2).expect(rt, "settings");
-    Ok(Script::new(settings, logs).ok().expect(rt, "a script"))
-}
-
-// The letter of a number, from `a` on, again and again.
-fn letter(number: u16) -> u8 {
-    (number % 26) as u8 + b'a'
-}
-
-// So many first rows that what was written one by one is given back between.
-#[test]
-fn lags_of_many_tasks(rt: HostRuntime) -> Result<(), Fail> {
-    let script = crowded_script(&rt, rt.alloc())?;
-    let anew = lags_twice(&rt, rt.alloc(), &script);
-    assert!(&rt; is_line_of(anew.as_slice(), b"1,taa,-599,600"));
-    assert!(&rt; is_line_of(anew.as_slice(), b"2,txb,2,600"));
-    Ok(())
-}
-
-// The script of 60 tasks of which one arrives at every second slot, over 150 slots: they change too
-// often for each slot between to be held.
-fn changing_script(rt: &impl Abort, alloc: Global) -> Result<Script, AllocError> {
-    let mut log = Vec::new(alloc);
-    for number in 0..60_u16 {
-        let name = [b't', letter(number / 26), letter(number)];
-        let slot = number as u64 * 2;
-        let said = Some((slot, arrival(rt, &name, 1, 600)));
-        log.push(Entry::new(slot, said).expect(rt, "an entry"))?;
-    }
-    log.push(Entry::new(150, None).expect(rt, "an entry"))?;
-    let logs = vec![in alloc; log]?;
-    let settings = Settings::new(1, 600, 150).expect(rt, "settings");
-    Ok(Script::new(settings, logs).ok().expect(rt, "a script"))
-}
-
-#[test]
-fn lags_of_tasks_that_change_often(rt: HostRuntime) -> Result<(), Fail> {
-    let script = changing_script(&rt, rt.alloc())?;
-    let anew = lags_twice(&rt, rt.alloc(), &script);
-    assert!(&rt; is_line_of(anew.as_slice(), b"119,tch,-599,600"));
-    assert!(&rt; is_line_of(anew.as_slice(), b"150,taa,-450,600"));
+    let lags = lags_of_script::<HeapReady>(rt.alloc(), &script)
+        .ok()
+        .expect(&rt, "lags");
+    assert!(&rt; is_line_of(lags.as_slice(), b"21,name_of_16_bytes,-999979,1000000"));
+    assert!(&rt; is_line_of(lags.as_slice(), b"120,d,-4,12"));
     Ok(())
 }
 

@@ -1,8 +1,5 @@
-mod HeldFacts
 mod NameFacts
-mod PassedFacts
 mod PlacedFacts
-mod RowParts
 pub mod RunFacts
 mod SignedFacts
 pub mod SlotFacts

@@ -1,7 +1,6 @@
 -- Texts that grow by the rows of one slot after another.
-use Rattle.std.proofs.Common.{ℕ, zero, suc, ◌+◌, ◌<◌, ◌≤◌, ◌≡◌, refl, sym, ap, ◌∙◌, arith, List, [], ◌∷◌, ◌++◌, Some, length, drop, get_or, slice_get, append_assoc}
+use Rattle.std.proofs.Common.{ℕ, zero, suc, ◌+◌, ◌<◌, ◌≤◌, ◌≡◌, refl, sym, ap, ◌∙◌, arith, List, [], ◌∷◌, ◌++◌, Some, length, drop, slice_get, append_assoc}
 use Rattle.std.proofs.lemmas.List.{append-nil, drop_all}
-use Rattle.std.proofs.lemmas.Option.{get_or_from_slice_get}
 use Rattle.pfair_text.specs.Rows.{lines_text}
 use Rattle.pfair_text.proofs.RowFacts.{lines_text-append}
 use Rattle.pfair_output.specs.Slots.{slots_from}
@@ -14,12 +13,6 @@ first_left {A} xs i inside = let t = at xs i inside in (t.0, t.1, t.2 ∙ ap (λ
     at [] i h = absurd (omega arith)
     at (y ∷ ys) zero h = (y, refl, refl)
     at (y ∷ ys) (suc i) h = at ys i (omega arith)
-
--- the same, of an element that was read
-pub read_left : {A : Type 0} (xs : List A) (i : ℕ) (x d : A) → i < length xs → x ≡ get_or xs i d → drop i xs ≡ x ∷ drop (i + 1) xs
-read_left {A} xs i x d inside is =
-    let t = first_left xs i inside in
-    t.2 ∙ ap (λ (y : A). y ∷ drop (i + 1) xs) (sym (is ∙ get_or_from_slice_get xs i t.0 d t.1))
 
 module _ {A : Type 0} (rows : ℕ → A → List (List (List ℕ))) where
   -- the rows of one slot more

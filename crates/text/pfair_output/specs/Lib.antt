@@ -1,9 +1,5 @@
 pub mod Decisions
-pub mod Held
-pub mod Kept
 pub mod Lags
-pub mod Parts
-pub mod Passed
 pub mod Replay
 pub mod Runs
 pub mod Slots

@@ -2,22 +2,11 @@
 #![tactic(auto)]
 
 mod decisions;
-mod held_lags;
-mod kept_task;
-mod lag_part;
-mod lag_rows;
-mod lag_text;
 mod lags;
-mod numbers;
-mod page;
-mod paged_text;
-mod piece;
 mod replay;
-mod row_writer;
 mod runs;
 
 pub use decisions::{add_decisions_from, add_decisions_header, decisions_of};
-pub use lag_rows::LagRows;
 pub use lags::{add_lags_from, add_lags_header, lags_of, tell_all, tell_slots};
 pub use replay::{
     add_placed_header, add_placed_tables_from, add_replay_header, add_table_rows, add_tables_from,

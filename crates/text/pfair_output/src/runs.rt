@@ -9,15 +9,12 @@ ghost use Rattle.pfair_table.specs.Script.{replica_of_logs};
 ghost use Rattle.pfair_table.specs.ScriptRun.{IsNextOf, IsScriptFaultOf, after_next};
 ghost use Rattle.pfair_text.specs.Rows.{IsOpen, lines_text, text_so_far};
 ghost use Rattle.pfair_output.specs.Decisions.{decided_rows, decisions_text};
-ghost use Rattle.pfair_output.specs.Held.{book_so_far, so_far};
 ghost use Rattle.pfair_output.specs.Lags.{lag_rows, lags_header, lags_text};
 ghost use Rattle.pfair_output.specs.Runs.{decided_below, decided_of};
 ghost use Rattle.pfair_output.specs.Slots.{slots_from};
 
 use crate::decisions::{add_decisions, add_decisions_header};
-use crate::held_lags::HeldLags;
-use crate::lag_rows::LagRows;
-use crate::lags::add_lags_header;
+use crate::lags::{add_lags, add_lags_header, tell_slot};
 use csv::Writer;
 use pfair_lag::LagBook;
 use pfair_ready::Ready;
@@ -42,20 +39,16 @@ pub fn decisions_of_script<R: Ready>(alloc: Global, script: &Script) -> Result<V
 }
 
 /// The lags in all slots of a script's run, as [`lags_of`](crate::lags_of) writes them of the
-/// dispatcher that [`run_script`](pfair_table::run_script) gives. Beside the entries there is a tally
-/// of each member, some 100 bytes for each of what its rows share, and 200 KB of digits. Of a slot in
-/// which no task enters or leaves the table is held, 24 bytes for each quantum and 8 for the slot, and
-/// its rows are spelled as they are sent; of the others the rows are held as text. So are those of the
-/// slots after a change of tasks, where more than eight changes and one for each sixteen slots were
-/// before it.
+/// dispatcher that [`run_script`](pfair_table::run_script) gives. One slot at a time is held, beside
+/// the text, the entries and a tally of each member.
 ///
-/// It costs what that run costs but for places, a look-up for each decision and at most two for each
-/// quantum, a pass over the members for each slot in which tasks change, and the rows of the text.
+/// It takes the time of that run without its places, of [`tell_all`](crate::tell_all) and
+/// [`LagBook::record`] for each slot, and O(rows).
 ///
 /// # Errors
 /// As [`run_script`](pfair_table::run_script).
-pub fn lags_of_script<R: Ready>(alloc: Global, script: &Script) -> Result<LagRows, ScriptFault>
-    ensures text { IfOk result (λ rows. rows ≡ lags_text script.now.settings (replica_of_logs script.now.logs)) }
+pub fn lags_of_script<R: Ready>(alloc: Global, script: &Script) -> Result<Vec<u8>, ScriptFault>
+    ensures text { IfOk result (λ text. text.items ≡ lags_text script.now.settings (replica_of_logs script.now.logs)) }
     ensures settled { OnOk result (script.now.settings.slots ≤ frontier (replica_of_logs script.now.logs)) }
     ensures fault { IfErr result (IsScriptFaultOf script.now) }
 {
@@ -75,16 +68,15 @@ fn decisions_of_run<R: Ready>(alloc: Global, run: &mut ScriptRun<R>) -> Result<V
 }
 
 // The lags in all slots of a run of which none is planned.
-fn lags_of_run<R: Ready>(alloc: Global, run: &mut ScriptRun<R>) -> Result<LagRows, AllocError>
+fn lags_of_run<R: Ready>(alloc: Global, run: &mut ScriptRun<R>) -> Result<Vec<u8>, AllocError>
     requires { run.old.planned ≡ 0 }
-    ensures { IfOk result (λ rows. rows ≡ lines_text (lags_header
+    ensures { IfOk result (λ text. text.items ≡ lines_text (lags_header
         ∷ flat_map (lag_rows run.old.settings (replica_of run.old.held)) (numbers_below run.old.settings.slots))) }
 {
     let mut writer = new_text(alloc);
     add_lags_header(&mut writer)?;
-    let mut lags = HeldLags::new(alloc, finish(writer)?, LagBook::new(alloc))?;
-    add_all_lags(&mut lags, run)?;
-    lags.finish()
+    add_all_lags(&mut writer, &mut LagBook::new(alloc), run)?;
+    finish(writer)
 }
 
 // Plans all slots of a run, and adds the rows of what is decided at each.
@@ -104,17 +96,24 @@ fn add_all_decisions<R: Ready>(
     Ok(())
 }
 
-// Plans all slots of a run, and adds the rows after each.
-fn add_all_lags<R: Ready>(lags: &mut HeldLags, run: &mut ScriptRun<R>) -> Result<(), AllocError>
-    requires book { book_so_far lags.old ≡ empty_book }
+// Plans all slots of a run, tells a new book of each, and adds the rows after it.
+fn add_all_lags<R: Ready>(
+    writer: &mut Writer<Vec<u8>>,
+    book: &mut LagBook,
+    run: &mut ScriptRun<R>,
+) -> Result<(), AllocError>
+    requires open { IsOpen writer.old }
+    requires book { book.old ≡ empty_book }
     requires start { run.old.planned ≡ 0 }
-    ensures { OnOk result (so_far lags.new ≡ so_far lags.old
+    ensures open { OnOk result (IsOpen writer.new) }
+    ensures text { OnOk result (text_so_far writer.new ≡ text_so_far writer.old
         ++ lines_text (flat_map (lag_rows run.old.settings (replica_of run.old.held)) (numbers_below run.old.settings.slots))) }
 {
     'slots: while let Some(_) = plan_one(run)? {
         // a run has at most 1,000,000 slots
         prove!(run.next_slot() <= Settings::MAX_SLOTS);
-        lags.add_slot(run.decisions(), run.table())?;
+        tell_slot(book, run.decisions(), run.table())?;
+        add_lags(writer, book)?;
     }
     Ok(())
 }
