@@ -1,5 +1,5 @@
 -- How far the announcements of a boundary are decided, and how far delays can lead.
-use Rattle.std.proofs.Common.{◌≡◌, ℕ, zero, suc, ◌+◌, ◌-◌, ◌*◌, ◌<◌, ◌≤◌, Bool, true, false, cond, List, [], ◌∷◌, ◌++◌, length, take, get_or, None, refl, sym, ap, subst, ◌∙◌, arith}
+use Rattle.std.proofs.Common.{◌≡◌, ℕ, zero, suc, ◌+◌, ◌-◌, ◌*◌, ◌<◌, ◌≤◌, Bool, true, false, cond, List, [], ◌∷◌, ◌++◌, length, take, get_or, Result, Ok, Err, OnOk, OnErr, refl, sym, ap, subst, ◌∙◌, arith}
 use Rattle.std.specs.Prelude.{not, if◌then◌else◌}
 use Rattle.std.specs.List.{AllByRecursion, filter}
 use Rattle.std.proofs.lemmas.List.{take_more}
@@ -16,6 +16,7 @@ use Rattle.pfair_admission.specs.declared.members.TheConstants.Members.{MAX_HEAR
 use Rattle.pfair_admission.specs.Member.{Member, last_offset}
 use Rattle.pfair_admission.specs.Admission.{Machine, is_named, change, newcomer, with_freeing, with_delay, with_quantum, effect, is_freed, present, decision, decided, all_decided, all_decisions, announcements, ran}
 use Rattle.pfair_admission.specs.Roster.{EachBounded, EachHasRoom}
+use Rattle.pfair_admission.specs.Ledger.{after_all}
 use Rattle.pfair_admission.specs.Standing.{Standing}
 
 -- ---- how far delays lead
@@ -67,8 +68,12 @@ pub bounded_decided : (machine : Machine) (n t : ℕ) (ms : List Member) (a : An
 bounded_decided machine n t ms a in_time limits h =
     bounded_present (n + 1) t (effect t ms a (decision machine t ms a)) (bounded_effect n t ms a (decision machine t ms a) in_time limits h)
 
-pub bounded_ran : (n : ℕ) (name : List ℕ) (ms : List Member) → EachBounded n ms → EachBounded n (ran name ms)
+bounded_ran : (n : ℕ) (name : List ℕ) (ms : List Member) → EachBounded n ms → EachBounded n (ran name ms)
 bounded_ran n name ms h = bounded_change n n name with_quantum (omega arith) (λ x o. o) ms h
+
+pub bounded_run : (n : ℕ) (name : List ℕ) (ms after : List Member) (b : Bool) → after ≡ (if b then ran name ms else ms) → EachBounded n ms → EachBounded n after
+bounded_run n name ms after true is h = subst (EachBounded n) (sym is) (bounded_ran n name ms h)
+bounded_run n name ms after false is h = subst (EachBounded n) (sym is) h
 
 -- while fewer announcements are heard than can be, each member has room for one delay more
 pub has_room : (n : ℕ) (ms : List Member) → n < MAX_HEARD → EachBounded n ms → EachHasRoom ms
@@ -140,11 +145,14 @@ limits_at (y ∷ xs) (suc i) x h within = limits_at xs i x h.1 (omega arith)
 pub limits_item : (xs : List Said) (i : ℕ) (x : Said) → AllByRecursion (λ a. IsWithinLimits a.2) xs → i < length xs → x ≡ get_or xs i x → IsWithinLimits x.2
 limits_item xs i x h within is = subst (λ (a : Said). IsWithinLimits a.2) (sym is) (limits_at xs i x h within)
 
--- what a quantum leaves
-pub ran_settled : (s after : Standing) (name : List ℕ) (b : Bool) → after ≡ (if b then record s { members = ran name s.members } else s) → s.under_way ≡ None → after.under_way ≡ None
-ran_settled s after name true is e = ap (λ (r : Standing). r.under_way) is ∙ e
-ran_settled s after name false is e = ap (λ (r : Standing). r.under_way) is ∙ e
+-- ---- who is left
 
-pub bounded_run : (n : ℕ) (name : List ℕ) (s after : Standing) (b : Bool) → after ≡ (if b then record s { members = ran name s.members } else s) → EachBounded n s.members → EachBounded n after.members
-bounded_run n name s after true is h = subst (λ (r : Standing). EachBounded n r.members) (sym is) (bounded_ran n name s.members h)
-bounded_run n name s after false is h = subst (λ (r : Standing). EachBounded n r.members) (sym is) h
+pub swept_decided : {A E : Type 0} (r : Result A E) (t : ℕ) (announced : List Announcement) (old now : Standing) {start : Standing} {left : List Member} → start ≡ old → left ≡ now.members
+    → OnOk r (now ≡ after_all t announced start) → OnOk r (left ≡ all_decided old.machine t old.members announced)
+swept_decided (Ok x) t announced old now same is all = is ∙ ap (λ (s : Standing). s.members) (all ∙ ap (after_all t announced) same)
+swept_decided (Err e) t announced old now same is all = all
+
+pub swept_left : {A E : Type 0} (r : Result A E) (t : ℕ) (announced : List Announcement) (old now : Standing) {start : Standing} {left : List Member} → start ≡ old → left ≡ now.members
+    → OnErr r ((k : ℕ) × (now ≡ after_all t (take k announced) start)) → OnErr r ((k : ℕ) × (left ≡ all_decided old.machine t old.members (take k announced)))
+swept_left (Ok x) t announced old now same is some = some
+swept_left (Err e) t announced old now same is some = (some.0, is ∙ ap (λ (s : Standing). s.members) (some.1 ∙ ap (after_all t (take some.0 announced)) same))

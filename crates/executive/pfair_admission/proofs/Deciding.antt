@@ -1,5 +1,5 @@
 -- What is left when an announcement is decided.
-use Rattle.std.proofs.Common.{◌≡◌, ℕ, ◌+◌, ◌*◌, ◌%◌, ◌≤◌, Bool, true, false, cond, List, [], ◌∷◌, ◌++◌, Option, Some, None, Result, Ok, Err, IfOk, OnErr, refl, sym, ap, subst, ◌∙◌, arith}
+use Rattle.std.proofs.Common.{◌≡◌, ℕ, ◌+◌, ◌*◌, ◌%◌, ◌≤◌, Bool, true, false, cond, List, [], ◌∷◌, ◌++◌, Option, Some, None, Result, Ok, Err, IfOk, OnOk, OnErr, refl, sym, ap, subst, ◌∙◌, arith}
 use Rattle.std.specs.Prelude.{not, nat_lt, ◌==◌, is_some, if◌then◌else◌}
 use Rattle.std.proofs.lemmas.List.Sums.{sum_by_push}
 use Rattle.std.proofs.Common.{inl, inr}
@@ -9,17 +9,20 @@ use Rattle.std.proofs.lemmas.Option.{same_Some}
 use Rattle.pfair_weight.specs.Options.{nothing}
 use Rattle.pfair_weight.specs.Share.{Share, units_of}
 use Rattle.pfair_weight.specs.declared.window.TheConstants.{MAX_OFFSET}
-use Rattle.pfair_entry.specs.declared.announcement.Announcement.TheVariants.{Arrive, Late}
+use Rattle.pfair_entry.specs.declared.announcement.Announcement.TheVariants.{Arrive, Depart, Late}
 use Rattle.pfair_admission.specs.declared.decision.Decision.{Decision}
 use Rattle.pfair_admission.specs.declared.decision.Decision.TheVariants.{Admitted, Departing, Delayed, Refused}
 use Rattle.pfair_admission.specs.declared.refusal.Refusal.TheVariants.{NameTaken, PeriodOutsideFrame, NoRoom}
 use Rattle.pfair_entry.specs.declared.entry.TheConstants.Entry.{LONGEST_DELAY}
 use Rattle.pfair_admission.specs.declared.members.TheConstants.Members.{MAX_PROCESSORS, MAX_FRAME}
 use Rattle.pfair_admission.specs.Member.{Member, last_offset}
-use Rattle.pfair_admission.specs.Admission.{Machine, is_named, member_named, claimed, arrival, newcomer, with_delay, with_quantum, effect, present, decided, ran}
-use Rattle.pfair_admission.specs.Removal.{NoneFreedBefore, NoneFreed}
+use Rattle.pfair_admission.specs.Admission.{Machine, is_named, member_named, claimed, arrival, departure, late_release, newcomer, effect, present, decided}
+use Rattle.pfair_admission.specs.Removal.{NoneFreed}
 use Rattle.pfair_admission.specs.Roster.{EachHasRoom}
-use Rattle.pfair_admission.proofs.MemberLists.{present_all, none_freed_push, first_change, claimed_change}
+use Rattle.pfair_admission.specs.Ledger.{is_there}
+use Rattle.pfair_admission.specs.Standing.{Standing}
+use Rattle.pfair_admission.proofs.MemberLists.{present_all, none_freed_push}
+use Rattle.pfair_admission.proofs.Written.{filter_again}
 
 pub product_fits : (p f : ℕ) → p ≤ MAX_PROCESSORS → f ≤ MAX_FRAME → p * f ≤ MAX_PROCESSORS * MAX_FRAME
 product_fits p f a b = grind arith
@@ -82,29 +85,28 @@ room_of_named (x ∷ ms) name m h found =
       | false ↦ λ e. room_of_named ms name m h.1 e
     ]) found
 
-pub claimed_late : (frame t : ℕ) (ms : List Member) (name : List ℕ) (index by : ℕ) (d : Decision) → claimed frame (effect t ms (Late name index by) d) ≡ claimed frame ms
-claimed_late frame t ms name index by Delayed = claimed_change frame name (with_delay index by) (λ _. refl) ms
-claimed_late frame t ms name index by Admitted = refl
-claimed_late frame t ms name index by (Departing slot) = refl
-claimed_late frame t ms name index by (Refused r) = refl
+-- ---- one machine
 
-first_late : (first : Option ℕ) (t : ℕ) (ms : List Member) (name : List ℕ) (index by : ℕ) (d : Decision) → NoneFreedBefore first ms → NoneFreedBefore first (effect t ms (Late name index by) d)
-first_late first t ms name index by Delayed h = first_change first name (with_delay index by) ms (λ _. refl) h
-first_late first t ms name index by Admitted h = h
-first_late first t ms name index by (Departing slot) h = h
-first_late first t ms name index by (Refused r) h = h
+pub stood : (machine : Machine) {ms ns : List Member} → ms ≡ ns → ◌≡◌ {A = Standing} (record { machine = machine; members = ms }) (record { machine = machine; members = ns })
+stood machine e = ap (λ (l : List Member). record { machine = machine; members = l }) e
 
-pub late_first : {E : Type 0} (r : Result Decision E) (first : Option ℕ) (t : ℕ) (ms after : List Member) (name : List ℕ) (index by : ℕ)
-    → IfOk r (λ d. after ≡ effect t ms (Late name index by) d) → OnErr r (after ≡ ms) → NoneFreedBefore first ms → NoneFreedBefore first after
-late_first (Ok d) first t ms after name index by changed same h = subst (NoneFreedBefore first) (sym changed) (first_late first t ms name index by d h)
-late_first (Err e) first t ms after name index by changed same h = subst (NoneFreedBefore first) (sym same) h
+-- where nobody has the name nothing changes
+pub none_departs : (t : ℕ) (ms : List Member) (name : List ℕ) → member_named (present t ms) name ≡ None → present t ms ≡ present t (effect t (present t ms) (Depart name) (departure t (member_named (present t ms) name)))
+none_departs t ms name none = sym (filter_again (is_there t) ms) ∙ ap (λ (o : Option Member). present t (effect t (present t ms) (Depart name) (departure t o))) (sym none)
 
--- ---- quanta
+pub none_late : (t : ℕ) (ms : List Member) (name : List ℕ) (index by : ℕ) → member_named (present t ms) name ≡ None → present t ms ≡ present t (effect t (present t ms) (Late name index by) (late_release t (member_named (present t ms) name) index))
+none_late t ms name index by none = sym (filter_again (is_there t) ms) ∙ ap (λ (o : Option Member). present t (effect t (present t ms) (Late name index by) (late_release t o index))) (sym none)
 
-pub claimed_ran : (frame : ℕ) (name : List ℕ) (ms after : List Member) (b : Bool) → after ≡ (if b then ran name ms else ms) → claimed frame after ≡ claimed frame ms
-claimed_ran frame name ms after true is = ap (claimed frame) is ∙ claimed_change frame name with_quantum (λ _. refl) ms
-claimed_ran frame name ms after false is = ap (claimed frame) is
+-- what is decided on a late release
+pub if_decided : {E : Type 0} (r : Result Decision E) (t index : ℕ) {o p : Option Member} → o ≡ p → IfOk r (λ d. d ≡ late_release t o index) → IfOk r (λ d. d ≡ late_release t p index)
+if_decided (Ok d) t index same is = is ∙ ap (λ (o : Option Member). late_release t o index) same
+if_decided (Err e) t index same is = is
 
-pub first_ran : (first : Option ℕ) (name : List ℕ) (ms after : List Member) (b : Bool) → after ≡ (if b then ran name ms else ms) → NoneFreedBefore first ms → NoneFreedBefore first after
-first_ran first name ms after true is h = subst (NoneFreedBefore first) (sym is) (first_change first name with_quantum ms (λ _. refl) h)
-first_ran first name ms after false is h = subst (NoneFreedBefore first) (sym is) h
+pub late_decided : {E : Type 0} (r : Result Decision E) (machine : Machine) (t : ℕ) (old new : List Member) (name : List ℕ) (index by : ℕ) → IfOk r (λ d. d ≡ late_release t (member_named old name) index) → IfOk r (λ d. new ≡ present t (effect t old (Late name index by) d))
+    → OnOk r (◌≡◌ {A = Standing} (record { machine = machine; members = new }) (record { machine = machine; members = decided machine t old (Late name index by) }))
+late_decided (Ok d) machine t old new name index by is changed = stood machine (changed ∙ ap (λ (d : Decision). present t (effect t old (Late name index by) d)) is)
+late_decided (Err e) machine t old new name index by is changed = is
+
+pub late_same : {A E : Type 0} (r : Result A E) (machine : Machine) (old new : List Member) → OnErr r (new ≡ old) → OnErr r (◌≡◌ {A = Standing} (record { machine = machine; members = new }) (record { machine = machine; members = old }))
+late_same (Ok d) machine old new same = same
+late_same (Err e) machine old new same = stood machine same

@@ -2,11 +2,10 @@ mod Boundaries
 mod Changes
 mod Deciding
 mod Delays
-mod Gone
 mod Keeping
+mod Kept
 mod MemberLists
 pub mod NamesKept
-mod Rows
-mod Seats
+mod Registers
 mod Sums
-mod Swept
+mod Written

@@ -1,11 +1,12 @@
 -- Lists of members: who is freed, and what they claim.
-use Rattle.std.proofs.Common.{◌≡◌, ℕ, ◌+◌, ◌≤◌, true, false, cond, List, [], ◌∷◌, ◌++◌, Option, Some, None, refl, sym, ap, subst, ◌∙◌, arith}
-use Rattle.std.specs.Prelude.{not}
-use Rattle.std.proofs.lemmas.List.Sums.{sum_by-cons}
+use Rattle.std.proofs.Common.{◌≡◌, ℕ, zero, suc, ◌+◌, ◌<◌, ◌≤◌, true, false, cond, List, [], ◌∷◌, ◌++◌, get_or, length, take, Option, Some, None, refl, sym, ap, subst, ◌∙◌, arith}
+use Rattle.std.specs.Prelude.{not, slice_get}
+use Rattle.std.proofs.lemmas.Option.{same_Some, none-some, slice_get-get_or}
+use Rattle.std.proofs.lemmas.List.Sums.{sum_by-cons, sum_by_more, sum_by_more_le}
 use Rattle.std.proofs.lemmas.Bool.Decides.{nat_tests}
 use Rattle.pfair_weight.specs.Share.{Share, units_of}
 use Rattle.pfair_admission.specs.Member.{Member}
-use Rattle.pfair_admission.specs.Admission.{is_named, claimed, change, with_freeing, is_freed, present}
+use Rattle.pfair_admission.specs.Admission.{is_named, claimed, change, is_freed, present}
 use Rattle.pfair_admission.specs.Removal.{earlier_of, IsNotBefore, NoneFreedBefore, NoneFreed}
 use Rattle.pfair_admission.proofs.Sums.{sum_filter}
 
@@ -29,12 +30,6 @@ pub none_freed_push : (t : ℕ) (ms : List Member) (m : Member) → NoneFreed t 
 none_freed_push t [] m h stays = (stays, tt)
 none_freed_push t (x ∷ ms) m h stays = (h.0, none_freed_push t ms m h.1 stays)
 
--- a change that frees nobody
-pub none_freed_change : (t : ℕ) (name : List ℕ) (f : Member → Member) (ms : List Member) → ((m : Member) → is_freed t m.freed_at ≡ false → is_freed t (f m).freed_at ≡ false) → NoneFreed t ms → NoneFreed t (change name f ms)
-none_freed_change t name f [] keeps h = tt
-none_freed_change t name f (m ∷ ms) keeps h =
-    (elim (is_named name m) as (λ b. is_freed t (cond b (f m) m).freed_at ≡ false) [ true ↦ keeps m h.0 | false ↦ h.0 ], none_freed_change t name f ms keeps h.1)
-
 -- before the first freeing slot nobody is freed
 later_stays : (t : ℕ) (first slot : Option ℕ) → is_freed t first ≡ false → IsNotBefore first slot → is_freed t slot ≡ false
 later_stays t first None before not_before = refl
@@ -47,30 +42,20 @@ none_freed_before t first (m ∷ ms) before h = (later_stays t first m.freed_at 
 
 -- ---- the first freeing slot
 
-not_before_left : (first other slot : Option ℕ) → IsNotBefore first slot → IsNotBefore (earlier_of first other) slot
+pub not_before_left : (first other slot : Option ℕ) → IsNotBefore first slot → IsNotBefore (earlier_of first other) slot
 not_before_left None other None h = elim other [ None ↦ tt | Some x ↦ tt ]
 not_before_left None other (Some s) h = absurd h
 not_before_left (Some f) None slot h = h
 not_before_left (Some f) (Some x) None h = tt
 not_before_left (Some f) (Some x) (Some s) h = omega arith
 
-not_before_right : (first : Option ℕ) (slot : ℕ) → IsNotBefore (earlier_of first (Some slot)) (Some slot)
+pub not_before_right : (first : Option ℕ) (slot : ℕ) → IsNotBefore (earlier_of first (Some slot)) (Some slot)
 not_before_right None slot = omega arith
 not_before_right (Some f) slot = omega arith
 
--- with one more who departs
-pub first_departs : (first : Option ℕ) (slot : ℕ) (name : List ℕ) (ms : List Member) → NoneFreedBefore first ms → NoneFreedBefore (earlier_of first (Some slot)) (change name (with_freeing slot) ms)
-first_departs first slot name [] h = tt
-first_departs first slot name (m ∷ ms) h = (
-  elim (is_named name m) as (λ b. IsNotBefore (earlier_of first (Some slot)) (cond b (with_freeing slot m) m).freed_at) [ true ↦ not_before_right first slot | false ↦ not_before_left first (Some slot) m.freed_at h.0 ],
-  first_departs first slot name ms h.1,
-)
-
--- a change that sets no freeing slot
-pub first_change : (first : Option ℕ) (name : List ℕ) (f : Member → Member) (ms : List Member) → ((m : Member) → (f m).freed_at ≡ m.freed_at) → NoneFreedBefore first ms → NoneFreedBefore first (change name f ms)
-first_change first name f [] keeps h = tt
-first_change first name f (m ∷ ms) keeps h =
-    (elim (is_named name m) as (λ b. IsNotBefore first (cond b (f m) m).freed_at) [ true ↦ subst (IsNotBefore first) (sym (keeps m)) h.0 | false ↦ h.0 ], first_change first name f ms keeps h.1)
+pub first_earlier : (first other : Option ℕ) (ms : List Member) → NoneFreedBefore first ms → NoneFreedBefore (earlier_of first other) ms
+first_earlier first other [] h = tt
+first_earlier first other (m ∷ ms) h = (not_before_left first other m.freed_at h.0, first_earlier first other ms h.1)
 
 pub first_push : (first : Option ℕ) (ms : List Member) (m : Member) → m.freed_at ≡ None → NoneFreedBefore first ms → NoneFreedBefore first (ms ++ m ∷ [])
 first_push first [] m none h = (subst (IsNotBefore first) (sym none) tt, tt)
@@ -90,3 +75,19 @@ claimed_change frame name f keeps (m ∷ ms) =
 
 pub claimed_present : (frame t : ℕ) (ms : List Member) → claimed frame (present t ms) ≤ claimed frame ms
 claimed_present frame t ms = sum_filter (λ (m : Member). units_of m.weight frame) (λ (m : Member). not (is_freed t m.freed_at)) ms
+
+-- one member more
+inside : (ms : List Member) (place : ℕ) (m : Member) → slice_get ms place ≡ Some m → place < length ms
+inside [] place m at = absurd (none-some m at)
+inside (x ∷ ms) zero m at = omega arith
+inside (x ∷ ms) (suc place) m at = let rest = inside ms place m at in omega (arith, rest)
+
+pub claimed_more : (frame : ℕ) (ms : List Member) (place : ℕ) (m : Member) → slice_get ms place ≡ Some m → claimed frame (take (place + 1) ms) ≡ claimed frame (take place ms) + units_of m.weight frame
+claimed_more frame ms place m at =
+    let is = same_Some (get_or ms place m) m (sym (slice_get-get_or ms place m (inside ms place m at)) ∙ at) in
+    sum_by_more (λ (x : Member). units_of x.weight frame) ms place m (inside ms place m at) ∙ ap (λ (x : Member). claimed frame (take place ms) + units_of x.weight frame) is
+
+pub claimed_part : (frame : ℕ) (ms : List Member) (place : ℕ) (m : Member) → slice_get ms place ≡ Some m → claimed frame (take place ms) + units_of m.weight frame ≤ claimed frame ms
+claimed_part frame ms place m at =
+    let is = same_Some (get_or ms place m) m (sym (slice_get-get_or ms place m (inside ms place m at)) ∙ at) in
+    subst (λ (x : Member). claimed frame (take place ms) + units_of x.weight frame ≤ claimed frame ms) is (sum_by_more_le (λ (x : Member). units_of x.weight frame) ms place m (inside ms place m at))

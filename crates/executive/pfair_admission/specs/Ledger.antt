@@ -1,27 +1,102 @@
 -- What the ledger of members keeps.
-use Rattle.std.specs.Prelude.{ℕ, ◌≡◌, ◌≤◌, ◌*◌, List, Option, Some, None}
+use Rattle.std.specs.Prelude.{ℕ, ◌≡◌, ◌≤◌, ◌<◌, ◌*◌, Bool, true, not, nat_eq, List, filter, slice_get, Option, Some, None, is_some}
+use Rattle.std.specs.List.{AllByRecursion, IsDistinct}
+use Rattle.std.specs.Map.{keys_of, values_of, lookup}
+use Rattle.pfair_weight.specs.Name.{NameValue, name_eq}
+use Rattle.pfair_entry.specs.declared.announcement.Announcement.{Announcement}
+use Rattle.pfair_admission.specs.declared.decision.Decision.{Decision}
 use Rattle.pfair_admission.specs.Member.{Member}
-use Rattle.pfair_admission.specs.Admission.{Machine, claimed, present}
+use Rattle.pfair_admission.specs.Admission.{all_decided, all_decisions, claimed, decided, decision, is_freed, is_named, member_named, present}
 use Rattle.pfair_admission.specs.Removal.{NoneFreedBefore}
 use Rattle.pfair_admission.specs.Standing.{Standing}
 use Rattle.pfair_admission.specs.declared.members.TheConstants.Members.{MAX_PROCESSORS, MAX_FRAME}
-use Rattle.pfair_admission.specs.declared.ledger.Ledger.TheInside.{Inside}
+use Rattle.pfair_admission.specs.declared.ledger.Ledger.{Ledger}
 
--- those that count: while a boundary is under way, who is freed by its slot is gone
-abbrev pub counted : Option ℕ → List Member → List Member
-counted None members = members
-counted (Some slot) members = present slot members
+-- the members, in the order of admission, with those that are gone
+abbrev pub listed : Ledger → List Member
+listed a = values_of a.members.entries
 
--- what stands where these are in the registry
-abbrev pub standing : Machine → Option ℕ → List Member → Standing
-standing machine under_way members = record { machine = machine; members = counted under_way members; under_way = under_way }
+-- whether the member isn't freed by slot t
+abbrev pub is_there : ℕ → Member → Bool
+is_there t m = not (is_freed t m.freed_at)
 
-abbrev pub standing_of : Inside → Standing
-standing_of a = standing (record { processors = a.processors; frame = a.frame }) a.under_way a.registry
+-- the machine and its members at the boundary of slot t
+abbrev pub standing : ℕ → Ledger → Standing
+standing t a = record { machine = record { processors = a.processors; frame = a.frame }; members = present t (listed a) }
 
-pub record IsLedger (a : Inside) : Type 0 where
+-- ---- decisions
+
+abbrev pub told : ℕ → Announcement → Standing → Decision
+told t announcement s = decision s.machine t s.members announcement
+
+abbrev pub after : ℕ → Announcement → Standing → Standing
+after t announcement s = record s { members = decided s.machine t s.members announcement }
+
+abbrev pub all_told : ℕ → List Announcement → Standing → List Decision
+all_told t announced s = all_decisions s.machine t s.members announced
+
+abbrev pub after_all : ℕ → List Announcement → Standing → Standing
+after_all t announced s = record s { members = all_decided s.machine t s.members announced }
+
+-- ---- names and numbers
+
+-- the members, by the number of their admission
+abbrev pub Numbered : Type 0
+Numbered = List (ℕ × Member)
+
+abbrev pub has_number : ℕ → Numbered → Bool
+has_number number members = is_some (lookup (nat_eq number) members)
+
+-- the number is that of a member of that name
+pub record IsNumberOf (members : Numbered) (name : NameValue) (number : ℕ) : Type 0 where
+  pub member : Member
+  pub at : lookup (nat_eq number) members ≡ Some member
+  pub named : member.name ≡ name
+
+-- the name leads to the member, if that counts
+abbrev pub IsNamedIn : (Member → Bool) → List (NameValue × ℕ) → ℕ × Member → Type 0
+IsNamedIn counts names e = counts e.1 ≡ true → lookup (name_eq e.1.name) names ≡ Some e.0
+
+-- each name leads to a member of that name, and to each member that counts leads its name
+pub record IsRegister (counts : Member → Bool) (admitted : ℕ) (members : Numbered) (names : List (NameValue × ℕ)) : Type 0 where
+  pub numbered : AllByRecursion (λ e. e.0 < admitted) members
+  pub unique : IsDistinct nat_eq (keys_of members)
+  pub named : AllByRecursion (λ e. IsNumberOf members e.0 e.1) names
+  pub found : AllByRecursion (IsNamedIn counts names) members
+
+abbrev pub HasRegister : (Member → Bool) → Ledger → Type 0
+HasRegister counts a = IsRegister counts a.admitted a.members.entries a.names.entries
+
+-- at the place is a member of that name, and no other one that counts has the name
+pub record IsOnly (counts : Member → Bool) (name : NameValue) (members : List Member) (place : ℕ) (m : Member) : Type 0 where
+  pub at : slice_get members place ≡ Some m
+  pub named : is_named name m ≡ true
+  pub only : (other : ℕ) (x : Member) → slice_get members other ≡ Some x → counts x ≡ true → is_named name x ≡ true → other ≡ place
+
+-- where the latest member of that name is
+abbrev pub IsFound : (Member → Bool) → NameValue → List Member → Option ℕ → Type 0
+IsFound counts name members None = member_named (filter counts members) name ≡ None
+IsFound counts name members (Some place) = (m : Member) × IsOnly counts name members place m
+
+-- and it counts
+abbrev pub IsPlace : (Member → Bool) → NameValue → List Member → ℕ → Type 0
+IsPlace counts name members place = (m : Member) × IsOnly counts name members place m × (counts m ≡ true)
+
+-- the members that count and their units
+pub record IsLedger (counts : Member → Bool) (a : Ledger) : Type 0 where
+  pub register : HasRegister counts a
   pub few_processors : a.processors ≤ MAX_PROCESSORS
   pub short_frame : a.frame ≤ MAX_FRAME
   pub room : a.claim ≤ a.processors * a.frame
-  pub total : a.claim ≡ claimed a.frame (counted a.under_way a.registry)
-  pub first : NoneFreedBefore a.first_freeing a.registry
+  pub total : a.claim ≡ claimed a.frame (filter counts (listed a))
+  pub first : NoneFreedBefore a.first_freeing (listed a)
+
+-- before those that are gone by slot t are dropped: the claim is that of all, or without theirs
+pub record IsUnswept (t : ℕ) (a : Ledger) : Type 0 where
+  pub register : HasRegister (is_there t) a
+  pub few_processors : a.processors ≤ MAX_PROCESSORS
+  pub short_frame : a.frame ≤ MAX_FRAME
+  pub room : a.claim ≤ a.processors * a.frame
+  pub least : claimed a.frame (present t (listed a)) ≤ a.claim
+  pub most : a.claim ≤ claimed a.frame (listed a)
+  pub first : NoneFreedBefore a.first_freeing (listed a)

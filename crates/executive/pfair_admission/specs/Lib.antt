@@ -6,7 +6,6 @@ pub mod Ledger
 pub mod Member
 pub mod Members
 pub mod Refusal
-pub mod Registry
 pub mod Removal
 pub mod Roster
 pub mod Standing

@@ -1,13 +1,20 @@
 -- What the members keep.
-use Rattle.std.specs.Prelude.{◌≡◌, ◌≤◌, None}
+use Rattle.std.specs.Prelude.{◌≤◌, true}
 use Rattle.pfair_admission.specs.Roster.{Roster, EachBounded}
+use Rattle.pfair_admission.specs.Ledger.{listed, IsLedger}
 use Rattle.pfair_admission.specs.declared.members.TheConstants.Members.{MAX_HEARD}
 use Rattle.pfair_admission.specs.declared.members.Members.TheInside.{Inside}
 
 abbrev pub roster_of : Inside → Roster
-roster_of a = record { machine = a.ledger.machine; members = a.ledger.members; heard = a.heard; last_slot = a.last_slot }
+roster_of a = record {
+  machine = record { processors = a.ledger.processors; frame = a.ledger.frame };
+  members = listed a.ledger;
+  heard = a.heard;
+  last_slot = a.last_slot;
+}
 
 pub record IsKept (a : Inside) : Type 0 where
   pub few_heard : a.heard ≤ MAX_HEARD
-  pub bounded : EachBounded a.heard a.ledger.members
-  pub settled : a.ledger.under_way ≡ None
+  pub admitted : a.ledger.admitted ≤ a.heard
+  pub bounded : EachBounded a.heard (listed a.ledger)
+  pub kept : IsLedger (λ _. true) a.ledger

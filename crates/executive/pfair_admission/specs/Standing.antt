@@ -1,9 +1,8 @@
 -- The members, with the machine that they share.
-use Rattle.std.specs.Prelude.{ℕ, List, Option}
+use Rattle.std.specs.Prelude.{List}
 use Rattle.pfair_admission.specs.Member.{Member}
 use Rattle.pfair_admission.specs.Admission.{Machine}
 
 pub record Standing : Type 0 where
   pub machine : Machine
   pub members : List Member
-  pub under_way : Option ℕ  -- the slot of the boundary that is under way

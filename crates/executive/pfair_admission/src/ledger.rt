@@ -1,196 +1,120 @@
-//! The members and the units that they claim, and the decisions on announcements.
-ghost use Rattle.std.specs.Prelude.{◌≡◌, ℕ, ◌≤◌, ◌<◌, ◌+◌, ◌-◌, ◌*◌, ◌++◌, ◌∷◌, [], ◌^◌, OnOk, OnErr, IfOk, None, Some, length, take};
-ghost use Rattle.pfair_weight.specs.Share.{Share};
+//! The members of a machine at the boundary of a slot, and the decisions on announcements.
+ghost use Rattle.std.specs.Prelude.{◌≡◌, ℕ, ◌≤◌, ◌<◌, ◌+◌, ◌-◌, ◌*◌, ◌^◌, Bool, true, false, [], filter, nat_eq, OnOk, OnErr, IfOk, IfSome, IfNone, None, Some, length, take};
+ghost use Rattle.std.specs.List.{AllByRecursion};
+ghost use Rattle.indexmap.specs.IndexMap.{values, IsUnique};
+ghost use Rattle.pfair_weight.specs.Share.{Share, units_of};
 ghost use Rattle.pfair_entry.specs.Entry.{IsWithinLimits};
 ghost use Rattle.pfair_entry.specs.declared.announcement.Announcement.TheVariants.{Arrive, Depart, Late};
-ghost use Rattle.std.specs.Prelude.{is_some, if◌then◌else◌};
-ghost use Rattle.std.specs.List.{AllByRecursion};
-ghost use Rattle.std.specs.Option.{ForSome, option_map};
-ghost use Rattle.pfair_admission.specs.Admission.{member_named, arrival, departure, late_release, announcements, decision, present, decided, all_decided, all_decisions, boundary, boundary_decisions, running, ran, quantum_of};
-ghost use Rattle.pfair_admission.specs.Removal.{NoneFreed};
-ghost use Rattle.pfair_admission.specs.Roster.{EachBounded, EachHasRoom, LeavesBeginning};
+ghost use Rattle.pfair_admission.specs.Member.{Member};
+ghost use Rattle.pfair_admission.specs.Admission.{member_named, arrival, announcements, claimed, is_freed, present};
+ghost use Rattle.pfair_admission.specs.Removal.{earlier_of, NoneFreed, NoneFreedBefore};
+ghost use Rattle.pfair_admission.specs.Roster.{EachBounded, EachHasRoom};
+ghost use Rattle.pfair_admission.specs.Ledger.{after, after_all, all_told, has_number, is_there, listed, standing, told, HasRegister, IsFound, IsLedger, IsPlace, IsUnswept};
 
 use crate::decision::Decision;
 use crate::incarnation::{Incarnation, has_come};
 use crate::members::Members;
-use crate::quantum::Quantum;
 use crate::refusal::Refusal;
-use crate::registry::{Registry, claim_of, earlier};
+use indexmap::IndexMap;
 use pfair_entry::{Announcement, Entry, Said};
-use pfair_weight::{MAX_INDEX, MAX_OFFSET, TaskName, Weight};
+use pfair_weight::{MAX_OFFSET, TaskName, Weight};
 use std::alloc::{AllocError, Global};
-use std::marker::Model;
 
-/// The members of a machine, with a running total of their units and the first slot in which one
-/// of them is freed.
+/// The members of a machine, by name and in the order of their admission.
 ///
-/// While a boundary is under way, a member that is freed by its slot stays in the registry, and
-/// counts as gone: its name and its units are free, and nobody finds it. All such go in one pass
-/// where the boundary ends.
+/// During the boundary of a slot, who is freed by that slot no longer counts: the name and the
+/// units are free at once. The map keeps such a member until the boundary ends, since removing one
+/// from among the others is O(n), and a name can come and go thousands of times in a boundary.
 #[derive(Drop)]
 pub(crate) struct Ledger {
-    processors: u8,
-    frame: u64,
-    registry: Registry,
-    claim: u64,
-    first_freeing: Option<u64>,
-    // The slot of the boundary that is under way.
-    under_way: Option<u64>,
-}
-
-impl Model for Ledger {
-    ghost use Rattle.pfair_admission.specs.Standing.{Standing};
-
-    ghost Value = { Standing };
-
-    ghost use Rattle.pfair_admission.specs.Ledger.{standing_of, IsLedger};
-
-    ghost view = { standing_of };
-
-    ghost invariant = { IsLedger };
+    pub alloc: Global,
+    pub processors: u8,
+    pub frame: u64,
+    // By the number of their admission, so in its order.
+    pub members: IndexMap<u64, Incarnation>,
+    // The number of the latest member of each name.
+    pub names: IndexMap<TaskName, u64>,
+    // The number of the next admission.
+    pub admitted: u64,
+    // The units of those that count.
+    pub claim: u64,
+    // No member is freed before this slot.
+    pub first_freeing: Option<u64>,
 }
 
 impl Ledger {
-    pub(crate) fn new(alloc: Global, processors: u8, frame: u64) -> Self
-        requires processors { processors ≤ Members.MAX_PROCESSORS }
-        requires frame { frame ≤ Members.MAX_FRAME }
-        ensures { result ≡ record { machine = record { processors = processors; frame = frame }; members = []; under_way = None } }
+    /// Returns where the latest member of that name is in the order of admission.
+    pub(crate) fn find(&self, name: &TaskName) -> Option<usize>
+        ensures { (counts : Member → Bool) → HasRegister counts self.now → IsFound counts name.now (listed self.now) result }
     {
-        Ledger {
-            processors,
-            frame,
-            registry: Registry::new(alloc),
-            claim: 0,
-            first_freeing: None,
-            under_way: None,
+        let number = self.names.get(name)?;
+        self.members.get_index_of(number)
+    }
+
+    /// Drops the members that are freed by `slot`, in the order of the others. Allocates nothing.
+    ///
+    /// O(n) for n members if one of them may be freed by then, and else O(1).
+    pub(crate) fn sweep(&mut self, slot: u64)
+        requires { IsUnswept slot self.old }
+        ensures same { standing slot self.new ≡ standing slot self.old }
+        ensures gone { NoneFreed slot (listed self.new) }
+        ensures kept { IsLedger (λ _. true) self.new }
+        ensures admitted { self.new.admitted ≡ self.old.admitted }
+    {
+        if !has_come(self.first_freeing, slot) {
+            return;
         }
+        keep_present(&mut self.members, slot);
+        keep_names(&mut self.names, &self.members);
+        self.claim = units(&self.members, self.frame);
+        self.first_freeing = first_freeing(&self.members);
     }
 
-    /// The members, while no boundary is under way.
-    pub(crate) fn registry(&self) -> &Registry
-        requires { self.now.under_way ≡ None }
-        ensures { result.now ≡ self.now.members }
-    {
-        &self.registry
-    }
-
-    /// The boundary of `slot`: those whose freeing slot has come go, and then the announcements are
-    /// decided one by one.
-    pub(crate) fn boundary(
+    /// Decides the announcements one by one.
+    pub(crate) fn decide_all(
         &mut self,
-        alloc: Global,
         slot: u64,
         announced: &[Said],
     ) -> Result<Vec<Decision>, AllocError>
         requires slot { slot ≤ Entry.LAST_SLOT }
-        requires settled { self.old.under_way ≡ None }
-        requires few { length announced.now ≤ Members.MAX_HEARD }
-        requires bounded { EachBounded (Members.MAX_HEARD - length announced.now) self.old.members }
+        requires kept { IsLedger (is_there slot) self.old }
+        requires few { self.old.admitted + length announced.now ≤ Members.MAX_HEARD }
+        requires bounded { EachBounded (Members.MAX_HEARD - length announced.now) (present slot (listed self.old)) }
         requires limits { AllByRecursion (λ a. IsWithinLimits a.2) announced.now }
-        ensures decisions { IfOk result (λ all. all.items ≡ boundary_decisions self.old.machine slot self.old.members (announcements announced.now)) }
-        ensures members { OnOk result (self.new.members ≡ boundary self.old.machine slot self.old.members (announcements announced.now)) }
-        ensures err { OnErr result (LeavesBeginning self.old.machine slot self.old.members (announcements announced.now) self.new.members) }
+        ensures decisions { IfOk result (λ all. all.items ≡ all_told slot (announcements announced.now) (standing slot self.old)) }
+        ensures members { OnOk result (standing slot self.new ≡ after_all slot (announcements announced.now) (standing slot self.old)) }
+        ensures err { OnErr result ((k : ℕ) × (standing slot self.new ≡ after_all slot (take k (announcements announced.now)) (standing slot self.old))) }
         ensures wanted { OnErr result (0 < length announced.now) }
-        ensures machine { self.new.machine ≡ self.old.machine }
-        ensures settled { self.new.under_way ≡ None }
-        ensures bounded { (heard : ℕ) → EachBounded heard self.old.members → EachBounded (heard + length announced.now) self.new.members }
+        ensures kept { IsLedger (is_there slot) self.new }
+        ensures machine { (standing slot self.new).machine ≡ (standing slot self.old).machine }
+        ensures admitted { self.new.admitted ≤ self.old.admitted + length announced.now }
+        ensures bounded { (heard : ℕ) → EachBounded heard (present slot (listed self.old)) → EachBounded (heard + length announced.now) (present slot (listed self.new)) }
     {
-        self.begin(slot);
-        let decisions = self.decide_all(alloc, slot, announced);
-        self.finish();
-        decisions
-    }
-
-    // The boundary of `slot` begins: those whose freeing slot has come go.
-    fn begin(&mut self, slot: u64)
-        requires { self.old.under_way ≡ None }
-        ensures { self.new ≡ record self.old { members = present slot self.old.members; under_way = Some slot } }
-    {
-        self.free(slot);
-        self.under_way = Some(slot);
-    }
-
-    // Those whose freeing slot has come go.
-    fn free(&mut self, slot: u64)
-        requires { self.old.under_way ≡ None }
-        ensures members { self.new ≡ record self.old { members = present slot self.old.members } }
-        ensures present { NoneFreed slot self.new.members }
-    {
-        if has_come(self.first_freeing, slot) {
-            self.registry.keep_present(slot);
-            self.claim = self.registry.claimed(self.frame);
-            self.first_freeing = self.registry.first_freeing();
-        }
-    }
-
-    // The boundary that is under way is over: those who count as gone go.
-    fn finish(&mut self)
-        ensures { self.new ≡ record self.old { under_way = None } }
-    {
-        if let Some(slot) = self.under_way {
-            self.first_freeing = self.registry.free(self.first_freeing, slot);
-            self.under_way = None;
-        }
-    }
-
-    // The announcements are decided one by one.
-    fn decide_all(
-        &mut self,
-        alloc: Global,
-        slot: u64,
-        announced: &[Said],
-    ) -> Result<Vec<Decision>, AllocError>
-        requires slot { slot ≤ Entry.LAST_SLOT }
-        requires under_way { self.old.under_way ≡ Some slot }
-        requires few { length announced.now ≤ Members.MAX_HEARD }
-        requires bounded { EachBounded (Members.MAX_HEARD - length announced.now) self.old.members }
-        requires limits { AllByRecursion (λ a. IsWithinLimits a.2) announced.now }
-        ensures decisions { IfOk result (λ all. all.items ≡ all_decisions self.old.machine slot self.old.members (announcements announced.now)) }
-        ensures members { OnOk result (self.new ≡ record self.old { members = all_decided self.old.machine slot self.old.members (announcements announced.now) }) }
-        ensures err { OnErr result ((k : ℕ) × (self.new ≡ record self.old { members = all_decided self.old.machine slot self.old.members (take k (announcements announced.now)) })) }
-        ensures wanted { OnErr result (0 < length announced.now) }
-        ensures machine { self.new.machine ≡ self.old.machine }
-        ensures under_way { self.new.under_way ≡ Some slot }
-        ensures bounded { (heard : ℕ) → EachBounded heard self.old.members → EachBounded (heard + length announced.now) self.new.members }
-    {
-        let mut all = Vec::new(alloc);
+        let mut all = Vec::new(self.alloc);
         for said in announced {
-            all.push(self.decide(alloc, slot, said.2)?)?;
+            all.push(self.decide(slot, said.2)?)?;
         }
         Ok(all)
     }
 
-    /// Gives a member that isn't departing a quantum, and answers it.
-    pub(crate) fn run_on(&mut self, name: &TaskName) -> Option<Quantum>
-        requires settled { self.old.under_way ≡ None }
-        requires more { ForSome (member_named self.old.members name.now) (λ m. m.next < MAX_INDEX) }
-        ensures quantum { result ≡ option_map quantum_of (running (member_named self.old.members name.now)) }
-        ensures members { self.new ≡ (if is_some result then record self.old { members = ran name.now self.old.members } else self.old) }
-    {
-        self.registry.run_on(name)
-    }
-
-    // Decides an announcement at the boundary of `slot`.
-    fn decide(
-        &mut self,
-        alloc: Global,
-        slot: u64,
-        announcement: Announcement,
-    ) -> Result<Decision, AllocError>
+    fn decide(&mut self, slot: u64, announcement: Announcement) -> Result<Decision, AllocError>
         requires slot { slot ≤ MAX_OFFSET }
-        requires under_way { self.old.under_way ≡ Some slot }
-        requires room { EachHasRoom self.old.members }
+        requires kept { IsLedger (is_there slot) self.old }
+        requires few { self.old.admitted < Members.MAX_HEARD }
+        requires room { EachHasRoom (present slot (listed self.old)) }
         requires limits { IsWithinLimits announcement }
-        ensures decision { IfOk result (λ d. d ≡ decision self.old.machine slot self.old.members announcement) }
-        ensures members { OnOk result (self.new ≡ record self.old { members = decided self.old.machine slot self.old.members announcement }) }
-        ensures err { OnErr result (self.new ≡ self.old) }
+        ensures decision { IfOk result (λ d. d ≡ told slot announcement (standing slot self.old)) }
+        ensures members { OnOk result (standing slot self.new ≡ after slot announcement (standing slot self.old)) }
+        ensures err { OnErr result (standing slot self.new ≡ standing slot self.old) }
+        ensures kept { IsLedger (is_there slot) self.new }
+        ensures admitted { self.new.admitted ≤ self.old.admitted + 1 }
     {
         match announcement {
             Announcement::Arrive {
                 name,
                 weight,
                 early,
-            } => { self.admit(alloc, slot, name, weight, early) }
+            } => { self.admit(slot, name, weight, early) }
             Announcement::Depart { name } => Ok(self.depart(slot, &name)),
             Announcement::Late { name, index, by } => self.delay(slot, &name, index, by),
         }
@@ -198,34 +122,39 @@ impl Ledger {
 
     fn admit(
         &mut self,
-        alloc: Global,
         slot: u64,
         name: TaskName,
         weight: Weight,
         early: bool,
     ) -> Result<Decision, AllocError>
         requires slot { slot ≤ MAX_OFFSET }
-        requires under_way { self.old.under_way ≡ Some slot }
-        ensures decision { IfOk result (λ d. d ≡ arrival self.old.machine self.old.members name weight) }
-        ensures members { OnOk result (self.new ≡ record self.old { members = decided self.old.machine slot self.old.members (Arrive name weight early) }) }
-        ensures err { OnErr result (self.new ≡ self.old) }
+        requires kept { IsLedger (is_there slot) self.old }
+        requires few { self.old.admitted < Members.MAX_HEARD }
+        ensures decision { IfOk result (λ d. d ≡ told slot (Arrive name weight early) (standing slot self.old)) }
+        ensures members { OnOk result (standing slot self.new ≡ after slot (Arrive name weight early) (standing slot self.old)) }
+        ensures err { OnErr result (standing slot self.new ≡ standing slot self.old) }
+        ensures kept { IsLedger (is_there slot) self.new }
+        ensures admitted { self.new.admitted ≤ self.old.admitted + 1 }
     {
         let decision = self.arrival(slot, &name, weight);
         if let Decision::Admitted = decision {
-            self.registry.make_way(slot, &name);
-            self.registry
-                .enter(Incarnation::new(alloc, name, weight, early, slot))?;
+            self.members.reserve(1)?;
+            self.names.reserve(1)?;
+            let newcomer = Incarnation::new(self.alloc, name, weight, early, slot);
+            self.members.insert(self.admitted, newcomer).unwrap();
+            self.names.insert(name, self.admitted).unwrap();
+            self.admitted += 1;
             self.claim += claim_of(weight, self.frame);
         }
         Ok(decision)
     }
 
-    // What is decided on the arrival of a task.
+    // Decides on the arrival of a task.
     fn arrival(&self, slot: u64, name: &TaskName, weight: Weight) -> Decision
-        requires { self.now.under_way ≡ Some slot }
-        ensures { result ≡ arrival self.now.machine self.now.members name.now weight }
+        requires { IsLedger (is_there slot) self.now }
+        ensures { result ≡ arrival (standing slot self.now).machine (present slot (listed self.now)) name.now weight }
     {
-        if self.has(slot, name) {
+        if self.place_of(slot, name).is_some() {
             return Decision::Refused(Refusal::NameTaken);
         }
         let Some(units) = weight.units(self.frame) else {
@@ -237,24 +166,22 @@ impl Ledger {
         Decision::Admitted
     }
 
-    // Whether a member has that name.
-    fn has(&self, slot: u64, name: &TaskName) -> bool
-        requires { self.now.under_way ≡ Some slot }
-        ensures { result ≡ is_some (member_named self.now.members name.now) }
-    {
-        self.registry.has(slot, name)
-    }
-
     fn depart(&mut self, slot: u64, name: &TaskName) -> Decision
-        requires { self.old.under_way ≡ Some slot }
-        ensures decision { result ≡ departure slot (member_named self.old.members name.now) }
-        ensures members { self.new ≡ record self.old { members = decided self.old.machine slot self.old.members (Depart name.now) } }
+        requires { IsLedger (is_there slot) self.old }
+        ensures decision { result ≡ told slot (Depart name.now) (standing slot self.old) }
+        ensures members { standing slot self.new ≡ after slot (Depart name.now) (standing slot self.old) }
+        ensures kept { IsLedger (is_there slot) self.new }
+        ensures admitted { self.new.admitted ≡ self.old.admitted }
     {
-        let decision = self.registry.depart(slot, name);
+        let Some(place) = self.place_of(slot, name) else {
+            return Decision::Refused(Refusal::NoSuchTask);
+        };
+        let weight = self.members[place].weight();
+        let decision = self.members[place].depart(slot);
         if let Decision::Departing { freed_at } = decision {
             self.first_freeing = earlier(self.first_freeing, Some(freed_at));
             if freed_at <= slot {
-                self.claim -= self.registry.units_of(name, self.frame);
+                self.claim -= claim_of(weight, self.frame);
             }
         }
         decision
@@ -267,13 +194,95 @@ impl Ledger {
         index: u64,
         by: u64,
     ) -> Result<Decision, AllocError>
-        requires under_way { self.old.under_way ≡ Some slot }
-        requires room { EachHasRoom self.old.members }
+        requires kept { IsLedger (is_there slot) self.old }
+        requires room { EachHasRoom (present slot (listed self.old)) }
         requires limits { IsWithinLimits (Late name.now index by) }
-        ensures decision { IfOk result (λ d. d ≡ late_release slot (member_named self.old.members name.now) index) }
-        ensures members { OnOk result (self.new ≡ record self.old { members = decided self.old.machine slot self.old.members (Late name.now index by) }) }
-        ensures err { OnErr result (self.new ≡ self.old) }
+        ensures decision { IfOk result (λ d. d ≡ told slot (Late name.now index by) (standing slot self.old)) }
+        ensures members { OnOk result (standing slot self.new ≡ after slot (Late name.now index by) (standing slot self.old)) }
+        ensures err { OnErr result (standing slot self.new ≡ standing slot self.old) }
+        ensures kept { IsLedger (is_there slot) self.new }
+        ensures admitted { self.new.admitted ≡ self.old.admitted }
     {
-        self.registry.delay(slot, name, index, by)
+        let Some(place) = self.place_of(slot, name) else {
+            return Ok(Decision::Refused(Refusal::NoSuchTask));
+        };
+        self.members[place].delay(slot, index, by)
+    }
+
+    // Returns where the member of that name is, unless it is freed by `slot`.
+    fn place_of(&self, slot: u64, name: &TaskName) -> Option<usize>
+        requires { HasRegister (is_there slot) self.now }
+        ensures some { IfSome result (λ place. IsPlace (is_there slot) name.now (listed self.now) place) }
+        ensures none { IfNone result (member_named (present slot (listed self.now)) name.now ≡ None) }
+    {
+        let place = self.find(name)?;
+        if has_come(self.members[place].freed_at(), slot) {
+            return None;
+        }
+        Some(place)
+    }
+}
+
+// Drops the members that are freed by `slot`.
+fn keep_present(members: &mut IndexMap<u64, Incarnation>, slot: u64)
+    ensures entries { members.new.entries ≡ filter (λ e. is_there slot e.1) members.old.entries }
+    ensures unique { IsUnique nat_eq members.new }
+{
+    members.retain(
+        |_number: &u64, member: &mut Incarnation| -> bool
+            ensures { (result ≡ is_there slot member.old) × (member.new ≡ member.old) }
+        { !has_come(member.freed_at(), slot) },
+    );
+}
+
+// Drops the names that have no member.
+fn keep_names(names: &mut IndexMap<TaskName, u64>, members: &IndexMap<u64, Incarnation>)
+    ensures { names.new.entries ≡ filter (λ e. has_number e.1 members.now.entries) names.old.entries }
+{
+    names.retain(
+        |_name: &TaskName, number: &mut u64| -> bool
+            ensures { (result ≡ has_number number.old members.entry.now.entries) × (number.new ≡ number.old) }
+        { members.contains_key(&*number) },
+    );
+}
+
+// Returns the units of all members.
+fn units(members: &IndexMap<u64, Incarnation>, frame: u64) -> u64
+    requires { claimed frame (values members.now) < 2 ^ 64 }
+    ensures { result ≡ claimed frame (values members.now) }
+{
+    let mut total = 0;
+    for place in 0..members.len() {
+        total += claim_of(members[place].weight(), frame);
+    }
+    total
+}
+
+// Returns the first slot in which a member is freed.
+fn first_freeing(members: &IndexMap<u64, Incarnation>) -> Option<u64>
+    ensures { NoneFreedBefore result (values members.now) }
+{
+    let mut first = None;
+    for place in 0..members.len() {
+        first = earlier(first, members[place].freed_at());
+    }
+    first
+}
+
+// Returns the units of a weight whose period divides the frame.
+fn claim_of(weight: Weight, frame: u64) -> u64
+    ensures value { result ≡ units_of weight frame }
+    ensures within { result ≤ frame }
+{
+    weight.cost() * (frame / weight.period())
+}
+
+// Returns the earlier of two slots, if there are any.
+fn earlier(left: Option<u64>, right: Option<u64>) -> Option<u64>
+    ensures { result ≡ earlier_of left right }
+{
+    match (left, right) {
+        (Some(a), Some(b)) => Some(a.min(b)),
+        (None, other) | (other, None) => other,
     }
 }

@@ -9,7 +9,6 @@ pub(crate) mod ledger;
 mod members;
 mod quantum;
 mod refusal;
-pub(crate) mod registry;
 
 pub use decision::Decision;
 pub use delay::Delay;

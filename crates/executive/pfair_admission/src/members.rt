@@ -11,16 +11,16 @@ use crate::decision::Decision;
 use crate::incarnation::Incarnation;
 use crate::ledger::Ledger;
 use crate::quantum::Quantum;
+use indexmap::IndexMap;
 use pfair_entry::{Announcement, Entry, Said};
 use pfair_weight::TaskName;
 use std::alloc::{AllocError, Global};
 use std::marker::Model;
 
-/// The members of a machine, in the order of their admission: the tasks that were admitted and are
-/// not freed.
+/// The members of a machine, in the order of their admission: the tasks that were admitted and not
+/// freed yet.
 #[derive(Drop)]
 pub struct Members {
-    alloc: Global,
     ledger: Ledger,
     heard: u64,
     last_slot: Option<u64>,
@@ -48,8 +48,8 @@ impl Members {
     /// The most announcements over all boundaries.
     pub const MAX_HEARD: u64 = 262_144;
 
-    /// No member, on a machine of 1 to 64 processors with frames of 1 to 1,000,000,000 slots.
-    /// Takes no memory.
+    /// Creates a machine without members, with 1 to 64 processors and frames of 1 to 1,000,000,000
+    /// slots. Allocates nothing.
     pub fn new(alloc: Global, processors: u8, frame: u64) -> Self
         requires some_processor { 1 ≤ processors }
         requires few_processors { processors ≤ Members.MAX_PROCESSORS }
@@ -58,37 +58,34 @@ impl Members {
         ensures { result ≡ record { machine = record { processors = processors; frame = frame }; members = []; heard = 0; last_slot = None } }
     {
         Members {
-            alloc,
-            ledger: Ledger::new(alloc, processors, frame),
+            ledger: Ledger {
+                alloc,
+                processors,
+                frame,
+                members: IndexMap::new(alloc),
+                names: IndexMap::new(alloc),
+                admitted: 0,
+                claim: 0,
+                first_freeing: None,
+            },
             heard: 0,
             last_slot: None,
         }
     }
 
-    /// The boundary of `slot`, which is at most 1,000,000 and not before that of an earlier call:
-    /// first each member whose freeing slot is at most `slot` is gone, and then the announcements
-    /// are decided one by one in their order. There are at most 262,144 announcements over all
-    /// calls.
+    /// Drops the members that are freed by `slot`, decides the announcements one by one in their
+    /// order, and returns the decisions.
     ///
-    /// It costs four passes over all members where a freeing slot has come since the last boundary,
-    /// three where members depart and are freed at this very slot, and none where neither is so;
-    /// in these passes a look-up for each member that goes, and for each that was admitted after the
-    /// first of them. Then each announcement costs a look-up of its name, and
+    /// `slot` is at most 1,000,000 and not before that of an earlier call. At most 262,144
+    /// announcements are handed in over all calls.
     ///
-    /// - an arrival: three more where it is admitted, whoever had the name before. Nobody is moved
-    ///   for it, but for the first 2,048 members and the names of the first 1,024: now and then room
-    ///   is taken for twice as many names, and each arrival from then on moves eight names there,
-    ///   until when a look-up may be one in each of two maps;
-    /// - a departure: a pass over the accepted delays of the member where it ran, and a second
-    ///   look-up where it is freed at its very stamp;
-    /// - a late release: a number of steps that grows with the logarithm of the number of later
-    ///   subtasks that are put off, and a pass over the accepted delays of the member where the
-    ///   offset of its next subtask would have the named one released before `slot`.
+    /// O(n) for n members if one is freed by `slot`. Then O(1) amortized for each arrival; for a
+    /// member with d accepted delays O(d) for a departure and for a late release.
     ///
     /// # Errors
-    /// [`AllocError`] where memory was refused, which is only where something was announced. The
-    /// members are then those that the frees and some beginning of the announcements leave, and all
-    /// announcements count as heard.
+    /// Returns [`AllocError`] if an allocation fails, and only if something was announced. The
+    /// members are then those that the frees and some beginning of the announcements leave, and
+    /// all announcements count as heard.
     pub fn boundary(&mut self, slot: u64, announced: &[Said]) -> Result<Vec<Decision>, AllocError>
         requires slot { slot ≤ Entry.LAST_SLOT }
         requires order { ForSome self.old.last_slot (λ last. last ≤ slot) }
@@ -102,18 +99,18 @@ impl Members {
         ensures heard { self.new.heard ≡ self.old.heard + length announced.now }
         ensures last_slot { self.new.last_slot ≡ Some slot }
     {
-        let decisions = self.ledger.boundary(self.alloc, slot, announced);
+        self.ledger.sweep(slot);
+        let decisions = self.ledger.decide_all(slot, announced);
+        self.ledger.sweep(slot);
         self.heard += announced.len() as u64;
         self.last_slot = Some(slot);
         decisions
     }
 
-    /// Gives the next subtask of the named member a quantum and answers the subtask's index, or
-    /// `None`, with nothing changed, where no member that isn't departing has the name. The
-    /// member's next index is at most 1,000,000.
+    /// Gives the next subtask of the named member a quantum and returns the subtask's index.
+    /// Returns `None`, with nothing changed, if no such member runs: it is departing or not there.
     ///
-    /// It costs a look-up of the name, and a number of steps that grows with the logarithm of the
-    /// number of later subtasks that are put off.
+    /// The member's next index is at most 1,000,000. O(log p) for p later subtasks that are put off.
     pub fn ran(&mut self, name: &TaskName) -> Option<u64>
         requires { ForSome (member_named self.old.members name.now) (λ m. m.next ≤ Entry.LAST_INDEX) }
         ensures index { result ≡ option_map (λ m. m.next) (running (member_named self.old.members name.now)) }
@@ -123,53 +120,69 @@ impl Members {
         Some(quantum.index)
     }
 
-    /// Gives the next subtask of the named member a quantum, as [`Members::ran`], and answers its
+    /// Gives the next subtask of the named member a quantum, as [`Members::ran`], and returns its
     /// index with the slot from which the subtask after it may run and that one's key, as
-    /// [`Incarnation::next_subtask`] then does; `None`, with nothing changed, where no member that
-    /// isn't departing has the name. The member's next index is at most 1,000,000.
-    ///
-    /// It costs one look-up of the name, and a number of steps that grows with the logarithm of the
-    /// number of later subtasks that are put off.
+    /// [`Incarnation::next_subtask`] then does.
     pub fn ran_on(&mut self, name: &TaskName) -> Option<Quantum>
         requires { ForSome (member_named self.old.members name.now) (λ m. m.next ≤ Entry.LAST_INDEX) }
         ensures quantum { result ≡ option_map quantum_of (running (member_named self.old.members name.now)) }
         ensures members { self.new ≡ (if is_some result then record self.old { members = ran name.now self.old.members } else self.old) }
     {
-        self.ledger.run_on(name)
+        let place = self.ledger.find(name)?;
+        self.ledger.members[place].run_on()
     }
 
-    /// The member of that name, departing or not. It costs one look-up, whatever the members are.
+    /// Makes room for `tasks` members at once. No boundary grows the maps while there are no more.
+    ///
+    /// A member that is gone counts until its boundary ends. Without this call an arrival is
+    /// O(1) amortized and O(n) at worst for n members, when it grows a map.
+    ///
+    /// # Errors
+    /// Returns [`AllocError`] if an allocation fails.
+    pub fn reserve(&mut self, tasks: usize) -> Result<(), AllocError>
+        ensures { self.new ≡ self.old }
+    {
+        // A map whose members come and go is hashed anew in place while it is at most half full.
+        let room = tasks
+            .saturating_mul(2)
+            .saturating_sub(self.ledger.members.len());
+        self.ledger.members.reserve(room)?;
+        self.ledger.names.reserve(room)
+    }
+
+    /// Returns the member of that name, departing or not. O(1).
     pub fn get(&self, name: &TaskName) -> Option<&Incarnation>
         ensures { option_copied result ≡ member_named self.now.members name.now }
     {
-        self.ledger.registry().get(name)
+        let place = self.ledger.find(name)?;
+        Some(&self.ledger.members[place])
     }
 
-    /// How many members there are.
+    /// Returns the number of members.
     pub fn len(&self) -> usize
         ensures { result ≡ length self.now.members }
     {
-        self.ledger.registry().len()
+        self.ledger.members.len()
     }
 
-    /// Whether there is no member.
+    /// Returns whether there is no member.
     pub fn is_empty(&self) -> bool
         ensures { IsTrue result ↔ (self.now.members ≡ []) }
     {
         self.len() == 0
     }
 
-    /// The member at a place in the order of admission, from 0, and its name. It goes through no
-    /// others.
+    /// Returns the member at an index in the order of admission, from 0, and its name. O(1).
     pub fn at(&self, place: usize) -> Option<(&TaskName, &Incarnation)>
         ensures name { option_map (λ m. m.0.now) result ≡ option_map (λ m. m.name) (slice_get self.now.members place) }
         ensures member { option_map (λ m. m.1.now) result ≡ slice_get self.now.members place }
     {
-        self.ledger.registry().at(place)
+        let (_, member) = self.ledger.members.get_index(place)?;
+        Some((member.name(), member))
     }
 
-    /// How many announcements were handed in, over all boundaries, those of a call that was
-    /// refused memory included.
+    /// Returns the number of announcements over all boundaries, also those at which an allocation
+    /// failed.
     pub fn heard(&self) -> u64
         ensures value { result ≡ self.now.heard }
         ensures within { result ≤ Members.MAX_HEARD }
@@ -177,7 +190,7 @@ impl Members {
         self.heard
     }
 
-    /// The slot of the last boundary, also of one that was refused memory.
+    /// Returns the slot of the last boundary, also if an allocation failed there.
     pub fn last_slot(&self) -> Option<u64>
         ensures { result ≡ self.now.last_slot }
     {

@@ -1,25 +1,24 @@
-use Rattle.std.proofs.Common.{◌≡◌, ◌+◌, ◌<◌, ◌++◌, ◌∷◌, [], length, ap, arith, ◌∙◌}
+use Rattle.std.proofs.Common.{◌≡◌, ◌+◌, ◌<◌, ◌++◌, ◌∷◌, [], length, sym, subst, arith}
 use Rattle.std.proofs.lemmas.Result.{err_from_is_err_and}
 use Rattle.pfair_admission.specs.Admission.{announcements}
+use Rattle.pfair_admission.specs.Ledger.{standing}
+use Rattle.pfair_admission.specs.Roster.{EachBounded}
 use Rattle.pfair_admission.specs.Standing.{Standing}
 use Rattle.pfair_admission.proofs.Boundaries.{SoFar, one_more, bounded_so_far, room_so_far, length_announcements, said_item, limits_item}
 use Rattle.pfair_admission.proofs.ledger.Ledger.decide_all.Goals as goal
 use Rattle.pfair_admission.proofs.ledger.Ledger.decide_all.Goals.{After-branch-push}
 
-pub decide-requires-clause-under_way : goal.decide-requires-clause-under_way
-decide-requires-clause-under_way c = ap (λ (s : Standing). s.under_way) c.loop-said.invariant.left ∙ c.requires.under_way
-
 pub decide-requires-clause-room : goal.decide-requires-clause-room
 decide-requires-clause-room c =
-    room_so_far c.args.self.now c.args.slot c.loop-said.said-index (length c.args.announced.now) (announcements c.args.announced.now) c.loop-said.self c.loop-said.all.items c.loop-said.invariant (omega (arith, c.loop-said.auto.said-index-end)) c.requires.few c.requires.bounded
+    room_so_far (standing c.args.slot c.args.self.now) c.args.slot c.loop-said.said-index (length c.args.announced.now) (announcements c.args.announced.now) (standing c.args.slot c.loop-said.self) c.loop-said.all.items c.loop-said.invariant.so_far (omega (arith, c.loop-said.auto.said-index-end)) (omega (arith, c.requires.few)) c.requires.bounded
 
 -- one announcement more is decided
-step : (c : After-branch-push) → SoFar c.args.self.now c.args.slot (c.loop-said.said-index + 1) (announcements c.args.announced.now) c.decide.new.self (c.loop-said.all.items ++ c.in_ok-decide.field-0 ∷ [])
+step : (c : After-branch-push) → SoFar (standing c.args.slot c.args.self.now) c.args.slot (c.loop-said.said-index + 1) (announcements c.args.announced.now) (standing c.args.slot c.decide.new.self) (c.loop-said.all.items ++ c.in_ok-decide.field-0 ∷ [])
 step c =
     let within : c.loop-said.said-index < length c.args.announced.now = omega (arith, c.loop-said.auto.said-index-end) in
     let inside : c.loop-said.said-index < length (announcements c.args.announced.now) = omega (arith, length_announcements c.args.announced.now) in
-    one_more c.args.self.now c.args.slot c.loop-said.said-index (announcements c.args.announced.now) c.loop-said.self c.decide.new.self c.loop-said.all.items c.said-item.result.2 c.in_ok-decide.field-0
-    c.loop-said.invariant c.requires.slot (limits_item c.args.announced.now c.loop-said.said-index c.said-item.result c.requires.limits within c.said-item.is) inside
+    one_more (standing c.args.slot c.args.self.now) c.args.slot c.loop-said.said-index (announcements c.args.announced.now) (standing c.args.slot c.loop-said.self) (standing c.args.slot c.decide.new.self) c.loop-said.all.items c.said-item.result.2 c.in_ok-decide.field-0
+    c.loop-said.invariant.so_far c.requires.slot (limits_item c.args.announced.now c.loop-said.said-index c.said-item.result c.requires.limits within c.said-item.is) inside
     (said_item c.args.announced.now c.loop-said.said-index c.said-item.result within c.said-item.is) c.in_ok-decide.ensures.decision c.in_ok-decide.ensures.members
 
 pub returns-in_err-push-clause-err : goal.returns-in_err-push-clause-err
@@ -29,18 +28,18 @@ returns-in_err-push-clause-err c =
 
 pub returns-in_err-decide-clause-bounded : goal.returns-in_err-decide-clause-bounded
 returns-in_err-decide-clause-bounded c heard h =
-    rw c.in_err-decide.ensures.err
-    (bounded_so_far c.args.self.now c.args.slot c.loop-said.said-index (length c.args.announced.now) (announcements c.args.announced.now) c.loop-said.self c.loop-said.all.items c.loop-said.invariant (omega (arith, c.loop-said.auto.said-index-end)) heard h)
+    subst (λ (s : Standing). EachBounded (heard + length c.args.announced.now) s.members) (sym c.in_err-decide.ensures.err)
+    (bounded_so_far (standing c.args.slot c.args.self.now) c.args.slot c.loop-said.said-index (length c.args.announced.now) (announcements c.args.announced.now) (standing c.args.slot c.loop-said.self) c.loop-said.all.items c.loop-said.invariant.so_far (omega (arith, c.loop-said.auto.said-index-end)) heard h)
 
 pub returns-in_err-push-clause-bounded : goal.returns-in_err-push-clause-bounded
 returns-in_err-push-clause-bounded c =
-    bounded_so_far c.args.self.now c.args.slot (c.loop-said.said-index + 1) (length c.args.announced.now) (announcements c.args.announced.now) c.decide.new.self _ (step ((goal.at.returns-in_err-push-clause-bounded c).After-branch-push)) (omega (arith, c.loop-said.auto.said-index-end))
+    bounded_so_far (standing c.args.slot c.args.self.now) c.args.slot (c.loop-said.said-index + 1) (length c.args.announced.now) (announcements c.args.announced.now) (standing c.args.slot c.decide.new.self) _ (step ((goal.at.returns-in_err-push-clause-bounded c).After-branch-push)) (omega (arith, c.loop-said.auto.said-index-end))
 
 pub returns-clause-bounded : goal.returns-clause-bounded
 returns-clause-bounded c =
-    bounded_so_far c.args.self.now c.args.slot c.loop-said.said-index (length c.args.announced.now) (announcements c.args.announced.now) c.loop-said.self c.loop-said.all.items c.loop-said.invariant (omega (arith, c.loop-said.auto.said-index-end))
+    bounded_so_far (standing c.args.slot c.args.self.now) c.args.slot c.loop-said.said-index (length c.args.announced.now) (announcements c.args.announced.now) (standing c.args.slot c.loop-said.self) c.loop-said.all.items c.loop-said.invariant.so_far (omega (arith, c.loop-said.auto.said-index-end))
 
 pub loop-said-preserved : goal.loop-said-preserved
 loop-said-preserved c =
     let pushed : c.push.new.self.items ≡ c.loop-said.all.items ++ c.in_ok-decide.field-0 ∷ [] = c.in_ok-push.ensures.items in
-    rw pushed (step ((goal.at.loop-said-preserved c).After-branch-push))
+    rw pushed (record { so_far = step ((goal.at.loop-said-preserved c).After-branch-push); kept = c.decide.ensures.kept; admitted = omega (arith, c.decide.ensures.admitted, c.loop-said.invariant.admitted) })

@@ -1,31 +1,55 @@
-use Rattle.std.proofs.Common.{sym, ap, subst, ◌∙◌, arith}
-use Rattle.pfair_admission.specs.Roster.{EachHasRoom}
-use Rattle.pfair_admission.specs.Standing.{Standing}
-use Rattle.pfair_admission.proofs.Deciding.{room_of_named, late_first}
-use Rattle.pfair_admission.proofs.Gone.{one_under_way, late_decided, late_claimed}
+use Rattle.std.proofs.Common.{◌≡◌, IfOk, sym, ap, ◌∙◌, arith}
+use Rattle.std.specs.Prelude.{not}
+use Rattle.std.specs.Map.{values_of}
+use Rattle.indexmap.specs.IndexMap.{set_value_at}
+use Rattle.pfair_admission.specs.Admission.{is_freed, late_release, member_named, present}
+use Rattle.pfair_admission.specs.Ledger.{is_there, listed}
+use Rattle.pfair_admission.proofs.Changes.{delayed_if_ok, is_written, late_like, stays_on_err, IsWritten}
+use Rattle.pfair_admission.proofs.Deciding.{if_decided, late_decided, late_same, none_late, room_of_named, stood}
+use Rattle.pfair_admission.proofs.Kept.{ledger_written}
+use Rattle.pfair_admission.proofs.Written.{is_there_now, within, IsThere}
 use Rattle.pfair_admission.proofs.ledger.Ledger.delay.Goals as goal
+use Rattle.pfair_admission.proofs.ledger.Ledger.delay.Goals.{After-delay}
+
+pub returns-in_default-clause-members : goal.returns-in_default-clause-members
+returns-in_default-clause-members c = stood _ (none_late c.args.slot (listed c.args.self.now) c.args.name.now c.args.index c.args.by c.in_default.ensures.none)
+
+pub index_mut-requires : goal.index_mut-requires
+index_mut-requires c = within c.args.self.now.members.entries c.in-Some.place c.in-Some.ensures.some.0 c.in-Some.ensures.some.1.at
 
 pub delay-requires-clause-room : goal.delay-requires-clause-room
-delay-requires-clause-room c x found =
-    let e = ap (λ (s : Standing). s.under_way) c.self.view_is ∙ c.requires.under_way in
-    let each = subst EachHasRoom (one_under_way c.self.inside.under_way c.args.slot c.self.inside.registry e) (subst (λ (s : Standing). EachHasRoom s.members) (sym c.self.view_is) c.requires.room) in
-    let room = room_of_named _ c.args.name.now x each found in
+delay-requires-clause-room c =
+    let m = c.index_mut.result.now in
+    let there = is_there_now (is_there c.args.slot) c.args.name.now (listed c.args.self.now) c.in-Some.place m c.in-Some.ensures.some c.index_mut.ensures.value in
+    let room = room_of_named (present c.args.slot (listed c.args.self.now)) c.args.name.now m c.requires.room there.found in
     omega (arith, room, c.requires.limits.1.1)
 
-pub invariant_of-self : goal.invariant_of-self
-invariant_of-self c =
-    let e = ap (λ (s : Standing). s.under_way) c.self.view_is ∙ c.requires.under_way in
-    record {
-      few_processors = c.self.invariant.few_processors;
-      short_frame = c.self.invariant.short_frame;
-      room = c.self.invariant.room;
-      total = c.self.invariant.total ∙ late_claimed c.delay.result c.self.inside.frame c.self.inside.under_way c.args.slot c.self.inside.registry c.delay.new.self c.args.name.now c.args.index c.args.by e c.delay.ensures.members c.delay.ensures.err;
-      first = late_first c.delay.result c.self.inside.first_freeing c.args.slot c.self.inside.registry c.delay.new.self c.args.name.now c.args.index c.args.by c.delay.ensures.members c.delay.ensures.err c.self.invariant.first;
-    }
+who : (c : After-delay) → IsThere (is_there c.args.slot) c.args.name.now (listed c.args.self.now) c.in-Some.place c.index_mut.result.now
+who c = is_there_now (is_there c.args.slot) c.args.name.now (listed c.args.self.now) c.in-Some.place c.index_mut.result.now c.in-Some.ensures.some c.index_mut.ensures.value
+
+written : (c : After-delay) → IsWritten (is_there c.args.slot) c.args.name.now c.index_mut.result.now c.delay.new.self (present c.args.slot (listed c.args.self.now)) (present c.args.slot (values_of (set_value_at c.args.self.now.members.entries c.in-Some.place c.delay.new.self)))
+written c = is_written (is_there c.args.slot) c.args.name.now c.args.self.now.members.entries c.in-Some.place c.index_mut.result.now c.delay.new.self (who c).only (who c).counts_there
+
+decided_so : (c : After-delay) → IfOk c.delay.result (λ d. d ≡ late_release c.args.slot (member_named (present c.args.slot (listed c.args.self.now)) c.args.name.now) c.args.index)
+decided_so c = if_decided c.delay.result c.args.slot c.args.index (sym (who c).found) c.delay.ensures.decision
+
+pub returns-clause-decision : goal.returns-clause-decision
+returns-clause-decision c = decided_so ((goal.at.returns-clause-decision c).After-delay)
 
 pub returns-clause-members : goal.returns-clause-members
 returns-clause-members c =
-    let e = ap (λ (s : Standing). s.under_way) c.self.view_is ∙ c.requires.under_way in
-    rw (← c.self.view_is)
-    (late_decided c.delay.result (record { processors = c.self.inside.processors; frame = c.self.inside.frame }) c.self.inside.under_way c.args.slot c.self.inside.registry c.delay.new.self c.args.name.now c.args.index c.args.by e
-    c.delay.ensures.decision c.delay.ensures.members)
+    let at = (goal.at.returns-clause-members c).After-delay in
+    late_decided c.delay.result _ c.args.slot (present c.args.slot (listed c.args.self.now)) _ c.args.name.now c.args.index c.args.by (decided_so at)
+    (delayed_if_ok c.delay.result c.args.slot c.args.name.now c.index_mut.result.now c.delay.new.self (present c.args.slot (listed c.args.self.now)) _ c.args.index c.args.by (written at) c.delay.ensures.member)
+
+pub returns-clause-err : goal.returns-clause-err
+returns-clause-err c =
+    late_same c.delay.result _ _ _
+    (stays_on_err c.delay.result (is_there c.args.slot) c.args.name.now c.index_mut.result.now c.delay.new.self (present c.args.slot (listed c.args.self.now)) _ (written ((goal.at.returns-clause-err c).After-delay)) c.delay.ensures.err)
+
+pub returns-clause-kept : goal.returns-clause-kept
+returns-clause-kept c =
+    let there = (who ((goal.at.returns-clause-kept c).After-delay)).counts_there in
+    let like = late_like c.delay.result c.args.index c.args.by c.index_mut.result.now c.delay.new.self c.delay.ensures.member c.delay.ensures.err in
+    ledger_written (is_there c.args.slot) c.args.self.now c.in-Some.place c.index_mut.result.now c.delay.new.self c.requires.kept c.index_mut.ensures.value there
+    (ap (λ o. not (is_freed c.args.slot o)) like.freed_at ∙ there) like

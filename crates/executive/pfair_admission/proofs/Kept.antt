@@ -1,0 +1,128 @@
+-- What the ledger keeps when a member is written.
+use Rattle.std.proofs.Common.{◌≡◌, ℕ, ◌+◌, ◌≤◌, ◌<◌, Bool, true, false, cond, List, [], ◌∷◌, ◌++◌, Some, refl, sym, ap, subst, ◌∙◌, arith}
+use Rattle.std.specs.Prelude.{filter, nat_eq, nat_le, not, slice_get}
+use Rattle.std.proofs.lemmas.Bool.Decides.{nat_tests}
+use Rattle.indexmap.specs.IndexMap.{insert_entry, with_value_at}
+use Rattle.std.specs.List.{IsDistinct}
+use Rattle.std.specs.Map.{keys_of, values_of, lookup}
+use Rattle.std.proofs.lemmas.List.Elements.{filter-append}
+use Rattle.pfair_weight.specs.Name.{name_eq}
+use Rattle.pfair_weight.specs.Share.{Share, units_of}
+use Rattle.pfair_admission.specs.declared.decision.Decision.TheVariants.{Admitted}
+use Rattle.pfair_admission.specs.Member.{Member}
+use Rattle.pfair_admission.specs.Admission.{Machine, arrival, claimed, newcomer, present}
+use Rattle.pfair_admission.specs.Removal.{earlier_of, IsNotBefore, NoneFreed, NoneFreedBefore}
+use Rattle.pfair_admission.specs.declared.ledger.Ledger.{Ledger}
+use Rattle.pfair_admission.specs.Ledger.{is_there, listed, IsLedger, IsUnswept, Numbered}
+use Rattle.pfair_admission.proofs.Changes.{IsLike}
+use Rattle.pfair_admission.proofs.Deciding.{admitted_new, admitted_room, claimed_arrived}
+use Rattle.pfair_admission.proofs.MemberLists.{claimed_present, first_earlier, first_push, not_before_right, present_all}
+use Rattle.pfair_admission.proofs.Registers.{register_less, register_more, register_written}
+use Rattle.pfair_admission.proofs.Written.{claimed_written, filter_all, first_at, first_written, values_written}
+
+-- a member that is written, and keeps its name, its weight and its freeing slot
+pub ledger_written : (counts : Member → Bool) (a : Ledger) (place : ℕ) (m n : Member) → IsLedger counts a → slice_get (listed a) place ≡ Some m → counts m ≡ true → counts n ≡ true → IsLike m n → IsLedger counts (record a { members = with_value_at a.members place n })
+ledger_written counts a place m n k at there still like =
+    let was = claimed_written counts a.frame (listed a) place m n at there like.weight in
+    let units : ◌≡◌ {A = ℕ} (cond (counts n) 0 (units_of m.weight a.frame)) 0 = ap (λ b. cond b 0 (units_of m.weight a.frame)) still in
+    let values = ap (λ (l : List Member). claimed a.frame (filter counts l)) (values_written a.members.entries place n) in
+    record {
+      register = register_written counts a.admitted a.members.entries a.names.entries place m n k.register at there like.name;
+      few_processors = k.few_processors;
+      short_frame = k.short_frame;
+      room = k.room;
+      total = omega (arith, was, units, values, k.total);
+      first = subst (NoneFreedBefore a.first_freeing) (sym (values_written a.members.entries place n))
+          (first_written a.first_freeing (listed a) place n k.first (subst (IsNotBefore a.first_freeing) (sym like.freed_at) (first_at a.first_freeing (listed a) place m k.first at)));
+    }
+
+-- a member that departs, whose units are free where it is gone at once
+pub ledger_left : (t : ℕ) (a : Ledger) (place slot claim : ℕ) (m n : Member) → IsLedger (is_there t) a → slice_get (listed a) place ≡ Some m → is_there t m ≡ true → n.name ≡ m.name → n.weight ≡ m.weight → n.freed_at ≡ Some slot
+    → claim + cond (is_there t n) 0 (units_of m.weight a.frame) ≡ a.claim → IsLedger (is_there t) (record a { members = with_value_at a.members place n; claim = claim; first_freeing = earlier_of a.first_freeing (Some slot) })
+ledger_left t a place slot claim m n k at there name weight freed sum =
+    let was = claimed_written (is_there t) a.frame (listed a) place m n at there weight in
+    let values = ap (λ (l : List Member). claimed a.frame (filter (is_there t) l)) (values_written a.members.entries place n) in
+    record {
+      register = register_written (is_there t) a.admitted a.members.entries a.names.entries place m n k.register at there name;
+      few_processors = k.few_processors;
+      short_frame = k.short_frame;
+      room = omega (arith, sum, k.room);
+      total = omega (arith, was, values, sum, k.total);
+      first = subst (NoneFreedBefore (earlier_of a.first_freeing (Some slot))) (sym (values_written a.members.entries place n))
+          (first_written (earlier_of a.first_freeing (Some slot)) (listed a) place n (first_earlier a.first_freeing (Some slot) (listed a) k.first)
+          (subst (IsNotBefore (earlier_of a.first_freeing (Some slot))) (sym freed) (not_before_right a.first_freeing slot)));
+    }
+
+-- the units of a member that is freed at once
+pub gone_units : (t slot units : ℕ) (n : Member) → n.freed_at ≡ Some slot → slot ≤ t → cond (is_there t n) 0 units ≡ units
+gone_units t slot units n freed now =
+    let test : nat_le slot t ≡ true = grind (arith, nat_tests) in
+    ap (λ o. cond (is_there t (record n { freed_at = o })) 0 units) freed ∙ ap (λ b. cond (not b) 0 units) test
+
+pub held_units : (t slot units : ℕ) (n : Member) → n.freed_at ≡ Some slot → t < slot → cond (is_there t n) 0 units ≡ 0
+held_units t slot units n freed later =
+    let test : nat_le slot t ≡ false = grind (arith, nat_tests) in
+    ap (λ o. cond (is_there t (record n { freed_at = o })) 0 units) freed ∙ ap (λ b. cond (not b) 0 units) test
+
+-- a newcomer
+pub values_pushed : (es : Numbered) (k : ℕ) (m : Member) → values_of (es ++ (k, m) ∷ []) ≡ values_of es ++ m ∷ []
+values_pushed [] k m = refl
+values_pushed (e ∷ es) k m = ap (λ (l : List Member). e.1 ∷ l) (values_pushed es k m)
+
+-- comes after those that are left
+pub present_pushed : (t : ℕ) (es es' : Numbered) (k : ℕ) (name : List ℕ) (w : Share) (early : Bool) → es' ≡ es ++ (k, newcomer t name w early) ∷ [] → present t (values_of es') ≡ present t (values_of es) ++ newcomer t name w early ∷ []
+present_pushed t es es' k name w early made =
+    ap (λ (l : Numbered). present t (values_of l)) made ∙ ap (present t) (values_pushed es k (newcomer t name w early)) ∙ filter-append (is_there t) (values_of es) (newcomer t name w early ∷ [])
+
+pub ledger_more : (t : ℕ) (a b : Ledger) (name : List ℕ) (w : Share) (early : Bool) → IsLedger (is_there t) a → Admitted ≡ arrival (record { processors = a.processors; frame = a.frame }) (present t (listed a)) name w
+    → b.members.entries ≡ a.members.entries ++ (a.admitted, newcomer t name w early) ∷ [] → IsDistinct nat_eq (keys_of b.members.entries) → b.names.entries ≡ insert_entry name_eq a.names.entries name a.admitted
+    → ((q : List ℕ) → lookup (name_eq q) b.names.entries ≡ cond (name_eq name q) (Some a.admitted) (lookup (name_eq q) a.names.entries))
+    → IsLedger (is_there t) (record a { members = b.members; names = b.names; admitted = a.admitted + 1; claim = a.claim + units_of w a.frame })
+ledger_more t a b name w early k is made unique entered updates =
+    let machine : Machine = record { processors = a.processors; frame = a.frame } in
+    let sum = claimed_arrived a.frame t (present t (listed a)) name w early in
+    let all = ap (claimed a.frame) (present_pushed t a.members.entries b.members.entries a.admitted name w early made) in
+    let fits = admitted_room machine (present t (listed a)) name w is in
+    record {
+      register = register_more (is_there t) a.admitted a.members.entries b.members.entries a.names.entries b.names.entries (newcomer t name w early) k.register (admitted_new machine (present t (listed a)) name w is) made unique entered updates;
+      few_processors = k.few_processors;
+      short_frame = k.short_frame;
+      room = omega (arith, fits, k.total);
+      total = omega (arith, sum, all, k.total);
+      first = subst (NoneFreedBefore a.first_freeing) (sym (ap (λ (l : Numbered). values_of l) made ∙ values_pushed a.members.entries a.admitted (newcomer t name w early)))
+          (first_push a.first_freeing (listed a) (newcomer t name w early) refl k.first);
+    }
+
+-- ---- before and after a boundary
+
+-- where nobody is freed all count
+pub kept_less : (t : ℕ) (a : Ledger) → NoneFreed t (listed a) → IsLedger (λ _. true) a → IsLedger (is_there t) a
+kept_less t a none k = record {
+  register = register_less (is_there t) a.admitted a.members.entries a.names.entries k.register;
+  few_processors = k.few_processors;
+  short_frame = k.short_frame;
+  room = k.room;
+  total = k.total ∙ ap (claimed a.frame) (filter_all (listed a) ∙ sym (present_all t (listed a) none));
+  first = k.first;
+}
+
+-- with the claim of all
+pub unswept_all : (t : ℕ) (a : Ledger) → IsLedger (λ _. true) a → IsUnswept t a
+unswept_all t a k =
+    let all = ap (claimed a.frame) (filter_all (listed a)) in
+    let part = claimed_present a.frame t (listed a) in
+    record {
+      register = register_less (is_there t) a.admitted a.members.entries a.names.entries k.register;
+      few_processors = k.few_processors;
+      short_frame = k.short_frame;
+      room = k.room;
+      least = omega (arith, all, part, k.total);
+      most = omega (arith, all, k.total);
+      first = k.first;
+    }
+
+-- with the claim of those that are left
+pub unswept_rest : (t : ℕ) (a : Ledger) → IsLedger (is_there t) a → IsUnswept t a
+unswept_rest t a k =
+    let part = claimed_present a.frame t (listed a) in
+    record { register = k.register; few_processors = k.few_processors; short_frame = k.short_frame; room = k.room; least = omega (arith, k.total); most = omega (arith, part, k.total); first = k.first }

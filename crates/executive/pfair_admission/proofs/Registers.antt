@@ -1,0 +1,333 @@
+-- The numbers of members, and the names that lead to them.
+use Rattle.std.proofs.Common.{◌≡◌, ℕ, zero, suc, ◌+◌, ◌<◌, Bool, true, false, cond, List, [], ◌∷◌, ◌++◌, get_or, Option, IfSome, Some, None, refl, sym, ap, subst, ◌∙◌, arith}
+use Rattle.std.specs.Prelude.{nat_eq, not, filter, is_some, slice_get, position}
+use Rattle.std.specs.List.{AllByRecursion, IsDistinct}
+use Rattle.std.specs.Map.{keys_of, values_of, lookup}
+use Rattle.std.specs.Cmp.Lexicographic.{bytes_decides}
+use Rattle.std.proofs.lemmas.Bool.Decides.{nat_tests}
+use Rattle.std.proofs.lemmas.List.Quantifiers.{position-Some}
+use Rattle.std.proofs.lemmas.Option.{same_Some, none-some, slice_get-get_or}
+use Rattle.indexmap.specs.IndexMap.{insert_entry, set_value_at}
+use Rattle.pfair_weight.specs.Name.{NameValue, name_eq}
+use Rattle.pfair_admission.specs.Member.{Member}
+use Rattle.pfair_admission.specs.Admission.{is_named, member_named}
+use Rattle.pfair_admission.specs.Removal.{NoneFreed}
+use Rattle.pfair_admission.specs.Ledger.{has_number, is_there, IsFound, IsNamedIn, IsNumberOf, IsRegister, Numbered}
+
+abbrev pub Names : Type 0
+Names = List (NameValue × ℕ)
+
+-- ---- lists
+
+each : {A : Type 0} (P Q : A → Type 0) → ((x : A) → P x → Q x) → (xs : List A) → AllByRecursion P xs → AllByRecursion Q xs
+each P Q to [] h = tt
+each P Q to (x ∷ xs) h = (to x h.0, each P Q to xs h.1)
+
+both : {A : Type 0} (P Q R : A → Type 0) → ((x : A) → P x → Q x → R x) → (xs : List A) → AllByRecursion P xs → AllByRecursion Q xs → AllByRecursion R xs
+both P Q R to [] h g = tt
+both P Q R to (x ∷ xs) h g = (to x h.0 g.0, both P Q R to xs h.1 g.1)
+
+-- those that a test keeps pass it
+each_kept : {A : Type 0} (P Q : A → Type 0) (p : A → Bool) → ((x : A) → p x ≡ true → P x → Q x) → (xs : List A) → AllByRecursion P xs → AllByRecursion Q (filter p xs)
+each_kept P Q p to [] h = tt
+each_kept P Q p to (x ∷ xs) h =
+    (elim (p x) as (λ b. p x ≡ b → AllByRecursion Q (cond b (x ∷ filter p xs) (filter p xs))) [
+      | true ↦ λ passes. (to x passes h.0, each_kept P Q p to xs h.1)
+      | false ↦ λ _. each_kept P Q p to xs h.1
+    ]) refl
+
+each_push : {A : Type 0} (P : A → Type 0) (xs : List A) (x : A) → AllByRecursion P xs → P x → AllByRecursion P (xs ++ x ∷ [])
+each_push P [] x h g = (g, tt)
+each_push P (y ∷ xs) x h g = (h.0, each_push P xs x h.1 g)
+
+same_name : (name other : NameValue) → name_eq name other ≡ true → name ≡ other
+same_name name other = (bytes_decides name other).0
+
+-- ---- look-ups
+
+pub lookup_append : {K V : Type 0} (test : K → Bool) (es : List (K × V)) (e : K × V) (v : V) → lookup test es ≡ Some v → lookup test (es ++ e ∷ []) ≡ Some v
+lookup_append test [] e v h = absurd (none-some v h)
+lookup_append test (x ∷ es) e v h =
+    elim (test x.0) as (λ b. cond b (Some x.1) (lookup test es) ≡ Some v → cond b (Some x.1) (lookup test (es ++ e ∷ [])) ≡ Some v) [
+      | true ↦ λ s. s
+      | false ↦ λ s. lookup_append test es e v s
+    ] h
+
+-- a number that isn't given yet
+pub fresh : (admitted : ℕ) (es : Numbered) → AllByRecursion (λ e. e.0 < admitted) es → lookup (nat_eq admitted) es ≡ None
+fresh admitted [] h = refl
+fresh admitted (e ∷ es) h =
+    let less : e.0 < admitted = h.0 in
+    let differ : nat_eq admitted e.0 ≡ false = grind (arith, nat_tests) in
+    ap (λ b. cond b (Some e.1) (lookup (nat_eq admitted) es)) differ ∙ fresh admitted es h.1
+
+lookup_fresh : (admitted : ℕ) (m : Member) (es : Numbered) → AllByRecursion (λ e. e.0 < admitted) es → lookup (nat_eq admitted) (es ++ (admitted, m) ∷ []) ≡ Some m
+lookup_fresh admitted m [] h = let same : nat_eq admitted admitted ≡ true = grind (arith, nat_tests) in ap (λ b. cond b (Some m) None) same
+lookup_fresh admitted m (e ∷ es) h =
+    let less : e.0 < admitted = h.0 in
+    let differ : nat_eq admitted e.0 ≡ false = grind (arith, nat_tests) in
+    ap (λ b. cond b (Some e.1) (lookup (nat_eq admitted) (es ++ (admitted, m) ∷ []))) differ ∙ lookup_fresh admitted m es h.1
+
+lookup_kept : (test : NameValue → Bool) (q : ℕ → Bool) (names : Names) (v : ℕ) → lookup test names ≡ Some v → q v ≡ true → lookup test (filter (λ e. q e.1) names) ≡ Some v
+lookup_kept test q [] v h kept = absurd (none-some v h)
+lookup_kept test q (e ∷ names) v h kept =
+    (elim (test e.0) as (λ b. test e.0 ≡ b → cond b (Some e.1) (lookup test names) ≡ Some v → lookup test (cond (q e.1) (e ∷ filter (λ e. q e.1) names) (filter (λ e. q e.1) names)) ≡ Some v) [
+      | true ↦ λ passes here.
+          ap (λ b. lookup test (cond b (e ∷ filter (λ e. q e.1) names) (filter (λ e. q e.1) names))) (ap q (same_Some e.1 v here) ∙ kept)
+          ∙ ap (λ b. cond b (Some e.1) (lookup test (filter (λ e. q e.1) names))) passes ∙ here
+      | false ↦ λ other there.
+          elim (q e.1) as (λ g. lookup test (cond g (e ∷ filter (λ e. q e.1) names) (filter (λ e. q e.1) names)) ≡ Some v) [
+            | true ↦ ap (λ b. cond b (Some e.1) (lookup test (filter (λ e. q e.1) names))) other ∙ lookup_kept test q names v there kept
+            | false ↦ lookup_kept test q names v there kept
+          ]
+    ]) refl h
+
+lookup_absent : (k : ℕ) (q : ℕ × Member → Bool) (es : Numbered) → AllByRecursion (λ n. nat_eq k n ≡ false) (keys_of es) → lookup (nat_eq k) (filter q es) ≡ None
+lookup_absent k q [] h = refl
+lookup_absent k q (e ∷ es) h =
+    elim (q e) as (λ b. lookup (nat_eq k) (cond b (e ∷ filter q es) (filter q es)) ≡ None) [
+      | true ↦ ap (λ b. cond b (Some e.1) (lookup (nat_eq k) (filter q es))) h.0 ∙ lookup_absent k q es h.1
+      | false ↦ lookup_absent k q es h.1
+    ]
+
+lookup_filtered : (k : ℕ) (q : ℕ × Member → Bool) (es : Numbered) (m : Member) → IsDistinct nat_eq (keys_of es) → lookup (nat_eq k) (filter q es) ≡ Some m → lookup (nat_eq k) es ≡ Some m
+unfolding IsDistinct
+lookup_filtered k q [] m unique h = absurd (none-some m h)
+lookup_filtered k q (e ∷ es) m unique h =
+    (elim (nat_eq k e.0) as (λ b. nat_eq k e.0 ≡ b → cond b (Some e.1) (lookup (nat_eq k) es) ≡ Some m) [
+      | true ↦ λ same.
+          let is : e.0 ≡ k = grind (arith, nat_tests) in
+          let none : lookup (nat_eq k) (filter q es) ≡ None = lookup_absent k q es (subst (λ n. AllByRecursion (λ x. nat_eq n x ≡ false) (keys_of es)) is unique.0) in
+          (elim (q e) as (λ g. lookup (nat_eq k) (cond g (e ∷ filter q es) (filter q es)) ≡ Some m → Some e.1 ≡ Some m) [
+            | true ↦ λ here. sym (ap (λ b. cond b (Some e.1) (lookup (nat_eq k) (filter q es))) same) ∙ here
+            | false ↦ λ there. absurd (none-some m (sym none ∙ there))
+          ]) h
+      | false ↦ λ other.
+          lookup_filtered k q es m unique.1
+          ((elim (q e) as (λ g. lookup (nat_eq k) (cond g (e ∷ filter q es) (filter q es)) ≡ Some m → lookup (nat_eq k) (filter q es) ≡ Some m) [
+            | true ↦ λ there. sym (ap (λ b. cond b (Some e.1) (lookup (nat_eq k) (filter q es))) other) ∙ there
+            | false ↦ λ there. there
+          ]) h)
+    ]) refl
+
+-- ---- who is found
+
+-- where the name leads nowhere nobody has it
+none_named : (counts : Member → Bool) (name : NameValue) (names : Names) (es : Numbered) → AllByRecursion (IsNamedIn counts names) es → lookup (name_eq name) names ≡ None → member_named (filter counts (values_of es)) name ≡ None
+none_named counts name names [] h none = refl
+none_named counts name names (e ∷ es) h none =
+    (elim (counts e.1) as (λ b. counts e.1 ≡ b → member_named (cond b (e.1 ∷ filter counts (values_of es)) (filter counts (values_of es))) name ≡ None) [
+      | true ↦ λ there.
+          (elim (is_named name e.1) as (λ g. is_named name e.1 ≡ g → cond g (Some e.1) (member_named (filter counts (values_of es)) name) ≡ None) [
+            | true ↦ λ named. absurd (none-some e.0 (sym none ∙ ap (λ n. lookup (name_eq n) names) (same_name name e.1.name named) ∙ h.0 there))
+            | false ↦ λ _. none_named counts name names es h.1 none
+          ]) refl
+      | false ↦ λ _. none_named counts name names es h.1 none
+    ]) refl
+
+number_of : (es : Numbered) (names : Names) (name : NameValue) (number : ℕ) → AllByRecursion (λ e. IsNumberOf es e.0 e.1) names → lookup (name_eq name) names ≡ Some number → IsNumberOf es name number
+number_of es [] name number h at = absurd (none-some number at)
+number_of es (e ∷ names) name number h at =
+    (elim (name_eq name e.0) as (λ b. name_eq name e.0 ≡ b → cond b (Some e.1) (lookup (name_eq name) names) ≡ Some number → IsNumberOf es name number) [
+      | true ↦ λ same here. subst (λ n. IsNumberOf es n number) (sym (same_name name e.0 same)) (subst (IsNumberOf es e.0) (same_Some e.1 number here) h.0)
+      | false ↦ λ _ there. number_of es names name number h.1 there
+    ]) refl at
+
+-- the number of one that counts is that of its name
+number_at : (counts : Member → Bool) (names : Names) (es : Numbered) (place : ℕ) (x : Member) → AllByRecursion (IsNamedIn counts names) es → slice_get (values_of es) place ≡ Some x → counts x ≡ true → slice_get (keys_of es) place ≡ lookup (name_eq x.name) names
+number_at counts names [] place x h at there = absurd (none-some x at)
+number_at counts names (e ∷ es) zero x h at there =
+    let is : e.1 ≡ x = same_Some e.1 x at in
+    sym (ap (λ (m : Member). lookup (name_eq m.name) names) (sym is) ∙ h.0 (ap counts is ∙ there))
+number_at counts names (e ∷ es) (suc place) x h at there = number_at counts names es place x h.1 at there
+
+differs_at : (k : ℕ) (ns : List ℕ) (place number : ℕ) → AllByRecursion (λ n. nat_eq k n ≡ false) ns → slice_get ns place ≡ Some number → nat_eq k number ≡ false
+differs_at k [] place number h at = absurd (none-some number at)
+differs_at k (n ∷ ns) zero number h at = subst (λ x. nat_eq k x ≡ false) (same_Some n number at) h.0
+differs_at k (n ∷ ns) (suc place) number h at = differs_at k ns place number h.1 at
+
+-- a number is at one place
+one_place : (ns : List ℕ) (number place other : ℕ) → IsDistinct nat_eq ns → slice_get ns place ≡ Some number → slice_get ns other ≡ Some number → other ≡ place
+unfolding IsDistinct
+one_place [] number place other unique here there = absurd (none-some number here)
+one_place (n ∷ ns) number zero zero unique here there = refl
+one_place (n ∷ ns) number zero (suc other) unique here there =
+    let is : n ≡ number = same_Some n number here in
+    let differ : nat_eq n number ≡ false = differs_at n ns other number unique.0 there in absurd (grind (arith, nat_tests))
+one_place (n ∷ ns) number (suc place) zero unique here there =
+    let is : n ≡ number = same_Some n number there in
+    let differ : nat_eq n number ≡ false = differs_at n ns place number unique.0 here in absurd (grind (arith, nat_tests))
+one_place (n ∷ ns) number (suc place) (suc other) unique here there = ap suc (one_place ns number place other unique.1 here there)
+
+key_at : (ns : List ℕ) (number place : ℕ) → position (nat_eq number) ns ≡ Some place → slice_get ns place ≡ Some number
+key_at ns number place at =
+    let found = position-Some (nat_eq number) ns place number at in
+    let is : get_or ns place number ≡ number = grind (arith, nat_tests, found.1) in
+    slice_get-get_or ns place number found.0 ∙ ap (λ (k : ℕ). Some k) is
+
+pub values_at : (es : Numbered) (number : ℕ) (o : Option ℕ) → IfSome o (λ i. slice_get (values_of es) i ≡ lookup (nat_eq number) es) → (i : ℕ) → o ≡ Some i → slice_get (values_of es) i ≡ lookup (nat_eq number) es
+values_at es number None at i is = absurd (none-some i is)
+values_at es number (Some j) at i is = subst (λ k. slice_get (values_of es) k ≡ lookup (nat_eq number) es) (same_Some j i is) at
+
+-- what a look-up finds
+pub found_none : (counts : Member → Bool) (admitted : ℕ) (es : Numbered) (names : Names) (name : NameValue) → IsRegister counts admitted es names → lookup (name_eq name) names ≡ None → IsFound counts name (values_of es) None
+found_none counts admitted es names name r none = none_named counts name names es r.found none
+
+pub found_some : (counts : Member → Bool) (admitted : ℕ) (es : Numbered) (names : Names) (name : NameValue) (number : ℕ) (place : Option ℕ) → IsRegister counts admitted es names → lookup (name_eq name) names ≡ Some number
+    → place ≡ position (nat_eq number) (keys_of es) → ((i : ℕ) → place ≡ Some i → slice_get (values_of es) i ≡ lookup (nat_eq number) es) → is_some place ≡ is_some (lookup (nat_eq number) es) → IsFound counts name (values_of es) place
+found_some counts admitted es names name number None r leads is value found =
+    let who = number_of es names name number r.named leads in
+    let no = found ∙ ap (λ (o : Option Member). is_some o) who.at in absurd (cc)
+found_some counts admitted es names name number (Some place) r leads is value found =
+    let who = number_of es names name number r.named leads in (
+      who.member,
+      record {
+        at = value place refl ∙ who.at;
+        named = (bytes_decides name who.member.name).1 (sym who.named);
+        only = λ other x at there named.
+            one_place (keys_of es) number place other r.unique (key_at (keys_of es) number place (sym is))
+            (number_at counts names es other x r.found at there ∙ ap (λ n. lookup (name_eq n) names) (sym (same_name name x.name named)) ∙ leads);
+      },
+    )
+
+-- ---- one more
+
+renamed : (name : NameValue) (admitted : ℕ) (es es' : Numbered) (names : Names) → IsNumberOf es' name admitted → ((n : NameValue) (k : ℕ) → IsNumberOf es n k → IsNumberOf es' n k)
+    → AllByRecursion (λ e. IsNumberOf es e.0 e.1) names → AllByRecursion (λ e. IsNumberOf es' e.0 e.1) (insert_entry name_eq names name admitted)
+renamed name admitted es es' [] new keeps h = (new, tt)
+renamed name admitted es es' (e ∷ names) new keeps h =
+    (elim (name_eq name e.0) as (λ b. name_eq name e.0 ≡ b → AllByRecursion (λ e. IsNumberOf es' e.0 e.1) (cond b ((e.0, admitted) ∷ names) (e ∷ insert_entry name_eq names name admitted))) [
+      | true ↦ λ same. (subst (λ n. IsNumberOf es' n admitted) (same_name name e.0 same) new, each (λ e. IsNumberOf es e.0 e.1) (λ e. IsNumberOf es' e.0 e.1) (λ e. keeps e.0 e.1) names h.1)
+      | false ↦ λ _. (keeps e.0 e.1 h.0, renamed name admitted es es' names new keeps h.1)
+    ]) refl
+
+-- each name but that of the newcomer leads where it led
+still_named : (counts : Member → Bool) (name : NameValue) (admitted : ℕ) (names names' : Names) (es : Numbered)
+    → ((q : NameValue) → lookup (name_eq q) names' ≡ cond (name_eq name q) (Some admitted) (lookup (name_eq q) names))
+    → member_named (filter counts (values_of es)) name ≡ None → AllByRecursion (IsNamedIn counts names) es → AllByRecursion (IsNamedIn counts names') es
+still_named counts name admitted names names' [] updates none h = tt
+still_named counts name admitted names names' (e ∷ es) updates none h =
+    (elim (counts e.1) as (λ b. counts e.1 ≡ b → member_named (cond b (e.1 ∷ filter counts (values_of es)) (filter counts (values_of es))) name ≡ None → AllByRecursion (IsNamedIn counts names') (e ∷ es)) [
+      | true ↦ λ there n.
+          (elim (is_named name e.1) as (λ g. is_named name e.1 ≡ g → cond g (Some e.1) (member_named (filter counts (values_of es)) name) ≡ None → AllByRecursion (IsNamedIn counts names') (e ∷ es)) [
+            | true ↦ λ _ n. absurd (none-some e.1 (sym n))
+            | false ↦ λ other n. (λ c. updates e.1.name ∙ ap (λ b. cond b (Some admitted) (lookup (name_eq e.1.name) names)) other ∙ h.0 c, still_named counts name admitted names names' es updates n h.1)
+          ]) refl n
+      | false ↦ λ gone n. (λ c. absurd (let no = sym gone ∙ c in cc), still_named counts name admitted names names' es updates n h.1)
+    ]) refl none
+
+-- a newcomer gets the next number
+pub register_more : (counts : Member → Bool) (admitted : ℕ) (es es' : Numbered) (names names' : Names) (m : Member) → IsRegister counts admitted es names → member_named (filter counts (values_of es)) m.name ≡ None
+    → es' ≡ es ++ (admitted, m) ∷ [] → IsDistinct nat_eq (keys_of es') → names' ≡ insert_entry name_eq names m.name admitted
+    → ((q : NameValue) → lookup (name_eq q) names' ≡ cond (name_eq m.name q) (Some admitted) (lookup (name_eq q) names)) → IsRegister counts (admitted + 1) es' names'
+register_more counts admitted es es' names names' m r none made unique entered updates =
+    let more : Numbered = es ++ (admitted, m) ∷ [] in
+    let new : IsNumberOf more m.name admitted = record { member = m; at = lookup_fresh admitted m es r.numbered; named = refl } in
+    let own : IsNamedIn counts names' (admitted, m) = λ _. updates m.name ∙ ap (λ b. cond b (Some admitted) (lookup (name_eq m.name) names)) ((bytes_decides m.name m.name).1 refl) in
+    record {
+      numbered = subst (λ (l : Numbered). AllByRecursion (λ e. e.0 < admitted + 1) l) (sym made)
+          (each_push (λ e. e.0 < admitted + 1) es (admitted, m) (each (λ e. e.0 < admitted) (λ e. e.0 < admitted + 1) (λ e less. omega (arith, less)) es r.numbered) (omega arith));
+      unique = unique;
+      named = subst (λ (l : Numbered). AllByRecursion (λ e. IsNumberOf l e.0 e.1) names') (sym made)
+          (subst (λ (l : Names). AllByRecursion (λ e. IsNumberOf more e.0 e.1) l) (sym entered)
+          (renamed m.name admitted es more names new (λ n k is. record { member = is.member; at = lookup_append (nat_eq k) es (admitted, m) is.member is.at; named = is.named }) r.named));
+      found = subst (AllByRecursion (IsNamedIn counts names')) (sym made)
+          (each_push (IsNamedIn counts names') es (admitted, m) (still_named counts m.name admitted names names' es updates none r.found) own);
+    }
+
+-- ---- some go
+
+later : (es : Numbered) (e x : ℕ × Member) → has_number x.0 es ≡ true → has_number x.0 (e ∷ es) ≡ true
+later es e x has = elim (nat_eq x.0 e.0) as (λ b. is_some (cond b (Some e.1) (lookup (nat_eq x.0) es)) ≡ true) [ true ↦ refl | false ↦ has ]
+
+has_itself : (es : Numbered) → AllByRecursion (λ e. has_number e.0 es ≡ true) es
+has_itself [] = tt
+has_itself (e ∷ es) =
+    let same : nat_eq e.0 e.0 ≡ true = grind (arith, nat_tests) in (
+      ap (λ b. is_some (cond b (Some e.1) (lookup (nat_eq e.0) es))) same,
+      each (λ x. has_number x.0 es ≡ true) (λ x. has_number x.0 (e ∷ es) ≡ true) (later es e) es (has_itself es),
+    )
+
+still_number : (counts : Member → Bool) (es : Numbered) (name : NameValue) (k : ℕ) (o : Option Member) → IsDistinct nat_eq (keys_of es) → lookup (nat_eq k) (filter (λ e. counts e.1) es) ≡ o → is_some o ≡ true → IsNumberOf es name k → IsNumberOf (filter (λ e. counts e.1) es) name k
+still_number counts es name k None unique at some is = absurd (cc)
+still_number counts es name k (Some m) unique at some is =
+    record { member = m; at = at; named = ap (λ (x : Member). x.name) (same_Some m is.member (sym (lookup_filtered k (λ e. counts e.1) es m unique at) ∙ is.at)) ∙ is.named }
+
+pub register_kept : (counts : Member → Bool) (admitted : ℕ) (es es' : Numbered) (names names' : Names) → IsRegister counts admitted es names → es' ≡ filter (λ e. counts e.1) es → IsDistinct nat_eq (keys_of es')
+    → names' ≡ filter (λ e. has_number e.1 es') names → IsRegister (λ _. true) admitted es' names'
+register_kept counts admitted es es' names names' r made unique entered = by (sym made) entered
+  where
+    kept : Numbered
+    kept = filter (λ e. counts e.1) es
+
+    by : kept ≡ es' → names' ≡ filter (λ e. has_number e.1 es') names → IsRegister (λ _. true) admitted es' names'
+    by same is =
+        let few : names' ≡ filter (λ e. has_number e.1 kept) names = is ∙ ap (λ (l : Numbered). filter (λ (e : NameValue × ℕ). has_number e.1 l) names) (sym same) in
+        subst (λ (l : Numbered). IsRegister (λ _. true) admitted l names') same (subst (IsRegister (λ _. true) admitted kept) (sym few) (record {
+          numbered = each_kept (λ e. e.0 < admitted) (λ e. e.0 < admitted) (λ e. counts e.1) (λ e _ less. less) es r.numbered;
+          unique = subst (λ (l : Numbered). IsDistinct nat_eq (keys_of l)) (sym same) unique;
+          named = each_kept (λ e. IsNumberOf es e.0 e.1) (λ e. IsNumberOf kept e.0 e.1) (λ e. has_number e.1 kept) (λ e has is. still_number counts es e.0 e.1 (lookup (nat_eq e.1) kept) r.unique refl has is) names r.named;
+          found = both (λ e. lookup (name_eq e.1.name) names ≡ Some e.0) (λ e. has_number e.0 kept ≡ true) (IsNamedIn (λ _. true) (filter (λ e. has_number e.1 kept) names))
+              (λ e leads has _. lookup_kept (name_eq e.1.name) (λ k. has_number k kept) names e.0 leads has) kept
+              (each_kept (IsNamedIn counts names) (λ e. lookup (name_eq e.1.name) names ≡ Some e.0) (λ e. counts e.1) (λ e there leads. leads there) es r.found) (has_itself kept);
+        }))
+
+pub values_kept : (counts : Member → Bool) (es : Numbered) → values_of (filter (λ e. counts e.1) es) ≡ filter counts (values_of es)
+values_kept counts [] = refl
+values_kept counts (e ∷ es) =
+    elim (counts e.1) as (λ b. values_of (cond b (e ∷ filter (λ e. counts e.1) es) (filter (λ e. counts e.1) es)) ≡ cond b (e.1 ∷ filter counts (values_of es)) (filter counts (values_of es))) [
+      | true ↦ ap (λ (l : List Member). e.1 ∷ l) (values_kept counts es)
+      | false ↦ values_kept counts es
+    ]
+
+-- where nobody is gone all are named
+all_named : (t : ℕ) (names : Names) (es : Numbered) → NoneFreed t (values_of es) → AllByRecursion (IsNamedIn (is_there t) names) es → AllByRecursion (IsNamedIn (λ _. true) names) es
+all_named t names [] none h = tt
+all_named t names (e ∷ es) none h = (λ _. h.0 (ap not none.0), all_named t names es none.1 h.1)
+
+pub register_all : (t admitted : ℕ) (es : Numbered) (names : Names) → NoneFreed t (values_of es) → IsRegister (is_there t) admitted es names → IsRegister (λ _. true) admitted es names
+register_all t admitted es names none r = record { numbered = r.numbered; unique = r.unique; named = r.named; found = all_named t names es none r.found }
+
+-- where all are named, those that count are
+pub register_less : (counts : Member → Bool) (admitted : ℕ) (es : Numbered) (names : Names) → IsRegister (λ _. true) admitted es names → IsRegister counts admitted es names
+register_less counts admitted es names r = record { numbered = r.numbered; unique = r.unique; named = r.named; found = each (IsNamedIn (λ _. true) names) (IsNamedIn counts names) (λ e leads _. leads refl) es r.found }
+
+-- ---- one is written
+
+keys_written : (es : Numbered) (place : ℕ) (n : Member) → keys_of (set_value_at es place n) ≡ keys_of es
+keys_written [] place n = refl
+keys_written (e ∷ es) zero n = refl
+keys_written (e ∷ es) (suc place) n = ap (λ (l : List ℕ). e.0 ∷ l) (keys_written es place n)
+
+each_written : (P : ℕ × Member → Type 0) (es : Numbered) (place : ℕ) (m n : Member) → slice_get (values_of es) place ≡ Some m → ((k : ℕ) → P (k, m) → P (k, n)) → AllByRecursion P es → AllByRecursion P (set_value_at es place n)
+each_written P [] place m n at to h = tt
+each_written P (e ∷ es) zero m n at to h = (to e.0 (subst (λ (x : Member). P (e.0, x)) (same_Some e.1 m at) h.0), h.1)
+each_written P (e ∷ es) (suc place) m n at to h = (h.0, each_written P es place m n at to h.1)
+
+number_written : (es : Numbered) (place : ℕ) (m n : Member) (name : NameValue) (k : ℕ) → slice_get (values_of es) place ≡ Some m → n.name ≡ m.name → IsNumberOf es name k → IsNumberOf (set_value_at es place n) name k
+number_written [] place m n name k at same is = absurd (none-some m at)
+number_written (e ∷ es) zero m n name k at same is =
+    (elim (nat_eq k e.0) as (λ b. nat_eq k e.0 ≡ b → cond b (Some e.1) (lookup (nat_eq k) es) ≡ Some is.member → IsNumberOf ((e.0, n) ∷ es) name k) [
+      | true ↦ λ here found. record {
+        member = n;
+        at = ap (λ b. cond b (Some n) (lookup (nat_eq k) es)) here;
+        named = same ∙ ap (λ (x : Member). x.name) (sym (same_Some e.1 m at) ∙ same_Some e.1 is.member found) ∙ is.named;
+      }
+      | false ↦ λ other found. record { member = is.member; at = ap (λ b. cond b (Some n) (lookup (nat_eq k) es)) other ∙ found; named = is.named }
+    ]) refl is.at
+number_written (e ∷ es) (suc place) m n name k at same is =
+    (elim (nat_eq k e.0) as (λ b. nat_eq k e.0 ≡ b → cond b (Some e.1) (lookup (nat_eq k) es) ≡ Some is.member → IsNumberOf (e ∷ set_value_at es place n) name k) [
+      | true ↦ λ here found. record { member = is.member; at = ap (λ b. cond b (Some e.1) (lookup (nat_eq k) (set_value_at es place n))) here ∙ found; named = is.named }
+      | false ↦ λ other found.
+          let rest = number_written es place m n name k at same (record { member = is.member; at = found; named = is.named }) in
+          record { member = rest.member; at = ap (λ b. cond b (Some e.1) (lookup (nat_eq k) (set_value_at es place n))) other ∙ rest.at; named = rest.named }
+    ]) refl is.at
+
+pub register_written : (counts : Member → Bool) (admitted : ℕ) (es : Numbered) (names : Names) (place : ℕ) (m n : Member) → IsRegister counts admitted es names → slice_get (values_of es) place ≡ Some m → counts m ≡ true → n.name ≡ m.name
+    → IsRegister counts admitted (set_value_at es place n) names
+register_written counts admitted es names place m n r at there same = record {
+  numbered = each_written (λ e. e.0 < admitted) es place m n at (λ k less. less) r.numbered;
+  unique = subst (IsDistinct nat_eq) (sym (keys_written es place n)) r.unique;
+  named = each (λ e. IsNumberOf es e.0 e.1) (λ e. IsNumberOf (set_value_at es place n) e.0 e.1) (λ e is. number_written es place m n e.0 e.1 at same is) names r.named;
+  found = each_written (IsNamedIn counts names) es place m n at (λ k leads _. ap (λ name. lookup (name_eq name) names) same ∙ leads there) r.found;
+}
