@@ -370,10 +370,8 @@ struct pfair_step {
  *   0    the step is written
  * Cost: the number of processors, what is announced for the slot, the logarithm of the number of tasks for each quantum,
  * and what was taken since the last plan; not the entries held. Every 1,024 slots a block of some 72 KB is asked of
- * malloc for what is planned next, and nothing of what was planned is copied. Where a task joins and there are more than
- * ever before, room for twice as many is taken now and then, and what is held of no more than 1,024 tasks is moved; a slot
- * at which none joins takes room for the list of the tasks that are released at one slot alone, 8 KB at most. After
- * pfair_reserve a slot at which nothing is announced asks malloc for nothing.
+ * malloc for what is planned next, and nothing of what was planned is copied. If more tasks join than ever before, what
+ * is kept of the tasks is moved to twice the room, now and then. After pfair_reserve neither happens.
  */
 uint32_t pfair_plan_next(struct pfair_dispatcher *d, struct pfair_step *step);
 
@@ -390,17 +388,18 @@ uint32_t pfair_plan_next(struct pfair_dispatcher *d, struct pfair_step *step);
 uint32_t pfair_plan_to(struct pfair_dispatcher *d, uint64_t until, struct pfair_step *step);
 
 /*
- * Takes the memory that the next `slots` slots want, or all that are left of the run where these are fewer: for their
- * tables and places, and for the tasks that wait. Until these are planned, and as long as no task joins, the plan of a
- * slot asks malloc for something only where something is announced at the slot, or where entries were taken since the
- * slot before.
+ * Takes the memory of the next `slots` slots, or of all that are left of the run if these are fewer, and of `tasks`
+ * members at once, or of as many as the logs have room for entries if these are fewer. Until these slots are planned,
+ * and as long as no more tasks are members, the plan of a slot asks malloc for nothing if nothing is announced at it
+ * and no entry was taken since the slot before; and else for what was announced alone, by blocks that don't grow with
+ * the tasks.
  *   102  the handle has no dispatcher
  *   90   memory was refused: what is held and what was planned stand, plans go on, and what was taken is used by them
  *   0    the memory is there
- * Cost: for each slot for which there is no memory yet 25 bytes for each processor, and some 120 for the slot; and for
- * each task for which there is none 600 to 1,200 bytes, or 110 to 230 for those after the first 1,024.
+ * Cost: for each slot for which there is no memory yet 25 bytes for each processor, and some 120 for the slot; and some
+ * 900 bytes for each task for which there is none.
  */
-uint32_t pfair_reserve(struct pfair_dispatcher *d, uint64_t slots);
+uint32_t pfair_reserve(struct pfair_dispatcher *d, uint64_t slots, uint64_t tasks);
 
 /*
  * Forgets the tables, places and decisions of all slots below `slots`, or of all that are planned where these are fewer:

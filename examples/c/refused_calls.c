@@ -218,7 +218,7 @@ static void reading(void) {
     memcpy(kept_decided, decided, sizeof decided);
     memcpy(kept_places, places, sizeof places);
     REFUSED(PFAIR_NOT_OPEN, pfair_plan_next(&closed, &step));
-    REFUSED(PFAIR_NOT_OPEN, pfair_reserve(&closed, 1));
+    REFUSED(PFAIR_NOT_OPEN, pfair_reserve(&closed, 1, 1));
     REFUSED(PFAIR_NOT_OPEN, pfair_forget(&closed, 1));
     REFUSED(PFAIR_NOT_OPEN, pfair_reopen(&closed));
     REFUSED(PFAIR_NOT_OPEN, pfair_frontier(&closed, &number));

@@ -311,11 +311,13 @@ def test_forgotten_slots():
         one.forget(2**64 - 1)
         with pytest.raises(pfair.NotPlanned):
             one.table(7)
-        for call in (one.forget, one.reserve):
-            for wrong in (-1, 2**64):
-                refusal(pfair.OutOfRange, f"a number is out of its range: slots = {wrong}", call, wrong)
+        for wrong in (-1, 2**64):
+            refusal(pfair.OutOfRange, f"a number is out of its range: slots = {wrong}", one.forget, wrong)
+            refusal(pfair.OutOfRange, f"a number is out of its range: slots = {wrong}", one.reserve, wrong, 0)
+            refusal(pfair.OutOfRange, f"a number is out of its range: tasks = {wrong}", one.reserve, 0, wrong)
+        for words in ((one.forget, 1.5), (one.reserve, 1.5, 0), (one.reserve, 0, 1.5)):
             with pytest.raises(TypeError):
-                call(1.5)
+                words[0](*words[1:])
 
 
 def test_threads_share_one():

@@ -51,14 +51,14 @@ assert (one.quanta(done - 10) == ample.quanta(done - 10)).all() and (one.members
 """
 AHEAD = """
 few, all = long_run(), long_run()
-few.reserve(1_000)
+few.reserve(1_000, 1_000)
 all.plan(1)
-all.reserve(2**64 - 1)
+all.reserve(2**64 - 1, 2**64 - 1)
 assert all.planned == 1
 limit(8 << 20)
 assert all.plan() == ("planned", 199_999)
 refused(pfair.OutOfMemory, few.plan)
-few.reserve(0)
+few.reserve(0, 0)
 """
 
 
@@ -83,7 +83,7 @@ def test_closing():
         one.faults,
         one.members,
         one.reopen,
-        lambda: one.reserve(1),
+        lambda: one.reserve(1, 1),
         lambda: one.forget(1),
         lambda: one.take(0, 1, pfair.promise(1)),
         lambda: one.take_log(0, []),

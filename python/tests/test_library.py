@@ -150,7 +150,7 @@ def test_types_of_calls(monkeypatch):
         "faults": [handle, number, number, ROW, SIZE],
         "below": [handle, handle, number],
         "plan_to": [handle, LONG, step],
-        "reserve": [handle, LONG],
+        "reserve": [handle, LONG, LONG],
         "forget": [handle, LONG],
         "reopen": [handle],
         "frontier": [handle, number],

@@ -107,7 +107,7 @@ static void not_open(void) {
     ANSWERS(102, pfair_take(&d, 255, 0, &e, &n));
     ANSWERS(102, pfair_absorb(&d, &o));
     ANSWERS(102, pfair_plan_next(&d, &s));
-    ANSWERS(102, pfair_reserve(&d, 1));
+    ANSWERS(102, pfair_reserve(&d, 1, 1));
     ANSWERS(102, pfair_forget(&d, 1));
     ANSWERS(102, pfair_reopen(&d));
     ANSWERS(102, pfair_frontier(&d, &slot));

@@ -36,8 +36,8 @@ void *__real_realloc(void *, size_t);
 void __real_free(void *);
 /* how often memory was asked for, when it is refused, and what is in use */
 static __thread long calls, refuse_from, refuse_run, blocks, bytes, zero_sizes;
-/* the largest block that was asked for, and the largest of those that were made larger, before that */
-static __thread size_t largest, outgrown;
+/* the largest block that was asked for */
+static __thread size_t largest;
 static inline int refused(void) {
     calls++;
     return refuse_from && calls >= refuse_from && calls < refuse_from + refuse_run;
@@ -55,7 +55,6 @@ void *__wrap_realloc(void *old, size_t size) {
     if (size > largest) largest = size;
     if (refused()) return NULL;
     size_t before = old ? malloc_usable_size(old) : 0;
-    if (size > before && before > outgrown) outgrown = before;
     void *at = __real_realloc(old, size);
     if (at && !old) blocks++;
     if (at) bytes += (long)malloc_usable_size(at) - (long)before;

@@ -1,7 +1,7 @@
 /*
- * Memory that is taken ahead. After pfair_reserve no slot asks malloc for anything, but where something is announced at
- * it; what is planned then is what a dispatcher plans that was given no memory ahead; and each allocation of the call
- * is refused in turn. And without it no heap grows where nothing is decided, and where tasks join no large block is moved.
+ * Memory that is taken ahead. After pfair_reserve no slot asks malloc for anything if nothing is announced at it, and
+ * for small blocks alone if tasks come and go; what is planned then is what a dispatcher plans that was given no memory
+ * ahead; and each allocation of the call is refused in turn.
  *
  *   reserve_test [quick]
  */
@@ -28,7 +28,7 @@ static void with_memory(uint64_t slots, uint64_t late_at, uint64_t ahead, const 
     filled(&d, slots, late_at);
     plan_one(&d, 0);
     for (uint64_t slot = 1; slot < slots; slot++) {
-        if ((slot - 1) % ahead == 0) ANSWERS(0, pfair_reserve(&d, ahead));
+        if ((slot - 1) % ahead == 0) ANSWERS(0, pfair_reserve(&d, ahead, TASKS));
         if (slot != late_at) refuse_all();
         plan_one(&d, slot);
         CHECK(slot == late_at || calls == 0, "slot %" PRIu64 " asked for memory", slot);
@@ -49,7 +49,7 @@ static void refused_ahead(uint64_t slots, uint64_t late_at, const uint64_t *rows
             filled(&d, slots, late_at);
             plan_one(&d, 0);
             refuse(at, all ? LONG_MAX - at : 1);
-            uint32_t answer = pfair_reserve(&d, slots);
+            uint32_t answer = pfair_reserve(&d, slots, TASKS);
             is_whole = calls < at;
             ample();
             CHECK(answer == (is_whole ? 0 : 90), "answered %" PRIu32, answer);
@@ -81,7 +81,7 @@ static void reserved_first(void) {
     uint64_t taken;
     ANSWERS(0, pfair_open(&d, 1, 6, SLOTS, 5));
     ANSWERS(0, take(&d, 0, 1, nothing(SLOTS), &taken));
-    ANSWERS(0, pfair_reserve(&d, SLOTS));
+    ANSWERS(0, pfair_reserve(&d, SLOTS, 0));
     plan_without(&d, 0, SLOTS);
     ANSWERS(0, pfair_close(&d));
 }
@@ -93,7 +93,7 @@ static void reserved_after_forgetting(void) {
     filled(&d, 2 * SLOTS, 2 * SLOTS);
     for (uint64_t slot = 0; slot < SLOTS; slot++) plan_one(&d, slot);
     ANSWERS(0, pfair_forget(&d, SLOTS));
-    ANSWERS(0, pfair_reserve(&d, SLOTS));
+    ANSWERS(0, pfair_reserve(&d, SLOTS, TASKS));
     plan_without(&d, SLOTS, SLOTS);
     ANSWERS(0, pfair_close(&d));
 }
@@ -115,7 +115,7 @@ static void reserved_for_all_rows(void) {
     ANSWERS(0, take(&d, 0, ++number, nothing(SLOTS), &taken));
     for (int p = 1; p < PROCESSORS; p++) ANSWERS(0, take(&d, p, 1, nothing(SLOTS), &taken));
     plan_one(&d, 0);
-    ANSWERS(0, pfair_reserve(&d, SLOTS));
+    ANSWERS(0, pfair_reserve(&d, SLOTS, PROCESSORS));
     plan_without(&d, 1, SLOTS - 1);
     ANSWERS(0, pfair_table(&d, 49, &count, picks, PROCESSORS));
     CHECK(count == 1, "%" PRIu64 " rows at 49", count);
@@ -124,88 +124,72 @@ static void reserved_for_all_rows(void) {
     ANSWERS(0, pfair_close(&d));
 }
 
-/* It takes no more than the slots that are left want, and says nothing of a dispatcher that is torn or spent. */
+/* It takes no more than the slots that are left and the logs' entries can need, of a torn or spent dispatcher too. */
 static void of_any_dispatcher(void) {
     struct pfair_dispatcher d = PFAIR_NONE;
     struct pfair_step s;
     uint64_t taken;
-    ANSWERS(102, pfair_reserve(&d, 1));
+    ANSWERS(102, pfair_reserve(&d, 1, 1));
     ANSWERS(0, pfair_open(&d, 1, 6, 6, 5));
     refuse(0, 0);
-    ANSWERS(0, pfair_reserve(&d, UINT64_MAX));
+    ANSWERS(0, pfair_reserve(&d, UINT64_MAX, UINT64_MAX));
     CHECK(calls > 0 && calls < 30, "%ld allocations for six slots", calls);
     refuse_all();
-    ANSWERS(0, pfair_reserve(&d, 0));
-    ANSWERS(0, pfair_reserve(&d, 6));
+    ANSWERS(0, pfair_reserve(&d, 0, UINT64_MAX));
+    ANSWERS(0, pfair_reserve(&d, 6, 5));
     ample();
     ANSWERS(0, take(&d, 0, 1, arrive("a", 1, 2, 0), &taken));
     ANSWERS(0, take(&d, 0, 2, nothing(6), &taken));
     ANSWERS(0, pfair_plan_to(&d, UINT64_MAX, &s));
     CHECK(s.kind == PFAIR_ALL_PLANNED, "all");
     refuse_all();
-    ANSWERS(0, pfair_reserve(&d, UINT64_MAX));
+    ANSWERS(0, pfair_reserve(&d, UINT64_MAX, UINT64_MAX));
     ANSWERS(90, pfair_reopen(&d));
-    ANSWERS(0, pfair_reserve(&d, 1));
+    ANSWERS(0, pfair_reserve(&d, 1, 1));
     ANSWERS(31, pfair_plan_next(&d, &s));
     ample();
     ANSWERS(0, take(&d, 0, 2, nothing(5), &taken));
     CHECK(taken == PFAIR_TORN_NOW, "torn");
-    ANSWERS(0, pfair_reserve(&d, 1));
+    ANSWERS(0, pfair_reserve(&d, 1, 1));
     ANSWERS(30, pfair_plan_next(&d, &s));
     ANSWERS(0, pfair_close(&d));
 }
 
-/* The largest block that is asked for behind slot 0, by so many tasks whose windows have 64 slots at first and 65 then, so
-   that they come to wait among the keys of late deadlines in slots that decide nothing. No memory is taken ahead. */
-static size_t largest_behind_slot_0(int tasks) {
+/* Of 130 tasks 50 come and go, each time at a slot of its own: such a slot asks for little, and no other asks. */
+static void with_guests(uint64_t slots) {
+    enum { GUESTS = 50, STAYING = 80, ROUND = 2000 };
     struct pfair_dispatcher d = PFAIR_NONE;
-    uint64_t taken;
-    uint32_t numbers[2 * PROCESSORS] = {0};
-    char name[20];
-    ANSWERS(0, pfair_open(&d, 2 * PROCESSORS, FRAME, 300, 500));
-    for (int k = 0; k < tasks; k++) {
-        int p = k % (2 * PROCESSORS);
+    uint32_t numbers[PROCESSORS] = {0};
+    uint64_t taken, asked_at = 0;
+    char *is_announced = __real_malloc(slots), name[20];
+    memset(is_announced, 0, slots);
+    ANSWERS(0, pfair_open(&d, PROCESSORS, FRAME, slots, (uint32_t)(slots / ROUND + 1) * 14 + 20));
+    for (int k = 0; k < STAYING; k++) {
         snprintf(name, sizeof name, "t%d", k);
-        ANSWERS(0, take(&d, p, ++numbers[p], arrive(name, 79, FRAME, 0), &taken));
+        ANSWERS(0, take(&d, k % PROCESSORS, ++numbers[k % PROCESSORS], arrive(name, 1 + (k % 2), 20, 0), &taken));
     }
-    for (int p = 0; p < 2 * PROCESSORS; p++) ANSWERS(0, take(&d, p, ++numbers[p], nothing(1000000), &taken));
-    plan_one(&d, 0);
-    largest = 0;
-    for (uint64_t slot = 1; slot < 300; slot++) plan_one(&d, slot);
-    size_t most = largest;
-    ANSWERS(0, pfair_close(&d));
-    return most;
-}
-
-/* The heaps, which have some 50 bytes for each task, don't grow where nothing is decided, and so aren't moved. The list of
-   those that are released at one slot may, and has at most 16 for each. */
-static void with_many_tasks(void) {
-    size_t of_few = largest_behind_slot_0(40), of_many = largest_behind_slot_0(1000);
-    printf("behind slot 0 no block has more than %zu bytes with 40 tasks, %zu with 1000\n", of_few, of_many);
-    CHECK(of_many <= 16 * 1000, "a heap has grown");
-}
-
-/* So many tasks join, 80 at a slot, of which 16 run there: most wait in a heap, the others among the later dates. The largest
-   block that is made larger meanwhile is half of a piece of the members, 1,024 rows of 344 bytes; what grows beyond that
-   grows by new blocks, beside those that stand. Each list of 40,000 elements would be moved from a block of more. */
-static void with_many_joins(int tasks) {
-    enum { MANY = 2 * PROCESSORS, A_SLOT = 80 };
-    struct pfair_dispatcher d = PFAIR_NONE;
-    uint64_t taken, slots = (uint64_t)tasks / A_SLOT;
-    uint32_t numbers[MANY] = {0};
-    char name[20];
-    ANSWERS(0, pfair_open(&d, MANY, 1000 * FRAME, slots, (uint32_t)(tasks / MANY + 1)));
-    for (int k = 0; k < tasks; k++) {
-        int p = k % MANY;
-        snprintf(name, sizeof name, "t%d", k);
-        ANSWERS(0, take(&d, p, ++numbers[p], arrive(name, 1, 1000 * FRAME, (uint64_t)k / A_SLOT), &taken));
+    for (uint64_t at = 20; at < slots; at += 20) {
+        int k = (int)(at / 20 % GUESTS), is_coming = at % ROUND < ROUND / 2;
+        snprintf(name, sizeof name, "g%d", k);
+        struct pfair_entry guest = is_coming ? arrive(name, 1, 60, at) : depart(name, at);
+        ANSWERS(0, take(&d, k % PROCESSORS, ++numbers[k % PROCESSORS], guest, &taken));
+        is_announced[at] = 1;
     }
-    for (int p = 0; p < MANY; p++) ANSWERS(0, take(&d, p, ++numbers[p], nothing(1000000), &taken));
+    for (int p = 0; p < PROCESSORS; p++) ANSWERS(0, take(&d, p, ++numbers[p], nothing(1000000), &taken));
     plan_one(&d, 0);
-    outgrown = 0;
-    for (uint64_t slot = 1; slot < slots; slot++) plan_one(&d, slot);
-    printf("while %d tasks joined no block of more than %zu bytes was made larger\n", tasks, outgrown);
-    CHECK(outgrown <= 400000, "what stands was moved");
+    ANSWERS(0, pfair_reserve(&d, slots, STAYING + GUESTS));
+    size_t most = 0;
+    for (uint64_t slot = 1; slot < slots; slot++) {
+        refuse(0, 0);
+        largest = 0;
+        plan_one(&d, slot);
+        if (largest > most) most = largest;
+        if (calls > 0 && !is_announced[slot]) asked_at = slot;
+    }
+    printf("while tasks came and went no slot asked for more than %zu bytes at once\n", most);
+    CHECK(asked_at == 0, "slot %" PRIu64 " asked for memory", asked_at);
+    CHECK(most > 0 && most <= 4096, "%zu bytes", most);
+    __real_free(is_announced);
     ANSWERS(0, pfair_close(&d));
 }
 
@@ -224,8 +208,7 @@ int main(int count, char **words) {
     reserved_first();
     reserved_after_forgetting();
     reserved_for_all_rows();
-    with_many_tasks();
-    with_many_joins(quick ? 4000 : 40000);
+    with_guests(quick ? 6000 : 100000);
     CHECK(blocks == at_first, "%ld blocks not freed", blocks - at_first);
     return told();
 }

@@ -231,10 +231,11 @@ class Dispatcher:
         check(answer, f"entry {step.number} of processor {step.processor}" if answer == 30 else "", processor=step.processor, number=step.number)
         return Planned(STEPS[step.kind], step.slot)
 
-    def reserve(self, slots: int) -> None:
-        """Takes the memory that the next `slots` slots want, or all that are left where these are fewer, so that planning a slot takes
-        none where nothing is announced at it and no entry came since the slot before."""
-        self._call("pfair_reserve", whole(slots, 64, "slots"))
+    def reserve(self, slots: int, tasks: int) -> None:
+        """Takes the memory of the next `slots` slots, or of all that are left if these are fewer, and of `tasks` members at
+        once. The plan of such a slot then takes none if nothing is announced at it and no entry came since the slot before,
+        as long as no more tasks are members."""
+        self._call("pfair_reserve", whole(slots, 64, "slots"), whole(tasks, 64, "tasks"))
 
     def forget(self, slots: int) -> None:
         """Forgets what was planned of all slots below `slots`, or of all planned slots where these are fewer. Their memory is given back,

@@ -85,7 +85,7 @@ _CALLS: dict[str, list[Any]] = {
     "pfair_faults": [_handle, _number, _number, _array, _size],
     "pfair_below": [_handle, _handle, _number],
     "pfair_plan_to": [_handle, _u64, _step],
-    "pfair_reserve": [_handle, _u64],
+    "pfair_reserve": [_handle, _u64, _u64],
     "pfair_forget": [_handle, _u64],
     "pfair_reopen": [_handle],
     "pfair_frontier": [_handle, _number],

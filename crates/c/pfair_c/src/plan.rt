@@ -86,13 +86,13 @@ pub(crate) fn step_of(kind: u64, slot: u64) -> PfairStep
     }
 }
 
-/// Takes the room that so many further slots want, as
+/// Takes room for the next `slots` slots and for `tasks` members at once, as
 /// [`Dispatcher::reserve`](pfair_table::Dispatcher::reserve), and costs what that costs.
 ///
-/// It answers 0; 102 where the handle has no dispatcher; or 90. Whatever it answers, what is held
-/// and what was planned is as before.
+/// Answers 0; 102 if the handle has no dispatcher; or 90. Whatever it answers, what is held and what
+/// was planned is as before.
 #[unsafe(no_mangle)]
-pub extern "C" fn pfair_reserve(alloc: Global, handle: &mut Handle, slots: u64) -> u32
+pub extern "C" fn pfair_reserve(alloc: Global, handle: &mut Handle, slots: u64, tasks: u64) -> u32
     ensures closed { handle.old.owner.kept ≡ None → result ≡ 102 }
     ensures only { (result ≡ 0 → ⊥) → (result ≡ 90 → ⊥) → (result ≡ 102) × (handle.old.owner.kept ≡ None) }
     ensures unchanged { handle.new.owner.kept ≡ handle.old.owner.kept }
@@ -101,7 +101,7 @@ pub extern "C" fn pfair_reserve(alloc: Global, handle: &mut Handle, slots: u64) 
         return NOT_OPEN;
     }
     let mut served = handle.take(alloc);
-    let answer = served.dispatcher.reserve(slots);
+    let answer = served.dispatcher.reserve(slots, tasks as usize);
     handle.put(served);
     match answer {
         Ok(()) => DONE,

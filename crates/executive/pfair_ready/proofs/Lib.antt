@@ -1,10 +1,10 @@
 mod CalendarLemmas
-mod FarLemmas
+mod CoverLemmas
+mod DateLemmas
 mod HeapLemmas
 pub mod Names
-mod OlderLemmas
 mod PlainListLemmas
 pub mod Released
 mod Taking
 mod TurnLemmas
-mod SlotPlaces
+mod WaitingLemmas

@@ -1,7 +1,6 @@
-pub mod Heap
+pub mod Calendar
 pub mod Names
-pub mod Older
 pub mod PlainList
 pub mod Queue
-pub mod Slots
 pub mod Turns
+pub mod Waiting

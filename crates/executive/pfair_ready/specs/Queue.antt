@@ -19,6 +19,10 @@ released slot held = map (λ e. e.1) (filter (λ e. nat_le e.0 slot) (finmap.val
 abbrev pub without : List Key → Queue → Queue
 without keys held = finmap.retain_keys held (λ name. not (list_any (λ k. name_eq name k.name) keys))
 
+-- such a map is stored as its entries
+abbrev pub queue_code : Coded Queue
+queue_code = finmap.code (coded_list coded_ℕ) (coded× coded_ℕ key_code)
+
 -- what a ready structure is: a slot, and its queue
 pub record Content : Type 0 where
   pub now : ℕ
@@ -28,7 +32,7 @@ pub record Content : Type 0 where
 abbrev pub content_code : Coded Content
 content_code =
     code_by (ℕ × Queue)
-    (coded× coded_ℕ (finmap.code (coded_list coded_ℕ) (coded× coded_ℕ key_code)))
+    (coded× coded_ℕ queue_code)
     (λ c. (c.now, c.held))
     (λ p. record { now = p.0; held = p.1 })
     (λ _. refl)

@@ -16,24 +16,17 @@ ghost use Rattle.pfair_order.specs.Rank.{first_by_rank};
 ghost use Rattle.pfair_ready.specs.Queue.{Queue, released, without};
 
 mod calendar;
-mod date;
 mod far_dates;
-mod guesses;
 mod heap;
-mod heap_pair;
 mod plain;
-mod slots;
 mod turns;
+mod waiting;
 
 pub use heap::HeapReady;
 use pfair_order::Key;
 use pfair_weight::TaskName;
 pub use plain::PlainReady;
 use std::alloc::{AllocError, Global};
-
-// For how many keys or dates a heap has room from which on it doesn't grow: where it is too small,
-// another one is begun beside it, so that no growth moves more than these.
-const GROWN: usize = 1024;
 
 /// A ready structure: a slot, and for each of some names a release and a key.
 ///
@@ -102,17 +95,16 @@ pub trait Ready: Drop {
             held self.new ≡ without first.items (held self.old)) }
         ensures err { OnErr result (held self.new ≡ held self.old) };
 
-    /// As [`Ready::take_first`], with the keys in the list that is handed in, whose content goes and
-    /// whose room is used: it grows only where that is too small.
+    /// As [`Ready::take_first`], with the keys in a list that is handed in. Its content is dropped and
+    /// its room used; it grows only if that is too small.
     ///
     /// # Errors
-    ///
     /// As of [`Ready::take_first`]. The list is then gone.
     fn take_first_into(
         &mut self,
         slot: u64,
         m: usize,
-        room: Vec<Key>,
+        _room: Vec<Key>,
     ) -> Result<Vec<Key>, AllocError>
         requires { now self.old ≤ slot }
         ensures time { now self.new ≡ slot }
@@ -120,15 +112,20 @@ pub trait Ready: Drop {
             first.items ≡ first_by_rank pd2_cmp m (released slot (held self.old))) }
         ensures removed { IfOk result (λ first.
             held self.new ≡ without first.items (held self.old)) }
-        ensures err { OnErr result (held self.new ≡ held self.old) };
+        ensures err { OnErr result (held self.new ≡ held self.old) }
+    {
+        self.take_first(slot, m)
+    }
 
-    /// Takes the room that what is held wants until it is selected, so that no call takes memory
-    /// for it later. [`HeapReady`] and [`PlainReady`] say how far that reaches.
+    /// Takes room for so many keys, so that no call allocates as long as no more wait at once.
+    /// [`HeapReady`] says how far that reaches; a structure that allocates in each selection takes none.
     ///
     /// # Errors
-    ///
-    /// `AllocError` where a growth was refused.
-    fn reserve(&mut self) -> Result<(), AllocError>
+    /// `AllocError` if an allocation fails.
+    fn reserve(&mut self, _keys: usize) -> Result<(), AllocError>
         ensures time { now self.new ≡ now self.old }
-        ensures content { held self.new ≡ held self.old };
+        ensures content { held self.new ≡ held self.old }
+    {
+        Ok(())
+    }
 }

@@ -26,10 +26,8 @@ struct Waiting {
 
 /// A ready structure that is one list.
 ///
-/// `new` and `now` cost the same always. `held`, `insert` and `remove` look through all that is
-/// held, and so many steps they take. `take_first` and `take_first_into` look through it as well,
-/// and take up to m steps for each key that is held; both make lists anew, so that `reserve` does
-/// nothing.
+/// For n keys held, `new` and `now` are O(1), `held`, `insert` and `remove` O(n), and a selection of m
+/// keys O(n m). A selection allocates, whatever was reserved.
 #[derive(Drop)]
 pub struct PlainReady {
     alloc: Global,
@@ -88,24 +86,11 @@ impl Ready for PlainReady {
     }
 
     fn take_first(&mut self, slot: u64, m: usize) -> Result<Vec<Key>, AllocError> {
-        self.take_first_into(slot, m, Vec::new(self.alloc))
-    }
-
-    fn take_first_into(
-        &mut self,
-        slot: u64,
-        m: usize,
-        _room: Vec<Key>,
-    ) -> Result<Vec<Key>, AllocError> {
         self.now = slot;
         let released = released_keys(self.alloc, &self.waiting, slot)?;
         let first = listed(self.alloc, least_keys(self.alloc, &released, m)?)?;
         keep_others(&mut self.waiting, &first);
         Ok(first)
-    }
-
-    fn reserve(&mut self) -> Result<(), AllocError> {
-        Ok(())
     }
 }
 

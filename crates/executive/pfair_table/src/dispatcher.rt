@@ -293,21 +293,19 @@ impl<R: Ready> Dispatcher<R> {
         }
     }
 
-    /// Takes the room that so many further slots want, or all slots that are left where these are
-    /// fewer: for their tables and places, and for the tasks that wait. Until these are planned, and
-    /// as long as no task joins, a plan of a slot wants memory only where something is said at the
-    /// slot, or where entries came since the slot before. It holds for a dispatcher over
-    /// [`HeapReady`](pfair_ready::HeapReady); [`PlainReady`](pfair_ready::PlainReady) takes memory
-    /// in each slot.
+    /// Takes room for the next `slots` slots, or for all that are left if these are fewer, and for
+    /// `tasks` members at once, or for as many as the logs have entries if these are fewer.
     ///
-    /// It costs the slots for which there is no room yet: 25 bytes for each of them and of the
-    /// processors, and some 120 for each slot; and for each task for which there is none 600 to 1,200
-    /// bytes, or 110 to 230 for those after the first 1,024.
+    /// Over [`HeapReady`](pfair_ready::HeapReady) the plan of such a slot allocates nothing if no entry
+    /// came since the slot before and nothing is announced at it, as long as no more tasks are members;
+    /// and else for what was announced alone: entries by their slots, decisions and delays.
+    /// [`PlainReady`](pfair_ready::PlainReady) allocates in each slot. O(slots processors + tasks) time
+    /// and memory: 25 bytes for each slot and processor, some 120 for each slot, and some 900 for each
+    /// task.
     ///
     /// # Errors
-    /// `AllocError` where memory was wanted and refused. Here too all is as before; the room that was
-    /// taken is used later.
-    pub fn reserve(&mut self, slots: u64) -> Result<(), AllocError>
+    /// `AllocError` if an allocation fails. All is as before, and the room that was taken is used later.
+    pub fn reserve(&mut self, slots: u64, tasks: usize) -> Result<(), AllocError>
         ensures { self.new ≡ self.old }
     {
         let left = self
@@ -319,7 +317,8 @@ impl<R: Ready> Dispatcher<R> {
             return Ok(());
         }
         let processors = self.settings.processors();
-        self.planner.reserve(processors)?;
+        let entries = processors as usize * self.replica.capacity() as usize;
+        self.planner.reserve(processors, tasks.min(entries))?;
         self.planned.reserve(wanted as usize, processors as usize)
     }
 

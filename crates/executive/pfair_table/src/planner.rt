@@ -58,17 +58,18 @@ impl<R: Ready> Planner<R> {
         &self.members
     }
 
-    /// Takes the room that slots of so many processors want whose boundary decides nothing.
+    /// Takes room for slots of so many processors while no more than so many tasks are members.
     ///
     /// # Errors
-    /// `AllocError` where memory was wanted and refused.
-    pub(crate) fn reserve(&mut self, processors: u8) -> Result<(), AllocError>
+    /// `AllocError` if an allocation fails.
+    pub(crate) fn reserve(&mut self, processors: u8, tasks: usize) -> Result<(), AllocError>
         ensures readings { self.new.readings ≡ self.old.readings }
         ensures members { self.new.members ≡ self.old.members }
         ensures time { R.now self.new.ready ≡ R.now self.old.ready }
         ensures held { R.held self.new.ready ≡ R.held self.old.ready }
     {
-        self.ready.reserve()?;
+        self.members.reserve(tasks)?;
+        self.ready.reserve(tasks)?;
         self.keys.reserve(processors as usize)?;
         self.kept.reserve(processors as usize)
     }

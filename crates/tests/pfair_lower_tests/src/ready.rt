@@ -143,7 +143,7 @@ fn gives_into_a_list<R: Ready>(rt: &impl Abort, ready: &mut R) -> Result<(), Fai
 {
     let a = key(rt, 4, 0, b"a");
     assert!(rt; ready.insert(1, a)?);
-    ready.reserve()?;
+    ready.reserve(1)?;
     let none = ready.take_first(0, 1)?;
     let first = ready.take_first_into(1, 1, none)?;
     assert_eq!(rt; first.as_slice(), [a].as_slice());

@@ -67,7 +67,7 @@ fn goes_on<R: Ready>(
     plans(rt, dispatcher, 1000)?;
     dispatcher.reopen()?;
     assert_eq!(rt; dispatcher.next_slot(), 1000);
-    dispatcher.reserve(1500)?;
+    dispatcher.reserve(1500, 1)?;
     plans(rt, dispatcher, 2000)?;
     let none: [Pick; 0] = [];
     for (slot, index) in SLOTS {

@@ -1,11 +1,11 @@
-use Rattle.std.proofs.Common.{◌∷◌, [], inl, inr, refl, sym, ap, subst, ◌∙◌, ℕ, List, length}
+use Rattle.std.proofs.Common.{◌∷◌, [], inl, inr, refl, sym, ap, subst, ◌∙◌, List, length}
 use Rattle.std.specs.Prelude.{Contains, slice_get, slice_set}
 use Rattle.std.specs.Vec.{with_item}
 use Rattle.std.proofs.lemmas.Option.{slice_get_read}
 use Rattle.std.proofs.lemmas.List.Elements.{Contains-append_left, Contains-push}
 use Rattle.pfair_ready.specs.declared.calendar.Calendar.{Calendar}
-use Rattle.pfair_ready.specs.declared.date.Date.{Date}
-use Rattle.pfair_ready.specs.Slots.{in_bucket}
+use Rattle.pfair_ready.specs.declared.far_dates.Date.{Date}
+use Rattle.pfair_ready.specs.Calendar.{in_bucket}
 use Rattle.pfair_ready.proofs.HeapLemmas.{pushed_more, pushed_top}
 use Rattle.pfair_ready.proofs.CalendarLemmas.{at_set, noted_far, noted_near}
 use Rattle.pfair_ready.proofs.calendar.Calendar.note.Goals as goal
@@ -14,14 +14,14 @@ pub returns-in_err-push-in-Some-clause-kept : goal.returns-in_err-push-in-Some-c
 returns-in_err-push-in-Some-clause-kept c =
     let made : Calendar = c.make_near.new.self in
     let here = ap in_bucket (slice_get_read made.near.items (length made.near.items) c.in-Some.bucket c.index_mut.result.now refl c.in-Some.ensures.1 c.index_mut.ensures.value) in
-    λ d noted. noted_near made (record { turned = made.turned; near = with_item made.near c.in-Some.bucket c.push.new.self; far = made.far }) c.in-Some.bucket c.push.new.self (λ p h. subst (λ (l : List ℕ). Contains l p) (here ∙ sym c.in_err-push-in-Some.ensures.items) h) refl refl refl d (c.make_near.ensures.kept d noted)
+    λ d noted. noted_near made (record { turned = made.turned; near = with_item made.near c.in-Some.bucket c.push.new.self; far = made.far }) c.in-Some.bucket c.push.new.self (λ d' h. subst (λ (l : List Date). Contains l d') (here ∙ sym c.in_err-push-in-Some.ensures.items) h) refl refl refl d (c.make_near.ensures.kept d noted)
 
 pub returns-in_ok-push-in-Some-clause-kept : goal.returns-in_ok-push-in-Some-clause-kept
 returns-in_ok-push-in-Some-clause-kept c =
     let made : Calendar = c.make_near.new.self in
     let here = ap in_bucket (slice_get_read made.near.items (length made.near.items) c.in-Some.bucket c.index_mut.result.now refl c.in-Some.ensures.1 c.index_mut.ensures.value) in
     λ d noted. noted_near made (record { turned = made.turned; near = with_item made.near c.in-Some.bucket c.push.new.self; far = made.far }) c.in-Some.bucket c.push.new.self
-    (λ p h. subst (λ (l : List ℕ). Contains l p) (sym c.in_ok-push-in-Some.ensures.items) (Contains-append_left c.index_mut.result.now.items (c.args.date.place ∷ []) p (subst (λ (l : List ℕ). Contains l p) here h))) refl refl refl d (c.make_near.ensures.kept d noted)
+    (λ d' h. subst (λ (l : List Date). Contains l d') (sym c.in_ok-push-in-Some.ensures.items) (Contains-append_left c.index_mut.result.now.items (c.args.date ∷ []) d' (subst (λ (l : List Date). Contains l d') here h))) refl refl refl d (c.make_near.ensures.kept d noted)
 
 pub returns-in_ok-push-in-Some-clause-there : goal.returns-in_ok-push-in-Some-clause-there
 returns-in_ok-push-in-Some-clause-there c =
@@ -30,8 +30,8 @@ returns-in_ok-push-in-Some-clause-there c =
     inl (record {
       after = bucket.2;
       within = bucket.3;
-      there = subst (λ (l : List ℕ). Contains l c.args.date.place) (sym (ap (λ i. in_bucket (slice_get (slice_set made.near.items c.in-Some.bucket c.push.new.self) i)) (sym bucket.0) ∙ at_set made.near.items c.in-Some.bucket c.push.new.self bucket.1 ∙ c.in_ok-push-in-Some.ensures.items))
-          (Contains-push c.index_mut.result.now.items c.args.date.place);
+      there = subst (λ (l : List Date). Contains l c.args.date) (sym (ap (λ i. in_bucket (slice_get (slice_set made.near.items c.in-Some.bucket c.push.new.self) i)) (sym bucket.0) ∙ at_set made.near.items c.in-Some.bucket c.push.new.self bucket.1 ∙ c.in_ok-push-in-Some.ensures.items))
+          (Contains-push c.index_mut.result.now.items c.args.date);
     })
 
 pub returns-in_err-push-in-None-clause-kept : goal.returns-in_err-push-in-None-clause-kept

@@ -1,6 +1,6 @@
 use Rattle.std.proofs.Common.{◌≡◌, length}
-use Rattle.pfair_ready.specs.declared.date.Date.{Date}
-use Rattle.pfair_ready.specs.Slots.{IsNoted}
+use Rattle.pfair_ready.specs.declared.far_dates.Date.{Date}
+use Rattle.pfair_ready.specs.Calendar.{IsNoted}
 use Rattle.pfair_ready.proofs.calendar.Calendar.reserve.Given as goal
 
 abbrev pub invariant-loop-bucket : goal.invariant-loop-bucket

@@ -1,4 +1,4 @@
-use Rattle.pfair_ready.proofs.HeapLemmas.{covered_none}
+use Rattle.pfair_ready.proofs.CoverLemmas.{covered_none}
 use Rattle.pfair_ready.proofs.heap.HeapReadyReady.new.Goals as goal
 
 pub invariant_of-result : goal.invariant_of-result

@@ -1,0 +1,98 @@
+-- What waits is in the calendar, or has a turn.
+use Rattle.std.proofs.Common.{◌≡◌, ℕ, ◌≤◌, ◌⊎◌, inl, inr, Bool, true, false, cond, List, refl, sym, ap, subst, ◌∙◌, arith, Option, Some, None, true≢false}
+use Rattle.std.specs.Prelude.{Contains, is_some}
+use Rattle.std.specs.Ordering.{is_eq, eq_by_cmp}
+use Rattle.std.specs.Cmp.{Equal-is, tied_itself}
+use Rattle.std.specs.FinMap as finmap
+use Rattle.std.specs.FinMap.{get-empty, get-insert, get-remove}
+use Rattle.std.proofs.lemmas.Option.{none-some, same_Some}
+use Rattle.pfair_order.specs.declared.Key.{Key}
+use Rattle.pfair_ready.specs.declared.calendar.Calendar.{Calendar}
+use Rattle.pfair_ready.specs.declared.far_dates.Date.{Date}
+use Rattle.pfair_ready.specs.Names.{NameValue, name_cmp}
+use Rattle.pfair_ready.specs.Queue.{Queue}
+use Rattle.pfair_ready.specs.Calendar.{HasTurn, IsCovered, IsNoted, Moves}
+use Rattle.pfair_ready.proofs.Names.{names_total, names_exact}
+
+abbrev pub HasDate : Calendar → ℕ → NameValue → Type 0
+HasDate dates r q = (hint : ℕ) × IsNoted dates (record { release = r; hint = hint; name = q })
+
+-- nothing waits
+pub covered_none : (held : Queue) (dates : Calendar) (turns : List (Key × ℕ)) → held ≡ finmap.empty → dates.turned ≡ 0 → IsCovered 0 held dates turns
+covered_none held dates turns none turned =
+    record {
+      named = λ q r k at. absurd (none-some (r, k) (sym (ap (λ (h : Queue). finmap.get h q) none ∙ get-empty name_cmp q) ∙ at));
+      turned = omega (arith, turned);
+      covered = λ q r k at. absurd (none-some (r, k) (sym (ap (λ (h : Queue). finmap.get h q) none ∙ get-empty name_cmp q) ∙ at));
+    }
+
+-- dates and turns that have lost nothing
+pub covered_kept : (now : ℕ) (held : Queue) (dates dates' : Calendar) (turns turns' : List (Key × ℕ)) → ((d : Date) → IsNoted dates d → IsNoted dates' d) → dates'.turned ≡ dates.turned
+    → ((x : Key × ℕ) → Contains turns x → Contains turns' x) → IsCovered now held dates turns → IsCovered now held dates' turns'
+covered_kept now held dates dates' turns turns' noted turned kept c =
+    record {
+      named = c.named;
+      turned = let before = c.turned in omega (arith, turned, before);
+      covered = λ q r k at. elim (c.covered q r k at) [ inl d ↦ inl (d.0, noted (record { release = r; hint = d.0; name = q }) d.1) | inr t ↦ inr (t.0, (t.1.0, kept (k, t.1.0) t.1.1)) ];
+    }
+
+pub covered_moved : (now slot : ℕ) (held : Queue) (dates dates' : Calendar) (turns turns' : List (Key × ℕ)) → IsCovered now held dates turns → now ≤ slot → Moves slot held (IsNoted dates) (IsNoted dates') turns turns' → dates'.turned ≤ slot → IsCovered slot held dates' turns'
+covered_moved now slot held dates dates' turns turns' c within m turned =
+    record {
+      named = c.named;
+      turned = turned;
+      covered = λ q r k at. elim (c.covered q r k at) [
+        | inl d ↦ elim (m.moved (record { release = r; hint = d.0; name = q }) k at d.1) [ inl stays ↦ inl (d.0, stays) | inr gone ↦ inr gone ]
+        | inr t ↦ inr (omega (arith, t.0, within), (t.1.0, m.kept (k, t.1.0) t.1.1))
+      ];
+    }
+
+one_or : {A : Type 0} (b : Bool) (x y : A) (o : Option A) → cond b (Some x) o ≡ Some y → ((b ≡ true) × (x ≡ y)) ⊎ (o ≡ Some y)
+one_or true x y o e = inl (refl, same_Some x y e)
+one_or false x y o e = inr e
+
+-- a key more, with its date or its turn
+pub covered_more : (now r : ℕ) (k : Key) (held : Queue) (dates : Calendar) (turns : List (Key × ℕ)) → HasDate dates r k.name ⊎ ((r ≤ now) × HasTurn turns k) → IsCovered now held dates turns → IsCovered now (finmap.insert held k.name (r, k)) dates turns
+covered_more now r k held dates turns here c =
+    record {
+      named = λ q r' k' at. elim (one_or (eq_by_cmp name_cmp q k.name) (r, k) (r', k') (finmap.get held q) (sym (get-insert names_total held k.name (r, k) q) ∙ at)) [
+        | inl own ↦ sym (ap (λ (x : ℕ × Key). x.1.name) own.1) ∙ sym (names_exact q k.name ((Equal-is (name_cmp q k.name)).0 own.0))
+        | inr other ↦ c.named q r' k' other
+      ];
+      turned = c.turned;
+      covered = λ q r' k' at. elim (one_or (eq_by_cmp name_cmp q k.name) (r, k) (r', k') (finmap.get held q) (sym (get-insert names_total held k.name (r, k) q) ∙ at)) [
+        | inl own ↦
+            let Covers : ℕ × Key → NameValue → Type 0 = λ x n. HasDate dates x.0 n ⊎ ((x.0 ≤ now) × HasTurn turns x.1) in
+            subst (λ (x : ℕ × Key). Covers x q) own.1 (subst (Covers (r, k)) (sym (names_exact q k.name ((Equal-is (name_cmp q k.name)).0 own.0))) here)
+        | inr other ↦ c.covered q r' k' other
+      ];
+    }
+
+kept_entry : {A : Type 0} (b : Bool) (o : Option A) (x : A) → cond b None o ≡ Some x → (b ≡ false) × (o ≡ Some x)
+kept_entry true o x e = absurd (none-some x e)
+kept_entry false o x e = (refl, e)
+
+-- what waits under a name after another's key was taken out
+pub still_there : (held : Queue) (s q : NameValue) (v : ℕ × Key) → finmap.get (finmap.remove held s) q ≡ Some v → (q ≡ s → ⊥) × (finmap.get held q ≡ Some v)
+still_there held s q v at =
+    let kept = kept_entry (eq_by_cmp name_cmp q s) (finmap.get held q) v (sym (get-remove names_total held s q) ∙ at) in (
+      λ same. true≢false (sym (ap is_eq (tied_itself names_total s)) ∙ ap (λ n. is_eq (name_cmp n s)) (sym same) ∙ kept.0),
+      kept.1,
+    )
+
+-- a key less
+pub covered_less : (now : ℕ) (held : Queue) (s : NameValue) (dates : Calendar) (turns : List (Key × ℕ)) → IsCovered now held dates turns → IsCovered now (finmap.remove held s) dates turns
+covered_less now held s dates turns c =
+    record {
+      named = λ q r k at. c.named q r k (still_there held s q (r, k) at).1;
+      turned = c.turned;
+      covered = λ q r k at. c.covered q r k (still_there held s q (r, k) at).1;
+    }
+
+-- what is noted of a key that is put in
+pub either_here : (now r hint : ℕ) (k : Key) (dates : Calendar) (turns : List (Key × ℕ)) → IsNoted dates (record { release = r; hint = hint; name = k.name }) ⊎ ((r ≤ now) × HasTurn turns k) → HasDate dates r k.name ⊎ ((r ≤ now) × HasTurn turns k)
+either_here now r hint k dates turns h = elim h [ inl date ↦ inl (hint, date) | inr turn ↦ inr turn ]
+
+pub not_some : (o : Option (ℕ × Key)) → (is_some o ≡ true → ⊥) → o ≡ None
+not_some None h = refl
+not_some (Some x) h = absurd (h refl)

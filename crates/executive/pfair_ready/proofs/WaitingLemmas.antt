@@ -1,0 +1,141 @@
+-- The entries of names, as the map of what waits under them.
+use Rattle.std.proofs.Common.{arith, get_or, ◌≡◌, ℕ, Bool, true, false, cond, filter, List, [], ◌∷◌, refl, sym, ap, subst, ◌∙◌, Option, Some, None}
+use Rattle.std.specs.Prelude.{IfSome, is_some, position, ◌<◌, zero, suc, length}
+use Rattle.std.specs.Cmp.Lexicographic.{bytes_decides}
+use Rattle.std.proofs.lemmas.List.Quantifiers.{position-Some}
+use Rattle.std.specs.Cmp.{eq_by_cmp_equiv, Equal-is}
+use Rattle.std.specs.List.{AllByRecursion, IsDistinct}
+use Rattle.std.specs.Map.{lookup, keys_of}
+use Rattle.std.specs.BTreeMap.{is_at}
+use Rattle.std.specs.FinMap as finmap
+use Rattle.std.specs.FinMap.{find, get-from_entries, get-insert, get-remove, same_map}
+use Rattle.pfair_order.specs.declared.Key.{Key}
+use Rattle.pfair_ready.specs.Names.{NameValue, name_cmp, name_eq}
+use Rattle.pfair_ready.specs.Queue.{Queue}
+use Rattle.pfair_ready.specs.Waiting.{Entries, live, queue_in, with_entry, IsEntryOf}
+use Rattle.pfair_ready.proofs.Names.{names_total, names_exact, tied_names}
+
+module _ {X : Type 0} where
+  -- what stands under a name
+  abbrev pub found : List (NameValue × X) → NameValue → Option X
+  found es q = lookup (is_at (name_cmp q)) es
+
+  pub find_found : (es : List (NameValue × X)) (q : NameValue) → find name_cmp q es ≡ found es q
+  find_found [] q = refl
+  find_found (e ∷ es) q = ap (cond (is_at (name_cmp q) e.0) (Some e.1)) (find_found es q)
+
+  pub get_found : (es : List (NameValue × X)) (q : NameValue) → finmap.get (finmap.from_entries {R = name_cmp} es) q ≡ found es q
+  get_found es q = get-from_entries names_total es q ∙ find_found es q
+
+-- what a name's entry has, if there is one
+abbrev pub flat : Option (Option (ℕ × Key)) → Option (ℕ × Key)
+flat None = None
+flat (Some held) = held
+
+abbrev pub at : Entries → NameValue → Option (Option (ℕ × Key))
+at es q = lookup (name_eq q) es
+
+-- an entry of another name
+other_entry : (n : NameValue) (o : Option (ℕ × Key)) (es : List (NameValue × (ℕ × Key))) (q : NameValue) → name_eq q n ≡ false → found (with_entry n o es) q ≡ found es q
+other_entry n None es q e = refl
+other_entry n (Some v) es q e = ap (λ b. cond b (Some v) (found es q)) (tied_names q n ∙ e)
+
+no_live : (es : Entries) (q : NameValue) → AllByRecursion (λ y. name_eq q y ≡ false) (keys_of es) → found (live es) q ≡ None
+no_live [] q h = refl
+no_live (e ∷ es) q h = other_entry e.0 e.1 (live es) q h.0 ∙ no_live es q h.1
+
+own_entry : (n : NameValue) (o : Option (ℕ × Key)) (es : List (NameValue × (ℕ × Key))) (q : NameValue) → name_eq q n ≡ true → found es q ≡ None → found (with_entry n o es) q ≡ o
+own_entry n None es q e none = none
+own_entry n (Some v) es q e none = ap (λ b. cond b (Some v) (found es q)) (tied_names q n ∙ e)
+
+pub live_found : (es : Entries) (q : NameValue) → IsDistinct name_eq (keys_of es) → found (live es) q ≡ flat (at es q)
+unfolding IsDistinct
+live_found [] q h = refl
+live_found (e ∷ es) q h =
+    elim (name_eq q e.0) as (λ b. name_eq q e.0 ≡ b → found (with_entry e.0 e.1 (live es)) q ≡ flat (cond b (Some e.1) (at es q))) [
+      | true ↦ λ t.
+          let same : q ≡ e.0 = names_exact q e.0 ((Equal-is (name_cmp q e.0)).0 (tied_names q e.0 ∙ t)) in
+          own_entry e.0 e.1 (live es) q t (subst (λ x. found (live es) x ≡ None) (sym same) (no_live es e.0 h.0))
+      | false ↦ λ t. other_entry e.0 e.1 (live es) q t ∙ live_found es q h.1
+    ] refl
+
+-- what waits under a name
+pub queue_at : (es : Entries) (q : NameValue) → IsDistinct name_eq (keys_of es) → finmap.get (queue_in es) q ≡ flat (at es q)
+queue_at es q h = get_found (live es) q ∙ live_found es q h
+
+symm : (a b : NameValue) → is_at (name_cmp a) b ≡ name_eq b a
+symm a b = (eq_by_cmp_equiv names_total).symm a b ∙ tied_names b a
+
+module _ (es fs : Entries) (one : IsDistinct name_eq (keys_of es)) (two : IsDistinct name_eq (keys_of fs)) where
+  -- entries of which one name's is another make the map with that
+  pub queue_put : (s : NameValue) (v : ℕ × Key) → ((q : NameValue) → at fs q ≡ cond (name_eq s q) (Some (Some v)) (at es q)) → queue_in fs ≡ finmap.insert (queue_in es) s v
+  queue_put s v h = same_map names_total names_exact _ _ (λ q.
+      queue_at fs q two ∙ ap flat (h q)
+      ∙ elim (name_eq s q) as (λ b. flat (cond b (Some (Some v)) (at es q)) ≡ cond b (Some v) (flat (at es q))) [ true ↦ refl | false ↦ refl ]
+      ∙ ap (λ o. cond (name_eq s q) (Some v) o) (sym (queue_at es q one))
+      ∙ sym (get-insert names_total (queue_in es) s v q ∙ ap (λ b. cond b (Some v) (finmap.get (queue_in es) q)) (symm q s)))
+
+  -- or has none
+  pub queue_taken : (s : NameValue) (w : Option (Option (ℕ × Key))) → flat w ≡ None → ((q : NameValue) → at fs q ≡ cond (name_eq s q) w (at es q)) → queue_in fs ≡ finmap.remove (queue_in es) s
+  queue_taken s w none h = same_map names_total names_exact _ _ (λ q.
+      queue_at fs q two ∙ ap flat (h q)
+      ∙ elim (name_eq s q) as (λ b. flat (cond b w (at es q)) ≡ cond b None (flat (at es q))) [ true ↦ none | false ↦ refl ]
+      ∙ ap (λ o. cond (name_eq s q) None o) (sym (queue_at es q one))
+      ∙ sym (get-remove names_total (queue_in es) s q ∙ ap (λ b. cond b None (finmap.get (queue_in es) q)) (symm q s)))
+
+-- entries without a key make no difference
+pub live_kept : (es : Entries) → live (filter (λ (e : NameValue × Option (ℕ × Key)). is_some e.1) es) ≡ live es
+live_kept [] = refl
+live_kept (e ∷ es) =
+    elim e.1 as (λ o. live (cond (is_some o) ((e.0, o) ∷ filter (λ (e : NameValue × Option (ℕ × Key)). is_some e.1) es) (filter (λ (e : NameValue × Option (ℕ × Key)). is_some e.1) es)) ≡ with_entry e.0 o (live es)) [
+      | None ↦ live_kept es
+      | Some v ↦ ap (λ (l : List (NameValue × (ℕ × Key))). (e.0, v) ∷ l) (live_kept es)
+    ]
+
+-- nothing waits under a name that has no entry
+pub none_there : (es : Entries) (name : NameValue) → IsDistinct name_eq (keys_of es) → at es name ≡ None → finmap.get (queue_in es) name ≡ None
+none_there es name h none = queue_at es name h ∙ ap flat none
+
+pub removed_none : (held : Queue) (s : NameValue) → finmap.get held s ≡ None → finmap.remove held s ≡ held
+removed_none held s none = same_map names_total names_exact _ _ (λ q.
+    get-remove names_total held s q ∙ elim (is_at (name_cmp q) s) as (λ b. is_at (name_cmp q) s ≡ b → cond b None (finmap.get held q) ≡ finmap.get held q) [
+      | true ↦ λ t. sym (ap (finmap.get held) (names_exact q s ((Equal-is (name_cmp q s)).0 t)) ∙ none)
+      | false ↦ λ _. refl
+    ] refl)
+
+-- what was put is taken out again
+pub put_removed : (held : Queue) (s : NameValue) (v : ℕ × Key) → finmap.get held s ≡ None → finmap.remove (finmap.insert held s v) s ≡ held
+put_removed held s v none = same_map names_total names_exact _ _ (λ q.
+    get-remove names_total (finmap.insert held s v) s q
+    ∙ ap (λ o. cond (is_at (name_cmp q) s) None o) (get-insert names_total held s v q)
+    ∙ elim (is_at (name_cmp q) s) as (λ b. is_at (name_cmp q) s ≡ b → cond b None (cond b (Some v) (finmap.get held q)) ≡ finmap.get held q) [
+      | true ↦ λ t. sym (ap (finmap.get held) (names_exact q s ((Equal-is (name_cmp q s)).0 t)) ∙ none)
+      | false ↦ λ _. refl
+    ] refl)
+
+-- ---- where a name stands
+
+key_entry : (es : Entries) (i : ℕ) (d : NameValue) → i < length (keys_of es) → IsEntryOf es (get_or (keys_of es) i d) i
+key_entry [] i d h = absurd (omega (arith, h))
+key_entry (e ∷ es) zero d h = (e.1, refl)
+key_entry (e ∷ es) (suc i) d h = key_entry es i d (omega (arith, h))
+
+pub entry_at : (es : Entries) (n : NameValue) (i : ℕ) → position (name_eq n) (keys_of es) ≡ Some i → IsEntryOf es n i
+entry_at es n i p =
+    let q = position-Some (name_eq n) (keys_of es) i n p in
+    subst (λ x. IsEntryOf es x i) (sym ((bytes_decides n (get_or (keys_of es) i n)).0 q.1)) (key_entry es i n q.0)
+
+pub each_entry : (es : Entries) (n : NameValue) (o : Option ℕ) → o ≡ position (name_eq n) (keys_of es) → IfSome o (IsEntryOf es n)
+each_entry es n None e = tt
+each_entry es n (Some i) e = entry_at es n i (sym e)
+
+module _ (es : Entries) (name : NameValue) (h : IsDistinct name_eq (keys_of es)) where
+  -- what an entry has waits under its name
+  pub held_there : (o : Option (ℕ × Key)) → at es name ≡ Some o → finmap.get (queue_in es) name ≡ o
+  held_there o e = queue_at es name h ∙ ap flat e
+
+  pub contained : (o : Option (ℕ × Key)) (b : Bool) → at es name ≡ Some o → b ≡ is_some o → finmap.contains_key (queue_in es) name ≡ b
+  contained o b e is = ap is_some (held_there o e) ∙ sym is
+
+  pub absent : at es name ≡ None → finmap.contains_key (queue_in es) name ≡ false
+  absent none = ap is_some (none_there es name h none)

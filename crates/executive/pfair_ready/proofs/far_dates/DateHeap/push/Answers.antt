@@ -1,6 +1,0 @@
-use Rattle.std.specs.BinaryHeap.{heap_items}
-use Rattle.pfair_ready.proofs.FarLemmas.{date_given}
-use Rattle.pfair_ready.proofs.far_dates.DateHeap.push.Goals as goal
-
-pub returns-clause-more : goal.returns-clause-more
-returns-clause-more c = date_given c.args.date (heap_items c.self.inside.dates) (heap_items c.push.new.self) c.args.self.now c.self.view_is c.in_ok-push.ensures.permutation

@@ -1,0 +1,19 @@
+use Rattle.std.specs.BinaryHeap.{heap_items}
+use Rattle.pfair_ready.specs.Calendar.{dates_of}
+use Rattle.pfair_ready.proofs.DateLemmas.{all_later, moves_more, popped_order, same_dates}
+use Rattle.pfair_ready.proofs.HeapLemmas.{popped}
+use Rattle.pfair_ready.proofs.far_dates.release_come.Goals as goal
+
+pub loop-date-preserved : goal.loop-date-preserved
+loop-date-preserved c =
+    let next = c.in-Some.ensures.some in
+    record {
+      moves = moves_more c.args.slot c.args.waiting.now c.in-Some.date (dates_of (heap_items c.args.dates.now)) (dates_of (heap_items c.loop-date.dates)) (dates_of (heap_items c.pop.new.self)) c.args.released.now c.loop-date.released c.release_one.new.released
+          c.loop-date.invariant.moves next.due
+          (same_dates (heap_items c.loop-date.dates) (record { 0 = c.in-Some.date }) (heap_items c.pop.new.self) (popped c.pop.result (heap_items c.loop-date.dates) (heap_items c.pop.new.self) (record { 0 = c.in-Some.date }) _ c.loop-date.dates.data.ok.0 next.some next.top c.pop.ensures.none c.pop.ensures.top c.pop.ensures.permutation))
+          c.release_one.ensures.kept c.in_ok-release_one.ensures.there;
+      date_order = popped_order c.pop.result (heap_items c.loop-date.dates) (heap_items c.pop.new.self) _ c.loop-date.dates.data.ok.0 next.some c.pop.ensures.none c.pop.ensures.heap_order c.loop-date.invariant.date_order;
+    }
+
+pub returns-clause-done : goal.returns-clause-done
+returns-clause-done c = all_later c.args.slot (heap_items c.loop-date.dates) c.in_default.ensures.none

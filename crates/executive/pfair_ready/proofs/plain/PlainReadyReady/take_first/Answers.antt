@@ -1,0 +1,31 @@
+use Rattle.std.proofs.Common.{◌≡◌, not, List, sym, ap, subst, ◌∙◌}
+use Rattle.pfair_weight.proofs.NamesApart.{apart_filter}
+use Rattle.pfair_ready.specs.Names.{name_eq}
+use Rattle.std.specs.List.{list_any}
+use Rattle.pfair_order.specs.declared.Key.{Key}
+use Rattle.pfair_order.specs.Order.{pd2_cmp}
+use Rattle.pfair_order.specs.Rank.{first_by_rank}
+use Rattle.itertools.specs.Extremes.{IsKLeast, by_cmp}
+use Rattle.pfair_ready.specs.Queue.{released, without}
+use Rattle.pfair_ready.specs.PlainList.{queue_of}
+use Rattle.pfair_ready.proofs.PlainListLemmas.{name_of, queue_of_filter, first_from_least, released_of}
+use Rattle.pfair_ready.proofs.plain.PlainReadyReady.take_first.Goals as goal
+
+pub invariant_of-self-2 : goal.invariant_of-self-2
+invariant_of-self-2 c = rw c.keep_others.ensures (apart_filter name_of _ c.self.inside.waiting.items c.self.invariant)
+
+pub returns-clause-first : goal.returns-clause-first
+returns-clause-first c =
+    let keys : c.deref-2.result.now ≡ released_of c.args.slot c.self.inside.waiting.items =
+    c.deref-2.ensures.value ∙ c.in_ok-released.ensures ∙ ap (released_of c.args.slot) c.deref.ensures.value in
+    let least : IsKLeast (by_cmp pd2_cmp) c.args.m (released_of c.args.slot c.self.inside.waiting.items) c.in_ok-first.first.items =
+    subst (λ (l : List Key). IsKLeast (by_cmp pd2_cmp) c.args.m l c.in_ok-first.first.items) keys
+    (subst (λ (f : List Key). IsKLeast (by_cmp pd2_cmp) c.args.m c.deref-2.result.now f) (sym c.in_ok-first.ensures) c.in_ok-least_keys.ensures) in
+    subst (λ v. c.in_ok-first.first.items ≡ first_by_rank pd2_cmp c.args.m (released c.args.slot v.held)) c.self.view_is
+    (first_from_least c.args.slot c.args.m c.self.inside.waiting.items c.in_ok-first.first.items c.self.invariant least)
+
+pub returns-clause-removed : goal.returns-clause-removed
+returns-clause-removed c =
+    ap queue_of c.keep_others.ensures ∙ queue_of_filter (λ n. not (list_any (λ k. name_eq n k.name) c.deref-3.result.now)) c.self.inside.waiting.items
+    ∙ ap (λ l. without l (queue_of c.self.inside.waiting.items)) c.deref-3.ensures.value
+    ∙ ap (λ v. without c.in_ok-first.first.items v.held) c.self.view_is

@@ -1,0 +1,12 @@
+use Rattle.std.proofs.Common.{rules, ap, ◌∙◌}
+use Rattle.std.specs.FinMap as finmap
+use Rattle.indexmap.proofs.CallerLemmas.{filter-RetainsPairs}
+use Rattle.pfair_ready.specs.Waiting.{queue_in}
+use Rattle.pfair_ready.proofs.WaitingLemmas.{live_kept}
+use Rattle.pfair_ready.proofs.waiting.Waiting.drop_vacant.Goals as goal
+
+pub returns-then-self-len : goal.returns-then-self-len
+returns-then-self-len c =
+    ap queue_in (filter-RetainsPairs _ _ _ (λ k v b w g call. search rules) _ _ c.retain.ensures.filtered)
+    ∙ ap finmap.from_entries (live_kept c.self.inside.entries.entries)
+    ∙ c.self.view_is

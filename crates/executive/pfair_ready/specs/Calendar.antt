@@ -1,0 +1,71 @@
+-- When the keys that wait are released, and what moves from there to the turns.
+use Rattle.std.specs.Prelude.{◌≡◌, ℕ, ◌+◌, ◌%◌, ◌≤◌, ◌<◌, ◌⊎◌, Vec, List, [], Option, Some, None, Contains, map, length, slice_get, slice_index_or}
+use Rattle.std.specs.declared.alloc.Global.{Global}
+use Rattle.std.specs.declared.cmp.Ordering.{Ordering}
+use Rattle.std.specs.declared.cmp.Reverse.{Reverse}
+use Rattle.std.specs.FinMap as finmap
+use Rattle.std.specs.Ordering.{nat_cmp, ordering_then}
+use Rattle.pfair_order.specs.declared.Key.{Key}
+use Rattle.pfair_ready.specs.declared.calendar.Calendar.{Calendar}
+use Rattle.pfair_ready.specs.declared.far_dates.Date.{Date}
+use Rattle.pfair_ready.specs.Names.{NameValue, name_cmp}
+use Rattle.pfair_ready.specs.Queue.{Queue}
+
+-- the earlier date first
+abbrev pub date_cmp : Date → Date → Ordering
+date_cmp a b = ordering_then (nat_cmp a.release b.release) (ordering_then (nat_cmp a.hint b.hint) (name_cmp a.name b.name))
+
+abbrev pub later_cmp : Reverse Date → Reverse Date → Ordering
+later_cmp a b = date_cmp b.0 a.0
+
+-- the dates of the elements of a heap
+abbrev pub dates_of : List (Reverse Date) → List Date
+dates_of = map (λ r. r.0)
+
+-- the date is on top of the heap, and has come
+pub record IsFirstDate (slot : ℕ) (dates : List (Reverse Date)) (date : Date) : Type 0 where
+  pub due : date.release ≤ slot
+  pub some : 0 < length dates
+  pub top : record { 0 = date } ≡ slice_index_or dates 0 (record { 0 = date })
+
+-- the dates in the list of a near slot
+abbrev pub in_bucket : Option (Vec Date Global) → List Date
+in_bucket None = []
+in_bucket (Some bucket) = bucket.items
+
+abbrev pub under : List (Vec Date Global) → ℕ → List Date
+under near slot = in_bucket (slice_get near (slot % 64))
+
+-- a date is among the near ones, which are those of 64 slots
+pub record IsNear (turned : ℕ) (near : List (Vec Date Global)) (date : Date) : Type 0 where
+  pub after : turned < date.release
+  pub within : date.release ≤ turned + 64
+  pub there : Contains (under near date.release) date
+
+-- or among the far ones
+abbrev pub IsAmong : List Date → Date → Type 0
+IsAmong far date = Contains far date
+
+-- a date is in the calendar
+abbrev pub IsNoted : Calendar → Date → Type 0
+IsNoted c date = IsNear c.turned c.near.items date ⊎ IsAmong c.far date
+
+-- a key has a turn
+abbrev pub HasTurn : List (Key × ℕ) → Key → Type 0
+HasTurn turns k = (hint : ℕ) × Contains turns (k, hint)
+
+-- what moved to the turns, which lose nothing: a date of a name's key that was in one place, and isn't in another, has come, and the key has a turn
+pub record Moves (slot : ℕ) (held : Queue) (Was Is : Date → Type 0) (turns turns' : List (Key × ℕ)) : Type 0 where
+  pub kept : (x : Key × ℕ) → Contains turns x → Contains turns' x
+  pub moved : (d : Date) (k : Key) → finmap.get held d.name ≡ Some (d.release, k) → Was d → Is d ⊎ ((d.release ≤ slot) × HasTurn turns' k)
+
+-- what moved from the list of a slot that has come
+pub record Empties (slot : ℕ) (held : Queue) (bucket bucket' : List Date) (turns turns' : List (Key × ℕ)) : Type 0 where
+  pub kept : (x : Key × ℕ) → Contains turns x → Contains turns' x
+  pub emptied : (d : Date) (k : Key) → finmap.get held d.name ≡ Some (d.release, k) → d.release ≤ slot → Contains bucket d → Contains bucket' d ⊎ HasTurn turns' k
+
+-- each key stands under its own name, and is in the calendar at its release, or released and has a turn
+pub record IsCovered (now : ℕ) (held : Queue) (dates : Calendar) (turns : List (Key × ℕ)) : Type 0 where
+  pub named : (q : NameValue) (r : ℕ) (k : Key) → finmap.get held q ≡ Some (r, k) → k.name ≡ q
+  pub turned : dates.turned ≤ now
+  pub covered : (q : NameValue) (r : ℕ) (k : Key) → finmap.get held q ≡ Some (r, k) → ((hint : ℕ) × IsNoted dates (record { release = r; hint = hint; name = q })) ⊎ ((r ≤ now) × HasTurn turns k)
