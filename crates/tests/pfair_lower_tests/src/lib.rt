@@ -1,5 +1,5 @@
-//! Worked rows of the crates below the tables: windows and weights, the order, joins, lists in
-//! pieces, entries, replicas, members and ready structures.
+//! Worked rows of the crates below the tables: windows and weights, the order, joins, entries,
+//! replicas, members and ready structures.
 //!
 //! Each module tests one crate through its public calls; `many_arrivals` and `full_replicas` do so at
 //! the sizes that users have, with ample memory.
@@ -18,7 +18,6 @@ mod many_arrivals;
 #[cfg(test)]
 mod order;
 #[cfg(test)]
-mod pieces;
 #[cfg(test)]
 mod ready;
 #[cfg(test)]

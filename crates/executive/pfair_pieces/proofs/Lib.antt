@@ -1,4 +1,0 @@
-mod Exchanged
-mod Pieced
-pub mod PlaceFacts
-mod Places

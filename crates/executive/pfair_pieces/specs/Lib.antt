@@ -1,3 +1,0 @@
-pub mod Lent
-pub mod NameIndex
-pub mod Pieces
