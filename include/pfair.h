@@ -36,8 +36,8 @@
 #include <stddef.h>
 #include <stdint.h>
 
-#define PFAIR_VERSION "0.3.0"
-#define PFAIR_VERSION_NUMBER 300
+#define PFAIR_VERSION "0.4.0"
+#define PFAIR_VERSION_NUMBER 400
 
 #ifdef __cplusplus
 extern "C" {
