@@ -1,7 +1,6 @@
-//! Worked entries and logs, the texts of the faults, and that entries are exact contents.
+//! Worked entries and logs, and the texts of the faults.
 use pfair_entry::{Announcement, Entry, EntryFault, NoteFault, Writer};
-use pfair_lattice::{Exact, Flat, Join};
-use pfair_weight::{TaskName, Weight};
+use pfair_weight::TaskName;
 use std::test::Fail;
 
 fn late(name: TaskName, index: u64, by: u64) -> Option<(u64, Announcement)> {
@@ -47,33 +46,6 @@ fn refused_notes_are_not_counted(rt: HostRuntime) {
     let mut short = Writer::new(1);
     assert_eq!(&rt; short.note(5, None).expect(&rt, "a note").0, 1);
     assert_eq!(&rt; short.note(4, None), Err(NoteFault::LogFull));
-}
-
-// Whether two contents are joined to one: through the bound, so that any exact content is.
-fn stays_one<T: Exact>(first: T, second: T) -> bool {
-    Flat::One(first).le(&Flat::One(second))
-}
-
-#[test]
-fn entries_are_exact(rt: HostRuntime) {
-    let name = TaskName::from_bytes(b"a").expect(&rt, "a name");
-    let weight = Weight::new(1, 2).expect(&rt, "a weight");
-    for early in [false, true] {
-        let arrives = Announcement::Arrive {
-            name,
-            weight,
-            early,
-        };
-        let entry = Entry::new(3, Some((4, arrives))).expect(&rt, "an entry");
-        assert!(&rt; stays_one(entry, entry));
-        let arrives = Announcement::Arrive {
-            name,
-            weight,
-            early: !early,
-        };
-        let other = Entry::new(3, Some((4, arrives))).expect(&rt, "an entry");
-        assert!(&rt; !stays_one(entry, other));
-    }
 }
 
 #[test]

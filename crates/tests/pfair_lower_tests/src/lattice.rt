@@ -88,19 +88,6 @@ fn nests_three_deep(rt: HostRuntime) -> Result<(), Fail> {
     Ok(())
 }
 
-// A content is torn where it stands.
-fn tears(rt: &impl Abort, row: &mut JoinMap<u32, Flat<u8>>) -> Result<(), Fail> {
-    row.put(1, &Flat::One(A))?;
-    row.get_mut(&1).expect(rt, "a content").join(&Flat::Torn)?;
-    assert_eq!(rt; row.get(&1), Some(&Flat::Torn));
-    Ok(())
-}
-
-#[test]
-fn a_content_is_changed_where_it_stands(rt: HostRuntime) -> Result<(), Fail> {
-    tears(&rt, &mut JoinMap::new(rt.alloc()))
-}
-
 #[test]
 fn keeps_a_key_with_an_empty_map(rt: HostRuntime) -> Result<(), Fail> {
     let empty = Rows::new(rt.alloc());

@@ -99,6 +99,40 @@ fn a_run_of_five_thousand_slots(rt: HostRuntime) -> Result<(), AllocError> {
     assert_texts(&rt, rt.alloc(), (1, 2, 5000), &texts)
 }
 
+// A task whose first 150 subtasks are each a slot later than the one before.
+fn one_task_late(texts: &mut Texts) -> Result<(), AllocError> {
+    texts.events.push_str("0 1 0 0 arrive a 1 2; ")?;
+    texts.answers.push_str("new, ")?;
+    texts.decisions.push_str("[0.1 a admitted")?;
+    for index in 1..151u32 {
+        write!(texts.events, "0 {} 0 0 late a {index} 1; ", index + 1)?;
+        texts.answers.push_str("new, ")?;
+        write!(texts.decisions, ", 0.{} a delayed", index + 1)?;
+    }
+    texts.events.push_str("0 152 451; plan 452")?;
+    texts.answers.push_str("new, ")?;
+    texts.decisions.push(']')?;
+    for slot in 0..451u32 {
+        write!(texts.answers, "slot {slot}, ")?;
+        if slot % 3 == 1 && slot < 450 {
+            write!(texts.tables, "[a{}]", slot / 3 + 1)?;
+        } else {
+            texts
+                .tables
+                .push_str(if slot == 450 { "[a151]" } else { "[]" })?;
+        }
+        texts.decisions.push_str(if slot > 0 { "[]" } else { "" })?;
+    }
+    texts.answers.push_str("done")
+}
+
+#[test]
+fn a_task_with_150_delays(rt: HostRuntime) -> Result<(), AllocError> {
+    let mut texts = no_texts(rt.alloc());
+    one_task_late(&mut texts)?;
+    assert_texts(&rt, rt.alloc(), (1, 2, 451), &texts)
+}
+
 // A task of weight 1 for each processor, whose names fall.
 fn all_at_once(texts: &mut Texts) -> Result<(), AllocError> {
     for processor in 0..64u8 {

@@ -389,15 +389,6 @@ fn a_gate_is_shut_to_one_worker(rt: HostRuntime) -> Result<(), Fail> {
     Ok(())
 }
 
-#[test]
-fn a_shut_gate_comes_before_a_stall(rt: HostRuntime) -> Result<(), Fail> {
-    let log = vec![in rt.alloc(); entry(&rt, 5, None), entry(&rt, 4, None)]?;
-    let script = of_one_log(&rt, rt.alloc(), 8, log)?;
-    let run = run_dispatchers::<HeapReady, _>(&rt, rt.alloc(), &script, &ShutGate);
-    assert!(&rt; matches!(run, Err(RunFault::GateGaveUp)));
-    Ok(())
-}
-
 // Publishes a log. Answers whether all went well.
 fn publish_all(board: &Board, desk: &mut Desk, log: &[Entry]) -> bool
     requires { IsDeskOf desk.old board.now }

@@ -15,7 +15,7 @@ fn floor(rt: &impl Abort, floor: u64) -> Entry {
 }
 
 // The desk of a row, one of a new set.
-pub(crate) fn row(board: &Board, processor: u8) -> Result<Desk, AllocError>
+fn row(board: &Board, processor: u8) -> Result<Desk, AllocError>
     requires { processor < board.now.processors }
     ensures { IfOk result (λ desk. IsDeskOf desk board.now) }
 {
@@ -119,25 +119,6 @@ fn two_pens_of_one_row(rt: HostRuntime) -> Result<(), Fail> {
     assert!(&rt; second.next_number() == 2);
     assert!(&rt; first.publish(&board, standing) == Ok(2));
     assert!(&rt; second.publish(&board, standing) == Ok(2));
-    Ok(())
-}
-
-// After a publish that was refused memory another entry takes its number, or meets it as taken
-// where the cell was set by then.
-#[test]
-fn a_publish_after_want_of_memory(rt: HostRuntime) -> Result<(), Fail> {
-    let board = Board::new(rt.alloc(), 1, 2)?;
-    let mut desk = row(&board, 0)?;
-    let standing = floor(&rt, 3);
-    let published = desk.publish(&board, standing);
-    let again = desk.publish(&board, floor(&rt, 5));
-    if published == Ok(1) {
-        assert!(&rt; desk.replica().get(0, 1) == Some(Flat::One(standing)));
-    } else {
-        assert!(&rt; published == Err(PublishFault::Memory));
-        assert!(&rt; again == Ok(1) || again == Err(PublishFault::Taken { standing }));
-        assert!(&rt; desk.next_number() == 2);
-    }
     Ok(())
 }
 
