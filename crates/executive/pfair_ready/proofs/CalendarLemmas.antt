@@ -1,16 +1,15 @@
 -- The lists of a calendar's near slots, and what moves out of them.
 use Rattle.std.proofs.Common.{◌≡◌, ℕ, zero, suc, ◌+◌, ◌<◌, ◌≤◌, ◌⊎◌, inl, inr, Bool, true, false, List, [], ◌∷◌, ◌++◌, Vec, Global, length, refl, sym, ap, subst, ◌∙◌, arith, Option, Some}
 use Rattle.std.specs.Prelude.{Contains, slice_get, slice_set, slice_index_or, option_to_list, nat_le, ◌%◌, ◌-◌}
-use Rattle.std.specs.FinMap as finmap
 use Rattle.std.proofs.Math.Nat.{div-add-mod}
 use Rattle.std.proofs.lemmas.Bool.{leb-true, leb-false}
 use Rattle.std.proofs.lemmas.List.Elements.{Contains-push_cases}
-use Rattle.std.proofs.lemmas.Option.{same_Some, slice_get_within, slice_get-get_or}
+use Rattle.std.proofs.lemmas.Option.{same_Some, slice_get_past, slice_get_within, slice_get-get_or}
 use Rattle.pfair_order.specs.declared.Key.{Key}
 use Rattle.pfair_ready.specs.declared.calendar.Calendar.{Calendar}
 use Rattle.pfair_ready.specs.declared.far_dates.Date.{Date}
 use Rattle.pfair_ready.specs.Queue.{Queue}
-use Rattle.pfair_ready.specs.Calendar.{in_bucket, under, Empties, HasTurn, IsAmong, IsNoted, Moves}
+use Rattle.pfair_ready.specs.Calendar.{in_bucket, under, HasTurn, IsAmong, IsNoted, Moves}
 
 abbrev pub Buckets : Type 0
 Buckets = List (Vec Date Global)
@@ -41,12 +40,6 @@ none_set (x ∷ near) zero zero b empty h = empty
 none_set (x ∷ near) zero (suc j) b empty h = h
 none_set (x ∷ near) (suc i) zero b empty h = h
 none_set (x ∷ near) (suc i) (suc j) b empty h = none_set near i j b empty h
-
--- there are no others
-none_past : (near : Buckets) (i : ℕ) → length near ≤ i → in_bucket (slice_get near i) ≡ []
-none_past [] i h = refl
-none_past (x ∷ near) zero h = absurd (omega (arith, h))
-none_past (x ∷ near) (suc i) h = none_past near i (omega (arith, h))
 
 pub empty_has_none : (xs : List Date) (d : Date) → xs ≡ [] → Contains xs d → ⊥
 empty_has_none xs d empty c = let within = c.1 in let long = ap (λ (l : List Date). length l) empty in omega (arith, within, long)
@@ -95,7 +88,7 @@ none_noted c near far d noted =
 
 -- the list of a slot that has come was emptied, or a part of it
 pub moves_bucket : (slot s : ℕ) (held : Queue) (Was : Date → Type 0) (c c' : Calendar) (b b' : Vec Date Global) (turns0 turns turns' : Turned) → Moves slot held Was (IsNoted c) turns0 turns
-    → c.turned < s → s ≤ c.turned + 64 → s ≤ slot → in_bucket (slice_get c.near.items (s % 64)) ≡ b.items → Empties slot held b.items b'.items turns turns'
+    → c.turned < s → s ≤ c.turned + 64 → s ≤ slot → in_bucket (slice_get c.near.items (s % 64)) ≡ b.items → Moves slot held (λ d. (d.release ≤ slot) × Contains b.items d) (Contains b'.items) turns turns'
     → c'.turned ≡ c.turned → c'.near.items ≡ slice_set c.near.items (s % 64) b' → c'.far ≡ c.far
     → Moves slot held Was (IsNoted c') turns0 turns'
 moves_bucket slot s held Was c c' b b' turns0 turns turns' m after until come here e turned near far =
@@ -108,7 +101,7 @@ moves_bucket slot s held Was c c' b b' turns0 turns turns' m after until come he
               (λ same h.
               let is : d.release ≡ s = same_slot c.turned d.release s n.after n.within after until (sym same) in
               let due : d.release ≤ slot = omega (arith, is, come) in
-              elim (e.emptied d k at due (subst (λ (l : List Date). Contains l d) here h)) [ inl stays ↦ inl stays | inr turn ↦ inr (due, turn) ]) n.there in
+              e.moved d k at (due, subst (λ (l : List Date). Contains l d) here h)) n.there in
               elim there [
                 | inl stays ↦ inl (inl (record {
                   after = let a = n.after in omega (arith, turned, a);
@@ -145,32 +138,13 @@ moves_far slot held Was c c' turns0 turns turns' m f turned near =
 -- ---- a list that is emptied from its end
 
 pub popped_last : (o : Option Date) (xs ys : List Date) (last : Date) (n : ℕ) → n ≡ length xs → xs ≡ ys ++ option_to_list o → ((d : Date) → 0 < n → o ≡ Some (slice_index_or xs (n - 1) d)) → Some last ≡ slice_get xs (length xs - 1)
-    → (d : Date) → Contains xs d → Contains ys d ⊎ (last ≡ d)
+    → (d : Date) → Contains xs d → (last ≡ d) ⊎ Contains ys d
 popped_last o xs ys last n long items value at d h =
     let within = slice_get_within xs (length xs - 1) last (sym at) in
     let some : 0 < n = omega (arith, within, long) in
     let read : last ≡ slice_index_or xs (length xs - 1) last = same_Some last (slice_index_or xs (length xs - 1) last) (at ∙ slice_get-get_or xs (length xs - 1) last within) in
     let popped : o ≡ Some last = value last some ∙ ap (λ m. Some (slice_index_or xs (m - 1) last)) long ∙ ap Some (sym read) in
-    Contains-push_cases ys last d (subst (λ (l : List Date). Contains l d) (items ∙ ap (λ (o : Option Date). ys ++ option_to_list o) popped) h)
-
--- the last of a list has its turn
-pub empties_more : (slot : ℕ) (held : Queue) (b0 b b' : List Date) (turns0 turns turns' : Turned) (last : Date) → Empties slot held b0 b turns0 turns
-    → ((x : Key × ℕ) → Contains turns x → Contains turns' x) → ((d : Date) → Contains b d → Contains b' d ⊎ (last ≡ d))
-    → ((k : Key) → finmap.get held last.name ≡ Some (last.release, k) → last.release ≤ slot → HasTurn turns' k)
-    → Empties slot held b0 b' turns0 turns'
-empties_more slot held b0 b b' turns0 turns turns' last e kept left there =
-    record {
-      kept = λ x h. kept x (e.kept x h);
-      emptied = λ d k at due h. elim (e.emptied d k at due h) [
-        | inl stays ↦ elim (left d stays) [
-          | inl still ↦ inl still
-          | inr same ↦
-              let Goes : Date → Type 0 = λ x. finmap.get held x.name ≡ Some (x.release, k) → x.release ≤ slot → HasTurn turns' k in
-              inr (subst Goes same (there k) at due)
-        ]
-        | inr turn ↦ inr (turn.0, kept (k, turn.0) turn.1)
-      ];
-    }
+    elim (Contains-push_cases ys last d (subst (λ (l : List Date). Contains l d) (items ∙ ap (λ (o : Option Date). ys ++ option_to_list o) popped) h)) [ inl stays ↦ inr stays | inr same ↦ inl same ]
 
 -- ---- the lists of one slot after another
 
@@ -193,12 +167,4 @@ emptied_past near from ahead past before s after until = by (nat_le s (from + ah
     by true e = before s after (leb-true s (from + ahead) e)
     by false e =
         let same : s ≡ from + 1 + ahead = (let later = leb-false s (from + ahead) e in omega (arith, later, until)) in
-        ap (λ n. in_bucket (slice_get near (n % 64))) same ∙ none_past near ((from + 1 + ahead) % 64) past
-
--- nothing was lost
-pub empties_kept : (slot : ℕ) (held : Queue) (b0 b : List Date) (turns0 turns turns' : Turned) → Empties slot held b0 b turns0 turns → ((x : Key × ℕ) → Contains turns x → Contains turns' x) → Empties slot held b0 b turns0 turns'
-empties_kept slot held b0 b turns0 turns turns' e kept =
-    record {
-      kept = λ x h. kept x (e.kept x h);
-      emptied = λ d k at due h. elim (e.emptied d k at due h) [ inl stays ↦ inl stays | inr turn ↦ inr (turn.0, kept (k, turn.0) turn.1) ];
-    }
+        ap (λ n. in_bucket (slice_get near (n % 64))) same ∙ ap in_bucket (slice_get_past near ((from + 1 + ahead) % 64) past)

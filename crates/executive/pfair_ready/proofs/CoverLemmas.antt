@@ -1,6 +1,6 @@
 -- What waits is in the calendar, or has a turn.
 use Rattle.std.proofs.Common.{◌≡◌, ℕ, ◌≤◌, ◌⊎◌, inl, inr, Bool, true, false, cond, List, refl, sym, ap, subst, ◌∙◌, arith, Option, Some, None, true≢false}
-use Rattle.std.specs.Prelude.{Contains, is_some}
+use Rattle.std.specs.Prelude.{Contains}
 use Rattle.std.specs.Ordering.{is_eq, eq_by_cmp}
 use Rattle.std.specs.Cmp.{Equal-is, tied_itself}
 use Rattle.std.specs.FinMap as finmap
@@ -88,11 +88,3 @@ covered_less now held s dates turns c =
       turned = c.turned;
       covered = λ q r k at. c.covered q r k (still_there held s q (r, k) at).1;
     }
-
--- what is noted of a key that is put in
-pub either_here : (now r hint : ℕ) (k : Key) (dates : Calendar) (turns : List (Key × ℕ)) → IsNoted dates (record { release = r; hint = hint; name = k.name }) ⊎ ((r ≤ now) × HasTurn turns k) → HasDate dates r k.name ⊎ ((r ≤ now) × HasTurn turns k)
-either_here now r hint k dates turns h = elim h [ inl date ↦ inl (hint, date) | inr turn ↦ inr turn ]
-
-pub not_some : (o : Option (ℕ × Key)) → (is_some o ≡ true → ⊥) → o ≡ None
-not_some None h = refl
-not_some (Some x) h = absurd (h refl)

@@ -1,5 +1,5 @@
 -- Dates in a heap, and what moves from there to the turns.
-use Rattle.std.proofs.Common.{◌≡◌, ℕ, ◌<◌, ◌≤◌, inl, inr, List, ◌∷◌, length, subst, arith, Option, Some, None}
+use Rattle.std.proofs.Common.{◌≡◌, ℕ, ◌<◌, ◌≤◌, ◌⊎◌, inl, inr, List, ◌∷◌, length, subst, arith, Option, Some, None}
 use Rattle.std.specs.Prelude.{All, Contains, IfNone, IfSome}
 use Rattle.std.specs.BinaryHeap.{IsHeap, PopsGreatest}
 use Rattle.std.specs.List.Sorted.{IsPermutation}
@@ -10,8 +10,7 @@ use Rattle.std.proofs.lemmas.List.Elements.{All-map}
 use Rattle.pfair_order.specs.declared.Key.{Key}
 use Rattle.pfair_ready.specs.declared.far_dates.Date.{Date}
 use Rattle.pfair_ready.specs.Queue.{Queue}
-use Rattle.pfair_ready.specs.Calendar.{dates_of, later_cmp, HasTurn, IsAmong, Moves}
-use Rattle.pfair_ready.proofs.HeapLemmas.{top_or_stays}
+use Rattle.pfair_ready.specs.Calendar.{dates_of, later_cmp, HasTurn, Moves}
 
 -- the dates of a heap's elements
 pub same_dates : (xs : List (Reverse Date)) (top : Reverse Date) (ys : List (Reverse Date)) → IsPermutation xs (top ∷ ys) → IsPermutation (dates_of xs) (top.0 ∷ dates_of ys)
@@ -28,20 +27,27 @@ popped_order None xs ys n e some none h up = absurd (omega arith)
 popped_order (Some x) xs ys n e some none h up = (h up).0
 
 -- one date more has gone
-pub moves_more : (slot : ℕ) (held : Queue) (date : Date) (dates0 dates dates' : List Date) (turns0 turns turns' : List (Key × ℕ))
-    → Moves slot held (IsAmong dates0) (IsAmong dates) turns0 turns → date.release ≤ slot → IsPermutation dates (date ∷ dates')
-    → ((x : Key × ℕ) → Contains turns x → Contains turns' x) → ((k : Key) → finmap.get held date.name ≡ Some (date.release, k) → date.release ≤ slot → HasTurn turns' k)
-    → Moves slot held (IsAmong dates0) (IsAmong dates') turns0 turns'
-moves_more slot held date dates0 dates dates' turns0 turns turns' m due perm kept there =
+pub moves_more : (slot : ℕ) (held : Queue) (date : Date) (Was Is Is' : Date → Type 0) (turns0 turns turns' : List (Key × ℕ)) → Moves slot held Was Is turns0 turns
+    → ((x : Key × ℕ) → Contains turns x → Contains turns' x) → ((d : Date) → Is d → (date ≡ d) ⊎ Is' d) → ((k : Key) → finmap.get held date.name ≡ Some (date.release, k) → Was date → (date.release ≤ slot) × HasTurn turns' k)
+    → Moves slot held Was Is' turns0 turns'
+moves_more slot held date Was Is Is' turns0 turns turns' m kept left there =
     record {
       kept = λ x h. kept x (m.kept x h);
-      moved = λ d k at h. elim (m.moved d k at h) [
-        | inl stays ↦ elim (top_or_stays date d dates dates' perm stays) [
+      moved = λ d k at was. elim (m.moved d k at was) [
+        | inl stays ↦ elim (left d stays) [
           | inl same ↦
-              let P : Date → Type 0 = λ x. finmap.get held x.name ≡ Some (x.release, k) → (x.release ≤ slot) × HasTurn turns' k in
-              inr (subst P same (λ a. (due, there k a due)) at)
+              let P : Date → Type 0 = λ x. finmap.get held x.name ≡ Some (x.release, k) → Was x → (x.release ≤ slot) × HasTurn turns' k in
+              inr (subst P same (there k) at was)
           | inr later ↦ inl later
         ]
         | inr gone ↦ inr (gone.0, (gone.1.0, kept (k, gone.1.0) gone.1.1))
       ];
+    }
+
+-- and none
+pub moves_kept : (slot : ℕ) (held : Queue) (Was Is : Date → Type 0) (turns0 turns turns' : List (Key × ℕ)) → Moves slot held Was Is turns0 turns → ((x : Key × ℕ) → Contains turns x → Contains turns' x) → Moves slot held Was Is turns0 turns'
+moves_kept slot held Was Is turns0 turns turns' m kept =
+    record {
+      kept = λ x h. kept x (m.kept x h);
+      moved = λ d k at was. elim (m.moved d k at was) [ inl stays ↦ inl stays | inr gone ↦ inr (gone.0, (gone.1.0, kept (k, gone.1.0) gone.1.1)) ];
     }

@@ -1,6 +1,6 @@
 -- What a heap has after an element was put in or taken out.
 use Rattle.std.proofs.Common.{◌≡◌, ℕ, zero, suc, ◌<◌, ◌⊎◌, inl, inr, List, [], ◌∷◌, length, refl, sym, subst, ◌∙◌, arith, Option, Some, None}
-use Rattle.std.specs.Prelude.{Contains, Result, Ok, Err, OnErr, OnOk, IfNone, IfSome, slice_get, slice_index_or}
+use Rattle.std.specs.Prelude.{Contains, IfNone, IfSome, slice_get, slice_index_or}
 use Rattle.std.specs.List.Sorted.{IsPermutation}
 use Rattle.std.proofs.lemmas.List.Sorted.{Contains-permutation}
 use Rattle.std.proofs.lemmas.List.Elements.{Contains-append_right}
@@ -32,12 +32,3 @@ pub popped : {A : Type 0} (o : Option A) (xs ys : List A) (top : A) (n : ℕ) �
     → IfNone o (n ≡ 0) → IfSome o (λ x. x ≡ slice_index_or xs 0 x) → IfSome o (λ x. IsPermutation xs (x ∷ ys)) → IsPermutation xs (top ∷ ys)
 popped None xs ys top n e some t none at p = absurd (omega arith)
 popped (Some x) xs ys top n e some t none at p = subst (λ z. IsPermutation xs (z ∷ ys)) (same_head xs x top some at t) p
-
--- what a push that may be refused leaves
-pub pushed_either : {A E : Type 0} (r : Result (Unit {0}) E) (item x : A) (xs ys : List A) → OnOk r (IsPermutation (item ∷ xs) ys) → OnErr r (ys ≡ xs) → Contains xs x → Contains ys x
-pushed_either (Ok u) item x xs ys more same h = pushed_more item x xs ys more h
-pushed_either (Err e) item x xs ys more same h = subst (λ l. Contains l x) (sym same) h
-
-pub on_ok : {E : Type 0} (r : Result (Unit {0}) E) (P Q : Type 0) → (P → Q) → OnOk r P → OnOk r Q
-on_ok (Ok u) P Q f h = f h
-on_ok (Err e) P Q f h = tt

@@ -11,7 +11,6 @@ use Rattle.std.specs.FinMap as finmap
 use Rattle.std.specs.FinMap.{find, get-from_entries, get-insert, get-remove, same_map}
 use Rattle.pfair_order.specs.declared.Key.{Key}
 use Rattle.pfair_ready.specs.Names.{NameValue, name_cmp, name_eq}
-use Rattle.pfair_ready.specs.Queue.{Queue}
 use Rattle.pfair_ready.specs.Waiting.{Entries, live, queue_in, with_entry, IsEntryOf}
 use Rattle.pfair_ready.proofs.Names.{names_total, names_exact, tied_names}
 
@@ -95,23 +94,6 @@ live_kept (e ∷ es) =
 -- nothing waits under a name that has no entry
 pub none_there : (es : Entries) (name : NameValue) → IsDistinct name_eq (keys_of es) → at es name ≡ None → finmap.get (queue_in es) name ≡ None
 none_there es name h none = queue_at es name h ∙ ap flat none
-
-pub removed_none : (held : Queue) (s : NameValue) → finmap.get held s ≡ None → finmap.remove held s ≡ held
-removed_none held s none = same_map names_total names_exact _ _ (λ q.
-    get-remove names_total held s q ∙ elim (is_at (name_cmp q) s) as (λ b. is_at (name_cmp q) s ≡ b → cond b None (finmap.get held q) ≡ finmap.get held q) [
-      | true ↦ λ t. sym (ap (finmap.get held) (names_exact q s ((Equal-is (name_cmp q s)).0 t)) ∙ none)
-      | false ↦ λ _. refl
-    ] refl)
-
--- what was put is taken out again
-pub put_removed : (held : Queue) (s : NameValue) (v : ℕ × Key) → finmap.get held s ≡ None → finmap.remove (finmap.insert held s v) s ≡ held
-put_removed held s v none = same_map names_total names_exact _ _ (λ q.
-    get-remove names_total (finmap.insert held s v) s q
-    ∙ ap (λ o. cond (is_at (name_cmp q) s) None o) (get-insert names_total held s v q)
-    ∙ elim (is_at (name_cmp q) s) as (λ b. is_at (name_cmp q) s ≡ b → cond b None (cond b (Some v) (finmap.get held q)) ≡ finmap.get held q) [
-      | true ↦ λ t. sym (ap (finmap.get held) (names_exact q s ((Equal-is (name_cmp q s)).0 t)) ∙ none)
-      | false ↦ λ _. refl
-    ] refl)
 
 -- ---- where a name stands
 

@@ -59,11 +59,6 @@ pub record Moves (slot : ℕ) (held : Queue) (Was Is : Date → Type 0) (turns t
   pub kept : (x : Key × ℕ) → Contains turns x → Contains turns' x
   pub moved : (d : Date) (k : Key) → finmap.get held d.name ≡ Some (d.release, k) → Was d → Is d ⊎ ((d.release ≤ slot) × HasTurn turns' k)
 
--- what moved from the list of a slot that has come
-pub record Empties (slot : ℕ) (held : Queue) (bucket bucket' : List Date) (turns turns' : List (Key × ℕ)) : Type 0 where
-  pub kept : (x : Key × ℕ) → Contains turns x → Contains turns' x
-  pub emptied : (d : Date) (k : Key) → finmap.get held d.name ≡ Some (d.release, k) → d.release ≤ slot → Contains bucket d → Contains bucket' d ⊎ HasTurn turns' k
-
 -- each key stands under its own name, and is in the calendar at its release, or released and has a turn
 pub record IsCovered (now : ℕ) (held : Queue) (dates : Calendar) (turns : List (Key × ℕ)) : Type 0 where
   pub named : (q : NameValue) (r : ℕ) (k : Key) → finmap.get held q ≡ Some (r, k) → k.name ≡ q

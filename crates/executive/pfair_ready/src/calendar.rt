@@ -1,8 +1,8 @@
 //! When the keys that wait are released.
 
-ghost use Rattle.std.specs.Prelude.{◌≡◌, ◌≤◌, ◌<◌, ◌%◌, ◌+◌, [], IfSome, OnOk, length};
+ghost use Rattle.std.specs.Prelude.{◌≡◌, ◌≤◌, ◌<◌, ◌%◌, ◌+◌, [], Contains, IfSome, OnOk, length};
 ghost use Rattle.pfair_ready.specs.declared.far_dates.Date.{Date};
-ghost use Rattle.pfair_ready.specs.Calendar.{Empties, IsNoted, Moves};
+ghost use Rattle.pfair_ready.specs.Calendar.{IsNoted, Moves};
 
 use crate::far_dates::{Date, FarDates, release_one};
 use crate::turns::Turns;
@@ -12,8 +12,8 @@ use std::alloc::{AllocError, Global};
 // How many slots are near.
 const NEAR: u64 = 64;
 
-// The most dates in the list of a near slot: so `reserve` takes 2 MB for all of them at most.
-const NEAR_MOST: usize = 1024;
+// The most dates in the list of a near slot, which never grows.
+const NEAR_MOST: usize = 64;
 
 /// Dates: those of the next 64 slots in a list for each slot, and the others in a heap.
 #[derive(Drop)]
@@ -70,11 +70,7 @@ impl Calendar {
     {
         let bucket = (slot % NEAR) as usize;
         let is_near = self.turned < slot && slot - self.turned <= NEAR;
-        if is_near && bucket < self.near.len() && self.near[bucket].len() < NEAR_MOST {
-            Some(bucket)
-        } else {
-            None
-        }
+        (is_near && self.near.get(bucket)?.len() < NEAR_MOST).then_some(bucket)
     }
 
     /// Makes room for so many dates, whenever they are.
@@ -83,13 +79,7 @@ impl Calendar {
         ensures turned { self.new.turned ≡ self.old.turned }
     {
         self.make_near(alloc)?;
-        self.far.reserve(dates)?;
-        let most = dates.min(NEAR_MOST);
-        for bucket in 0..self.near.len() {
-            let more = most.saturating_sub(self.near[bucket].len());
-            self.near[bucket].reserve(more)?;
-        }
-        Ok(())
+        self.far.reserve(dates)
     }
 
     /// Moves the keys whose release has come by the slot to the heap. If an allocation fails some have
@@ -133,7 +123,7 @@ impl Calendar {
 fn empty_lists(alloc: Global) -> Result<Vec<Vec<Date>>, AllocError> {
     let mut near = Vec::with_capacity(alloc, NEAR as usize)?;
     for _ in 0..NEAR {
-        near.push(Vec::new(alloc))?;
+        near.push(Vec::with_capacity(alloc, NEAR_MOST)?)?;
     }
     Ok(near)
 }
@@ -145,7 +135,7 @@ fn release_all(
     released: &mut Turns,
     slot: u64,
 ) -> Result<(), AllocError>
-    ensures empties { Empties slot waiting.now dates.old.items dates.new.items released.old released.new }
+    ensures moves { Moves slot waiting.now (λ d. (d.release ≤ slot) × Contains dates.old.items d) (Contains dates.new.items) released.old released.new }
     ensures done { OnOk result (dates.new.items ≡ []) }
 {
     while let Some(date) = dates.last() {

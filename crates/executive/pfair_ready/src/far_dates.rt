@@ -106,12 +106,8 @@ fn first_come(dates: &BinaryHeap<Reverse<Date>>, slot: u64) -> Option<Date>
     ensures some { IfSome result (IsFirstDate slot (heap_items dates.now)) }
     ensures none { IfNone result (All (λ e. slot < e.0.release) (heap_items dates.now)) }
 {
-    let top = dates.peek()?;
-    let date = top.0;
-    if date.release > slot {
-        return None;
-    }
-    Some(date)
+    let date = dates.peek()?.0;
+    (date.release <= slot).then_some(date)
 }
 
 /// Adds the key under the name of a date to the released ones if its release has come.

@@ -1,9 +1,4 @@
-//! A ready structure of one heap of released keys, and a calendar of the releases to come.
-
-ghost use Rattle.std.specs.Prelude.{◌≡◌, ◌≤◌, ◌⊎◌, ℕ, [], Contains, IfOk, OnOk, vec_capacity};
-ghost use Rattle.pfair_order.specs.declared.Key.{Key};
-ghost use Rattle.pfair_ready.specs.declared.far_dates.Date.{Date};
-ghost use Rattle.pfair_ready.specs.Calendar.{HasTurn, IsNoted};
+//! A ready structure of one heap and one calendar.
 
 use crate::Ready;
 use crate::calendar::Calendar;
@@ -21,16 +16,14 @@ use std::marker::Model;
 /// keys that wait or were left behind:
 ///
 /// - `new`, `now`: O(1). `held`, `remove`: a look-up of the name, O(1) on average.
-/// - `insert`: O(1) on average if the release is within 64 slots and fewer than 1,024 keys are
-///   released at that slot, else O(log n). The name is looked up, unless the keys that the last
-///   selection gave are followed by those of the same tasks in the same order.
+/// - `insert`: O(1) on average if the release is within 64 slots and fewer than 64 keys are released
+///   at that slot, else O(log n). The name is looked up, unless the keys that the last selection gave
+///   are followed by those of the same tasks in the same order.
 /// - `take_first`: O(log n) for each key that it gives, for each whose release has come since the last
-///   selection, and for each that was left behind and surfaces; and up to 64 steps for the slots since
-///   the last selection.
+///   selection, and for each that was left behind and surfaces; and up to 64 steps.
 ///
-/// Growth is amortized, as in the language's own collections. After `reserve(k)` no call allocates as
-/// long as no more than k keys wait and no more than k were left behind. It takes up to 3 KB for each
-/// of the first 1,024 keys, and some 300 bytes for each later one.
+/// Growth is amortized. After `reserve(k)`, which takes 130 KB and some 300 bytes for each key, no call
+/// allocates as long as no more than k keys wait and no more than k were left behind.
 #[derive(Drop)]
 pub struct HeapReady {
     alloc: Global,
@@ -80,34 +73,27 @@ impl Ready for HeapReady {
     }
 
     fn held(&self, name: &TaskName) -> Option<(u64, Key)> {
-        let (_, waiting) = self.waiting.get(0, name)?;
-        Some(waiting)
+        self.waiting.get(0, name).map(|(_, waiting)| waiting)
     }
 
     fn insert(&mut self, release: u64, key: Key) -> Result<bool, AllocError> {
         let hint = self.given.get(self.inserted).copied().unwrap_or(0);
         self.inserted = self.inserted.saturating_add(1);
-        let Some(hint) = self.waiting.insert(hint, release, key)? else {
+        let Some(hint) = self.waiting.place_for(hint, &key.name) else {
             return Ok(false);
         };
-        match note(
-            self.alloc,
-            &mut self.calendar,
-            &mut self.released,
-            self.now,
-            Date {
+        if release <= self.now {
+            self.released.push(key, hint)?;
+        } else {
+            let date = Date {
                 release,
                 hint,
                 name: key.name,
-            },
-            key,
-        ) {
-            Ok(()) => Ok(true),
-            Err(refused) => {
-                self.waiting.remove(&key.name);
-                Err(refused)
-            }
+            };
+            self.calendar.note(self.alloc, date)?;
         }
+        self.waiting.put(hint, release, key)?;
+        Ok(true)
     }
 
     fn remove(&mut self, name: &TaskName) -> bool {
@@ -122,13 +108,14 @@ impl Ready for HeapReady {
         &mut self,
         slot: u64,
         m: usize,
-        room: Vec<Key>,
+        mut first: Vec<Key>,
     ) -> Result<Vec<Key>, AllocError> {
         self.now = slot;
         self.calendar
             .release(&self.waiting, &mut self.released, slot)?;
         let count = m.min(self.released.len());
-        let mut first = emptied(room, count)?;
+        first.clear();
+        first.reserve(count)?;
         self.given.clear();
         self.given.reserve(count)?;
         self.inserted = 0;
@@ -152,35 +139,4 @@ impl Ready for HeapReady {
         self.released.reserve(room)?;
         self.given.reserve(keys.saturating_sub(self.given.len()))
     }
-}
-
-// Gives a key its turn if its release has come by now, and else notes its date.
-fn note(
-    alloc: Global,
-    calendar: &mut Calendar,
-    released: &mut Turns,
-    now: u64,
-    date: Date,
-    key: Key,
-) -> Result<(), AllocError>
-    ensures dates { (d : Date) → IsNoted calendar.old d → IsNoted calendar.new d }
-    ensures turned { calendar.new.turned ≡ calendar.old.turned }
-    ensures turns { (x : Key × ℕ) → Contains released.old x → Contains released.new x }
-    ensures there { OnOk result (IsNoted calendar.new date ⊎ ((date.release ≤ now) × HasTurn released.new key)) }
-{
-    if date.release <= now {
-        released.push(key, date.hint)
-    } else {
-        calendar.note(alloc, date)
-    }
-}
-
-// The list without its content, with room for so many keys.
-fn emptied(mut list: Vec<Key>, count: usize) -> Result<Vec<Key>, AllocError>
-    ensures items { IfOk result (λ first. first.items ≡ []) }
-    ensures capacity { IfOk result (λ first. count ≤ vec_capacity first) }
-{
-    list.clear();
-    list.reserve(count)?;
-    Ok(list)
 }

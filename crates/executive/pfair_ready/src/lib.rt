@@ -1,12 +1,9 @@
-//! Ready structures: they hold the next subtask of each task from its release on, until it is
-//! chosen to run.
+//! Ready structures hold the next subtask of each task until it is chosen to run.
 //!
-//! In each slot a Pfair scheduler runs the first M of the subtasks that are released and have not
-//! run yet, M being the number of processors, by the PD2 order (Anderson and Srinivasan). A ready
-//! structure holds at most one subtask of a task, under the task's name: its key in that order, and
-//! the slot from which it may run. That slot is mostly the release of its window (Baruah, Cohen,
-//! Plaxton and Varvel 1996), and lies earlier where the task may run ahead of its window (early
-//! release, Anderson and Srinivasan).
+//! In each slot a Pfair scheduler runs the first M of the released subtasks in the PD2 order, M being
+//! the number of processors (Anderson and Srinivasan). A ready structure holds at most one subtask of
+//! a task, under the task's name: its key in that order, and the slot from which it may run. That is
+//! the release of its window, or an earlier slot (early release).
 #![tactic(auto)]
 
 ghost use Rattle.std.specs.Prelude.{◌≡◌, ◌≤◌, ℕ, IsTrue, IfOk, OnErr, false, not, if◌then◌else◌};
@@ -28,10 +25,10 @@ use pfair_weight::TaskName;
 pub use plain::PlainReady;
 use std::alloc::{AllocError, Global};
 
-/// A ready structure: a slot, and for each of some names a release and a key.
+/// A slot, and for each of some names a release and a key. [`HeapReady`] and [`PlainReady`] say what
+/// calls cost.
 ///
-/// The slot never falls. It is that of the last selection, whether or not there was memory for it.
-/// What a call costs is said at each structure: [`HeapReady`] and [`PlainReady`].
+/// The slot is that of the last selection, also if an allocation failed in it, and never falls.
 pub trait Ready: Drop {
     /// The slot of the last selection, and 0 before the first.
     ghost now: { Self → ℕ };
@@ -39,27 +36,24 @@ pub trait Ready: Drop {
     /// The release and the key under each name.
     ghost held: { Self → Queue };
 
-    /// Holds nothing, at slot 0. It takes no memory; what is inserted later comes from `alloc`.
+    /// Holds nothing, at slot 0, and allocates nothing; later calls allocate from `alloc`.
     fn new(alloc: Global) -> Self
         ensures start { now result ≡ 0 }
         ensures empty { held result ≡ finmap.empty };
 
-    /// The slot of the last selection, and 0 before the first.
+    /// Returns the slot of the last selection, and 0 before the first.
     fn now(&self) -> u64
         ensures { result ≡ now self.now };
 
-    /// The release and the key that are held under this name, if there are any.
+    /// Returns the release and the key under a name.
     fn held(&self, name: &TaskName) -> Option<(u64, Key)>
         ensures { result ≡ finmap.get (held self.now) name.now };
 
-    /// Holds the key, from the slot `release` on, under its name, and answers true. Where something
-    /// is held under that name, the answer is false, nothing changes and no memory is taken.
-    ///
-    /// The release may lie before or after the slot of the last selection.
+    /// Holds a key under its name from the slot `release` on, whichever slot that is. Returns `false`,
+    /// with nothing changed or allocated, if something is held under the name.
     ///
     /// # Errors
-    ///
-    /// `AllocError` where a growth was refused. Nothing has changed then.
+    /// `AllocError` if an allocation fails; nothing has changed.
     fn insert(&mut self, release: u64, key: Key) -> Result<bool, AllocError>
         ensures time { now self.new ≡ now self.old }
         ensures answer { IfOk result (λ new.
@@ -69,23 +63,17 @@ pub trait Ready: Drop {
             (if new then finmap.insert (held self.old) key.name (release, key) else held self.old)) }
         ensures err { OnErr result (held self.new ≡ held self.old) };
 
-    /// Lets go what is held under this name, and answers whether there was something.
+    /// Drops what is held under a name, and returns whether there was something.
     fn remove(&mut self, name: &TaskName) -> bool
         ensures time { now self.new ≡ now self.old }
         ensures answer { result ≡ finmap.contains_key (held self.old) name.now }
         ensures content { held self.new ≡ finmap.remove (held self.old) name.now };
 
-    /// Takes out the first m keys, in the PD2 order, of those that are held from `slot` or an
-    /// earlier slot on.
-    ///
-    /// These are the released keys of rank below m, where a key's rank is the number of released
-    /// keys that go before it. So all released keys come where they are at most m. `slot` is not
-    /// below `now`, and becomes it.
+    /// Takes out the first m in the PD2 order of the keys that are released by `slot`, or all of them
+    /// if they are fewer.
     ///
     /// # Errors
-    ///
-    /// `AllocError` where a growth was refused. All that was held is held then, and `now` is `slot`
-    /// all the same.
+    /// `AllocError` if an allocation fails; nothing but `now` has changed.
     fn take_first(&mut self, slot: u64, m: usize) -> Result<Vec<Key>, AllocError>
         requires { now self.old ≤ slot }
         ensures time { now self.new ≡ slot }
@@ -95,11 +83,11 @@ pub trait Ready: Drop {
             held self.new ≡ without first.items (held self.old)) }
         ensures err { OnErr result (held self.new ≡ held self.old) };
 
-    /// As [`Ready::take_first`], with the keys in a list that is handed in. Its content is dropped and
-    /// its room used; it grows only if that is too small.
+    /// As [`Ready::take_first`], in a list whose content is dropped, and which grows only if its room
+    /// is too small.
     ///
     /// # Errors
-    /// As of [`Ready::take_first`]. The list is then gone.
+    /// As of [`Ready::take_first`]. The list is gone.
     fn take_first_into(
         &mut self,
         slot: u64,
@@ -117,8 +105,8 @@ pub trait Ready: Drop {
         self.take_first(slot, m)
     }
 
-    /// Takes room for so many keys, so that no call allocates as long as no more wait at once.
-    /// [`HeapReady`] says how far that reaches; a structure that allocates in each selection takes none.
+    /// Takes room for so many keys, so that no call allocates as long as no more wait at once, as far
+    /// as the structure can.
     ///
     /// # Errors
     /// `AllocError` if an allocation fails.

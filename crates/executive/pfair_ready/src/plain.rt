@@ -1,5 +1,4 @@
-//! A ready structure that is one list, searched as a whole. It is the plain one, to compare faster
-//! ones with.
+//! A ready structure that is one list, to compare faster ones with.
 
 ghost use Rattle.std.specs.Prelude.{◌≡◌, IfOk, map, filter, nat_le, not};
 ghost use Rattle.std.specs.List.{list_any};
@@ -81,7 +80,7 @@ impl Ready for PlainReady {
 
     fn remove(&mut self, name: &TaskName) -> bool {
         let there = find_name(&self.waiting, *name).is_some();
-        drop_name(&mut self.waiting, *name);
+        self.waiting.retain(|w| w.key.name != *name);
         there
     }
 
@@ -102,13 +101,6 @@ fn find_name(waiting: &[Waiting], name: TaskName) -> Option<(u64, Key)>
         .iter()
         .find(|w| w.key.name == name)
         .map(|w| (w.release, w.key))
-}
-
-// Lets go what waits under this name.
-fn drop_name(waiting: &mut Vec<Waiting>, name: TaskName)
-    ensures { waiting.new.items ≡ filter (λ w. not (name_eq w.key.name name)) waiting.old.items }
-{
-    waiting.retain(|w| w.key.name != name);
 }
 
 // The keys that are released by the slot, in the order of the list.

@@ -1,6 +1,6 @@
 //! What waits under each name.
 
-ghost use Rattle.std.specs.Prelude.{◌≡◌, ℕ, IfSome, IfNone, IsTrue, OnErr, Ok, None, Some, is_some, if◌then◌else◌};
+ghost use Rattle.std.specs.Prelude.{◌≡◌, ℕ, IfSome, IfNone, OnErr, OnOk, None, Some, is_some, not, if◌then◌else◌};
 ghost use Rattle.std.specs.FinMap as finmap;
 ghost use Rattle.std.specs.Option.{option_map};
 ghost use Rattle.indexmap.specs.IndexMap.{get as at_name, IsUnique, Updates};
@@ -56,32 +56,32 @@ impl Waiting {
         Some((index, waiting))
     }
 
-    /// Puts a release and a key under the key's name, and answers where the name stands; `None`, with
-    /// nothing changed or allocated, if something waits under it.
-    pub(crate) fn insert(
-        &mut self,
-        hint: usize,
-        release: u64,
-        key: Key,
-    ) -> Result<Option<usize>, AllocError>
-        ensures put { result ≡ Ok None → self.new ≡ self.old }
-        ensures put_there { (index : ℕ) → result ≡ Ok (Some index) → self.new ≡ finmap.insert self.old key.name (release, key) }
-        ensures full { result ≡ Ok None → IsTrue (finmap.contains_key self.old key.name) }
-        ensures free { IsTrue (finmap.contains_key self.old key.name) → result ≡ Ok None }
-        ensures err { OnErr result (self.new ≡ self.old) }
+    /// Where a name stands, or will once something waits under it; `None` if something does.
+    pub(crate) fn place_for(&self, hint: usize, name: &TaskName) -> Option<usize>
+        ensures { is_some result ≡ not (finmap.contains_key self.now name.now) }
+    {
+        match find(&self.entries, hint, name) {
+            Some(index) if held_at(&self.entries, index).is_some() => None,
+            Some(index) => Some(index),
+            None => Some(self.entries.len()),
+        }
+    }
+
+    /// Puts a release and a key under the key's name, in place of what waits there.
+    pub(crate) fn put(&mut self, hint: usize, release: u64, key: Key) -> Result<(), AllocError>
+        ensures put { OnOk result (self.new ≡ finmap.insert self.old key.name (release, key)) }
+        ensures same { OnErr result (self.new ≡ self.old) }
     {
         let Some(index) = find(&self.entries, hint, &key.name) else {
             self.drop_vacant();
-            let index = self.entries.len();
+            // no name stands twice
+            prove!(self.entries.len() < usize::MAX);
             self.entries.insert(key.name, Some((release, key)))?;
-            return Ok(Some(index));
+            return Ok(());
         };
-        if held_at(&self.entries, index).is_some() {
-            return Ok(None);
-        }
         put_at(&mut self.entries, index, Some((release, key)));
         self.vacant = self.vacant.saturating_sub(1);
-        Ok(Some(index))
+        Ok(())
     }
 
     /// Takes the key out if it is the one under its name, and released by the slot.

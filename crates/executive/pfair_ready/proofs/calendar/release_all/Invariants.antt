@@ -1,10 +1,11 @@
-use Rattle.std.proofs.Common.{length}
-use Rattle.pfair_ready.specs.Calendar.{Empties}
+use Rattle.std.proofs.Common.{◌≤◌, length}
+use Rattle.std.specs.Prelude.{Contains}
+use Rattle.pfair_ready.specs.Calendar.{Moves}
 use Rattle.pfair_ready.proofs.calendar.release_all.Given as goal
 
 abbrev pub invariant-loop-date : goal.invariant-loop-date
 invariant-loop-date l = record {
-  empties : Empties l.slot l.waiting l.fn.dates.items l.dates.items l.fn.released l.released;
+  moves : Moves l.slot l.waiting (λ d. (d.release ≤ l.slot) × Contains l.fn.dates.items d) (Contains l.dates.items) l.fn.released l.released;
 }
 
 abbrev pub decreases-loop-date : goal.decreases-loop-date

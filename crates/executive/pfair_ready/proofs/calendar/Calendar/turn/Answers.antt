@@ -16,7 +16,7 @@ returns-in_err-release_all-clause-moves c =
     let same = c.loop-ahead.invariant.turned in
     moves_bucket c.args.slot (c.args.self.now.turned + 1 + c.loop-ahead.ahead) c.args.waiting.now (IsNoted c.args.self.now) was (record { turned = was.turned; near = with_item was.near bucket c.release_all.new.dates; far = was.far }) c.index_mut.result.now c.release_all.new.dates
     c.args.released.now c.loop-ahead.released c.release_all.new.released c.loop-ahead.invariant.moves (omega (arith, same)) (omega (arith, same, c.loop-ahead-test.true, c.min-ahead-end.ensures)) (omega (arith, c.loop-ahead-test.true, c.min-ahead-end.ensures))
-    (ap in_bucket (slice_get_read was.near.items (length was.near.items) bucket c.index_mut.result.now refl inside c.index_mut.ensures.value)) c.release_all.ensures.empties refl refl refl
+    (ap in_bucket (slice_get_read was.near.items (length was.near.items) bucket c.index_mut.result.now refl inside c.index_mut.ensures.value)) c.release_all.ensures.moves refl refl refl
 
 pub loop-ahead-preserved : goal.loop-ahead-preserved
 loop-ahead-preserved c =
@@ -30,7 +30,7 @@ loop-ahead-preserved c =
           rw (w.self-is, w.released-is) (record {
             moves = moves_bucket c.args.slot (from + 1 + c.loop-ahead.ahead) c.args.waiting.now (IsNoted c.args.self.now) was (record { turned = was.turned; near = with_item was.near bucket w.release_all.new.dates; far = was.far }) w.index_mut.result.now w.release_all.new.dates
                 c.args.released.now c.loop-ahead.released w.release_all.new.released c.loop-ahead.invariant.moves (omega (arith, same)) (omega (arith, same, c.loop-ahead-test.true, c.min-ahead-end.ensures)) (omega (arith, c.loop-ahead-test.true, c.min-ahead-end.ensures))
-                (ap in_bucket (slice_get_read was.near.items (length was.near.items) bucket w.index_mut.result.now refl inside w.index_mut.ensures.value)) w.release_all.ensures.empties refl refl refl;
+                (ap in_bucket (slice_get_read was.near.items (length was.near.items) bucket w.index_mut.result.now refl inside w.index_mut.ensures.value)) w.release_all.ensures.moves refl refl refl;
             turned = same;
             far = c.loop-ahead.invariant.far;
             emptied = emptied_next was.near.items from c.loop-ahead.ahead w.release_all.new.dates w.in_ok-release_all.ensures.done inside c.loop-ahead.invariant.emptied;

@@ -1,40 +1,35 @@
-use Rattle.std.proofs.Common.{◌≡◌, rules, None, sym, ap, subst, ◌∙◌}
-use Rattle.std.specs.Prelude.{Ok}
-use Rattle.std.specs.FinMap as finmap
-use Rattle.pfair_ready.specs.Queue.{Queue}
-use Rattle.pfair_ready.specs.Calendar.{IsCovered}
-use Rattle.pfair_ready.proofs.CoverLemmas.{covered_kept, covered_more, either_here, not_some}
-use Rattle.pfair_ready.proofs.WaitingLemmas.{put_removed}
+use Rattle.std.proofs.Common.{◌≤◌, ◌⊎◌, inl, inr, refl}
+use Rattle.pfair_ready.specs.Calendar.{HasTurn, IsCovered}
+use Rattle.pfair_ready.proofs.CoverLemmas.{HasDate, covered_kept, covered_more}
+use Rattle.pfair_ready.proofs.HeapLemmas.{pushed_more, pushed_top}
 use Rattle.pfair_ready.proofs.heap.HeapReadyReady.insert.Goals as goal
-use Rattle.pfair_ready.proofs.heap.HeapReadyReady.insert.Goals.{After-note}
+use Rattle.pfair_ready.proofs.heap.HeapReadyReady.insert.Goals.{After-put, then-release-self+in_ok-push, else-release-self+in_ok-note}
 
--- nothing was lost
-kept : (c : After-note) → IsCovered c.self.inside.now c.self.inside.waiting c.note.new.calendar c.note.new.released
-kept c = covered_kept c.self.inside.now c.self.inside.waiting c.self.inside.calendar c.note.new.calendar c.self.inside.released c.note.new.released c.note.ensures.dates c.note.ensures.turned c.note.ensures.turns c.self.invariant
+pub invariant_of-self-in_err-note : goal.invariant_of-self-in_err-note
+invariant_of-self-in_err-note c =
+    covered_kept c.self.inside.now c.self.inside.waiting c.self.inside.calendar c.note.new.self c.self.inside.released c.self.inside.released c.note.ensures.kept c.note.ensures.turned (λ x h. h) c.self.invariant
 
--- the key waits now
-put : (c : After-note) → c.insert.new.self ≡ finmap.insert c.self.inside.waiting c.args.key.name (c.args.release, c.args.key)
-put c = c.insert.ensures.put_there c.in-Some.hint (search rules)
+-- the key has its date or its turn before it waits
+covers : (c : After-put) → let s = c.if-release-self.self-inside in
+    IsCovered s.now s.waiting s.calendar s.released × (HasDate s.calendar c.args.release c.args.key.name ⊎ ((c.args.release ≤ s.now) × HasTurn s.released c.args.key))
+covers c =
+    elim c.if-release-self.branch [
+      | then-release-self+in_ok-push w ↦ rw w.self-inside-is (
+        covered_kept c.self.inside.now c.self.inside.waiting c.self.inside.calendar c.self.inside.calendar c.self.inside.released w.push.new.self (λ d h. h) refl
+            (λ x h. pushed_more (c.args.key, c.in-Some.hint) x c.self.inside.released w.push.new.self w.in_ok-push.ensures.more h) c.self.invariant,
+        inr (w.if-release-self.true, (c.in-Some.hint, pushed_top (c.args.key, c.in-Some.hint) c.self.inside.released w.push.new.self w.in_ok-push.ensures.more)),
+      )
+      | else-release-self+in_ok-note w ↦ rw w.self-inside-is (
+        covered_kept c.self.inside.now c.self.inside.waiting c.self.inside.calendar w.note.new.self c.self.inside.released c.self.inside.released w.note.ensures.kept w.note.ensures.turned (λ x h. h) c.self.invariant,
+        inl (c.in-Some.hint, w.in_ok-note.ensures.there),
+      )
+    ]
 
-pub invariant_of-self-in-Ok : goal.invariant_of-self-in-Ok
-invariant_of-self-in-Ok c =
-    let at = (goal.at.invariant_of-self-in-Ok c).After-note in
-    subst (λ (h : Queue). IsCovered c.self.inside.now h c.note.new.calendar c.note.new.released) (sym (put at))
-    (covered_more c.self.inside.now c.args.release c.args.key c.self.inside.waiting c.note.new.calendar c.note.new.released
-    (either_here c.self.inside.now c.args.release c.in-Some.hint c.args.key c.note.new.calendar c.note.new.released c.in-Ok.ensures.there) (kept at))
+pub invariant_of-self-in_err-put : goal.invariant_of-self-in_err-put
+invariant_of-self-in_err-put c = rw c.in_err-put.ensures.same ((covers ((goal.at.invariant_of-self-in_err-put c).After-put)).0)
 
--- and is taken out again
-gone : (c : goal.After-remove) → c.remove.new.self ≡ c.self.inside.waiting
-gone c =
-    let at = (goal.at.invariant_of-self-in-Err c).After-note in
-    c.remove.ensures.content ∙ ap (λ (h : Queue). finmap.remove h c.args.key.name) (put at)
-    ∙ put_removed c.self.inside.waiting c.args.key.name (c.args.release, c.args.key) (not_some (finmap.get c.self.inside.waiting c.args.key.name) (λ there. other c (c.insert.ensures.free there)))
-  where
-    other : (c : goal.After-remove) → c.insert.result ≡ Ok None → ⊥
-    other c same = search (rules, same)
-
-pub invariant_of-self-in-Err : goal.invariant_of-self-in-Err
-invariant_of-self-in-Err c = subst (λ (h : Queue). IsCovered c.self.inside.now h c.note.new.calendar c.note.new.released) (sym (gone c)) (kept ((goal.at.invariant_of-self-in-Err c).After-note))
-
-pub returns-in-Err-clause-err : goal.returns-in-Err-clause-err
-returns-in-Err-clause-err c = gone c ∙ ap (λ v. v.held) c.self.view_is
+pub invariant_of-self-2 : goal.invariant_of-self-2
+invariant_of-self-2 c =
+    let s = c.if-release-self.self-inside in
+    let both = covers ((goal.at.invariant_of-self-2 c).After-put) in
+    rw c.in_ok-put.ensures.put (covered_more s.now c.args.release c.args.key s.waiting s.calendar s.released both.1 both.0)

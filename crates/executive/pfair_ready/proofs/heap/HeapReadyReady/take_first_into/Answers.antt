@@ -1,4 +1,4 @@
-use Rattle.std.proofs.Common.{cond, ap, ◌∙◌, ◌≡◌, ◌≤◌, ◌<◌, length, sym, subst, refl, arith}
+use Rattle.std.proofs.Common.{cond, min, ap, ◌∙◌, ◌≡◌, ◌≤◌, ◌<◌, length, sym, subst, refl, arith}
 use Rattle.std.specs.FinMap as finmap
 use Rattle.std.specs.Prelude.{vec_capacity}
 use Rattle.pfair_order.specs.Order.{pd2_cmp}
@@ -19,17 +19,17 @@ moved c =
 pub invariant_of-self : goal.invariant_of-self
 invariant_of-self c = moved ((goal.at.invariant_of-self c).After-release)
 
-pub invariant_of-self-in_err-first : goal.invariant_of-self-in_err-first
-invariant_of-self-in_err-first c = moved ((goal.at.invariant_of-self-in_err-first c).After-release)
-
 pub invariant_of-self-in_err-reserve : goal.invariant_of-self-in_err-reserve
 invariant_of-self-in_err-reserve c = moved ((goal.at.invariant_of-self-in_err-reserve c).After-release)
 
+pub invariant_of-self-in_err-reserve-2 : goal.invariant_of-self-in_err-reserve-2
+invariant_of-self-in_err-reserve-2 c = moved ((goal.at.invariant_of-self-in_err-reserve-2 c).After-release)
+
 pub turns-init : goal.turns-init
 turns-init c = (
-  rw c.in_ok-first.ensures.items (taking_none c.args.slot c.args.m c.self.inside.waiting c.release.new.self c.release.new.released (moved ((goal.at.turns-init c).After-release)) c.in_ok-release.ensures.done),
+  rw (c.in_ok-reserve.ensures.items ∙ c.clear.ensures.items) (taking_none c.args.slot c.args.m c.self.inside.waiting c.release.new.self c.release.new.released (moved ((goal.at.turns-init c).After-release)) c.in_ok-release.ensures.done),
   refl,
-  room_for c.args.m (length c.release.new.released) _ (vec_capacity c.in_ok-first.first) (omega (arith, c.min-count.ensures, c.len.ensures)) c.in_ok-first.ensures.capacity,
+  room_for c.args.m (length c.release.new.released) (min c.args.m (length c.release.new.released)) (vec_capacity c.reserve.new.self) (omega (arith, c.min-count.ensures, c.len.ensures)) (omega (arith, c.in_ok-reserve.ensures.ok)),
 )
 
 pub turns-preserved-then-take : goal.turns-preserved-then-take
