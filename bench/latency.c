@@ -1,12 +1,14 @@
 /*
- * The time of each slot that a dispatcher plans, through the C library: latency PROCESSORS TASKS SLOTS [RUNS]
+ * The time of each slot that a dispatcher plans, through the C library: latency PROCESSORS TASKS SLOTS|joins [RUNS]
  *
  * Tasks of load 0.94 that all arrive at slot 0 are planned from a fresh dispatcher, RUNS times (9 unless it says else), on one
  * processor of the machine where that can be had. The time of a slot is the least that it took in any run, in nanoseconds.
  * Writes the median, the times that 99 and 99.9 % of the slots after slot 0 don't pass, the greatest and its slot, and
  * the time of slot 0, which decides all arrivals.
  *
- * With RUNS 0 it plans once and marks the end of each slot for callgrind (bench/latency reads what that writes).
+ * With RUNS 0 it plans once and marks the end of each slot for callgrind (bench/latency reads what that writes): the
+ * memory of all slots is taken ahead, and at each 100th slot a task joins that leaves 100 slots later. With `joins` for
+ * SLOTS as many tasks more join as there are at slot 0, one in a slot, with no memory ahead; the weights are the least.
  */
 #define _GNU_SOURCE
 #include "pfair.h"
@@ -14,6 +16,7 @@
 #include <sched.h>
 #include <stdio.h>
 #include <stdlib.h>
+#include <string.h>
 #include <time.h>
 #if __has_include(<valgrind/callgrind.h>)
 #include <valgrind/callgrind.h>
@@ -56,17 +59,24 @@ static void say(struct pfair_dispatcher *d, uint64_t processor, uint32_t number,
     if (pfair_take(d, (uint8_t)processor, number, entry, &taken)) give_up("an entry is refused");
 }
 
-static void open_with(struct pfair_dispatcher *d, const struct load *load) {
+/* At each `every`th slot after slot 0 processor 0 says that the guest arrives, or that it departs again. */
+static void open_with(struct pfair_dispatcher *d, const struct load *load, uint64_t every) {
+    uint32_t numbers[MOST_PROCESSORS] = {0};
     if (pfair_open(d, (uint8_t)load->processors, FRAME, load->slots, 4096)) give_up("no dispatcher");
     for (uint64_t place = 0; place < load->tasks; place++) {
         char text[24];
         snprintf(text, sizeof text, "t%" PRIu64, place);
         struct pfair_entry entry = {.kind = PFAIR_ARRIVE, .name = pfair_name_of(text), .cost = load->costs[place], .period = period_of(place)};
-        say(d, place % load->processors, (uint32_t)(place / load->processors) + 1, &entry);
+        say(d, place % load->processors, ++numbers[place % load->processors], &entry);
+    }
+    for (uint64_t at = every; at < load->slots; at += every) {
+        struct pfair_entry guest = {.kind = PFAIR_ARRIVE, .floor = at, .at = at, .name = pfair_name_of("guest"), .cost = 1, .period = 20};
+        if (at / every % 2 == 0) guest.kind = PFAIR_DEPART;
+        say(d, 0, ++numbers[0], &guest);
     }
     for (uint64_t k = 0; k < load->processors; k++) {
         struct pfair_entry closing = {.floor = load->slots};
-        say(d, k, (uint32_t)((load->tasks - k + load->processors - 1) / load->processors) + 1, &closing);
+        say(d, k, ++numbers[k], &closing);
     }
 }
 
@@ -83,7 +93,7 @@ static void plan(struct pfair_dispatcher *d) {
 
 static void time_run(const struct load *load, uint64_t *least) {
     struct pfair_dispatcher d = PFAIR_NONE;
-    open_with(&d, load);
+    open_with(&d, load, load->slots);
     for (uint64_t slot = 0; slot < load->slots; slot++) {
         uint64_t begun = now();
         plan(&d);
@@ -95,8 +105,32 @@ static void time_run(const struct load *load, uint64_t *least) {
 
 static void count_run(const struct load *load) {
     struct pfair_dispatcher d = PFAIR_NONE;
-    open_with(&d, load);
+    open_with(&d, load, 100);
+    if (pfair_reserve(&d, load->slots, load->tasks + 1)) give_up("out of memory");
     for (uint64_t slot = 0; slot < load->slots; slot++) {
+        CALLGRIND_ZERO_STATS;
+        plan(&d);
+        CALLGRIND_DUMP_STATS;
+    }
+    pfair_close(&d);
+}
+
+static void count_joins(uint64_t processors, uint64_t tasks) {
+    struct pfair_dispatcher d = PFAIR_NONE;
+    uint32_t numbers[MOST_PROCESSORS] = {0};
+    if (pfair_open(&d, (uint8_t)processors, FRAME, tasks + 1, 4096)) give_up("no dispatcher");
+    for (uint64_t place = 0; place < 2 * tasks; place++) {
+        uint64_t at = place < tasks ? 0 : place - tasks + 1;
+        char text[24];
+        snprintf(text, sizeof text, "t%" PRIu64, place);
+        struct pfair_entry entry = {.kind = PFAIR_ARRIVE, .floor = at, .at = at, .name = pfair_name_of(text), .cost = 1, .period = FRAME};
+        say(&d, place % processors, ++numbers[place % processors], &entry);
+    }
+    for (uint64_t k = 0; k < processors; k++) {
+        struct pfair_entry closing = {.floor = tasks + 1};
+        say(&d, k, ++numbers[k], &closing);
+    }
+    for (uint64_t slot = 0; slot <= tasks; slot++) {
         CALLGRIND_ZERO_STATS;
         plan(&d);
         CALLGRIND_DUMP_STATS;
@@ -127,7 +161,11 @@ static int stay_on_one_processor(void) {
 }
 
 int main(int count, char **words) {
-    if (count < 4) give_up("PROCESSORS TASKS SLOTS [RUNS]");
+    if (count < 4) give_up("PROCESSORS TASKS SLOTS|joins [RUNS]");
+    if (!strcmp(words[3], "joins")) {
+        count_joins(strtoull(words[1], NULL, 10), strtoull(words[2], NULL, 10));
+        return 0;
+    }
     struct load load = {strtoull(words[1], NULL, 10), strtoull(words[2], NULL, 10), strtoull(words[3], NULL, 10), {0}};
     uint64_t runs = count > 4 ? strtoull(words[4], NULL, 10) : 9;
     if (load.processors < 1 || load.processors > MOST_PROCESSORS || load.tasks < 1 || load.tasks > MOST_TASKS || load.slots < 2)

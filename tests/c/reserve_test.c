@@ -133,7 +133,7 @@ static void of_any_dispatcher(void) {
     ANSWERS(0, pfair_open(&d, 1, 6, 6, 5));
     refuse(0, 0);
     ANSWERS(0, pfair_reserve(&d, UINT64_MAX, UINT64_MAX));
-    CHECK(calls > 0 && calls < 30, "%ld allocations for six slots", calls);
+    CHECK(calls > 64 && calls < 128, "%ld allocations for six slots", calls);
     refuse_all();
     ANSWERS(0, pfair_reserve(&d, 0, UINT64_MAX));
     ANSWERS(0, pfair_reserve(&d, 6, 5));
