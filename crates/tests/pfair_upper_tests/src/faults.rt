@@ -1,138 +1,76 @@
-//! What no contract says of faults: the text of each, and that its line goes out in one write.
+//! The lines of faults, each of which goes out in one write.
 
+use crate::devices::Sink;
 use pfair_board::{LookFault, PublishFault};
 use pfair_entry::{Entry, EntryFault, NoteFault};
-use pfair_file::{EntryCause, Field, FileFault, ScheduleFault};
+use pfair_entry_row::RowFault;
+use pfair_feed::{FeedFault, FollowFault, tell_refused};
+use pfair_file::{EntryCause, Field, FileFault, ScheduleFault, write_line};
+use pfair_lag::PickFault;
 use pfair_replica::{MergeFault, TakeFault};
 use pfair_reports::{ProgramFault, write_fault};
 use pfair_table::PlanFault;
 use pfair_weight::{NameFault, WeightFault};
-use std::alloc::Global;
-use std::fmt::Display;
-use std::io;
-use std::io::Write;
-use std::process::Abort;
 use std::test::Fail;
 
-// Takes all that comes, and counts the calls.
-#[derive(Drop)]
-struct CountingWriter {
-    taken: Vec<u8>,
-    calls: usize,
-}
-
-impl Write for CountingWriter {
-    fn write(&mut self, buf: &[u8]) -> io::Result<usize> {
-        self.taken.extend_from_slice(buf)?;
-        self.calls = self.calls.saturating_add(1);
-        Ok(buf.len())
-    }
-
-    fn flush(&mut self) -> io::Result<()> {
-        Ok(())
-    }
-}
+const OF_THE_PROGRAM: &str = "pfair: 4 zero cost
+pfair: 5 cost over period
+pfair: 6 period too long
+pfair: 52 stalled at slot 18446744073709551615
+pfair: 53 gate gave up
+pfair: 54 gone astray
+pfair: 60 not TOML
+pfair: 61 missing processors at 18446744073709551615
+pfair: 62 processors of wrong kind at 18446744073709551615
+pfair: 63 processors out of range at 18446744073709551615
+pfair: 65 unknown version
+pfair: 66 file too long
+pfair: 70 reading failed
+pfair: 71 writing failed
+pfair: 80 command line refused
+pfair: 90 out of memory
+";
 
 // A fault of a file.
 fn of_file(fault: FileFault) -> ProgramFault {
     ProgramFault::Schedule(ScheduleFault::File(fault))
 }
 
-// A table's fault, with the greatest processor and number that its type can hold.
-fn refused(cause: EntryCause) -> ProgramFault {
-    of_file(FileFault::Entry {
-        proc: u8::MAX,
-        number: u32::MAX,
-        cause,
-    })
-}
-
-// Faults of a place, with the greatest place and the longest key.
-fn misplaced() -> [ProgramFault; 3] {
+#[test]
+fn faults_of_the_program_are_lines_of_one_write(rt: HostRuntime) -> Result<(), Fail> {
     let (place, field) = (u64::MAX, Field::Processors);
-    [
+    let faults = [
+        ProgramFault::Weight(WeightFault::ZeroCost),
+        ProgramFault::Weight(WeightFault::CostOverPeriod),
+        ProgramFault::Weight(WeightFault::PeriodTooLong),
+        ProgramFault::Schedule(ScheduleFault::Stalled { slot: u64::MAX }),
+        ProgramFault::GateGaveUp,
+        ProgramFault::Astray,
+        of_file(FileFault::NotToml),
         of_file(FileFault::Missing { place, field }),
         of_file(FileFault::WrongKind { place, field }),
         of_file(FileFault::Range { place, field }),
-    ]
-}
-
-// Whether the line goes out whole and in one write, and the status is as it should be.
-fn is_one_line(alloc: Global, fault: &ProgramFault, line: &str, status: u8) -> bool {
-    let mut writer = CountingWriter {
-        taken: Vec::new(alloc),
-        calls: 0,
-    };
-    let seen = write_fault(fault, &mut writer);
-    seen == status && writer.calls == 1 && writer.taken.as_slice() == line.as_bytes()
-}
-
-#[test]
-fn faults_of_the_program_are_lines_of_one_write(rt: HostRuntime) -> Result<(), Fail> {
-    let rows = [
-        (
-            ProgramFault::Weight(WeightFault::ZeroCost),
-            "pfair: 4 zero cost\n",
-            1,
-        ),
-        (
-            ProgramFault::Weight(WeightFault::CostOverPeriod),
-            "pfair: 5 cost over period\n",
-            1,
-        ),
-        (
-            ProgramFault::Weight(WeightFault::PeriodTooLong),
-            "pfair: 6 period too long\n",
-            1,
-        ),
-        (
-            ProgramFault::Schedule(ScheduleFault::Stalled { slot: u64::MAX }),
-            "pfair: 52 stalled at slot 18446744073709551615\n",
-            3,
-        ),
-        (ProgramFault::GateGaveUp, "pfair: 53 gate gave up\n", 3),
-        (ProgramFault::Astray, "pfair: 54 gone astray\n", 3),
-        (of_file(FileFault::NotToml), "pfair: 60 not TOML\n", 2),
-        (
-            of_file(FileFault::Version),
-            "pfair: 65 unknown version\n",
-            2,
-        ),
-        (
-            ProgramFault::Schedule(ScheduleFault::FileTooLong),
-            "pfair: 66 file too long\n",
-            2,
-        ),
-        (
-            ProgramFault::Schedule(ScheduleFault::ReadFailed),
-            "pfair: 70 reading failed\n",
-            5,
-        ),
-        (ProgramFault::WriteFailed, "pfair: 71 writing failed\n", 5),
-        (
-            ProgramFault::CommandLine,
-            "pfair: 80 command line refused\n",
-            1,
-        ),
-        (ProgramFault::Memory, "pfair: 90 out of memory\n", 4),
+        of_file(FileFault::Version),
+        ProgramFault::Schedule(ScheduleFault::FileTooLong),
+        ProgramFault::Schedule(ScheduleFault::ReadFailed),
+        ProgramFault::WriteFailed,
+        ProgramFault::CommandLine,
+        ProgramFault::Memory,
     ];
-    for (fault, line, status) in rows {
-        assert!(rt; is_one_line(rt.alloc(), &fault, line, status), "{line}");
+    let mut writer = Sink::of(rt.alloc(), usize::MAX);
+    for fault in &faults {
+        let _ = write_fault(fault, &mut writer);
     }
+    assert_eq!(rt; writer.taken.as_slice(), OF_THE_PROGRAM.as_bytes());
+    assert_eq!(rt; writer.calls, faults.len());
     Ok(())
 }
 
+const REFUSED: &str = "pfair: 64 entry 4294967295 of processor 255 refused: ";
+
 #[test]
-fn faults_of_a_file_are_lines_of_one_write(rt: HostRuntime) -> Result<(), Fail> {
-    let places = [
-        "pfair: 61 missing processors at 18446744073709551615\n",
-        "pfair: 62 processors of wrong kind at 18446744073709551615\n",
-        "pfair: 63 processors out of range at 18446744073709551615\n",
-    ];
-    for (fault, line) in misplaced().into_iter().zip(places) {
-        assert!(rt; is_one_line(rt.alloc(), &fault, line, 2), "{line}");
-    }
-    let causes = [
+fn refused_entries_are_lines_of_one_write(rt: HostRuntime) -> Result<(), Fail> {
+    for (cause, text) in [
         (EntryCause::Name(NameFault::Empty), "1 empty name"),
         (EntryCause::Name(NameFault::TooLong), "2 name too long"),
         (
@@ -141,14 +79,6 @@ fn faults_of_a_file_are_lines_of_one_write(rt: HostRuntime) -> Result<(), Fail> 
         ),
         (EntryCause::Weight(WeightFault::ZeroCost), "4 zero cost"),
         (
-            EntryCause::Weight(WeightFault::CostOverPeriod),
-            "5 cost over period",
-        ),
-        (
-            EntryCause::Weight(WeightFault::PeriodTooLong),
-            "6 period too long",
-        ),
-        (
             EntryCause::Entry(EntryFault::StampBeforeFloor),
             "7 stamp before floor",
         ),
@@ -156,94 +86,148 @@ fn faults_of_a_file_are_lines_of_one_write(rt: HostRuntime) -> Result<(), Fail> 
         (EntryCause::Entry(EntryFault::BadDelay), "9 bad delay"),
         (EntryCause::Entry(EntryFault::BadIndex), "10 bad index"),
         (EntryCause::LogFull, "12 log full"),
-    ];
-    for (cause, text) in causes {
-        assert_refused(&rt, rt.alloc(), cause, text)?;
+    ] {
+        // the greatest processor and number that their types can hold
+        let fault = of_file(FileFault::Entry {
+            proc: u8::MAX,
+            number: u32::MAX,
+            cause,
+        });
+        let mut writer = Sink::of(rt.alloc(), usize::MAX);
+        let _ = write_fault(&fault, &mut writer);
+        let line = format!(in rt.alloc(); "{REFUSED}{text}\n")?;
+        assert!(rt;
+            writer.taken.as_slice() == line.as_bytes() && writer.calls == 1,
+            "{text}"
+        );
     }
     Ok(())
 }
 
-fn assert_refused(
-    rt: &impl Abort,
-    alloc: Global,
-    cause: EntryCause,
-    text: &str,
-) -> Result<(), Fail> {
-    let line = format!(in alloc; "pfair: 64 entry 4294967295 of processor 255 refused: {text}\n")?;
-    assert!(rt;
-        is_one_line(alloc, &refused(cause), line.as_str(), 2),
-        "{text}"
-    );
-    Ok(())
-}
-
-// Asserts the text of a fault.
-fn assert_text<F: Display>(
-    rt: &impl Abort,
-    alloc: Global,
-    fault: &F,
-    expected: &str,
-) -> Result<(), Fail> {
-    let text = format!(in alloc; "{fault}")?;
-    assert_eq!(rt; text.as_str(), expected);
-    Ok(())
-}
+const OF_CALLS: &str = "pfair: 30 entry 2 of processor 1 torn
+pfair: 31 spent
+pfair: 90 out of memory
+pfair: 11 floor fell
+pfair: 12 log full
+pfair: 9 bad delay
+pfair: 13 no such processor
+pfair: 14 number out of range
+pfair: 90 out of memory
+pfair: 15 other shape
+pfair: 90 out of memory
+pfair: 40 picks not rising at 1
+pfair: 41 pick past horizon at 0
+";
 
 #[test]
-fn texts_that_no_run_of_the_program_shows(rt: HostRuntime) -> Result<(), Fail> {
+fn faults_of_calls_have_their_texts(rt: HostRuntime) {
+    let mut text: Vec<u8> = Vec::new(rt.alloc());
     let torn = PlanFault::Torn { proc: 1, number: 2 };
-    for (fault, number, text) in [
-        (torn, 30, "entry 2 of processor 1 torn"),
-        (PlanFault::Spent, 31, "spent"),
-        (PlanFault::Memory, 90, "out of memory"),
-    ] {
-        assert_eq!(rt; fault.number(), number);
-        assert_text(&rt, rt.alloc(), &fault, text)?;
+    for fault in [torn, PlanFault::Spent, PlanFault::Memory] {
+        write_line("pfair", fault.number(), &fault, &mut text);
     }
-    for (fault, number, text) in [
-        (NoteFault::FloorFell, 11, "floor fell"),
-        (NoteFault::LogFull, 12, "log full"),
-        (NoteFault::Refused(EntryFault::BadDelay), 9, "bad delay"),
-    ] {
-        assert_eq!(rt; fault.number(), number);
-        assert_text(&rt, rt.alloc(), &fault, text)?;
+    let refused = NoteFault::Refused(EntryFault::BadDelay);
+    for fault in [NoteFault::FloorFell, NoteFault::LogFull, refused] {
+        write_line("pfair", fault.number(), &fault, &mut text);
     }
-    for (fault, number, text) in [
-        (TakeFault::NoSuchProcessor, 13, "no such processor"),
-        (TakeFault::NumberOutOfRange, 14, "number out of range"),
-        (TakeFault::Memory, 90, "out of memory"),
+    for fault in [
+        TakeFault::NoSuchProcessor,
+        TakeFault::NumberOutOfRange,
+        TakeFault::Memory,
     ] {
-        assert_eq!(rt; fault.number(), number);
-        assert_text(&rt, rt.alloc(), &fault, text)?;
+        write_line("pfair", fault.number(), &fault, &mut text);
     }
-    for (fault, number, text) in [
-        (MergeFault::OtherShape, 15, "other shape"),
-        (MergeFault::Memory, 90, "out of memory"),
+    for fault in [MergeFault::OtherShape, MergeFault::Memory] {
+        write_line("pfair", fault.number(), &fault, &mut text);
+    }
+    for fault in [
+        PickFault::PicksNotRising { at: 1 },
+        PickFault::PickPastHorizon { at: 0 },
     ] {
-        assert_eq!(rt; fault.number(), number);
-        assert_text(&rt, rt.alloc(), &fault, text)?;
+        write_line("pfair", fault.number(), &fault, &mut text);
     }
-    Ok(())
+    assert_eq!(&rt; text.as_slice(), OF_CALLS.as_bytes());
+}
+
+const OF_BOARDS: &str = "pfair: 13 no such processor
+pfair: 14 number out of range
+pfair: 90 out of memory
+pfair: 50 row full
+pfair: 51 number taken
+pfair: 90 out of memory
+";
+
+#[test]
+fn faults_of_boards_have_their_texts(rt: HostRuntime) {
+    let mut text: Vec<u8> = Vec::new(rt.alloc());
+    for fault in [
+        LookFault::NoSuchProcessor,
+        LookFault::NumberOutOfRange,
+        LookFault::Memory,
+    ] {
+        write_line("pfair", fault.number(), &fault, &mut text);
+    }
+    let standing = Entry::new(0, None).expect(&rt, "an entry");
+    for fault in [
+        PublishFault::RowFull,
+        PublishFault::Taken { standing },
+        PublishFault::Memory,
+    ] {
+        write_line("pfair", fault.number(), &fault, &mut text);
+    }
+    assert_eq!(&rt; text.as_slice(), OF_BOARDS.as_bytes());
+}
+
+const OF_ROWS: &str = "pfair_follow: 67 no entry's row: x?
+pfair_follow: 3 bad byte at 1: x?
+pfair_follow: 5 cost over period: x?
+pfair_follow: 7 stamp before floor: x?
+pfair_follow: 13 no such processor: x?
+pfair_follow: 14 number out of range: x?
+pfair_follow: 13 no such processor: x?
+pfair_follow: 14 number out of range: x?
+pfair_follow: 30 entry 7 of processor 2 torn: x?
+pfair_follow: 31 spent: x?
+pfair_follow: 71 writing failed: x?
+pfair_follow: 90 out of memory: x?
+pfair_follow: 70 reading failed: x?
+";
+
+#[test]
+fn refused_rows_are_told_in_one_write(rt: HostRuntime) {
+    let faults = [
+        FeedFault::Row(RowFault::NoRow),
+        FeedFault::Row(RowFault::Name(NameFault::BadByte { at: 1 })),
+        FeedFault::Row(RowFault::Weight(WeightFault::CostOverPeriod)),
+        FeedFault::Row(RowFault::Entry(EntryFault::StampBeforeFloor)),
+        FeedFault::Row(RowFault::NoSuchProcessor),
+        FeedFault::Row(RowFault::NumberOutOfRange),
+        FeedFault::Follow(FollowFault::NoSuchProcessor),
+        FeedFault::Follow(FollowFault::NumberOutOfRange),
+        FeedFault::Follow(FollowFault::Torn { proc: 2, number: 7 }),
+        FeedFault::Follow(FollowFault::Spent),
+        FeedFault::Follow(FollowFault::WriteFailed),
+        FeedFault::Follow(FollowFault::Memory),
+        FeedFault::ReadFailed,
+    ];
+    let mut writer = Sink::of(rt.alloc(), usize::MAX);
+    for fault in &faults {
+        tell_refused(&mut writer, fault, b"x\x07");
+    }
+    assert_eq!(&rt; writer.taken.as_slice(), OF_ROWS.as_bytes());
+    assert_eq!(&rt; writer.calls, faults.len());
 }
 
 #[test]
-fn texts_of_a_board(rt: HostRuntime) -> Result<(), Fail> {
-    for (fault, number, text) in [
-        (LookFault::NoSuchProcessor, 13, "no such processor"),
-        (LookFault::NumberOutOfRange, 14, "number out of range"),
-        (LookFault::Memory, 90, "out of memory"),
-    ] {
-        assert_eq!(rt; fault.number(), number);
-        assert_text(&rt, rt.alloc(), &fault, text)?;
-    }
-    let standing = Entry::new(0, None).ok().expect(&rt, "an entry");
-    for (fault, number, text) in [
-        (PublishFault::RowFull, 50, "row full"),
-        (PublishFault::Taken { standing }, 51, "number taken"),
-        (PublishFault::Memory, 90, "out of memory"),
-    ] {
-        assert_eq!(rt; fault.number(), number);
-        assert_text(&rt, rt.alloc(), &fault, text)?;
-    }
+fn the_longest_row_that_is_kept_is_told_in_one_write(rt: HostRuntime) -> Result<(), Fail> {
+    let long = "1".repeat(rt.alloc(), 257)?;
+    let mut writer = Sink::of(rt.alloc(), usize::MAX);
+    tell_refused(
+        &mut writer,
+        &FeedFault::Row(RowFault::NoRow),
+        long.as_bytes(),
+    );
+    let line = format!(in rt.alloc(); "pfair_follow: 67 no entry's row: {long}\n")?;
+    assert!(rt; writer.taken.as_slice() == line.as_bytes() && writer.calls == 1);
     Ok(())
 }

@@ -1,12 +1,10 @@
 //! Tests of lags, texts, outputs, task files, fed runs and reports, through public calls.
+//!
+//! `devices` has readers and writers that are slow or fail; the other modules have tests.
 #![tactic(auto)]
 
 #[cfg(test)]
-mod alike;
-#[cfg(test)]
-mod command;
-#[cfg(test)]
-mod entry_row;
+mod devices;
 #[cfg(test)]
 mod failures;
 #[cfg(test)]
@@ -18,7 +16,7 @@ mod file;
 #[cfg(test)]
 mod follower;
 #[cfg(test)]
-mod given;
+mod gates;
 #[cfg(test)]
 mod lag;
 #[cfg(test)]
@@ -26,8 +24,6 @@ mod long_runs;
 #[cfg(test)]
 mod output;
 #[cfg(test)]
-mod runs;
+mod reports;
 #[cfg(test)]
 mod text;
-#[cfg(test)]
-mod windows;
