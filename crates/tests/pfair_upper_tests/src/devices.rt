@@ -4,7 +4,7 @@ use std::alloc::Global;
 use std::io;
 use std::io::{Read, Write};
 
-/// Gives at most so many bytes a call, and fails at one call alone, counted from 0.
+/// Gives at most `at_once` bytes a call, and fails at the call `failing` alone, counted from 0.
 #[derive(Drop)]
 pub(crate) struct Source<'a> {
     pub(crate) left: &'a [u8],
@@ -14,7 +14,7 @@ pub(crate) struct Source<'a> {
 }
 
 impl<'a> Source<'a> {
-    /// Gives these bytes, and never fails.
+    /// A reader of these bytes that never fails.
     pub(crate) fn of(left: &'a [u8], at_once: usize) -> Source<'a> {
         Source {
             left,
@@ -39,7 +39,7 @@ impl Read for Source<'_> {
     }
 }
 
-/// Gives so many spaces.
+/// Gives `left` spaces.
 #[derive(Drop)]
 pub(crate) struct Spaces {
     pub(crate) left: usize,
@@ -54,9 +54,9 @@ impl Read for Spaces {
     }
 }
 
-/// Takes at most so many bytes a call, and at one call alone, counted from 0, fails or takes none.
+/// Takes at most `at_once` bytes a call; at the call `failing` alone, counted from 0, it fails or takes none.
 ///
-/// It counts its calls, and how many bytes had been taken when it was last flushed.
+/// It counts its calls, of `write` and of `flush`, and the bytes that it had taken when it was last flushed.
 #[derive(Drop)]
 pub(crate) struct Sink {
     pub(crate) taken: Vec<u8>,
@@ -68,7 +68,7 @@ pub(crate) struct Sink {
 }
 
 impl Sink {
-    /// Fails at this call.
+    /// A writer that fails at this call.
     pub(crate) fn failing_at(alloc: Global, at_once: usize, failing: usize) -> Sink {
         Sink {
             taken: Vec::new(alloc),
@@ -80,7 +80,7 @@ impl Sink {
         }
     }
 
-    /// Never fails.
+    /// A writer that never fails.
     pub(crate) fn of(alloc: Global, at_once: usize) -> Sink {
         Sink::failing_at(alloc, at_once, usize::MAX)
     }

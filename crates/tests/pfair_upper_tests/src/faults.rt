@@ -194,7 +194,7 @@ pfair_follow: 70 reading failed: x?
 ";
 
 #[test]
-fn refused_rows_are_told_in_one_write(rt: HostRuntime) {
+fn refused_rows_are_reported_in_one_write(rt: HostRuntime) {
     let faults = [
         FeedFault::Row(RowFault::NoRow),
         FeedFault::Row(RowFault::Name(NameFault::BadByte { at: 1 })),
@@ -219,7 +219,7 @@ fn refused_rows_are_told_in_one_write(rt: HostRuntime) {
 }
 
 #[test]
-fn the_longest_row_that_is_kept_is_told_in_one_write(rt: HostRuntime) -> Result<(), Fail> {
+fn the_longest_row_that_is_kept_is_reported_in_one_write(rt: HostRuntime) -> Result<(), Fail> {
     let long = "1".repeat(rt.alloc(), 257)?;
     let mut writer = Sink::of(rt.alloc(), usize::MAX);
     tell_refused(

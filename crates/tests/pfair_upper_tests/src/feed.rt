@@ -1,4 +1,4 @@
-//! Runs that are fed the rows of a reader: in pieces, with refusals and questions, by devices that fail.
+//! Runs that are fed the rows of a reader: in pieces, with refused lines and questions, over devices that fail.
 
 ghost use Rattle.pfair_feed.specs.Feeding.{IsCaughtUp};
 
@@ -29,7 +29,7 @@ const MIXED: &str =
 
 const TORN: &str = "0,1,4,-,-,-,-,-,-,-,-\n0,1,5,-,-,-,-,-,-,-,-\n0,2,6,-,-,-,-,-,-,-,-\n";
 
-// Lines, whether the run is strict, its rows, what is told of lines, and the fault at its end.
+// Lines, whether the run is strict, its rows, its complaints, and the fault that ends it.
 const FEEDS: [(&str, bool, &str, &str, Option<FeedFault>); 5] = [
     (ROWS, true, WHOLE, "", None),
     (TURNED, true, WHOLE, "", None),
@@ -56,15 +56,15 @@ const FEEDS: [(&str, bool, &str, &str, Option<FeedFault>); 5] = [
     ),
 ];
 
-// What comes out of some lines, on both ways, and how it ends.
+// What a run writes, and the fault that ends it.
 #[derive(Drop)]
 struct End {
     rows: Vec<u8>,
-    told: Vec<u8>,
+    complaints: Vec<u8>,
     fault: Option<FeedFault>,
 }
 
-// So many processors for so many slots.
+// A follower of a run with frame 4.
 fn follower_of<R: Ready>(rt: &impl Abort, alloc: Global, processors: u8, slots: u64) -> Follower<R>
     ensures { IsCaughtUp result }
 {
@@ -72,7 +72,7 @@ fn follower_of<R: Ready>(rt: &impl Abort, alloc: Global, processors: u8, slots: 
     Follower::new(alloc, settings, 4096, Output::Tables, 0).expect(rt, "memory")
 }
 
-// What one processor of so many slots makes of a reader.
+// Feeds a reader to a follower of one processor.
 fn feed_all<R: Ready>(
     rt: &impl Abort,
     alloc: Global,
@@ -82,27 +82,31 @@ fn feed_all<R: Ready>(
 ) -> End {
     let mut follower: Follower<R> = follower_of(rt, alloc, 1, slots);
     let mut rows: Vec<u8> = Vec::new(alloc);
-    let mut told: Vec<u8> = Vec::new(alloc);
+    let mut complaints: Vec<u8> = Vec::new(alloc);
     let ended = follow(
         alloc,
         &mut follower,
         reader,
         &mut rows,
-        &mut told,
+        &mut complaints,
         is_strict,
     );
     let fault = ended.err();
-    End { rows, told, fault }
+    End {
+        rows,
+        complaints,
+        fault,
+    }
 }
 
 #[test]
 fn lines_are_fed_in_pieces(rt: HostRuntime) {
-    for (text, is_strict, rows, told, fault) in FEEDS {
+    for (text, is_strict, rows, complaints, fault) in FEEDS {
         for at_once in [1, 7, 4096] {
             let mut reader = Source::of(text.as_bytes(), at_once);
             let end = feed_all::<HeapReady>(&rt, rt.alloc(), 4, &mut reader, is_strict);
             assert_eq!(&rt; end.rows.as_slice(), rows.as_bytes());
-            assert_eq!(&rt; end.told.as_slice(), told.as_bytes());
+            assert_eq!(&rt; end.complaints.as_slice(), complaints.as_bytes());
             assert!(&rt; end.fault == fault);
         }
     }
@@ -120,7 +124,7 @@ fn each_question_is_answered(rt: HostRuntime) -> Result<(), Fail> {
     let mut reader = Source::of(text.as_slice(), 4096);
     let end = feed_all::<HeapReady>(&rt, rt.alloc(), 300, &mut reader, true);
     assert!(rt; end.fault == None && end.rows.is_empty());
-    assert!(rt; end.told.as_slice() == answers.as_slice());
+    assert!(rt; end.complaints.as_slice() == answers.as_slice());
     Ok(())
 }
 
@@ -134,7 +138,7 @@ fn a_row_of_100000_bytes_is_refused(rt: HostRuntime) -> Result<(), Fail> {
         let end = feed_all::<HeapReady>(&rt, rt.alloc(), 4, &mut reader, false);
         assert!(rt; end.fault == None && reader.left.is_empty());
         assert_eq!(rt; end.rows.as_slice(), WHOLE.as_bytes());
-        assert_eq!(rt; end.told.len(), 33 + 257 + 1);
+        assert_eq!(rt; end.complaints.len(), 33 + 257 + 1);
     }
     Ok(())
 }
@@ -158,9 +162,9 @@ fn a_reader_that_fails_at_each_call(rt: HostRuntime) {
 
 const MISSING: &str = "missing 0,1\nmissing 11,1\n";
 
-// Tells a writer what is missing of twelve logs, of which the first and the last are short, and
-// returns whether it took all.
-fn tell_twelve<R: Ready>(rt: &impl Abort, alloc: Global, writer: &mut Sink) -> bool {
+// Reports to a writer what is missing from twelve logs, of which the first and the last are short.
+// Returns whether the writer took all.
+fn report_twelve<R: Ready>(rt: &impl Abort, alloc: Global, writer: &mut Sink) -> bool {
     let mut follower: Follower<R> = follower_of(rt, alloc, 12, 4);
     let mut out: Vec<u8> = Vec::new(alloc);
     let entry = Entry::new(4, None).expect(rt, "an entry");
@@ -171,11 +175,11 @@ fn tell_twelve<R: Ready>(rt: &impl Abort, alloc: Global, writer: &mut Sink) -> b
 }
 
 #[test]
-fn missing_entries_are_told_as_far_as_the_writer_takes_them(rt: HostRuntime) {
+fn missing_entries_are_reported_as_far_as_the_writer_takes_them(rt: HostRuntime) {
     for failing in 0..=MISSING.len() {
         let mut writer = Sink::failing_at(rt.alloc(), 1, failing);
-        let is_told = tell_twelve::<HeapReady>(&rt, rt.alloc(), &mut writer);
-        assert_eq!(&rt; is_told, failing == MISSING.len());
+        let is_whole = report_twelve::<HeapReady>(&rt, rt.alloc(), &mut writer);
+        assert_eq!(&rt; is_whole, failing == MISSING.len());
         assert_eq!(&rt; writer.taken.as_slice(), &MISSING.as_bytes()[..failing]);
     }
 }

@@ -172,9 +172,9 @@ pub(crate) fn assert_fault(
     line: &str,
     status: u8,
 ) {
-    let mut told: Vec<u8> = Vec::new(alloc);
-    assert_eq!(rt; write_fault(fault, &mut told), status);
-    assert_eq!(rt; told.as_slice(), line.as_bytes());
+    let mut written: Vec<u8> = Vec::new(alloc);
+    assert_eq!(rt; write_fault(fault, &mut written), status);
+    assert_eq!(rt; written.as_slice(), line.as_bytes());
 }
 
 // Asserts the line of a file of which nothing is replayed.
