@@ -8,7 +8,6 @@ use pfair_weight::Weight;
 use std::alloc::Global;
 use std::process::Abort;
 use std::sync::Wait;
-use std::test::Fail;
 use std::thread::Threads;
 
 fn assert_read_fails<P: Abort + Threads + Wait + Sync>(
@@ -74,7 +73,7 @@ fn a_writer_that_fails_once(rt: HostRuntime) {
 }
 
 #[test]
-fn windows_over_a_writer_that_fails_after_the_header(rt: HostRuntime) -> Result<(), Fail> {
+fn windows_over_a_writer_that_fails_after_the_header(rt: HostRuntime) {
     let weight = Weight::new(1, 1).expect(&rt, "a weight");
     let mut writer = Sink::failing_at(rt.alloc(), 10, 1);
     let fault = windows(rt.alloc(), weight, 2, &mut writer)
@@ -86,7 +85,6 @@ fn windows_over_a_writer_that_fails_after_the_header(rt: HostRuntime) -> Result<
     broken.takes_none = true;
     assert_eq!(rt; write_fault(&ProgramFault::CommandLine, &mut broken), 1);
     assert!(rt; broken.taken.is_empty());
-    Ok(())
 }
 
 #[test]

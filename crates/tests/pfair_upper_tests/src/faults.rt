@@ -37,7 +37,7 @@ fn of_file(fault: FileFault) -> ProgramFault {
 }
 
 #[test]
-fn faults_of_the_program_are_lines_of_one_write(rt: HostRuntime) -> Result<(), Fail> {
+fn faults_of_the_program_are_lines_of_one_write(rt: HostRuntime) {
     let (place, field) = (u64::MAX, Field::Processors);
     let faults = [
         ProgramFault::Weight(WeightFault::ZeroCost),
@@ -63,7 +63,6 @@ fn faults_of_the_program_are_lines_of_one_write(rt: HostRuntime) -> Result<(), F
     }
     assert_eq!(rt; writer.taken.as_slice(), OF_THE_PROGRAM.as_bytes());
     assert_eq!(rt; writer.calls, faults.len());
-    Ok(())
 }
 
 const REFUSED: &str = "pfair: 64 entry 4294967295 of processor 255 refused: ";

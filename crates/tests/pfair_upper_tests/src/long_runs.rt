@@ -83,9 +83,10 @@ fn assert_goes_on<R: Ready>(rt: &impl Abort, alloc: Global) -> Result<(), Fail> 
     let name = TaskName::from_bytes(b"a")?;
     let settings = Settings::new(1, 2, 3000).expect(rt, "settings");
     let mut dispatcher = Dispatcher::<R>::new(alloc, settings, 4)?;
-    goes_on(rt, &mut dispatcher, name)?;
-    assert_handed_over(rt, &dispatcher.into_run()?, name);
-    Ok(())
+    let ended = goes_on(rt, &mut dispatcher, name);
+    let run = dispatcher.into_run().expect(rt, "memory");
+    assert_handed_over(rt, &run, name);
+    ended
 }
 
 #[test]

@@ -48,14 +48,18 @@ fn texts_of_a_schedule(rt: HostRuntime) {
     assert_texts(&rt, rt.alloc(), dispatcher);
 }
 
-#[test]
-fn the_longest_entry_has_its_row(rt: HostRuntime) -> Result<(), Fail> {
+fn longest_entry(rt: &impl Abort) -> Entry {
     let arrives = Announcement::Arrive {
-        name: TaskName::from_bytes(b"abcdefghijklmnop")?,
-        weight: Weight::new(999_999_999, 1_000_000_000)?,
+        name: TaskName::from_bytes(b"abcdefghijklmnop").expect(rt, "a name"),
+        weight: Weight::new(999_999_999, 1_000_000_000).expect(rt, "a weight"),
         early: false,
     };
-    let entry = Entry::new(1_000_000, Some((1_000_000, arrives)))?;
+    Entry::new(1_000_000, Some((1_000_000, arrives))).expect(rt, "an entry")
+}
+
+#[test]
+fn the_longest_entry_has_its_row(rt: HostRuntime) -> Result<(), Fail> {
+    let entry = longest_entry(&rt);
     let row = row_of(rt.alloc(), 255, u32::MAX, &entry)?;
     assert_eq!(rt; read_row(row.as_slice()), Ok((255, u32::MAX, entry)));
     let mut writer = new_text(rt.alloc());

@@ -5,7 +5,7 @@ use pfair_text::{LONGEST_FILE, ReadFault, WriteFailed, read_bytes, send};
 use std::test::Fail;
 
 #[test]
-fn a_text_is_sent(rt: HostRuntime) -> Result<(), Fail> {
+fn a_text_is_sent(rt: HostRuntime) {
     let text = b"slot,task\n0,a_1\n".as_slice();
     let mut whole = Sink::of(rt.alloc(), 3);
     assert!(rt; send(&mut whole, text).is_ok());
@@ -16,11 +16,10 @@ fn a_text_is_sent(rt: HostRuntime) -> Result<(), Fail> {
         assert!(rt; send(&mut short, text) == Err(WriteFailed));
         assert!(rt; short.taken.as_slice() == b"slot,task\n".as_slice() && short.calls == 3);
     }
-    Ok(())
 }
 
 #[test]
-fn bytes_are_read_up_to_the_longest_file(rt: HostRuntime) -> Result<(), Fail> {
+fn bytes_are_read_up_to_the_longest_file(rt: HostRuntime) {
     let text = b"processors = 2\n".as_slice();
     let mut whole = Source::of(text, 3);
     let bytes = read_bytes(rt.alloc(), &mut whole).expect(&rt, "bytes");
@@ -32,5 +31,4 @@ fn bytes_are_read_up_to_the_longest_file(rt: HostRuntime) -> Result<(), Fail> {
     let mut longest = Spaces { left: LONGEST_FILE };
     let bytes = read_bytes(rt.alloc(), &mut longest).expect(&rt, "bytes");
     assert!(rt; bytes.len() == LONGEST_FILE && bytes.first() == Some(&b' '));
-    Ok(())
 }
