@@ -185,7 +185,7 @@ fn missing_entries_are_reported_as_far_as_the_writer_takes_them(rt: HostRuntime)
 }
 
 #[test]
-fn entries_of_a_file_are_fed_again(rt: HostRuntime) {
+fn entries_of_a_file_have_their_rows(rt: HostRuntime) {
     let script = read_file(rt.alloc(), EARLY.as_bytes()).expect(&rt, "a script");
     let text = entries_of(rt.alloc(), &script).expect(&rt, "memory");
     assert_eq!(&rt; text.as_slice(), ROWS.as_bytes());
