@@ -62,6 +62,18 @@ pub(crate) const EARLY: &str = "version = 2\nprocessors = 1\nframe = 4\nslots = 
 const NOT_EARLY: &str = "version = 2\nprocessors = 1\nframe = 4\nslots = 4\nentry = [
 { processor = 0, floor = 0, kind = \"arrive\", at = 0, name = \"a\", cost = 2, period = 4, early = false }]\n";
 
+// A task that leaves after a quantum, and another one that wants the whole processor then.
+const LEAVER: &str = "version = 1\nprocessors = 1\nframe = 2\nslots = 4\nentry = [
+{ processor = 0, floor = 0, kind = \"arrive\", at = 0, name = \"a\", cost = 1, period = 2 },
+{ processor = 0, floor = 1, kind = \"depart\", at = 1, name = \"a\" },
+{ processor = 0, floor = 2, kind = \"arrive\", at = 2, name = \"b\", cost = 1, period = 1 },
+{ processor = 0, floor = 3, kind = \"arrive\", at = 3, name = \"b\", cost = 1, period = 1 }]\n";
+
+// The second entry has a floor that falls, so that nobody arrives.
+const NOT_HEARD: &str = "version = 1\nprocessors = 1\nframe = 1\nslots = 8\nentry = [
+{ processor = 0, floor = 8 },
+{ processor = 0, floor = 4, kind = \"arrive\", at = 5, name = \"a\", cost = 1, period = 1 }]\n";
+
 const NO_ENTRY: &str = "version = 1\nprocessors = 64\nframe = 1\nslots = 2\n";
 
 /// A command over a task file.
@@ -82,7 +94,7 @@ pub(crate) const COMMANDS: [(Command, &str); 4] = [
 ];
 
 // Commands over other files, and what they write.
-const OTHERS: [(Command, &str, &str); 8] = [
+const OTHERS: [(Command, &str, &str); 10] = [
     (
         Command::Placed,
         TWO_THIRDS,
@@ -92,6 +104,17 @@ const OTHERS: [(Command, &str, &str); 8] = [
         Command::Replay,
         FIVE_ARRIVALS,
         "slot,processor,task,index\n0,0,a,1\n1,0,b,1\n2,0,a,2\n",
+    ),
+    (
+        Command::Decisions,
+        LEAVER,
+        "slot,processor,number,task,outcome,value\n0,0,1,a,admitted,-\n1,0,2,a,departing,3
+2,0,3,b,refused,22\n3,0,4,b,admitted,-\n",
+    ),
+    (
+        Command::Decisions,
+        NOT_HEARD,
+        "slot,processor,number,task,outcome,value\n",
     ),
     (
         Command::Replay,
