@@ -13,7 +13,7 @@ use std::alloc::{AllocError, Global};
 const NEAR: u64 = 64;
 
 // The most dates in the list of a near slot, which never grows.
-const NEAR_MOST: usize = 64;
+const NEAR_MOST: usize = 256;
 
 /// Dates: those of the next 64 slots in a list for each slot, and the others in a heap.
 #[derive(Drop)]

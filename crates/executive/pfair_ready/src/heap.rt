@@ -16,13 +16,13 @@ use std::marker::Model;
 /// keys that wait or were left behind:
 ///
 /// - `new`, `now`: O(1). `held`, `remove`: a look-up of the name, O(1) on average.
-/// - `insert`: O(1) on average if the release is within 64 slots and fewer than 64 keys are released
+/// - `insert`: O(1) on average if the release is within 64 slots and fewer than 256 keys are released
 ///   at that slot, else O(log n). The name is looked up, unless the keys that the last selection gave
 ///   are followed by those of the same tasks in the same order.
 /// - `take_first`: O(log n) for each key that it gives, for each whose release has come since the last
 ///   selection, and for each that was left behind and surfaces; and up to 64 steps.
 ///
-/// Growth is amortized. After `reserve(k)`, which takes 130 KB and some 300 bytes for each key, no call
+/// Growth is amortized. After `reserve(k)`, which takes 520 KB and some 300 bytes for each key, no call
 /// allocates as long as no more than k keys wait and no more than k were left behind.
 #[derive(Drop)]
 pub struct HeapReady {
