@@ -2,7 +2,8 @@
 use Rattle.std.proofs.Common.{ℕ, zero, suc, min, ◌+◌, ◌≤◌, ◌<◌, ◌≡◌, refl, sym, ap, ◌∙◌, subst, arith, Bool, false, List, [], ◌∷◌, ◌++◌, length, map, inl, Option, None}
 use Rattle.std.proofs.lemmas.List.{map-append}
 use Rattle.std.proofs.lemmas.Option.{none-some}
-use Rattle.pfair_replica.specs.Replica.{Replica, IsReplica, Untorn, has_torn, frontier, empty_replica, numbers_below}
+use Rattle.pfair_replica.specs.HeldRows.{HeldRows, replica_of}
+use Rattle.pfair_replica.specs.Replica.{Replica, IsReplica, has_torn, frontier, empty_replica, numbers_below}
 use Rattle.std.specs.Option.{ForSome}
 use Rattle.std.specs.List.{AllByRecursion}
 use Rattle.std.specs.FinMap as finmap
@@ -19,7 +20,7 @@ use Rattle.pfair_admission.specs.Roster.{Roster}
 use Rattle.pfair_table.specs.declared.pick.Decided.{Decided}
 use Rattle.pfair_table.specs.Table.{Settings, Table, history, table, decisions, plan}
 use Rattle.pfair_table.specs.Laws.{IsOf}
-use Rattle.pfair_table.specs.Refinement.{IsPlanOf, IsInStep, IsKept}
+use Rattle.pfair_table.specs.Refinement.{IsPlanOf, IsInStep, IsKept, IsWholePlan}
 use Rattle.pfair_replica.proofs.TornKeys.{untorn_by_test}
 use Rattle.pfair_table.proofs.Steps.{plan_of_held, step_of_held, plan_next_slot}
 
@@ -28,61 +29,54 @@ pub tables_listed : (s : Settings) (x : Replica) (n : ℕ) → (history s x n).t
 tables_listed s x zero = refl
 tables_listed s x (suc n) = ap (λ (ts : List Table). ts ++ table s x n ∷ []) (tables_listed s x n) ∙ sym (map-append (table s x) (numbers_below n) (n ∷ []))
 
-module _ (s : Settings) (held : Replica) (tables : List Table) (decided : List (List Decided)) (spent : Bool) (roster : Roster) (now : ℕ) (waiting : Queue) (kept : IsKept s held tables decided spent roster now waiting) (sound : IsReplica held) (test : has_torn held ≡ false) where
+module _ {s : Settings} {held : Replica} {tables : List Table} {decided : List (List Decided)} {spent : Bool} {roster : Roster} {now : ℕ} {waiting : Queue} (kept : IsKept s held tables decided spent roster now waiting) (sound : IsReplica held) where
   pub is_of_held : IsOf s held
   is_of_held = record { replica = sound; processors = kept.processors }
 
-  pub whole_held : Untorn held
-  whole_held = untorn_by_test held sound test
+  module _ (test : has_torn held ≡ false) where
+    pub plan_now : IsPlanOf s held held tables decided
+    plan_now = plan_of_held kept.plan is_of_held (untorn_by_test held sound test)
 
-  -- nothing is spent: members and ready structure are in step with what is held now
-  pub step_now : spent ≡ false → IsInStep s held (length tables) roster now waiting
-  step_now e = step_of_held s held kept.of tables decided kept.plan is_of_held whole_held roster now waiting (kept.step e)
+    -- nothing is spent: members and ready structure are in step with what is held now
+    pub step_now : spent ≡ false → IsInStep s held (length tables) roster now waiting
+    step_now e = step_of_held kept.plan is_of_held (untorn_by_test held sound test) (kept.step e)
 
-  pub plan_now : IsPlanOf s held held tables decided
-  plan_now = plan_of_held s held kept.of tables decided kept.plan is_of_held whole_held
+    -- where as many slots are planned as can be, the tables and decisions are the whole plan
+    as_many : min (frontier held) s.slots ≤ length tables → length tables ≡ min (frontier held) s.slots
+    as_many le = omega (arith, le, plan_now.early, plan_now.wanted)
 
-  as_many : min (frontier held) s.slots ≤ length tables → length tables ≡ min (frontier held) s.slots
-  as_many le =
-      let early = plan_now.early in
-      let wanted = plan_now.wanted in
-      omega (arith, le, early, wanted)
+    pub tables_whole : min (frontier held) s.slots ≤ length tables → tables ≡ plan s held
+    tables_whole le = plan_now.tables_are ∙ tables_listed s held (length tables) ∙ ap (λ (n : ℕ). map (table s held) (numbers_below n)) (as_many le)
 
-  -- where as many slots are planned as can be, the tables and decisions are the whole plan
-  pub tables_whole : min (frontier held) s.slots ≤ length tables → tables ≡ plan s held
-  tables_whole le = plan_now.tables_are ∙ tables_listed s held (length tables) ∙ ap (λ (n : ℕ). map (table s held) (numbers_below n)) (as_many le)
+    pub decided_whole : min (frontier held) s.slots ≤ length tables → decided ≡ map (decisions s held) (numbers_below (min (frontier held) s.slots))
+    decided_whole le = plan_now.decided_are ∙ ap (λ (n : ℕ). map (decisions s held) (numbers_below n)) (as_many le)
 
-  pub decided_whole : min (frontier held) s.slots ≤ length tables → decided ≡ map (decisions s held) (numbers_below (min (frontier held) s.slots))
-  decided_whole le = plan_now.decided_are ∙ ap (λ (n : ℕ). map (decisions s held) (numbers_below n)) (as_many le)
+    -- members and ready structure made anew
+    pub kept_anew : {spent2 : Bool} {roster2 : Roster} {now2 : ℕ} {waiting2 : Queue} → IsInStep s held (length tables) roster2 now2 waiting2 → IsKept s held tables decided spent2 roster2 now2 waiting2
+    kept_anew step = record { processors = kept.processors; capacity = kept.capacity; of = held; room = kept.capacity; plan = plan_now; step = λ _. step }
 
-  -- one more slot
-  pub kept_next : (more : List Table) (more_decided : List (List Decided)) (spent2 : Bool) (roster2 : Roster) (now2 : ℕ) (waiting2 : Queue) → length tables < frontier held → length tables < s.slots
-      → more ≡ tables ++ table s held (length tables) ∷ [] → more_decided ≡ decided ++ decisions s held (length tables) ∷ []
-      → IsInStep s held (length more) roster2 now2 waiting2 → IsKept s held more more_decided spent2 roster2 now2 waiting2
-  kept_next more more_decided spent2 roster2 now2 waiting2 early wanted tables_are decided_are step = record {
-    processors = kept.processors;
-    capacity = kept.capacity;
-    of = held;
-    room = kept.capacity;
-    plan = subst (λ (ts : List Table). IsPlanOf s held held ts more_decided) (sym tables_are)
-        (subst (λ (ds : List (List Decided)). IsPlanOf s held held (tables ++ table s held (length tables) ∷ []) ds) (sym decided_are) (plan_next_slot s held tables decided plan_now early wanted));
-    step = λ _. step;
-  }
+    -- one more slot
+    pub kept_next : {more : List Table} {more_decided : List (List Decided)} {spent2 : Bool} {roster2 : Roster} {now2 : ℕ} {waiting2 : Queue} → length tables < frontier held → length tables < s.slots
+        → more ≡ tables ++ table s held (length tables) ∷ [] → more_decided ≡ decided ++ decisions s held (length tables) ∷ []
+        → IsInStep s held (length more) roster2 now2 waiting2 → IsKept s held more more_decided spent2 roster2 now2 waiting2
+    kept_next {more_decided} early wanted tables_are decided_are step = record {
+      processors = kept.processors;
+      capacity = kept.capacity;
+      of = held;
+      room = kept.capacity;
+      plan = subst (λ (ts : List Table). IsPlanOf s held held ts more_decided) (sym tables_are)
+          (subst (λ (ds : List (List Decided)). IsPlanOf s held held (tables ++ table s held (length tables) ∷ []) ds) (sym decided_are) (plan_next_slot plan_now early wanted));
+      step = λ _. step;
+    }
 
-  -- members and ready structure made anew
-  pub kept_anew : (spent2 : Bool) (roster2 : Roster) (now2 : ℕ) (waiting2 : Queue) → IsInStep s held (length tables) roster2 now2 waiting2 → IsKept s held tables decided spent2 roster2 now2 waiting2
-  kept_anew spent2 roster2 now2 waiting2 step = record {
-    processors = kept.processors;
-    capacity = kept.capacity;
-    of = held;
-    room = kept.capacity;
-    plan = plan_now;
-    step = λ _. step;
-  }
+pub whole_plan : {s : Settings} {x : HeldRows} {tables : List Table} {decided : List (List Decided)} {spent : Bool} {roster : Roster} {now forgotten : ℕ} {waiting : Queue} → IsKept s (replica_of x) tables decided spent roster now waiting
+    → IsReplica (replica_of x) → has_torn (replica_of x) ≡ false → min (frontier (replica_of x)) s.slots ≤ length tables
+    → IsWholePlan (record { settings = s; held = x; tables = tables; decided = decided; forgotten = forgotten; spent = spent })
+whole_plan kept sound test enough = record { tables_are = tables_whole kept sound test enough; decided_are = decided_whole kept sound test enough }
 
 -- a new dispatcher's members and ready structure are in step
-pub start_step : (s : Settings) (x : Replica) (roster : Roster) (now : ℕ) (waiting : Queue) → roster ≡ record { machine = record { processors = s.processors; frame = s.frame }; members = []; heard = 0; last_slot = None } → now ≡ 0 → waiting ≡ finmap.empty → IsInStep s x 0 roster now waiting
-start_step s x roster now waiting e now_is waiting_is =
+pub start_step : {s : Settings} {x : Replica} {roster : Roster} {now : ℕ} {waiting : Queue} → roster ≡ record { machine = record { processors = s.processors; frame = s.frame }; members = []; heard = 0; last_slot = None } → now ≡ 0 → waiting ≡ finmap.empty → IsInStep s x 0 roster now waiting
+start_step e now_is waiting_is =
     let ms = ap (λ (r : Roster). r.members) e in
     record {
       machine_is = ap (λ (r : Roster). r.machine) e;
@@ -98,8 +92,8 @@ start_step s x roster now waiting e now_is waiting_is =
     }
 
 -- nothing planned of a replica that holds nothing
-pub start_kept : (s : Settings) (x : Replica) (roster : Roster) (now : ℕ) (waiting : Queue) → x ≡ empty_replica s.processors x.capacity → x.capacity ≤ 4096 → IsInStep s x 0 roster now waiting → IsKept s x [] [] false roster now waiting
-start_kept s x roster now waiting e few step =
+pub start_kept : {s : Settings} {x : Replica} {roster : Roster} {now : ℕ} {waiting : Queue} → x ≡ empty_replica s.processors x.capacity → x.capacity ≤ 4096 → IsInStep s x 0 roster now waiting → IsKept s x [] [] false roster now waiting
+start_kept {s} {x} e few step =
     let none : (k n : ℕ) → x.at k n ≡ None = λ k n. ap (λ (r : Replica). r.at k n) e in
     let many : x.processors ≡ s.processors = ap (λ (r : Replica). r.processors) e in
     record {

@@ -3,7 +3,7 @@ use Rattle.std.proofs.Common.{ℕ, zero, suc, ◌+◌, ◌*◌, ◌-◌, ◌/◌
 use Rattle.std.specs.Prelude.{slice_get, is_some, IfSome, IfOk}
 use Rattle.std.specs.Option.{option_map}
 use Rattle.std.specs.List.{AllByRecursion}
-use Rattle.std.proofs.lemmas.List.{drop_at, append-nil, length-map}
+use Rattle.std.proofs.lemmas.List.{drop_at, length-map}
 use Rattle.std.proofs.lemmas.List.Concat.{flat_map-append}
 use Rattle.std.proofs.lemmas.Option.{slice_get_past, slice_get-get_or}
 use Rattle.std.proofs.lemmas.Bool.Decides.{nat_tests}
@@ -102,11 +102,6 @@ what_stands gone full current all =
 -- one more full piece
 pub one_full_more : {A : Type 0} (gone : List (GivenBack A)) (full : List (Vec A Global)) (piece : Vec A Global) → pieces_of gone (full ++ piece ∷ []) ≡ pieces_of gone full ++ piece ∷ []
 one_full_more gone full piece = sym (append_assoc (map (λ (p : GivenBack _). p.was.value) gone) full (piece ∷ []))
-
-pub one_full_joined : {A : Type 0} (gone : List (GivenBack A)) (full : List (Vec A Global)) (piece : Vec A Global) (next : List A)
-    → joined (pieces_of gone (full ++ piece ∷ [])) ++ next ≡ (joined (pieces_of gone full) ++ piece.items) ++ next
-one_full_joined gone full piece next =
-    ap (λ (xs : List _). xs ++ next) (ap joined (one_full_more gone full piece) ∙ flat_map-append (λ (p : Vec _ Global). p.items) (pieces_of gone full) (piece ∷ []) ∙ ap (λ (xs : List _). joined (pieces_of gone full) ++ xs) (append-nil piece.items))
 
 pub are_more : {A : Type 0} (gone : List (GivenBack A)) (full : List (Vec A Global)) (piece : Vec A Global) (next : List A) → ArePieces (pieces_of gone full) piece.items → length piece.items ≡ 1024
     → length next ≡ 1 → length gone + length full < 2 ^ 53 → ArePieces (pieces_of gone (full ++ piece ∷ [])) next

@@ -59,8 +59,8 @@ last_below m tables few = last_all (λ (ps : List ℕ). AllByRecursion (λ k. k 
 -- ---- what a dispatcher plans
 
 -- the tables of a plan are fit
-pub fit_plan : (s : Settings) (held of : Replica) (tables : List Table) (decided : List (List Decided)) → IsPlanOf s held of tables decided → AllByRecursion (IsFit s.processors) tables
-fit_plan s held of tables decided plan =
+pub fit_plan : {s : Settings} {held of : Replica} {tables : List Table} {decided : List (List Decided)} → IsPlanOf s held of tables decided → AllByRecursion (IsFit s.processors) tables
+fit_plan {s} {of} {tables} plan =
     subst (AllByRecursion (IsFit s.processors)) (sym (plan.tables_are ∙ tables_listed s of (length tables)))
     (all_among (IsFit s.processors) (map (table s of) (numbers_below (length tables)))
     (λ rows h. (let t = among_map (table s of) (numbers_below (length tables)) rows h in

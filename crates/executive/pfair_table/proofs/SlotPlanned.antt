@@ -1,6 +1,6 @@
 -- What plans slots of a replica that is handed in is in step with that.
 use Rattle.std.proofs.Common.{ℕ, suc, min, ◌+◌, ◌≤◌, ◌<◌, ◌≡◌, refl, sym, ap, ◌∙◌, subst, arith, Bool, true, false, not, List, [], ◌∷◌, ◌++◌, length}
-use Rattle.std.specs.Prelude.{◌&&◌, nat_lt}
+use Rattle.std.specs.Prelude.{◌&&◌, nat_lt, IsTrue, Some, None}
 use Rattle.std.proofs.lemmas.Bool.{lt-ltb, le-ltb, and_from}
 use Rattle.std.proofs.lemmas.List.{length-map, map-append}
 use Rattle.pfair_replica.specs.HeldRows.{HeldRows, replica_of}
@@ -10,14 +10,17 @@ use Rattle.pfair_admission.specs.Roster.{Roster}
 use Rattle.pfair_table.specs.declared.pick.Decided.{Decided}
 use Rattle.pfair_table.specs.Events.{is_plannable}
 use Rattle.pfair_table.specs.Table.{Settings, Table, table, decisions}
-use Rattle.pfair_table.specs.Refinement.{IsInStep, IsKept, IsWholePlan}
-use Rattle.pfair_table.specs.SlotPlans.{tables_to, decided_to}
-use Rattle.pfair_table.proofs.Keeping.{plan_now, step_now, kept_next, tables_listed, tables_whole, decided_whole}
+use Rattle.pfair_table.specs.declared.slot.SlotPlan.{SlotPlan}
+use Rattle.pfair_table.specs.PlaceLaws.{IsFit}
+use Rattle.pfair_table.specs.Refinement.{Dispatch, IsInStep, IsKept, IsWholePlan}
+use Rattle.pfair_table.specs.SlotPlans.{tables_to, decided_to, IsNextPlan, after_plan}
+use Rattle.pfair_table.proofs.Keeping.{plan_now, step_now, kept_next, tables_listed, whole_plan}
 use Rattle.pfair_table.proofs.Runs.{length_numbers}
+use Rattle.pfair_table.proofs.TableLaws.{tables_are_ordered}
 
 -- ---- whether a slot can be planned
 
-pub plannable : (s : Settings) (x : Replica) (n : ℕ) → has_torn x ≡ false → n < frontier x → n < s.slots → is_plannable s x n ≡ true
+plannable : (s : Settings) (x : Replica) (n : ℕ) → has_torn x ≡ false → n < frontier x → n < s.slots → is_plannable s x n ≡ true
 plannable s x n whole settled wanted =
     and_from (not (has_torn x)) (nat_lt n (frontier x) && nat_lt n s.slots) (ap not whole)
     (and_from (nat_lt n (frontier x)) (nat_lt n s.slots) (lt-ltb n (frontier x) settled) (lt-ltb n s.slots wanted))
@@ -31,10 +34,10 @@ one_false : (a b c : Bool) → b ≡ false → (a && (b && c)) ≡ false
 one_false true b c e = ap (λ t. t && c) e
 one_false false b c e = refl
 
-pub none_left : (s : Settings) (x : Replica) (n : ℕ) → s.slots ≤ n → is_plannable s x n ≡ false
+none_left : (s : Settings) (x : Replica) (n : ℕ) → s.slots ≤ n → is_plannable s x n ≡ false
 none_left s x n le = both_false (not (has_torn x)) (nat_lt n (frontier x)) (nat_lt n s.slots) (le-ltb n s.slots le)
 
-pub none_settled : (s : Settings) (x : Replica) (n : ℕ) → frontier x ≤ n → is_plannable s x n ≡ false
+none_settled : (s : Settings) (x : Replica) (n : ℕ) → frontier x ≤ n → is_plannable s x n ≡ false
 none_settled s x n le = one_false (not (has_torn x)) (nat_lt n (frontier x)) (nat_lt n s.slots) (le-ltb n (frontier x) le)
 
 -- ---- the slots so far
@@ -45,44 +48,81 @@ tables_long s x n = ap length (tables_listed s (replica_of x) n) ∙ (length-map
 one_more : (n : ℕ) → n + 1 ≡ suc n
 one_more n = omega arith
 
-module _ (s : Settings) (seen of : HeldRows) (n : ℕ) (spent : Bool) (roster : Roster) (now : ℕ) (waiting : Queue) (kept : IsKept s (replica_of seen) (tables_to s of n) (decided_to s of n) spent roster now waiting) where
-  pub within : n ≤ s.slots
-  within = let wanted = kept.plan.wanted in let long = tables_long s of n in omega (arith, wanted, long)
+-- what is seen of a replica, where n slots are planned of what was held before
+abbrev at_slot : Settings → HeldRows → HeldRows → ℕ → Bool → Dispatch
+at_slot s x of n spent = record { settings = s; held = x; tables = tables_to s of n; decided = decided_to s of n; forgotten = n; spent = spent }
 
-  module _ (sound : IsReplica (replica_of seen)) (test : has_torn (replica_of seen) ≡ false) where
-    abbrev pub x : Replica
-    x = replica_of seen
+-- and what the next plan of that answers
+module _ (of : HeldRows) (n : ℕ) {s : Settings} {x : HeldRows} {spent : Bool} {d : Dispatch} (view : at_slot s x of n spent ≡ d) where
+  planned_are : n ≡ length d.tables
+  planned_are = sym (tables_long s of n) ∙ ap (λ (e : Dispatch). length e.tables) view
 
-    pub step_seen : spent ≡ false → IsInStep s x n roster now waiting
-    step_seen able = subst (λ k. IsInStep s x k roster now waiting) (tables_long s of n) (step_now s x (tables_to s of n) (decided_to s of n) spent roster now waiting kept sound test able)
+  limit_is : s.slots ≡ d.settings.slots
+  limit_is = ap (λ (e : Dispatch). e.settings.slots) view
 
-    pub tables_seen : tables_to s of n ≡ tables_to s seen n
-    tables_seen = (plan_now s x (tables_to s of n) (decided_to s of n) spent roster now waiting kept sound test).tables_are ∙ ap (tables_to s seen) (tables_long s of n)
+  pub no_slot_left : s.slots ≤ n → IsNextPlan d None
+  no_slot_left le = none_left d.settings (replica_of d.held) (length d.tables) (omega (arith, le, planned_are, limit_is))
 
-    pub decided_seen : decided_to s of n ≡ decided_to s seen n
-    decided_seen = (plan_now s x (tables_to s of n) (decided_to s of n) spent roster now waiting kept sound test).decided_are ∙ ap (decided_to s seen) (tables_long s of n)
+  pub no_slot_settled : frontier (replica_of d.held) ≤ n → IsNextPlan d None
+  no_slot_settled le = none_settled d.settings (replica_of d.held) (length d.tables) (omega (arith, le, planned_are))
 
-    pub tables_more : tables_to s seen (n + 1) ≡ tables_to s of n ++ table s x n ∷ []
-    tables_more = ap (tables_to s seen) (one_more n) ∙ ap (λ (ts : List Table). ts ++ table s x n ∷ []) (sym tables_seen)
+  pub slot_plannable : has_torn (replica_of d.held) ≡ false → n < frontier (replica_of d.held) → n < s.slots → IsTrue (is_plannable d.settings (replica_of d.held) (length d.tables))
+  slot_plannable test early wanted =
+      plannable d.settings (replica_of d.held) (length d.tables) test (omega (arith, early, planned_are)) (omega (arith, wanted, planned_are, limit_is))
 
-    pub decided_more : decided_to s seen (n + 1) ≡ decided_to s of n ++ decisions s x n ∷ []
-    decided_more = ap (decided_to s seen) (one_more n) ∙ map-append (decisions s x) (numbers_below n) (n ∷ []) ∙ ap (λ (ds : List (List Decided)). ds ++ decisions s x n ∷ []) (sym decided_seen)
+  pub next_plan : (next : SlotPlan) → has_torn (replica_of d.held) ≡ false → n < frontier (replica_of d.held) → n < s.slots → s.processors ≤ 64
+      → next.table.items ≡ table s (replica_of d.held) n → next.decided.items ≡ decisions s (replica_of d.held) n → IsNextPlan d (Some next)
+  next_plan next test early wanted most table_is decided_is =
+      let settings_are : s ≡ d.settings = ap (λ (e : Dispatch). e.settings) view in
+      let ordered = tables_are_ordered s (replica_of d.held) n in
+      let few = ordered.0 in (
+        slot_plannable test early wanted,
+        table_is ∙ (λ i. table (settings_are i) (replica_of d.held) (planned_are i)),
+        decided_is ∙ (λ i. decisions (settings_are i) (replica_of d.held) (planned_are i)),
+        subst (IsFit 64) (sym table_is) (omega (arith, few, most), ordered.2),
+      )
 
-    pub kept_seen : (spent2 : Bool) (roster2 : Roster) (now2 : ℕ) (waiting2 : Queue) → n < frontier x → n < s.slots → IsInStep s x (n + 1) roster2 now2 waiting2
-        → IsKept s x (tables_to s seen (n + 1)) (decided_to s seen (n + 1)) spent2 roster2 now2 waiting2
-    kept_seen spent2 roster2 now2 waiting2 early wanted step =
-        let long = tables_long s of n in
-        kept_next s x (tables_to s of n) (decided_to s of n) spent roster now waiting kept sound test (tables_to s seen (n + 1)) (decided_to s seen (n + 1)) spent2 roster2 now2 waiting2
-        (omega (arith, early, long)) (omega (arith, wanted, long))
-        (tables_more ∙ ap (λ k. tables_to s of n ++ table s x k ∷ []) (sym long))
-        (decided_more ∙ ap (λ k. decided_to s of n ++ decisions s x k ∷ []) (sym long))
-        (subst (λ k. IsInStep s x k roster2 now2 waiting2) (sym (tables_long s seen (n + 1))) step)
+pub within : (of : HeldRows) (n : ℕ) {s : Settings} {x : Replica} {spent : Bool} {roster : Roster} {now : ℕ} {waiting : Queue} → IsKept s x (tables_to s of n) (decided_to s of n) spent roster now waiting → n ≤ s.slots
+within of n {s} kept = omega (arith, kept.plan.wanted, tables_long s of n)
 
-    pub whole_seen : min (frontier x) s.slots ≤ n → IsWholePlan (record { settings = s; held = seen; tables = tables_to s of n; decided = decided_to s of n; forgotten = n; spent = spent })
+module _ (of : HeldRows) (n : ℕ) {s : Settings} {x : HeldRows} {spent : Bool} {roster : Roster} {now : ℕ} {waiting : Queue} (kept : IsKept s (replica_of x) (tables_to s of n) (decided_to s of n) spent roster now waiting) where
+  module _ {d : Dispatch} (view : at_slot s x of n spent ≡ d) (sound : IsReplica (replica_of d.held)) (test : has_torn (replica_of d.held) ≡ false) where
+    abbrev y : Replica
+    y = replica_of d.held
+
+    pub kept_of : IsKept s y (tables_to s of n) (decided_to s of n) spent roster now waiting
+    kept_of = subst (λ (h : HeldRows). IsKept s (replica_of h) (tables_to s of n) (decided_to s of n) spent roster now waiting) (ap (λ (e : Dispatch). e.held) view) kept
+
+    pub step_seen : spent ≡ false → IsInStep s y n roster now waiting
+    step_seen able = subst (λ k. IsInStep s y k roster now waiting) (tables_long s of n) (step_now kept_of sound test able)
+
+    pub whole_seen : min (frontier y) s.slots ≤ n → IsWholePlan d
     whole_seen far =
         let long = tables_long s of n in
-        let enough : min (frontier x) s.slots ≤ length (tables_to s of n) = omega (arith, far, long) in
-        record {
-          tables_are = tables_whole s x (tables_to s of n) (decided_to s of n) spent roster now waiting kept sound test enough;
-          decided_are = decided_whole s x (tables_to s of n) (decided_to s of n) spent roster now waiting kept sound test enough;
-        }
+        subst IsWholePlan (ap (λ (h : HeldRows). at_slot s h of n spent) (sym (ap (λ (e : Dispatch). e.held) view)) ∙ view) (whole_plan kept_of sound test (omega (arith, far, long)))
+
+    tables_more : tables_to s d.held (n + 1) ≡ tables_to s of n ++ table s y n ∷ []
+    tables_more = ap (tables_to s d.held) (one_more n) ∙ ap (λ (ts : List Table). ts ++ table s y n ∷ []) (sym ((plan_now kept_of sound test).tables_are ∙ ap (tables_to s d.held) (tables_long s of n)))
+
+    decided_more : decided_to s d.held (n + 1) ≡ decided_to s of n ++ decisions s y n ∷ []
+    decided_more =
+        ap (decided_to s d.held) (one_more n) ∙ map-append (decisions s y) (numbers_below n) (n ∷ [])
+        ∙ ap (λ (ds : List (List Decided)). ds ++ decisions s y n ∷ []) (sym ((plan_now kept_of sound test).decided_are ∙ ap (decided_to s d.held) (tables_long s of n)))
+
+    pub kept_seen : {z : HeldRows} {roster2 : Roster} {now2 : ℕ} {waiting2 : Queue} → z ≡ d.held → n < frontier y → n < s.slots → IsInStep s y (n + 1) roster2 now2 waiting2
+        → IsKept s (replica_of x) (tables_to s z (n + 1)) (decided_to s z (n + 1)) spent roster2 now2 waiting2
+    kept_seen {roster2} {now2} {waiting2} same early wanted step =
+        let long = tables_long s of n in
+        let held_is : x ≡ d.held = ap (λ (e : Dispatch). e.held) view in
+        subst (λ (h : HeldRows × HeldRows). IsKept s (replica_of h.0) (tables_to s h.1 (n + 1)) (decided_to s h.1 (n + 1)) spent roster2 now2 waiting2) (λ i. (sym held_is i, sym same i))
+        (kept_next kept_of sound test (omega (arith, early, long)) (omega (arith, wanted, long))
+        (tables_more ∙ ap (λ k. tables_to s of n ++ table s y k ∷ []) (sym long))
+        (decided_more ∙ ap (λ k. decided_to s of n ++ decisions s y k ∷ []) (sym long))
+        (subst (λ k. IsInStep s y k roster2 now2 waiting2) (sym (tables_long s d.held (n + 1))) step))
+
+    pub seen_after : {z : HeldRows} (next : SlotPlan) → z ≡ d.held → next.table.items ≡ table s y n → next.decided.items ≡ decisions s y n → at_slot s x z (n + 1) spent ≡ after_plan d (Some next)
+    seen_after next same table_is decided_is =
+        let tables_are = ap (λ h. tables_to s h (n + 1)) same ∙ tables_more ∙ (λ i. (view i).tables ++ sym table_is i ∷ []) in
+        let decided_are = ap (λ h. decided_to s h (n + 1)) same ∙ decided_more ∙ (λ i. (view i).decided ++ sym decided_is i ∷ []) in
+        let long = planned_are of n view in
+        λ i. record (view i) { tables = tables_are i; decided = decided_are i; forgotten = long i + 1 }

@@ -27,21 +27,21 @@ use Rattle.pfair_table.proofs.Runs.{below_all, length_numbers}
 
 -- ---- the members that the boundary leaves are the definition's
 
-pub world_is : (s : Settings) (x : Replica) (n : ℕ) (before : Roster) (now : ℕ) (waiting : Queue) → IsInStep s x n before now waiting → boundary before.machine n before.members (announcements (said x n)) ≡ world s x n
-world_is s x n before now waiting step = let m = step.machine_is in let ms = step.members_are in λ i. boundary (m i) n (ms i) (announcements (said x n))
+world_is : {s : Settings} {x : Replica} {n : ℕ} {before : Roster} {now : ℕ} {waiting : Queue} → IsInStep s x n before now waiting → boundary before.machine n before.members (announcements (said x n)) ≡ world s x n
+world_is {x} {n} step = let m = step.machine_is in let ms = step.members_are in λ i. boundary (m i) n (ms i) (announcements (said x n))
 
-pub rows_are : (s : Settings) (x : Replica) (n : ℕ) (before : Roster) (now : ℕ) (waiting : Queue) → IsInStep s x n before now waiting → (processors : ℕ) → processors ≡ s.processors → (rows : Table)
+rows_are : {s : Settings} {x : Replica} {n : ℕ} {before : Roster} {now : ℕ} {waiting : Queue} → IsInStep s x n before now waiting → {processors : ℕ} → processors ≡ s.processors → {rows : Table}
     → (let w = boundary before.machine n before.members (announcements (said x n)) in rows ≡ map (pick w) (first_by_rank processors (eligible n w))) → rows ≡ table s x n
-rows_are s x n before now waiting step processors many rows is =
-    let w = world_is s x n before now waiting step in
+rows_are {n} step many is =
+    let w = world_is step in
     is ∙ (λ i. map (pick (w i)) (first_by_rank (many i) (eligible n (w i))))
 
 -- One slot on.
-step_next : (s : Settings) (x : Replica) (n : ℕ) (before after : Roster) (now now2 : ℕ) (waiting waiting2 : Queue) (rows : Table) → IsInStep s x n before now waiting
+step_next : {s : Settings} {x : Replica} {n : ℕ} {before after : Roster} {now now2 : ℕ} {waiting waiting2 : Queue} {rows : Table} → IsInStep s x n before now waiting
     → rows ≡ table s x n → after.machine ≡ before.machine → after.members ≡ all_ran rows (boundary before.machine n before.members (announcements (said x n)))
     → after.heard ≡ before.heard + length (said x n) → IsSteady (n + 1) after now2 waiting2 → IsInStep s x (n + 1) after now2 waiting2
-step_next s x n before after now now2 waiting waiting2 rows step rows_is machine_is ran_is heard_is steady =
-    let w = world_is s x n before now waiting step in
+step_next {s} {x} {n} step rows_is machine_is ran_is heard_is steady =
+    let w = world_is step in
     let one : suc n ≡ n + 1 = omega arith in
     record {
       machine_is = machine_is ∙ step.machine_is;
@@ -51,14 +51,14 @@ step_next s x n before after now now2 waiting waiting2 rows step rows_is machine
     }
 
 -- so what a slot's plan leaves is in step
-pub step_after : (s : Settings) (x : Replica) (n : ℕ) (before after : Roster) (now now2 : ℕ) (waiting waiting2 : Queue) (heard : List Said) (processors : ℕ) (r : Result SlotPlan AllocError)
+pub step_after : {s : Settings} {x : Replica} {n : ℕ} {before : Roster} {now : ℕ} {waiting : Queue} {heard : List Said} {processors : ℕ} (after : Roster) (now2 : ℕ) (waiting2 : Queue) (r : Result SlotPlan AllocError)
     → IsInStep s x n before now waiting → heard ≡ said x n → processors ≡ s.processors
     → IfOk r (λ p. let w = boundary before.machine n before.members (announcements heard) in p.table.items ≡ map (pick w) (first_by_rank processors (eligible n w)))
     → IfOk r (λ p. after.members ≡ all_ran p.table.items (boundary before.machine n before.members (announcements heard)))
     → OnOk r (after.machine ≡ before.machine) → OnOk r (after.heard ≡ before.heard + length heard) → OnOk r (IsSteady (n + 1) after now2 waiting2) → OnOk r (IsInStep s x (n + 1) after now2 waiting2)
-step_after s x n before after now now2 waiting waiting2 heard processors (Ok p) step is many rows ran machine count steady =
-    step_next s x n before after now now2 waiting waiting2 p.table.items step (rows_are s x n before now waiting step processors many p.table.items (rw is at rows)) machine (rw is at ran) (rw is at count) steady
-step_after s x n before after now now2 waiting waiting2 heard processors (Err e) step is many rows ran machine count steady = tt
+step_after after now2 waiting2 (Ok p) step is many rows ran machine count steady =
+    step_next step (rows_are step many (rw is at rows)) machine (rw is at ran) (rw is at count) steady
+step_after after now2 waiting2 (Err e) step is many rows ran machine count steady = tt
 
 -- ---- the growth law, for members and ready structure
 
@@ -69,7 +69,7 @@ same_heard x y (suc n) same =
     let before = same_heard x y n (λ u h. same u (omega (arith, h))) in
     λ i. before i + length (now i)
 
-module _ (s : Settings) (held of : Replica) (tables : List Table) (decided : List (List Decided)) (plan : IsPlanOf s held of tables decided) (is_of : IsOf s held) (whole : Untorn held) where
+module _ {s : Settings} {held of : Replica} {tables : List Table} {decided : List (List Decided)} (plan : IsPlanOf s held of tables decided) (is_of : IsOf s held) (whole : Untorn held) where
   same_processors : of.processors ≡ held.processors
   same_processors = plan.is_of.processors ∙ sym is_of.processors
 
@@ -103,8 +103,8 @@ module _ (s : Settings) (held of : Replica) (tables : List Table) (decided : Lis
       }
 
   -- and members and ready structure are in step with it too.
-  pub step_of_held : (roster : Roster) (now : ℕ) (waiting : Queue) → IsInStep s of (length tables) roster now waiting → IsInStep s held (length tables) roster now waiting
-  step_of_held roster now waiting step = record {
+  pub step_of_held : {roster : Roster} {now : ℕ} {waiting : Queue} → IsInStep s of (length tables) roster now waiting → IsInStep s held (length tables) roster now waiting
+  step_of_held step = record {
     machine_is = step.machine_is;
     members_are = step.members_are ∙ ap (λ h. counted h.tables h.members) past;
     heard_is = step.heard_is ∙ same_heard of held (length tables) alike;
@@ -112,9 +112,9 @@ module _ (s : Settings) (held of : Replica) (tables : List Table) (decided : Lis
   }
 
 -- With the next slot planned.
-pub plan_next_slot : (s : Settings) (x : Replica) (tables : List Table) (decided : List (List Decided)) → IsPlanOf s x x tables decided → length tables < frontier x → length tables < s.slots
+pub plan_next_slot : {s : Settings} {x : Replica} {tables : List Table} {decided : List (List Decided)} → IsPlanOf s x x tables decided → length tables < frontier x → length tables < s.slots
     → IsPlanOf s x x (tables ++ table s x (length tables) ∷ []) (decided ++ decisions s x (length tables) ∷ [])
-plan_next_slot s x tables decided plan early wanted =
+plan_next_slot {s} {x} {tables} {decided} plan early wanted =
     let n = length tables in
     let long : length (tables ++ table s x n ∷ []) ≡ suc n = length-append tables (table s x n ∷ []) ∙ (let e : n + 1 ≡ suc n = omega arith in e) in
     record {
@@ -129,11 +129,11 @@ plan_next_slot s x tables decided plan early wanted =
 
 -- ---- what is held grows
 
-pub kept_above : (s : Settings) (held more : Replica) (tables : List Table) (decided : List (List Decided)) (spent : Bool) (roster : Roster) (now : ℕ) (waiting : Queue)
+pub kept_above : {s : Settings} {held more : Replica} {tables : List Table} {decided : List (List Decided)} {spent : Bool} {roster : Roster} {now : ℕ} {waiting : Queue}
     → IsKept s held tables decided spent roster now waiting → Below held more → more.processors ≡ held.processors → more.capacity ≡ held.capacity → IsKept s more tables decided spent roster now waiting
-kept_above s held more tables decided spent roster now waiting kept above same_p same_c = record {
+kept_above {held} {more} kept above same_p same_c = record {
   processors = same_p ∙ kept.processors;
-  capacity = (let le = kept.capacity in omega (arith, le, same_c));
+  capacity = omega (arith, kept.capacity, same_c);
   of = kept.of;
   room = kept.room;
   plan = (let p = kept.plan in record {

@@ -13,7 +13,6 @@ invariant_of-result g c =
     let cap : x.capacity ≡ c.args.capacity = ap (λ (r : Replica). r.capacity) c.in_ok-replica.ensures in
     let few = c.requires in (
       subst (λ (p : PlannedSlots). IsKept c.args.settings x p.tables p.decided false c.in_ok-planner.planner.members (g.R.Ready.now c.in_ok-planner.planner.ready) (g.R.Ready.held c.in_ok-planner.planner.ready)) (sym c.new-3.ensures)
-          (start_kept c.args.settings x c.in_ok-planner.planner.members (g.R.Ready.now c.in_ok-planner.planner.ready) (g.R.Ready.held c.in_ok-planner.planner.ready)
-          (c.in_ok-replica.ensures ∙ (λ i. empty_replica (q i) (sym cap i))) (omega (arith, cap, few)) (c.in_ok-planner.ensures.step x)),
+          (start_kept (c.in_ok-replica.ensures ∙ (λ i. empty_replica (q i) (sym cap i))) (omega (arith, cap, few)) (c.in_ok-planner.ensures.step x)),
       c.in_ok-planner.ensures.readings x (ap (λ (r : Replica). r.processors) c.in_ok-replica.ensures ∙ q),
     )

@@ -1,6 +1,5 @@
 use Rattle.std.proofs.Common.{subst}
 use Rattle.std.specs.List.{AllByRecursion}
-use Rattle.pfair_replica.specs.HeldRows.{replica_of}
 use Rattle.pfair_table.specs.PlaceLaws.{IsFit}
 use Rattle.pfair_table.specs.Refinement.{Dispatch}
 use Rattle.pfair_table.proofs.PlacesOn.{fit_plan}
@@ -8,6 +7,5 @@ use Rattle.pfair_table.proofs.dispatcher.Dispatcher.places.Goals as goal
 
 pub returns-clause-fit : goal.returns-clause-fit
 returns-clause-fit g c =
-    let kept = c.self.invariant.0 in
     subst (λ (d : Dispatch). AllByRecursion (IsFit d.settings.processors) d.tables) c.self.view_is
-    (fit_plan c.self.inside.settings (replica_of c.self.inside.replica) kept.of c.self.inside.planned.tables c.self.inside.planned.decided kept.plan)
+    (fit_plan c.self.invariant.0.plan)

@@ -6,7 +6,6 @@ use Rattle.pfair_table.proofs.dispatcher.Dispatcher.take.Goals as goal
 
 pub invariant_of-self : goal.invariant_of-self
 invariant_of-self g c = (
-  kept_above c.self.inside.settings (replica_of c.self.inside.replica) (replica_of c.take.new.self) c.self.inside.planned.tables c.self.inside.planned.decided c.self.inside.spent c.self.inside.planner.members
-      (g.R.Ready.now c.self.inside.planner.ready) (g.R.Ready.held c.self.inside.planner.ready) c.self.invariant.0 c.take.ensures.grows (sym c.take.ensures.shape.0) (sym c.take.ensures.shape.1),
+  kept_above c.self.invariant.0 c.take.ensures.grows (sym c.take.ensures.shape.0) (sym c.take.ensures.shape.1),
   readings_above (replica_of c.self.inside.replica) (replica_of c.take.new.self) c.self.inside.planner.readings.by_processor.items c.self.invariant.1 c.take.ensures.grows (sym c.take.ensures.shape.0) (sym c.take.ensures.shape.1),
 )

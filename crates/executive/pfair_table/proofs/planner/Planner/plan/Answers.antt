@@ -22,6 +22,5 @@ plan_slot-requires-clause-limits g c =
 
 pub returns-clause-step : goal.returns-clause-step
 returns-clause-step g c =
-    step_after c.args.settings (replica_of c.args.replica.now) c.args.slot c.args.self.now.members c.plan_slot.new.members (g.R.Ready.now c.args.self.now.ready) (g.R.Ready.now c.plan_slot.new.ready) (g.R.Ready.held c.args.self.now.ready) (g.R.Ready.held c.plan_slot.new.ready)
-    c.deref.result.now c.processors.result c.plan_slot.result c.requires.step (c.deref.ensures.value ∙ c.in_ok-announced.ensures.heard) c.processors.ensures.value
+    step_after c.plan_slot.new.members (g.R.Ready.now c.plan_slot.new.ready) (g.R.Ready.held c.plan_slot.new.ready) c.plan_slot.result c.requires.step (c.deref.ensures.value ∙ c.in_ok-announced.ensures.heard) c.processors.ensures.value
     c.plan_slot.ensures.table c.plan_slot.ensures.members c.plan_slot.ensures.machine c.plan_slot.ensures.heard c.plan_slot.ensures.steady

@@ -1,5 +1,4 @@
 use Rattle.std.proofs.Common.{◌∙◌, [], None}
-use Rattle.pfair_replica.specs.HeldRows.{replica_of}
 use Rattle.pfair_table.proofs.Keeping.{start_step}
 use Rattle.pfair_table.proofs.planner.Planner.plan_again.Goals as goal
 
@@ -8,7 +7,7 @@ loop-slot-init g c =
     let p = c.processors.ensures.value in
     let f = c.frame.ensures.value in
     record {
-      step = start_step c.args.settings (replica_of c.args.replica.now) c.new.result (g.R.Ready.now c.new-2.result) (g.R.Ready.held c.new-2.result)
+      step = start_step
           (c.new.ensures ∙ (λ i. record { machine = record { processors = p i; frame = f i }; members = []; heard = 0; last_slot = None })) c.new-2.ensures.start c.new-2.ensures.empty;
       readings = c.requires.readings;
     }

@@ -16,8 +16,8 @@ invariant_of-result g c =
     let nothing : Replica = empty_replica s.processors x.capacity in
     let room = c.processors.ensures.rows.shape.capacity_in_range in
     let kept : IsKept s x [] [] false p.members (g.R.Ready.now p.ready) (g.R.Ready.held p.ready) =
-    kept_above s nothing x [] [] false p.members (g.R.Ready.now p.ready) (g.R.Ready.held p.ready)
-    (start_kept s nothing p.members (g.R.Ready.now p.ready) (g.R.Ready.held p.ready) refl (omega (arith, room)) (c.in_ok-planner.ensures.step nothing))
+    kept_above
+    (start_kept {x = nothing} refl (omega (arith, room)) (c.in_ok-planner.ensures.step nothing))
     (λ k n e h. absurd (none-some e h)) c.requires refl in (
       subst (λ (h : HeldRows). IsKept s (replica_of h) [] [] false p.members (g.R.Ready.now p.ready) (g.R.Ready.held p.ready)) (sym c.of.ensures) kept,
       subst (λ (h : HeldRows). AreReadingsOf (replica_of h) p.readings.by_processor.items) (sym c.of.ensures) (c.in_ok-planner.ensures.readings x c.requires),

@@ -8,13 +8,8 @@ returns-clause-value g c = sym (tables_long c.self.inside.settings c.self.inside
 
 pub returns-clause-within : goal.returns-clause-within
 returns-clause-within g c =
-    let p = c.self.inside.planner in
-    let le = within c.self.inside.settings c.self.inside.seen.value c.self.inside.of.value c.self.inside.planned c.self.inside.spent p.members (g.R.Ready.now p.ready) (g.R.Ready.held p.ready) c.self.invariant.0 in
-    let settings_are = ap (λ (d : Dispatch). d.settings.slots) c.self.view_is in
-    omega (arith, le, settings_are)
+    omega (arith, within c.self.inside.of.value c.self.inside.planned c.self.invariant.0, ap (λ (d : Dispatch). d.settings.slots) c.self.view_is)
 
 pub returns-clause-few : goal.returns-clause-few
 returns-clause-few g c =
-    let p = c.self.inside.planner in
-    let le = within c.self.inside.settings c.self.inside.seen.value c.self.inside.of.value c.self.inside.planned c.self.inside.spent p.members (g.R.Ready.now p.ready) (g.R.Ready.held p.ready) c.self.invariant.0 in
-    omega (arith, le, c.slots.ensures.value, c.if-prove.false)
+    omega (arith, within c.self.inside.of.value c.self.inside.planned c.self.invariant.0, c.slots.ensures.value, c.if-prove.false)

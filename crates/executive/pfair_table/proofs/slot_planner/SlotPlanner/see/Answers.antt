@@ -21,7 +21,7 @@ invariant_of-self g c =
     let rows : now.processors ≡ was.processors = sym c.requires.shape.0 ∙ ap (λ (h : HeldRows). h.processors) (sym held_is) in
     let row : now.capacity ≡ was.capacity = sym c.requires.shape.1 ∙ ap (λ (h : HeldRows). h.capacity) (sym held_is) in (
       subst (λ (h : HeldRows). IsKept s (replica_of h) ts ds c.self.inside.spent p.members (g.R.Ready.now p.ready) (g.R.Ready.held p.ready)) (sym c.of.ensures)
-          (kept_above s (replica_of was) (replica_of now) ts ds c.self.inside.spent p.members (g.R.Ready.now p.ready) (g.R.Ready.held p.ready) c.self.invariant.0 above rows row),
+          (kept_above c.self.invariant.0 above rows row),
       subst (λ (h : HeldRows). AreReadingsOf (replica_of h) p.readings.by_processor.items) (sym c.of.ensures)
           (readings_above (replica_of was) (replica_of now) p.readings.by_processor.items c.self.invariant.1 above rows row),
     )
