@@ -1,5 +1,5 @@
 -- The next index of a member is one more than its quanta in the tables; and adding one for each row keeps it so.
-use Rattle.std.proofs.Common.{ℕ, zero, suc, ◌+◌, ◌≤◌, ◌≡◌, refl, sym, ap, ◌∙◌, arith, Bool, true, false, cond, List, [], ◌∷◌, ◌++◌, length, drop, Some}
+use Rattle.std.proofs.Common.{ℕ, zero, suc, ◌+◌, ◌≤◌, ◌≡◌, refl, sym, ap, ◌∙◌, arith, Bool, true, false, cond, List, [], ◌∷◌, ◌++◌, length, drop}
 use Rattle.std.specs.Prelude.{◌||◌, map, filter, count_by, not, if◌then◌else◌}
 use Rattle.std.specs.List.{AllByRecursion}
 use Rattle.std.proofs.SliceLists.{all_by_recursion_push}
@@ -15,7 +15,7 @@ use Rattle.pfair_entry.specs.declared.announcement.Announcement.TheVariants.{Arr
 use Rattle.pfair_entry.specs.Exact.{name_exact}
 use Rattle.pfair_replica.specs.Replica.{Replica, said}
 use Rattle.pfair_entry.specs.Said.{Said}
-use Rattle.pfair_admission.specs.Admission.{Machine, is_named, decision, newcomer, change, effect, present, is_freed, decided, all_decided, ran, with_quantum}
+use Rattle.pfair_admission.specs.Admission.{Machine, is_named, decision, newcomer, change, effect, present, is_freed, decided, all_decided, boundary, with_freeing, with_delay, ran, with_quantum}
 use Rattle.pfair_admission.specs.Member.{Member}
 use Rattle.pfair_admission.specs.declared.decision.Decision.{Decision}
 use Rattle.pfair_admission.specs.declared.decision.Decision.TheVariants.{Admitted, Departing, Delayed, Refused}
@@ -32,9 +32,44 @@ use Rattle.pfair_table.proofs.TableLaws.{tables_are_ordered}
 pub each_filter : {A : Type 0} (P : A → Type 0) (p : A → Bool) (xs : List A) → AllByRecursion P xs → AllByRecursion P (filter p xs)
 each_filter P p xs all = recursion_from_All P (filter p xs) (All-filter p P xs (All-from_recursion P xs all))
 
+pub each : {A : Type 0} (P Q : A → Type 0) → ((x : A) → P x → Q x) → (xs : List A) → AllByRecursion P xs → AllByRecursion Q xs
+each P Q h [] all = tt
+each P Q h (x ∷ xs) all = (h x all.0, each P Q h xs all.1)
+
 pub each_map : {A B : Type 0} (P : A → Type 0) (Q : B → Type 0) (f : A → B) → ((x : A) → P x → Q (f x)) → (xs : List A) → AllByRecursion P xs → AllByRecursion Q (map f xs)
 each_map P Q f h [] all = tt
 each_map P Q f h (x ∷ xs) all = (h x all.0, each_map P Q f h xs all.1)
+
+-- what holds of each newcomer, and still holds where a member is to be freed or is delayed, holds of each after a boundary
+module _ (t : ℕ) (P : Member → Type 0) (joins : (name : Name) (w : Share) (early : Bool) → P (newcomer t name w early)) (freed : (slot : ℕ) (m : Member) → P m → P (with_freeing slot m)) (delayed : (index by : ℕ) (m : Member) → P m → P (with_delay index by m)) where
+  each_change : (name : Name) (f : Member → Member) → ((m : Member) → P m → P (f m)) → (members : List Member) → AllByRecursion P members → AllByRecursion P (change name f members)
+  each_change name f keeps = each_map P P (λ m. if is_named name m then f m else m) (λ m h. by m h (is_named name m))
+    where
+      by : (m : Member) → P m → (b : Bool) → P (if b then f m else m)
+      by m h true = keeps m h
+      by m h false = h
+
+  each_effect : (members : List Member) (a : Announcement) (d : Decision) → AllByRecursion P members → AllByRecursion P (effect t members a d)
+  each_effect members (Arrive name w early) Admitted all = all_by_recursion_push P members (newcomer t name w early) all (joins name w early)
+  each_effect members (Arrive name w early) (Departing slot) all = all
+  each_effect members (Arrive name w early) Delayed all = all
+  each_effect members (Arrive name w early) (Refused why) all = all
+  each_effect members (Depart name) (Departing slot) all = each_change name (with_freeing slot) (freed slot) members all
+  each_effect members (Depart name) Admitted all = all
+  each_effect members (Depart name) Delayed all = all
+  each_effect members (Depart name) (Refused why) all = all
+  each_effect members (Late name index by) Delayed all = each_change name (with_delay index by) (delayed index by) members all
+  each_effect members (Late name index by) Admitted all = all
+  each_effect members (Late name index by) (Departing slot) all = all
+  each_effect members (Late name index by) (Refused why) all = all
+
+  each_decided : (mc : Machine) (announced : List Announcement) (members : List Member) → AllByRecursion P members → AllByRecursion P (all_decided mc t members announced)
+  each_decided mc [] members all = all
+  each_decided mc (a ∷ announced) members all =
+      each_decided mc announced (decided mc t members a) (each_filter P (λ m. not (is_freed t m.freed_at)) (effect t members a (decision mc t members a)) (each_effect members a (decision mc t members a) all))
+
+  pub each_boundary : (mc : Machine) (announced : List Announcement) (members : List Member) → AllByRecursion P members → AllByRecursion P (boundary mc t members announced)
+  each_boundary mc announced members all = each_decided mc announced (present t members) (each_filter P (λ m. not (is_freed t m.freed_at)) members all)
 
 -- it joined by slot t, and its next index is that of the tables
 pub record IsCounted (t : ℕ) (tables : List Table) (m : Member) : Type 0 where
@@ -42,55 +77,23 @@ pub record IsCounted (t : ℕ) (tables : List Table) (m : Member) : Type 0 where
   pub next_is : m.next ≡ next_index tables m
 
 -- who joins at t has had no quantum
-new_counted : (t : ℕ) (tables : List Table) (name : Name) (w : Share) (early : Bool) → length tables ≡ t → IsCounted t tables (newcomer t name w early)
-new_counted t tables name w early e = record { by_now = omega arith; next_is = sym (ap (λ ts. 1 + count_by (names_task name) ts) (drop_all t tables (omega (arith, e)))) }
-
-counted_change : (t : ℕ) (tables : List Table) (name : Name) (f : Member → Member) → ((m : Member) → IsCounted t tables m → IsCounted t tables (f m)) → (members : List Member) → AllByRecursion (IsCounted t tables) members → AllByRecursion (IsCounted t tables) (change name f members)
-counted_change t tables name f keeps members all = each_map (IsCounted t tables) (IsCounted t tables) (λ m. if is_named name m then f m else m) (λ m h. by m h (is_named name m)) members all
-  where
-    by : (m : Member) → IsCounted t tables m → (b : Bool) → IsCounted t tables (if b then f m else m)
-    by m h true = keeps m h
-    by m h false = h
-
-counted_effect : (t : ℕ) (tables : List Table) → length tables ≡ t → (members : List Member) (a : Announcement) (d : Decision) → AllByRecursion (IsCounted t tables) members → AllByRecursion (IsCounted t tables) (effect t members a d)
-counted_effect t tables e members (Arrive name w early) Admitted all = all_by_recursion_push (IsCounted t tables) members (newcomer t name w early) all (new_counted t tables name w early e)
-counted_effect t tables e members (Arrive name w early) (Departing slot) all = all
-counted_effect t tables e members (Arrive name w early) Delayed all = all
-counted_effect t tables e members (Arrive name w early) (Refused why) all = all
-counted_effect t tables e members (Depart name) (Departing slot) all = counted_change t tables name (λ m. record m { freed_at = Some slot }) (λ m h. record { by_now = h.by_now; next_is = h.next_is }) members all
-counted_effect t tables e members (Depart name) Admitted all = all
-counted_effect t tables e members (Depart name) Delayed all = all
-counted_effect t tables e members (Depart name) (Refused why) all = all
-counted_effect t tables e members (Late name index by) Delayed all = counted_change t tables name (λ m. record m { delays = m.delays ++ record { index = index; by = by } ∷ [] }) (λ m h. record { by_now = h.by_now; next_is = h.next_is }) members all
-counted_effect t tables e members (Late name index by) Admitted all = all
-counted_effect t tables e members (Late name index by) (Departing slot) all = all
-counted_effect t tables e members (Late name index by) (Refused why) all = all
-
-counted_decided : (mc : Machine) (t : ℕ) (tables : List Table) → length tables ≡ t → (announced : List Announcement) (members : List Member) → AllByRecursion (IsCounted t tables) members → AllByRecursion (IsCounted t tables) (all_decided mc t members announced)
-counted_decided mc t tables e [] members all = all
-counted_decided mc t tables e (a ∷ announced) members all =
-    counted_decided mc t tables e announced (decided mc t members a)
-    (each_filter (IsCounted t tables) (λ m. not (is_freed t m.freed_at)) (effect t members a (decision mc t members a)) (counted_effect t tables e members a (decision mc t members a) all))
-
 counted_at : (s : Settings) (t : ℕ) (announced : List Said) (h : History) → length h.tables ≡ t → AllByRecursion (λ m. m.joined ≤ t) h.members → AllByRecursion (IsCounted t h.tables) (members_at s t announced h)
 counted_at s t announced h e all =
-    counted_decided (machine s) t h.tables e (announcements announced) (present t (counted h.tables h.members))
-    (each_filter (IsCounted t h.tables) (λ m. not (is_freed t m.freed_at)) (counted h.tables h.members)
-    (each_map (λ m. m.joined ≤ t) (IsCounted t h.tables) (counted_one h.tables) (λ m l. record { by_now = l; next_is = refl }) h.members all))
+    each_boundary t (IsCounted t h.tables)
+    (λ name w early. record { by_now = omega arith; next_is = sym (ap (λ ts. 1 + count_by (names_task name) ts) (drop_all t h.tables (omega (arith, e)))) })
+    (λ slot m c. record { by_now = c.by_now; next_is = c.next_is }) (λ index by m c. record { by_now = c.by_now; next_is = c.next_is })
+    (machine s) (announcements announced) (counted h.tables h.members)
+    (each_map (λ m. m.joined ≤ t) (IsCounted t h.tables) (counted_one h.tables) (λ m l. record { by_now = l; next_is = refl }) h.members all)
 
 pub long_history : (s : Settings) (x : Replica) (t : ℕ) → length (history s x t).tables ≡ t
 long_history s x zero = refl
 long_history s x (suc t) =
     (let more = long_history s x t in let sum = length-append (history s x t).tables (table s x t ∷ []) in omega (arith, more, sum))
 
-all_joined : (t u : ℕ) (tables : List Table) → t ≤ u → (members : List Member) → AllByRecursion (IsCounted t tables) members → AllByRecursion (λ m. m.joined ≤ u) members
-all_joined t u tables le [] all = tt
-all_joined t u tables le (m ∷ members) all = (let now = all.0.by_now in (omega (arith, le, now), all_joined t u tables le members all.1))
-
 pub joined_history : (s : Settings) (x : Replica) (t : ℕ) → AllByRecursion (λ m. m.joined ≤ t) (history s x t).members
 joined_history s x zero = tt
 joined_history s x (suc t) =
-    all_joined t (suc t) (history s x t).tables (omega arith) (world s x t) (counted_at s t (said x t) (history s x t) (long_history s x t) (joined_history s x t))
+    each (IsCounted t (history s x t).tables) (λ m. m.joined ≤ suc t) (λ m c. omega (arith, c.by_now)) (world s x t) (counted_at s t (said x t) (history s x t) (long_history s x t) (joined_history s x t))
 
 pub counted_world : (s : Settings) (x : Replica) (t : ℕ) → AllByRecursion (IsCounted t (history s x t).tables) (world s x t)
 counted_world s x t = counted_at s t (said x t) (history s x t) (long_history s x t) (joined_history s x t)

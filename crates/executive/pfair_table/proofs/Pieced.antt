@@ -1,6 +1,6 @@
 -- What stands at an index of a list in pieces.
-use Rattle.std.proofs.Common.{ℕ, zero, suc, ◌+◌, ◌*◌, ◌-◌, ◌/◌, ◌<◌, ◌≤◌, ◌≡◌, ◌^◌, refl, sym, ap, ◌∙◌, subst, arith, List, [], ◌∷◌, ◌++◌, length, length-append, append_assoc, map, drop, Vec, Global, Option, Some, None, Result, Ok, Err, get_or, nat_lt}
-use Rattle.std.specs.Prelude.{slice_get, is_some, IfSome, IfOk}
+use Rattle.std.proofs.Common.{ℕ, zero, suc, ◌+◌, ◌*◌, ◌-◌, ◌/◌, ◌<◌, ◌≤◌, ◌≡◌, ◌^◌, refl, sym, ap, ◌∙◌, subst, arith, List, [], ◌∷◌, ◌++◌, length, length-append, append_assoc, map, drop, Vec, Global, Option, Some, None, get_or, nat_lt}
+use Rattle.std.specs.Prelude.{slice_get, is_some, IfSome}
 use Rattle.std.specs.Option.{option_map}
 use Rattle.std.specs.List.{AllByRecursion}
 use Rattle.std.proofs.lemmas.List.{drop_at, length-map}
@@ -8,6 +8,7 @@ use Rattle.std.proofs.lemmas.List.Concat.{flat_map-append}
 use Rattle.std.proofs.lemmas.Option.{slice_get_past, slice_get-get_or}
 use Rattle.std.proofs.lemmas.Bool.Decides.{nat_tests}
 use Rattle.pfair_table.specs.declared.pieces.GivenBack.{GivenBack}
+use Rattle.pfair_table.proofs.Runs.{get_left}
 use Rattle.pfair_table.specs.Pieces.{joined, pieces_of, ArePieces, HaveGivenBack}
 
 abbrev AreWhole : {A : Type 0} → List (Vec A Global) → Type 0
@@ -20,11 +21,6 @@ joined_long [] h = refl
 joined_long (p ∷ ps) h = omega (arith, length-append p.items (joined ps), h.0, joined_long ps h.1)
 
 -- ---- what stands at an index
-
-get_left : {A : Type 0} (xs ys : List A) (i : ℕ) → i < length xs → slice_get (xs ++ ys) i ≡ slice_get xs i
-get_left [] ys i h = absurd (omega (arith, h))
-get_left (x ∷ xs) ys zero h = refl
-get_left (x ∷ xs) ys (suc i) h = get_left xs ys i (omega (arith, h))
 
 get_right : {A : Type 0} (xs ys : List A) (i j : ℕ) → i ≡ length xs + j → slice_get (xs ++ ys) i ≡ slice_get ys j
 get_right [] ys i j e = let same : i ≡ j = omega (arith, e) in ap (slice_get ys) same
@@ -125,8 +121,3 @@ pub given_back : (before after left long current forgotten : ℕ) → HaveGivenB
     → forgotten ≤ after * 1024 + 1024
 given_back before after zero long current forgotten have within all few = omega (arith, within, all, few)
 given_back before after (suc left) long current forgotten have within all few = let enough = have.0 (omega arith) in omega (arith, enough)
-
--- what is said of a result, where it exists, said in other words
-pub if_ok : {A B E : Type 0} (f : A → B) (result : Result A E) (x y : B) → x ≡ y → IfOk result (λ a. f a ≡ x) → IfOk result (λ a. f a ≡ y)
-if_ok f (Ok a) x y e h = h ∙ e
-if_ok f (Err e') x y e h = tt

@@ -1,5 +1,5 @@
 -- The places of one more table, and those of the tables that a dispatcher plans.
-use Rattle.std.proofs.Common.{ℕ, zero, suc, ◌-◌, ◌<◌, ◌≤◌, ◌≡◌, refl, sym, ap, ◌∙◌, subst, arith, List, [], ◌∷◌, ◌++◌, length, map, Some, None}
+use Rattle.std.proofs.Common.{ℕ, zero, suc, ◌-◌, ◌<◌, ◌≡◌, refl, sym, ap, ◌∙◌, subst, arith, List, [], ◌∷◌, ◌++◌, length, map, Some, None}
 use Rattle.std.specs.Prelude.{slice_get}
 use Rattle.std.specs.List.{AllByRecursion}
 use Rattle.std.proofs.lemmas.Option.{slice_get-get_or}
@@ -46,14 +46,14 @@ next_are tables now = places_more [] [] tables now
 
 -- ---- places are processors, where tables have no more rows
 
-few_below : (m : ℕ) (before : Table) (old : List ℕ) → ((k : ℕ) → Among old k → k < m) → (tables : List Table) → AllByRecursion (λ (rows : Table). length rows ≤ m) tables
+few_below : (m : ℕ) (before : Table) (old : List ℕ) → ((k : ℕ) → Among old k → k < m) → (tables : List Table) → AllByRecursion (IsFit m) tables
     → AllByRecursion (λ (ps : List ℕ). AllByRecursion (λ k. k < m) ps) (places_from before old tables)
 few_below m before old below [] few = tt
 few_below m before old below (now ∷ tables) few =
-    let here = below_after m before old now below few.0 in
+    let here = below_after m before old now below few.0.0 in
     (all_among (λ k. k < m) (places_after before old now) here.below, few_below m now (places_after before old now) here.below tables few.1)
 
-pub last_below : (m : ℕ) (tables : List Table) → AllByRecursion (λ (rows : Table). length rows ≤ m) tables → AllByRecursion (λ k. k < m) (last_or [] (places_of tables))
+pub last_below : (m : ℕ) (tables : List Table) → AllByRecursion (IsFit m) tables → AllByRecursion (λ k. k < m) (last_or [] (places_of tables))
 last_below m tables few = last_all (λ (ps : List ℕ). AllByRecursion (λ k. k < m) ps) [] (places_of tables) tt (few_below m [] [] (λ k h. absurd h) tables few)
 
 -- ---- what a dispatcher plans
@@ -69,15 +69,3 @@ fit_plan {s} {of} {tables} plan =
 
 pub last_fit : (m : ℕ) (tables : List Table) → AllByRecursion (IsFit m) tables → IsFit m (last_or [] tables)
 last_fit m tables fit = last_all (IsFit m) [] tables (omega arith, apart_nil (λ (p : Pick). p.name)) fit
-
-pub fit_wider : (m n : ℕ) → m ≤ n → (tables : List Table) → AllByRecursion (IsFit m) tables → AllByRecursion (IsFit n) tables
-fit_wider m n le [] fit = tt
-fit_wider m n le (rows ∷ tables) fit = (let few = fit.0.0 in ((omega (arith, few, le), fit.0.1), fit_wider m n le tables fit.1))
-
-pub fit_few : (m n : ℕ) → m ≤ n → (tables : List Table) → AllByRecursion (IsFit m) tables → AllByRecursion (λ (rows : Table). length rows ≤ n) tables
-fit_few m n le [] fit = tt
-fit_few m n le (rows ∷ tables) fit = (let few = fit.0.0 in omega (arith, few, le), fit_few m n le tables fit.1)
-
-pub fit_push : (m : ℕ) (tables : List Table) (rows : Table) → AllByRecursion (IsFit m) tables → IsFit m rows → AllByRecursion (IsFit m) (tables ++ rows ∷ [])
-fit_push m [] rows fit more = (more, tt)
-fit_push m (first ∷ tables) rows fit more = (fit.0, fit_push m tables rows fit.1 more)

@@ -1,67 +1,30 @@
 -- What holds before a slot holds before the next.
-use Rattle.std.proofs.Common.{ℕ, ◌+◌, ◌≤◌, ◌≡◌, refl, sym, subst, arith, Bool, true, false, List, [], ◌∷◌, ◌++◌, map, Some}
-use Rattle.std.specs.Prelude.{filter, not, if◌then◌else◌}
+use Rattle.std.proofs.Common.{ℕ, ◌+◌, ◌≤◌, ◌≡◌, refl, sym, subst, arith, Bool, true, false, List, [], ◌∷◌, map, Some}
+use Rattle.std.specs.Prelude.{filter, if◌then◌else◌}
 use Rattle.std.specs.Option.{ForSome}
 use Rattle.std.specs.List.{AllByRecursion}
-use Rattle.pfair_ready.specs.Names.{NameValue as Name}
 use Rattle.pfair_order.specs.declared.Key.{Key}
 use Rattle.pfair_entry.specs.declared.announcement.Announcement.{Announcement}
-use Rattle.pfair_entry.specs.declared.announcement.Announcement.TheVariants.{Arrive, Depart, Late}
 use Rattle.pfair_entry.specs.Said.{Said}
 use Rattle.pfair_table.specs.Ranks.{first_by_rank}
 use Rattle.pfair_ready.specs.Queue.{Queue}
 use Rattle.pfair_weight.specs.Name.{NamesApart}
 use Rattle.pfair_weight.proofs.NamesApart.{apart_map, apart_filter}
 use Rattle.pfair_order.proofs.NamesApart.{first_names}
-use Rattle.std.proofs.SliceLists.{all_by_recursion_push}
-use Rattle.pfair_admission.specs.Admission.{Machine, is_named, newcomer, change, effect, decision, present, is_freed, decided, all_decided, boundary, announcements, ran, with_quantum}
+use Rattle.pfair_admission.specs.Admission.{Machine, boundary, announcements, ran, with_quantum}
 use Rattle.pfair_admission.specs.Member.{Member, next_key}
-use Rattle.pfair_admission.specs.declared.decision.Decision.{Decision}
-use Rattle.pfair_admission.specs.declared.decision.Decision.TheVariants.{Admitted, Departing, Delayed, Refused}
 use Rattle.pfair_admission.specs.Roster.{Roster}
 use Rattle.pfair_table.specs.declared.pick.Pick.{Pick}
 use Rattle.pfair_table.specs.Table.{Table, eligible, is_eligible, pick, all_ran, names_task}
 use Rattle.pfair_table.specs.Queue.{IsQueue, IsSteady}
 use Rattle.pfair_admission.proofs.NamesKept.{apart_boundary, apart_ran}
 use Rattle.std.proofs.lemmas.Option.{same_Some}
-use Rattle.pfair_table.proofs.NextIndexes.{each_filter, each_map, all_ran_is, after_table}
+use Rattle.pfair_table.proofs.NextIndexes.{each_map, each_boundary, all_ran_is, after_table}
 
 -- ---- next indexes
 
-few_change : (n : ℕ) (name : Name) (f : Member → Member) → ((m : Member) → (f m).next ≡ m.next) → (members : List Member) → AllByRecursion (λ m. m.next ≤ n) members → AllByRecursion (λ m. m.next ≤ n) (change name f members)
-few_change n name f keeps members all = each_map (λ m. m.next ≤ n) (λ m. m.next ≤ n) (λ m. if is_named name m then f m else m) (λ m h. by m h (is_named name m)) members all
-  where
-    by : (m : Member) → m.next ≤ n → (b : Bool) → (if b then f m else m).next ≤ n
-    by m h true = (let e = keeps m in omega (arith, e, h))
-    by m h false = h
-
-few_effect : (n t : ℕ) → 1 ≤ n → (members : List Member) (a : Announcement) (d : Decision) → AllByRecursion (λ m. m.next ≤ n) members → AllByRecursion (λ m. m.next ≤ n) (effect t members a d)
-few_effect n t le members (Arrive name w early) Admitted all = all_by_recursion_push (λ m. m.next ≤ n) members (newcomer t name w early) all le
-few_effect n t le members (Arrive name w early) (Departing slot) all = all
-few_effect n t le members (Arrive name w early) Delayed all = all
-few_effect n t le members (Arrive name w early) (Refused why) all = all
-few_effect n t le members (Depart name) (Departing slot) all = few_change n name (λ m. record m { freed_at = Some slot }) (λ m. refl) members all
-few_effect n t le members (Depart name) Admitted all = all
-few_effect n t le members (Depart name) Delayed all = all
-few_effect n t le members (Depart name) (Refused why) all = all
-few_effect n t le members (Late name index by) Delayed all = few_change n name (λ m. record m { delays = m.delays ++ record { index = index; by = by } ∷ [] }) (λ m. refl) members all
-few_effect n t le members (Late name index by) Admitted all = all
-few_effect n t le members (Late name index by) (Departing slot) all = all
-few_effect n t le members (Late name index by) (Refused why) all = all
-
-few_decided : (n : ℕ) (mc : Machine) (t : ℕ) → 1 ≤ n → (heard : List Announcement) (members : List Member) → AllByRecursion (λ m. m.next ≤ n) members → AllByRecursion (λ m. m.next ≤ n) (all_decided mc t members heard)
-few_decided n mc t le [] members all = all
-few_decided n mc t le (a ∷ heard) members all =
-    few_decided n mc t le heard (decided mc t members a)
-    (each_filter (λ m. m.next ≤ n) (λ m. not (is_freed t m.freed_at)) (effect t members a (decision mc t members a)) (few_effect n t le members a (decision mc t members a) all))
-
 pub few_boundary : (n : ℕ) (mc : Machine) (t : ℕ) → 1 ≤ n → (heard : List Announcement) (members : List Member) → AllByRecursion (λ m. m.next ≤ n) members → AllByRecursion (λ m. m.next ≤ n) (boundary mc t members heard)
-few_boundary n mc t le heard members all =
-    few_decided n mc t le heard (present t members) (each_filter (λ m. m.next ≤ n) (λ m. not (is_freed t m.freed_at)) members all)
-
-pub fewer : (n k : ℕ) → n ≤ k → (members : List Member) → AllByRecursion (λ m. m.next ≤ n) members → AllByRecursion (λ m. m.next ≤ k) members
-fewer n k le [] all = tt
-fewer n k le (m ∷ members) all = (let h = all.0 in omega (arith, le, h), fewer n k le members all.1)
+few_boundary n mc t le = each_boundary t (λ m. m.next ≤ n) (λ name w early. le) (λ slot m h. h) (λ index by m h. h) mc
 
 few_ran : (n : ℕ) (picks : Table) → NamesApart (λ (p : Pick). p.name) picks → (members : List Member) → AllByRecursion (λ m. m.next ≤ n) members → AllByRecursion (λ m. m.next ≤ n + 1) (all_ran picks members)
 few_ran n picks differ members all =

@@ -1,13 +1,13 @@
-use Rattle.std.proofs.Common.{ℕ, ◌<◌, ◌++◌, ◌∷◌, [], ◌≡◌, ap, ◌∙◌, sym, subst, arith, List, Vec, Global}
+use Rattle.std.proofs.Common.{ℕ, ◌<◌, ◌++◌, ◌∷◌, [], ◌≡◌, ap, ◌∙◌, sym, subst, List, Vec, Global}
 use Rattle.std.specs.List.{AllByRecursion}
 use Rattle.std.proofs.lemmas.Result.{IfOk-weaker}
 use Rattle.pfair_table.specs.PlaceLaws.{IsFit}
 use Rattle.pfair_table.specs.Places.{places_after, places_of}
-use Rattle.pfair_table.proofs.PlacesOn.{last_below, last_fit, fit_few, next_are}
+use Rattle.pfair_table.proofs.PlacesOn.{last_below, last_fit, next_are}
 use Rattle.pfair_table.proofs.places.next_places.Goals as goal
 
 pub places_beside-requires-clause-below : goal.places_beside-requires-clause-below
-places_beside-requires-clause-below c = subst (AllByRecursion (λ k. k < 64)) (sym c.last_places-places.ensures) (last_below 64 c.args.planned.now.tables (fit_few 64 64 (omega arith) c.args.planned.now.tables c.requires.fit))
+places_beside-requires-clause-below c = subst (AllByRecursion (λ k. k < 64)) (sym c.last_places-places.ensures) (last_below 64 c.args.planned.now.tables c.requires.fit)
 
 pub places_beside-requires-clause-before : goal.places_beside-requires-clause-before
 places_beside-requires-clause-before c = subst (IsFit 64) (sym c.last_table-before.ensures) (last_fit 64 c.args.planned.now.tables c.requires.fit)

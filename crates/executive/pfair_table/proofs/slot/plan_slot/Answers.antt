@@ -9,7 +9,8 @@ use Rattle.pfair_admission.specs.Roster.{Roster}
 use Rattle.pfair_table.specs.Table.{Table, eligible, pick, all_ran}
 use Rattle.pfair_table.specs.Queue.{queued}
 use Rattle.pfair_admission.proofs.NamesKept.{apart_boundary}
-use Rattle.pfair_table.proofs.Slots.{steady_next, few_boundary, fewer}
+use Rattle.pfair_table.proofs.NextIndexes.{each}
+use Rattle.pfair_table.proofs.Slots.{steady_next, few_boundary}
 use Rattle.pfair_table.proofs.QueueKept.{queue_after_boundary}
 use Rattle.pfair_table.proofs.slot.plan_slot.Goals as goal
 
@@ -35,7 +36,7 @@ give_quanta-requires-clause-few g c =
     let members_are : c.decide_all.new.members.members ≡ boundary old.machine c.args.slot old.members (announcements announced) = ap (λ (r : Roster). r.members) c.in_ok-decided.ensures.members in
     let below = c.requires.slot in
     subst (AllByRecursion (λ (m : Member). m.next ≤ 1000000)) (sym members_are)
-    (fewer (c.args.slot + 1) 1000000 (omega (arith, below)) (boundary old.machine c.args.slot old.members (announcements announced)) (few_boundary (c.args.slot + 1) old.machine c.args.slot (omega arith) (announcements announced) old.members c.requires.steady.few))
+    (each (λ (m : Member). m.next ≤ c.args.slot + 1) (λ m. m.next ≤ 1000000) (λ m few. omega (arith, below, few)) (boundary old.machine c.args.slot old.members (announcements announced)) (few_boundary (c.args.slot + 1) old.machine c.args.slot (omega arith) (announcements announced) old.members c.requires.steady.few))
 
 pub returns-clause-steady : goal.returns-clause-steady
 returns-clause-steady g c =

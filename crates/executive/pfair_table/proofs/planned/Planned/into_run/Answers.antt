@@ -1,10 +1,9 @@
-use Rattle.std.proofs.Common.{◌≡◌, ◌∙◌, sym, ap, drop, map}
+use Rattle.std.proofs.Common.{◌≡◌, ◌∙◌, sym, ap, subst, drop, map}
+use Rattle.std.specs.Prelude.{IfOk}
 use Rattle.std.proofs.lemmas.List.{drop-map}
 use Rattle.pfair_table.specs.declared.planned.PlannedSlot.{PlannedSlot}
-use Rattle.pfair_table.specs.declared.planned.Run.{Run}
 use Rattle.pfair_table.specs.Places.{places_of}
 use Rattle.pfair_table.specs.Planned.{PlannedSlots, as_tables, as_places}
-use Rattle.pfair_table.proofs.Pieced.{if_ok}
 use Rattle.pfair_table.proofs.planned.Planned.into_run.Goals as goal
 
 pub returns-clause-tables : goal.returns-clause-tables
@@ -14,7 +13,7 @@ returns-clause-tables c =
     ap (map table) c.in_ok-into_list.ensures
     ∙ sym (drop-map table c.self.inside.slots.forgotten c.self.inside.slots.items)
     ∙ ap (λ (p : PlannedSlots). drop p.forgotten p.tables) c.self.view_is in
-    if_ok (λ (run : Run). as_tables run.tables) c.run_of.result (map table c.in_ok-into_list.field-0.items) (drop c.args.self.forgotten c.args.self.tables) same c.run_of.ensures.tables
+    subst (λ ts. IfOk c.run_of.result (λ run. as_tables run.tables ≡ ts)) same c.run_of.ensures.tables
 
 pub returns-clause-places : goal.returns-clause-places
 returns-clause-places c =
@@ -24,4 +23,4 @@ returns-clause-places c =
     ∙ sym (drop-map places c.self.inside.slots.forgotten c.self.inside.slots.items)
     ∙ ap (drop c.self.inside.slots.forgotten) c.self.invariant
     ∙ ap (λ (p : PlannedSlots). drop p.forgotten (places_of p.tables)) c.self.view_is in
-    if_ok (λ (run : Run). as_places run.places) c.run_of.result (map places c.in_ok-into_list.field-0.items) (drop c.args.self.forgotten (places_of c.args.self.tables)) same c.run_of.ensures.places
+    subst (λ ps. IfOk c.run_of.result (λ run. as_places run.places ≡ ps)) same c.run_of.ensures.places

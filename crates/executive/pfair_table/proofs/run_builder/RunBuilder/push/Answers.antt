@@ -1,11 +1,12 @@
-use Rattle.std.proofs.Common.{◌<◌, ◌≡◌, ◌∙◌, sym, ap, subst, arith, List, [], ◌∷◌, ◌++◌, map}
+use Rattle.std.proofs.Common.{◌<◌, ◌≡◌, ◌∙◌, sym, ap, subst, List, [], ◌∷◌, ◌++◌, map}
 use Rattle.std.specs.List.{AllByRecursion}
+use Rattle.std.proofs.SliceLists.{all_by_recursion_push}
 use Rattle.std.proofs.lemmas.List.{map-append}
 use Rattle.pfair_table.specs.declared.run_builder.BuiltSlot.{BuiltSlot}
 use Rattle.pfair_table.specs.PlaceLaws.{IsFit}
 use Rattle.pfair_table.specs.Places.{places_after, places_of}
 use Rattle.pfair_table.specs.Planned.{last_or}
-use Rattle.pfair_table.proofs.PlacesOn.{fit_few, fit_push, last_below, last_fit, next_are}
+use Rattle.pfair_table.proofs.PlacesOn.{last_below, last_fit, next_are}
 use Rattle.pfair_table.proofs.run_builder.RunBuilder.push.Goals as goal
 
 pub places_beside-requires-clause-before : goal.places_beside-requires-clause-before
@@ -17,7 +18,7 @@ pub places_beside-requires-clause-below : goal.places_beside-requires-clause-bel
 places_beside-requires-clause-below c =
     let tables = map (λ (s : BuiltSlot). s.table.items) c.self.inside.slots.items in
     let there = c.last_places-there.ensures ∙ ap (λ (xs : List BuiltSlot). last_or [] (map (λ (s : BuiltSlot). s.places.items) xs)) c.deref-2.ensures.value ∙ ap (last_or []) c.self.invariant.1 in
-    subst (AllByRecursion (λ k. k < 64)) (sym there) (last_below 64 tables (fit_few 64 64 (omega arith) tables c.self.invariant.0))
+    subst (AllByRecursion (λ k. k < 64)) (sym there) (last_below 64 tables c.self.invariant.0)
 
 pub invariant_of-self-2 : goal.invariant_of-self-2
 invariant_of-self-2 c =
@@ -30,6 +31,6 @@ invariant_of-self-2 c =
     = c.in_ok-places.ensures ∙ (λ i. places_after (before i) (there i) (c.deref-3.ensures.value i)) in
     let tables_are : map table c.push.new.self.items ≡ map table slots ++ c.args.table.items ∷ [] = ap (map table) c.in_ok-push.ensures.items ∙ map-append table slots _ in
     let places_are : map places c.push.new.self.items ≡ map places slots ++ c.in_ok-places.places.items ∷ [] = ap (map places) c.in_ok-push.ensures.items ∙ map-append places slots _ in (
-      subst (AllByRecursion (IsFit 64)) (sym tables_are) (fit_push 64 (map table slots) c.args.table.items c.self.invariant.0 c.requires),
+      subst (AllByRecursion (IsFit 64)) (sym tables_are) (all_by_recursion_push (IsFit 64) (map table slots) c.args.table.items c.self.invariant.0 c.requires),
       places_are ∙ (λ i. c.self.invariant.1 i ++ here i ∷ []) ∙ sym (next_are (map table slots) c.args.table.items) ∙ ap places_of (sym tables_are),
     )
