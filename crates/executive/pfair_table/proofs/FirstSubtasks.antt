@@ -31,6 +31,7 @@ use Rattle.pfair_admission.specs.Admission.{member_named}
 use Rattle.pfair_table.specs.Table.{eligible, is_eligible}
 use Rattle.pfair_table.specs.Queue.{queued, IsQueue, IsQueueWithout, MayRun, has_key_of}
 use Rattle.pfair_table.proofs.QueueKept.{found_named}
+use Rattle.pfair_table.proofs.TableLaws.{eligible_apart}
 
 -- ---- members by name
 
@@ -123,9 +124,6 @@ module _ (n : ℕ) (members : List Member) (waiting : Queue) (named : NamesApart
       (apart_filter (λ (e : ℕ × Key). e.1.name) (λ (e : ℕ × Key). nat_le e.0 n) (finmap.values waiting)
       (apart_map (λ (e : Named_entry). e.1.1.name) (λ (e : ℕ × Key). e.1.name) (λ (e : Named_entry). e.1) (λ e. refl) (entries waiting) (entries_apart (entries waiting) (is_true _ (entries_sorted waiting)) own_name)))
 
-  pub eligible_apart : NamesApart (λ (k : Key). k.name) (eligible n members)
-  eligible_apart = apart_map (λ (m : Member). m.name) (λ (k : Key). k.name) next_key (λ m. refl) (filter (is_eligible n) members) (apart_filter (λ (m : Member). m.name) (is_eligible n) members named)
-
   released_eligible : (k : Key) → Among (released n waiting) k → Among (eligible n members) k
   released_eligible k h =
       let t = among_map (λ (e : ℕ × Key). e.1) (filter (λ (e : ℕ × Key). nat_le e.0 n) (finmap.values waiting)) k h in
@@ -156,14 +154,14 @@ module _ (n : ℕ) (members : List Member) (waiting : Queue) (named : NamesApart
 
   -- So what the ready structure gives first are the first eligible subtasks.
   pub first_of_queue : (m : ℕ) → first_by_rank m (released n waiting) ≡ first_by_rank m (eligible n members)
-  first_of_queue m = first_same m (released n waiting) (eligible n members) released_apart eligible_apart released_eligible eligible_released
+  first_of_queue m = first_same m (released n waiting) (eligible n members) released_apart (eligible_apart n members named) released_eligible eligible_released
 
   pub first_apart : (m : ℕ) (first : List Key) → first ≡ first_by_rank m (released n waiting) → NamesApart (λ (k : Key). k.name) first
-  first_apart m first is = subst (NamesApart (λ (k : Key). k.name)) (sym (is ∙ first_of_queue m)) (first_names m (eligible n members) eligible_apart)
+  first_apart m first is = subst (NamesApart (λ (k : Key). k.name)) (sym (is ∙ first_of_queue m)) (first_names m (eligible n members) (eligible_apart n members named))
 
   pub first_may_run : (m : ℕ) (first : List Key) → first ≡ first_by_rank m (released n waiting) → AllByRecursion (λ m. m.next ≤ 1000000) members → (k : Key) → Among first k → MayRun members k
   first_may_run m first is few k h =
-      let i = among_first (eligible n members) eligible_apart m k (subst (λ ks. Among ks k) (is ∙ first_of_queue m) h) in
+      let i = among_first (eligible n members) (eligible_apart n members named) m k (subst (λ ks. Among ks k) (is ∙ first_of_queue m) h) in
       let t = eligible_member k i in
       (t.0, ap (member_named members) (ap (λ (k : Key). k.name) t.2) ∙ found_own members named t.0 t.1, t.3, among_all (λ m. m.next ≤ 1000000) members few t.0 t.1)
 

@@ -7,6 +7,8 @@ use Rattle.std.proofs.lemmas.List.{length-append, drop_all, drop-append-le, map-
 use Rattle.std.proofs.lemmas.List.Elements.{All-filter, All-from_recursion, recursion_from_All}
 use Rattle.std.specs.Cmp.Lexicographic.{nat_list_eq_equiv}
 use Rattle.std.proofs.lemmas.List.Sums.{sum_by_push}
+use Rattle.std.proofs.lemmas.Simd.{map-map}
+use Rattle.pfair_replica.specs.Among.{among_all, map_same}
 use Rattle.pfair_ready.specs.Names.{NameValue as Name}
 use Rattle.pfair_weight.specs.Share.{Share}
 use Rattle.pfair_entry.specs.Same.{name_eq}
@@ -104,10 +106,6 @@ counted_world s x t = counted_at s t (said x t) (history s x t) (long_history s 
 abbrev pub after_table : Table → Member → Member
 after_table table m = if names_task m.name table then with_quantum m else m
 
-map_map : {A B C : Type 0} (f : A → B) (g : B → C) (h : A → C) → ((x : A) → g (f x) ≡ h x) → (xs : List A) → map g (map f xs) ≡ map h xs
-map_map f g h e [] = refl
-map_map f g h e (x ∷ xs) = λ i. e x i ∷ map_map f g h e xs i
-
 not_named : (name : Name) (picks : Table) → AllByRecursion (λ r. name_eq name r.name ≡ false) picks → names_task name picks ≡ false
 not_named name [] all = refl
 not_named name (p ∷ picks) all = ap (λ b. b || names_task name picks) all.0 ∙ not_named name picks all.1
@@ -126,7 +124,8 @@ pub all_ran_is : (picks : Table) → NamesApart (λ (p : Pick). p.name) picks �
 all_ran_is [] apart members = sym (map-id members)
 all_ran_is (p ∷ picks) apart members =
     all_ran_is picks (apart_tail (λ (p : Pick). p.name) p picks apart) (ran p.name members)
-    ∙ map_map (λ m. if is_named p.name m then with_quantum m else m) (after_table picks) (after_table (p ∷ picks)) (one_row p picks (apart_head (λ (p : Pick). p.name) p picks apart)) members
+    ∙ map-map (after_table picks) (λ m. if is_named p.name m then with_quantum m else m) members
+    ∙ map_same (λ m. after_table picks (if is_named p.name m then with_quantum m else m)) (after_table (p ∷ picks)) members (λ m h. one_row p picks (apart_head (λ (p : Pick). p.name) p picks apart) m)
 
 -- a member, counted by one more table
 one_more : (t : ℕ) (tables : List Table) (table : Table) → length tables ≡ t → (m : Member) → IsCounted t tables m → after_table table m ≡ counted_one (tables ++ table ∷ []) m
@@ -141,12 +140,9 @@ one_more t tables table e m h =
     by true n more = (let was = h.next_is in let now : m.next + 1 ≡ n = omega (arith, more, was) in ap (λ k. record m { next = k }) now)
     by false n more = (let was = h.next_is in let now : m.next ≡ n = omega (arith, more, was) in ap (λ k. record m { next = k }) now)
 
-pub each_same : {A B : Type 0} (P : A → Type 0) (f g : A → B) → ((x : A) → P x → f x ≡ g x) → (xs : List A) → AllByRecursion P xs → map f xs ≡ map g xs
-each_same P f g h [] all = refl
-each_same P f g h (x ∷ xs) all = λ i. h x all.0 i ∷ each_same P f g h xs all.1 i
-
 pub runs_are_counted : RunsAreCounted
 runs_are_counted s x t =
     let tables = (history s x t).tables in
     all_ran_is (table s x t) (tables_are_ordered s x t).2 (world s x t)
-    ∙ each_same (IsCounted t tables) (after_table (table s x t)) (counted_one (tables ++ table s x t ∷ [])) (one_more t tables (table s x t) (long_history s x t)) (world s x t) (counted_world s x t)
+    ∙ map_same (after_table (table s x t)) (counted_one (tables ++ table s x t ∷ [])) (world s x t)
+    (λ m h. one_more t tables (table s x t) (long_history s x t) m (among_all (IsCounted t tables) (world s x t) (counted_world s x t) m h))

@@ -80,37 +80,27 @@ below_all x y z f g k n = below_trans (x.at k n) (y.at k n) (z.at k n) (f k n) (
 
 -- ---- what was planned
 
--- slot t was planned of a replica that is still held
-record WasPlanned (s : Settings) (held : Replica) (tables : List Table) (decided : List (List Decided)) (t : ℕ) : Type 0 where
-  pub of : Replica
+-- slot t was planned of this replica
+record WasPlanned (s : Settings) (of : Replica) (tables : List Table) (decided : List (List Decided)) (t : ℕ) : Type 0 where
   pub is_of : IsOf s of
-  pub kept : Below of held
   pub whole : Untorn of
   pub early : t < frontier of
   pub wanted : t < s.slots
   pub table_is : slice_get tables t ≡ Some (table s of t)
   pub decided_is : slice_get decided t ≡ Some (decisions s of t)
 
+-- each slot was planned of a replica that is still held
 record IsSound (s : Settings) (c : Course) : Type 0 where
   pub is_of : IsOf s c.held
   pub as_many : length c.decided ≡ length c.tables
-  pub planned : (t : ℕ) → t < length c.tables → WasPlanned s c.held c.tables c.decided t
+  pub planned : (t : ℕ) → t < length c.tables → (of : Replica) × Below of c.held × WasPlanned s of c.tables c.decided t
 
 -- with more held
 sound_more : (s : Settings) (c : Course) (x : Replica) → IsSound s c → IsOf s x → Below c.held x → IsSound s (record c { held = x })
 sound_more s c x sound o above = record {
   is_of = o;
   as_many = sound.as_many;
-  planned = λ t l. (let w = sound.planned t l in record {
-    of = w.of;
-    is_of = w.is_of;
-    kept = below_all w.of c.held x w.kept above;
-    whole = w.whole;
-    early = w.early;
-    wanted = w.wanted;
-    table_is = w.table_is;
-    decided_is = w.decided_is;
-  });
+  planned = λ t l. (let w = sound.planned t l in (w.0, below_all w.0 c.held x w.1 above, w.2));
 }
 
 -- with the next slot planned
@@ -128,27 +118,31 @@ sound_next s c sound ok =
       is_of = sound.is_of;
       as_many = omega (arith, lt, ld, same);
       planned = λ t l. elim (cases_lt t u) [
-        | inl old ↦ (let w = sound.planned t old in record {
-          of = w.of;
-          is_of = w.is_of;
-          kept = w.kept;
-          whole = w.whole;
-          early = w.early;
-          wanted = w.wanted;
-          table_is = get_left c.tables (table s c.held u ∷ []) t old ∙ w.table_is;
-          decided_is = get_left c.decided (decisions s c.held u ∷ []) t (omega (arith, same, old)) ∙ w.decided_is;
-        })
-        | inr new ↦ (let e : u ≡ t = omega (arith, new, l, lt) in
-            subst (WasPlanned s c.held tables decided) e (record {
-              of = c.held;
-              is_of = sound.is_of;
-              kept = λ k n. below_itself (c.held.at k n);
-              whole = untorn_by_test c.held sound.is_of.replica (not-true (has_torn c.held) p.0);
-              early = ltb-true u (frontier c.held) q.0;
-              wanted = ltb-true u s.slots q.1;
-              table_is = get_last c.tables (table s c.held u);
-              decided_is = ap (slice_get decided) (sym same) ∙ get_last c.decided (decisions s c.held u);
-            }))
+        | inl old ↦ (let w = sound.planned t old in (
+          w.0,
+          w.1,
+          record {
+            is_of = w.2.is_of;
+            whole = w.2.whole;
+            early = w.2.early;
+            wanted = w.2.wanted;
+            table_is = get_left c.tables (table s c.held u ∷ []) t old ∙ w.2.table_is;
+            decided_is = get_left c.decided (decisions s c.held u ∷ []) t (omega (arith, same, old)) ∙ w.2.decided_is;
+          },
+        ))
+        | inr new ↦ (
+          c.held,
+          (λ k n. below_itself (c.held.at k n)),
+          (let e : u ≡ t = omega (arith, new, l, lt) in
+              subst (WasPlanned s c.held tables decided) e (record {
+                is_of = sound.is_of;
+                whole = untorn_by_test c.held sound.is_of.replica (not-true (has_torn c.held) p.0);
+                early = ltb-true u (frontier c.held) q.0;
+                wanted = ltb-true u s.slots q.1;
+                table_is = get_last c.tables (table s c.held u);
+                decided_is = ap (slice_get decided) (sym same) ∙ get_last c.decided (decisions s c.held u);
+              })),
+        )
       ];
     }
 
@@ -184,23 +178,35 @@ agree_down x a y b f g agree k n torn =
 pub untorn_left : (x y : Replica) → Agree x y → Untorn x
 untorn_left x y agree k n torn = elim (join_first entry_eq entry_exact (x.at k n) (y.at k n) Torn torn) [ inl h ↦ agree k n h | inr h ↦ agree k n h ]
 
+-- where nothing that is held is torn, what was planned is planned of that
+planned_now : (s : Settings) (c : Course) → IsSound s c → Untorn c.held → (t : ℕ) → t < length c.tables → WasPlanned s c.held c.tables c.decided t
+planned_now s c sound whole t l =
+    let p = sound.planned t l in
+    let w = p.2 in
+    let le = frontier_le p.0 c.held sound.is_of.replica (w.is_of.processors ∙ sym sound.is_of.processors) p.1 whole in
+    let early : t < frontier c.held = omega (arith, le, w.early) in
+    let same = one_table s p.0 c.held w.is_of sound.is_of (below_agree p.0 c.held p.1 whole) t w.early early in
+    record {
+      is_of = sound.is_of;
+      whole = whole;
+      early = early;
+      wanted = w.wanted;
+      table_is = w.table_is ∙ ap Some same.0;
+      decided_is = w.decided_is ∙ ap Some same.1;
+    }
+
 pub one_schedule : OneSchedule
 one_schedule s m n es fs all_es all_fs agree t lc ld =
     let c = run_of s m es in
     let d = run_of s n fs in
     let sound = sound_run s es (start s m) all_es (sound_start s m) in
-    let v = sound.planned t lc in
+    let v = planned_now s c sound (untorn_left c.held d.held agree) t lc in
     let w = (sound_run s fs (start s n) all_fs (sound_start s n)).planned t ld in
-    let whole = untorn_left c.held d.held agree in
-    let le = frontier_le v.of c.held sound.is_of.replica (v.is_of.processors ∙ sym sound.is_of.processors) v.kept whole in
-    let soon = v.early in
-    let early : t < frontier c.held = omega (arith, le, soon) in
-    let here = one_table s v.of c.held v.is_of sound.is_of (below_agree v.of c.held v.kept whole) t v.early early in
-    let there = one_table s c.held w.of sound.is_of w.is_of (agree_down c.held c.held w.of d.held (λ k n. below_itself (c.held.at k n)) w.kept agree) t early w.early in (
-      v.table_is ∙ ap Some here.0,
-      w.table_is ∙ ap Some (sym there.0),
-      v.decided_is ∙ ap Some here.1,
-      w.decided_is ∙ ap Some (sym there.1),
+    let there = one_table s c.held w.0 sound.is_of w.2.is_of (agree_down c.held c.held w.0 d.held (λ k n. below_itself (c.held.at k n)) w.1 agree) t v.early w.2.early in (
+      v.table_is,
+      w.2.table_is ∙ ap Some (sym there.0),
+      v.decided_is,
+      w.2.decided_is ∙ ap Some (sym there.1),
     )
 
 -- a list of as many tables, each that of its slot, begins the plan
@@ -219,12 +225,7 @@ all_below (suc n) m h = h n (omega arith)
 pub plan_so_far : PlanSoFar
 plan_so_far s m events all untorn =
     let c = run_of s m events in
-    let sound = sound_run s events (start s m) all (sound_start s m) in
+    let now = planned_now s c (sound_run s events (start s m) all (sound_start s m)) untorn in
     begins_plan s c.held c.tables
-    (all_below (length c.tables) (min (frontier c.held) s.slots) (λ t l. (let w = sound.planned t l in
-    let le = frontier_le w.of c.held sound.is_of.replica (w.is_of.processors ∙ sym sound.is_of.processors) w.kept untorn in
-    let early = w.early in let wanted = w.wanted in omega (arith, le, early, wanted))))
-    (λ t l. (let w = sound.planned t l in
-    let le = frontier_le w.of c.held sound.is_of.replica (w.is_of.processors ∙ sym sound.is_of.processors) w.kept untorn in
-    let early = w.early in
-    w.table_is ∙ ap Some (one_table s w.of c.held w.is_of sound.is_of (below_agree w.of c.held w.kept untorn) t w.early (omega (arith, le, early))).0))
+    (all_below (length c.tables) (min (frontier c.held) s.slots) (λ t l. (let w = now t l in omega (arith, w.early, w.wanted))))
+    (λ t l. (now t l).table_is)

@@ -1,24 +1,22 @@
 -- What holds before a slot holds before the next.
-use Rattle.std.proofs.Common.{ℕ, ◌+◌, ◌≤◌, ◌≡◌, refl, sym, subst, arith, Bool, true, false, List, [], ◌∷◌, map, Some}
-use Rattle.std.specs.Prelude.{filter, if◌then◌else◌}
+use Rattle.std.proofs.Common.{ℕ, ◌+◌, ◌≤◌, ◌≡◌, sym, subst, arith, Bool, true, false, List, [], ◌∷◌, map, Some}
+use Rattle.std.specs.Prelude.{if◌then◌else◌}
 use Rattle.std.specs.Option.{ForSome}
 use Rattle.std.specs.List.{AllByRecursion}
-use Rattle.pfair_order.specs.declared.Key.{Key}
 use Rattle.pfair_entry.specs.declared.announcement.Announcement.{Announcement}
 use Rattle.pfair_entry.specs.Said.{Said}
 use Rattle.pfair_table.specs.Ranks.{first_by_rank}
 use Rattle.pfair_ready.specs.Queue.{Queue}
 use Rattle.pfair_weight.specs.Name.{NamesApart}
-use Rattle.pfair_weight.proofs.NamesApart.{apart_map, apart_filter}
-use Rattle.pfair_order.proofs.NamesApart.{first_names}
 use Rattle.pfair_admission.specs.Admission.{Machine, boundary, announcements, ran, with_quantum}
-use Rattle.pfair_admission.specs.Member.{Member, next_key}
+use Rattle.pfair_admission.specs.Member.{Member}
 use Rattle.pfair_admission.specs.Roster.{Roster}
 use Rattle.pfair_table.specs.declared.pick.Pick.{Pick}
-use Rattle.pfair_table.specs.Table.{Table, eligible, is_eligible, pick, all_ran, names_task}
+use Rattle.pfair_table.specs.Table.{Table, eligible, pick, all_ran, names_task}
 use Rattle.pfair_table.specs.Queue.{IsQueue, IsSteady}
 use Rattle.pfair_admission.proofs.NamesKept.{apart_boundary, apart_ran}
 use Rattle.std.proofs.lemmas.Option.{same_Some}
+use Rattle.pfair_table.proofs.TableLaws.{rows_apart}
 use Rattle.pfair_table.proofs.NextIndexes.{each_map, each_boundary, all_ran_is, after_table}
 
 -- ---- next indexes
@@ -39,13 +37,7 @@ named_ran : (picks : Table) (members : List Member) → NamesApart (λ (m : Memb
 named_ran [] members a = a
 named_ran (p ∷ picks) members a = named_ran picks (ran p.name members) (apart_ran p.name members a)
 
--- the rows of a slot have each name once
-pub rows_once : (m n : ℕ) (members : List Member) → NamesApart (λ (m : Member). m.name) members → NamesApart (λ (p : Pick). p.name) (map (pick members) (first_by_rank m (eligible n members)))
-rows_once m n members named =
-    apart_map (λ (k : Key). k.name) (λ (p : Pick). p.name) (pick members) (λ k. refl) (first_by_rank m (eligible n members))
-    (first_names m (eligible n members) (apart_map (λ (m : Member). m.name) (λ (k : Key). k.name) next_key (λ m. refl) (filter (is_eligible n) members) (apart_filter (λ (m : Member). m.name) (is_eligible n) members named)))
-
-pub some_slot : (slot : ℕ) → ForSome (Some slot) (λ last. last ≤ slot + 1)
+some_slot : (slot : ℕ) → ForSome (Some slot) (λ last. last ≤ slot + 1)
 some_slot slot x e = (let s = same_Some slot x e in omega (arith, s))
 
 -- after the quanta of a slot all is steady for the next
@@ -62,6 +54,6 @@ steady_next slot now now2 before after waiting waiting2 heard m rows steady rows
       queue = queue;
       by_now = omega (arith, now_is);
       order = subst (λ o. ForSome o (λ last. last ≤ slot + 1)) (sym last_is) (some_slot slot);
-      few = subst (AllByRecursion (λ m. m.next ≤ slot + 1 + 1)) (sym ran_are) (few_ran (slot + 1) rows (subst (NamesApart (λ (p : Pick). p.name)) (sym rows_are) (rows_once m slot world named)) world
+      few = subst (AllByRecursion (λ m. m.next ≤ slot + 1 + 1)) (sym ran_are) (few_ran (slot + 1) rows (subst (NamesApart (λ (p : Pick). p.name)) (sym rows_are) (rows_apart m slot world named)) world
           (few_boundary (slot + 1) before.machine slot (omega arith) (announcements heard) before.members steady.few));
     }

@@ -11,7 +11,8 @@ use Rattle.pfair_order.proofs.NamesApart.{first_names}
 use Rattle.pfair_table.proofs.FirstByRank.{length_first, rising_first}
 use Rattle.pfair_replica.specs.Replica.{Replica, said, frontier, numbers_below}
 use Rattle.pfair_replica.proofs.Marks.{same_said, mark_le, frontier_le, below_agree}
-use Rattle.pfair_admission.specs.Member.{next_key}
+use Rattle.pfair_admission.specs.Member.{Member, next_key}
+use Rattle.pfair_table.specs.Ranks.{first_by_rank}
 use Rattle.pfair_table.specs.Table.{Settings, eligible, is_eligible, chosen, pick, table_of, members_at, slot_after, decided_at, history, world, table}
 use Rattle.pfair_table.specs.declared.pick.Pick.{Pick}
 use Rattle.pfair_table.specs.Laws.{IsPrefixOf, OneTable, PlansGoOn, OnePlan, TablesAreOrdered}
@@ -71,17 +72,21 @@ one_plan s x y ox oy agree =
 
 -- ---- tables are ordered
 
-keys_apart : (s : Settings) (x : Replica) (t : ℕ) → NamesApart (λ (k : Key). k.name) (eligible t (world s x t))
-keys_apart s x t = apart_map label (λ (k : Key). k.name) next_key (λ m. refl) (filter (is_eligible t) (world s x t)) (apart_filter label (is_eligible t) (world s x t) (named_world s x t))
+pub eligible_apart : (t : ℕ) (members : List Member) → NamesApart label members → NamesApart (λ (k : Key). k.name) (eligible t members)
+eligible_apart t members named = apart_map label (λ (k : Key). k.name) next_key (λ m. refl) (filter (is_eligible t) members) (apart_filter label (is_eligible t) members named)
+
+pub rows_apart : (m t : ℕ) (members : List Member) → NamesApart label members → NamesApart (λ (p : Pick). p.name) (map (pick members) (first_by_rank m (eligible t members)))
+rows_apart m t members named =
+    apart_map (λ (k : Key). k.name) (λ (p : Pick). p.name) (pick members) (λ k. refl) (first_by_rank m (eligible t members)) (first_names m (eligible t members) (eligible_apart t members named))
 
 pub tables_are_ordered : TablesAreOrdered
 tables_are_ordered s x t =
     let members = world s x t in
     let keys = eligible t members in
-    let apart = keys_apart s x t in
+    let apart = eligible_apart t members (named_world s x t) in
     let few = length_first keys apart s.processors in
     let same = length-map (chosen s t members) (pick members) in (
       omega (arith, few, same),
       rising_first keys apart s.processors,
-      apart_map (λ (k : Key). k.name) (λ (p : Pick). p.name) (pick members) (λ k. refl) (chosen s t members) (first_names s.processors keys apart),
+      rows_apart s.processors t members (named_world s x t),
     )

@@ -14,15 +14,17 @@ loop-processor-init g c =
     let settings_are = c.settings-settings.ensures.value in
     let run = c.settings-settings.ensures.run in
     let count : c.settings-settings.result.processors ≡ length c.args.script.now.logs = ap (λ (s : Settings). s.processors) settings_are ∙ sym run.one_each in
+    let course = c.in_ok-dispatcher.ensures.course in
     record {
-      settings = c.in_ok-dispatcher.ensures.settings ∙ settings_are;
-      held = ap (λ (x : Course). x.held) c.in_ok-dispatcher.ensures.course
-          ∙ (λ i. empty_replica (count i) (c.capacity.ensures.value i))
-          ∙ none_taken c.args.script.now.logs;
-      nothing = ap (λ (x : Course). x.tables) c.in_ok-dispatcher.ensures.course;
-      undecided = ap (λ (x : Course). x.decided) c.in_ok-dispatcher.ensures.course;
-      standing = c.in_ok-dispatcher.ensures.standing;
-      able = c.in_ok-dispatcher.ensures.spent;
+      is = λ i. record {
+        settings = (c.in_ok-dispatcher.ensures.settings ∙ settings_are) i;
+        held = c.in_ok-dispatcher.dispatcher.held;
+        tables = (course i).tables;
+        decided = (course i).decided;
+        forgotten = c.in_ok-dispatcher.ensures.standing i;
+        spent = c.in_ok-dispatcher.ensures.spent i;
+      };
+      held = ap (λ (x : Course). x.held) course ∙ (λ i. empty_replica (count i) (c.capacity.ensures.value i)) ∙ none_taken c.args.script.now.logs;
     }
 
 pub take_log-requires : goal.take_log-requires
@@ -41,28 +43,22 @@ returns-clause-held g c =
     taken_whole logs c.loop-processor.processor c.loop-processor.dispatcher.held c.loop-processor.invariant.held all
 
 pub returns-clause-settings : goal.returns-clause-settings
-returns-clause-settings g c = c.loop-processor.invariant.settings
+returns-clause-settings g c = ap (λ (d : Dispatch). d.settings) c.loop-processor.invariant.is
 
 pub returns-clause-nothing : goal.returns-clause-nothing
-returns-clause-nothing g c = c.loop-processor.invariant.nothing
+returns-clause-nothing g c = ap (λ (d : Dispatch). d.tables) c.loop-processor.invariant.is
 
 pub returns-clause-undecided : goal.returns-clause-undecided
-returns-clause-undecided g c = c.loop-processor.invariant.undecided
+returns-clause-undecided g c = ap (λ (d : Dispatch). d.decided) c.loop-processor.invariant.is
 
 pub returns-clause-standing : goal.returns-clause-standing
-returns-clause-standing g c = c.loop-processor.invariant.standing
+returns-clause-standing g c = ap (λ (d : Dispatch). d.forgotten) c.loop-processor.invariant.is
 
 pub returns-clause-able : goal.returns-clause-able
-returns-clause-able g c = c.loop-processor.invariant.able
+returns-clause-able g c = ap (λ (d : Dispatch). d.spent) c.loop-processor.invariant.is
 
 pub loop-processor-preserved : goal.loop-processor-preserved
-loop-processor-preserved g c =
-    let rest = c.in_ok-take_log.ensures.rest in
-    record {
-      settings = ap (λ (d : Dispatch). d.settings) rest ∙ c.loop-processor.invariant.settings;
-      held = c.in_ok-take_log.ensures.held c.args.script.now.logs c.log.ensures.value c.loop-processor.invariant.held;
-      nothing = ap (λ (d : Dispatch). d.tables) rest ∙ c.loop-processor.invariant.nothing;
-      undecided = ap (λ (d : Dispatch). d.decided) rest ∙ c.loop-processor.invariant.undecided;
-      standing = ap (λ (d : Dispatch). d.forgotten) rest ∙ c.loop-processor.invariant.standing;
-      able = ap (λ (d : Dispatch). d.spent) rest ∙ c.loop-processor.invariant.able;
-    }
+loop-processor-preserved g c = record {
+  is = c.in_ok-take_log.ensures.rest ∙ (λ i. record (c.loop-processor.invariant.is i) { held = c.take_log.new.dispatcher.held });
+  held = c.in_ok-take_log.ensures.held c.args.script.now.logs c.log.ensures.value c.loop-processor.invariant.held;
+}

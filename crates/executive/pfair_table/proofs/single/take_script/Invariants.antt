@@ -5,10 +5,6 @@ use Rattle.pfair_table.proofs.single.take_script.Given as goal
 
 abbrev pub invariant-loop-processor : goal.invariant-loop-processor
 invariant-loop-processor g l = record {
-  settings : l.dispatcher.settings ≡ l.script.settings;
+  is : l.dispatcher ≡ record { settings = l.script.settings; held = l.dispatcher.held; tables = []; decided = []; forgotten = 0; spent = false };
   held : replica_of l.dispatcher.held ≡ held_so_far l.script.logs l.processor 0;
-  nothing : l.dispatcher.tables ≡ [];
-  undecided : l.dispatcher.decided ≡ [];
-  standing : l.dispatcher.forgotten ≡ 0;
-  able : l.dispatcher.spent ≡ false;
 }
