@@ -68,7 +68,7 @@ all_ran_push : (picks : Table) (p : Pick) (members : List Member) → all_ran (p
 all_ran_push [] p members = refl
 all_ran_push (q ∷ picks) p members = all_ran_push picks p (ran q.name members)
 
-module _ (start : Roster) (first : List Key) (apart : NamesApart (λ (k : Key). k.name) first) (i : ℕ) (key : Key) (inside : i < length first) (item : key ≡ get_or first i key) where
+module _ {start : Roster} {first : List Key} {i : ℕ} {roster : Roster} {table : Table} {waiting : Queue} {key : Key} (apart : NamesApart (λ (k : Key). k.name) first) (so : RunSoFar start first i roster table waiting) (inside : i < length first) (item : key ≡ get_or first i key) where
   split : take i first ++ key ∷ drop (i + 1) first ≡ first
   split = ap (λ ys. take i first ++ ys) (sym (drop_item first i key inside item)) ∙ take-append-drop i first
 
@@ -78,65 +78,64 @@ module _ (start : Roster) (first : List Key) (apart : NamesApart (λ (k : Key). 
   pub key_among : Among first key
   key_among = subst (λ xs. Among xs key) split (among_right (take i first) (key ∷ drop (i + 1) first) key (inl refl))
 
-  -- its member is as it was at the start
-  pub still_found : (roster : Roster) (table : Table) (waiting : Queue) → RunSoFar start first i roster table waiting → member_named roster.members key.name ≡ member_named start.members key.name
-  still_found roster table waiting so =
-      ap (λ (r : Roster). member_named r.members key.name) so.ran_are
-      ∙ found_after key.name (map (pick start.members) (take i first)) start.members
-      (rows_named start.members key.name (take i first) ∙ apart_before (take i first) key (drop (i + 1) first) split_apart)
-
-  -- so it may run
-  pub may_run : (roster : Roster) (table : Table) (waiting : Queue) → RunSoFar start first i roster table waiting → MayRun start.members key → ForSome (member_named roster.members key.name) (λ m. m.next ≤ 1000000)
-  may_run roster table waiting so may x e = subst (λ (m : Member). m.next ≤ 1000000) (same_Some may.0 x (sym (still_found roster table waiting so ∙ may.1) ∙ e)) may.3
-
-  -- and its quantum is that of its next subtask
-  pub runs_next : (roster : Roster) (table : Table) (waiting : Queue) → RunSoFar start first i roster table waiting → (may : MayRun start.members key) → option_map quantum_of (running (member_named roster.members key.name)) ≡ Some (quantum_of may.0)
-  runs_next roster table waiting so may =
-      ap (λ o. option_map quantum_of (running o)) (still_found roster table waiting so ∙ may.1)
-      ∙ ap (λ b. option_map quantum_of (if b then None else Some may.0)) may.2
-
   -- nothing waits under its name
-  not_waiting : (roster : Roster) (table : Table) (waiting : Queue) → RunSoFar start first i roster table waiting → finmap.get waiting key.name ≡ None
-  not_waiting roster table waiting so =
+  not_waiting : finmap.get waiting key.name ≡ None
+  not_waiting =
       so.queue key.name
       ∙ ap (λ (ks : List Key). if has_key_of key.name ks then None else queued (member_named roster.members key.name)) (drop_item first i key inside item)
       ∙ ap (λ b. if b || has_key_of key.name (drop (i + 1) first) then None else queued (member_named roster.members key.name)) (name_itself key.name)
 
-  -- so what waits under it then is the subtask after that
-  pub told_on : (roster after : Roster) (table : Table) (waiting anew : Queue) (quantum : Quantum) (new : Bool) → RunSoFar start first i roster table waiting → (may : MayRun start.members key)
-      → quantum ≡ quantum_of may.0 → after ≡ record roster { members = ran key.name roster.members } → new ≡ not (finmap.contains_key waiting quantum.next_key.name)
-      → anew ≡ (if new then finmap.insert waiting quantum.next_key.name (quantum.next_from, quantum.next_key) else waiting) → IsToldOf key.name after.members waiting anew
-  told_on roster after table waiting anew quantum new so may is after_is fresh in_ =
-      told_next key.name after.members (with_quantum may.0) waiting waiting anew new quantum.next_from quantum.next_key
-      (ap (λ (r : Roster). member_named r.members key.name) after_is ∙ found_changed key.name with_quantum (λ m. refl) roster.members may.0 (still_found roster table waiting so ∙ may.1))
-      may.2 (ap (λ (q : Quantum). q.next_from) is) (ap (λ (q : Quantum). q.next_key) is)
-      (absent_removed waiting key.name (not_waiting roster table waiting so)) fresh in_
+  module _ (may : MayRun start.members key) where
+    -- its member is as it was at the start
+    still_found : member_named roster.members key.name ≡ Some may.0
+    still_found =
+        ap (λ (r : Roster). member_named r.members key.name) so.ran_are
+        ∙ found_after key.name (map (pick start.members) (take i first)) start.members
+        (rows_named start.members key.name (take i first) ∙ apart_before (take i first) key (drop (i + 1) first) split_apart)
+        ∙ may.1
 
-  -- one turn
-  pub run_turn : (roster after : Roster) (table rows : Table) (waiting anew : Queue) (index : ℕ) → RunSoFar start first i roster table waiting → (may : MayRun start.members key)
-      → index ≡ may.0.next → after ≡ record roster { members = ran key.name roster.members } → rows ≡ table ++ record { name = key.name; index = index } ∷ []
-      → IsToldOf key.name after.members waiting anew → RunSoFar start first (i + 1) after rows anew
-  run_turn roster after table rows waiting anew index so may index_is after_is rows_are told = record {
-    rows = rows_are ∙ ap (λ (xs : Table). xs ++ record { name = key.name; index = index } ∷ []) so.rows ∙ ap (λ (p : Pick). map (pick start.members) (take i first) ++ p ∷ []) picked ∙ sym pushed;
-    ran_are = after_is ∙ ap (λ (r : Roster). record r { members = ran key.name r.members }) so.ran_are ∙ ap (λ (ms : List Member). record start { members = ms }) (sym (ap (λ (ps : Table). all_ran ps start.members) pushed ∙ all_ran_push (map (pick start.members) (take i first)) (pick start.members key) start.members));
-    queue = λ name. by name (name_eq name key.name) refl (told name);
-  }
-    where
-      picked : record { name = key.name; index = index } ≡ pick start.members key
-      picked = ap (λ (n : ℕ). record { name = key.name; index = n }) (index_is ∙ sym (ap index_of may.1))
+    -- so it may run
+    pub may_run : ForSome (member_named roster.members key.name) (λ m. m.next ≤ 1000000)
+    may_run x e = subst (λ (m : Member). m.next ≤ 1000000) (same_Some may.0 x (sym still_found ∙ e)) may.3
 
-      pushed : map (pick start.members) (take (i + 1) first) ≡ map (pick start.members) (take i first) ++ pick start.members key ∷ []
-      pushed = ap (map (pick start.members)) (take_item first i key inside item) ∙ map-append (pick start.members) (take i first) (key ∷ [])
+    -- and its quantum is that of its next subtask
+    pub runs_next : option_map quantum_of (running (member_named roster.members key.name)) ≡ Some (quantum_of may.0)
+    runs_next = ap (λ o. option_map quantum_of (running o)) still_found ∙ ap (λ b. option_map quantum_of (if b then None else Some may.0)) may.2
 
-      by : (name : Name) (b : Bool) → name_eq name key.name ≡ b → finmap.get anew name ≡ (if b then queued (member_named after.members key.name) else finmap.get waiting name)
-          → finmap.get anew name ≡ (if has_key_of name (drop (i + 1) first) then None else queued (member_named after.members name))
-      by name true q is =
-          (let same = name_exact name key.name q in
-          is ∙ ap (λ n. queued (member_named after.members n)) (sym same)
-          ∙ sym (ap (λ b. if b then None else queued (member_named after.members name)) (ap (λ n. has_key_of n (drop (i + 1) first)) same ∙ apart_after (take i first) key (drop (i + 1) first) split_apart)))
-      by name false q is =
-          is ∙ so.queue name
-          ∙ ap (λ (ks : List Key). if has_key_of name ks then None else queued (member_named roster.members name)) (drop_item first i key inside item)
-          ∙ ap (λ b. if b || has_key_of name (drop (i + 1) first) then None else queued (member_named roster.members name)) q
-          ∙ ap (λ (o : Option Member). if has_key_of name (drop (i + 1) first) then None else queued o)
-          (sym (ap (λ (r : Roster). member_named r.members name) after_is ∙ found_other name key.name with_quantum (λ m. refl) q roster.members))
+    -- so what waits under its name then is the subtask after that
+    pub told_on : {after : Roster} {anew : Queue} {quantum : Quantum} {new : Bool} → quantum ≡ quantum_of may.0 → after ≡ record roster { members = ran key.name roster.members }
+        → new ≡ not (finmap.contains_key waiting quantum.next_key.name) → anew ≡ (if new then finmap.insert waiting quantum.next_key.name (quantum.next_from, quantum.next_key) else waiting)
+        → IsToldOf key.name after.members waiting anew
+    told_on {after} {anew} {quantum} {new} is after_is fresh in_ =
+        told_next key.name after.members (with_quantum may.0) waiting waiting anew new quantum.next_from quantum.next_key
+        (ap (λ (r : Roster). member_named r.members key.name) after_is ∙ found_changed key.name with_quantum (λ m. refl) roster.members may.0 still_found)
+        may.2 (ap (λ (q : Quantum). q.next_from) is) (ap (λ (q : Quantum). q.next_key) is)
+        (absent_removed waiting key.name not_waiting) fresh in_
+
+    -- one turn
+    pub run_turn : {after : Roster} {rows : Table} {anew : Queue} {index : ℕ} → index ≡ may.0.next → after ≡ record roster { members = ran key.name roster.members }
+        → rows ≡ table ++ record { name = key.name; index = index } ∷ [] → IsToldOf key.name after.members waiting anew → RunSoFar start first (i + 1) after rows anew
+    run_turn {after} {rows} {anew} {index} index_is after_is rows_are told = record {
+      rows = rows_are ∙ ap (λ (xs : Table). xs ++ record { name = key.name; index = index } ∷ []) so.rows ∙ ap (λ (p : Pick). map (pick start.members) (take i first) ++ p ∷ []) picked ∙ sym pushed;
+      ran_are = after_is ∙ ap (λ (r : Roster). record r { members = ran key.name r.members }) so.ran_are ∙ ap (λ (ms : List Member). record start { members = ms }) (sym (ap (λ (ps : Table). all_ran ps start.members) pushed ∙ all_ran_push (map (pick start.members) (take i first)) (pick start.members key) start.members));
+      queue = λ name. by name (name_eq name key.name) refl (told name);
+    }
+      where
+        picked : record { name = key.name; index = index } ≡ pick start.members key
+        picked = ap (λ (n : ℕ). record { name = key.name; index = n }) (index_is ∙ sym (ap index_of may.1))
+
+        pushed : map (pick start.members) (take (i + 1) first) ≡ map (pick start.members) (take i first) ++ pick start.members key ∷ []
+        pushed = ap (map (pick start.members)) (take_item first i key inside item) ∙ map-append (pick start.members) (take i first) (key ∷ [])
+
+        by : (name : Name) (b : Bool) → name_eq name key.name ≡ b → finmap.get anew name ≡ (if b then queued (member_named after.members key.name) else finmap.get waiting name)
+            → finmap.get anew name ≡ (if has_key_of name (drop (i + 1) first) then None else queued (member_named after.members name))
+        by name true q is =
+            (let same = name_exact name key.name q in
+            is ∙ ap (λ n. queued (member_named after.members n)) (sym same)
+            ∙ sym (ap (λ b. if b then None else queued (member_named after.members name)) (ap (λ n. has_key_of n (drop (i + 1) first)) same ∙ apart_after (take i first) key (drop (i + 1) first) split_apart)))
+        by name false q is =
+            is ∙ so.queue name
+            ∙ ap (λ (ks : List Key). if has_key_of name ks then None else queued (member_named roster.members name)) (drop_item first i key inside item)
+            ∙ ap (λ b. if b || has_key_of name (drop (i + 1) first) then None else queued (member_named roster.members name)) q
+            ∙ ap (λ (o : Option Member). if has_key_of name (drop (i + 1) first) then None else queued o)
+            (sym (ap (λ (r : Roster). member_named r.members name) after_is ∙ found_other name key.name with_quantum (λ m. refl) q roster.members))

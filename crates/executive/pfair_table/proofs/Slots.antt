@@ -41,12 +41,12 @@ some_slot : (slot : ℕ) → ForSome (Some slot) (λ last. last ≤ slot + 1)
 some_slot slot x e = (let s = same_Some slot x e in omega (arith, s))
 
 -- after the quanta of a slot all is steady for the next
-pub steady_next : (slot now now2 : ℕ) (before after : Roster) (waiting waiting2 : Queue) (heard : List Said) (m : ℕ) (rows : Table)
+pub steady_next : {slot now now2 : ℕ} {before after : Roster} {waiting waiting2 : Queue} {rows : Table} (heard : List Said) (m : ℕ)
     → IsSteady slot before now waiting
     → let world = boundary before.machine slot before.members (announcements heard) in
     rows ≡ map (pick world) (first_by_rank m (eligible slot world)) → after.members ≡ all_ran rows world → after.last_slot ≡ Some slot → now2 ≡ slot → IsQueue after.members waiting2
     → IsSteady (slot + 1) after now2 waiting2
-steady_next slot now now2 before after waiting waiting2 heard m rows steady rows_are ran_are last_is now_is queue =
+steady_next {slot} {before} {rows} heard m steady rows_are ran_are last_is now_is queue =
     let world = boundary before.machine slot before.members (announcements heard) in
     let named = apart_boundary before.machine slot before.members (announcements heard) steady.named in
     record {
