@@ -1,5 +1,5 @@
 -- Logs, and the replica that they make.
-use Rattle.std.specs.Prelude.{ℕ, zero, suc, ◌≡◌, Bool, IsTrue, nat_le, nat_lt, ◌==◌, if◌then◌else◌, max, List, [], ◌∷◌, length, map, Option, Some, None, slice_get, Vec}
+use Rattle.std.specs.Prelude.{ℕ, zero, suc, ◌≡◌, Bool, IsTrue, nat_le, max, List, [], ◌∷◌, length, map, Option, Some, None, slice_get, Vec}
 use Rattle.std.specs.List.{list_all}
 use Rattle.std.specs.declared.alloc.Global.{Global}
 use Rattle.pfair_lattice.specs.Held.{Held}
@@ -46,15 +46,10 @@ row_of (Some log) n = entry_of log n
 abbrev pub contents_of : List (List Logged) → Contents
 contents_of logs k n = row_of (slice_get logs k) n
 
+-- of a script's replica what some logs have, which are the first ones or begin with as many entries
+abbrev pub held_of : List (List Logged) → List (List Logged) → Replica
+held_of logs begun = record { processors = length logs; capacity = capacity_of logs; at = contents_of begun }
+
 -- the replica of a script: every entry of the logs, and nothing else
 abbrev pub replica_of_logs : List (List Logged) → Replica
-replica_of_logs logs = record { processors = length logs; capacity = capacity_of logs; at = contents_of logs }
-
--- ---- while the entries are taken one after another
-
--- the first k logs, and of the next the first i entries
-abbrev pub so_far : List (List Logged) → ℕ → ℕ → Contents
-so_far logs k i j n = if nat_lt j k then contents_of logs j n else (if j == k then (if nat_le n i then contents_of logs j n else None) else None)
-
-abbrev pub held_so_far : List (List Logged) → ℕ → ℕ → Replica
-held_so_far logs k i = record { processors = length logs; capacity = capacity_of logs; at = so_far logs k i }
+replica_of_logs logs = held_of logs logs

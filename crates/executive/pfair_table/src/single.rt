@@ -1,9 +1,9 @@
 //! A script's run on one dispatcher.
 
-ghost use Rattle.std.specs.Prelude.{◌≡◌, ◌+◌, ◌<◌, ◌≤◌, List, [], IfOk, IfErr, OnOk, Some, false, slice_get, length};
+ghost use Rattle.std.specs.Prelude.{◌≡◌, ◌+◌, ◌<◌, ◌≤◌, List, [], IfOk, IfErr, OnOk, Some, false, slice_get, length, take};
 ghost use Rattle.pfair_replica.specs.HeldRows.{replica_of};
 ghost use Rattle.pfair_table.specs.Refinement.{IsWholePlan};
-ghost use Rattle.pfair_table.specs.Script.{held_so_far, replica_of_logs};
+ghost use Rattle.pfair_table.specs.Script.{held_of, replica_of_logs};
 ghost use Rattle.pfair_table.specs.ScriptRun.{IsRunOf, IsScriptFaultOf, script_fault_number};
 ghost use Rattle.pfair_table.specs.declared.single.ScriptFault.TheVariants.{Stalled};
 ghost use Rattle.pfair_entry.specs.Entry.{Logged};
@@ -125,7 +125,7 @@ fn take_log<R: Ready>(
     requires { length log.now ≤ Script.LONGEST_LOG }
     ensures rest { dispatcher.new ≡ record dispatcher.old { held = dispatcher.new.held } }
     ensures held { OnOk result ((logs : List (List Logged)) → slice_get logs processor ≡ Some log.now
-        → replica_of dispatcher.old.held ≡ held_so_far logs processor 0 → replica_of dispatcher.new.held ≡ held_so_far logs (processor + 1) 0) }
+        → replica_of dispatcher.old.held ≡ held_of logs (take processor logs) → replica_of dispatcher.new.held ≡ held_of logs (take (processor + 1) logs)) }
 {
     for (index, entry) in log.iter().enumerate() {
         offer(dispatcher, processor, index as u32 + 1, *entry)?;

@@ -1,14 +1,17 @@
-use Rattle.std.proofs.Common.{refl, ◌<◌, ◌≡◌, ◌∙◌, ap, arith, Some, slice_get, length, ◌+◌}
+use Rattle.std.proofs.Common.{refl, ◌<◌, ◌≡◌, ◌∙◌, ap, arith, Some, slice_get, length, take, [], ◌∷◌, ◌++◌, ◌+◌}
 use Rattle.std.proofs.lemmas.Option.{slice_get_read}
 use Rattle.pfair_replica.specs.Offered.{taken}
-use Rattle.pfair_table.specs.Script.{held_so_far}
-use Rattle.pfair_table.proofs.Scripts.{taken_next, log_taken}
+use Rattle.pfair_table.specs.Script.{held_of}
+use Rattle.pfair_table.proofs.Scripts.{log_begun, taken_next, log_taken}
 use Rattle.pfair_table.proofs.single.take_log.Goals as goal
+
+pub loop-index-init : goal.loop-index-init
+loop-index-init g c = (refl, λ logs at_k before. before ∙ log_begun logs (take c.args.processor logs))
 
 pub returns-clause-held : goal.returns-clause-held
 returns-clause-held g c = λ logs at_k before.
     (let all : c.loop-index.index ≡ length c.args.log.now = omega (arith, c.loop-index-test.false, c.loop-index.auto.index-end) in
-    c.loop-index.invariant.1 logs at_k before ∙ ap (held_so_far logs c.args.processor) all ∙ log_taken logs c.args.processor c.args.log.now at_k)
+    c.loop-index.invariant.1 logs at_k before ∙ ap (λ n. held_of logs (take c.args.processor logs ++ take n c.args.log.now ∷ [])) all ∙ log_taken logs c.args.processor c.args.log.now at_k)
 
 pub loop-index-preserved : goal.loop-index-preserved
 loop-index-preserved g c =

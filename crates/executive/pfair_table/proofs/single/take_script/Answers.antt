@@ -1,12 +1,11 @@
-use Rattle.std.proofs.Common.{◌≡◌, ◌∙◌, sym, ap, arith, length, ℕ, List}
+use Rattle.std.proofs.Common.{◌≡◌, ◌∙◌, sym, ap, arith, length, take}
+use Rattle.std.proofs.Math.Seq.{take-length}
 use Rattle.pfair_replica.specs.Replica.{empty_replica}
-use Rattle.pfair_entry.specs.Entry.{Logged}
-use Rattle.pfair_replica.specs.HeldRows.{HeldRows, replica_of}
 use Rattle.pfair_table.specs.Table.{Settings}
 use Rattle.pfair_table.specs.Events.{Course}
 use Rattle.pfair_table.specs.Refinement.{Dispatch}
-use Rattle.pfair_table.specs.Script.{held_so_far, replica_of_logs}
-use Rattle.pfair_table.proofs.Scripts.{none_taken, all_taken, log_is_short}
+use Rattle.pfair_table.specs.Script.{held_of}
+use Rattle.pfair_table.proofs.Scripts.{log_is_short}
 use Rattle.pfair_table.proofs.single.take_script.Goals as goal
 
 pub loop-processor-init : goal.loop-processor-init
@@ -24,15 +23,11 @@ loop-processor-init g c =
         forgotten = c.in_ok-dispatcher.ensures.standing i;
         spent = c.in_ok-dispatcher.ensures.spent i;
       };
-      held = ap (λ (x : Course). x.held) course ∙ (λ i. empty_replica (count i) (c.capacity.ensures.value i)) ∙ none_taken c.args.script.now.logs;
+      held = ap (λ (x : Course). x.held) course ∙ (λ i. empty_replica (count i) (c.capacity.ensures.value i));
     }
 
 pub take_log-requires : goal.take_log-requires
 take_log-requires g c = log_is_short c.args.script.now.logs c.loop-processor.processor c.log.result.now c.log.ensures.run.short c.log.ensures.value
-
--- the whole script is held once the logs of all processors are taken
-taken_whole : (logs : List (List Logged)) (k : ℕ) (held : HeldRows) → replica_of held ≡ held_so_far logs k 0 → k ≡ length logs → replica_of held ≡ replica_of_logs logs
-taken_whole logs k held is all = is ∙ ap (λ (k : ℕ). held_so_far logs k 0) all ∙ all_taken logs
 
 pub returns-clause-held : goal.returns-clause-held
 returns-clause-held g c =
@@ -40,7 +35,7 @@ returns-clause-held g c =
     let settings_are = c.settings-settings.ensures.value in
     let count : c.settings-settings.result.processors ≡ length logs = ap (λ (s : Settings). s.processors) settings_are ∙ sym c.settings-settings.ensures.run.one_each in
     let all : c.loop-processor.processor ≡ length logs = omega (arith, c.loop-processor-test.false, c.loop-processor.auto.processor-end, c.processors-processor-end.ensures.value, count) in
-    taken_whole logs c.loop-processor.processor c.loop-processor.dispatcher.held c.loop-processor.invariant.held all
+    c.loop-processor.invariant.held ∙ ap (λ k. held_of logs (take k logs)) all ∙ ap (held_of logs) (take-length logs)
 
 pub returns-clause-settings : goal.returns-clause-settings
 returns-clause-settings g c = ap (λ (d : Dispatch). d.settings) c.loop-processor.invariant.is
