@@ -1,6 +1,6 @@
 -- The first keys of the ready structure are the first eligible subtasks of the members.
 use Rattle.std.proofs.Common.{ℕ, ◌≤◌, ◌≡◌, refl, sym, ap, ◌∙◌, subst, inl, inr, Bool, true, false, cond, List, [], ◌∷◌, Option, Some, None}
-use Rattle.std.specs.Prelude.{T, IsTrue, map, filter, not, nat_le, if◌then◌else◌}
+use Rattle.std.specs.Prelude.{T, IsTrue, filter, not, nat_le, if◌then◌else◌}
 use Rattle.std.specs.List.{AllByRecursion}
 use Rattle.std.specs.declared.cmp.Ordering.{Ordering}
 use Rattle.std.specs.declared.cmp.Ordering.TheVariants.{Less, Equal, Greater}
@@ -9,20 +9,21 @@ use Rattle.std.proofs.lemmas.Cmp.{nat_list_cmp_total}
 use Rattle.std.specs.FinMap as finmap
 use Rattle.std.specs.FinMap.{get-entries, entries_sorted, entries}
 use Rattle.std.specs.FinMap.Entries as listed
-use Rattle.std.proofs.lemmas.Bool.{true≢false, and_parts, and_from, not-true}
+use Rattle.std.proofs.lemmas.List.Sorted.{Contains-permutation}
+use Rattle.std.proofs.lemmas.Bool.{le-leb, true≢false, and_parts, and_from, not-true}
 use Rattle.pfair_ready.specs.Names.{NameValue as Name}
 use Rattle.pfair_order.specs.declared.Key.{Key}
 use Rattle.pfair_ready.specs.Names.{name_cmp}
 use Rattle.pfair_ready.proofs.Names.{tied_names}
 use Rattle.pfair_entry.specs.Same.{name_eq}
 use Rattle.pfair_entry.specs.Exact.{name_itself}
-use Rattle.pfair_replica.specs.Among.{Among, among_filter, filter_among, among_map, map_among, among_all, all_among}
+use Rattle.pfair_replica.specs.Among.{Among, among_filter, filter_among, among_map, map_among, among_all, all_among, among_contains, contains_among}
 use Rattle.std.proofs.lemmas.Option.{none-some, same_Some}
 use Rattle.std.specs.Cmp.Lexicographic.{nat_list_eq_equiv}
 use Rattle.pfair_weight.specs.Name.{NamesApart}
 use Rattle.pfair_weight.proofs.NamesApart.{apart_nil, apart_cons, apart_head, apart_tail, apart_filter, apart_map}
 use Rattle.pfair_order.proofs.NamesApart.{first_names}
-use Rattle.pfair_ready.proofs.Released.{each_found, get_without}
+use Rattle.pfair_ready.proofs.Released.{IsReleased, each_found, each_released, released_remove, get_without}
 use Rattle.pfair_table.specs.Ranks.{first_by_rank}
 use Rattle.pfair_ready.specs.Queue.{Queue, released, without}
 use Rattle.pfair_table.proofs.FirstByRank.{among_first, first_same}
@@ -92,14 +93,6 @@ not_tied a b h = ap is_eq (nat_list_cmp_total.antisymm b a) ∙ less (name_cmp a
     less Equal e = absurd (true≢false (sym e))
     less Greater e = absurd (true≢false (sym e))
 
-entry_among : (es : List Named_entry) (name : Name) (v : ℕ × Key) → listed.find name_cmp name es ≡ Some v → Among (map (λ (e : Named_entry). e.1) es) v
-entry_among [] name v e = absurd (none-some v e)
-entry_among (d ∷ es) name v e = by (eq_by_cmp name_cmp name d.0) e (entry_among es name v)
-  where
-    by : (b : Bool) → cond b (Some d.1) (listed.find name_cmp name es) ≡ Some v → (listed.find name_cmp name es ≡ Some v → Among (map (λ (e : Named_entry). e.1) es) v) → Among (d.1 ∷ map (λ (e : Named_entry). e.1) es) v
-    by true e more = inl (sym (same_Some d.1 v e))
-    by false e more = inr (more e)
-
 -- where each entry's key has the entry's name, no two keys have one name
 entries_apart : (es : List Named_entry) → IsTrue (listed.is_sorted name_cmp es) → ((e : Named_entry) → Among es e → e.1.1.name ≡ e.0) → NamesApart (λ (e : Named_entry). e.1.1.name) es
 entries_apart [] s own = apart_nil (λ (e : Named_entry). e.1.1.name)
@@ -126,16 +119,14 @@ module _ (n : ℕ) (members : List Member) (waiting : Queue) (named : NamesApart
 
   released_eligible : (k : Key) → Among (released n waiting) k → Among (eligible n members) k
   released_eligible k h =
-      let t = among_map (λ (e : ℕ × Key). e.1) (filter (λ (e : ℕ × Key). nat_le e.0 n) (finmap.values waiting)) k h in
-      let u = among_filter (λ (e : ℕ × Key). nat_le e.0 n) (finmap.values waiting) t.0 t.1 in
-      let v = among_map (λ (e : Named_entry). e.1) (entries waiting) t.0 u.0 in
-      let q = held_is v.0 v.1 in
-      let soon : nat_le (eligible_from q.m q.m.next) n ≡ true = ap (λ r. nat_le r n) (sym (ap (λ (e : ℕ × Key). e.0) v.2 ∙ q.from_is)) ∙ u.1 in
-      subst (Among (eligible n members)) (sym (t.2 ∙ ap (λ (e : ℕ × Key). e.1) v.2 ∙ q.key_is))
+      let r = among_all (IsReleased n waiting) (released n waiting) (each_released n waiting) k h in
+      let q = queued_is (member_named members r.name) r.release k (sym (queue r.name) ∙ r.at) in
+      let soon : nat_le (eligible_from q.m q.m.next) n ≡ true = ap (λ f. nat_le f n) (sym q.from_is) ∙ le-leb r.release n r.due in
+      subst (Among (eligible n members)) (sym q.key_is)
       (map_among next_key (filter (is_eligible n) members) q.m
-      (filter_among (is_eligible n) members q.m (found_among members v.0.0 q.m q.found) (and_from (not (is_departing q.m)) (nat_le (eligible_from q.m q.m.next) n) (ap not q.stays) soon)))
+      (filter_among (is_eligible n) members q.m (found_among members r.name q.m q.found) (and_from (not (is_departing q.m)) (nat_le (eligible_from q.m q.m.next) n) (ap not q.stays) soon)))
 
-  pub eligible_member : (k : Key) → Among (eligible n members) k → (m : Member) × Among members m × (k ≡ next_key m) × (is_departing m ≡ false) × (nat_le (eligible_from m m.next) n ≡ true)
+  eligible_member : (k : Key) → Among (eligible n members) k → (m : Member) × Among members m × (k ≡ next_key m) × (is_departing m ≡ false) × (nat_le (eligible_from m m.next) n ≡ true)
   eligible_member k h =
       let t = among_map next_key (filter (is_eligible n) members) k h in
       let u = among_filter (is_eligible n) members t.0 t.1 in
@@ -145,12 +136,11 @@ module _ (n : ℕ) (members : List Member) (waiting : Queue) (named : NamesApart
   eligible_released : (k : Key) → Among (eligible n members) k → Among (released n waiting) k
   eligible_released k h =
       let t = eligible_member k h in
-      let e : ℕ × Key = (eligible_from t.0 t.0.next, next_key t.0) in
+      let e : ℕ × Key = next_of t.0 in
       let got : finmap.get waiting t.0.name ≡ Some e = queue t.0.name ∙ ap queued (found_own members named t.0 t.1) ∙ ap (λ d. if d then None else Some e) t.3 in
-      let held = entry_among (entries waiting) t.0.name e (sym (get-entries waiting t.0.name) ∙ got) in
-      subst (Among (released n waiting)) (sym t.2)
-      (map_among (λ (e : ℕ × Key). e.1) (filter (λ (e : ℕ × Key). nat_le e.0 n) (finmap.values waiting)) e
-      (filter_among (λ (e : ℕ × Key). nat_le e.0 n) (finmap.values waiting) e held t.4))
+      let rest = finmap.remove waiting t.0.name in
+      subst (Among (released n waiting)) (sym t.2) (contains_among (released n waiting) e.1
+      (Contains-permutation (e.1 ∷ released n rest) (released n waiting) e.1 (released_remove n waiting rest t.0.name e.0 e.1 got t.4 refl) (among_contains (e.1 ∷ released n rest) e.1 (inl refl))))
 
   -- So what the ready structure gives first are the first eligible subtasks.
   pub first_of_queue : (m : ℕ) → first_by_rank m (released n waiting) ≡ first_by_rank m (eligible n members)
