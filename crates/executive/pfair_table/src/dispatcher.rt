@@ -217,7 +217,7 @@ impl<R: Ready> Dispatcher<R> {
             return None;
         }
         prove!(self.replica.processors() >= 1);
-        Some(self.planner.members())
+        Some(&self.planner.members)
     }
 
     /// The tables of the slots that are planned and not forgotten, and their places. Each is moved,
@@ -377,6 +377,5 @@ fn plan_onto<R: Ready>(
     let room = planned.take_room();
     let next = planner.plan(settings, replica, slot, room.table)?;
     let places = next_places(planned, &next.table, &mut planner.kept, room.places)?;
-    planned.push(next.table, places, next.decided)?;
-    Ok(())
+    planned.push(next, places)
 }

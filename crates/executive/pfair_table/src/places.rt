@@ -29,8 +29,7 @@ pub(crate) fn next_places(
     requires rows { length table.now ≤ Settings.MAX_PROCESSORS }
     ensures { IfOk result (λ places. places_of (planned.now.tables ++ table.now ∷ []) ≡ places_of planned.now.tables ++ places.items ∷ []) }
 {
-    let before = planned.last_table();
-    let places = planned.last_places();
+    let (before, places) = planned.last();
     places_beside(before, places, table, kept, room)
 }
 

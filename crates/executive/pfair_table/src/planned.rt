@@ -8,6 +8,7 @@ ghost use Rattle.pfair_table.specs.Planned.{last_or, as_tables, as_places};
 use crate::pick::{Decided, Pick};
 use crate::pieces::Pieces;
 use crate::room::Room;
+use crate::slot::SlotPlan;
 use std::alloc::{AllocError, Global};
 use std::marker::Model;
 
@@ -21,12 +22,11 @@ pub struct Run {
     pub places: Vec<Vec<u8>>,
 }
 
-// The table of a slot with its places, and the decisions at its boundary.
+// The plan of a slot, with the places of its table.
 #[derive(Drop)]
 struct PlannedSlot {
-    table: Vec<Pick>,
+    plan: SlotPlan,
     places: Vec<u8>,
-    decided: Vec<Decided>,
 }
 
 /// The table of each slot that is planned, from slot 0 on, with its places, and the decisions at
@@ -46,9 +46,9 @@ impl Model for Planned {
 
     ghost Value = { PlannedSlots };
 
-    ghost view = { λ p. record { tables = map (λ s. s.table.items) p.slots.items; decided = map (λ s. s.decided.items) p.slots.items; forgotten = p.slots.forgotten } };
+    ghost view = { λ p. record { tables = map (λ s. s.plan.table.items) p.slots.items; decided = map (λ s. s.plan.decided.items) p.slots.items; forgotten = p.slots.forgotten } };
 
-    ghost invariant = { λ p. map (λ s. s.places.items) p.slots.items ≡ places_of (map (λ s. s.table.items) p.slots.items) };
+    ghost invariant = { λ p. map (λ s. s.places.items) p.slots.items ≡ places_of (map (λ s. s.plan.table.items) p.slots.items) };
 }
 
 impl Planned {
@@ -92,7 +92,7 @@ impl Planned {
         ensures forgotten { slot < self.now.forgotten → result ≡ None }
     {
         let planned = self.slots.get(slot)?;
-        Some(&planned.table)
+        Some(&planned.plan.table)
     }
 
     /// The places of a slot, or none where that is forgotten.
@@ -110,26 +110,18 @@ impl Planned {
         ensures forgotten { slot < self.now.forgotten → result ≡ None }
     {
         let planned = self.slots.get(slot)?;
-        Some(&planned.decided)
+        Some(&planned.plan.decided)
     }
 
-    /// The table of the last slot, also where it is forgotten, or no rows where nothing is planned.
-    pub(crate) fn last_table(&self) -> &[Pick]
-        ensures { result.now ≡ last_or [] self.now.tables }
+    /// The table of the last slot and its places, also where it is forgotten, or no rows where nothing
+    /// is planned.
+    pub(crate) fn last(&self) -> (&[Pick], &[u8])
+        ensures table { result.0.now ≡ last_or [] self.now.tables }
+        ensures places { result.1.now ≡ last_or [] (places_of self.now.tables) }
     {
         match self.slots.last() {
-            Some(planned) => &planned.table,
-            None => &[],
-        }
-    }
-
-    /// The places of the last slot, also where it is forgotten, or none where nothing is planned.
-    pub(crate) fn last_places(&self) -> &[u8]
-        ensures { result.now ≡ last_or [] (places_of self.now.tables) }
-    {
-        match self.slots.last() {
-            Some(planned) => &planned.places,
-            None => &[],
+            Some(planned) => (&planned.plan.table, &planned.places),
+            None => (&[], &[]),
         }
     }
 
@@ -155,21 +147,12 @@ impl Planned {
     }
 
     /// Adds the next slot.
-    pub(crate) fn push(
-        &mut self,
-        table: Vec<Pick>,
-        places: Vec<u8>,
-        decided: Vec<Decided>,
-    ) -> Result<(), AllocError>
-        requires { places_of (self.old.tables ++ table.items ∷ []) ≡ places_of self.old.tables ++ places.items ∷ [] }
-        ensures ok { OnOk result (self.new ≡ record self.old { tables = self.old.tables ++ table.items ∷ []; decided = self.old.decided ++ decided.items ∷ [] }) }
+    pub(crate) fn push(&mut self, plan: SlotPlan, places: Vec<u8>) -> Result<(), AllocError>
+        requires { places_of (self.old.tables ++ plan.table.items ∷ []) ≡ places_of self.old.tables ++ places.items ∷ [] }
+        ensures ok { OnOk result (self.new ≡ record self.old { tables = self.old.tables ++ plan.table.items ∷ []; decided = self.old.decided ++ plan.decided.items ∷ [] }) }
         ensures err { OnErr result (self.new ≡ self.old) }
     {
-        self.slots.push(PlannedSlot {
-            table,
-            places,
-            decided,
-        })
+        self.slots.push(PlannedSlot { plan, places })
     }
 
     /// The tables that aren't forgotten and their places: each is moved, and none is copied.
@@ -196,14 +179,15 @@ fn add_rooms(
 
 // The tables and the places of some slots, each moved.
 fn run_of(slots: Vec<PlannedSlot>) -> Result<Run, AllocError>
-    ensures tables { IfOk result (λ run. as_tables run.tables ≡ map (λ s. s.table.items) slots.items) }
+    ensures tables { IfOk result (λ run. as_tables run.tables ≡ map (λ s. s.plan.table.items) slots.items) }
     ensures places { IfOk result (λ run. as_places run.places ≡ map (λ s. s.places.items) slots.items) }
 {
     let alloc = *slots.allocator();
     let mut tables = Vec::with_capacity(alloc, slots.len())?;
     let mut places = Vec::with_capacity(alloc, slots.len())?;
     for slot in slots {
-        tables.push(slot.table)?;
+        let plan = slot.plan;
+        tables.push(plan.table)?;
         places.push(slot.places)?;
     }
     Ok(Run { tables, places })

@@ -26,7 +26,8 @@ use std::alloc::{AllocError, Global};
 pub(crate) struct Planner<R: Ready> {
     alloc: Global,
     readings: Readings,
-    members: Members,
+    // after the slots that were planned last
+    pub members: Members,
     ready: R,
     // the room for the keys of a slot, and for what the rows of its table keep
     keys: Vec<Key>,
@@ -49,13 +50,6 @@ impl<R: Ready> Planner<R> {
             keys: Vec::new(alloc),
             kept: Vec::new(alloc),
         })
-    }
-
-    /// The members after the slots that were planned last.
-    pub(crate) fn members(&self) -> &Members
-        ensures { result.now ≡ self.now.members }
-    {
-        &self.members
     }
 
     /// Takes room for slots of so many processors while no more than so many tasks are members.

@@ -83,9 +83,7 @@ fn happen<R: Ready>(dispatcher: &mut Dispatcher<R>, event: &Event) -> Result<(),
         }
         Event::Plan => match dispatcher.plan_next() {
             Err(PlanFault::Memory) => Err(AllocError),
-            Err(PlanFault::Torn { .. }) => Ok(()),
-            Err(PlanFault::Spent) => Ok(()),
-            Ok(_) => Ok(()),
+            _ => Ok(()),
         },
     }
 }

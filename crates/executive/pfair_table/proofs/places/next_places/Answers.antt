@@ -7,16 +7,16 @@ use Rattle.pfair_table.proofs.PlacesOn.{last_below, last_fit, next_are}
 use Rattle.pfair_table.proofs.places.next_places.Goals as goal
 
 pub places_beside-requires-clause-below : goal.places_beside-requires-clause-below
-places_beside-requires-clause-below c = subst (AllByRecursion (λ k. k < 64)) (sym c.last_places-places.ensures) (last_below 64 c.args.planned.now.tables c.requires.fit)
+places_beside-requires-clause-below c = subst (AllByRecursion (λ k. k < 64)) (sym c.last.ensures.places) (last_below 64 c.args.planned.now.tables c.requires.fit)
 
 pub places_beside-requires-clause-before : goal.places_beside-requires-clause-before
-places_beside-requires-clause-before c = subst (IsFit 64) (sym c.last_table-before.ensures) (last_fit 64 c.args.planned.now.tables c.requires.fit)
+places_beside-requires-clause-before c = subst (IsFit 64) (sym c.last.ensures.table) (last_fit 64 c.args.planned.now.tables c.requires.fit)
 
 pub returns : goal.returns
 returns c =
     IfOk-weaker c.places_beside.result
-    (λ (here : Vec ℕ Global). here.items ≡ places_after c.last_table-before.result.now c.last_places-places.result.now c.args.table.now)
+    (λ (here : Vec ℕ Global). here.items ≡ places_after c.last.result.0.now c.last.result.1.now c.args.table.now)
     (λ (here : Vec ℕ Global). places_of (c.args.planned.now.tables ++ c.args.table.now ∷ []) ≡ places_of c.args.planned.now.tables ++ here.items ∷ [])
     (λ here h. next_are c.args.planned.now.tables c.args.table.now
-    ∙ ap (λ (ps : List ℕ). places_of c.args.planned.now.tables ++ ps ∷ []) (sym (h ∙ (λ i. places_after (c.last_table-before.ensures i) (c.last_places-places.ensures i) c.args.table.now))))
+    ∙ ap (λ (ps : List ℕ). places_of c.args.planned.now.tables ++ ps ∷ []) (sym (h ∙ (λ i. places_after (c.last.ensures.table i) (c.last.ensures.places i) c.args.table.now))))
     c.places_beside.ensures

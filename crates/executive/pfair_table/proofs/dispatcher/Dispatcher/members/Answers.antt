@@ -1,12 +1,11 @@
-use Rattle.std.proofs.Common.{◌≡◌, ◌∙◌, ap, subst, false, length}
+use Rattle.std.proofs.Common.{◌≡◌, subst, false, length}
 use Rattle.pfair_replica.specs.HeldRows.{replica_of}
 use Rattle.pfair_replica.specs.Replica.{has_torn}
-use Rattle.pfair_admission.specs.Roster.{Roster}
 use Rattle.pfair_table.specs.Refinement.{Dispatch, members_after}
 use Rattle.pfair_table.proofs.Keeping.{step_now}
 use Rattle.pfair_table.proofs.dispatcher.Dispatcher.members.Goals as goal
 
 pub returns-clause-whole : goal.returns-clause-whole
 returns-clause-whole g c =
-    subst (λ (d : Dispatch). has_torn (replica_of d.held) ≡ false → c.members.result.now.members ≡ members_after d.settings (replica_of d.held) (length d.tables)) c.self.view_is
-    (λ test. ap (λ (r : Roster). r.members) c.members.ensures ∙ (step_now c.self.invariant.0 c.processors.ensures.rows.entries test c.if-self.false).members_are)
+    subst (λ (d : Dispatch). has_torn (replica_of d.held) ≡ false → c.self.inside.planner.members.members ≡ members_after d.settings (replica_of d.held) (length d.tables)) c.self.view_is
+    (λ test. (step_now c.self.invariant.0 c.processors.ensures.rows.entries test c.if-self.false).members_are)

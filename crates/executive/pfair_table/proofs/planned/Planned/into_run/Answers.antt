@@ -8,7 +8,7 @@ use Rattle.pfair_table.proofs.planned.Planned.into_run.Goals as goal
 
 pub returns-clause-tables : goal.returns-clause-tables
 returns-clause-tables c =
-    let table = λ (s : PlannedSlot). s.table.items in
+    let table = λ (s : PlannedSlot). s.plan.table.items in
     let same : map table c.in_ok-into_list.field-0.items ≡ drop c.args.self.forgotten c.args.self.tables =
     ap (map table) c.in_ok-into_list.ensures
     ∙ sym (drop-map table c.self.inside.slots.forgotten c.self.inside.slots.items)
