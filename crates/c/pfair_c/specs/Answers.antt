@@ -1,6 +1,14 @@
 -- What the calls of the C library answer.
 use Rattle.std.specs.Prelude.{ℕ, zero, suc, ◌+◌, ◌≡◌, ◌≤◌, false, ◌&&◌, nat_eq, nat_lt, nat_le, if◌then◌else◌}
 use Rattle.std.specs.declared.option.Option.TheVariants.{None, Some}
+use Rattle.pfair_lattice.specs.Held.{Held}
+use Rattle.pfair_entry.specs.Entry.{Logged}
+use Rattle.pfair_replica.specs.HeldRows.{held, replica_of, SameShape}
+use Rattle.pfair_replica.specs.Offered.{taken}
+use Rattle.pfair_replica.specs.Faults.{IsKeyOf, IsTakenAs, IsTakeFaultOf, IsMergeFaultOf}
+use Rattle.pfair_replica.specs.declared.answer.TakeFault.{TakeFault}
+use Rattle.pfair_replica.specs.declared.answer.Taken.TheVariants.{New, Known, Torn as TornNumber}
+use Rattle.pfair_replica.specs.declared.answer.MergeFault.TheVariants.{Memory as OutOfMemory}
 use Rattle.pfair_table.specs.Refinement.{Dispatch, course_of, IsStepOf, IsPlanFault, after_fault}
 use Rattle.pfair_table.specs.declared.answer.Step.TheVariants.{Planned, Waiting, Done}
 use Rattle.pfair_table.specs.declared.answer.PlanFault.TheVariants.{Torn}
@@ -10,6 +18,9 @@ use Rattle.pfair_table.specs.Table.{Settings}
 use Rattle.pfair_table.specs.Limits.{IsSettings}
 use Rattle.pfair_table.specs.Events.{start, happens}
 use Rattle.pfair_handle.specs.Kept.{Kept}
+use Rattle.pfair_handle.specs.Behind.{Of, Between, IsAbsorbedTo, IsPartlyAbsorbedTo}
+use Rattle.pfair_handle.specs.Entries.{logged_of, IsMeant}
+use Rattle.pfair_handle.specs.declared.entry.PfairEntry.{PfairEntry}
 use Rattle.pfair_handle.specs.Planning.{IsPlannedOn, IsStopOf}
 use Rattle.pfair_c.specs.declared.plan.PfairStep.{PfairStep}
 
@@ -38,6 +49,35 @@ IsOpenable s capacity = IsSettings s × (1 ≤ capacity) × (capacity ≤ 4096)
 abbrev pub IsStarted : Settings → ℕ → Kept → Type 0
 IsStarted s capacity None = ⊥
 IsStarted s capacity (Some x) = (course_of x.dispatcher ≡ start s capacity) × (x.dispatcher.spent ≡ false) × (x.dispatcher.settings ≡ s)
+
+-- ---- what is held
+
+-- how an entry was taken at a key that held this, as C has it
+abbrev pub IsTakenHow : (how : ℕ) → Held Logged → Logged → Type 0
+IsTakenHow zero before e = IsTakenAs before e New
+IsTakenHow (suc zero) before e = IsTakenAs before e Known
+IsTakenHow (suc (suc zero)) before e = IsTakenAs before e TornNumber
+IsTakenHow (suc (suc (suc n))) before e = ⊥
+
+-- the dispatcher d took this for entry n of the log of processor k, and is d' then
+pub record IsTakenFor (k n : ℕ) (entry : PfairEntry) (how : ℕ) (d d' : Dispatch) : Type 0 where
+  pub meant : IsMeant entry
+  pub key : IsKeyOf d.held k n
+  pub met : IsTakenHow how (held d.held k n) (logged_of entry)
+  pub offered : replica_of d'.held ≡ taken (replica_of d.held) k n (logged_of entry)
+  pub rest : d' ≡ record d { held = d'.held }
+
+-- this is an entry, and the dispatcher doesn't take it for entry n of the log of processor k
+abbrev pub IsRefusedFor : TakeFault → (k n : ℕ) → PfairEntry → Kept → Type 0
+IsRefusedFor f k n entry x = IsMeant entry × Of x (λ d. IsTakeFaultOf d.held k n f)
+
+-- the dispatchers x and o have logs alike, and x takes all that o holds, and is y then
+abbrev pub IsJoinedTo : (x o y : Kept) → Type 0
+IsJoinedTo x o y = Between x o (λ d e. SameShape d.held e.held) × IsAbsorbedTo x o y
+
+-- an allocation failed as x took what o holds; it took a part of that, and is y then
+abbrev pub IsPartlyJoinedTo : (x o y : Kept) → Type 0
+IsPartlyJoinedTo x o y = Between x o (λ d e. IsMergeFaultOf d.held e.held OutOfMemory) × IsPartlyAbsorbedTo x o y
 
 -- a step as C has it: by its kind and its slot
 abbrev pub IsStepAs : Dispatch → ℕ → ℕ → Type 0
