@@ -1,4 +1,5 @@
 pub mod Answers
 pub mod Files
 pub mod Held
+pub mod Open
 pub mod Rows

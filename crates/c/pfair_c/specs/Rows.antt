@@ -1,13 +1,12 @@
 -- What the calls answer that write rows, where there is a dispatcher.
-use Rattle.std.specs.Prelude.{ℕ, ◌≡◌, Bool, ◌&&◌, ◌||◌, List, length, map, min, nat_eq, nat_le, nat_lt, slice_get, Option, if◌then◌else◌}
+use Rattle.std.specs.Prelude.{ℕ, ◌≡◌, ◌≤◌, ◌<◌, Bool, ◌&&◌, ◌||◌, nat_eq, nat_le, nat_lt, min, if◌then◌else◌}
+use Rattle.std.specs.Prelude.{List, length, map, slice_get, Option}
 use Rattle.std.specs.declared.option.Option.TheVariants.{None, Some}
-use Rattle.pfair_table.specs.Table.{Table}
 use Rattle.pfair_handle.specs.declared.quanta.PfairQuantum.{PfairQuantum}
-use Rattle.pfair_table.specs.declared.pick.Decided.{Decided}
 use Rattle.pfair_handle.specs.declared.decisions.PfairDecision.{PfairDecision}
 use Rattle.pfair_handle.specs.Rows.{written_over, quanta_of, decisions_of}
 use Rattle.pfair_handle.specs.declared.lags.PfairLag.{PfairLag}
-use Rattle.pfair_handle.specs.Lags.{lags_of}
+use Rattle.pfair_handle.specs.Lags.{lags_of, IsPartlyLaid}
 use Rattle.pfair_admission.specs.Member.{Member}
 use Rattle.pfair_table.specs.Refinement.{Dispatch}
 use Rattle.pfair_handle.specs.declared.members.PfairMember.{PfairMember}
@@ -46,8 +45,9 @@ places_after None rows = rows
 places_after (Some places) rows = if nat_le (length places) (length rows) then written_over places rows else rows
 
 -- the quanta of the slots `from` to `to` - 1, where all of these are planned, and none is forgotten
-abbrev pub quanta_between : (forgotten : ℕ) → List Table → (from to : ℕ) → Option (List PfairQuantum)
-quanta_between forgotten tables from to = if are_told forgotten (length tables) from to then Some (quanta_of tables from to) else None
+abbrev pub quanta_between : Dispatch → (from to : ℕ) → Option (List PfairQuantum)
+quanta_between d from to =
+    if are_told d.forgotten (length d.tables) from to then Some (quanta_of d.tables from to) else None
 
 -- rows as they are, over the first ones, where there are enough
 abbrev pub rows_laid : {B : Type 0} → Option (List B) → List B → List B
@@ -55,17 +55,24 @@ rows_laid None rows = rows
 rows_laid (Some laid) rows = if nat_le (length laid) (length rows) then written_over laid rows else rows
 
 -- the decisions of the slots `from` to `to` - 1, where all of these are planned, and none is forgotten
-abbrev pub decisions_between : (forgotten : ℕ) → List (List Decided) → (from to : ℕ) → Option (List PfairDecision)
-decisions_between forgotten decided from to = if are_told forgotten (length decided) from to then Some (decisions_of decided from to) else None
+abbrev pub decisions_between : Dispatch → (from to : ℕ) → Option (List PfairDecision)
+decisions_between d from to =
+    if are_told d.forgotten (length d.decided) from to then Some (decisions_of d.decided from to) else None
 
 -- how many are wanted, as far as 64 bits can say it
 abbrev pub rows_counted : {A : Type 0} → Option (List A) → ℕ → ℕ
 rows_counted None count = count
 rows_counted (Some planned) count = min (length planned) 18446744073709551615
 
--- the lags after each of the slots `from` to `to` - 1, where all of these are planned, and no slot is forgotten: they count from slot 0 on
-abbrev pub lags_between : (forgotten : ℕ) → List (List Decided) → List Table → (from to : ℕ) → Option (List PfairLag)
-lags_between forgotten decided tables from to = if are_counted forgotten (length tables) from to then Some (lags_of decided tables from to) else None
+-- the lags after each of the slots `from` to `to` - 1, if these are planned, and no slot is forgotten: they count from slot 0 on
+abbrev pub lags_between : Dispatch → (from to : ℕ) → Option (List PfairLag)
+lags_between d from to =
+    if are_counted d.forgotten (length d.tables) from to then Some (lags_of d.decided d.tables from to) else None
+
+-- an allocation failed: the lags of some first slots stand over the first rows
+abbrev pub IsLaidInPart : (from to : ℕ) → (old new : List PfairLag) → Dispatch → Type 0
+IsLaidInPart from to old new d =
+    (from < to) × (to ≤ length d.tables) × (d.forgotten ≡ 0) × IsPartlyLaid d.decided d.tables from to old new
 
 -- the members after the planned slots are told
 pub record AreMembersTold (d : Dispatch) (answer count : ℕ) (old new : List PfairMember) : Type 0 where

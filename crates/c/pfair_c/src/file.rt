@@ -11,25 +11,25 @@ use pfair_table::{Script, take_script};
 use pfair_text::LONGEST_FILE;
 use std::alloc::Global;
 
-/// Where a task file is at fault.
+/// The place of a task file's fault.
 #[repr(C)]
 #[derive(Clone, Copy)]
 pub struct PfairFileFault {
     /// After 61 to 63 the number of the entry's table in the file, counted from 1, or 0 for the
     /// file's own keys; else 0.
     pub place: u64,
-    /// After 61 to 63 which key: 1 to 15, in the order in which [`Field`] has them; else 0.
+    /// After 61 to 63 the key: 1 to 15, in the order of [`Field`]; else 0.
     pub field: u64,
     /// After 64 the processor, counted from 0; else 0.
     pub processor: u64,
     /// After 64 the number that the entry would have in its log, counted from 1; else 0.
     pub number: u64,
-    /// After 64 why there is no such entry: 12 where the log is full, or what is wrong with it, 1
-    /// to 10; else 0.
+    /// After 64 why there is no such entry: 12 if the log is full, or 1 to 10 for what is wrong with
+    /// it; else 0.
     pub cause: u64,
 }
 
-// Where there is no place.
+// No place.
 const NOWHERE: PfairFileFault = PfairFileFault {
     place: 0,
     field: 0,
@@ -38,13 +38,12 @@ const NOWHERE: PfairFileFault = PfairFileFault {
     cause: 0,
 };
 
-/// Makes a dispatcher behind a handle that has none, with the settings of a task file, which has
-/// taken all entries of the file's logs and planned nothing. Its logs have room for as many entries
-/// as the longest of the file. It costs what [`read_file`] and [`take_script`] cost.
+/// Opens a dispatcher with the settings of a task file, which has taken all entries of the file's
+/// logs and planned nothing. Its logs have room for as many entries as the longest of the file.
 ///
-/// It answers 0; 101 where the handle has a dispatcher; 66 where there are more than [`LONGEST_FILE`]
-/// bytes; 60 to 65 for the file's first fault, and then it writes where that is; or 90. The handle is
-/// as before but after 0.
+/// Answers 0; 101 if the handle has a dispatcher; 66 if there are more than [`LONGEST_FILE`] bytes; 60
+/// to 65 for the file's first fault, whose place is written; 90 if an allocation fails. The handle is
+/// as before except after 0. Costs what [`read_file`] and [`take_script`] cost.
 #[unsafe(no_mangle)]
 pub extern "C" fn pfair_read_file(
     alloc: Global,
@@ -76,7 +75,7 @@ pub extern "C" fn pfair_read_file(
     }
 }
 
-// Puts a dispatcher that has taken a script's logs behind a handle that has none.
+// Opens a dispatcher that has taken a script's logs.
 fn keep(alloc: Global, handle: &mut Handle, script: &Script) -> u32
     requires { handle.old.owner.kept ≡ None }
     ensures done { result ≡ 0 → Of handle.new.owner.kept (IsStartedWith script.now) }
@@ -95,7 +94,7 @@ fn keep(alloc: Global, handle: &mut Handle, script: &Script) -> u32
     }
 }
 
-// Where the fault is, as C has it.
+// The place of the fault, as C has it.
 fn fault_row(fault: FileFault) -> PfairFileFault
     ensures { result ≡ fault_row fault }
 {
@@ -119,7 +118,7 @@ fn fault_row(fault: FileFault) -> PfairFileFault
     }
 }
 
-// At a key.
+// The place at a key.
 fn at_key(place: u64, field: Field) -> PfairFileFault
     ensures { result ≡ at_key place field }
 {
@@ -130,7 +129,7 @@ fn at_key(place: u64, field: Field) -> PfairFileFault
     }
 }
 
-// Under which number a key is told.
+// The number of a key.
 fn field_number(field: Field) -> u64
     ensures { result ≡ field_number field }
 {

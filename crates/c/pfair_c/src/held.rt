@@ -1,17 +1,20 @@
 //! What a dispatcher holds, and what it plans for.
-ghost use Rattle.std.specs.Prelude.{◌≡◌, ◌≢◌, ◌≤◌, ◌⊎◌, [], ◌++◌, Some, None, true, length};
+ghost use Rattle.std.specs.Prelude.{◌≡◌, ◌≢◌, ◌≤◌, ◌⊎◌, [], ◌++◌, Some, None, true, length, unwrap_or};
 ghost use Rattle.pfair_replica.specs.HeldRows.{held, replica_of};
 ghost use Rattle.pfair_replica.specs.Replica.{Below, mark, missing, sound_beginning, torn_keys, fallen_keys};
 ghost use Rattle.pfair_handle.specs.Kept.{is_kept};
 ghost use Rattle.pfair_handle.specs.Rows.{key_row};
 ghost use Rattle.pfair_handle.specs.Behind.{Of, Between};
-ghost use Rattle.pfair_c.specs.Held.{log_answer, key_answer, held_kind, entry_after, number_or_0, faulty_keys, settings_row};
+ghost use Rattle.pfair_c.specs.Held.{log_answer, key_answer, held_kind, entry_after, faulty_keys, settings_row};
 ghost use Rattle.pfair_c.specs.Rows.{rows_answer, rows_after};
 
+use crate::open::read_open;
 use pfair_handle::answer::{DONE, MEMORY, NO_ROOM, NO_SUCH_NUMBER, NO_SUCH_PROCESSOR, NOT_OPEN};
 use pfair_handle::{Handle, PfairEntry, PfairKey, entry_row, write_faults};
 use pfair_lattice::Flat;
+use pfair_ready::HeapReady;
 use pfair_replica::{Faults, Replica};
+use pfair_table::Dispatcher;
 use std::alloc::Global;
 
 /// What a dispatcher plans for, and how large its logs can be.
@@ -28,9 +31,9 @@ pub struct PfairSettings {
     pub capacity: u64,
 }
 
-/// What was said where the dispatcher was opened.
+/// Writes the settings with which the dispatcher was opened.
 ///
-/// It answers 0, or 102 where the handle has no dispatcher, and then nothing is written.
+/// Answers 0; or 102 if the handle has no dispatcher, and then nothing is written.
 #[unsafe(no_mangle)]
 pub extern "C" fn pfair_settings(
     alloc: Global,
@@ -44,24 +47,15 @@ pub extern "C" fn pfair_settings(
     if !handle.is_open() {
         return NOT_OPEN;
     }
-    let served = handle.take(alloc);
-    let planned_for = served.dispatcher.settings();
-    *settings = PfairSettings {
-        processors: planned_for.processors() as u64,
-        frame: planned_for.frame(),
-        slots: planned_for.slots(),
-        capacity: served.dispatcher.replica().capacity() as u64,
-    };
-    handle.put(served);
+    *settings = read_open(alloc, handle, |dispatcher| settings_row(dispatcher));
     DONE
 }
 
-/// What is held at number `number` (from 1) of the log of `processor` (from 0): 0 nothing, 1 one
-/// entry, which is then written, 2 two different ones, so that the number is torn. It costs a
-/// look-up.
+/// Writes what is held at number `number` (from 1) of the log of `processor` (from 0): 0 nothing, 1
+/// an entry, which is written too, or 2 if the number is torn. Costs a look-up.
 ///
-/// It answers 0; 102 where the handle has no dispatcher; 13 or 14 where there is no such processor
-/// or number: then nothing is written.
+/// Answers 0; 102 if the handle has no dispatcher; 13 or 14 if there is no such processor or number:
+/// then nothing is written.
 #[unsafe(no_mangle)]
 pub extern "C" fn pfair_held(
     alloc: Global,
@@ -87,11 +81,11 @@ pub extern "C" fn pfair_held(
     answer
 }
 
-/// How far a processor has committed itself: the floor of the last entry of its sound beginning,
-/// and how many entries that has. Both are kept, not counted.
+/// Writes the mark of a processor, the floor of the last entry of its sound beginning, and how many
+/// entries that has. O(1).
 ///
-/// It answers 0; 102 where the handle has no dispatcher; 13 where there is no such processor: then
-/// nothing is written.
+/// Answers 0; 102 if the handle has no dispatcher; 13 if there is no such processor: then nothing is
+/// written.
 #[unsafe(no_mangle)]
 pub extern "C" fn pfair_mark(
     alloc: Global,
@@ -121,11 +115,11 @@ pub extern "C" fn pfair_mark(
     if has_log { DONE } else { NO_SUCH_PROCESSOR }
 }
 
-/// The least number of a processor's log that isn't held, or 0 where all are. It costs a look-up
-/// for each number up to that one.
+/// Writes the least number of a processor's log at which nothing is held, or 0 if there is none.
+/// Costs a look-up for each number up to that one.
 ///
-/// It answers 0; 102 where the handle has no dispatcher; 13 where there is no such processor: then
-/// nothing is written.
+/// Answers 0; 102 if the handle has no dispatcher; 13 if there is no such processor: then nothing is
+/// written.
 #[unsafe(no_mangle)]
 pub extern "C" fn pfair_missing(
     alloc: Global,
@@ -135,7 +129,7 @@ pub extern "C" fn pfair_missing(
 ) -> u32
     ensures closed { handle.old.owner.kept ≡ None → result ≡ 102 }
     ensures answer { is_kept handle.old.owner.kept ≡ true → Of handle.old.owner.kept (λ d. result ≡ log_answer d.held processor) }
-    ensures number { result ≡ 0 → Of handle.old.owner.kept (λ d. number.new ≡ number_or_0 (missing (replica_of d.held) processor)) }
+    ensures number { result ≡ 0 → Of handle.old.owner.kept (λ d. number.new ≡ unwrap_or (missing (replica_of d.held) processor) 0) }
     ensures untold { (result ≡ 0 → ⊥) → number.new ≡ number.old }
     ensures unchanged { handle.new.owner.kept ≡ handle.old.owner.kept }
 {
@@ -146,21 +140,18 @@ pub extern "C" fn pfair_missing(
     let replica = served.dispatcher.replica();
     let has_log = processor < replica.processors();
     if has_log {
-        *number = match replica.missing(processor) {
-            Some(number) => number as u64,
-            None => 0,
-        };
+        *number = replica.missing(processor).unwrap_or(0) as u64;
     }
     handle.put(served);
     if has_log { DONE } else { NO_SUCH_PROCESSOR }
 }
 
-/// What is wrong with the logs that are held: the keys that are torn, and after these the entries
-/// that end a sound beginning because their floor is lower. It costs a look-up for each number
+/// Writes what is wrong with the logs that are held: the keys that are torn, and after these the
+/// entries that end a sound beginning because their floor is lower. Costs a look-up for each number
 /// of each log.
 ///
-/// It answers 0 with the two counts and the keys; 102 where the handle has no dispatcher; 103 with
-/// the counts where there are fewer rows than keys; or 90. Nothing else is written.
+/// Answers 0 with the two counts and the keys; 102 if the handle has no dispatcher; 103 with the
+/// counts, if there are fewer rows than keys; 90 if an allocation fails. Nothing else is written.
 #[unsafe(no_mangle)]
 pub extern "C" fn pfair_faults(
     alloc: Global,
@@ -169,8 +160,9 @@ pub extern "C" fn pfair_faults(
     fallen: &mut u64,
     rows: &mut [PfairKey],
 ) -> u32
-    ensures closed { handle.old.owner.kept ≡ None → (result ≡ 102) × (torn.new ≡ torn.old) × (fallen.new ≡ fallen.old) × (rows.new ≡ rows.old) }
-    ensures memory { result ≡ 90 → (torn.new ≡ torn.old) × (fallen.new ≡ fallen.old) × (rows.new ≡ rows.old) × Of handle.old.owner.kept (λ d. (torn_keys (replica_of d.held) ≢ []) ⊎ (fallen_keys (replica_of d.held) ≢ [])) }
+    ensures closed { handle.old.owner.kept ≡ None → result ≡ 102 }
+    ensures untold { (result ≡ 90) ⊎ (result ≡ 102) → (torn.new ≡ torn.old) × (fallen.new ≡ fallen.old) × (rows.new ≡ rows.old) }
+    ensures memory { result ≡ 90 → Of handle.old.owner.kept (λ d. (torn_keys (replica_of d.held) ≢ []) ⊎ (fallen_keys (replica_of d.held) ≢ [])) }
     ensures answer { is_kept handle.old.owner.kept ≡ true → (result ≡ 90 → ⊥) → Of handle.old.owner.kept (λ d. result ≡ rows_answer (Some (faulty_keys d)) (length rows.old)) }
     ensures torn { is_kept handle.old.owner.kept ≡ true → (result ≡ 90 → ⊥) → Of handle.old.owner.kept (λ d. torn.new ≡ length (torn_keys (replica_of d.held))) }
     ensures fallen { is_kept handle.old.owner.kept ≡ true → (result ≡ 90 → ⊥) → Of handle.old.owner.kept (λ d. fallen.new ≡ length (fallen_keys (replica_of d.held))) }
@@ -180,19 +172,16 @@ pub extern "C" fn pfair_faults(
     if !handle.is_open() {
         return NOT_OPEN;
     }
-    let served = handle.take(alloc);
-    let found = served.dispatcher.replica().faults();
-    handle.put(served);
-    match found {
+    match read_open(alloc, handle, |dispatcher| dispatcher.replica().faults()) {
         Ok(faults) => copy_faults(faults, torn, fallen, rows),
         Err(_) => MEMORY,
     }
 }
 
-/// Whether the other holds all that this dispatcher holds: each key, with the same entry or torn.
-/// It costs a look-up there for each entry that is held here.
+/// Writes 1 if the other dispatcher holds all that this one holds, each key with the same entry or
+/// torn, and else 0. Costs a look-up there for each entry that is held here.
 ///
-/// It answers 0 with 1 or 0, or 102 where a handle has no dispatcher, and then nothing is written.
+/// Answers 0; or 102 if a handle has no dispatcher, and then nothing is written.
 #[unsafe(no_mangle)]
 pub extern "C" fn pfair_below(
     alloc: Global,
@@ -215,7 +204,20 @@ pub extern "C" fn pfair_below(
     DONE
 }
 
-/// 13 where a replica has no such processor, 14 where no log of it has such a number, else 0.
+// The settings as C has them.
+fn settings_row(dispatcher: &Dispatcher<HeapReady>) -> PfairSettings
+    ensures { result ≡ settings_row dispatcher.now }
+{
+    let planned_for = dispatcher.settings();
+    PfairSettings {
+        processors: planned_for.processors() as u64,
+        frame: planned_for.frame(),
+        slots: planned_for.slots(),
+        capacity: dispatcher.replica().capacity() as u64,
+    }
+}
+
+/// Returns 13 if a replica has no such processor, 14 if no log of it has such a number, else 0.
 pub(crate) fn key_answer(replica: &Replica, processor: u8, number: u32) -> u32
     ensures { result ≡ key_answer replica.now processor number }
 {
@@ -228,7 +230,7 @@ pub(crate) fn key_answer(replica: &Replica, processor: u8, number: u32) -> u32
     DONE
 }
 
-// What a replica holds at a key, and the entry where it is one.
+// Writes what a replica holds at a key, and the entry if it is one.
 fn find_held(
     replica: &Replica,
     processor: u8,
@@ -256,7 +258,7 @@ fn find_held(
     DONE
 }
 
-// The counts and, where there is room, the keys.
+// Writes the counts and, if there is room, the keys.
 fn copy_faults(faults: Faults, torn: &mut u64, fallen: &mut u64, rows: &mut [PfairKey]) -> u32
     ensures answer { result ≡ rows_answer (Some (faults.torn.items ++ faults.fallen.items)) (length rows.old) }
     ensures torn { torn.new ≡ length faults.torn.items }

@@ -1,11 +1,11 @@
 //! The lags in several slots, in rows.
-ghost use Rattle.std.specs.Prelude.{◌≡◌, ◌≤◌, ◌<◌, None, true, length};
+ghost use Rattle.std.specs.Prelude.{◌≡◌, None, true, length};
 ghost use Rattle.pfair_handle.specs.Kept.{is_kept};
 ghost use Rattle.pfair_handle.specs.Behind.{Of};
-ghost use Rattle.pfair_handle.specs.Lags.{IsPartlyLaid};
-ghost use Rattle.pfair_c.specs.Rows.{lags_between, rows_answer, rows_counted, rows_laid};
+ghost use Rattle.pfair_c.specs.Rows.{IsLaidInPart, lags_between, rows_answer, rows_counted, rows_laid};
 
-use pfair_handle::answer::{DONE, MEMORY, NO_ROOM, NOT_OPEN, NOT_PLANNED};
+use crate::open::tell_rows;
+use pfair_handle::answer::{DONE, MEMORY, NO_ROOM, NOT_PLANNED};
 use pfair_handle::{Handle, PfairLag, count_lags, write_lags};
 use pfair_ready::HeapReady;
 use pfair_table::Dispatcher;
@@ -13,14 +13,13 @@ use std::alloc::Global;
 
 /// Writes the lags in the planned slots `from` to `to` - 1: after each slot t a row for each task
 /// that is admitted and not departing after the boundary of t, in the order of admission, with its
-/// lag at the time t + 1; none where `from` isn't below `to`. It costs the rows, and twice what it
-/// costs to tell a book of lags the slots 0 to `to` - 1, their decisions and their quanta. It takes
-/// memory for that book.
+/// lag at the time t + 1.
 ///
-/// It answers 0 with the number of rows and the rows; 102 where the handle has no dispatcher; 104
-/// where slot `to` - 1 isn't planned, or any slot is forgotten; 90: then the rows of some first slots
-/// may be written; or 103 with the number of rows that are wanted, where there are fewer. Nothing else
-/// is written.
+/// Answers 0 with the number of rows and the rows (none if `from` isn't below `to`); 102 if the
+/// handle has no dispatcher; 104 if slot `to` - 1 isn't planned, or any slot is forgotten; 90 if an
+/// allocation fails: then the rows of some first slots may be written; 103 with the number of rows
+/// wanted, if there are fewer. Nothing else is written. O(rows), and twice the decisions and quanta of
+/// the slots 0 to `to` - 1, of which a book of lags is kept.
 #[unsafe(no_mangle)]
 pub extern "C" fn pfair_lags(
     alloc: Global,
@@ -31,19 +30,15 @@ pub extern "C" fn pfair_lags(
     rows: &mut [PfairLag],
 ) -> u32
     ensures closed { handle.old.owner.kept ≡ None → (result ≡ 102) × (count.new ≡ count.old) × (rows.new ≡ rows.old) }
-    ensures answer { is_kept handle.old.owner.kept ≡ true → (result ≡ 90 → ⊥) → Of handle.old.owner.kept (λ d. result ≡ rows_answer (lags_between d.forgotten d.decided d.tables from to) (length rows.old)) }
-    ensures count { is_kept handle.old.owner.kept ≡ true → (result ≡ 90 → ⊥) → Of handle.old.owner.kept (λ d. count.new ≡ rows_counted (lags_between d.forgotten d.decided d.tables from to) count.old) }
-    ensures rows { is_kept handle.old.owner.kept ≡ true → (result ≡ 90 → ⊥) → Of handle.old.owner.kept (λ d. rows.new ≡ rows_laid (lags_between d.forgotten d.decided d.tables from to) rows.old) }
-    ensures memory { result ≡ 90 → (count.new ≡ count.old) × (from < to) × Of handle.old.owner.kept (λ d. (to ≤ length d.tables) × (d.forgotten ≡ 0) × IsPartlyLaid d.decided d.tables from to rows.old rows.new) }
+    ensures answer { is_kept handle.old.owner.kept ≡ true → (result ≡ 90 → ⊥) → Of handle.old.owner.kept (λ d. result ≡ rows_answer (lags_between d from to) (length rows.old)) }
+    ensures count { is_kept handle.old.owner.kept ≡ true → (result ≡ 90 → ⊥) → Of handle.old.owner.kept (λ d. count.new ≡ rows_counted (lags_between d from to) count.old) }
+    ensures rows { is_kept handle.old.owner.kept ≡ true → (result ≡ 90 → ⊥) → Of handle.old.owner.kept (λ d. rows.new ≡ rows_laid (lags_between d from to) rows.old) }
+    ensures memory { result ≡ 90 → (count.new ≡ count.old) × Of handle.old.owner.kept (IsLaidInPart from to rows.old rows.new) }
     ensures unchanged { handle.new.owner.kept ≡ handle.old.owner.kept }
 {
-    if !handle.is_open() {
-        return NOT_OPEN;
-    }
-    let served = handle.take(alloc);
-    let answer = copy_lags(alloc, &served.dispatcher, from, to, count, rows);
-    handle.put(served);
-    answer
+    tell_rows(alloc, handle, count, rows, |dispatcher, count, rows| {
+        copy_lags(alloc, dispatcher, from, to, count, rows)
+    })
 }
 
 fn copy_lags(
@@ -54,10 +49,10 @@ fn copy_lags(
     count: &mut u64,
     rows: &mut [PfairLag],
 ) -> u32
-    ensures answer { (result ≡ 90 → ⊥) → result ≡ rows_answer (lags_between dispatcher.now.forgotten dispatcher.now.decided dispatcher.now.tables from to) (length rows.old) }
-    ensures count { (result ≡ 90 → ⊥) → count.new ≡ rows_counted (lags_between dispatcher.now.forgotten dispatcher.now.decided dispatcher.now.tables from to) count.old }
-    ensures rows { (result ≡ 90 → ⊥) → rows.new ≡ rows_laid (lags_between dispatcher.now.forgotten dispatcher.now.decided dispatcher.now.tables from to) rows.old }
-    ensures memory { result ≡ 90 → (count.new ≡ count.old) × (from < to) × (to ≤ length dispatcher.now.tables) × (dispatcher.now.forgotten ≡ 0) × IsPartlyLaid dispatcher.now.decided dispatcher.now.tables from to rows.old rows.new }
+    ensures answer { (result ≡ 90 → ⊥) → result ≡ rows_answer (lags_between dispatcher.now from to) (length rows.old) }
+    ensures count { (result ≡ 90 → ⊥) → count.new ≡ rows_counted (lags_between dispatcher.now from to) count.old }
+    ensures rows { (result ≡ 90 → ⊥) → rows.new ≡ rows_laid (lags_between dispatcher.now from to) rows.old }
+    ensures memory { result ≡ 90 → (count.new ≡ count.old) × IsLaidInPart from to rows.old rows.new dispatcher.now }
 {
     if to > dispatcher.next_slot() {
         return NOT_PLANNED;

@@ -1,8 +1,8 @@
 //! The Pfair executive for C: the windows of subtasks, and dispatchers behind handles.
 //! `include/pfair.h` declares each call.
 //!
-//! Each call is one of the crates below, asked through a handle; it tests all that C's types leave
-//! open, and answers by a number.
+//! Each call checks all that C's types leave open, hands on to the crates below, and answers by a
+//! number.
 #![tactic(auto)]
 
 mod decisions;
@@ -11,6 +11,7 @@ mod file;
 mod held;
 mod lags;
 mod members;
+mod open;
 mod plan;
 mod plan_to;
 mod quanta;

@@ -1,24 +1,24 @@
 //! What was planned, in rows.
 //!
-//! Each call answers 0 with the number of rows and the rows; 102 where the handle has no
-//! dispatcher; 104 where the slot isn't planned, or is forgotten; or 103 with the number of rows that
-//! are wanted, where there are fewer. Nothing else is written.
-ghost use Rattle.std.specs.Prelude.{◌≡◌, ◌≤◌, ◌<◌, None, true, length};
-ghost use Rattle.std.specs.Option.{option_map};
+//! Each call answers 0 with the number of rows and the rows; 102 if the handle has no dispatcher; 104
+//! if the slot isn't planned, or is forgotten; 103 with the number of rows wanted, if there are fewer.
+//! Nothing else is written.
+ghost use Rattle.std.specs.Prelude.{◌≡◌, ◌≤◌, ◌<◌, None, true, length, nat_le, if◌then◌else◌};
+ghost use Rattle.std.specs.Fn.{FnOnceTakesAtMut, FnOnceReturnsAtMut};
 ghost use Rattle.pfair_table.specs.Places.{places_of};
 ghost use Rattle.pfair_handle.specs.Kept.{is_kept};
 ghost use Rattle.pfair_handle.specs.Rows.{pick_row, decided_row};
 ghost use Rattle.pfair_handle.specs.Behind.{Of};
 ghost use Rattle.pfair_c.specs.Rows.{are_told, rows_answer, rows_count, rows_after, places_after, told_at};
 
-use pfair_handle::answer::{DONE, NO_ROOM, NOT_OPEN, NOT_PLANNED};
+use crate::open::tell_rows;
+use pfair_handle::answer::{DONE, NO_ROOM, NOT_PLANNED};
 use pfair_handle::{Handle, PfairDecided, PfairPick, write_decisions, write_places, write_table};
 use pfair_ready::HeapReady;
-use pfair_table::{Decided, Dispatcher, Pick, Settings};
+use pfair_table::{Dispatcher, Settings};
 use std::alloc::Global;
 
-/// Writes the table of a planned slot, row by row in the PD2 order, and the number of rows. It
-/// costs that number.
+/// Writes the table of a planned slot, in the PD2 order. O(rows).
 #[unsafe(no_mangle)]
 pub extern "C" fn pfair_table(
     alloc: Global,
@@ -33,17 +33,20 @@ pub extern "C" fn pfair_table(
     ensures rows { is_kept handle.old.owner.kept ≡ true → Of handle.old.owner.kept (λ d. rows.new ≡ rows_after pick_row (told_at d.forgotten d.tables slot) rows.old) }
     ensures unchanged { handle.new.owner.kept ≡ handle.old.owner.kept }
 {
-    if !handle.is_open() {
-        return NOT_OPEN;
-    }
-    let served = handle.take(alloc);
-    let answer = copy_table(served.dispatcher.table(slot), count, rows);
-    handle.put(served);
-    answer
+    tell_rows(alloc, handle, count, rows, |dispatcher, count, rows| {
+        let Some(table) = dispatcher.table(slot) else {
+            return NOT_PLANNED;
+        };
+        lay_rows(
+            table.len() as u64,
+            count,
+            rows,
+            |rows| write_table(table, rows),
+        )
+    })
 }
 
-/// Writes the places of a planned slot: for each row of its table the processor that runs it. It
-/// costs the number of rows.
+/// Writes the places of a planned slot: for each row of its table the processor that runs it. O(rows).
 #[unsafe(no_mangle)]
 pub extern "C" fn pfair_places(
     alloc: Global,
@@ -58,17 +61,20 @@ pub extern "C" fn pfair_places(
     ensures rows { is_kept handle.old.owner.kept ≡ true → Of handle.old.owner.kept (λ d. rows.new ≡ places_after (told_at d.forgotten (places_of d.tables) slot) rows.old) }
     ensures unchanged { handle.new.owner.kept ≡ handle.old.owner.kept }
 {
-    if !handle.is_open() {
-        return NOT_OPEN;
-    }
-    let served = handle.take(alloc);
-    let answer = copy_places(served.dispatcher.places(slot), count, rows);
-    handle.put(served);
-    answer
+    tell_rows(alloc, handle, count, rows, |dispatcher, count, rows| {
+        let Some(places) = dispatcher.places(slot) else {
+            return NOT_PLANNED;
+        };
+        lay_rows(
+            places.len() as u64,
+            count,
+            rows,
+            |rows| write_places(places, rows),
+        )
+    })
 }
 
-/// Writes the decisions at the boundary of a planned slot, in the order of processor and number. It
-/// costs their number.
+/// Writes the decisions at the boundary of a planned slot, by processor and number. O(rows).
 #[unsafe(no_mangle)]
 pub extern "C" fn pfair_decisions(
     alloc: Global,
@@ -83,13 +89,17 @@ pub extern "C" fn pfair_decisions(
     ensures rows { is_kept handle.old.owner.kept ≡ true → Of handle.old.owner.kept (λ d. rows.new ≡ rows_after decided_row (told_at d.forgotten d.decided slot) rows.old) }
     ensures unchanged { handle.new.owner.kept ≡ handle.old.owner.kept }
 {
-    if !handle.is_open() {
-        return NOT_OPEN;
-    }
-    let served = handle.take(alloc);
-    let answer = copy_decisions(served.dispatcher.decisions(slot), count, rows);
-    handle.put(served);
-    answer
+    tell_rows(alloc, handle, count, rows, |dispatcher, count, rows| {
+        let Some(decided) = dispatcher.decisions(slot) else {
+            return NOT_PLANNED;
+        };
+        lay_rows(
+            decided.len() as u64,
+            count,
+            rows,
+            |rows| write_decisions(decided, rows),
+        )
+    })
 }
 
 /// Whether the slots `from` to `to` - 1 are planned, and none of them is forgotten.
@@ -102,50 +112,25 @@ pub(crate) fn are_told(dispatcher: &Dispatcher<HeapReady>, from: u64, to: u64) -
     to <= dispatcher.next_slot() && (to <= from || dispatcher.forgotten() <= from)
 }
 
-fn copy_table(table: Option<&[Pick]>, count: &mut u64, rows: &mut [PfairPick]) -> u32
-    ensures answer { result ≡ rows_answer (option_map (λ rows. rows.now) table.entry) (length rows.old) }
-    ensures count { count.new ≡ rows_count (option_map (λ rows. rows.now) table.entry) count.old }
-    ensures rows { rows.new ≡ rows_after pick_row (option_map (λ rows. rows.now) table.entry) rows.old }
+/// Writes `wanted` rows if there are as many, and notes in `count` how many are wanted.
+///
+/// Returns 0; or 103 if there are fewer rows, and then none is written.
+pub(crate) fn lay_rows<B, W: FnOnce(&mut [B])>(
+    wanted: u64,
+    count: &mut u64,
+    rows: &mut [B],
+    write: W,
+) -> u32
+    requires { wanted ≤ length rows.old → FnOnceTakesAtMut W.FnOnce write rows.old }
+    ensures answer { result ≡ (if nat_le wanted (length rows.old) then 0 else 103) }
+    ensures count { count.new ≡ wanted }
+    ensures written { wanted ≤ length rows.old → FnOnceReturnsAtMut W.FnOnce write rows.old tt rows.new }
+    ensures unwritten { length rows.old < wanted → rows.new ≡ rows.old }
 {
-    let Some(table) = table else {
-        return NOT_PLANNED;
-    };
-    *count = table.len() as u64;
-    if table.len() > rows.len() {
+    *count = wanted;
+    if wanted > rows.len() as u64 {
         return NO_ROOM;
     }
-    write_table(table, rows);
-    DONE
-}
-
-fn copy_places(places: Option<&[u8]>, count: &mut u64, rows: &mut [u8]) -> u32
-    ensures answer { result ≡ rows_answer (option_map (λ places. places.now) places.entry) (length rows.old) }
-    ensures count { count.new ≡ rows_count (option_map (λ places. places.now) places.entry) count.old }
-    ensures rows { rows.new ≡ places_after (option_map (λ places. places.now) places.entry) rows.old }
-{
-    let Some(places) = places else {
-        return NOT_PLANNED;
-    };
-    *count = places.len() as u64;
-    if places.len() > rows.len() {
-        return NO_ROOM;
-    }
-    write_places(places, rows);
-    DONE
-}
-
-fn copy_decisions(decided: Option<&[Decided]>, count: &mut u64, rows: &mut [PfairDecided]) -> u32
-    ensures answer { result ≡ rows_answer (option_map (λ rows. rows.now) decided.entry) (length rows.old) }
-    ensures count { count.new ≡ rows_count (option_map (λ rows. rows.now) decided.entry) count.old }
-    ensures rows { rows.new ≡ rows_after decided_row (option_map (λ rows. rows.now) decided.entry) rows.old }
-{
-    let Some(decided) = decided else {
-        return NOT_PLANNED;
-    };
-    *count = decided.len() as u64;
-    if decided.len() > rows.len() {
-        return NO_ROOM;
-    }
-    write_decisions(decided, rows);
+    write(rows);
     DONE
 }
