@@ -10,8 +10,10 @@ use Rattle.pfair_replica.specs.declared.answer.TakeFault.{TakeFault}
 use Rattle.pfair_replica.specs.declared.answer.Taken.TheVariants.{New, Known, Torn as TornNumber}
 use Rattle.pfair_replica.specs.declared.answer.MergeFault.TheVariants.{Memory as OutOfMemory}
 use Rattle.pfair_table.specs.Refinement.{Dispatch, course_of, IsStepOf, IsPlanFault, after_fault}
+use Rattle.pfair_table.specs.PlanFault.{plan_fault_number}
+use Rattle.pfair_table.specs.declared.answer.Step.{Step}
 use Rattle.pfair_table.specs.declared.answer.Step.TheVariants.{Planned, Waiting, Done}
-use Rattle.pfair_table.specs.declared.answer.PlanFault.TheVariants.{Torn}
+use Rattle.pfair_table.specs.declared.answer.PlanFault.TheVariants.{Torn, Spent, Memory}
 use Rattle.pfair_table.specs.declared.answer.PlanFault.{PlanFault}
 use Rattle.pfair_table.specs.declared.event.Event.TheVariants.{Plan}
 use Rattle.pfair_table.specs.Table.{Settings}
@@ -21,7 +23,7 @@ use Rattle.pfair_handle.specs.Kept.{Kept}
 use Rattle.pfair_handle.specs.Behind.{Of, Between, IsAbsorbedTo, IsPartlyAbsorbedTo}
 use Rattle.pfair_handle.specs.Entries.{logged_of, IsMeant}
 use Rattle.pfair_handle.specs.declared.entry.PfairEntry.{PfairEntry}
-use Rattle.pfair_handle.specs.Planning.{IsPlannedOn, IsStopOf}
+use Rattle.pfair_handle.specs.Planning.{IsPlannedOn, IsStopOf, IsStoppedBy, IsWhole}
 use Rattle.pfair_c.specs.declared.plan.PfairStep.{PfairStep}
 
 -- the answer of `pfair_window`: 4 to 6 where there is no such weight, 100 where the subtask or the offset is out of range
@@ -79,31 +81,43 @@ IsJoinedTo x o y = Between x o (λ d e. SameShape d.held e.held) × IsAbsorbedTo
 abbrev pub IsPartlyJoinedTo : (x o y : Kept) → Type 0
 IsPartlyJoinedTo x o y = Between x o (λ d e. IsMergeFaultOf d.held e.held OutOfMemory) × IsPartlyAbsorbedTo x o y
 
--- a step as C has it: by its kind and its slot
-abbrev pub IsStepAs : Dispatch → ℕ → ℕ → Type 0
-IsStepAs d zero slot = IsStepOf d (Planned slot)
-IsStepAs d (suc zero) slot = IsStepOf d (Waiting slot)
-IsStepAs d (suc (suc zero)) slot = (slot ≡ 0) × IsStepOf d Done
-IsStepAs d (suc (suc (suc n))) slot = ⊥
+-- ---- plans
 
--- the dispatcher d answered with this step, and is e then
-abbrev pub IsPlannedTo : PfairStep → Dispatch → Dispatch → Type 0
-IsPlannedTo step d e = IsStepAs d step.kind step.slot × (course_of e ≡ happens d.settings (course_of d) Plan)
+-- a step as C has it: by its kind and its slot, with no torn entry
+abbrev pub step_row : Step → PfairStep
+step_row (Planned slot) = record { kind = 0; slot = slot; processor = 0; number = 0 }
+step_row (Waiting from) = record { kind = 1; slot = from; processor = 0; number = 0 }
+step_row Done = record { kind = 2; slot = 0; processor = 0; number = 0 }
 
--- where several plans ended, as C has it: by the kind of the last step and its slot
-abbrev pub IsStopAs : ℕ → Dispatch → ℕ → ℕ → Type 0
-IsStopAs until e zero slot = IsStopOf until e (Planned slot)
-IsStopAs until e (suc zero) slot = IsStopOf until e (Waiting slot)
-IsStopAs until e (suc (suc zero)) slot = (slot ≡ 0) × IsStopOf until e Done
-IsStopAs until e (suc (suc (suc n))) slot = ⊥
+-- a fault as C has it: a torn entry, over what stood there, and else what stood there
+abbrev pub fault_row : PlanFault → PfairStep → PfairStep
+fault_row (Torn processor number) row = record row { processor = processor; number = number }
+fault_row Spent row = row
+fault_row Memory row = row
 
--- the dispatcher d planned on, answered with this step, and is e then
-abbrev pub IsPlannedUpTo : ℕ → PfairStep → Dispatch → Dispatch → Type 0
-IsPlannedUpTo until step d e = IsPlannedOn until d e × IsStopAs until e step.kind step.slot
+-- the row is that of a step of which this holds
+abbrev pub IsStepAs : PfairStep → (Step → Type 0) → Type 0
+IsStepAs row P = (s : Step) × (row ≡ step_row s) × P s
 
--- the dispatcher d refused for this cause, and is e then
-abbrev pub IsRefusedTo : PlanFault → Dispatch → Dispatch → Type 0
-IsRefusedTo f d e = IsPlanFault d f × (e ≡ after_fault d f)
+-- the answer and the row, before and after, are those of a fault of which this holds
+abbrev pub IsFaultAs : (answer : ℕ) → (old new : PfairStep) → (PlanFault → Type 0) → Type 0
+IsFaultAs answer old new P = (f : PlanFault) × (answer ≡ plan_fault_number f) × (new ≡ fault_row f old) × P f
 
-abbrev pub torn_at : PfairStep → PlanFault
-torn_at step = Torn step.processor step.number
+-- the dispatcher d planned as this step says, and is e then
+pub record IsPlannedTo (row : PfairStep) (d e : Dispatch) : Type 0 where
+  pub step : IsStepAs row (IsStepOf d)
+  pub whole : IsWhole d
+  pub course : course_of e ≡ happens d.settings (course_of d) Plan
+  pub rest : e ≡ record d { tables = e.tables; decided = e.decided }
+
+-- the dispatcher d refused a plan, and is e then
+abbrev pub IsRefusedTo : (answer : ℕ) → (old new : PfairStep) → Dispatch → Dispatch → Type 0
+IsRefusedTo answer old new d e = IsFaultAs answer old new (λ f. IsPlanFault d f × (e ≡ after_fault d f))
+
+-- the dispatcher d planned on to slot `until` - 1 or as far as it could, ended with this step, and is e then
+abbrev pub IsPlannedUpTo : (until : ℕ) → PfairStep → Dispatch → Dispatch → Type 0
+IsPlannedUpTo until row d e = IsPlannedOn until d e × IsStepAs row (IsStopOf until e)
+
+-- the dispatcher d planned on, refused a plan before slot `until` - 1 was planned, and is e then
+abbrev pub IsStoppedAt : (until answer : ℕ) → (old new : PfairStep) → Dispatch → Dispatch → Type 0
+IsStoppedAt until answer old new d e = IsFaultAs answer old new (λ f. IsStoppedBy until f d e)

@@ -13,7 +13,6 @@ mod lags;
 mod members;
 mod open;
 mod plan;
-mod plan_to;
 mod quanta;
 mod rows;
 mod take_log;
@@ -29,10 +28,9 @@ pub use held::{
 pub use lags::pfair_lags;
 pub use members::pfair_members;
 pub use plan::{
-    PfairStep, pfair_forget, pfair_frontier, pfair_next_slot, pfair_plan_next, pfair_reopen,
-    pfair_reserve,
+    PfairStep, pfair_forget, pfair_frontier, pfair_next_slot, pfair_plan_next, pfair_plan_to,
+    pfair_reopen, pfair_reserve,
 };
-pub use plan_to::pfair_plan_to;
 pub use quanta::pfair_quanta;
 pub use rows::{pfair_decisions, pfair_places, pfair_table};
 pub use take_log::pfair_take_log;

@@ -1,17 +1,19 @@
 //! Plans, and how far they have come.
-ghost use Rattle.std.specs.Prelude.{◌≡◌, None, true, false, length, max, min};
+ghost use Rattle.std.specs.Prelude.{◌≡◌, ◌⊎◌, None, true, false, length, max, min, IfOk, IfErr};
 ghost use Rattle.pfair_replica.specs.HeldRows.{replica_of};
 ghost use Rattle.pfair_replica.specs.Replica.{frontier, has_torn};
 ghost use Rattle.pfair_handle.specs.Kept.{is_kept};
 ghost use Rattle.pfair_handle.specs.Behind.{Of, Between};
-ghost use Rattle.pfair_c.specs.Answers.{IsPlannedTo, IsRefusedTo, torn_at};
+ghost use Rattle.pfair_table.specs.PlanFault.{plan_fault_number};
+ghost use Rattle.pfair_c.specs.Answers.{IsPlannedTo, IsRefusedTo, IsPlannedUpTo, IsStoppedAt, step_row, fault_row};
 
-use pfair_handle::Handle;
-use pfair_handle::answer::{DONE, MEMORY, NOT_OPEN};
+use crate::open::{change_open, read_open};
+use pfair_handle::answer::{DONE, MEMORY, NOT_OPEN, OUT_OF_RANGE};
+use pfair_handle::{Handle, plan_to};
 use pfair_table::{PlanFault, Step};
 use std::alloc::Global;
 
-/// What a plan answered.
+/// The answer of a plan.
 #[repr(C)]
 #[derive(Clone, Copy)]
 pub struct PfairStep {
@@ -25,43 +27,64 @@ pub struct PfairStep {
     pub number: u64,
 }
 
-/// Plans the next slot where what is held settles it. It costs what
-/// [`Dispatcher::plan_next`](pfair_table::Dispatcher::plan_next) costs.
+/// Plans the next slot, if what is held settles it.
 ///
-/// It answers 0 with the step; 102 where the handle has no dispatcher; 30 with the least torn
-/// entry, 31 where the dispatcher is spent: then nothing changes; or 90: then the slot isn't
-/// planned, and the dispatcher is spent.
+/// Answers 0 with the step; 102 if the handle has no dispatcher; 30 with the least torn entry, or 31
+/// if the dispatcher is spent, and nothing changes; 90 if an allocation fails: the slot isn't planned,
+/// and the dispatcher is spent. Costs what [`Dispatcher::plan_next`](pfair_table::Dispatcher::plan_next)
+/// costs.
 #[unsafe(no_mangle)]
 pub extern "C" fn pfair_plan_next(alloc: Global, handle: &mut Handle, step: &mut PfairStep) -> u32
-    ensures closed { handle.old.owner.kept ≡ None → (result ≡ 102) × (handle.new.owner.kept ≡ None) }
+    ensures closed { handle.old.owner.kept ≡ None → (result ≡ 102) × (handle.new.owner.kept ≡ None) × (step.new ≡ step.old) }
+    ensures open { is_kept handle.old.owner.kept ≡ true → result ≡ 102 → ⊥ }
     ensures planned { result ≡ 0 → Between handle.old.owner.kept handle.new.owner.kept (IsPlannedTo step.new) }
-    ensures rest { result ≡ 0 → Between handle.old.owner.kept handle.new.owner.kept (λ d e. e ≡ record d { tables = e.tables; decided = e.decided }) }
-    ensures whole { result ≡ 0 → Of handle.old.owner.kept (λ d. (has_torn (replica_of d.held) ≡ false) × (d.spent ≡ false)) }
-    ensures torn { result ≡ 30 → Between handle.old.owner.kept handle.new.owner.kept (IsRefusedTo (torn_at step.new)) }
-    ensures spent { result ≡ 31 → Between handle.old.owner.kept handle.new.owner.kept (IsRefusedTo PlanFault.Spent) }
-    ensures memory { result ≡ 90 → Between handle.old.owner.kept handle.new.owner.kept (IsRefusedTo PlanFault.Memory) }
-    ensures only { (result ≡ 0 → ⊥) → (result ≡ 30 → ⊥) → (result ≡ 31 → ⊥) → (result ≡ 90 → ⊥) → (result ≡ 102) × (handle.old.owner.kept ≡ None) }
-    ensures no_key { result ≡ 0 → (step.new.processor ≡ 0) × (step.new.number ≡ 0) }
-    ensures key_alone { result ≡ 30 → (step.new.kind ≡ step.old.kind) × (step.new.slot ≡ step.old.slot) }
-    ensures untold { (result ≡ 0 → ⊥) → (result ≡ 30 → ⊥) → step.new ≡ step.old }
+    ensures refused { (result ≡ 0 → ⊥) → (result ≡ 102 → ⊥) → Between handle.old.owner.kept handle.new.owner.kept (IsRefusedTo result step.old step.new) }
 {
     if !handle.is_open() {
         return NOT_OPEN;
     }
-    let mut served = handle.take(alloc);
-    let answer = served.dispatcher.plan_next();
-    handle.put(served);
+    let answer = change_open(alloc, handle, |dispatcher| dispatcher.plan_next());
+    write_step(answer, step)
+}
+
+/// Plans until `until` slots are planned (1 or more), the next one isn't settled, or none is left.
+///
+/// Answers 0 with the step: slot `until` - 1 is planned, by this call or before it; the plan waits,
+/// and the frontier; or all slots are planned. 102 if the handle has no dispatcher; 100 if `until` is
+/// 0. 30, 31 or 90 as [`pfair_plan_next`], if fewer than `until` slots are planned; what was planned
+/// before that stands. Costs what the plans cost.
+#[unsafe(no_mangle)]
+pub extern "C" fn pfair_plan_to(
+    alloc: Global,
+    handle: &mut Handle,
+    until: u64,
+    step: &mut PfairStep,
+) -> u32
+    ensures closed { handle.old.owner.kept ≡ None → (result ≡ 102) × (handle.new.owner.kept ≡ None) }
+    ensures open { is_kept handle.old.owner.kept ≡ true → result ≡ 102 → ⊥ }
+    ensures out_of_range { result ≡ 100 → (until ≡ 0) × (handle.new.owner.kept ≡ handle.old.owner.kept) }
+    ensures untold { (result ≡ 100) ⊎ (result ≡ 102) → step.new ≡ step.old }
+    ensures planned { result ≡ 0 → Between handle.old.owner.kept handle.new.owner.kept (IsPlannedUpTo until step.new) }
+    ensures refused { (result ≡ 0 → ⊥) → (result ≡ 100 → ⊥) → (result ≡ 102 → ⊥) → Between handle.old.owner.kept handle.new.owner.kept (IsStoppedAt until result step.old step.new) }
+{
+    if !handle.is_open() {
+        return NOT_OPEN;
+    }
+    if until < 1 {
+        return OUT_OF_RANGE;
+    }
+    let answer = change_open(alloc, handle, |dispatcher| plan_to(dispatcher, until));
+    write_step(answer, step)
+}
+
+// Writes what a plan answered, and returns its number.
+fn write_step(answer: Result<Step, PlanFault>, step: &mut PfairStep) -> u32
+    ensures ok { IfOk answer (λ taken. (result ≡ 0) × (step.new ≡ step_row taken)) }
+    ensures err { IfErr answer (λ fault. (result ≡ plan_fault_number fault) × (step.new ≡ fault_row fault step.old)) }
+{
     match answer {
-        Ok(Step::Planned(slot)) => {
-            *step = step_of(0, slot);
-            DONE
-        }
-        Ok(Step::Waiting { frontier }) => {
-            *step = step_of(1, frontier);
-            DONE
-        }
-        Ok(Step::Done) => {
-            *step = step_of(2, 0);
+        Ok(taken) => {
+            *step = step_row(taken);
             DONE
         }
         Err(fault) => {
@@ -74,10 +97,15 @@ pub extern "C" fn pfair_plan_next(alloc: Global, handle: &mut Handle, step: &mut
     }
 }
 
-/// A step with no torn entry.
-pub(crate) fn step_of(kind: u64, slot: u64) -> PfairStep
-    ensures { result ≡ record { kind = kind; slot = slot; processor = 0; number = 0 } }
+// The step as C has it.
+fn step_row(step: Step) -> PfairStep
+    ensures { result ≡ step_row step }
 {
+    let (kind, slot) = match step {
+        Step::Planned(slot) => (0, slot),
+        Step::Waiting { frontier } => (1, frontier),
+        Step::Done => (2, 0),
+    };
     PfairStep {
         kind,
         slot,
@@ -86,11 +114,11 @@ pub(crate) fn step_of(kind: u64, slot: u64) -> PfairStep
     }
 }
 
-/// Takes room for the next `slots` slots and for `tasks` members at once, as
+/// Allocates for the next `slots` slots and for `tasks` members at once, as
 /// [`Dispatcher::reserve`](pfair_table::Dispatcher::reserve), and costs what that costs.
 ///
-/// Answers 0; 102 if the handle has no dispatcher; or 90. Whatever it answers, what is held and what
-/// was planned is as before.
+/// Answers 0; 102 if the handle has no dispatcher; 90 if an allocation fails. What is held and planned
+/// is as before in each case.
 #[unsafe(no_mangle)]
 pub extern "C" fn pfair_reserve(alloc: Global, handle: &mut Handle, slots: u64, tasks: u64) -> u32
     ensures closed { handle.old.owner.kept ≡ None → result ≡ 102 }
@@ -100,21 +128,19 @@ pub extern "C" fn pfair_reserve(alloc: Global, handle: &mut Handle, slots: u64, 
     if !handle.is_open() {
         return NOT_OPEN;
     }
-    let mut served = handle.take(alloc);
-    let answer = served.dispatcher.reserve(slots, tasks as usize);
-    handle.put(served);
-    match answer {
-        Ok(()) => DONE,
-        Err(_) => MEMORY,
-    }
+    change_open(alloc, handle, |dispatcher| {
+        match dispatcher.reserve(slots, tasks as usize) {
+            Ok(()) => DONE,
+            Err(_) => MEMORY,
+        }
+    })
 }
 
-/// Forgets the tables, places and decisions of all slots below `slots`, or of all that are planned where
-/// these are fewer: their memory is given back, 1,024 slots at a time, and these slots are told no
-/// more. Plans go on as before, and what was forgotten stays forgotten. It costs the slots whose
-/// memory is given back, and takes none.
+/// Forgets the tables, places and decisions of the planned slots below `slots`: their memory is freed,
+/// 1,024 slots at a time, and they can't be read again. Plans go on as before. O(slots freed);
+/// allocates nothing.
 ///
-/// It answers 0, or 102 where the handle has no dispatcher.
+/// Answers 0; or 102 if the handle has no dispatcher.
 #[unsafe(no_mangle)]
 pub extern "C" fn pfair_forget(alloc: Global, handle: &mut Handle, slots: u64) -> u32
     ensures closed { handle.old.owner.kept ≡ None → (result ≡ 102) × (handle.new.owner.kept ≡ None) }
@@ -124,17 +150,17 @@ pub extern "C" fn pfair_forget(alloc: Global, handle: &mut Handle, slots: u64) -
     if !handle.is_open() {
         return NOT_OPEN;
     }
-    let mut served = handle.take(alloc);
-    served.dispatcher.forget(slots);
-    handle.put(served);
-    DONE
+    change_open(alloc, handle, |dispatcher| {
+        dispatcher.forget(slots);
+        DONE
+    })
 }
 
-/// Makes all but what is held and what was planned anew, after which plans go on. Forgotten slots are
-/// planned once more, and stay forgotten. It costs what the plans of all slots so far cost.
+/// Rebuilds everything except what is held and what was planned, after which plans go on. Forgotten
+/// slots are planned once more, and stay forgotten. Costs what the plans of all slots so far cost.
 ///
-/// It answers 0; 102 where the handle has no dispatcher; 30 where something held is torn, and then
-/// nothing changes; or 90: then the dispatcher is spent, and else as before.
+/// Answers 0; 102 if the handle has no dispatcher; 30 if something held is torn, and nothing changes;
+/// 90 if an allocation fails: the dispatcher is then spent, and else as before.
 #[unsafe(no_mangle)]
 pub extern "C" fn pfair_reopen(alloc: Global, handle: &mut Handle) -> u32
     ensures closed { handle.old.owner.kept ≡ None → (result ≡ 102) × (handle.new.owner.kept ≡ None) }
@@ -146,18 +172,15 @@ pub extern "C" fn pfair_reopen(alloc: Global, handle: &mut Handle) -> u32
     if !handle.is_open() {
         return NOT_OPEN;
     }
-    let mut served = handle.take(alloc);
-    let answer = served.dispatcher.reopen();
-    handle.put(served);
-    match answer {
+    change_open(alloc, handle, |dispatcher| match dispatcher.reopen() {
         Ok(()) => DONE,
         Err(fault) => fault.number() as u32,
-    }
+    })
 }
 
-/// The frontier: below this slot every announcement is known. It costs the number of processors.
+/// Writes the frontier: below this slot every announcement is known. O(processors).
 ///
-/// It answers 0, or 102 where the handle has no dispatcher, and then nothing is written.
+/// Answers 0; or 102 if the handle has no dispatcher, and then nothing is written.
 #[unsafe(no_mangle)]
 pub extern "C" fn pfair_frontier(alloc: Global, handle: &mut Handle, slot: &mut u64) -> u32
     ensures closed { handle.old.owner.kept ≡ None → (result ≡ 102) × (slot.new ≡ slot.old) }
@@ -167,15 +190,13 @@ pub extern "C" fn pfair_frontier(alloc: Global, handle: &mut Handle, slot: &mut 
     if !handle.is_open() {
         return NOT_OPEN;
     }
-    let served = handle.take(alloc);
-    *slot = served.dispatcher.replica().frontier();
-    handle.put(served);
+    *slot = read_open(alloc, handle, |dispatcher| dispatcher.replica().frontier());
     DONE
 }
 
-/// The slot that is planned next: so many slots are planned.
+/// Writes the slot that is planned next, which is how many are planned.
 ///
-/// It answers 0, or 102 where the handle has no dispatcher, and then nothing is written.
+/// Answers 0; or 102 if the handle has no dispatcher, and then nothing is written.
 #[unsafe(no_mangle)]
 pub extern "C" fn pfair_next_slot(alloc: Global, handle: &mut Handle, slot: &mut u64) -> u32
     ensures closed { handle.old.owner.kept ≡ None → (result ≡ 102) × (slot.new ≡ slot.old) }
@@ -185,8 +206,6 @@ pub extern "C" fn pfair_next_slot(alloc: Global, handle: &mut Handle, slot: &mut
     if !handle.is_open() {
         return NOT_OPEN;
     }
-    let served = handle.take(alloc);
-    *slot = served.dispatcher.next_slot();
-    handle.put(served);
+    *slot = read_open(alloc, handle, |dispatcher| dispatcher.next_slot());
     DONE
 }
