@@ -160,15 +160,15 @@ fn a_reader_that_fails_at_each_call(rt: HostRuntime) {
     assert!(&rt; fault == None);
 }
 
-const MISSING: &str = "missing 0,1\nmissing 11,1\n";
+const MISSING: &str = "missing 0,1\nmissing 63,1\n";
 
-// Reports to a writer what is missing from twelve logs, of which the first and the last are short.
+// Reports to a writer what is missing from 64 logs, of which the first and the last are short.
 // Returns whether the writer took all.
-fn report_twelve<R: Ready>(rt: &impl Abort, alloc: Global, writer: &mut Sink) -> bool {
-    let mut follower: Follower<R> = follower_of(rt, alloc, 12, 4);
+fn report_all<R: Ready>(rt: &impl Abort, alloc: Global, writer: &mut Sink) -> bool {
+    let mut follower: Follower<R> = follower_of(rt, alloc, 64, 4);
     let mut out: Vec<u8> = Vec::new(alloc);
     let entry = Entry::new(4, None).expect(rt, "an entry");
-    for processor in 1..11 {
+    for processor in 1..63 {
         let _ = follower.take(&mut out, processor, 1, entry);
     }
     tell_missing(&follower, writer).is_ok()
@@ -178,7 +178,7 @@ fn report_twelve<R: Ready>(rt: &impl Abort, alloc: Global, writer: &mut Sink) ->
 fn missing_entries_are_reported_as_far_as_the_writer_takes_them(rt: HostRuntime) {
     for failing in 0..=MISSING.len() {
         let mut writer = Sink::failing_at(rt.alloc(), 1, failing);
-        let is_whole = report_twelve::<HeapReady>(&rt, rt.alloc(), &mut writer);
+        let is_whole = report_all::<HeapReady>(&rt, rt.alloc(), &mut writer);
         assert_eq!(&rt; is_whole, failing == MISSING.len());
         assert_eq!(&rt; writer.taken.as_slice(), &MISSING.as_bytes()[..failing]);
     }
