@@ -205,23 +205,20 @@ kept_on m before old below differ (now ∷ tables) fit zero rows places e f =
     let same : now ≡ rows = same_Some now rows e in
     let alike : here ≡ places = same_Some here places f in
     let are : ArePlacesOf m now here = are_places m before old now below differ fit.0 in (
-      subst (λ (r : Table). ArePlacesOf m r places) same (subst (ArePlacesOf m now) alike are),
-      subst (λ (r : Table). (next : Table) (there : List ℕ) → slice_get tables zero ≡ Some next → slice_get (places_from now here tables) zero ≡ Some there
-          → (name : Name) → names_task name r ≡ true → names_task name next ≡ true → place_of r places name ≡ place_of next there name) same
-          (subst (λ (ps : List ℕ). (next : Table) (there : List ℕ) → slice_get tables zero ≡ Some next → slice_get (places_from now here tables) zero ≡ Some there
-          → (name : Name) → names_task name now ≡ true → names_task name next ≡ true → place_of now ps name ≡ place_of next there name) alike
-          (stays_first now here are.one_each tables)),
+      subst (λ (p : Table × List ℕ). ArePlacesOf m p.0 p.1) (λ i. (same i, alike i)) are,
+      stays_first now rows here places same alike are.one_each tables,
     )
   where
-    stays_first : (now : Table) (here : List ℕ) → length here ≡ length now → (tables : List Table) (next : Table) (there : List ℕ) → slice_get tables zero ≡ Some next → slice_get (places_from now here tables) zero ≡ Some there
-        → (name : Name) → names_task name now ≡ true → names_task name next ≡ true → place_of now here name ≡ place_of next there name
-    stays_first now here long [] next there e f name h g = absurd (cc)
-    stays_first now here long (x ∷ tables) next there e f name h g =
+    stays_first : (now rows : Table) (here places : List ℕ) → now ≡ rows → here ≡ places → length here ≡ length now
+        → (tables : List Table) (next : Table) (there : List ℕ) → slice_get tables zero ≡ Some next → slice_get (places_from now here tables) zero ≡ Some there
+        → (name : Name) → names_task name rows ≡ true → names_task name next ≡ true → place_of rows places name ≡ place_of next there name
+    stays_first now rows here places was had long [] next there e f name h g = absurd (cc)
+    stays_first now rows here places was had long (x ∷ tables) next there e f name h g =
         let same : x ≡ next = same_Some x next e in
         let alike : places_after now here x ≡ there = same_Some (places_after now here x) there f in
-        let t = has_place now here long name h in
-        let kept = kept_places now here x in
-        t.1 ∙ sym (kept_place (all_kept kept) now here x name t.0 t.1 (ap (names_task name) same ∙ g)) ∙ (λ i. place_of (same i) (alike i) name)
+        let t = has_place now here long name (ap (names_task name) was ∙ h) in
+        (λ i. place_of (sym was i) (sym had i) name)
+        ∙ t.1 ∙ sym (kept_place (all_kept (kept_places now here x)) now here x name t.0 t.1 (ap (names_task name) same ∙ g)) ∙ (λ i. place_of (same i) (alike i) name)
 kept_on m before old below differ (now ∷ tables) fit (suc t) rows places e f =
     kept_on m now (places_after before old now) (below_after m before old now below fit.0.0).below (differ_after m before old now below differ fit.0) tables fit.1 t rows places e f
 

@@ -1,13 +1,13 @@
 -- A dispatcher's parts from one slot to the next, and from one replica to one that is above it.
-use Rattle.std.proofs.Common.{ℕ, zero, suc, ◌+◌, ◌*◌, ◌≤◌, ◌<◌, ◌≡◌, refl, sym, ap, ◌∙◌, subst, arith, inl, Bool, true, false, List, [], ◌∷◌, ◌++◌, length, map, Option, Some, None}
-use Rattle.std.specs.Prelude.{flat_map, ◌==◌, if◌then◌else◌, Result, Ok, Err, IfOk, OnOk}
+use Rattle.std.proofs.Common.{ℕ, zero, suc, ◌+◌, ◌*◌, ◌≤◌, ◌<◌, ◌≡◌, refl, sym, ap, ◌∙◌, subst, arith, inl, cond, Bool, true, false, List, [], ◌∷◌, ◌++◌, length, map, Option, Some, None}
+use Rattle.std.proofs.lemmas.Bool.Decides.{nat_tests}
+use Rattle.std.specs.Prelude.{flat_map, nat_lt, ◌==◌, if◌then◌else◌, Result, Ok, Err, IfOk, OnOk}
 use Rattle.std.specs.declared.alloc.AllocError.{AllocError}
 use Rattle.pfair_table.specs.declared.slot.SlotPlan.{SlotPlan}
 use Rattle.std.proofs.lemmas.List.{length-append, map-append}
 use Rattle.pfair_entry.specs.Entry.{Logged}
 use Rattle.pfair_entry.specs.Said.{Said}
 use Rattle.pfair_entry.specs.declared.announcement.Announcement.{Announcement}
-use Rattle.std.proofs.lemmas.Bool.{eqb-true}
 use Rattle.pfair_replica.specs.Replica.{said_by, said_in, sound_beginning, Replica, Below, Untorn, said, frontier, numbers_below}
 use Rattle.pfair_replica.proofs.Marks.{same_said, below_agree, frontier_le}
 use Rattle.pfair_replica.proofs.SoundEntries.{read_by_number}
@@ -150,60 +150,58 @@ kept_above {held} {more} kept above same_p same_c = record {
 
 -- ---- how many announcements there are
 
-abbrev total : (ℕ → ℕ) → ℕ → ℕ
-total f zero = 0
-total f (suc n) = total f n + f n
+-- an entry says something at a slot below n
+abbrev is_past : ℕ → Option (ℕ × Announcement) → Bool
+is_past n None = false
+is_past n (Some s) = nat_lt s.0 n
 
-heard_total : (x : Replica) (n : ℕ) → heard_before x n ≡ total (λ t. length (said x t)) n
-heard_total x zero = refl
-heard_total x (suc n) = ap (λ k. k + length (said x n)) (heard_total x n)
+-- how many entries of a list do, and of the rows of some processors
+abbrev past_in : ℕ → List Logged → ℕ
+past_in n [] = 0
+past_in n (e ∷ es) = cond (is_past n e.said) 1 0 + past_in n es
 
-total_sum : (f g h : ℕ → ℕ) → ((t : ℕ) → f t ≡ g t + h t) → (m : ℕ) → total f m ≡ total g m + total h m
-total_sum f g h e zero = omega arith
-total_sum f g h e (suc m) = (let more = total_sum f g h e m in let one = e m in omega (arith, more, one))
+abbrev past_of : Replica → ℕ → List ℕ → ℕ
+past_of x n [] = 0
+past_of x n (k ∷ ks) = past_in n (sound_beginning x k) + past_of x n ks
 
-total_none : (f : ℕ → ℕ) → ((t : ℕ) → f t ≡ 0) → (m : ℕ) → total f m ≡ 0
-total_none f e zero = refl
-total_none f e (suc m) = (let more = total_none f e m in let one = e m in omega (arith, more, one))
+one_slot : (t s : ℕ) → cond (nat_lt s t) 1 0 + cond (s == t) 1 0 ≡ cond (nat_lt s (suc t)) 1 0
+one_slot t s = grind (arith, nat_tests)
 
--- an entry is said at one slot at most
-said_once : (k n : ℕ) (s : ℕ × Announcement) (m : ℕ) → (total (λ t. length (said_by t k n (Some s))) m ≤ 1) × (m ≤ s.0 → total (λ t. length (said_by t k n (Some s))) m ≡ 0)
-said_once k n s zero = (omega arith, λ h. refl)
-said_once k n s (suc m) = by (s.0 == m) refl (said_once k n s m)
+entry_slot : (t k n : ℕ) (o : Option (ℕ × Announcement)) → cond (is_past t o) 1 0 + length (said_by t k n o) ≡ cond (is_past (suc t) o) 1 0
+entry_slot t k n None = refl
+entry_slot t k n (Some s) = ap (λ l. cond (nat_lt s.0 t) 1 0 + l) (long (s.0 == t)) ∙ one_slot t s.0
   where
-    by : (b : Bool) → (s.0 == m) ≡ b → (total (λ t. length (said_by t k n (Some s))) m ≤ 1) × (m ≤ s.0 → total (λ t. length (said_by t k n (Some s))) m ≡ 0)
-        → (total (λ t. length (said_by t k n (Some s))) m + length {A = Said} (if b then (k, n, s.1) ∷ [] else []) ≤ 1)
-        × (suc m ≤ s.0 → total (λ t. length (said_by t k n (Some s))) m + length {A = Said} (if b then (k, n, s.1) ∷ [] else []) ≡ 0)
-    by true p more = (let e = eqb-true s.0 m p in let none = more.1 (omega (arith, e)) in (omega (arith, none), λ h. absurd (omega (arith, h, e))))
-    by false p more = (let le = more.0 in (omega (arith, le), λ h. (let none = more.1 (omega (arith, h)) in omega (arith, none))))
+    long : (b : Bool) → length {A = Said} (if b then (k, n, s.1) ∷ [] else []) ≡ cond b 1 0
+    long true = refl
+    long false = refl
 
-entry_once : (k n : ℕ) (o : Option (ℕ × Announcement)) (m : ℕ) → total (λ t. length (said_by t k n o)) m ≤ 1
-entry_once k n None m = (let none = total_none (λ t. 0) (λ t. refl) m in omega (arith, none))
-entry_once k n (Some s) m = (said_once k n s m).0
+run_slot : (t k n : ℕ) (es : List Logged) → past_in t es + length (said_in t k n es) ≡ past_in (suc t) es
+run_slot t k n [] = refl
+run_slot t k n (e ∷ es) = omega (arith, entry_slot t k n e.said, run_slot t k (suc n) es, length-append (said_by t k n e.said) (said_in t k (suc n) es))
 
-run_once : (k n : ℕ) (es : List Logged) (m : ℕ) → total (λ t. length (said_in t k n es)) m ≤ length es
-run_once k n [] m = (let none = total_none (λ t. 0) (λ t. refl) m in omega (arith, none))
-run_once k n (e ∷ es) m =
-    let sum = total_sum (λ t. length (said_in t k n (e ∷ es))) (λ t. length (said_by t k n e.said)) (λ t. length (said_in t k (suc n) es)) (λ t. length-append (said_by t k n e.said) (said_in t k (suc n) es)) m in
-    let one = entry_once k n e.said m in
-    let more = run_once k (suc n) es m in
-    omega (arith, sum, one, more)
+rows_slot : (x : Replica) (t : ℕ) (ks : List ℕ) → past_of x t ks + length (flat_map (λ k. said_in t k 1 (sound_beginning x k)) ks) ≡ past_of x (suc t) ks
+rows_slot x t [] = refl
+rows_slot x t (k ∷ ks) =
+    omega (arith, run_slot t k 1 (sound_beginning x k), rows_slot x t ks, length-append (said_in t k 1 (sound_beginning x k)) (flat_map (λ k. said_in t k 1 (sound_beginning x k)) ks))
 
-rows_few : (x : Replica) (ks : List ℕ) (m : ℕ) → total (λ t. length (flat_map (λ k. said_in t k 1 (sound_beginning x k)) ks)) m ≤ length ks * x.capacity
-rows_few x [] m = (let none = total_none (λ t. 0) (λ t. refl) m in omega (arith, none))
-rows_few x (k ∷ ks) m =
-    let sum = total_sum (λ t. length (flat_map (λ k. said_in t k 1 (sound_beginning x k)) (k ∷ ks))) (λ t. length (said_in t k 1 (sound_beginning x k))) (λ t. length (flat_map (λ k. said_in t k 1 (sound_beginning x k)) ks))
-    (λ t. length-append (said_in t k 1 (sound_beginning x k)) (flat_map (λ k. said_in t k 1 (sound_beginning x k)) ks)) m in
-    let one = run_once k 1 (sound_beginning x k) m in
-    let short = read_by_number.within x k in
-    let more = rows_few x ks m in
-    grind (arith, sum, one, short, more)
+heard_past : (x : Replica) (n : ℕ) → heard_before x n ≤ past_of x n (numbers_below x.processors)
+heard_past x zero = omega arith
+heard_past x (suc n) = omega (arith, heard_past x n, rows_slot x n (numbers_below x.processors))
 
-pub few_heard : (x : Replica) (n : ℕ) → heard_before x n ≤ x.processors * x.capacity
-few_heard x n =
-    let all = rows_few x (numbers_below x.processors) n in
-    let is = heard_total x n in
-    subst (λ k. heard_before x n ≤ k * x.capacity) (length_numbers x.processors) (omega (arith, all, is))
+few_in : (n : ℕ) (es : List Logged) → past_in n es ≤ length es
+few_in n [] = omega arith
+few_in n (e ∷ es) = by (is_past n e.said) (few_in n es)
+  where
+    by : (b : Bool) → past_in n es ≤ length es → cond b 1 0 + past_in n es ≤ suc (length es)
+    by true le = omega (arith, le)
+    by false le = omega (arith, le)
+
+few_past : (x : Replica) (n : ℕ) (ks : List ℕ) → past_of x n ks ≤ length ks * x.capacity
+few_past x n [] = omega arith
+few_past x n (k ∷ ks) = grind (arith, few_in n (sound_beginning x k), read_by_number.within x k, few_past x n ks)
+
+few_heard : (x : Replica) (n : ℕ) → heard_before x n ≤ x.processors * x.capacity
+few_heard x n = subst (λ k. heard_before x n ≤ k * x.capacity) (length_numbers x.processors) (omega (arith, heard_past x n, few_past x n (numbers_below x.processors)))
 
 pub heard_fits : (x : Replica) (n : ℕ) → x.processors ≤ 64 → x.capacity ≤ 4096 → heard_before x n ≤ 262144
 heard_fits x n p c = (let few = few_heard x n in grind (arith, few))
