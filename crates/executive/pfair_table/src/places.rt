@@ -42,7 +42,7 @@ pub(crate) fn places_beside(
     room: Vec<u8>,
 ) -> Result<Vec<u8>, AllocError>
     requires before { IsFit Settings.MAX_PROCESSORS before.now }
-    requires below { AllByRecursion (λ k. k < 64) places.now }
+    requires below { AllByRecursion (λ k. k < Settings.MAX_PROCESSORS) places.now }
     requires rows { length table.now ≤ Settings.MAX_PROCESSORS }
     ensures { IfOk result (λ here. here.items ≡ places_after before.now places.now table.now) }
 {
@@ -105,7 +105,7 @@ fn keep_by_buckets(
 
 // The kept places, and for each other row the least processor that is not in use.
 fn fill_places(kept: &[Option<u8>], room: Vec<u8>) -> Result<Vec<u8>, AllocError>
-    requires below { AllByRecursion (λ k. k < 64) (all_kept kept.now) }
+    requires below { AllByRecursion (λ k. k < Settings.MAX_PROCESSORS) (all_kept kept.now) }
     requires rows { length kept.now ≤ Settings.MAX_PROCESSORS }
     ensures { IfOk result (λ here. here.items ≡ filled (all_kept kept.now) kept.now) }
 {
@@ -123,7 +123,7 @@ fn fill_places(kept: &[Option<u8>], room: Vec<u8>) -> Result<Vec<u8>, AllocError
 
 // The processors that some rows keep, each as a bit.
 fn use_kept(kept: &[Option<u8>]) -> u64
-    requires { AllByRecursion (λ k. k < 64) (all_kept kept.now) }
+    requires { AllByRecursion (λ k. k < Settings.MAX_PROCESSORS) (all_kept kept.now) }
     ensures { AreInUse result (all_kept kept.now) }
 {
     let mut in_use = 0;
@@ -139,7 +139,7 @@ fn use_kept(kept: &[Option<u8>]) -> u64
 fn use_least(in_use: &mut u64) -> u8
     requires { in_use.old + 1 < 2 ^ 64 }
     ensures fits { in_use.new < 2 ^ 64 }
-    ensures least { (used : List ℕ) → AreInUse in_use.old used → length used < 64 → (result ≡ free_place used) × AreInUse in_use.new (free_place used ∷ used) }
+    ensures least { (used : List ℕ) → AreInUse in_use.old used → length used < Settings.MAX_PROCESSORS → (result ≡ free_place used) × AreInUse in_use.new (free_place used ∷ used) }
 {
     let place = in_use.trailing_ones() as u8;
     *in_use |= 1 << place;
