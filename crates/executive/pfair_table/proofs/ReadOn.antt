@@ -3,7 +3,7 @@ use Rattle.std.proofs.Common.{ℕ, zero, suc, ◌+◌, ◌≤◌, ◌<◌, ◌�
 use Rattle.std.specs.Prelude.{flat_map, slice_get}
 use Rattle.std.proofs.lemmas.List.{take-append-le, length-append}
 use Rattle.std.proofs.lemmas.Grind.{flat_map-append}
-use Rattle.std.proofs.lemmas.Option.{get_or_from_slice_get}
+use Rattle.std.proofs.lemmas.Option.{get_or_from_slice_get, slice_get_within}
 use Rattle.std.proofs.Math.Seq.{take-length, take-suc}
 use Rattle.pfair_lattice.specs.declared.flat.Flat.TheVariants.{One, Torn}
 use Rattle.pfair_entry.specs.Entry.{Logged}
@@ -11,7 +11,7 @@ use Rattle.pfair_replica.specs.Agenda.{said_at}
 use Rattle.pfair_replica.specs.Replica.{Replica, IsReplica, Below, Untorn, numbers_below, sound_beginning, said_by, said_in, said_behind, said}
 use Rattle.pfair_replica.proofs.SoundEntries.{some_at, beginnings_grow}
 use Rattle.pfair_table.specs.declared.readings.Reading.{Reading}
-use Rattle.pfair_table.specs.Readings.{IsReadingOf, AreReadingsOf, AreWhole, said_by_all}
+use Rattle.pfair_table.specs.Readings.{IsReadingOf, AreReadingsOf, said_by_all}
 
 -- what some entries say and then the others
 said_split : (t k n m : ℕ) (es : List Logged) → said_in t k n (take m es) ++ said_in t k (n + m) (drop m es) ≡ said_in t k n es
@@ -88,10 +88,10 @@ maps_to f g xs same (suc n) le =
     ∙ sym (flat_map-append g (numbers_below n) (n ∷ []))
 
 -- readings that are whole say what the replica says
-pub whole_said : (x : Replica) (rs : List Reading) → AreReadingsOf x rs → IsReplica x → Untorn x → AreWhole x rs → (t : ℕ) → said_by_all rs t ≡ said x t
-whole_said x rs all sound whole ends t =
+pub whole_said : (x : Replica) (rs : List Reading) (p : ℕ) → AreReadingsOf x rs → IsReplica x → Untorn x → AreWholeBelow x rs p → x.processors ≤ p → (t : ℕ) → said_by_all rs t ≡ said x t
+whole_said x rs p all sound whole ends le t =
     ap (flat_map (λ (r : Reading). said_at r.agenda t)) (sym (take-length rs))
     ∙ maps_to (λ (r : Reading). said_at r.agenda t) (λ k. said_in t k 1 (sound_beginning x k)) rs
-    (λ k r h. (all.each sound whole k r h).says t ∙ ap (said_in t k 1) (ap (λ n. take n (sound_beginning x k)) (ends k r h) ∙ take-length (sound_beginning x k)))
+    (λ k r h. (all.each sound whole k r h).says t ∙ ap (said_in t k 1) (ap (λ n. take n (sound_beginning x k)) (ends k r (omega (arith, slice_get_within rs k r h, all.one_each, le)) h) ∙ take-length (sound_beginning x k)))
     (length rs) (omega arith)
     ∙ ap (λ m. flat_map (λ k. said_in t k 1 (sound_beginning x k)) (numbers_below m)) all.one_each

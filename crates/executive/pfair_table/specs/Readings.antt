@@ -16,10 +16,6 @@ pub record AreReadingsOf (x : Replica) (readings : List Reading) : Type 0 where
   pub one_each : length readings ≡ x.processors
   pub each : IsReplica x → Untorn x → (k : ℕ) (reading : Reading) → slice_get readings k ≡ Some reading → IsReadingOf k (sound_beginning x k) reading
 
--- each sound beginning was read to its end
-abbrev pub AreWhole : Replica → List Reading → Type 0
-AreWhole x readings = (k : ℕ) (reading : Reading) → slice_get readings k ≡ Some reading → reading.count ≡ length (sound_beginning x k)
-
 -- what the readings say at a slot, one after another
 abbrev pub said_by_all : List Reading → ℕ → List Said
 said_by_all readings t = flat_map (λ (r : Reading). said_at r.agenda t) readings

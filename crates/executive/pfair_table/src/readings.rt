@@ -4,7 +4,7 @@ ghost use Rattle.std.specs.Prelude.{◌≡◌, ℕ, [], IfOk, OnOk, length};
 ghost use Rattle.pfair_replica.specs.Agenda.{said_at};
 ghost use Rattle.pfair_replica.specs.HeldRows.{replica_of};
 ghost use Rattle.pfair_replica.specs.Replica.{Replica as Held, IsReplica, Untorn, sound_beginning, said};
-ghost use Rattle.pfair_table.specs.Readings.{IsReadingOf, AreReadingsOf, AreWhole, said_by_all};
+ghost use Rattle.pfair_table.specs.Readings.{IsReadingOf, AreReadingsOf, said_by_all};
 
 use pfair_entry::Said;
 use pfair_replica::{Agenda, Replica};
@@ -73,21 +73,7 @@ impl Readings {
         })
     }
 
-    // Reads on in all sound beginnings, from where it stood in each.
-    fn read_on(&mut self, replica: &Replica) -> Result<(), AllocError>
-        requires replica { IsReplica (replica_of replica.now) }
-        requires untorn { Untorn (replica_of replica.now) }
-        requires readings { AreReadingsOf (replica_of replica.now) self.old.by_processor.items }
-        ensures readings { AreReadingsOf (replica_of replica.now) self.new.by_processor.items }
-        ensures whole { OnOk result (AreWhole (replica_of replica.now) self.new.by_processor.items) }
-    {
-        for processor in 0..replica.processors() {
-            self.by_processor[processor as usize].read_on(self.alloc, replica, processor)?;
-        }
-        Ok(())
-    }
-
-    /// What a replica says at a slot.
+    /// What a replica says at a slot. It reads on in all sound beginnings, from where it stood in each.
     pub(crate) fn heard(&mut self, replica: &Replica, slot: u64) -> Result<Vec<Said>, AllocError>
         requires replica { IsReplica (replica_of replica.now) }
         requires untorn { Untorn (replica_of replica.now) }
@@ -95,7 +81,9 @@ impl Readings {
         ensures readings { AreReadingsOf (replica_of replica.now) self.new.by_processor.items }
         ensures heard { IfOk result (λ announced. announced.items ≡ said (replica_of replica.now) slot) }
     {
-        self.read_on(replica)?;
+        for processor in 0..replica.processors() {
+            self.by_processor[processor as usize].read_on(self.alloc, replica, processor)?;
+        }
         self.said(slot)
     }
 
