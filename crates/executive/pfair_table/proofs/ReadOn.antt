@@ -62,8 +62,8 @@ untorn_below : (x y : Replica) → Below x y → Untorn y → Untorn x
 untorn_below x y below whole k n h = elim (below k n Torn h) [ inl e ↦ whole k n e | inr e ↦ whole k n e ]
 
 -- what was read of a replica was read of one that holds more
-pub readings_above : (x y : Replica) (rs : List Reading) → AreReadingsOf x rs → Below x y → y.processors ≡ x.processors → y.capacity ≡ x.capacity → AreReadingsOf y rs
-readings_above x y rs all below same_p same_c = record {
+pub readings_above : {x y : Replica} {rs : List Reading} → AreReadingsOf x rs → Below x y → y.processors ≡ x.processors → y.capacity ≡ x.capacity → AreReadingsOf y rs
+readings_above {x} {y} all below same_p same_c = record {
   one_each = all.one_each ∙ sym same_p;
   each = λ sound whole k r h.
       (let read = all.each (replica_below x y below same_p same_c sound whole) (untorn_below x y below whole) k r h in

@@ -16,7 +16,7 @@ use Rattle.std.proofs.Math.Dec.{eqb-suc-zero, eqb-zero-suc, eqb-suc-suc}
 use Rattle.std.proofs.lemmas.List.Folds.{list_all-map}
 use Rattle.pfair_entry.specs.Entry.{Logged}
 use Rattle.pfair_table.specs.Table.{Settings}
-use Rattle.std.specs.Prelude.{Result, Ok, Err, IsErrAnd}
+use Rattle.std.specs.Prelude.{Result, Ok, Err, IsErrAnd, IfErr}
 use Rattle.std.proofs.Common.{subst}
 use Rattle.pfair_replica.specs.Replica.{frontier}
 use Rattle.pfair_table.specs.declared.single.ScriptFault.{ScriptFault}
@@ -141,11 +141,8 @@ script_whole logs k n h = row_whole (slice_get logs k) n h
 
 -- ---- why a script isn't run
 
--- what holds of an error holds of an answer that is this error
-pub err_is : {T F : Type 0} (P : Result T F → Type 0) (r : Result T F) (own : F) → IsErrAnd r (λ e. e ≡ own) → P (Err own) → P r
-err_is P (Ok x) own is p = absurd is
-err_is P (Err e) own is p = subst (λ f. P (Err f)) (sym is) p
-
 -- a script stalls where its frontier is too low
-pub stalls : (r : LoggedRun) (fault : ScriptFault) (mark slots : ℕ) → mark ≡ frontier (replica_of_logs r.logs) → slots ≡ r.settings.slots → (fault ≡ Stalled mark) × (mark < slots) → IsScriptFaultOf r fault
-stalls r fault mark slots mark_is slots_are stalled = subst (IsScriptFaultOf r) (sym stalled.0) (mark_is, (let below = stalled.1 in omega (arith, below, slots_are)))
+pub stalls : {T : Type 0} (run : LoggedRun) (r : Result T ScriptFault) (fault : ScriptFault) (mark slots : ℕ) → IsErrAnd r (λ e. e ≡ fault) → mark ≡ frontier (replica_of_logs run.logs) → slots ≡ run.settings.slots
+    → (fault ≡ Stalled mark) × (mark < slots) → IfErr r (IsScriptFaultOf run)
+stalls run (Ok x) fault mark slots own mark_is slots_are stalled = absurd own
+stalls run (Err e) fault mark slots own mark_is slots_are stalled = subst (IsScriptFaultOf run) (sym (own ∙ stalled.0)) (mark_is, (let below = stalled.1 in omega (arith, below, slots_are)))

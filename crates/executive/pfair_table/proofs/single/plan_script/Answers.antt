@@ -2,10 +2,8 @@ use Rattle.std.proofs.Common.{◌≡◌, ◌∙◌, ap, arith}
 use Rattle.pfair_replica.specs.Replica.{frontier}
 use Rattle.pfair_replica.specs.HeldRows.{HeldRows, replica_of}
 use Rattle.pfair_table.specs.Table.{Settings}
-use Rattle.std.specs.Prelude.{IfErr}
 use Rattle.pfair_table.specs.Script.{replica_of_logs}
-use Rattle.pfair_table.specs.ScriptRun.{IsScriptFaultOf}
-use Rattle.pfair_table.proofs.Scripts.{err_is, stalls}
+use Rattle.pfair_table.proofs.Scripts.{stalls}
 use Rattle.pfair_table.proofs.single.plan_script.Goals as goal
 
 pub returns-in_err-check_settled-clause-fault : goal.returns-in_err-check_settled-clause-fault
@@ -13,8 +11,7 @@ returns-in_err-check_settled-clause-fault g c =
     let script = c.args.script.now in
     let mark_is = c.frontier.ensures.value ∙ ap (λ (h : HeldRows). frontier (replica_of h)) c.replica.ensures.value ∙ ap frontier c.requires.held in
     let slots_are = c.slots.ensures.value ∙ ap (λ (s : Settings). s.slots) c.settings.ensures.value in
-    err_is (λ r. IfErr r (IsScriptFaultOf script)) c.from_residual.result _ c.from_residual.ensures.1
-    (stalls script _ c.frontier.result c.slots.result mark_is slots_are c.in_err-check_settled.ensures.stalled)
+    stalls script c.from_residual.result _ c.frontier.result c.slots.result c.from_residual.ensures.1 mark_is slots_are c.in_err-check_settled.ensures.stalled
 
 pub returns-in-Ok-clause-ok : goal.returns-in-Ok-clause-ok
 returns-in-Ok-clause-ok g c =

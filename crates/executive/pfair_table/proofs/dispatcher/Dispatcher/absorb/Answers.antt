@@ -1,7 +1,6 @@
 use Rattle.std.proofs.Common.{sym, subst, IfErr}
 use Rattle.pfair_replica.specs.Faults.{IsMergeFaultOf}
 use Rattle.pfair_table.specs.Refinement.{Dispatch}
-use Rattle.pfair_replica.specs.HeldRows.{replica_of}
 use Rattle.pfair_table.proofs.Steps.{kept_above}
 use Rattle.pfair_table.proofs.ReadOn.{readings_above}
 use Rattle.pfair_table.proofs.dispatcher.Dispatcher.absorb.Goals as goal
@@ -9,7 +8,7 @@ use Rattle.pfair_table.proofs.dispatcher.Dispatcher.absorb.Goals as goal
 pub invariant_of-self : goal.invariant_of-self
 invariant_of-self g c = (
   kept_above c.self.invariant.0 c.merge.ensures.grows (sym c.merge.ensures.shape.0) (sym c.merge.ensures.shape.1),
-  readings_above (replica_of c.self.inside.replica) (replica_of c.merge.new.self) c.self.inside.planner.readings.by_processor.items c.self.invariant.1 c.merge.ensures.grows (sym c.merge.ensures.shape.0) (sym c.merge.ensures.shape.1),
+  readings_above c.self.invariant.1 c.merge.ensures.grows (sym c.merge.ensures.shape.0) (sym c.merge.ensures.shape.1),
 )
 
 pub returns-clause-fault : goal.returns-clause-fault

@@ -1,5 +1,4 @@
 use Rattle.std.proofs.Common.{sym}
-use Rattle.pfair_replica.specs.HeldRows.{replica_of}
 use Rattle.pfair_table.proofs.Steps.{kept_above}
 use Rattle.pfair_table.proofs.ReadOn.{readings_above}
 use Rattle.pfair_table.proofs.dispatcher.Dispatcher.take.Goals as goal
@@ -7,5 +6,5 @@ use Rattle.pfair_table.proofs.dispatcher.Dispatcher.take.Goals as goal
 pub invariant_of-self : goal.invariant_of-self
 invariant_of-self g c = (
   kept_above c.self.invariant.0 c.take.ensures.grows (sym c.take.ensures.shape.0) (sym c.take.ensures.shape.1),
-  readings_above (replica_of c.self.inside.replica) (replica_of c.take.new.self) c.self.inside.planner.readings.by_processor.items c.self.invariant.1 c.take.ensures.grows (sym c.take.ensures.shape.0) (sym c.take.ensures.shape.1),
+  readings_above c.self.invariant.1 c.take.ensures.grows (sym c.take.ensures.shape.0) (sym c.take.ensures.shape.1),
 )

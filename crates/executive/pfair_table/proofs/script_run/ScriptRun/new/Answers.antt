@@ -1,13 +1,11 @@
 use Rattle.std.proofs.Common.{◌≡◌, ◌∙◌, sym, ap, subst, arith, false}
-use Rattle.std.specs.Prelude.{IfErr}
 use Rattle.pfair_replica.specs.HeldRows.{replica_of}
 use Rattle.pfair_replica.specs.Replica.{frontier, has_torn}
 use Rattle.pfair_replica.proofs.TornKeys.{test_by_untorn}
 use Rattle.pfair_table.specs.Refinement.{Dispatch}
 use Rattle.pfair_table.specs.Script.{replica_of_logs}
-use Rattle.pfair_table.specs.ScriptRun.{IsScriptFaultOf}
 use Rattle.pfair_table.specs.Table.{Settings}
-use Rattle.pfair_table.proofs.Scripts.{err_is, script_whole, stalls}
+use Rattle.pfair_table.proofs.Scripts.{script_whole, stalls}
 use Rattle.pfair_table.proofs.script_run.ScriptRun.new.Goals as goal
 
 pub returns-in_err-check_settled-clause-fault : goal.returns-in_err-check_settled-clause-fault
@@ -16,8 +14,7 @@ returns-in_err-check_settled-clause-fault g c =
     let held_is = ap replica_of c.into_replica-replica.ensures ∙ c.in_ok-take_script.ensures.held in
     let mark_is = c.frontier.ensures.value ∙ ap frontier held_is in
     let slots_are = c.slots.ensures.value ∙ ap (λ (s : Settings). s.slots) c.settings-settings.ensures.value in
-    err_is (λ r. IfErr r (IsScriptFaultOf script)) c.from_residual-in_err-check_settled.result _ c.from_residual-in_err-check_settled.ensures.1
-    (stalls script _ c.frontier.result c.slots.result mark_is slots_are c.in_err-check_settled.ensures.stalled)
+    stalls script c.from_residual-in_err-check_settled.result _ c.frontier.result c.slots.result c.from_residual-in_err-check_settled.ensures.1 mark_is slots_are c.in_err-check_settled.ensures.stalled
 
 pub invariant_of-result : goal.invariant_of-result
 invariant_of-result g c =
