@@ -26,7 +26,7 @@ use Rattle.pfair_handle.specs.declared.entry.PfairEntry.{PfairEntry}
 use Rattle.pfair_handle.specs.Planning.{IsPlannedOn, IsStopOf, IsStoppedBy, IsWhole}
 use Rattle.pfair_c.specs.declared.plan.PfairStep.{PfairStep}
 
--- the answer of `pfair_window`: 4 to 6 where there is no such weight, 100 where the subtask or the offset is out of range
+-- the answer of `pfair_window`: 4 to 6 if there is no such weight, 100 if the subtask or the offset is out of range
 abbrev pub window_answer : ℕ → ℕ → ℕ → ℕ → ℕ
 window_answer cost period index theta =
     if nat_eq cost 0 then 4
@@ -34,14 +34,15 @@ window_answer cost period index theta =
     else (if nat_lt 1000000000 period then 6
     else (if nat_le 1 index && nat_le index 1000001 && nat_le theta 1099511627776 then 0 else 100)))
 
--- the answer of `pfair_windows`: 4 to 6 where there is no such weight, 100 where a subtask or the offset is out of range, 103 where
--- there are fewer rows than windows
+-- the answer of `pfair_windows`: 4 to 6 if there is no such weight, 100 if a subtask or the offset is out of range,
+-- 103 if there are fewer rows than windows
 abbrev pub windows_answer : (cost period first count theta room : ℕ) → ℕ
 windows_answer cost period first count theta room =
     if nat_eq cost 0 then 4
     else (if nat_lt period cost then 5
     else (if nat_lt 1000000000 period then 6
-    else (if nat_le 1 first && nat_le (first + count) 1000002 && nat_le theta 1099511627776 then (if nat_le count room then 0 else 103) else 100)))
+    else (if nat_le 1 first && nat_le (first + count) 1000002 && nat_le theta 1099511627776
+    then (if nat_le count room then 0 else 103) else 100)))
 
 -- settings and a capacity that a dispatcher can have
 abbrev pub IsOpenable : Settings → ℕ → Type 0
@@ -50,7 +51,8 @@ IsOpenable s capacity = IsSettings s × (1 ≤ capacity) × (capacity ≤ 4096)
 -- a new dispatcher
 abbrev pub IsStarted : Settings → ℕ → Kept → Type 0
 IsStarted s capacity None = ⊥
-IsStarted s capacity (Some x) = (course_of x.dispatcher ≡ start s capacity) × (x.dispatcher.spent ≡ false) × (x.dispatcher.settings ≡ s)
+IsStarted s capacity (Some x) =
+    (course_of x.dispatcher ≡ start s capacity) × (x.dispatcher.spent ≡ false) × (x.dispatcher.settings ≡ s)
 
 -- ---- what is held
 

@@ -13,7 +13,9 @@ use Rattle.pfair_c.specs.declared.file.PfairFileFault.{PfairFileFault}
 
 -- a new dispatcher that has taken all entries of a script's logs, and no more
 abbrev pub IsStartedWith : LoggedRun → Dispatch → Type 0
-IsStartedWith script d = (d.settings ≡ script.settings) × (replica_of d.held ≡ replica_of_logs script.logs) × (d.tables ≡ []) × (d.spent ≡ false)
+IsStartedWith script d =
+    (d.settings ≡ script.settings) × (replica_of d.held ≡ replica_of_logs script.logs)
+    × (d.tables ≡ []) × (d.spent ≡ false)
 
 -- what a file says, in such a dispatcher
 abbrev pub IsReadFrom : List ℕ → Dispatch → Type 0
@@ -50,10 +52,12 @@ fault_row fault.NotToml = nowhere
 fault_row (fault.Missing place f) = at_key place f
 fault_row (fault.WrongKind place f) = at_key place f
 fault_row (fault.Range place f) = at_key place f
-fault_row (fault.Entry processor number cause) = record { place = 0; field = 0; processor = processor; number = number; cause = cause_number cause }
+fault_row (fault.Entry processor number cause) =
+    record { place = 0; field = 0; processor = processor; number = number; cause = cause_number cause }
 fault_row fault.Version = nowhere
 fault_row fault.Memory = nowhere
 
 -- the file's first fault, by its number, and where it is
 abbrev pub IsFileFault : List ℕ → ℕ → PfairFileFault → Type 0
-IsFileFault bytes answer row = (f : FileFault) × (script_of_file bytes ≡ Err f) × (answer ≡ file_fault_number f) × (row ≡ fault_row f)
+IsFileFault bytes answer row =
+    (f : FileFault) × (script_of_file bytes ≡ Err f) × (answer ≡ file_fault_number f) × (row ≡ fault_row f)

@@ -52,4 +52,5 @@ faulty_keys d = torn_keys (replica_of d.held) ++ fallen_keys (replica_of d.held)
 -- ---- settings
 
 abbrev pub settings_row : Dispatch → PfairSettings
-settings_row d = record { processors = d.settings.processors; frame = d.settings.frame; slots = d.settings.slots; capacity = d.held.capacity }
+settings_row d =
+    record { processors = d.settings.processors; frame = d.settings.frame; slots = d.settings.slots; capacity = d.held.capacity }

@@ -1,16 +1,30 @@
--- What a call tells of the dispatcher behind a handle.
-use Rattle.std.specs.Prelude.{ℕ, ◌≡◌, List}
+-- What the calls of a closure over an open dispatcher may give.
+use Rattle.std.specs.Prelude.{ℕ, ◌≡◌}
 use denote.Ref.{Bor, MutBor}
 use Rattle.std.specs.Fn.{Once}
 use Rattle.pfair_table.specs.Refinement.{Dispatch}
 
--- the call of f at the dispatcher d, a count and rows may give this answer, and leave this count and these rows
-pub record Tells {F B : Type 0} (g : Once F (Bor Dispatch × (MutBor ℕ × (MutBor (List B) × Unit {0}))) (ℕ × (MutBor ℕ × (MutBor (List B) × Unit {0})))) (f : F) (d : Dispatch) (count : ℕ) (rows : List B) (answer count' : ℕ) (rows' : List B) : Type 0 where
+-- f at the dispatcher d, a and b may give this answer, and leave a' and b'
+pub record Tells {F A B : Type 0}
+    (g : Once F (Bor Dispatch × (MutBor A × (MutBor B × Unit {0}))) (ℕ × (MutBor A × (MutBor B × Unit {0}))))
+    (f : F) (d : Dispatch) (a : A) (b : B) (answer : ℕ) (a' : A) (b' : B) : Type 0 where
   pub shown : Bor Dispatch
-  pub shown_count : MutBor ℕ
-  pub shown_rows : MutBor (List B)
-  pub shows : (shown.now ≡ d) × (shown_count.now ≡ count) × (shown_rows.now ≡ rows)
-  pub left_count : MutBor ℕ
-  pub left_rows : MutBor (List B)
-  pub met : g.post f (shown, (shown_count, (shown_rows, tt))) (answer, (left_count, (left_rows, tt)))
-  pub leaves : (left_count.now ≡ count') × (left_rows.now ≡ rows')
+  pub shown_a : MutBor A
+  pub shown_b : MutBor B
+  pub left_a : MutBor A
+  pub left_b : MutBor B
+  pub met : g.post f (shown, (shown_a, (shown_b, tt))) (answer, (left_a, (left_b, tt)))
+  pub shows : (shown.now ≡ d) × (shown_a.now ≡ a) × (shown_b.now ≡ b)
+  pub leaves : (left_a.now ≡ a') × (left_b.now ≡ b')
+
+-- f at the dispatcher d and a may give this answer, and leave e and a'
+pub record Changes {F A : Type 0}
+    (g : Once F (MutBor Dispatch × (MutBor A × Unit {0})) (ℕ × (MutBor Dispatch × (MutBor A × Unit {0}))))
+    (f : F) (d : Dispatch) (a : A) (answer : ℕ) (e : Dispatch) (a' : A) : Type 0 where
+  pub shown : MutBor Dispatch
+  pub shown_a : MutBor A
+  pub left : MutBor Dispatch
+  pub left_a : MutBor A
+  pub met : g.post f (shown, (shown_a, tt)) (answer, (left, (left_a, tt)))
+  pub shows : (shown.now ≡ d) × (shown_a.now ≡ a)
+  pub leaves : (left.now ≡ e) × (left_a.now ≡ a')

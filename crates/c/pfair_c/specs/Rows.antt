@@ -37,7 +37,8 @@ rows_count (Some planned) count = length planned
 -- what was planned, over the first rows, where there are enough
 abbrev pub rows_after : {A B : Type 0} → (A → B) → Option (List A) → List B → List B
 rows_after f None rows = rows
-rows_after f (Some planned) rows = if nat_le (length planned) (length rows) then written_over (map f planned) rows else rows
+rows_after f (Some planned) rows =
+    if nat_le (length planned) (length rows) then written_over (map f planned) rows else rows
 
 -- places, over the first rows
 abbrev pub places_after : Option (List ℕ) → List ℕ → List ℕ
@@ -64,7 +65,8 @@ abbrev pub rows_counted : {A : Type 0} → Option (List A) → ℕ → ℕ
 rows_counted None count = count
 rows_counted (Some planned) count = min (length planned) 18446744073709551615
 
--- the lags after each of the slots `from` to `to` - 1, if these are planned, and no slot is forgotten: they count from slot 0 on
+-- the lags after each of the slots `from` to `to` - 1, if these are planned, and no slot is forgotten: they count from
+-- slot 0 on
 abbrev pub lags_between : Dispatch → (from to : ℕ) → Option (List PfairLag)
 lags_between d from to =
     if are_counted d.forgotten (length d.tables) from to then Some (lags_of d.decided d.tables from to) else None

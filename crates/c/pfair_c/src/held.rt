@@ -1,5 +1,5 @@
 //! What a dispatcher holds, and what it plans for.
-ghost use Rattle.std.specs.Prelude.{◌≡◌, ◌≢◌, ◌≤◌, ◌⊎◌, [], ◌++◌, Some, None, true, length, unwrap_or};
+ghost use Rattle.std.specs.Prelude.{◌≡◌, ◌≢◌, ◌≤◌, ◌⊎◌, [], Some, None, true, length, unwrap_or};
 ghost use Rattle.pfair_replica.specs.HeldRows.{held, replica_of};
 ghost use Rattle.pfair_replica.specs.Replica.{Below, mark, missing, sound_beginning, torn_keys, fallen_keys};
 ghost use Rattle.pfair_handle.specs.Kept.{is_kept};
@@ -8,13 +8,11 @@ ghost use Rattle.pfair_handle.specs.Behind.{Of, Between};
 ghost use Rattle.pfair_c.specs.Held.{log_answer, key_answer, held_kind, entry_after, faulty_keys, settings_row};
 ghost use Rattle.pfair_c.specs.Rows.{rows_answer, rows_after};
 
-use crate::open::read_open;
+use crate::open::tell;
 use pfair_handle::answer::{DONE, MEMORY, NO_ROOM, NO_SUCH_NUMBER, NO_SUCH_PROCESSOR, NOT_OPEN};
 use pfair_handle::{Handle, PfairEntry, PfairKey, entry_row, write_faults};
 use pfair_lattice::Flat;
-use pfair_ready::HeapReady;
-use pfair_replica::{Faults, Replica};
-use pfair_table::Dispatcher;
+use pfair_replica::Replica;
 use std::alloc::Global;
 
 /// What a dispatcher plans for, and how large its logs can be.
@@ -44,11 +42,22 @@ pub extern "C" fn pfair_settings(
     ensures open { is_kept handle.old.owner.kept ≡ true → (result ≡ 0) × Of handle.old.owner.kept (λ d. settings.new ≡ settings_row d) }
     ensures unchanged { handle.new.owner.kept ≡ handle.old.owner.kept }
 {
-    if !handle.is_open() {
-        return NOT_OPEN;
-    }
-    *settings = read_open(alloc, handle, |dispatcher| settings_row(dispatcher));
-    DONE
+    tell(
+        alloc,
+        handle,
+        settings,
+        &mut (),
+        |dispatcher, settings, _| {
+            let planned_for = dispatcher.settings();
+            *settings = PfairSettings {
+                processors: planned_for.processors() as u64,
+                frame: planned_for.frame(),
+                slots: planned_for.slots(),
+                capacity: dispatcher.replica().capacity() as u64,
+            };
+            DONE
+        },
+    )
 }
 
 /// Writes what is held at number `number` (from 1) of the log of `processor` (from 0): 0 nothing, 1
@@ -72,13 +81,22 @@ pub extern "C" fn pfair_held(
     ensures untold { (result ≡ 0 → ⊥) → (kind.new ≡ kind.old) × (entry.new ≡ entry.old) }
     ensures unchanged { handle.new.owner.kept ≡ handle.old.owner.kept }
 {
-    if !handle.is_open() {
-        return NOT_OPEN;
-    }
-    let served = handle.take(alloc);
-    let answer = find_held(served.dispatcher.replica(), processor, number, kind, entry);
-    handle.put(served);
-    answer
+    tell(alloc, handle, kind, entry, |dispatcher, kind, entry| {
+        let replica = dispatcher.replica();
+        let answer = key_answer(replica, processor, number);
+        if answer != DONE {
+            return answer;
+        }
+        *kind = match replica.get(processor, number) {
+            None => 0,
+            Some(Flat::One(held)) => {
+                *entry = entry_row(&held);
+                1
+            }
+            Some(Flat::Torn) => 2,
+        };
+        DONE
+    })
 }
 
 /// Writes the mark of a processor, the floor of the last entry of its sound beginning, and how many
@@ -101,18 +119,15 @@ pub extern "C" fn pfair_mark(
     ensures untold { (result ≡ 0 → ⊥) → (slot.new ≡ slot.old) × (count.new ≡ count.old) }
     ensures unchanged { handle.new.owner.kept ≡ handle.old.owner.kept }
 {
-    if !handle.is_open() {
-        return NOT_OPEN;
-    }
-    let served = handle.take(alloc);
-    let replica = served.dispatcher.replica();
-    let has_log = processor < replica.processors();
-    if has_log {
+    tell(alloc, handle, slot, count, |dispatcher, slot, count| {
+        let replica = dispatcher.replica();
+        if processor >= replica.processors() {
+            return NO_SUCH_PROCESSOR;
+        }
         *slot = replica.mark(processor);
         *count = replica.sound_count(processor) as u64;
-    }
-    handle.put(served);
-    if has_log { DONE } else { NO_SUCH_PROCESSOR }
+        DONE
+    })
 }
 
 /// Writes the least number of a processor's log at which nothing is held, or 0 if there is none.
@@ -133,17 +148,14 @@ pub extern "C" fn pfair_missing(
     ensures untold { (result ≡ 0 → ⊥) → number.new ≡ number.old }
     ensures unchanged { handle.new.owner.kept ≡ handle.old.owner.kept }
 {
-    if !handle.is_open() {
-        return NOT_OPEN;
-    }
-    let served = handle.take(alloc);
-    let replica = served.dispatcher.replica();
-    let has_log = processor < replica.processors();
-    if has_log {
+    tell(alloc, handle, number, &mut (), |dispatcher, number, _| {
+        let replica = dispatcher.replica();
+        if processor >= replica.processors() {
+            return NO_SUCH_PROCESSOR;
+        }
         *number = replica.missing(processor).unwrap_or(0) as u64;
-    }
-    handle.put(served);
-    if has_log { DONE } else { NO_SUCH_PROCESSOR }
+        DONE
+    })
 }
 
 /// Writes what is wrong with the logs that are held: the keys that are torn, and after these the
@@ -172,10 +184,19 @@ pub extern "C" fn pfair_faults(
     if !handle.is_open() {
         return NOT_OPEN;
     }
-    match read_open(alloc, handle, |dispatcher| dispatcher.replica().faults()) {
-        Ok(faults) => copy_faults(faults, torn, fallen, rows),
-        Err(_) => MEMORY,
+    let served = handle.take(alloc);
+    let found = served.dispatcher.replica().faults();
+    handle.put(served);
+    let Ok(faults) = found else {
+        return MEMORY;
+    };
+    *torn = faults.torn.len() as u64;
+    *fallen = faults.fallen.len() as u64;
+    if faults.torn.len() + faults.fallen.len() > rows.len() {
+        return NO_ROOM;
     }
+    write_faults(&faults, rows);
+    DONE
 }
 
 /// Writes 1 if the other dispatcher holds all that this one holds, each key with the same entry or
@@ -204,19 +225,6 @@ pub extern "C" fn pfair_below(
     DONE
 }
 
-// The settings as C has them.
-fn settings_row(dispatcher: &Dispatcher<HeapReady>) -> PfairSettings
-    ensures { result ≡ settings_row dispatcher.now }
-{
-    let planned_for = dispatcher.settings();
-    PfairSettings {
-        processors: planned_for.processors() as u64,
-        frame: planned_for.frame(),
-        slots: planned_for.slots(),
-        capacity: dispatcher.replica().capacity() as u64,
-    }
-}
-
 /// Returns 13 if a replica has no such processor, 14 if no log of it has such a number, else 0.
 pub(crate) fn key_answer(replica: &Replica, processor: u8, number: u32) -> u32
     ensures { result ≡ key_answer replica.now processor number }
@@ -227,49 +235,5 @@ pub(crate) fn key_answer(replica: &Replica, processor: u8, number: u32) -> u32
     if number == 0 || number > replica.capacity() {
         return NO_SUCH_NUMBER;
     }
-    DONE
-}
-
-// Writes what a replica holds at a key, and the entry if it is one.
-fn find_held(
-    replica: &Replica,
-    processor: u8,
-    number: u32,
-    kind: &mut u64,
-    entry: &mut PfairEntry,
-) -> u32
-    ensures answer { result ≡ key_answer replica.now processor number }
-    ensures kind { result ≡ 0 → kind.new ≡ held_kind (held replica.now processor number) }
-    ensures entry { result ≡ 0 → entry.new ≡ entry_after (held replica.now processor number) entry.old }
-    ensures untold { (result ≡ 0 → ⊥) → (kind.new ≡ kind.old) × (entry.new ≡ entry.old) }
-{
-    let answer = key_answer(replica, processor, number);
-    if answer != DONE {
-        return answer;
-    }
-    *kind = match replica.get(processor, number) {
-        None => 0,
-        Some(Flat::One(held)) => {
-            *entry = entry_row(&held);
-            1
-        }
-        Some(Flat::Torn) => 2,
-    };
-    DONE
-}
-
-// Writes the counts and, if there is room, the keys.
-fn copy_faults(faults: Faults, torn: &mut u64, fallen: &mut u64, rows: &mut [PfairKey]) -> u32
-    ensures answer { result ≡ rows_answer (Some (faults.torn.items ++ faults.fallen.items)) (length rows.old) }
-    ensures torn { torn.new ≡ length faults.torn.items }
-    ensures fallen { fallen.new ≡ length faults.fallen.items }
-    ensures rows { rows.new ≡ rows_after key_row (Some (faults.torn.items ++ faults.fallen.items)) rows.old }
-{
-    *torn = faults.torn.len() as u64;
-    *fallen = faults.fallen.len() as u64;
-    if faults.torn.len() + faults.fallen.len() > rows.len() {
-        return NO_ROOM;
-    }
-    write_faults(&faults, rows);
     DONE
 }

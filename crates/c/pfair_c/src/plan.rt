@@ -7,8 +7,8 @@ ghost use Rattle.pfair_handle.specs.Behind.{Of, Between};
 ghost use Rattle.pfair_table.specs.PlanFault.{plan_fault_number};
 ghost use Rattle.pfair_c.specs.Answers.{IsPlannedTo, IsRefusedTo, IsPlannedUpTo, IsStoppedAt, step_row, fault_row};
 
-use crate::open::{change_open, read_open};
-use pfair_handle::answer::{DONE, MEMORY, NOT_OPEN, OUT_OF_RANGE};
+use crate::open::{change, tell};
+use pfair_handle::answer::{DONE, MEMORY, OUT_OF_RANGE};
 use pfair_handle::{Handle, plan_to};
 use pfair_table::{PlanFault, Step};
 use std::alloc::Global;
@@ -40,11 +40,9 @@ pub extern "C" fn pfair_plan_next(alloc: Global, handle: &mut Handle, step: &mut
     ensures planned { result ≡ 0 → Between handle.old.owner.kept handle.new.owner.kept (IsPlannedTo step.new) }
     ensures refused { (result ≡ 0 → ⊥) → (result ≡ 102 → ⊥) → Between handle.old.owner.kept handle.new.owner.kept (IsRefusedTo result step.old step.new) }
 {
-    if !handle.is_open() {
-        return NOT_OPEN;
-    }
-    let answer = change_open(alloc, handle, |dispatcher| dispatcher.plan_next());
-    write_step(answer, step)
+    change(alloc, handle, step, |dispatcher, step| {
+        write_step(dispatcher.plan_next(), step)
+    })
 }
 
 /// Plans until `until` slots are planned (1 or more), the next one isn't settled, or none is left.
@@ -67,14 +65,12 @@ pub extern "C" fn pfair_plan_to(
     ensures planned { result ≡ 0 → Between handle.old.owner.kept handle.new.owner.kept (IsPlannedUpTo until step.new) }
     ensures refused { (result ≡ 0 → ⊥) → (result ≡ 100 → ⊥) → (result ≡ 102 → ⊥) → Between handle.old.owner.kept handle.new.owner.kept (IsStoppedAt until result step.old step.new) }
 {
-    if !handle.is_open() {
-        return NOT_OPEN;
-    }
-    if until < 1 {
-        return OUT_OF_RANGE;
-    }
-    let answer = change_open(alloc, handle, |dispatcher| plan_to(dispatcher, until));
-    write_step(answer, step)
+    change(alloc, handle, step, |dispatcher, step| {
+        if until < 1 {
+            return OUT_OF_RANGE;
+        }
+        write_step(plan_to(dispatcher, until), step)
+    })
 }
 
 // Writes what a plan answered, and returns its number.
@@ -125,10 +121,7 @@ pub extern "C" fn pfair_reserve(alloc: Global, handle: &mut Handle, slots: u64, 
     ensures only { (result ≡ 0 → ⊥) → (result ≡ 90 → ⊥) → (result ≡ 102) × (handle.old.owner.kept ≡ None) }
     ensures unchanged { handle.new.owner.kept ≡ handle.old.owner.kept }
 {
-    if !handle.is_open() {
-        return NOT_OPEN;
-    }
-    change_open(alloc, handle, |dispatcher| {
+    change(alloc, handle, &mut (), |dispatcher, _| {
         match dispatcher.reserve(slots, tasks as usize) {
             Ok(()) => DONE,
             Err(_) => MEMORY,
@@ -147,10 +140,7 @@ pub extern "C" fn pfair_forget(alloc: Global, handle: &mut Handle, slots: u64) -
     ensures answer { is_kept handle.old.owner.kept ≡ true → result ≡ 0 }
     ensures forgotten { is_kept handle.old.owner.kept ≡ true → Between handle.old.owner.kept handle.new.owner.kept (λ d e. e ≡ record d { forgotten = max d.forgotten (min slots (length d.tables)) }) }
 {
-    if !handle.is_open() {
-        return NOT_OPEN;
-    }
-    change_open(alloc, handle, |dispatcher| {
+    change(alloc, handle, &mut (), |dispatcher, _| {
         dispatcher.forget(slots);
         DONE
     })
@@ -169,12 +159,11 @@ pub extern "C" fn pfair_reopen(alloc: Global, handle: &mut Handle) -> u32
     ensures memory { result ≡ 90 → Between handle.old.owner.kept handle.new.owner.kept (λ d e. (e ≡ record d { spent = true }) × (has_torn (replica_of d.held) ≡ false)) }
     ensures only { (result ≡ 0 → ⊥) → (result ≡ 30 → ⊥) → (result ≡ 90 → ⊥) → (result ≡ 102) × (handle.old.owner.kept ≡ None) }
 {
-    if !handle.is_open() {
-        return NOT_OPEN;
-    }
-    change_open(alloc, handle, |dispatcher| match dispatcher.reopen() {
-        Ok(()) => DONE,
-        Err(fault) => fault.number() as u32,
+    change(alloc, handle, &mut (), |dispatcher, _| {
+        match dispatcher.reopen() {
+            Ok(()) => DONE,
+            Err(fault) => fault.number() as u32,
+        }
     })
 }
 
@@ -187,11 +176,10 @@ pub extern "C" fn pfair_frontier(alloc: Global, handle: &mut Handle, slot: &mut 
     ensures open { is_kept handle.old.owner.kept ≡ true → (result ≡ 0) × Of handle.old.owner.kept (λ d. slot.new ≡ frontier (replica_of d.held)) }
     ensures unchanged { handle.new.owner.kept ≡ handle.old.owner.kept }
 {
-    if !handle.is_open() {
-        return NOT_OPEN;
-    }
-    *slot = read_open(alloc, handle, |dispatcher| dispatcher.replica().frontier());
-    DONE
+    tell(alloc, handle, slot, &mut (), |dispatcher, slot, _| {
+        *slot = dispatcher.replica().frontier();
+        DONE
+    })
 }
 
 /// Writes the slot that is planned next, which is how many are planned.
@@ -203,9 +191,8 @@ pub extern "C" fn pfair_next_slot(alloc: Global, handle: &mut Handle, slot: &mut
     ensures open { is_kept handle.old.owner.kept ≡ true → (result ≡ 0) × Of handle.old.owner.kept (λ d. slot.new ≡ length d.tables) }
     ensures unchanged { handle.new.owner.kept ≡ handle.old.owner.kept }
 {
-    if !handle.is_open() {
-        return NOT_OPEN;
-    }
-    *slot = read_open(alloc, handle, |dispatcher| dispatcher.next_slot());
-    DONE
+    tell(alloc, handle, slot, &mut (), |dispatcher, slot, _| {
+        *slot = dispatcher.next_slot();
+        DONE
+    })
 }

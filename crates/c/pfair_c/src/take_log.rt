@@ -6,7 +6,8 @@ ghost use Rattle.pfair_handle.specs.TakenLog.{IsTakenTo};
 ghost use Rattle.pfair_c.specs.Held.{IsKeyFault, IsRefusedAfter};
 
 use crate::held::key_answer;
-use pfair_handle::answer::{DONE, NOT_OPEN};
+use crate::open::change;
+use pfair_handle::answer::DONE;
 use pfair_handle::{Handle, PfairEntry, PfairTakenLog, take_entries};
 use pfair_ready::HeapReady;
 use pfair_table::Dispatcher;
@@ -36,13 +37,9 @@ pub extern "C" fn pfair_take_log(
     ensures all { result ≡ 0 → counted.new.taken ≡ length entries.now }
     ensures refused { (result ≡ 0 → ⊥) → (result ≡ 102 → ⊥) → Of handle.new.owner.kept (λ d. IsRefusedAfter counted.new.taken processor first entries.now result d.held) }
 {
-    if !handle.is_open() {
-        return NOT_OPEN;
-    }
-    let mut served = handle.take(alloc);
-    let answer = take_log(&mut served.dispatcher, processor, first, counted, entries);
-    handle.put(served);
-    answer
+    change(alloc, handle, counted, |dispatcher, counted| {
+        take_log(dispatcher, processor, first, counted, entries)
+    })
 }
 
 // Takes the entries, if the log is there and has such a number.
