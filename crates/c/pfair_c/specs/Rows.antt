@@ -2,9 +2,13 @@
 use Rattle.std.specs.Prelude.{ℕ, ◌≡◌, ◌≤◌, ◌<◌, Bool, ◌&&◌, ◌||◌, nat_eq, nat_le, nat_lt, min, if◌then◌else◌}
 use Rattle.std.specs.Prelude.{List, length, map, slice_get, Option}
 use Rattle.std.specs.declared.option.Option.TheVariants.{None, Some}
+use Rattle.std.specs.Option.{option_map}
+use Rattle.pfair_table.specs.Places.{places_of}
+use Rattle.pfair_handle.specs.declared.rows.PfairPick.{PfairPick}
+use Rattle.pfair_handle.specs.declared.rows.PfairDecided.{PfairDecided}
 use Rattle.pfair_handle.specs.declared.quanta.PfairQuantum.{PfairQuantum}
 use Rattle.pfair_handle.specs.declared.decisions.PfairDecision.{PfairDecision}
-use Rattle.pfair_handle.specs.Rows.{written_over, quanta_of, decisions_of}
+use Rattle.pfair_handle.specs.Rows.{written_over, pick_row, decided_row, quanta_of, decisions_of}
 use Rattle.pfair_handle.specs.declared.lags.PfairLag.{PfairLag}
 use Rattle.pfair_handle.specs.Lags.{lags_of, IsPartlyLaid}
 use Rattle.pfair_admission.specs.Member.{Member}
@@ -34,36 +38,41 @@ abbrev pub rows_count : {A : Type 0} → Option (List A) → ℕ → ℕ
 rows_count None count = count
 rows_count (Some planned) count = length planned
 
--- what was planned, over the first rows, where there are enough
-abbrev pub rows_after : {A B : Type 0} → (A → B) → Option (List A) → List B → List B
-rows_after f None rows = rows
-rows_after f (Some planned) rows =
-    if nat_le (length planned) (length rows) then written_over (map f planned) rows else rows
+-- how many are wanted, as far as 64 bits can say it
+abbrev pub rows_counted : {A : Type 0} → Option (List A) → ℕ → ℕ
+rows_counted None count = count
+rows_counted (Some planned) count = min (length planned) 18446744073709551615
 
--- places, over the first rows
-abbrev pub places_after : Option (List ℕ) → List ℕ → List ℕ
-places_after None rows = rows
-places_after (Some places) rows = if nat_le (length places) (length rows) then written_over places rows else rows
+-- the rows over the first of those that were there, if these are enough
+abbrev pub rows_laid : {B : Type 0} → Option (List B) → List B → List B
+rows_laid None rows = rows
+rows_laid (Some laid) rows = if nat_le (length laid) (length rows) then written_over laid rows else rows
+
+-- the answer, and the count and the rows before and after, of a call that tells these rows, or nothing
+abbrev pub AreTold : {B : Type 0} → (counted : Option (List B) → ℕ → ℕ) → (told : Option (List B))
+    → (answer count count' : ℕ) → (rows rows' : List B) → Type 0
+AreTold counted told answer count count' rows rows' =
+    (answer ≡ rows_answer told (length rows)) × (count' ≡ counted told count) × (rows' ≡ rows_laid told rows)
+
+-- the table of a planned slot, its places, and the decisions at its boundary
+abbrev pub table_of : Dispatch → (slot : ℕ) → Option (List PfairPick)
+table_of d slot = option_map (map pick_row) (told_at d.forgotten d.tables slot)
+
+abbrev pub places_at : Dispatch → (slot : ℕ) → Option (List ℕ)
+places_at d slot = told_at d.forgotten (places_of d.tables) slot
+
+abbrev pub decided_at : Dispatch → (slot : ℕ) → Option (List PfairDecided)
+decided_at d slot = option_map (map decided_row) (told_at d.forgotten d.decided slot)
 
 -- the quanta of the slots `from` to `to` - 1, where all of these are planned, and none is forgotten
 abbrev pub quanta_between : Dispatch → (from to : ℕ) → Option (List PfairQuantum)
 quanta_between d from to =
     if are_told d.forgotten (length d.tables) from to then Some (quanta_of d.tables from to) else None
 
--- rows as they are, over the first ones, where there are enough
-abbrev pub rows_laid : {B : Type 0} → Option (List B) → List B → List B
-rows_laid None rows = rows
-rows_laid (Some laid) rows = if nat_le (length laid) (length rows) then written_over laid rows else rows
-
 -- the decisions of the slots `from` to `to` - 1, where all of these are planned, and none is forgotten
 abbrev pub decisions_between : Dispatch → (from to : ℕ) → Option (List PfairDecision)
 decisions_between d from to =
     if are_told d.forgotten (length d.decided) from to then Some (decisions_of d.decided from to) else None
-
--- how many are wanted, as far as 64 bits can say it
-abbrev pub rows_counted : {A : Type 0} → Option (List A) → ℕ → ℕ
-rows_counted None count = count
-rows_counted (Some planned) count = min (length planned) 18446744073709551615
 
 -- the lags after each of the slots `from` to `to` - 1, if these are planned, and no slot is forgotten: they count from
 -- slot 0 on
@@ -82,4 +91,4 @@ pub record AreMembersTold (d : Dispatch) (answer count : ℕ) (old new : List Pf
   pub are_members : AreMembersNow d members
   pub answer_is : answer ≡ rows_answer (Some members) (length old)
   pub count_is : count ≡ length members
-  pub rows_are : new ≡ rows_after member_row (Some members) old
+  pub rows_are : new ≡ rows_laid (Some (map member_row members)) old

@@ -1,8 +1,8 @@
 //! The decisions of several slots, in rows.
-ghost use Rattle.std.specs.Prelude.{◌≡◌, None, true, length};
+ghost use Rattle.std.specs.Prelude.{◌≡◌, None, true};
 ghost use Rattle.pfair_handle.specs.Kept.{is_kept};
 ghost use Rattle.pfair_handle.specs.Behind.{Of};
-ghost use Rattle.pfair_c.specs.Rows.{decisions_between, rows_answer, rows_counted, rows_laid};
+ghost use Rattle.pfair_c.specs.Rows.{AreTold, decisions_between, rows_counted};
 
 use crate::open::tell_rows;
 use crate::rows::{are_told, lay_rows};
@@ -26,9 +26,7 @@ pub extern "C" fn pfair_decisions_of(
     rows: &mut [PfairDecision],
 ) -> u32
     ensures closed { handle.old.owner.kept ≡ None → (result ≡ 102) × (count.new ≡ count.old) × (rows.new ≡ rows.old) }
-    ensures answer { is_kept handle.old.owner.kept ≡ true → Of handle.old.owner.kept (λ d. result ≡ rows_answer (decisions_between d from to) (length rows.old)) }
-    ensures count { is_kept handle.old.owner.kept ≡ true → Of handle.old.owner.kept (λ d. count.new ≡ rows_counted (decisions_between d from to) count.old) }
-    ensures rows { is_kept handle.old.owner.kept ≡ true → Of handle.old.owner.kept (λ d. rows.new ≡ rows_laid (decisions_between d from to) rows.old) }
+    ensures told { is_kept handle.old.owner.kept ≡ true → Of handle.old.owner.kept (λ d. AreTold rows_counted (decisions_between d from to) result count.old count.new rows.old rows.new) }
     ensures unchanged { handle.new.owner.kept ≡ handle.old.owner.kept }
 {
     tell_rows(alloc, handle, count, rows, |dispatcher, count, rows| {

@@ -1,12 +1,12 @@
 //! What a dispatcher holds, and what it plans for.
-ghost use Rattle.std.specs.Prelude.{◌≡◌, ◌≢◌, ◌≤◌, ◌⊎◌, [], Some, None, true, length, unwrap_or};
+ghost use Rattle.std.specs.Prelude.{◌≡◌, ◌≢◌, ◌≤◌, ◌⊎◌, [], Some, None, true, length, map, unwrap_or};
 ghost use Rattle.pfair_replica.specs.HeldRows.{held, replica_of};
 ghost use Rattle.pfair_replica.specs.Replica.{Below, mark, missing, sound_beginning, torn_keys, fallen_keys};
 ghost use Rattle.pfair_handle.specs.Kept.{is_kept};
 ghost use Rattle.pfair_handle.specs.Rows.{key_row};
 ghost use Rattle.pfair_handle.specs.Behind.{Of, Between};
 ghost use Rattle.pfair_c.specs.Held.{log_answer, key_answer, held_kind, entry_after, faulty_keys, settings_row};
-ghost use Rattle.pfair_c.specs.Rows.{rows_answer, rows_after};
+ghost use Rattle.pfair_c.specs.Rows.{rows_answer, rows_laid};
 
 use crate::open::tell;
 use pfair_handle::answer::{DONE, MEMORY, NO_ROOM, NO_SUCH_NUMBER, NO_SUCH_PROCESSOR, NOT_OPEN};
@@ -178,7 +178,7 @@ pub extern "C" fn pfair_faults(
     ensures answer { is_kept handle.old.owner.kept ≡ true → (result ≡ 90 → ⊥) → Of handle.old.owner.kept (λ d. result ≡ rows_answer (Some (faulty_keys d)) (length rows.old)) }
     ensures torn { is_kept handle.old.owner.kept ≡ true → (result ≡ 90 → ⊥) → Of handle.old.owner.kept (λ d. torn.new ≡ length (torn_keys (replica_of d.held))) }
     ensures fallen { is_kept handle.old.owner.kept ≡ true → (result ≡ 90 → ⊥) → Of handle.old.owner.kept (λ d. fallen.new ≡ length (fallen_keys (replica_of d.held))) }
-    ensures rows { is_kept handle.old.owner.kept ≡ true → (result ≡ 90 → ⊥) → Of handle.old.owner.kept (λ d. rows.new ≡ rows_after key_row (Some (faulty_keys d)) rows.old) }
+    ensures rows { is_kept handle.old.owner.kept ≡ true → (result ≡ 90 → ⊥) → Of handle.old.owner.kept (λ d. rows.new ≡ rows_laid (Some (map key_row (faulty_keys d))) rows.old) }
     ensures unchanged { handle.new.owner.kept ≡ handle.old.owner.kept }
 {
     if !handle.is_open() {

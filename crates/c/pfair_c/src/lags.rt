@@ -1,8 +1,8 @@
 //! The lags in several slots, in rows.
-ghost use Rattle.std.specs.Prelude.{◌≡◌, None, true, length};
+ghost use Rattle.std.specs.Prelude.{◌≡◌, None, true};
 ghost use Rattle.pfair_handle.specs.Kept.{is_kept};
 ghost use Rattle.pfair_handle.specs.Behind.{Of};
-ghost use Rattle.pfair_c.specs.Rows.{IsLaidInPart, lags_between, rows_answer, rows_counted, rows_laid};
+ghost use Rattle.pfair_c.specs.Rows.{AreTold, IsLaidInPart, lags_between, rows_counted};
 
 use crate::open::tell_rows;
 use pfair_handle::answer::{DONE, MEMORY, NO_ROOM, NOT_PLANNED};
@@ -30,9 +30,7 @@ pub extern "C" fn pfair_lags(
     rows: &mut [PfairLag],
 ) -> u32
     ensures closed { handle.old.owner.kept ≡ None → (result ≡ 102) × (count.new ≡ count.old) × (rows.new ≡ rows.old) }
-    ensures answer { is_kept handle.old.owner.kept ≡ true → (result ≡ 90 → ⊥) → Of handle.old.owner.kept (λ d. result ≡ rows_answer (lags_between d from to) (length rows.old)) }
-    ensures count { is_kept handle.old.owner.kept ≡ true → (result ≡ 90 → ⊥) → Of handle.old.owner.kept (λ d. count.new ≡ rows_counted (lags_between d from to) count.old) }
-    ensures rows { is_kept handle.old.owner.kept ≡ true → (result ≡ 90 → ⊥) → Of handle.old.owner.kept (λ d. rows.new ≡ rows_laid (lags_between d from to) rows.old) }
+    ensures told { is_kept handle.old.owner.kept ≡ true → (result ≡ 90 → ⊥) → Of handle.old.owner.kept (λ d. AreTold rows_counted (lags_between d from to) result count.old count.new rows.old rows.new) }
     ensures memory { result ≡ 90 → (count.new ≡ count.old) × Of handle.old.owner.kept (IsLaidInPart from to rows.old rows.new) }
     ensures unchanged { handle.new.owner.kept ≡ handle.old.owner.kept }
 {
@@ -49,9 +47,7 @@ fn copy_lags(
     count: &mut u64,
     rows: &mut [PfairLag],
 ) -> u32
-    ensures answer { (result ≡ 90 → ⊥) → result ≡ rows_answer (lags_between dispatcher.now from to) (length rows.old) }
-    ensures count { (result ≡ 90 → ⊥) → count.new ≡ rows_counted (lags_between dispatcher.now from to) count.old }
-    ensures rows { (result ≡ 90 → ⊥) → rows.new ≡ rows_laid (lags_between dispatcher.now from to) rows.old }
+    ensures told { (result ≡ 90 → ⊥) → AreTold rows_counted (lags_between dispatcher.now from to) result count.old count.new rows.old rows.new }
     ensures memory { result ≡ 90 → (count.new ≡ count.old) × IsLaidInPart from to rows.old rows.new dispatcher.now }
 {
     if to > dispatcher.next_slot() {

@@ -1,8 +1,8 @@
 //! The quanta of several slots, in rows.
-ghost use Rattle.std.specs.Prelude.{◌≡◌, None, true, length};
+ghost use Rattle.std.specs.Prelude.{◌≡◌, None, true};
 ghost use Rattle.pfair_handle.specs.Kept.{is_kept};
 ghost use Rattle.pfair_handle.specs.Behind.{Of};
-ghost use Rattle.pfair_c.specs.Rows.{quanta_between, rows_answer, rows_count, rows_laid};
+ghost use Rattle.pfair_c.specs.Rows.{AreTold, quanta_between, rows_count};
 
 use crate::open::tell_rows;
 use crate::rows::{are_told, lay_rows};
@@ -26,9 +26,7 @@ pub extern "C" fn pfair_quanta(
     rows: &mut [PfairQuantum],
 ) -> u32
     ensures closed { handle.old.owner.kept ≡ None → (result ≡ 102) × (count.new ≡ count.old) × (rows.new ≡ rows.old) }
-    ensures answer { is_kept handle.old.owner.kept ≡ true → Of handle.old.owner.kept (λ d. result ≡ rows_answer (quanta_between d from to) (length rows.old)) }
-    ensures count { is_kept handle.old.owner.kept ≡ true → Of handle.old.owner.kept (λ d. count.new ≡ rows_count (quanta_between d from to) count.old) }
-    ensures rows { is_kept handle.old.owner.kept ≡ true → Of handle.old.owner.kept (λ d. rows.new ≡ rows_laid (quanta_between d from to) rows.old) }
+    ensures told { is_kept handle.old.owner.kept ≡ true → Of handle.old.owner.kept (λ d. AreTold rows_count (quanta_between d from to) result count.old count.new rows.old rows.new) }
     ensures unchanged { handle.new.owner.kept ≡ handle.old.owner.kept }
 {
     tell_rows(alloc, handle, count, rows, |dispatcher, count, rows| {

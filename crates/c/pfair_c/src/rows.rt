@@ -5,11 +5,9 @@
 //! Nothing else is written.
 ghost use Rattle.std.specs.Prelude.{◌≡◌, ◌≤◌, ◌<◌, None, true, length, nat_le, if◌then◌else◌};
 ghost use Rattle.std.specs.Fn.{FnOnceTakesAtMut, FnOnceReturnsAtMut};
-ghost use Rattle.pfair_table.specs.Places.{places_of};
 ghost use Rattle.pfair_handle.specs.Kept.{is_kept};
-ghost use Rattle.pfair_handle.specs.Rows.{pick_row, decided_row};
 ghost use Rattle.pfair_handle.specs.Behind.{Of};
-ghost use Rattle.pfair_c.specs.Rows.{are_told, rows_answer, rows_count, rows_after, places_after, told_at};
+ghost use Rattle.pfair_c.specs.Rows.{AreTold, are_told, rows_count, table_of, places_at, decided_at};
 
 use crate::open::tell_rows;
 use pfair_handle::answer::{DONE, NO_ROOM, NOT_PLANNED};
@@ -28,9 +26,7 @@ pub extern "C" fn pfair_table(
     rows: &mut [PfairPick],
 ) -> u32
     ensures closed { handle.old.owner.kept ≡ None → (result ≡ 102) × (count.new ≡ count.old) × (rows.new ≡ rows.old) }
-    ensures answer { is_kept handle.old.owner.kept ≡ true → Of handle.old.owner.kept (λ d. result ≡ rows_answer (told_at d.forgotten d.tables slot) (length rows.old)) }
-    ensures count { is_kept handle.old.owner.kept ≡ true → Of handle.old.owner.kept (λ d. count.new ≡ rows_count (told_at d.forgotten d.tables slot) count.old) }
-    ensures rows { is_kept handle.old.owner.kept ≡ true → Of handle.old.owner.kept (λ d. rows.new ≡ rows_after pick_row (told_at d.forgotten d.tables slot) rows.old) }
+    ensures told { is_kept handle.old.owner.kept ≡ true → Of handle.old.owner.kept (λ d. AreTold rows_count (table_of d slot) result count.old count.new rows.old rows.new) }
     ensures unchanged { handle.new.owner.kept ≡ handle.old.owner.kept }
 {
     tell_rows(alloc, handle, count, rows, |dispatcher, count, rows| {
@@ -56,9 +52,7 @@ pub extern "C" fn pfair_places(
     rows: &mut [u8],
 ) -> u32
     ensures closed { handle.old.owner.kept ≡ None → (result ≡ 102) × (count.new ≡ count.old) × (rows.new ≡ rows.old) }
-    ensures answer { is_kept handle.old.owner.kept ≡ true → Of handle.old.owner.kept (λ d. result ≡ rows_answer (told_at d.forgotten (places_of d.tables) slot) (length rows.old)) }
-    ensures count { is_kept handle.old.owner.kept ≡ true → Of handle.old.owner.kept (λ d. count.new ≡ rows_count (told_at d.forgotten (places_of d.tables) slot) count.old) }
-    ensures rows { is_kept handle.old.owner.kept ≡ true → Of handle.old.owner.kept (λ d. rows.new ≡ places_after (told_at d.forgotten (places_of d.tables) slot) rows.old) }
+    ensures told { is_kept handle.old.owner.kept ≡ true → Of handle.old.owner.kept (λ d. AreTold rows_count (places_at d slot) result count.old count.new rows.old rows.new) }
     ensures unchanged { handle.new.owner.kept ≡ handle.old.owner.kept }
 {
     tell_rows(alloc, handle, count, rows, |dispatcher, count, rows| {
@@ -84,9 +78,7 @@ pub extern "C" fn pfair_decisions(
     rows: &mut [PfairDecided],
 ) -> u32
     ensures closed { handle.old.owner.kept ≡ None → (result ≡ 102) × (count.new ≡ count.old) × (rows.new ≡ rows.old) }
-    ensures answer { is_kept handle.old.owner.kept ≡ true → Of handle.old.owner.kept (λ d. result ≡ rows_answer (told_at d.forgotten d.decided slot) (length rows.old)) }
-    ensures count { is_kept handle.old.owner.kept ≡ true → Of handle.old.owner.kept (λ d. count.new ≡ rows_count (told_at d.forgotten d.decided slot) count.old) }
-    ensures rows { is_kept handle.old.owner.kept ≡ true → Of handle.old.owner.kept (λ d. rows.new ≡ rows_after decided_row (told_at d.forgotten d.decided slot) rows.old) }
+    ensures told { is_kept handle.old.owner.kept ≡ true → Of handle.old.owner.kept (λ d. AreTold rows_count (decided_at d slot) result count.old count.new rows.old rows.new) }
     ensures unchanged { handle.new.owner.kept ≡ handle.old.owner.kept }
 {
     tell_rows(alloc, handle, count, rows, |dispatcher, count, rows| {
