@@ -13,11 +13,11 @@ use Rattle.pfair_handle.specs.EntryRows.{entry_row}
 use Rattle.pfair_handle.specs.declared.entry.PfairEntry.{PfairEntry}
 use Rattle.pfair_c.specs.declared.held.PfairSettings.{PfairSettings}
 
--- the answer of a call on the log of a processor: 13 where there is no such processor
+-- the answer of a call on the log of a processor: 13 if there is no such processor
 abbrev pub log_answer : HeldRows → ℕ → ℕ
 log_answer x k = if nat_lt k x.processors then 0 else 13
 
--- the answer of a call on a key: 13 where there is no such processor, 14 where no log has such a number
+-- the answer of a call on a key: 13 if there is no such processor, 14 if no log has such a number
 abbrev pub key_answer : HeldRows → (k n : ℕ) → ℕ
 key_answer x k n = if nat_lt k x.processors then (if nat_le 1 n && nat_le n x.capacity then 0 else 14) else 13
 
@@ -53,4 +53,9 @@ faulty_keys d = torn_keys (replica_of d.held) ++ fallen_keys (replica_of d.held)
 
 abbrev pub settings_row : Dispatch → PfairSettings
 settings_row d =
-    record { processors = d.settings.processors; frame = d.settings.frame; slots = d.settings.slots; capacity = d.held.capacity }
+    record {
+      processors = d.settings.processors;
+      frame = d.settings.frame;
+      slots = d.settings.slots;
+      capacity = d.held.capacity;
+    }

@@ -1,4 +1,4 @@
--- What the calls answer that write rows, where there is a dispatcher.
+-- What the calls tell that write rows of an open dispatcher.
 use Rattle.std.specs.Prelude.{ℕ, ◌≡◌, ◌≤◌, ◌<◌, Bool, ◌&&◌, ◌||◌, nat_eq, nat_le, nat_lt, min, if◌then◌else◌}
 use Rattle.std.specs.Prelude.{List, length, map, slice_get, Option}
 use Rattle.std.specs.declared.option.Option.TheVariants.{None, Some}
@@ -16,7 +16,7 @@ use Rattle.pfair_table.specs.Refinement.{Dispatch}
 use Rattle.pfair_handle.specs.declared.members.PfairMember.{PfairMember}
 use Rattle.pfair_handle.specs.Members.{member_row, AreMembersNow}
 
--- what is told of a planned slot: nothing, where it is forgotten
+-- what is told of a planned slot: nothing if it is forgotten
 abbrev pub told_at : {A : Type 0} → (forgotten : ℕ) → List A → ℕ → Option A
 told_at forgotten slots slot = if nat_lt slot forgotten then None else slice_get slots slot
 
@@ -28,17 +28,17 @@ are_told forgotten planned from to = nat_le to planned && (nat_le to from || nat
 abbrev pub are_counted : (forgotten planned from to : ℕ) → Bool
 are_counted forgotten planned from to = nat_le to planned && (nat_le to from || nat_eq forgotten 0)
 
--- 104 where the slot isn't told, 103 where there are fewer rows than are wanted
+-- 104 if nothing is told, 103 if there are fewer rows than are told
 abbrev pub rows_answer : {A : Type 0} → Option (List A) → ℕ → ℕ
 rows_answer None room = 104
 rows_answer (Some planned) room = if nat_le (length planned) room then 0 else 103
 
--- how many are wanted, where the slot is told
+-- how many rows are told
 abbrev pub rows_count : {A : Type 0} → Option (List A) → ℕ → ℕ
 rows_count None count = count
 rows_count (Some planned) count = length planned
 
--- how many are wanted, as far as 64 bits can say it
+-- how many, as far as 64 bits can say it
 abbrev pub rows_counted : {A : Type 0} → Option (List A) → ℕ → ℕ
 rows_counted None count = count
 rows_counted (Some planned) count = min (length planned) 18446744073709551615
@@ -64,12 +64,12 @@ places_at d slot = told_at d.forgotten (places_of d.tables) slot
 abbrev pub decided_at : Dispatch → (slot : ℕ) → Option (List PfairDecided)
 decided_at d slot = option_map (map decided_row) (told_at d.forgotten d.decided slot)
 
--- the quanta of the slots `from` to `to` - 1, where all of these are planned, and none is forgotten
+-- the quanta of the slots `from` to `to` - 1, if all of these are planned, and none is forgotten
 abbrev pub quanta_between : Dispatch → (from to : ℕ) → Option (List PfairQuantum)
 quanta_between d from to =
     if are_told d.forgotten (length d.tables) from to then Some (quanta_of d.tables from to) else None
 
--- the decisions of the slots `from` to `to` - 1, where all of these are planned, and none is forgotten
+-- the decisions of the slots `from` to `to` - 1, if all of these are planned, and none is forgotten
 abbrev pub decisions_between : Dispatch → (from to : ℕ) → Option (List PfairDecision)
 decisions_between d from to =
     if are_told d.forgotten (length d.decided) from to then Some (decisions_of d.decided from to) else None

@@ -6,8 +6,9 @@ ghost use Rattle.pfair_handle.specs.Behind.{Between};
 ghost use Rattle.pfair_handle.specs.Entries.{IsEntryFault};
 ghost use Rattle.pfair_c.specs.Answers.{IsOpenable, IsStarted, IsTakenFor, IsRefusedFor, IsJoinedTo, IsPartlyJoinedTo};
 
-use pfair_handle::answer::{DONE, MEMORY, NOT_OPEN, OPEN_ALREADY, OUT_OF_RANGE};
-use pfair_handle::{Handle, PfairEntry, Served, read_entry};
+use crate::open::put_new;
+use pfair_handle::answer::{DONE, NOT_OPEN, OPEN_ALREADY, OUT_OF_RANGE};
+use pfair_handle::{Handle, PfairEntry, read_entry};
 use pfair_replica::{TakeFault, Taken};
 use pfair_table::{Dispatcher, Script, Settings};
 use std::alloc::Global;
@@ -43,17 +44,7 @@ pub extern "C" fn pfair_open(
     let Some(settings) = Settings::new(processors, frame, slots) else {
         return OUT_OF_RANGE;
     };
-    let dispatcher = match Dispatcher::new(alloc, settings, capacity) {
-        Ok(dispatcher) => dispatcher,
-        Err(_) => return MEMORY,
-    };
-    match Box::new(alloc, Served { dispatcher }) {
-        Ok(served) => {
-            handle.put(served);
-            DONE
-        }
-        Err(_) => MEMORY,
-    }
+    put_new(alloc, handle, Dispatcher::new(alloc, settings, capacity))
 }
 
 /// Frees the dispatcher, and leaves the handle with none. O(entries held, tasks, and quanta and

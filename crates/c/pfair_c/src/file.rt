@@ -2,12 +2,13 @@
 ghost use Rattle.std.specs.Prelude.{◌≡◌, ◌<◌, ◌⊎◌, None, true, length};
 ghost use Rattle.pfair_handle.specs.Kept.{is_kept};
 ghost use Rattle.pfair_handle.specs.Behind.{Of};
-ghost use Rattle.pfair_c.specs.Files.{IsReadFrom, IsStartedWith, IsFileFault, at_key, fault_row, field_number};
+ghost use Rattle.pfair_c.specs.Files.{IsReadFrom, IsFileFault, at_key, fault_row, field_number};
 
+use crate::open::put_new;
 use pfair_file::{Field, FileFault, read_file};
-use pfair_handle::answer::{DONE, FILE_TOO_LONG, MEMORY, OPEN_ALREADY};
-use pfair_handle::{Handle, Served};
-use pfair_table::{Script, take_script};
+use pfair_handle::Handle;
+use pfair_handle::answer::{FILE_TOO_LONG, MEMORY, OPEN_ALREADY};
+use pfair_table::take_script;
 use pfair_text::LONGEST_FILE;
 use std::alloc::Global;
 
@@ -66,31 +67,12 @@ pub extern "C" fn pfair_read_file(
         return FILE_TOO_LONG;
     }
     match read_file(alloc, bytes) {
-        Ok(script) => keep(alloc, handle, &script),
+        Ok(script) => put_new(alloc, handle, take_script(alloc, &script)),
         Err(FileFault::Memory) => MEMORY,
         Err(refused) => {
             *fault = fault_row(refused);
             refused.number() as u32
         }
-    }
-}
-
-// Opens a dispatcher that has taken a script's logs.
-fn keep(alloc: Global, handle: &mut Handle, script: &Script) -> u32
-    requires { handle.old.owner.kept ≡ None }
-    ensures done { result ≡ 0 → Of handle.new.owner.kept (IsStartedWith script.now) }
-    ensures only { (result ≡ 0 → ⊥) → (result ≡ 90) × (handle.new.owner.kept ≡ None) }
-{
-    let dispatcher = match take_script(alloc, script) {
-        Ok(dispatcher) => dispatcher,
-        Err(_) => return MEMORY,
-    };
-    match Box::new(alloc, Served { dispatcher }) {
-        Ok(served) => {
-            handle.put(served);
-            DONE
-        }
-        Err(_) => MEMORY,
     }
 }
 

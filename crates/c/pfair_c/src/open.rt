@@ -1,17 +1,17 @@
 //! The dispatcher behind a handle, for as long as one call takes.
 //!
-//! Each function answers by a closure over the open dispatcher; or by 102 if there is none, and then
-//! nothing is written.
-ghost use Rattle.std.specs.Prelude.{◌≡◌, None, true};
+//! `tell`, `tell_rows` and `change` answer by a closure over the open dispatcher; or by 102 if there is
+//! none, and then nothing is written.
+ghost use Rattle.std.specs.Prelude.{◌≡◌, Some, None, true, Ok};
 ghost use Rattle.pfair_handle.specs.Kept.{is_kept};
 ghost use Rattle.pfair_handle.specs.Behind.{Of, Between};
 ghost use Rattle.pfair_c.specs.Open.{Tells, Changes};
 
-use pfair_handle::Handle;
-use pfair_handle::answer::NOT_OPEN;
+use pfair_handle::answer::{DONE, MEMORY, NOT_OPEN};
+use pfair_handle::{Handle, Served};
 use pfair_ready::HeapReady;
 use pfair_table::Dispatcher;
-use std::alloc::Global;
+use std::alloc::{AllocError, Global};
 
 /// Tells something of the dispatcher, in two values.
 pub(crate) fn tell<A, B, F: FnOnce(&Dispatcher<HeapReady>, &mut A, &mut B) -> u32>(
@@ -75,4 +75,26 @@ pub(crate) fn change<A, F: FnOnce(&mut Dispatcher<HeapReady>, &mut A) -> u32>(
     let answer = changed(&mut served.dispatcher, told);
     handle.put(served);
     answer
+}
+
+/// Puts a dispatcher that was made behind a handle that has none.
+///
+/// Returns 0; or 90 if an allocation failed or fails, and then the handle has none.
+pub(crate) fn put_new(
+    alloc: Global,
+    handle: &mut Handle,
+    made: Result<Dispatcher<HeapReady>, AllocError>,
+) -> u32
+    requires { handle.old.owner.kept ≡ None }
+    ensures done { result ≡ 0 → (d : _) × (made ≡ Ok d) × (handle.new.owner.kept ≡ Some record { dispatcher = d }) }
+    ensures only { (result ≡ 0 → ⊥) → (result ≡ 90) × (handle.new.owner.kept ≡ None) }
+{
+    let Ok(dispatcher) = made else {
+        return MEMORY;
+    };
+    let Ok(served) = Box::new(alloc, Served { dispatcher }) else {
+        return MEMORY;
+    };
+    handle.put(served);
+    DONE
 }
