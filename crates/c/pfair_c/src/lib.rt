@@ -5,7 +5,6 @@
 //! number.
 #![tactic(auto)]
 
-mod decisions;
 mod dispatcher;
 mod file;
 mod held;
@@ -13,13 +12,11 @@ mod lags;
 mod members;
 mod open;
 mod plan;
-mod quanta;
 mod rows;
 mod take_log;
 mod version;
 mod window;
 
-pub use decisions::pfair_decisions_of;
 pub use dispatcher::{pfair_absorb, pfair_close, pfair_open, pfair_take};
 pub use file::{PfairFileFault, pfair_read_file};
 pub use held::{
@@ -31,8 +28,7 @@ pub use plan::{
     PfairStep, pfair_forget, pfair_frontier, pfair_next_slot, pfair_plan_next, pfair_plan_to,
     pfair_reopen, pfair_reserve,
 };
-pub use quanta::pfair_quanta;
-pub use rows::{pfair_decisions, pfair_places, pfair_table};
+pub use rows::{pfair_decisions, pfair_decisions_of, pfair_places, pfair_quanta, pfair_table};
 pub use take_log::pfair_take_log;
 pub use version::pfair_version;
 pub use window::{pfair_window, pfair_windows};

@@ -1,17 +1,21 @@
 //! What was planned, in rows.
 //!
 //! Each call answers 0 with the number of rows and the rows; 102 if the handle has no dispatcher; 104
-//! if the slot isn't planned, or is forgotten; 103 with the number of rows wanted, if there are fewer.
-//! Nothing else is written.
+//! if a slot that is asked for isn't planned, or is forgotten; 103 with the number of rows wanted, if
+//! there are fewer. Nothing else is written.
 ghost use Rattle.std.specs.Prelude.{◌≡◌, ◌≤◌, ◌<◌, None, true, length, nat_le, if◌then◌else◌};
 ghost use Rattle.std.specs.Fn.{FnOnceTakesAtMut, FnOnceReturnsAtMut};
 ghost use Rattle.pfair_handle.specs.Kept.{is_kept};
 ghost use Rattle.pfair_handle.specs.Behind.{Of};
-ghost use Rattle.pfair_c.specs.Rows.{AreTold, are_told, rows_count, table_of, places_at, decided_at};
+ghost use Rattle.pfair_c.specs.Rows.{AreTold, are_told, rows_count, rows_counted};
+ghost use Rattle.pfair_c.specs.Rows.{table_of, places_at, decided_at, quanta_between, decisions_between};
 
 use crate::open::tell_rows;
 use pfair_handle::answer::{DONE, NO_ROOM, NOT_PLANNED};
-use pfair_handle::{Handle, PfairDecided, PfairPick, write_decisions, write_places, write_table};
+use pfair_handle::{
+    Handle, PfairDecided, PfairDecision, PfairPick, PfairQuantum, count_decisions, count_quanta,
+    write_decisions, write_places, write_quanta, write_several, write_table,
+};
 use pfair_ready::HeapReady;
 use pfair_table::{Dispatcher, Settings};
 use std::alloc::Global;
@@ -90,6 +94,72 @@ pub extern "C" fn pfair_decisions(
             count,
             rows,
             |rows| write_decisions(decided, rows),
+        )
+    })
+}
+
+/// Writes the quanta of the planned slots `from` to `to` - 1, slot by slot, each slot's in the order
+/// of its table, with their places; none if `from` isn't below `to`. O(slots + rows).
+#[unsafe(no_mangle)]
+pub extern "C" fn pfair_quanta(
+    alloc: Global,
+    handle: &mut Handle,
+    from: u64,
+    to: u64,
+    count: &mut u64,
+    rows: &mut [PfairQuantum],
+) -> u32
+    ensures closed { handle.old.owner.kept ≡ None → (result ≡ 102) × (count.new ≡ count.old) × (rows.new ≡ rows.old) }
+    ensures told { is_kept handle.old.owner.kept ≡ true → Of handle.old.owner.kept (λ d. AreTold rows_count (quanta_between d from to) result count.old count.new rows.old rows.new) }
+    ensures unchanged { handle.new.owner.kept ≡ handle.old.owner.kept }
+{
+    tell_rows(alloc, handle, count, rows, |dispatcher, count, rows| {
+        if !are_told(dispatcher, from, to) {
+            return NOT_PLANNED;
+        }
+        if from >= to {
+            *count = 0;
+            return DONE;
+        }
+        let wanted = count_quanta(dispatcher, from, to);
+        lay_rows(
+            wanted,
+            count,
+            rows,
+            |rows| write_quanta(dispatcher, from, to, rows),
+        )
+    })
+}
+
+/// Writes the decisions at the boundaries of the planned slots `from` to `to` - 1, slot by slot, each
+/// slot's by processor and number; none if `from` isn't below `to`. O(slots + rows).
+#[unsafe(no_mangle)]
+pub extern "C" fn pfair_decisions_of(
+    alloc: Global,
+    handle: &mut Handle,
+    from: u64,
+    to: u64,
+    count: &mut u64,
+    rows: &mut [PfairDecision],
+) -> u32
+    ensures closed { handle.old.owner.kept ≡ None → (result ≡ 102) × (count.new ≡ count.old) × (rows.new ≡ rows.old) }
+    ensures told { is_kept handle.old.owner.kept ≡ true → Of handle.old.owner.kept (λ d. AreTold rows_counted (decisions_between d from to) result count.old count.new rows.old rows.new) }
+    ensures unchanged { handle.new.owner.kept ≡ handle.old.owner.kept }
+{
+    tell_rows(alloc, handle, count, rows, |dispatcher, count, rows| {
+        if !are_told(dispatcher, from, to) {
+            return NOT_PLANNED;
+        }
+        if from >= to {
+            *count = 0;
+            return DONE;
+        }
+        let wanted = count_decisions(dispatcher, from, to);
+        lay_rows(
+            wanted,
+            count,
+            rows,
+            |rows| write_several(dispatcher, from, to, rows),
         )
     })
 }
