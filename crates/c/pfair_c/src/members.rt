@@ -33,11 +33,8 @@ pub extern "C" fn pfair_members(
         let Some(members) = dispatcher.members() else {
             return SPENT;
         };
-        lay_rows(
-            members.len() as u64,
-            count,
-            rows,
-            |rows| write_members(members, rows),
-        )
+        lay_rows(members.len() as u64, count, rows, |rows| {
+            write_members(members, rows)
+        })
     })
 }

@@ -37,12 +37,9 @@ pub extern "C" fn pfair_table(
         let Some(table) = dispatcher.table(slot) else {
             return NOT_PLANNED;
         };
-        lay_rows(
-            table.len() as u64,
-            count,
-            rows,
-            |rows| write_table(table, rows),
-        )
+        lay_rows(table.len() as u64, count, rows, |rows| {
+            write_table(table, rows)
+        })
     })
 }
 
@@ -63,12 +60,9 @@ pub extern "C" fn pfair_places(
         let Some(places) = dispatcher.places(slot) else {
             return NOT_PLANNED;
         };
-        lay_rows(
-            places.len() as u64,
-            count,
-            rows,
-            |rows| write_places(places, rows),
-        )
+        lay_rows(places.len() as u64, count, rows, |rows| {
+            write_places(places, rows)
+        })
     })
 }
 
@@ -89,12 +83,9 @@ pub extern "C" fn pfair_decisions(
         let Some(decided) = dispatcher.decisions(slot) else {
             return NOT_PLANNED;
         };
-        lay_rows(
-            decided.len() as u64,
-            count,
-            rows,
-            |rows| write_decisions(decided, rows),
-        )
+        lay_rows(decided.len() as u64, count, rows, |rows| {
+            write_decisions(decided, rows)
+        })
     })
 }
 
@@ -122,12 +113,9 @@ pub extern "C" fn pfair_quanta(
             return DONE;
         }
         let wanted = count_quanta(dispatcher, from, to);
-        lay_rows(
-            wanted,
-            count,
-            rows,
-            |rows| write_quanta(dispatcher, from, to, rows),
-        )
+        lay_rows(wanted, count, rows, |rows| {
+            write_quanta(dispatcher, from, to, rows)
+        })
     })
 }
 
@@ -155,12 +143,9 @@ pub extern "C" fn pfair_decisions_of(
             return DONE;
         }
         let wanted = count_decisions(dispatcher, from, to);
-        lay_rows(
-            wanted,
-            count,
-            rows,
-            |rows| write_several(dispatcher, from, to, rows),
-        )
+        lay_rows(wanted, count, rows, |rows| {
+            write_several(dispatcher, from, to, rows)
+        })
     })
 }
 
