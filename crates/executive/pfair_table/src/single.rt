@@ -65,8 +65,11 @@ pub fn run_script<R: Ready>(alloc: Global, script: &Script) -> Result<Dispatcher
     ensures fault { IfErr result (IsScriptFaultOf script.now) }
 {
     let mut dispatcher = take_script(alloc, script)?;
-    plan_script(&mut dispatcher, script)?;
-    Ok(dispatcher)
+    check_settled(dispatcher.replica().frontier(), script.settings().slots())?;
+    match plan_all(&mut dispatcher) {
+        Ok(()) => Ok(dispatcher),
+        Err(_) => Err(ScriptFault::Memory),
+    }
 }
 
 /// The dispatcher that has taken every entry of a script's logs, and planned nothing. It costs the
@@ -88,21 +91,6 @@ pub fn take_script<R: Ready>(alloc: Global, script: &Script) -> Result<Dispatche
         take_log(&mut dispatcher, processor, script.log(processor))?;
     }
     Ok(dispatcher)
-}
-
-// Plans all slots of a script of which every entry was taken.
-fn plan_script<R: Ready>(dispatcher: &mut Dispatcher<R>, script: &Script) -> Result<(), ScriptFault>
-    requires settings { dispatcher.old.settings ≡ script.now.settings }
-    requires held { replica_of dispatcher.old.held ≡ replica_of_logs script.now.logs }
-    ensures ok { OnOk result (IsRunOf script.now dispatcher.new) }
-    ensures standing { dispatcher.new.forgotten ≡ dispatcher.old.forgotten }
-    ensures fault { IfErr result (IsScriptFaultOf script.now) }
-{
-    check_settled(dispatcher.replica().frontier(), script.settings().slots())?;
-    match plan_all(dispatcher) {
-        Ok(()) => Ok(()),
-        Err(_) => Err(ScriptFault::Memory),
-    }
 }
 
 /// That a frontier is not below the number of slots.
