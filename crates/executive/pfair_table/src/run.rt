@@ -4,7 +4,7 @@ ghost use Rattle.std.specs.Prelude.{◌≡◌, false, IfOk, OnOk};
 ghost use Rattle.pfair_replica.specs.HeldRows.{IsShape, replica_of};
 ghost use Rattle.pfair_replica.specs.Offered.{taken};
 ghost use Rattle.std.specs.List.{AllByRecursion};
-ghost use Rattle.pfair_table.specs.Events.{IsEvent, happens, run, run_of};
+ghost use Rattle.pfair_table.specs.Events.{IsEvent, happens, run_of};
 ghost use Rattle.pfair_table.specs.Refinement.{course_of};
 
 use crate::answer::PlanFault;
@@ -35,23 +35,10 @@ pub fn run_events<R: Ready>(
     ensures events { OnOk result (AllByRecursion IsEvent events.now) }
 {
     let mut dispatcher = Dispatcher::new(alloc, settings, capacity)?;
-    happen_all(&mut dispatcher, events)?;
-    Ok(dispatcher)
-}
-
-// One event after another.
-fn happen_all<R: Ready>(dispatcher: &mut Dispatcher<R>, events: &[Event]) -> Result<(), AllocError>
-    requires { dispatcher.old.spent ≡ false }
-    ensures settings { OnOk result (dispatcher.new.settings ≡ dispatcher.old.settings) }
-    ensures course { OnOk result (course_of dispatcher.new ≡ run dispatcher.old.settings (course_of dispatcher.old) events.now) }
-    ensures standing { dispatcher.new.forgotten ≡ dispatcher.old.forgotten }
-    ensures spent { OnOk result (dispatcher.new.spent ≡ false) }
-    ensures events { OnOk result (AllByRecursion IsEvent events.now) }
-{
     for event in events {
-        happen(dispatcher, event)?;
+        happen(&mut dispatcher, event)?;
     }
-    Ok(())
+    Ok(dispatcher)
 }
 
 // One event: what is refused changes nothing, and only want of memory is an error.

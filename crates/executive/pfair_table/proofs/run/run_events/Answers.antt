@@ -5,18 +5,26 @@ use Rattle.pfair_table.specs.Table.{Settings}
 use Rattle.pfair_table.specs.Events.{IsEvent, Course, happens, run}
 use Rattle.pfair_table.specs.Refinement.{course_of}
 use Rattle.pfair_table.proofs.QueueKept.{drop_item}
-use Rattle.pfair_table.proofs.run.happen_all.Goals as goal
+use Rattle.pfair_table.proofs.run.run_events.Goals as goal
+
+pub loop-event-init : goal.loop-event-init
+loop-event-init g c = record {
+  course = ap (λ (k : Course). run c.args.settings k c.args.events.now) c.in_ok-dispatcher.ensures.course;
+  settings = c.in_ok-dispatcher.ensures.settings;
+  spent = c.in_ok-dispatcher.ensures.spent;
+  standing = c.in_ok-dispatcher.ensures.standing;
+  events = λ all. all;
+}
 
 pub loop-event-preserved : goal.loop-event-preserved
 loop-event-preserved g c =
-    let s : Settings = c.args.dispatcher.now.settings in
     let rest : List Event = drop (c.loop-event.event-index + 1) c.args.events.now in
     let was : Course = course_of c.loop-event.dispatcher in
-    let next : course_of c.happen.new.dispatcher ≡ happens s was c.event-item.result =
+    let next : course_of c.happen.new.dispatcher ≡ happens c.args.settings was c.event-item.result =
     c.in_ok-happen.ensures.course ∙ ap (λ (s : Settings). happens s was c.event-item.result) c.loop-event.invariant.settings in
     let items = drop_item c.args.events.now c.loop-event.event-index c.event-item.result c.loop-event-test.true c.event-item.is in
     record {
-      course = ap (λ (k : Course). run s k rest) next ∙ sym (ap (run s was) items) ∙ c.loop-event.invariant.course;
+      course = ap (λ (k : Course). run c.args.settings k rest) next ∙ sym (ap (run c.args.settings was) items) ∙ c.loop-event.invariant.course;
       settings = c.in_ok-happen.ensures.settings ∙ c.loop-event.invariant.settings;
       spent = c.in_ok-happen.ensures.spent;
       standing = c.happen.ensures.standing ∙ c.loop-event.invariant.standing;

@@ -1,0 +1,14 @@
+use Rattle.std.proofs.Common.{◌≡◌, drop, false}
+use Rattle.std.specs.List.{AllByRecursion}
+use Rattle.pfair_table.specs.Events.{IsEvent, run, run_of}
+use Rattle.pfair_table.specs.Refinement.{course_of}
+use Rattle.pfair_table.proofs.run.run_events.Given as goal
+
+abbrev pub invariant-loop-event : goal.invariant-loop-event
+invariant-loop-event g l = record {
+  course : run l.fn.settings (course_of l.dispatcher) (drop l.event-index l.events) ≡ run_of l.fn.settings l.capacity l.events;
+  settings : l.dispatcher.settings ≡ l.fn.settings;
+  spent : l.dispatcher.spent ≡ false;
+  standing : l.dispatcher.forgotten ≡ 0;
+  events : AllByRecursion IsEvent (drop l.event-index l.events) → AllByRecursion IsEvent l.events;
+}
