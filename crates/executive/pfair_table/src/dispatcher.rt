@@ -19,7 +19,7 @@ ghost use Rattle.pfair_table.specs.Refinement.{AreMembersOf, IsInStep, course_of
 
 use crate::answer::{PlanFault, Step};
 use crate::pick::{Decided, Pick};
-use crate::places::next_places;
+use crate::places::places_beside;
 use crate::planned::{Planned, Run};
 use crate::planner::Planner;
 use crate::script::Script;
@@ -376,6 +376,7 @@ fn plan_onto<R: Ready>(
     let slot = planned.len() as u64;
     let room = planned.take_room();
     let next = planner.plan(settings, replica, slot, room.table)?;
-    let places = next_places(planned, &next.table, &mut planner.kept, room.places)?;
+    let (before, there) = planned.last();
+    let places = places_beside(before, there, &next.table, &mut planner.kept, room.places)?;
     planned.push(next, places)
 }

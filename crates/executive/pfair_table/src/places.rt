@@ -1,15 +1,14 @@
 //! Places: which processor runs each row of a table, where a task that goes on running stays where
 //! it is.
 
-ghost use Rattle.std.specs.Prelude.{ℕ, ◌≡◌, ◌≤◌, ◌<◌, ◌+◌, ◌^◌, ◌++◌, ◌∷◌, [], List, IfOk, OnOk, length};
+ghost use Rattle.std.specs.Prelude.{ℕ, ◌≡◌, ◌≤◌, ◌<◌, ◌+◌, ◌^◌, ◌∷◌, [], List, IfOk, OnOk, length};
 ghost use Rattle.std.specs.List.{AllByRecursion};
-ghost use Rattle.pfair_table.specs.Places.{kept_places, all_kept, free_place, filled, places_after, places_of};
+ghost use Rattle.pfair_table.specs.Places.{kept_places, all_kept, free_place, filled, places_after};
 ghost use Rattle.pfair_table.specs.PlaceLaws.{IsFit};
 ghost use Rattle.pfair_table.specs.PlacesInUse.{AreInUse};
 
 use crate::buckets::{Buckets, find_place};
 use crate::pick::Pick;
-use crate::planned::Planned;
 use crate::room::emptied;
 use crate::settings::Settings;
 use std::alloc::AllocError;
@@ -17,23 +16,8 @@ use std::alloc::AllocError;
 // The most rows of a table that are gone through for each task: with more, buckets cost less.
 const FEW_ROWS: usize = 4;
 
-/// The places of the table that comes after the slots so far. They use the room of a list, and what
-/// the rows keep that of another one, which is kept.
-pub(crate) fn next_places(
-    planned: &Planned,
-    table: &[Pick],
-    kept: &mut Vec<Option<u8>>,
-    room: Vec<u8>,
-) -> Result<Vec<u8>, AllocError>
-    requires fit { AllByRecursion (IsFit Settings.MAX_PROCESSORS) planned.now.tables }
-    requires rows { length table.now ≤ Settings.MAX_PROCESSORS }
-    ensures { IfOk result (λ places. places_of (planned.now.tables ++ table.now ∷ []) ≡ places_of planned.now.tables ++ places.items ∷ []) }
-{
-    let (before, places) = planned.last();
-    places_beside(before, places, table, kept, room)
-}
-
-/// The places of a table, where the one before it has those places.
+/// The places of a table, where the one before it has those places. They use the room of a list, and
+/// what the rows keep that of another one, which is kept.
 pub(crate) fn places_beside(
     before: &[Pick],
     places: &[u8],
