@@ -1,5 +1,5 @@
 -- Readings of sound beginnings: one entry more, and what a replica that holds more makes of them.
-use Rattle.std.proofs.Common.{ℕ, zero, suc, ◌+◌, ◌≤◌, ◌<◌, ◌≡◌, refl, sym, ap, ◌∙◌, arith, inl, inr, List, [], ◌∷◌, ◌++◌, length, take, drop, Some, append_assoc}
+use Rattle.std.proofs.Common.{ℕ, zero, suc, ◌+◌, ◌≤◌, ◌<◌, ◌≡◌, refl, sym, ap, ◌∙◌, arith, List, [], ◌∷◌, ◌++◌, length, take, drop, Some, append_assoc}
 use Rattle.std.specs.Prelude.{flat_map, slice_get}
 use Rattle.std.proofs.lemmas.List.{take-append-le, length-append}
 use Rattle.std.proofs.lemmas.Grind.{flat_map-append}
@@ -9,7 +9,7 @@ use Rattle.pfair_lattice.specs.declared.flat.Flat.TheVariants.{One, Torn}
 use Rattle.pfair_entry.specs.Entry.{Logged}
 use Rattle.pfair_replica.specs.Agenda.{said_at}
 use Rattle.pfair_replica.specs.Replica.{Replica, IsReplica, Below, Untorn, numbers_below, sound_beginning, said_by, said_in, said_behind, said}
-use Rattle.pfair_replica.proofs.SoundEntries.{some_at, beginnings_grow}
+use Rattle.pfair_replica.proofs.SoundEntries.{some_at, held_within, beginnings_grow}
 use Rattle.pfair_table.specs.declared.readings.Reading.{Reading}
 use Rattle.pfair_table.specs.Readings.{IsReadingOf, AreReadingsOf, said_by_all}
 
@@ -50,16 +50,12 @@ AreWholeBelow x rs p = (k : ℕ) (r : Reading) → k < p → slice_get rs k ≡ 
 
 replica_below : (x y : Replica) → Below x y → y.processors ≡ x.processors → y.capacity ≡ x.capacity → IsReplica y → Untorn y → IsReplica x
 replica_below x y below same_p same_c sound whole = record {
-  in_range = λ k n c h.
-      (let r : (k < y.processors) × (0 < n) × (n ≤ y.capacity) = elim (below k n c h) [ inl e ↦ sound.in_range k n c e | inr e ↦ sound.in_range k n Torn e ] in
-      let many = r.0 in
-      let room = r.2 in
-      (omega (arith, many, same_p), r.1, omega (arith, room, same_c)));
-  stamped = λ k n e h. elim (below k n (One e) h) [ inl g ↦ sound.stamped k n e g | inr g ↦ absurd (whole k n g) ];
+  in_range = λ k n c h. (let r = sound.in_range k n c (held_within x y below whole k n c h) in (omega (arith, r.0, same_p), r.1, omega (arith, r.2, same_c)));
+  stamped = λ k n e h. sound.stamped k n e (held_within x y below whole k n (One e) h);
 }
 
 untorn_below : (x y : Replica) → Below x y → Untorn y → Untorn x
-untorn_below x y below whole k n h = elim (below k n Torn h) [ inl e ↦ whole k n e | inr e ↦ whole k n e ]
+untorn_below x y below whole k n h = whole k n (held_within x y below whole k n Torn h)
 
 -- what was read of a replica was read of one that holds more
 pub readings_above : {x y : Replica} {rs : List Reading} → AreReadingsOf x rs → Below x y → y.processors ≡ x.processors → y.capacity ≡ x.capacity → AreReadingsOf y rs

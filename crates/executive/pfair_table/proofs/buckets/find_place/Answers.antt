@@ -1,17 +1,14 @@
 use Rattle.std.proofs.Common.{ℕ, ◌≡◌, refl, sym, ap, ◌∙◌, arith, inl, inr, List, [], ◌∷◌, length, Some, None, Iter}
 use Rattle.std.specs.Prelude.{if◌then◌else◌}
 use Rattle.std.specs.declared.iter.Zip.{Zip}
+use Rattle.std.proofs.lemmas.List.{nil_from_length}
 use Rattle.pfair_table.specs.declared.pick.Pick.{Pick}
 use Rattle.pfair_table.specs.Table.{Table}
 use Rattle.pfair_ready.specs.Names.{NameValue as Name}
 use Rattle.pfair_table.specs.Places.{place_of}
 use Rattle.pfair_table.proofs.buckets.find_place.Goals as goal
 
--- a table with no more rows, or no more places, has no place for a task
-no_rows : (rows : Table) (places : List ℕ) (name : Name) → length rows ≡ 0 → place_of rows places name ≡ None
-no_rows [] places name e = refl
-no_rows (p ∷ rows) places name e = absurd (omega (arith, e))
-
+-- without places a table has none for a task
 no_places : (rows : Table) (places : List ℕ) (name : Name) → length places ≡ 0 → place_of rows places name ≡ None
 no_places [] places name e = refl
 no_places (p ∷ rows) [] name e = refl
@@ -36,6 +33,6 @@ loop-pick-preserved c =
 pub returns : goal.returns
 returns c =
     (elim c.in-None.ensures.steps [
-      | inl t ↦ sym (no_rows c.loop-pick.pick-iterator.a.rest.now c.loop-pick.pick-iterator.b.rest.now c.args.name.now t.1.0)
+      | inl t ↦ ap (λ rows. place_of rows c.loop-pick.pick-iterator.b.rest.now c.args.name.now) (sym (nil_from_length c.loop-pick.pick-iterator.a.rest.now t.1.0))
       | inr t ↦ sym (no_places c.loop-pick.pick-iterator.a.rest.now c.loop-pick.pick-iterator.b.rest.now c.args.name.now t.1.0)
     ]) ∙ c.loop-pick.invariant
