@@ -1,5 +1,5 @@
 -- What events leave is the least that is above all that they bring.
-use Rattle.std.proofs.Common.{ℕ, ◌≡◌, ◌≤◌, ◌<◌, refl, sym, ◌∙◌, subst, arith, Bool, true, false, cond, List, [], ◌∷◌, length, Some, None}
+use Rattle.std.proofs.Common.{ℕ, ◌≡◌, refl, sym, ◌∙◌, subst, arith, Bool, true, false, cond, List, [], ◌∷◌, length, Some, None}
 use Rattle.std.specs.Prelude.{◌&&◌, ◌==◌, nat_lt, nat_le, if◌then◌else◌}
 use Rattle.std.specs.List.{AllByRecursion}
 use Rattle.std.proofs.lemmas.Bool.{eqb-true, eq-eqb, ltb-true, leb-true, lt-ltb, le-leb, and_from, and_parts}
@@ -54,16 +54,15 @@ taken_holds : (x : Replica) (k n : ℕ) (e : Logged) → has_key x k n ≡ true 
 taken_holds x k n e inside =
     rw inside (subst (λ h. HeldBelow h ((with_entry x k n e).at k n)) (only_here k n e) (join_second entry_eq entry_exact (x.at k n) (only k n e k n)))
 
-key_of_shape : (s : Settings) (m : ℕ) (x : Replica) (k n : ℕ) → HasShape s m x → k < s.processors → 1 ≤ n → n ≤ m → has_key x k n ≡ true
-key_of_shape s m x k n shape row first last =
-    (let p = shape.processors in let c = shape.capacity in
-    and_from _ _ (lt-ltb k x.processors (omega (arith, p, row))) (and_from _ _ (lt-ltb 0 n (omega (arith, first))) (le-leb n x.capacity (omega (arith, c, last)))))
+same_keys : (s : Settings) (m : ℕ) (x : Replica) (k n : ℕ) → HasShape s m x → has_key x k n ≡ (nat_lt k s.processors && (nat_lt 0 n && nat_le n m))
+same_keys s m x k n shape = λ i. nat_lt k (shape.processors i) && (nat_lt 0 n && nat_le n (shape.capacity i))
 
 absorbed_holds : (x y : Replica) → has_shape x y ≡ true → Below y (absorbed x y)
 absorbed_holds x y alike = rw alike (λ k n. join_second entry_eq entry_exact (x.at k n) (y.at k n))
 
 step_brings : (s : Settings) (m : ℕ) (c : Course) (e : Event) → HasShape s m c.held → IsBroughtBelow s m (happens s c e).held e
-step_brings s m c (Take k n e) shape = λ row first last. taken_holds c.held k n e (key_of_shape s m c.held k n shape row first last)
+step_brings s m c (Take k n e) shape = λ row first last.
+    taken_holds c.held k n e (same_keys s m c.held k n shape ∙ and_from _ _ (lt-ltb k s.processors row) (and_from _ _ (lt-ltb 0 n (omega (arith, first))) (le-leb n m last)))
 step_brings s m c (Absorb y) shape = λ p q. absorbed_holds c.held (replica_of y)
     (and_from _ _ (eq-eqb c.held.processors y.processors (shape.processors ∙ sym p)) (eq-eqb c.held.capacity y.capacity (shape.capacity ∙ sym q)))
 step_brings s m c Plan shape = tt
@@ -89,20 +88,14 @@ only_below y k n e below j m = by (j == k) (m == n) refl refl
     by true false p q = none_below (y.at j m)
     by false b p q = none_below (y.at j m)
 
-row_of_key : (s : Settings) (m : ℕ) (x : Replica) (k : ℕ) → HasShape s m x → nat_lt k x.processors ≡ true → k < s.processors
-row_of_key s m x k shape is = (let p = shape.processors in let lt = ltb-true k x.processors is in omega (arith, p, lt))
-
-last_of_key : (s : Settings) (m : ℕ) (x : Replica) (n : ℕ) → HasShape s m x → nat_le n x.capacity ≡ true → n ≤ m
-last_of_key s m x n shape is = (let c = shape.capacity in let le = leb-true n x.capacity is in omega (arith, c, le))
-
 taken_least : (s : Settings) (m : ℕ) (x y : Replica) (k n : ℕ) (e : Logged) → HasShape s m x → Below x y → IsBroughtBelow s m y (Take k n e) → Below (taken x k n e) y
 taken_least s m x y k n e shape below brought = by (has_key x k n) refl
   where
     by : (b : Bool) → has_key x k n ≡ b → Below (cond b (with_entry x k n e) x) y
     by true inside =
-        (let p = and_parts (nat_lt k x.processors) (nat_lt 0 n && nat_le n x.capacity) inside in
-        let q = and_parts (nat_lt 0 n) (nat_le n x.capacity) p.1 in
-        let here = only_below y k n e (brought (row_of_key s m x k shape p.0) (ltb-true 0 n q.0) (last_of_key s m x n shape q.1)) in
+        (let p = and_parts (nat_lt k s.processors) (nat_lt 0 n && nat_le n m) (sym (same_keys s m x k n shape) ∙ inside) in
+        let q = and_parts (nat_lt 0 n) (nat_le n m) p.1 in
+        let here = only_below y k n e (brought (ltb-true k s.processors p.0) (ltb-true 0 n q.0) (leb-true n m q.1)) in
         λ i j. join_least entry_eq entry_exact (x.at i j) (only k n e i j) (y.at i j) (below i j) (here i j))
     by false outside = below
 
