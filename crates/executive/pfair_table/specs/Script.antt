@@ -46,10 +46,10 @@ row_of (Some log) n = entry_of log n
 abbrev pub contents_of : List (List Logged) → Contents
 contents_of logs k n = row_of (slice_get logs k) n
 
--- of a script's replica what some logs have, which are the first ones or begin with as many entries
-abbrev pub held_of : List (List Logged) → List (List Logged) → Replica
-held_of logs begun = record { processors = length logs; capacity = capacity_of logs; at = contents_of begun }
-
 -- the replica of a script: every entry of the logs, and nothing else
 abbrev pub replica_of_logs : List (List Logged) → Replica
-replica_of_logs logs = held_of logs logs
+replica_of_logs logs = record { processors = length logs; capacity = capacity_of logs; at = contents_of logs }
+
+-- the same with what some logs have, which are the first ones or begin with as many entries
+abbrev pub held_of : List (List Logged) → List (List Logged) → Replica
+held_of logs begun = record { processors = length logs; capacity = capacity_of logs; at = contents_of begun }
