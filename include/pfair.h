@@ -396,8 +396,8 @@ uint32_t pfair_plan_to(struct pfair_dispatcher *d, uint64_t until, struct pfair_
  *   102  the handle has no dispatcher
  *   90   memory was refused: what is held and what was planned stand, plans go on, and what was taken is used by them
  *   0    the memory is there
- * Cost: for each slot for which there is no memory yet 25 bytes for each processor, and some 120 for the slot; and some
- * 900 bytes for each task for which there is none.
+ * Cost: for each slot for which there is no memory yet 25 bytes for each processor, and some 120 for the slot; 1,300 to
+ * 2,000 bytes for each task for which there is none; and some 700 KB once.
  */
 uint32_t pfair_reserve(struct pfair_dispatcher *d, uint64_t slots, uint64_t tasks);
 
