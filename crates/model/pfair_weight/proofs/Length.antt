@@ -19,7 +19,7 @@ spelled (byte ∷ bytes) = byte + 256 * spelled bytes
 
 -- ---- it is what the bytes are read as
 
-first_apart : (f : ℕ → ℕ) (k : ℕ) → sum_through f (suc k) ≡ f 0 + sum_through (λ i. f (suc i)) k
+pub first_apart : (f : ℕ → ℕ) (k : ℕ) → sum_through f (suc k) ≡ f 0 + sum_through (λ i. f (suc i)) k
 first_apart f zero = refl
 first_apart f (suc k) = let before = first_apart f k in omega (arith, before)
 

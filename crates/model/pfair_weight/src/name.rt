@@ -142,7 +142,8 @@ impl Ord for TaskName {
     ghost matches_eq = { Prim.search (comparing, rules) };
 
     fn cmp(&self, other: &TaskName) -> Ordering {
-        self.bytes.cmp(&other.bytes)
+        // numbers of which the first byte is the highest
+        u128::from_be_bytes(self.bytes).cmp(&u128::from_be_bytes(other.bytes))
     }
 }
 
