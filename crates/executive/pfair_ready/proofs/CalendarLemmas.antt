@@ -8,8 +8,7 @@ use Rattle.std.proofs.lemmas.Option.{same_Some, slice_get_past, slice_get_within
 use Rattle.pfair_order.specs.declared.Key.{Key}
 use Rattle.pfair_ready.specs.declared.calendar.Calendar.{Calendar}
 use Rattle.pfair_ready.specs.declared.far_dates.Date.{Date}
-use Rattle.pfair_ready.specs.Queue.{Queue}
-use Rattle.pfair_ready.specs.Calendar.{in_bucket, under, HasTurn, IsAmong, IsNoted, Moves}
+use Rattle.pfair_ready.specs.Calendar.{in_bucket, under, HasTurn, IsAmong, IsNear, IsNoted, Moves}
 
 abbrev pub Buckets : Type 0
 Buckets = List (Vec Date Global)
@@ -87,21 +86,21 @@ none_noted c near far d noted =
 -- ---- what moves
 
 -- the list of a slot that has come was emptied, or a part of it
-pub moves_bucket : (slot s : ℕ) (held : Queue) (Was : Date → Type 0) (c c' : Calendar) (b b' : Vec Date Global) (turns0 turns turns' : Turned) → Moves slot held Was (IsNoted c) turns0 turns
-    → c.turned < s → s ≤ c.turned + 64 → s ≤ slot → in_bucket (slice_get c.near.items (s % 64)) ≡ b.items → Moves slot held (λ d. (d.release ≤ slot) × Contains b.items d) (Contains b'.items) turns turns'
+pub moves_bucket : (slot s : ℕ) (Was : Date → Type 0) (c c' : Calendar) (b b' : Vec Date Global) (turns0 turns turns' : Turned) → Moves slot Was (IsNoted c) turns0 turns
+    → c.turned < s → s ≤ c.turned + 64 → s ≤ slot → in_bucket (slice_get c.near.items (s % 64)) ≡ b.items → Moves slot (λ d. (d.release ≤ slot) × Contains b.items d) (Contains b'.items) turns turns'
     → c'.turned ≡ c.turned → c'.near.items ≡ slice_set c.near.items (s % 64) b' → c'.far ≡ c.far
-    → Moves slot held Was (IsNoted c') turns0 turns'
-moves_bucket slot s held Was c c' b b' turns0 turns turns' m after until come here e turned near far =
+    → Moves slot Was (IsNoted c') turns0 turns'
+moves_bucket slot s Was c c' b b' turns0 turns turns' m after until come here e turned near far =
     record {
       kept = λ x h. e.kept x (m.kept x h);
-      moved = λ d k at was. elim (m.moved d k at was) [
+      moved = λ d was. elim (m.moved d was) [
         | inl noted ↦ elim noted [
           | inl n ↦
-              let there = stays_or c.near.items (s % 64) (d.release % 64) d b' ((d.release ≤ slot) × HasTurn turns' k)
+              let there = stays_or c.near.items (s % 64) (d.release % 64) d b' ((d.release ≤ slot) × HasTurn turns' d.key)
               (λ same h.
               let is : d.release ≡ s = same_slot c.turned d.release s n.after n.within after until (sym same) in
               let due : d.release ≤ slot = omega (arith, is, come) in
-              e.moved d k at (due, subst (λ (l : List Date). Contains l d) here h)) n.there in
+              e.moved d (due, subst (λ (l : List Date). Contains l d) here h)) n.there in
               elim there [
                 | inl stays ↦ inl (inl (record {
                   after = let a = n.after in omega (arith, turned, a);
@@ -112,27 +111,50 @@ moves_bucket slot s held Was c c' b b' turns0 turns turns' m after until come he
               ]
           | inr f ↦ inl (inr (subst (λ x. IsAmong x d) (sym far) f))
         ]
-        | inr gone ↦ inr (gone.0, (gone.1.0, e.kept (k, gone.1.0) gone.1.1))
+        | inr gone ↦ inr (gone.0, (gone.1.0, e.kept (d.key, gone.1.0) gone.1.1))
       ];
     }
 
 -- and then far dates moved
-pub moves_far : (slot : ℕ) (held : Queue) (Was : Date → Type 0) (c c' : Calendar) (turns0 turns turns' : Turned) → Moves slot held Was (IsNoted c) turns0 turns → Moves slot held (IsAmong c.far) (IsAmong c'.far) turns turns'
-    → c'.turned ≡ c.turned → c'.near.items ≡ c.near.items → Moves slot held Was (IsNoted c') turns0 turns'
-moves_far slot held Was c c' turns0 turns turns' m f turned near =
+pub moves_far : (slot : ℕ) (Was : Date → Type 0) (c c' : Calendar) (turns0 turns turns' : Turned) → Moves slot Was (IsNoted c) turns0 turns → Moves slot (IsAmong c.far) (IsAmong c'.far) turns turns'
+    → c'.turned ≡ c.turned → c'.near.items ≡ c.near.items → Moves slot Was (IsNoted c') turns0 turns'
+moves_far slot Was c c' turns0 turns turns' m f turned near =
     record {
       kept = λ x h. f.kept x (m.kept x h);
-      moved = λ d k at was. elim (m.moved d k at was) [
+      moved = λ d was. elim (m.moved d was) [
         | inl noted ↦ elim noted [
           | inl n ↦ inl (inl (record {
             after = let a = n.after in omega (arith, turned, a);
             within = let w = n.within in omega (arith, turned, w);
             there = subst (λ (x : Buckets). Contains (under x d.release) d) (sym near) n.there;
           }))
-          | inr among ↦ elim (f.moved d k at among) [ inl stays ↦ inl (inr stays) | inr gone ↦ inr gone ]
+          | inr among ↦ elim (f.moved d among) [ inl stays ↦ inl (inr stays) | inr gone ↦ inr gone ]
         ]
-        | inr gone ↦ inr (gone.0, (gone.1.0, f.kept (k, gone.1.0) gone.1.1))
+        | inr gone ↦ inr (gone.0, (gone.1.0, f.kept (d.key, gone.1.0) gone.1.1))
       ];
+    }
+
+-- the near slots are those after a later one, where the lists up to that are empty
+pub moves_turned : (slot : ℕ) (Was : Date → Type 0) (c c' : Calendar) (turns turns' : Turned) → Moves slot Was (IsNoted c) turns turns' → c.turned ≤ slot → ((s : ℕ) → c.turned < s → s ≤ c.turned + 64 → s ≤ slot → under c.near.items s ≡ [])
+    → c'.turned ≡ slot → c'.near.items ≡ c.near.items → c'.far ≡ c.far → Moves slot Was (IsNoted c') turns turns'
+moves_turned slot Was c c' turns turns' m later empty turned near far =
+    record {
+      kept = m.kept;
+      moved = λ d was. elim (m.moved d was) [
+        | inl noted ↦ elim noted [
+          | inl n ↦ inl (inl (stays d n (nat_le d.release slot) refl))
+          | inr f ↦ inl (inr (subst (λ x. IsAmong x d) (sym far) f))
+        ]
+        | inr gone ↦ inr gone
+      ];
+    }
+  where
+    stays : (d : Date) → IsNear c.turned c.near.items d → (due : Bool) → nat_le d.release slot ≡ due → IsNear c'.turned c'.near.items d
+    stays d n true e = absurd (empty_has_none (under c.near.items d.release) d (empty d.release n.after n.within (leb-true d.release slot e)) n.there)
+    stays d n false e = record {
+      after = let past = leb-false d.release slot e in omega (arith, past, turned);
+      within = let within = n.within in omega (arith, within, later, turned);
+      there = subst (λ (x : Buckets). Contains (under x d.release) d) (sym near) n.there;
     }
 
 -- ---- a list that is emptied from its end

@@ -14,8 +14,8 @@ use Rattle.pfair_ready.specs.Queue.{Queue}
 use Rattle.pfair_ready.specs.Calendar.{HasTurn, IsCovered, IsNoted, Moves}
 use Rattle.pfair_ready.proofs.Names.{names_total, names_exact}
 
-abbrev pub HasDate : Calendar → ℕ → NameValue → Type 0
-HasDate dates r q = (hint : ℕ) × IsNoted dates (record { release = r; hint = hint; name = q })
+abbrev pub HasDate : Calendar → ℕ → Key → Type 0
+HasDate dates r k = (hint : ℕ) × IsNoted dates (record { release = r; hint = hint; key = k })
 
 -- nothing waits
 pub covered_none : (held : Queue) (dates : Calendar) (turns : List (Key × ℕ)) → held ≡ finmap.empty → dates.turned ≡ 0 → IsCovered 0 held dates turns
@@ -33,16 +33,16 @@ covered_kept now held dates dates' turns turns' noted turned kept c =
     record {
       named = c.named;
       turned = let before = c.turned in omega (arith, turned, before);
-      covered = λ q r k at. elim (c.covered q r k at) [ inl d ↦ inl (d.0, noted (record { release = r; hint = d.0; name = q }) d.1) | inr t ↦ inr (t.0, (t.1.0, kept (k, t.1.0) t.1.1)) ];
+      covered = λ q r k at. elim (c.covered q r k at) [ inl d ↦ inl (d.0, noted (record { release = r; hint = d.0; key = k }) d.1) | inr t ↦ inr (t.0, (t.1.0, kept (k, t.1.0) t.1.1)) ];
     }
 
-pub covered_moved : (now slot : ℕ) (held : Queue) (dates dates' : Calendar) (turns turns' : List (Key × ℕ)) → IsCovered now held dates turns → now ≤ slot → Moves slot held (IsNoted dates) (IsNoted dates') turns turns' → dates'.turned ≤ slot → IsCovered slot held dates' turns'
+pub covered_moved : (now slot : ℕ) (held : Queue) (dates dates' : Calendar) (turns turns' : List (Key × ℕ)) → IsCovered now held dates turns → now ≤ slot → Moves slot (IsNoted dates) (IsNoted dates') turns turns' → dates'.turned ≤ slot → IsCovered slot held dates' turns'
 covered_moved now slot held dates dates' turns turns' c within m turned =
     record {
       named = c.named;
       turned = turned;
       covered = λ q r k at. elim (c.covered q r k at) [
-        | inl d ↦ elim (m.moved (record { release = r; hint = d.0; name = q }) k at d.1) [ inl stays ↦ inl (d.0, stays) | inr gone ↦ inr gone ]
+        | inl d ↦ elim (m.moved (record { release = r; hint = d.0; key = k }) d.1) [ inl stays ↦ inl (d.0, stays) | inr gone ↦ inr gone ]
         | inr t ↦ inr (omega (arith, t.0, within), (t.1.0, m.kept (k, t.1.0) t.1.1))
       ];
     }
@@ -52,7 +52,7 @@ one_or true x y o e = inl (refl, same_Some x y e)
 one_or false x y o e = inr e
 
 -- a key more, with its date or its turn
-pub covered_more : (now r : ℕ) (k : Key) (held : Queue) (dates : Calendar) (turns : List (Key × ℕ)) → HasDate dates r k.name ⊎ ((r ≤ now) × HasTurn turns k) → IsCovered now held dates turns → IsCovered now (finmap.insert held k.name (r, k)) dates turns
+pub covered_more : (now r : ℕ) (k : Key) (held : Queue) (dates : Calendar) (turns : List (Key × ℕ)) → HasDate dates r k ⊎ ((r ≤ now) × HasTurn turns k) → IsCovered now held dates turns → IsCovered now (finmap.insert held k.name (r, k)) dates turns
 covered_more now r k held dates turns here c =
     record {
       named = λ q r' k' at. elim (one_or (eq_by_cmp name_cmp q k.name) (r, k) (r', k') (finmap.get held q) (sym (get-insert names_total held k.name (r, k) q) ∙ at)) [
@@ -62,8 +62,7 @@ covered_more now r k held dates turns here c =
       turned = c.turned;
       covered = λ q r' k' at. elim (one_or (eq_by_cmp name_cmp q k.name) (r, k) (r', k') (finmap.get held q) (sym (get-insert names_total held k.name (r, k) q) ∙ at)) [
         | inl own ↦
-            let Covers : ℕ × Key → NameValue → Type 0 = λ x n. HasDate dates x.0 n ⊎ ((x.0 ≤ now) × HasTurn turns x.1) in
-            subst (λ (x : ℕ × Key). Covers x q) own.1 (subst (Covers (r, k)) (sym (names_exact q k.name ((Equal-is (name_cmp q k.name)).0 own.0))) here)
+            subst (λ (x : ℕ × Key). HasDate dates x.0 x.1 ⊎ ((x.0 ≤ now) × HasTurn turns x.1)) own.1 here
         | inr other ↦ c.covered q r' k' other
       ];
     }

@@ -3,13 +3,11 @@ use Rattle.std.proofs.Common.{◌≡◌, ℕ, ◌<◌, ◌≤◌, ◌⊎◌, inl
 use Rattle.std.specs.Prelude.{All, Contains, IfNone, IfSome}
 use Rattle.std.specs.BinaryHeap.{IsHeap, PopsGreatest}
 use Rattle.std.specs.List.Sorted.{IsPermutation}
-use Rattle.std.specs.FinMap as finmap
 use Rattle.std.specs.declared.cmp.Reverse.{Reverse}
 use Rattle.std.proofs.lemmas.List.Sorted.{IsPermutation-map}
 use Rattle.std.proofs.lemmas.List.Elements.{All-map}
 use Rattle.pfair_order.specs.declared.Key.{Key}
 use Rattle.pfair_ready.specs.declared.far_dates.Date.{Date}
-use Rattle.pfair_ready.specs.Queue.{Queue}
 use Rattle.pfair_ready.specs.Calendar.{dates_of, later_cmp, HasTurn, Moves}
 
 -- the dates of a heap's elements
@@ -27,27 +25,19 @@ popped_order None xs ys n e some none h up = absurd (omega arith)
 popped_order (Some x) xs ys n e some none h up = (h up).0
 
 -- one date more has gone
-pub moves_more : (slot : ℕ) (held : Queue) (date : Date) (Was Is Is' : Date → Type 0) (turns0 turns turns' : List (Key × ℕ)) → Moves slot held Was Is turns0 turns
-    → ((x : Key × ℕ) → Contains turns x → Contains turns' x) → ((d : Date) → Is d → (date ≡ d) ⊎ Is' d) → ((k : Key) → finmap.get held date.name ≡ Some (date.release, k) → Was date → (date.release ≤ slot) × HasTurn turns' k)
-    → Moves slot held Was Is' turns0 turns'
-moves_more slot held date Was Is Is' turns0 turns turns' m kept left there =
+pub moves_more : (slot : ℕ) (date : Date) (Was Is Is' : Date → Type 0) (turns0 turns turns' : List (Key × ℕ)) → Moves slot Was Is turns0 turns
+    → ((x : Key × ℕ) → Contains turns x → Contains turns' x) → ((d : Date) → Is d → (date ≡ d) ⊎ Is' d) → (Was date → (date.release ≤ slot) × HasTurn turns' date.key)
+    → Moves slot Was Is' turns0 turns'
+moves_more slot date Was Is Is' turns0 turns turns' m kept left there =
     record {
       kept = λ x h. kept x (m.kept x h);
-      moved = λ d k at was. elim (m.moved d k at was) [
+      moved = λ d was. elim (m.moved d was) [
         | inl stays ↦ elim (left d stays) [
           | inl same ↦
-              let P : Date → Type 0 = λ x. finmap.get held x.name ≡ Some (x.release, k) → Was x → (x.release ≤ slot) × HasTurn turns' k in
-              inr (subst P same (there k) at was)
+              let P : Date → Type 0 = λ x. Was x → (x.release ≤ slot) × HasTurn turns' x.key in
+              inr (subst P same there was)
           | inr later ↦ inl later
         ]
-        | inr gone ↦ inr (gone.0, (gone.1.0, kept (k, gone.1.0) gone.1.1))
+        | inr gone ↦ inr (gone.0, (gone.1.0, kept (d.key, gone.1.0) gone.1.1))
       ];
-    }
-
--- and none
-pub moves_kept : (slot : ℕ) (held : Queue) (Was Is : Date → Type 0) (turns0 turns turns' : List (Key × ℕ)) → Moves slot held Was Is turns0 turns → ((x : Key × ℕ) → Contains turns x → Contains turns' x) → Moves slot held Was Is turns0 turns'
-moves_kept slot held Was Is turns0 turns turns' m kept =
-    record {
-      kept = λ x h. kept x (m.kept x h);
-      moved = λ d k at was. elim (m.moved d k at was) [ inl stays ↦ inl stays | inr gone ↦ inr (gone.0, (gone.1.0, kept (k, gone.1.0) gone.1.1)) ];
     }

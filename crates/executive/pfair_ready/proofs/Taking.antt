@@ -84,7 +84,7 @@ module _ (slot m room : ℕ) (start held : Queue) (dates : Calendar) (turns : Li
   has_turn : (q : NameValue) (r : ℕ) (k : Key) → finmap.get held q ≡ Some (r, k) → r ≤ slot → HasTurn turns k
   has_turn q r k at due =
       elim (t.covered.covered q r k at) [
-        | inl there ↦ let later : slot < r = t.later (record { release = r; hint = there.0; name = q }) there.1 in absurd (omega arith)
+        | inl there ↦ let later : slot < r = t.later (record { release = r; hint = there.0; key = k }) there.1 in absurd (omega arith)
         | inr both ↦ both.1
       ]
 

@@ -8,12 +8,13 @@ use Rattle.std.specs.Ordering.{nat_cmp, ordering_then}
 use Rattle.pfair_order.specs.declared.Key.{Key}
 use Rattle.pfair_ready.specs.declared.calendar.Calendar.{Calendar}
 use Rattle.pfair_ready.specs.declared.far_dates.Date.{Date}
-use Rattle.pfair_ready.specs.Names.{NameValue, name_cmp}
+use Rattle.pfair_order.specs.Order.{pd2_cmp}
+use Rattle.pfair_ready.specs.Names.{NameValue}
 use Rattle.pfair_ready.specs.Queue.{Queue}
 
 -- the earlier date first
 abbrev pub date_cmp : Date → Date → Ordering
-date_cmp a b = ordering_then (nat_cmp a.release b.release) (ordering_then (nat_cmp a.hint b.hint) (name_cmp a.name b.name))
+date_cmp a b = ordering_then (nat_cmp a.release b.release) (ordering_then (nat_cmp a.hint b.hint) (pd2_cmp a.key b.key))
 
 abbrev pub later_cmp : Reverse Date → Reverse Date → Ordering
 later_cmp a b = date_cmp b.0 a.0
@@ -54,13 +55,13 @@ IsNoted c date = IsNear c.turned c.near.items date ⊎ IsAmong c.far date
 abbrev pub HasTurn : List (Key × ℕ) → Key → Type 0
 HasTurn turns k = (hint : ℕ) × Contains turns (k, hint)
 
--- what moved to the turns, which lose nothing: a date of a name's key that was in one place, and isn't in another, has come, and the key has a turn
-pub record Moves (slot : ℕ) (held : Queue) (Was Is : Date → Type 0) (turns turns' : List (Key × ℕ)) : Type 0 where
+-- what moved to the turns, which lose nothing: a date that was in one place, and isn't in another, has come, and its key has a turn
+pub record Moves (slot : ℕ) (Was Is : Date → Type 0) (turns turns' : List (Key × ℕ)) : Type 0 where
   pub kept : (x : Key × ℕ) → Contains turns x → Contains turns' x
-  pub moved : (d : Date) (k : Key) → finmap.get held d.name ≡ Some (d.release, k) → Was d → Is d ⊎ ((d.release ≤ slot) × HasTurn turns' k)
+  pub moved : (d : Date) → Was d → Is d ⊎ ((d.release ≤ slot) × HasTurn turns' d.key)
 
 -- each key stands under its own name, and is in the calendar at its release, or released and has a turn
 pub record IsCovered (now : ℕ) (held : Queue) (dates : Calendar) (turns : List (Key × ℕ)) : Type 0 where
   pub named : (q : NameValue) (r : ℕ) (k : Key) → finmap.get held q ≡ Some (r, k) → k.name ≡ q
   pub turned : dates.turned ≤ now
-  pub covered : (q : NameValue) (r : ℕ) (k : Key) → finmap.get held q ≡ Some (r, k) → ((hint : ℕ) × IsNoted dates (record { release = r; hint = hint; name = q })) ⊎ ((r ≤ now) × HasTurn turns k)
+  pub covered : (q : NameValue) (r : ℕ) (k : Key) → finmap.get held q ≡ Some (r, k) → ((hint : ℕ) × IsNoted dates (record { release = r; hint = hint; key = k })) ⊎ ((r ≤ now) × HasTurn turns k)

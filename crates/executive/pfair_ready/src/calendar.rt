@@ -4,9 +4,8 @@ ghost use Rattle.std.specs.Prelude.{◌≡◌, ◌≤◌, ◌<◌, ◌%◌, ◌+
 ghost use Rattle.pfair_ready.specs.declared.far_dates.Date.{Date};
 ghost use Rattle.pfair_ready.specs.Calendar.{IsNoted, Moves};
 
-use crate::far_dates::{Date, FarDates, release_one};
+use crate::far_dates::{Date, FarDates};
 use crate::turns::Turns;
-use crate::waiting::Waiting;
 use std::alloc::{AllocError, Global};
 
 // How many slots are near.
@@ -84,25 +83,20 @@ impl Calendar {
 
     /// Moves the keys whose release has come by the slot to the heap. If an allocation fails some have
     /// moved, and none is lost.
-    pub(crate) fn release(
-        &mut self,
-        waiting: &Waiting,
-        released: &mut Turns,
-        slot: u64,
-    ) -> Result<(), AllocError>
+    pub(crate) fn release(&mut self, released: &mut Turns, slot: u64) -> Result<(), AllocError>
         requires turned { self.old.turned ≤ slot }
-        ensures moves { Moves slot waiting.now (IsNoted self.old) (IsNoted self.new) released.old released.new }
+        ensures moves { Moves slot (IsNoted self.old) (IsNoted self.new) released.old released.new }
         ensures turned { self.new.turned ≤ slot }
         ensures done { OnOk result ((d : Date) → IsNoted self.new d → slot < d.release) }
     {
-        self.turn(waiting, released, slot)?;
-        self.far.release(waiting, released, slot)
+        self.turn(released, slot)?;
+        self.far.release(released, slot)
     }
 
     // Empties the lists of all slots up to one.
-    fn turn(&mut self, waiting: &Waiting, released: &mut Turns, slot: u64) -> Result<(), AllocError>
+    fn turn(&mut self, released: &mut Turns, slot: u64) -> Result<(), AllocError>
         requires turned { self.old.turned ≤ slot }
-        ensures moves { Moves slot waiting.now (IsNoted self.old) (IsNoted self.new) released.old released.new }
+        ensures moves { Moves slot (IsNoted self.old) (IsNoted self.new) released.old released.new }
         ensures turned { self.new.turned ≤ slot }
         ensures done { OnOk result (self.new.turned ≡ slot) }
         ensures far { self.new.far ≡ self.old.far }
@@ -111,7 +105,7 @@ impl Calendar {
         for ahead in 0..(slot - from).min(NEAR) {
             let bucket = ((from + 1 + ahead) % NEAR) as usize;
             if bucket < self.near.len() {
-                release_all(waiting, &mut self.near[bucket], released, slot)?;
+                release_all(&mut self.near[bucket], released, slot)?;
             }
         }
         self.turned = slot;
@@ -129,17 +123,12 @@ fn empty_lists(alloc: Global) -> Result<Vec<Vec<Date>>, AllocError> {
 }
 
 // Moves the keys of a list of dates that have come to the heap.
-fn release_all(
-    waiting: &Waiting,
-    dates: &mut Vec<Date>,
-    released: &mut Turns,
-    slot: u64,
-) -> Result<(), AllocError>
-    ensures moves { Moves slot waiting.now (λ d. (d.release ≤ slot) × Contains dates.old.items d) (Contains dates.new.items) released.old released.new }
+fn release_all(dates: &mut Vec<Date>, released: &mut Turns, slot: u64) -> Result<(), AllocError>
+    ensures moves { Moves slot (λ d. (d.release ≤ slot) × Contains dates.old.items d) (Contains dates.new.items) released.old released.new }
     ensures done { OnOk result (dates.new.items ≡ []) }
 {
     while let Some(date) = dates.last() {
-        release_one(waiting, released, *date, slot)?;
+        released.push(date.key, date.hint)?;
         let _ = dates.pop();
     }
     Ok(())

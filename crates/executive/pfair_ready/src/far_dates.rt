@@ -8,19 +8,18 @@ ghost use Rattle.pfair_order.specs.declared.Key.{Key};
 ghost use Rattle.pfair_ready.specs.Calendar.{dates_of, later_cmp, HasTurn, IsAmong, IsFirstDate, Moves};
 
 use crate::turns::Turns;
-use crate::waiting::Waiting;
-use pfair_weight::TaskName;
+use pfair_order::Key;
 use std::alloc::{AllocError, Global};
 use std::cmp::Reverse;
 use std::collections::BinaryHeap;
 use std::marker::Model;
 
-/// The key under a name is released at a slot. The hint says where the name stands.
+/// A key is released at a slot. The hint says where its name stands.
 #[derive(Clone, Copy, Debug, PartialEq, Eq, PartialOrd, Ord)]
 pub(crate) struct Date {
     pub release: u64,
     pub hint: usize,
-    pub name: TaskName,
+    pub key: Key,
 }
 
 /// Dates in a heap, the earliest on top.
@@ -68,33 +67,27 @@ impl FarDates {
     }
 
     /// Moves the keys whose release has come by the slot to the released ones.
-    pub(crate) fn release(
-        &mut self,
-        waiting: &Waiting,
-        released: &mut Turns,
-        slot: u64,
-    ) -> Result<(), AllocError>
-        ensures moves { Moves slot waiting.now (IsAmong self.old) (IsAmong self.new) released.old released.new }
+    pub(crate) fn release(&mut self, released: &mut Turns, slot: u64) -> Result<(), AllocError>
+        ensures moves { Moves slot (IsAmong self.old) (IsAmong self.new) released.old released.new }
         ensures done { OnOk result (All (λ d. slot < d.release) self.new) }
     {
-        release_come(waiting, &mut self.dates, released, slot)
+        release_come(&mut self.dates, released, slot)
     }
 }
 
 // The same, of a heap of dates.
 fn release_come(
-    waiting: &Waiting,
     dates: &mut BinaryHeap<Reverse<Date>>,
     released: &mut Turns,
     slot: u64,
 ) -> Result<(), AllocError>
     requires date_order { IsHeap later_cmp (heap_items dates.old) }
-    ensures moves { Moves slot waiting.now (IsAmong (dates_of (heap_items dates.old))) (IsAmong (dates_of (heap_items dates.new))) released.old released.new }
+    ensures moves { Moves slot (IsAmong (dates_of (heap_items dates.old))) (IsAmong (dates_of (heap_items dates.new))) released.old released.new }
     ensures date_order { IsHeap later_cmp (heap_items dates.new) }
     ensures done { OnOk result (All (λ d. slot < d.release) (dates_of (heap_items dates.new))) }
 {
     while let Some(date) = first_come(dates, slot) {
-        release_one(waiting, released, date, slot)?;
+        released.push(date.key, date.hint)?;
         let _ = dates.pop();
     }
     Ok(())
@@ -108,22 +101,4 @@ fn first_come(dates: &BinaryHeap<Reverse<Date>>, slot: u64) -> Option<Date>
 {
     let date = dates.peek()?.0;
     (date.release <= slot).then_some(date)
-}
-
-/// Adds the key under the name of a date to the released ones if its release has come.
-pub(crate) fn release_one(
-    waiting: &Waiting,
-    released: &mut Turns,
-    date: Date,
-    slot: u64,
-) -> Result<(), AllocError>
-    ensures kept { (x : Key × ℕ) → Contains released.old x → Contains released.new x }
-    ensures there { OnOk result ((k : Key) → finmap.get waiting.now date.name ≡ Some (date.release, k) → date.release ≤ slot → HasTurn released.new k) }
-{
-    if let Some((hint, (release, key))) = waiting.get(date.hint, &date.name) {
-        if release <= slot {
-            released.push(key, hint)?;
-        }
-    }
-    Ok(())
 }

@@ -5,7 +5,7 @@ use Rattle.pfair_ready.proofs.calendar.release_all.Given as goal
 
 abbrev pub invariant-loop-date : goal.invariant-loop-date
 invariant-loop-date l = record {
-  moves : Moves l.slot l.waiting (λ d. (d.release ≤ l.slot) × Contains l.fn.dates.items d) (Contains l.dates.items) l.fn.released l.released;
+  moves : Moves l.slot (λ d. (d.release ≤ l.slot) × Contains l.fn.dates.items d) (Contains l.dates.items) l.fn.released l.released;
 }
 
 abbrev pub decreases-loop-date : goal.decreases-loop-date

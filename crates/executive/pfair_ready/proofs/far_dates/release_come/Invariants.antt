@@ -5,7 +5,7 @@ use Rattle.pfair_ready.proofs.far_dates.release_come.Given as goal
 
 abbrev pub invariant-loop-date : goal.invariant-loop-date
 invariant-loop-date l = record {
-  moves : Moves l.slot l.waiting (IsAmong (dates_of (heap_items l.fn.dates))) (IsAmong (dates_of (heap_items l.dates))) l.fn.released l.released;
+  moves : Moves l.slot (IsAmong (dates_of (heap_items l.fn.dates))) (IsAmong (dates_of (heap_items l.dates))) l.fn.released l.released;
   date_order : IsHeap later_cmp (heap_items l.dates);
 }
 

@@ -4,7 +4,7 @@ use Rattle.std.specs.Vec.{with_item}
 use Rattle.std.proofs.lemmas.Option.{slice_get_read}
 use Rattle.pfair_ready.specs.declared.calendar.Calendar.{Calendar}
 use Rattle.pfair_ready.specs.Calendar.{in_bucket, IsNoted}
-use Rattle.pfair_ready.proofs.CalendarLemmas.{emptied_next, emptied_past, moves_bucket}
+use Rattle.pfair_ready.proofs.CalendarLemmas.{emptied_next, emptied_past, moves_bucket, moves_turned}
 use Rattle.pfair_ready.proofs.calendar.Calendar.turn.Goals as goal
 use Rattle.pfair_ready.proofs.calendar.Calendar.turn.Goals.{then-bucket-len+in_ok-release_all, else-bucket-len}
 
@@ -14,7 +14,7 @@ returns-in_err-release_all-clause-moves c =
     let bucket : ℕ = (c.args.self.now.turned + 1 + c.loop-ahead.ahead) % 64 in
     let inside : bucket < length was.near.items = omega (arith, c.if-bucket-len.true, c.len.ensures, was.near.ok.0) in
     let same = c.loop-ahead.invariant.turned in
-    moves_bucket c.args.slot (c.args.self.now.turned + 1 + c.loop-ahead.ahead) c.args.waiting.now (IsNoted c.args.self.now) was (record { turned = was.turned; near = with_item was.near bucket c.release_all.new.dates; far = was.far }) c.index_mut.result.now c.release_all.new.dates
+    moves_bucket c.args.slot (c.args.self.now.turned + 1 + c.loop-ahead.ahead) (IsNoted c.args.self.now) was (record { turned = was.turned; near = with_item was.near bucket c.release_all.new.dates; far = was.far }) c.index_mut.result.now c.release_all.new.dates
     c.args.released.now c.loop-ahead.released c.release_all.new.released c.loop-ahead.invariant.moves (omega (arith, same)) (omega (arith, same, c.loop-ahead-test.true, c.min-ahead-end.ensures)) (omega (arith, c.loop-ahead-test.true, c.min-ahead-end.ensures))
     (ap in_bucket (slice_get_read was.near.items (length was.near.items) bucket c.index_mut.result.now refl inside c.index_mut.ensures.value)) c.release_all.ensures.moves refl refl refl
 
@@ -28,7 +28,7 @@ loop-ahead-preserved c =
       | then-bucket-len+in_ok-release_all w ↦
           let inside : bucket < length was.near.items = omega (arith, w.if-bucket-len.true, c.len.ensures, was.near.ok.0) in
           rw (w.self-is, w.released-is) (record {
-            moves = moves_bucket c.args.slot (from + 1 + c.loop-ahead.ahead) c.args.waiting.now (IsNoted c.args.self.now) was (record { turned = was.turned; near = with_item was.near bucket w.release_all.new.dates; far = was.far }) w.index_mut.result.now w.release_all.new.dates
+            moves = moves_bucket c.args.slot (from + 1 + c.loop-ahead.ahead) (IsNoted c.args.self.now) was (record { turned = was.turned; near = with_item was.near bucket w.release_all.new.dates; far = was.far }) w.index_mut.result.now w.release_all.new.dates
                 c.args.released.now c.loop-ahead.released w.release_all.new.released c.loop-ahead.invariant.moves (omega (arith, same)) (omega (arith, same, c.loop-ahead-test.true, c.min-ahead-end.ensures)) (omega (arith, c.loop-ahead-test.true, c.min-ahead-end.ensures))
                 (ap in_bucket (slice_get_read was.near.items (length was.near.items) bucket w.index_mut.result.now refl inside w.index_mut.ensures.value)) w.release_all.ensures.moves refl refl refl;
             turned = same;
@@ -44,3 +44,11 @@ loop-ahead-preserved c =
             emptied = emptied_past was.near.items from c.loop-ahead.ahead past c.loop-ahead.invariant.emptied;
           })
     ]
+
+pub returns-clause-moves : goal.returns-clause-moves
+returns-clause-moves c =
+    let was : Calendar = c.loop-ahead.self in
+    let same = c.loop-ahead.invariant.turned in
+    let before = c.requires.turned in
+    moves_turned c.args.slot (IsNoted c.args.self.now) was (record { turned = c.args.slot; near = was.near; far = was.far }) c.args.released.now c.loop-ahead.released c.loop-ahead.invariant.moves (omega (arith, same, before))
+    (λ s after near due. c.loop-ahead.invariant.emptied s (omega (arith, same, after)) (omega (arith, same, near, due, before, c.loop-ahead-test.false, c.min-ahead-end.ensures))) refl refl refl

@@ -11,7 +11,7 @@ invariant_of-self-in_err-note c =
 
 -- the key has its date or its turn before it waits
 covers : (c : After-put) → let s = c.if-release-self.self-inside in
-    IsCovered s.now s.waiting s.calendar s.released × (HasDate s.calendar c.args.release c.args.key.name ⊎ ((c.args.release ≤ s.now) × HasTurn s.released c.args.key))
+    IsCovered s.now s.waiting s.calendar s.released × (HasDate s.calendar c.args.release c.args.key ⊎ ((c.args.release ≤ s.now) × HasTurn s.released c.args.key))
 covers c =
     elim c.if-release-self.branch [
       | then-release-self+in_ok-push w ↦ rw w.self-inside-is (
