@@ -1,10 +1,10 @@
 -- What waits is in the calendar, or has a turn.
 use Rattle.std.proofs.Common.{◌≡◌, ℕ, ◌≤◌, ◌⊎◌, inl, inr, Bool, true, false, cond, List, refl, sym, ap, subst, ◌∙◌, arith, Option, Some, None, true≢false}
-use Rattle.std.specs.Prelude.{Contains}
+use Rattle.std.specs.Prelude.{Contains, is_some}
 use Rattle.std.specs.Ordering.{is_eq, eq_by_cmp}
 use Rattle.std.specs.Cmp.{Equal-is, tied_itself}
 use Rattle.std.specs.FinMap as finmap
-use Rattle.std.specs.FinMap.{get-empty, get-insert, get-remove}
+use Rattle.std.specs.FinMap.{get-empty, get-insert, get-remove, same_map}
 use Rattle.std.proofs.lemmas.Option.{none-some, same_Some}
 use Rattle.pfair_order.specs.declared.Key.{Key}
 use Rattle.pfair_ready.specs.declared.calendar.Calendar.{Calendar}
@@ -87,3 +87,16 @@ covered_less now held s dates turns c =
       turned = c.turned;
       covered = λ q r k at. c.covered q r k (still_there held s q (r, k) at).1;
     }
+
+none_at : {A : Type 0} (o : Option A) → is_some o ≡ false → o ≡ None
+none_at None e = refl
+none_at (Some x) e = absurd (true≢false e)
+
+-- a key that was put where nothing waited, and taken out again
+pub put_back : (held : Queue) (s : NameValue) (v : ℕ × Key) → finmap.contains_key held s ≡ false → finmap.remove (finmap.insert held s v) s ≡ held
+put_back held s v vacant = same_map names_total names_exact _ _ (λ q.
+    get-remove names_total (finmap.insert held s v) s q ∙ ap (λ o. cond (eq_by_cmp name_cmp q s) None o) (get-insert names_total held s v q) ∙ at q (eq_by_cmp name_cmp q s) refl)
+  where
+    at : (q : NameValue) (own : Bool) → eq_by_cmp name_cmp q s ≡ own → cond own None (cond own (Some v) (finmap.get held q)) ≡ finmap.get held q
+    at q true e = sym (ap (λ (n : NameValue). finmap.get held n) (names_exact q s ((Equal-is (name_cmp q s)).0 e)) ∙ none_at (finmap.get held s) vacant)
+    at q false e = refl

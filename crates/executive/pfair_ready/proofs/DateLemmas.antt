@@ -41,3 +41,11 @@ moves_more slot date Was Is Is' turns0 turns turns' m kept left there =
         | inr gone ↦ inr (gone.0, (gone.1.0, kept (d.key, gone.1.0) gone.1.1))
       ];
     }
+
+-- and none
+pub moves_kept : (slot : ℕ) (Was Is : Date → Type 0) (turns0 turns turns' : List (Key × ℕ)) → Moves slot Was Is turns0 turns → ((x : Key × ℕ) → Contains turns x → Contains turns' x) → Moves slot Was Is turns0 turns'
+moves_kept slot Was Is turns0 turns turns' m kept =
+    record {
+      kept = λ x h. kept x (m.kept x h);
+      moved = λ d was. elim (m.moved d was) [ inl stays ↦ inl stays | inr gone ↦ inr (gone.0, (gone.1.0, kept (d.key, gone.1.0) gone.1.1)) ];
+    }

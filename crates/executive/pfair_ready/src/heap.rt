@@ -73,22 +73,29 @@ impl Ready for HeapReady {
     }
 
     fn held(&self, name: &TaskName) -> Option<(u64, Key)> {
-        self.waiting.get(0, name).map(|(_, waiting)| waiting)
+        self.waiting.get(name)
     }
 
     fn insert(&mut self, release: u64, key: Key) -> Result<bool, AllocError> {
         let hint = self.given.get(self.inserted).copied().unwrap_or(0);
         self.inserted = self.inserted.saturating_add(1);
-        let Some(hint) = self.waiting.place_for(hint, &key.name) else {
+        let Some(place) = self.waiting.put(hint, release, key)? else {
             return Ok(false);
         };
-        if release <= self.now {
-            self.released.push(key, hint)?;
+        let noted = if release <= self.now {
+            self.released.push(key, place)
         } else {
-            let date = Date { release, hint, key };
-            self.calendar.note(self.alloc, date)?;
+            let date = Date {
+                release,
+                hint: place,
+                key,
+            };
+            self.calendar.note(self.alloc, date)
+        };
+        if noted.is_err() {
+            self.waiting.remove(&key.name);
+            return Err(AllocError);
         }
-        self.waiting.put(hint, release, key)?;
         Ok(true)
     }
 

@@ -1,6 +1,6 @@
 //! The turns of released keys, the first in the PD2 order first.
 
-ghost use Rattle.std.specs.Prelude.{◌≡◌, ◌+◌, ◌∷◌, [], IfNone, IfSome, OnErr, OnOk, length};
+ghost use Rattle.std.specs.Prelude.{◌≡◌, ℕ, ◌+◌, ◌∷◌, [], Contains, IfNone, IfSome, OnOk, length};
 ghost use Rattle.std.specs.List.Sorted.{IsPermutation};
 ghost use Rattle.pfair_ready.specs.Turns.{IsFirst};
 
@@ -55,8 +55,8 @@ impl Turns {
     }
 
     pub(crate) fn push(&mut self, key: Key, hint: usize) -> Result<(), AllocError>
-        ensures more { OnOk result (IsPermutation ((key, hint) ∷ self.old) self.new) }
-        ensures same { OnErr result (self.new ≡ self.old) }
+        ensures kept { (turn : Key × ℕ) → Contains self.old turn → Contains self.new turn }
+        ensures there { OnOk result (Contains self.new (key, hint)) }
     {
         self.heap.push(Reverse((key, hint)))?;
         Ok(())

@@ -1,8 +1,7 @@
 //! What waits under each name.
 
-ghost use Rattle.std.specs.Prelude.{◌≡◌, ℕ, IfSome, IfNone, OnErr, OnOk, None, Some, is_some, not, if◌then◌else◌};
+ghost use Rattle.std.specs.Prelude.{◌≡◌, ℕ, IfOk, IfSome, IfNone, OnErr, OnOk, None, Some, false, is_some, not, if◌then◌else◌};
 ghost use Rattle.std.specs.FinMap as finmap;
-ghost use Rattle.std.specs.Option.{option_map};
 ghost use Rattle.indexmap.specs.IndexMap.{get as at_name, IsUnique, Updates};
 ghost use Rattle.pfair_ready.specs.Names.{NameValue, name_eq};
 ghost use Rattle.pfair_ready.specs.Waiting.{is_due, queue_in, IsEntryOf};
@@ -47,41 +46,49 @@ impl Waiting {
         }
     }
 
-    /// The release and the key under a name, after the index at which the name stands.
-    pub(crate) fn get(&self, hint: usize, name: &TaskName) -> Option<(usize, (u64, Key))>
-        ensures { option_map (λ w. w.1) result ≡ finmap.get self.now name.now }
+    /// Returns the release and the key under a name.
+    pub(crate) fn get(&self, name: &TaskName) -> Option<(u64, Key)>
+        ensures { result ≡ finmap.get self.now name.now }
     {
-        let index = find(&self.entries, hint, name)?;
-        let waiting = held_at(&self.entries, index)?;
-        Some((index, waiting))
+        let index = find(&self.entries, 0, name)?;
+        held_at(&self.entries, index)
     }
 
-    /// Where a name stands, or will once something waits under it; `None` if something does.
-    pub(crate) fn place_for(&self, hint: usize, name: &TaskName) -> Option<usize>
-        ensures { is_some result ≡ not (finmap.contains_key self.now name.now) }
+    /// Puts a release and a key under the key's name and returns where the name stands, or `None` if
+    /// something waits there already.
+    pub(crate) fn put(
+        &mut self,
+        hint: usize,
+        release: u64,
+        key: Key,
+    ) -> Result<Option<usize>, AllocError>
+        ensures answer { IfOk result (λ place. is_some place ≡ not (finmap.contains_key self.old key.name)) }
+        ensures content { IfOk result (λ place. self.new ≡ (if is_some place then finmap.insert self.old key.name (release, key) else self.old)) }
+        ensures same { OnErr result (self.new ≡ self.old) }
+        ensures vacant { OnErr result (finmap.contains_key self.old key.name ≡ false) }
     {
-        match find(&self.entries, hint, name) {
-            Some(index) if held_at(&self.entries, index).is_some() => None,
-            Some(index) => Some(index),
-            None => Some(self.entries.len()),
+        match find(&self.entries, hint, &key.name) {
+            None => Ok(Some(self.put_new(release, key)?)),
+            Some(index) if held_at(&self.entries, index).is_some() => Ok(None),
+            Some(index) => {
+                put_at(&mut self.entries, index, Some((release, key)));
+                self.vacant = self.vacant.saturating_sub(1);
+                Ok(Some(index))
+            }
         }
     }
 
-    /// Puts a release and a key under the key's name, in place of what waits there.
-    pub(crate) fn put(&mut self, hint: usize, release: u64, key: Key) -> Result<(), AllocError>
+    // The same of a name that has no entry.
+    fn put_new(&mut self, release: u64, key: Key) -> Result<usize, AllocError>
         ensures put { OnOk result (self.new ≡ finmap.insert self.old key.name (release, key)) }
         ensures same { OnErr result (self.new ≡ self.old) }
     {
-        let Some(index) = find(&self.entries, hint, &key.name) else {
-            self.drop_vacant();
-            // no name stands twice
-            prove!(self.entries.len() < usize::MAX);
-            self.entries.insert(key.name, Some((release, key)))?;
-            return Ok(());
-        };
-        put_at(&mut self.entries, index, Some((release, key)));
-        self.vacant = self.vacant.saturating_sub(1);
-        Ok(())
+        self.drop_vacant();
+        // no name stands twice
+        prove!(self.entries.len() < usize::MAX);
+        let index = self.entries.len();
+        self.entries.insert(key.name, Some((release, key)))?;
+        Ok(index)
     }
 
     /// Takes the key out if it is the one under its name, and released by the slot.

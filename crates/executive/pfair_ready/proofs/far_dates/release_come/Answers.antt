@@ -1,7 +1,7 @@
 use Rattle.std.specs.BinaryHeap.{heap_items}
 use Rattle.pfair_ready.specs.Calendar.{dates_of, IsAmong}
-use Rattle.pfair_ready.proofs.DateLemmas.{all_later, moves_more, popped_order, same_dates}
-use Rattle.pfair_ready.proofs.HeapLemmas.{popped, pushed_more, pushed_top, top_or_stays}
+use Rattle.pfair_ready.proofs.DateLemmas.{all_later, moves_kept, moves_more, popped_order, same_dates}
+use Rattle.pfair_ready.proofs.HeapLemmas.{popped, top_or_stays}
 use Rattle.pfair_ready.proofs.far_dates.release_come.Goals as goal
 
 pub loop-date-preserved : goal.loop-date-preserved
@@ -9,12 +9,15 @@ loop-date-preserved c =
     let next = c.in-Some.ensures.some in
     record {
       moves = moves_more c.args.slot c.in-Some.date _ _ (IsAmong (dates_of (heap_items c.pop.new.self))) _ _ c.push.new.self c.loop-date.invariant.moves
-          (λ x h. pushed_more (c.in-Some.date.key, c.in-Some.date.hint) x c.loop-date.released c.push.new.self c.in_ok-push.ensures.more h)
+          c.push.ensures.kept
           (λ d. top_or_stays c.in-Some.date d _ (dates_of (heap_items c.pop.new.self))
           (same_dates (heap_items c.loop-date.dates) (record { 0 = c.in-Some.date }) (heap_items c.pop.new.self) (popped c.pop.result (heap_items c.loop-date.dates) (heap_items c.pop.new.self) (record { 0 = c.in-Some.date }) _ c.loop-date.dates.data.ok.0 next.some next.top c.pop.ensures.none c.pop.ensures.top c.pop.ensures.permutation)))
-          (λ _. (next.due, (c.in-Some.date.hint, pushed_top (c.in-Some.date.key, c.in-Some.date.hint) c.loop-date.released c.push.new.self c.in_ok-push.ensures.more)));
+          (λ _. (next.due, (c.in-Some.date.hint, c.in_ok-push.ensures.there)));
       date_order = popped_order c.pop.result (heap_items c.loop-date.dates) (heap_items c.pop.new.self) _ c.loop-date.dates.data.ok.0 next.some c.pop.ensures.none c.pop.ensures.heap_order c.loop-date.invariant.date_order;
     }
 
 pub returns-clause-done : goal.returns-clause-done
 returns-clause-done c = all_later c.args.slot (heap_items c.loop-date.dates) c.in_default.ensures.none
+
+pub returns-in_err-push-clause-moves : goal.returns-in_err-push-clause-moves
+returns-in_err-push-clause-moves c = moves_kept c.args.slot _ _ _ c.loop-date.released c.push.new.self c.loop-date.invariant.moves c.push.ensures.kept

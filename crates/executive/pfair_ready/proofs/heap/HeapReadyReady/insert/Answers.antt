@@ -1,35 +1,71 @@
-use Rattle.std.proofs.Common.{◌≤◌, ◌⊎◌, inl, inr, refl}
+use Rattle.std.proofs.Common.{◌≡◌, ◌≤◌, ◌⊎◌, inl, inr, refl, sym, ap, ◌∙◌, Bool, true, false, not, cond, ℕ, Option, OnOk, Ok, Err, Result, true≢false}
+use Rattle.std.specs.Prelude.{is_some}
+use Rattle.std.specs.Result.{is_err}
+use Rattle.std.specs.FinMap as finmap
+use Rattle.pfair_ready.specs.Queue.{Content, Queue}
 use Rattle.pfair_ready.specs.Calendar.{HasTurn, IsCovered}
-use Rattle.pfair_ready.proofs.CoverLemmas.{HasDate, covered_kept, covered_more}
-use Rattle.pfair_ready.proofs.HeapLemmas.{pushed_more, pushed_top}
+use Rattle.pfair_ready.proofs.CoverLemmas.{HasDate, covered_kept, covered_more, put_back}
 use Rattle.pfair_ready.proofs.heap.HeapReadyReady.insert.Goals as goal
-use Rattle.pfair_ready.proofs.heap.HeapReadyReady.insert.Goals.{After-put, then-release-self+in_ok-push, else-release-self+in_ok-note}
+use Rattle.pfair_ready.proofs.heap.HeapReadyReady.insert.Goals.{Joined-release-self, else-release-self, then-release-self}
 
-pub invariant_of-self-in_err-note : goal.invariant_of-self-in_err-note
-invariant_of-self-in_err-note c =
-    covered_kept c.self.inside.now c.self.inside.waiting c.self.inside.calendar c.note.new.self c.self.inside.released c.self.inside.released c.note.ensures.kept c.note.ensures.turned (λ x h. h) c.self.invariant
+on_ok : {A E P Q : Type 0} (r : Result A E) → (P → Q) → OnOk r P → OnOk r Q
+on_ok (Ok x) f h = f h
+on_ok (Err e) f h = h
 
--- the key has its date or its turn before it waits
-covers : (c : After-put) → let s = c.if-release-self.self-inside in
-    IsCovered s.now s.waiting s.calendar s.released × (HasDate s.calendar c.args.release c.args.key ⊎ ((c.args.release ≤ s.now) × HasTurn s.released c.args.key))
-covers c =
+not_err : {A E P : Type 0} (r : Result A E) → is_err r ≡ false → OnOk r P → P
+not_err (Ok x) is h = h
+not_err (Err e) is h = absurd (true≢false is)
+
+not_true : (b : Bool) → not b ≡ true → b ≡ false
+not_true true e = absurd (true≢false (sym e))
+not_true false e = refl
+
+-- the key was put where nothing waited
+vacant : (c : Joined-release-self) → finmap.contains_key c.self.inside.waiting c.args.key.name ≡ false
+vacant c = not_true _ (sym c.in_ok-place.ensures.answer ∙ ap (λ (o : Option ℕ). is_some o) c.in-Some.is)
+
+put : (c : Joined-release-self) → c.put.new.self ≡ finmap.insert c.self.inside.waiting c.args.key.name (c.args.release, c.args.key)
+put c =
+    c.in_ok-place.ensures.content
+    ∙ ap (λ (o : Option ℕ). cond (is_some o) (finmap.insert c.self.inside.waiting c.args.key.name (c.args.release, c.args.key)) c.self.inside.waiting) c.in-Some.is
+
+-- nothing is lost, and unless an allocation fails the key has its date or its turn
+noted : (c : Joined-release-self) → let s = c.if-release-self.self-inside in
+    (s.waiting ≡ c.put.new.self) × IsCovered s.now c.self.inside.waiting s.calendar s.released
+    × OnOk c.if-release-self.noted (HasDate s.calendar c.args.release c.args.key ⊎ ((c.args.release ≤ s.now) × HasTurn s.released c.args.key))
+noted c =
     elim c.if-release-self.branch [
-      | then-release-self+in_ok-push w ↦ rw w.self-inside-is (
-        covered_kept c.self.inside.now c.self.inside.waiting c.self.inside.calendar c.self.inside.calendar c.self.inside.released w.push.new.self (λ d h. h) refl
-            (λ x h. pushed_more (c.args.key, c.in-Some.hint) x c.self.inside.released w.push.new.self w.in_ok-push.ensures.more h) c.self.invariant,
-        inr (w.if-release-self.true, (c.in-Some.hint, pushed_top (c.args.key, c.in-Some.hint) c.self.inside.released w.push.new.self w.in_ok-push.ensures.more)),
+      | then-release-self w ↦ rw (w.self-inside-is, w.noted-is) (
+        refl,
+        covered_kept c.self.inside.now c.self.inside.waiting c.self.inside.calendar c.self.inside.calendar c.self.inside.released w.push-noted.new.self (λ d h. h) refl w.push-noted.ensures.kept c.self.invariant,
+        on_ok w.push-noted.result (λ there. inr (w.if-release-self.true, (c.in-Some.place, there))) w.push-noted.ensures.there,
       )
-      | else-release-self+in_ok-note w ↦ rw w.self-inside-is (
-        covered_kept c.self.inside.now c.self.inside.waiting c.self.inside.calendar w.note.new.self c.self.inside.released c.self.inside.released w.note.ensures.kept w.note.ensures.turned (λ x h. h) c.self.invariant,
-        inl (c.in-Some.hint, w.in_ok-note.ensures.there),
+      | else-release-self w ↦ rw (w.self-inside-is, w.noted-is) (
+        refl,
+        covered_kept c.self.inside.now c.self.inside.waiting c.self.inside.calendar w.note-noted.new.self c.self.inside.released c.self.inside.released w.note-noted.ensures.kept w.note-noted.ensures.turned (λ x h. h) c.self.invariant,
+        on_ok w.note-noted.result (λ there. inl (c.in-Some.place, there)) w.note-noted.ensures.there,
       )
     ]
 
-pub invariant_of-self-in_err-put : goal.invariant_of-self-in_err-put
-invariant_of-self-in_err-put c = rw c.in_err-put.ensures.same ((covers ((goal.at.invariant_of-self-in_err-put c).After-put)).0)
+-- where an allocation fails what waits is as it was
+back : (c : Joined-release-self) (after : Queue) → after ≡ finmap.remove c.if-release-self.self-inside.waiting c.args.key.name → after ≡ c.self.inside.waiting
+back c after removed =
+    removed
+    ∙ ap (λ (h : Queue). finmap.remove h c.args.key.name) ((noted c).0 ∙ put c)
+    ∙ put_back c.self.inside.waiting c.args.key.name (c.args.release, c.args.key) (vacant c)
 
-pub invariant_of-self-2 : goal.invariant_of-self-2
-invariant_of-self-2 c =
+pub invariant_of-self-then-is_err : goal.invariant_of-self-then-is_err
+invariant_of-self-then-is_err c =
+    let joined = (goal.at.invariant_of-self-then-is_err c).Joined-release-self in
+    rw (back joined c.remove.new.self c.remove.ensures.content) ((noted joined).1)
+
+pub returns-then-is_err-clause-err : goal.returns-then-is_err-clause-err
+returns-then-is_err-clause-err c = back ((goal.at.returns-then-is_err-clause-err c).Joined-release-self) c.remove.new.self c.remove.ensures.content ∙ ap (λ (v : Content). v.held) c.self.view_is
+
+pub invariant_of-self-else-is_err : goal.invariant_of-self-else-is_err
+invariant_of-self-else-is_err c =
     let s = c.if-release-self.self-inside in
-    let both = covers ((goal.at.invariant_of-self-2 c).After-put) in
-    rw c.in_ok-put.ensures.put (covered_more s.now c.args.release c.args.key s.waiting s.calendar s.released both.1 both.0)
+    let joined = (goal.at.invariant_of-self-else-is_err c).Joined-release-self in
+    let all = noted joined in
+    rw (all.0 ∙ put joined)
+    (covered_more s.now c.args.release c.args.key c.self.inside.waiting s.calendar s.released (not_err c.if-release-self.noted (sym c.is_err.ensures.value ∙ c.if-is_err.false) all.2) all.1)

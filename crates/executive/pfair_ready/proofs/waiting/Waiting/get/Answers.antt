@@ -1,4 +1,4 @@
-use Rattle.std.proofs.Common.{◌≡◌, Some, None, sym, ap, subst, ◌∙◌}
+use Rattle.std.proofs.Common.{◌≡◌, None, sym, subst}
 use Rattle.std.specs.FinMap as finmap
 use Rattle.pfair_ready.specs.Queue.{Queue}
 use Rattle.pfair_ready.proofs.WaitingLemmas.{held_there, none_there}
@@ -10,15 +10,7 @@ returns-in_err-index c =
     (sym (subst (λ (h : Queue). finmap.get h c.args.name.now ≡ None) c.self.view_is
     (none_there c.self.inside.entries.entries c.args.name.now c.in_err-index.ensures.unique c.in_err-index.ensures.none)))
 
-pub returns-in_err-waiting : goal.returns-in_err-waiting
-returns-in_err-waiting c =
-    rw c.from_residual-in_err-waiting.ensures
-    (sym (subst (λ (h : Queue). finmap.get h c.args.name.now ≡ None) c.self.view_is
-    (held_there c.self.inside.entries.entries c.args.name.now c.in_ok-index.ensures.unique None
-    (c.held_at.ensures c.args.name.now c.in_ok-index.ensures.some ∙ ap Some c.in_err-waiting.was))))
-
 pub returns : goal.returns
 returns c =
-    sym (subst (λ (h : Queue). finmap.get h c.args.name.now ≡ Some c.in_ok-waiting.waiting) c.self.view_is
-    (held_there c.self.inside.entries.entries c.args.name.now c.in_ok-index.ensures.unique (Some c.in_ok-waiting.waiting)
-    (c.held_at.ensures c.args.name.now c.in_ok-index.ensures.some ∙ ap Some c.in_ok-waiting.was)))
+    sym (subst (λ (h : Queue). finmap.get h c.args.name.now ≡ c.held_at.result) c.self.view_is
+    (held_there c.self.inside.entries.entries c.args.name.now c.in_ok-index.ensures.unique c.held_at.result (c.held_at.ensures c.args.name.now c.in_ok-index.ensures.some)))

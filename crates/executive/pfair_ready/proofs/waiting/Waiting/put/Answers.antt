@@ -1,17 +1,29 @@
-use Rattle.std.proofs.Common.{ap, ◌∙◌}
+use Rattle.std.proofs.Common.{◌≡◌, not, Bool, true, false, sym, ap, subst, ◌∙◌, OnErr, Ok, Err}
 use Rattle.std.specs.FinMap as finmap
 use Rattle.pfair_ready.specs.Queue.{Queue}
-use Rattle.pfair_ready.proofs.WaitingLemmas.{queue_put}
+use Rattle.pfair_ready.specs.Names.{NameValue}
+use Rattle.pfair_ready.proofs.WaitingLemmas.{absent, contained, queue_put}
 use Rattle.pfair_ready.proofs.waiting.Waiting.put.Goals as goal
 
-pub returns-in_default-clause-put : goal.returns-in_default-clause-put
-returns-in_default-clause-put c =
-    queue_put c.self-in_default.inside.entries.entries c.insert.new.self.entries c.len.ensures.unique c.in_ok-insert.ensures.unique c.args.key.name (c.args.release, c.args.key)
-    c.in_ok-insert.ensures.updates.0
-    ∙ ap (λ (h : Queue). finmap.insert h c.args.key.name (c.args.release, c.args.key)) (c.self-in_default.view_is ∙ c.drop_vacant.ensures)
+seen : (held now : Queue) (name : NameValue) (b : Bool) → held ≡ now → finmap.contains_key held name ≡ b → not b ≡ not (finmap.contains_key now name)
+seen held now name b same is = ap not (sym is ∙ ap (λ (h : Queue). finmap.contains_key h name) same)
 
-pub returns-clause-put : goal.returns-clause-put
-returns-clause-put c =
+pub returns-in_ok-put_new-in-None-clause-answer : goal.returns-in_ok-put_new-in-None-clause-answer
+returns-in_ok-put_new-in-None-clause-answer c = seen _ _ c.args.key.name _ c.self.view_is (absent c.self.inside.entries.entries c.args.key.name c.in-None.ensures.unique c.in-None.ensures.none)
+
+pub returns-in-Some-clause-answer : goal.returns-in-Some-clause-answer
+returns-in-Some-clause-answer c = seen _ _ c.args.key.name _ c.self.view_is (contained c.self.inside.entries.entries c.args.key.name c.in-Some.ensures.unique c.held_at.result true (c.held_at.ensures c.args.key.name c.in-Some.ensures.some) (sym c.if-is_some.true ∙ c.is_some.ensures))
+
+pub returns-in-Some-2-clause-answer : goal.returns-in-Some-2-clause-answer
+returns-in-Some-2-clause-answer c = seen _ _ c.args.key.name _ c.self.view_is (contained c.self.inside.entries.entries c.args.key.name c.in-Some.ensures.unique c.held_at.result false (c.held_at.ensures c.args.key.name c.in-Some.ensures.some) (sym c.if-is_some.false ∙ c.is_some.ensures))
+
+pub returns-in-Some-2-clause-content : goal.returns-in-Some-2-clause-content
+returns-in-Some-2-clause-content c =
     queue_put c.self.inside.entries.entries c.put_at.new.entries.entries c.in-Some.ensures.unique c.put_at.ensures.unique c.args.key.name (c.args.release, c.args.key)
     ((c.put_at.ensures.updates c.args.key.name c.in-Some.ensures.some).0)
     ∙ ap (λ (h : Queue). finmap.insert h c.args.key.name (c.args.release, c.args.key)) c.self.view_is
+
+pub returns-in_err-put_new-in-None-clause-vacant : goal.returns-in_err-put_new-in-None-clause-vacant
+returns-in_err-put_new-in-None-clause-vacant c =
+    let vacant : finmap.contains_key c.args.self.now c.args.key.name ≡ false = subst (λ (h : Queue). finmap.contains_key h c.args.key.name ≡ false) c.self.view_is (absent c.self.inside.entries.entries c.args.key.name c.in-None.ensures.unique c.in-None.ensures.none) in
+    elim c.from_residual.result as (λ r. OnErr r (finmap.contains_key c.args.self.now c.args.key.name ≡ false)) [ Ok x ↦ tt | Err e ↦ vacant ]
