@@ -16,8 +16,6 @@ Buckets = List (Vec Date Global)
 abbrev pub Turned : Type 0
 Turned = List (Key × ℕ)
 
--- ---- one list for another
-
 -- what stands in a list stands there still, or went with the one that was changed
 pub stays_or : (near : Buckets) (i j : ℕ) (d : Date) (b : Vec Date Global) (X : Type 0) → (i ≡ j → Contains (in_bucket (slice_get near i)) d → Contains b.items d ⊎ X) → Contains (in_bucket (slice_get near j)) d → Contains (in_bucket (slice_get (slice_set near i b) j)) d ⊎ X
 stays_or [] i j d b X goes h = inl h
@@ -47,19 +45,17 @@ empty_has_none xs d empty c = let within = c.1 in let long = ap (λ (l : List Da
 same_slot : (from r s : ℕ) → from < r → r ≤ from + 64 → from < s → s ≤ from + 64 → r % 64 ≡ s % 64 → r ≡ s
 same_slot from r s a b c d e = let x = div-add-mod r 64 in let y = div-add-mod s 64 in omega (arith, a, b, c, d, e, x, y)
 
--- ---- notes
+-- a near date stays one where the list of its slot still has it
+still_near : (turned turned' : ℕ) (near near' : Buckets) (d : Date) → turned' ≡ turned → Contains (under near' d.release) d → IsNear turned near d → IsNear turned' near' d
+still_near turned turned' near near' d same there n = let after = n.after in let within = n.within in record { after = omega (arith, same, after); within = omega (arith, same, within); there = there }
 
 -- a list that has lost nothing
 pub noted_near : (c c' : Calendar) (i : ℕ) (b : Vec Date Global) → ((d : Date) → Contains (in_bucket (slice_get c.near.items i)) d → Contains b.items d) → c'.turned ≡ c.turned → c'.near.items ≡ slice_set c.near.items i b → c'.far ≡ c.far
     → (d : Date) → IsNoted c d → IsNoted c' d
 noted_near c c' i b more turned near far d noted =
     elim noted [
-      | inl n ↦ inl (record {
-        after = let after = n.after in omega (arith, turned, after);
-        within = let within = n.within in omega (arith, turned, within);
-        there = subst (λ (x : Buckets). Contains (under x d.release) d) (sym near)
-            (elim (stays_or c.near.items i (d.release % 64) d b ⊥ (λ _ h. inl (more d h)) n.there) [ inl there ↦ there | inr none ↦ absurd none ]);
-      })
+      | inl n ↦ inl (still_near _ _ _ _ d turned (subst (λ (x : Buckets). Contains (under x d.release) d) (sym near)
+          (elim (stays_or c.near.items i (d.release % 64) d b ⊥ (λ _ h. inl (more d h)) n.there) [ inl there ↦ there | inr none ↦ absurd none ])) n)
       | inr f ↦ inr (subst (λ x. IsAmong x d) (sym far) f)
     ]
 
@@ -67,11 +63,7 @@ noted_near c c' i b more turned near far d noted =
 pub noted_far : (c c' : Calendar) → ((x : Date) → Contains c.far x → Contains c'.far x) → c'.turned ≡ c.turned → c'.near.items ≡ c.near.items → (d : Date) → IsNoted c d → IsNoted c' d
 noted_far c c' more turned near d noted =
     elim noted [
-      | inl n ↦ inl (record {
-        after = let after = n.after in omega (arith, turned, after);
-        within = let within = n.within in omega (arith, turned, within);
-        there = subst (λ (x : Buckets). Contains (under x d.release) d) (sym near) n.there;
-      })
+      | inl n ↦ inl (still_near _ _ _ _ d turned (subst (λ (x : Buckets). Contains (under x d.release) d) (sym near) n.there) n)
       | inr f ↦ inr (more d f)
     ]
 
@@ -102,11 +94,7 @@ moves_bucket slot s Was c c' b b' turns0 turns turns' m after until come here e 
               let due : d.release ≤ slot = omega (arith, is, come) in
               e.moved d (due, subst (λ (l : List Date). Contains l d) here h)) n.there in
               elim there [
-                | inl stays ↦ inl (inl (record {
-                  after = let a = n.after in omega (arith, turned, a);
-                  within = let w = n.within in omega (arith, turned, w);
-                  there = subst (λ (x : Buckets). Contains (under x d.release) d) (sym near) stays;
-                }))
+                | inl stays ↦ inl (inl (still_near _ _ _ _ d turned (subst (λ (x : Buckets). Contains (under x d.release) d) (sym near) stays) n))
                 | inr gone ↦ inr gone
               ]
           | inr f ↦ inl (inr (subst (λ x. IsAmong x d) (sym far) f))
@@ -123,11 +111,7 @@ moves_far slot Was c c' turns0 turns turns' m f turned near =
       kept = λ x h. f.kept x (m.kept x h);
       moved = λ d was. elim (m.moved d was) [
         | inl noted ↦ elim noted [
-          | inl n ↦ inl (inl (record {
-            after = let a = n.after in omega (arith, turned, a);
-            within = let w = n.within in omega (arith, turned, w);
-            there = subst (λ (x : Buckets). Contains (under x d.release) d) (sym near) n.there;
-          }))
+          | inl n ↦ inl (inl (still_near _ _ _ _ d turned (subst (λ (x : Buckets). Contains (under x d.release) d) (sym near) n.there) n))
           | inr among ↦ elim (f.moved d among) [ inl stays ↦ inl (inr stays) | inr gone ↦ inr gone ]
         ]
         | inr gone ↦ inr (gone.0, (gone.1.0, f.kept (d.key, gone.1.0) gone.1.1))
@@ -156,8 +140,6 @@ moves_turned slot Was c c' turns turns' m later empty turned near far =
       within = let within = n.within in omega (arith, within, later, turned);
       there = subst (λ (x : Buckets). Contains (under x d.release) d) (sym near) n.there;
     }
-
--- ---- a list that is emptied from its end
 
 pub popped_last : (o : Option Date) (xs ys : List Date) (last : Date) (n : ℕ) → n ≡ length xs → xs ≡ ys ++ option_to_list o → ((d : Date) → 0 < n → o ≡ Some (slice_index_or xs (n - 1) d)) → Some last ≡ slice_get xs (length xs - 1)
     → (d : Date) → Contains xs d → (last ≡ d) ⊎ Contains ys d

@@ -1,5 +1,5 @@
 -- What waits is in the calendar, or has a turn.
-use Rattle.std.proofs.Common.{◌≡◌, ℕ, ◌≤◌, ◌⊎◌, inl, inr, Bool, true, false, cond, List, refl, sym, ap, subst, ◌∙◌, arith, Option, Some, None, true≢false}
+use Rattle.std.proofs.Common.{◌≡◌, ℕ, ◌≤◌, ◌⊎◌, inl, inr, Bool, true, false, cond, List, ◌∷◌, refl, sym, ap, subst, ◌∙◌, arith, Option, Some, None, true≢false}
 use Rattle.std.specs.Prelude.{Contains, is_some}
 use Rattle.std.specs.Ordering.{is_eq, eq_by_cmp}
 use Rattle.std.specs.Cmp.{Equal-is, tied_itself}
@@ -12,6 +12,8 @@ use Rattle.pfair_ready.specs.declared.far_dates.Date.{Date}
 use Rattle.pfair_ready.specs.Names.{NameValue, name_cmp}
 use Rattle.pfair_ready.specs.Queue.{Queue}
 use Rattle.pfair_ready.specs.Calendar.{HasTurn, IsCovered, IsNoted, Moves}
+use Rattle.std.specs.List.Sorted.{IsPermutation}
+use Rattle.pfair_ready.proofs.HeapLemmas.{top_or_stays}
 use Rattle.pfair_ready.proofs.Names.{names_total, names_exact}
 
 abbrev pub HasDate : Calendar → ℕ → Key → Type 0
@@ -100,3 +102,19 @@ put_back held s v vacant = same_map names_total names_exact _ _ (λ q.
     at : (q : NameValue) (own : Bool) → eq_by_cmp name_cmp q s ≡ own → cond own None (cond own (Some v) (finmap.get held q)) ≡ finmap.get held q
     at q true e = sym (ap (λ (n : NameValue). finmap.get held n) (names_exact q s ((Equal-is (name_cmp q s)).0 e)) ∙ none_at (finmap.get held s) vacant)
     at q false e = refl
+
+-- a turn less, of a key that isn't due
+pub covered_popped : (slot : ℕ) (held : Queue) (dates : Calendar) (turns turns' : List (Key × ℕ)) (top : Key × ℕ) → IsPermutation turns (top ∷ turns') → ((q : NameValue) (r : ℕ) → finmap.get held q ≡ Some (r, top.0) → r ≤ slot → ⊥)
+    → IsCovered slot held dates turns → IsCovered slot held dates turns'
+covered_popped slot held dates turns turns' top p dead c =
+    record {
+      named = c.named;
+      turned = c.turned;
+      covered = λ q r k at. elim (c.covered q r k at) [
+        | inl there ↦ inl there
+        | inr both ↦ elim (top_or_stays top (k, both.1.0) turns turns' p both.1.1) [
+          | inl same ↦ absurd (dead q r (at ∙ sym (ap (λ (x : Key × ℕ). Some (r, x.0)) same)) both.0)
+          | inr stays ↦ inr (both.0, (both.1.0, stays))
+        ]
+      ];
+    }

@@ -1,24 +1,11 @@
 -- Dates in a heap, and what moves from there to the turns.
-use Rattle.std.proofs.Common.{◌≡◌, ℕ, ◌<◌, ◌≤◌, ◌⊎◌, inl, inr, List, ◌∷◌, length, subst, arith, Option, Some, None}
-use Rattle.std.specs.Prelude.{All, Contains, IfNone, IfSome}
+use Rattle.std.proofs.Common.{◌≡◌, ℕ, ◌<◌, ◌≤◌, ◌⊎◌, inl, inr, List, length, subst, arith, Option, Some, None}
+use Rattle.std.specs.Prelude.{Contains, IfNone, IfSome}
 use Rattle.std.specs.BinaryHeap.{IsHeap, PopsGreatest}
-use Rattle.std.specs.List.Sorted.{IsPermutation}
 use Rattle.std.specs.declared.cmp.Reverse.{Reverse}
-use Rattle.std.proofs.lemmas.List.Sorted.{IsPermutation-map}
-use Rattle.std.proofs.lemmas.List.Elements.{All-map}
 use Rattle.pfair_order.specs.declared.Key.{Key}
 use Rattle.pfair_ready.specs.declared.far_dates.Date.{Date}
-use Rattle.pfair_ready.specs.Calendar.{dates_of, later_cmp, HasTurn, Moves}
-
--- the dates of a heap's elements
-pub same_dates : (xs : List (Reverse Date)) (top : Reverse Date) (ys : List (Reverse Date)) → IsPermutation xs (top ∷ ys) → IsPermutation (dates_of xs) (top.0 ∷ dates_of ys)
-same_dates xs top ys p = IsPermutation-map (λ (r : Reverse Date). r.0) xs (top ∷ ys) p
-
-pub all_later : (slot : ℕ) (xs : List (Reverse Date)) → All (λ (e : Reverse Date). slot < e.0.release) xs → All (λ (d : Date). slot < d.release) (dates_of xs)
-all_later slot xs h = All-map (λ (d : Date). slot < d.release) (λ (r : Reverse Date). r.0) xs h
-
-pub date_given : (date : Date) (xs ys : List (Reverse Date)) (all : List Date) → dates_of xs ≡ all → IsPermutation (record { 0 = date } ∷ xs) ys → IsPermutation (date ∷ all) (dates_of ys)
-date_given date xs ys all is p = subst (λ (l : List Date). IsPermutation (date ∷ l) (dates_of ys)) is (IsPermutation-map (λ (r : Reverse Date). r.0) (record { 0 = date } ∷ xs) ys p)
+use Rattle.pfair_ready.specs.Calendar.{later_cmp, HasTurn, Moves}
 
 pub popped_order : (o : Option (Reverse Date)) (xs ys : List (Reverse Date)) (n : ℕ) → n ≡ length xs → 0 < length xs → IfNone o (n ≡ 0) → IfSome o (λ x. PopsGreatest later_cmp xs x ys) → IsHeap later_cmp xs → IsHeap later_cmp ys
 popped_order None xs ys n e some none h up = absurd (omega arith)

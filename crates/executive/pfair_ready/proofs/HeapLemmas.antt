@@ -1,8 +1,9 @@
 -- What a heap has after an element was put in or taken out.
-use Rattle.std.proofs.Common.{◌≡◌, ℕ, zero, suc, ◌<◌, ◌⊎◌, inl, inr, List, [], ◌∷◌, length, refl, sym, subst, ◌∙◌, arith, Option, Some, None}
+use Rattle.std.proofs.Common.{◌≡◌, ℕ, zero, suc, ◌<◌, ◌⊎◌, inl, inr, List, [], ◌∷◌, length, map, refl, sym, subst, ◌∙◌, arith, Option, Some, None}
 use Rattle.std.specs.Prelude.{Contains, IfNone, IfSome, slice_get, slice_index_or}
 use Rattle.std.specs.List.Sorted.{IsPermutation}
-use Rattle.std.proofs.lemmas.List.Sorted.{Contains-permutation}
+use Rattle.std.specs.declared.cmp.Reverse.{Reverse}
+use Rattle.std.proofs.lemmas.List.Sorted.{Contains-permutation, IsPermutation-map}
 use Rattle.std.proofs.lemmas.List.Elements.{Contains-append_right}
 use Rattle.std.proofs.lemmas.Option.{same_Some}
 use Rattle.pfair_order.proofs.RankLemmas.{place_of, at_place}
@@ -32,3 +33,11 @@ pub popped : {A : Type 0} (o : Option A) (xs ys : List A) (top : A) (n : ℕ) �
     → IfNone o (n ≡ 0) → IfSome o (λ x. x ≡ slice_index_or xs 0 x) → IfSome o (λ x. IsPermutation xs (x ∷ ys)) → IsPermutation xs (top ∷ ys)
 popped None xs ys top n e some t none at p = absurd (omega arith)
 popped (Some x) xs ys top n e some t none at p = subst (λ z. IsPermutation xs (z ∷ ys)) (same_head xs x top some at t) p
+
+-- an item more in a heap of reversed ones
+pub given : {A : Type 0} (item : A) (xs ys : List (Reverse A)) (all : List A) → map (λ (r : Reverse A). r.0) xs ≡ all → IsPermutation (record { 0 = item } ∷ xs) ys → IsPermutation (item ∷ all) (map (λ (r : Reverse A). r.0) ys)
+given item xs ys all is p = subst (λ l. IsPermutation (item ∷ l) (map (λ r. r.0) ys)) is (IsPermutation-map (λ r. r.0) (record { 0 = item } ∷ xs) ys p)
+
+-- and one less
+pub taken : {A : Type 0} (top : Reverse A) (xs ys : List (Reverse A)) (all : List A) → map (λ (r : Reverse A). r.0) xs ≡ all → IsPermutation xs (top ∷ ys) → IsPermutation all (top.0 ∷ map (λ (r : Reverse A). r.0) ys)
+taken top xs ys all is p = subst (λ l. IsPermutation l (top.0 ∷ map (λ r. r.0) ys)) is (IsPermutation-map (λ r. r.0) xs (top ∷ ys) p)

@@ -25,8 +25,7 @@ use Rattle.pfair_ready.specs.Queue.{Queue, released, without}
 use Rattle.pfair_ready.specs.Calendar.{HasTurn, IsCovered, IsNoted}
 use Rattle.pfair_ready.specs.Turns.{IsFirst}
 use Rattle.pfair_ready.specs.Waiting.{is_due}
-use Rattle.pfair_ready.proofs.CoverLemmas.{still_there}
-use Rattle.pfair_ready.proofs.HeapLemmas.{top_or_stays}
+use Rattle.pfair_ready.proofs.CoverLemmas.{covered_less, covered_popped, still_there}
 use Rattle.pfair_ready.proofs.Released.{IsReleased, each_released, released_remove, without_none, without_push}
 
 pub record IsTaking (slot m room : ℕ) (start held : Queue) (dates : Calendar) (turns : List (Key × ℕ)) (first : List Key) : Type 0 where
@@ -104,21 +103,9 @@ module _ (slot m room : ℕ) (start held : Queue) (dates : Calendar) (turns : Li
         record {
           split = t.split;
           left = t.left;
-          covered = record {
-            named = t.covered.named;
-            turned = t.covered.turned;
-            covered = λ q r k at. elim (t.covered.covered q r k at) [
-              | inl there ↦ inl there
-              | inr both ↦ elim (top_or_stays top (k, both.1.0) turns turns' p both.1.1) [
-                | inl same ↦
-                    let own : finmap.get held k.name ≡ Some (r, k) = ap (finmap.get held) (t.covered.named q r k at) ∙ at in
-                    let due : is_due k slot (finmap.get held k.name) ≡ true = ap (is_due k slot) own ∙ held_due k slot r both.0 in
-                    let dead' : is_due k slot (finmap.get held k.name) ≡ false = subst (λ (x : Key × ℕ). is_due x.0 slot (finmap.get held x.0.name) ≡ false) same dead in
-                    absurd (true≢false (sym due ∙ dead'))
-                | inr stays ↦ inr (both.0, (both.1.0, stays))
-              ]
-            ];
-          };
+          covered = covered_popped slot held dates turns turns' top p (λ q r at due.
+              let own : finmap.get held top.0.name ≡ Some (r, top.0) = ap (finmap.get held) (t.covered.named q r top.0 at) ∙ at in
+              true≢false (sym (ap (is_due top.0 slot) own ∙ held_due top.0 slot r due) ∙ dead)) t.covered;
           later = t.later;
           few = t.few;
           counted = let c = t.counted in omega arith;
@@ -150,19 +137,9 @@ module _ (slot m room : ℕ) (start held : Queue) (dates : Calendar) (turns : Li
               (IsPermutation-sym (top.0 ∷ released slot rest) (released slot held) moved)
               (weaker (IsReleased slot rest) (λ k. pd2_cmp top.0 k ≡ Less) (after_top least) (released slot rest) (each_released slot rest));
           left = ap (λ x. finmap.remove x top.0.name) t.left ∙ sym (without_push first top.0 start);
-          covered = record {
-            named = λ q r k at. t.covered.named q r k (still_there held top.0.name q (r, k) at).1;
-            turned = t.covered.turned;
-            covered = λ q r k at.
-                let kept = still_there held top.0.name q (r, k) at in
-                elim (t.covered.covered q r k kept.1) [
-                  | inl there ↦ inl there
-                  | inr both ↦ elim (top_or_stays top (k, both.1.0) turns turns' p both.1.1) [
-                    | inl same ↦ absurd (kept.0 (sym (t.covered.named q r k kept.1) ∙ sym (ap (λ (x : Key × ℕ). x.0.name) same)))
-                    | inr stays ↦ inr (both.0, (both.1.0, stays))
-                  ]
-                ];
-          };
+          covered = covered_popped slot rest dates turns turns' top p (λ q r at _.
+              let kept = still_there held top.0.name q (r, top.0) at in
+              kept.0 (sym (t.covered.named q r top.0 kept.1))) (covered_less slot held top.0.name dates turns t.covered);
           later = t.later;
           few = omega (arith, length-append first (top.0 ∷ []));
           counted = let c = t.counted in omega (arith, length-append first (top.0 ∷ []));

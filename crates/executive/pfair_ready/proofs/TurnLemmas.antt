@@ -1,12 +1,10 @@
 -- The turns of a heap, and their order.
-use Rattle.std.proofs.Common.{◌≡◌, ℕ, false, List, ◌∷◌, refl, subst}
-use Rattle.std.specs.List.Sorted.{IsPermutation}
+use Rattle.std.proofs.Common.{◌≡◌, ℕ, false, List, refl}
 use Rattle.std.specs.BinaryHeap.{IsUpperBound}
 use Rattle.std.specs.declared.cmp.Ordering.{Ordering}
 use Rattle.std.specs.declared.cmp.Ordering.TheVariants.{Less, Equal, Greater}
 use Rattle.std.specs.declared.cmp.Reverse.{Reverse}
 use Rattle.std.specs.Ordering.{is_lt, nat_cmp, ordering_then}
-use Rattle.std.proofs.lemmas.List.Sorted.{IsPermutation-map}
 use Rattle.std.proofs.lemmas.List.Elements.{All-from_recursion, All-map, All-weaker}
 use Rattle.pfair_order.specs.declared.Key.{Key}
 use Rattle.pfair_order.specs.Order.{pd2_cmp}
@@ -25,9 +23,3 @@ top_first top heap h =
     (All-weaker (λ (r : Reverse (Key × ℕ)). is_lt (turn_cmp r.0 top.0) ≡ false) (λ (r : Reverse (Key × ℕ)). is_lt (pd2_cmp r.0.0 top.0.0) ≡ false)
     (λ r e. first_not_less (pd2_cmp r.0.0 top.0.0) (nat_cmp r.0.1 top.0.1) e) heap
     (All-from_recursion (λ (r : Reverse (Key × ℕ)). is_lt (turn_cmp r.0 top.0) ≡ false) heap h))
-
-pub turns_given : (turn : Key × ℕ) (xs ys : List (Reverse (Key × ℕ))) (all : List (Key × ℕ)) → turns_of xs ≡ all → IsPermutation (record { 0 = turn } ∷ xs) ys → IsPermutation (turn ∷ all) (turns_of ys)
-turns_given turn xs ys all is p = subst (λ (l : List (Key × ℕ)). IsPermutation (turn ∷ l) (turns_of ys)) is (IsPermutation-map (λ (r : Reverse (Key × ℕ)). r.0) (record { 0 = turn } ∷ xs) ys p)
-
-pub turns_taken : (top : Reverse (Key × ℕ)) (xs ys : List (Reverse (Key × ℕ))) (all : List (Key × ℕ)) → turns_of xs ≡ all → IsPermutation xs (top ∷ ys) → IsPermutation all (top.0 ∷ turns_of ys)
-turns_taken top xs ys all is p = subst (λ (l : List (Key × ℕ)). IsPermutation l (top.0 ∷ turns_of ys)) is (IsPermutation-map (λ (r : Reverse (Key × ℕ)). r.0) xs (top ∷ ys) p)

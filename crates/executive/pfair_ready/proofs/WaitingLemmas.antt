@@ -95,8 +95,6 @@ live_kept (e ∷ es) =
 pub none_there : (es : Entries) (name : NameValue) → IsDistinct name_eq (keys_of es) → at es name ≡ None → finmap.get (queue_in es) name ≡ None
 none_there es name h none = queue_at es name h ∙ ap flat none
 
--- ---- where a name stands
-
 key_entry : (es : Entries) (i : ℕ) (d : NameValue) → i < length (keys_of es) → IsEntryOf es (get_or (keys_of es) i d) i
 key_entry [] i d h = absurd (omega (arith, h))
 key_entry (e ∷ es) zero d h = (e.1, refl)

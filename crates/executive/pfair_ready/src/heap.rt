@@ -137,8 +137,8 @@ impl Ready for HeapReady {
     fn reserve(&mut self, keys: usize) -> Result<(), AllocError> {
         let room = keys.saturating_mul(2);
         self.waiting.reserve(keys)?;
-        self.calendar.reserve(self.alloc, room)?;
         self.released.reserve(room)?;
-        self.given.reserve(keys.saturating_sub(self.given.len()))
+        self.given.reserve(keys.saturating_sub(self.given.len()))?;
+        self.calendar.reserve(self.alloc, room)
     }
 }

@@ -62,7 +62,7 @@ impl Waiting {
         release: u64,
         key: Key,
     ) -> Result<Option<usize>, AllocError>
-        ensures answer { IfOk result (λ place. is_some place ≡ not (finmap.contains_key self.old key.name)) }
+        ensures answer { IfOk result (λ place. finmap.contains_key self.old key.name ≡ not (is_some place)) }
         ensures content { IfOk result (λ place. self.new ≡ (if is_some place then finmap.insert self.old key.name (release, key) else self.old)) }
         ensures same { OnErr result (self.new ≡ self.old) }
         ensures vacant { OnErr result (finmap.contains_key self.old key.name ≡ false) }

@@ -1,4 +1,4 @@
-use Rattle.std.proofs.Common.{◌≡◌, ◌≤◌, ◌⊎◌, inl, inr, refl, sym, ap, ◌∙◌, Bool, true, false, not, cond, ℕ, Option, OnOk, Ok, Err, Result, true≢false}
+use Rattle.std.proofs.Common.{◌≡◌, ◌≤◌, ◌⊎◌, inl, inr, refl, sym, ap, ◌∙◌, false, not, cond, ℕ, Option, OnOk, Ok, Err, Result, true≢false}
 use Rattle.std.specs.Prelude.{is_some}
 use Rattle.std.specs.Result.{is_err}
 use Rattle.std.specs.FinMap as finmap
@@ -8,21 +8,13 @@ use Rattle.pfair_ready.proofs.CoverLemmas.{HasDate, covered_kept, covered_more, 
 use Rattle.pfair_ready.proofs.heap.HeapReadyReady.insert.Goals as goal
 use Rattle.pfair_ready.proofs.heap.HeapReadyReady.insert.Goals.{Joined-release-self, else-release-self, then-release-self}
 
-on_ok : {A E P Q : Type 0} (r : Result A E) → (P → Q) → OnOk r P → OnOk r Q
-on_ok (Ok x) f h = f h
-on_ok (Err e) f h = h
-
 not_err : {A E P : Type 0} (r : Result A E) → is_err r ≡ false → OnOk r P → P
 not_err (Ok x) is h = h
 not_err (Err e) is h = absurd (true≢false is)
 
-not_true : (b : Bool) → not b ≡ true → b ≡ false
-not_true true e = absurd (true≢false (sym e))
-not_true false e = refl
-
 -- the key was put where nothing waited
 vacant : (c : Joined-release-self) → finmap.contains_key c.self.inside.waiting c.args.key.name ≡ false
-vacant c = not_true _ (sym c.in_ok-place.ensures.answer ∙ ap (λ (o : Option ℕ). is_some o) c.in-Some.is)
+vacant c = c.in_ok-place.ensures.answer ∙ ap (λ (o : Option ℕ). not (is_some o)) c.in-Some.is
 
 put : (c : Joined-release-self) → c.put.new.self ≡ finmap.insert c.self.inside.waiting c.args.key.name (c.args.release, c.args.key)
 put c =
@@ -32,18 +24,18 @@ put c =
 -- nothing is lost, and unless an allocation fails the key has its date or its turn
 noted : (c : Joined-release-self) → let s = c.if-release-self.self-inside in
     (s.waiting ≡ c.put.new.self) × IsCovered s.now c.self.inside.waiting s.calendar s.released
-    × OnOk c.if-release-self.noted (HasDate s.calendar c.args.release c.args.key ⊎ ((c.args.release ≤ s.now) × HasTurn s.released c.args.key))
+    × (is_err c.if-release-self.noted ≡ false → HasDate s.calendar c.args.release c.args.key ⊎ ((c.args.release ≤ s.now) × HasTurn s.released c.args.key))
 noted c =
     elim c.if-release-self.branch [
       | then-release-self w ↦ rw (w.self-inside-is, w.noted-is) (
         refl,
         covered_kept c.self.inside.now c.self.inside.waiting c.self.inside.calendar c.self.inside.calendar c.self.inside.released w.push-noted.new.self (λ d h. h) refl w.push-noted.ensures.kept c.self.invariant,
-        on_ok w.push-noted.result (λ there. inr (w.if-release-self.true, (c.in-Some.place, there))) w.push-noted.ensures.there,
+        λ fine. inr (w.if-release-self.true, (c.in-Some.place, not_err w.push-noted.result fine w.push-noted.ensures.there)),
       )
       | else-release-self w ↦ rw (w.self-inside-is, w.noted-is) (
         refl,
         covered_kept c.self.inside.now c.self.inside.waiting c.self.inside.calendar w.note-noted.new.self c.self.inside.released c.self.inside.released w.note-noted.ensures.kept w.note-noted.ensures.turned (λ x h. h) c.self.invariant,
-        on_ok w.note-noted.result (λ there. inl (c.in-Some.place, there)) w.note-noted.ensures.there,
+        λ fine. inl (c.in-Some.place, not_err w.note-noted.result fine w.note-noted.ensures.there),
       )
     ]
 
@@ -68,4 +60,4 @@ invariant_of-self-else-is_err c =
     let joined = (goal.at.invariant_of-self-else-is_err c).Joined-release-self in
     let all = noted joined in
     rw (all.0 ∙ put joined)
-    (covered_more s.now c.args.release c.args.key c.self.inside.waiting s.calendar s.released (not_err c.if-release-self.noted (sym c.is_err.ensures.value ∙ c.if-is_err.false) all.2) all.1)
+    (covered_more s.now c.args.release c.args.key c.self.inside.waiting s.calendar s.released (all.2 (sym c.is_err.ensures.value ∙ c.if-is_err.false)) all.1)

@@ -1,10 +1,6 @@
-use Rattle.std.proofs.Common.{sym, subst}
-use Rattle.pfair_ready.specs.Queue.{Queue}
-use Rattle.pfair_ready.specs.Calendar.{IsCovered}
 use Rattle.pfair_ready.proofs.CoverLemmas.{covered_less}
 use Rattle.pfair_ready.proofs.heap.HeapReadyReady.remove.Goals as goal
 
 pub invariant_of-self : goal.invariant_of-self
 invariant_of-self c =
-    subst (λ (h : Queue). IsCovered c.self.inside.now h c.self.inside.calendar c.self.inside.released) (sym c.remove.ensures.content)
-    (covered_less c.self.inside.now c.self.inside.waiting c.args.name.now c.self.inside.calendar c.self.inside.released c.self.invariant)
+    rw c.remove.ensures.content (covered_less c.self.inside.now c.self.inside.waiting c.args.name.now c.self.inside.calendar c.self.inside.released c.self.invariant)

@@ -1,21 +1,21 @@
-use Rattle.std.proofs.Common.{◌≡◌, not, Bool, true, false, sym, ap, subst, ◌∙◌, OnErr, Ok, Err}
+use Rattle.std.proofs.Common.{◌≡◌, true, false, sym, ap, subst, ◌∙◌, OnErr, Ok, Err}
 use Rattle.std.specs.FinMap as finmap
 use Rattle.pfair_ready.specs.Queue.{Queue}
-use Rattle.pfair_ready.specs.Names.{NameValue}
 use Rattle.pfair_ready.proofs.WaitingLemmas.{absent, contained, queue_put}
 use Rattle.pfair_ready.proofs.waiting.Waiting.put.Goals as goal
 
-seen : (held now : Queue) (name : NameValue) (b : Bool) → held ≡ now → finmap.contains_key held name ≡ b → not b ≡ not (finmap.contains_key now name)
-seen held now name b same is = ap not (sym is ∙ ap (λ (h : Queue). finmap.contains_key h name) same)
-
 pub returns-in_ok-put_new-in-None-clause-answer : goal.returns-in_ok-put_new-in-None-clause-answer
-returns-in_ok-put_new-in-None-clause-answer c = seen _ _ c.args.key.name _ c.self.view_is (absent c.self.inside.entries.entries c.args.key.name c.in-None.ensures.unique c.in-None.ensures.none)
+returns-in_ok-put_new-in-None-clause-answer c = ap (λ (h : Queue). finmap.contains_key h c.args.key.name) (sym c.self.view_is) ∙ absent c.self.inside.entries.entries c.args.key.name c.in-None.ensures.unique c.in-None.ensures.none
 
 pub returns-in-Some-clause-answer : goal.returns-in-Some-clause-answer
-returns-in-Some-clause-answer c = seen _ _ c.args.key.name _ c.self.view_is (contained c.self.inside.entries.entries c.args.key.name c.in-Some.ensures.unique c.held_at.result true (c.held_at.ensures c.args.key.name c.in-Some.ensures.some) (sym c.if-is_some.true ∙ c.is_some.ensures))
+returns-in-Some-clause-answer c =
+    ap (λ (h : Queue). finmap.contains_key h c.args.key.name) (sym c.self.view_is)
+    ∙ contained c.self.inside.entries.entries c.args.key.name c.in-Some.ensures.unique c.held_at.result true (c.held_at.ensures c.args.key.name c.in-Some.ensures.some) (sym c.if-is_some.true ∙ c.is_some.ensures)
 
 pub returns-in-Some-2-clause-answer : goal.returns-in-Some-2-clause-answer
-returns-in-Some-2-clause-answer c = seen _ _ c.args.key.name _ c.self.view_is (contained c.self.inside.entries.entries c.args.key.name c.in-Some.ensures.unique c.held_at.result false (c.held_at.ensures c.args.key.name c.in-Some.ensures.some) (sym c.if-is_some.false ∙ c.is_some.ensures))
+returns-in-Some-2-clause-answer c =
+    ap (λ (h : Queue). finmap.contains_key h c.args.key.name) (sym c.self.view_is)
+    ∙ contained c.self.inside.entries.entries c.args.key.name c.in-Some.ensures.unique c.held_at.result false (c.held_at.ensures c.args.key.name c.in-Some.ensures.some) (sym c.if-is_some.false ∙ c.is_some.ensures)
 
 pub returns-in-Some-2-clause-content : goal.returns-in-Some-2-clause-content
 returns-in-Some-2-clause-content c =
