@@ -7,11 +7,10 @@ use crate::by_slot::BySlot;
 use pfair_entry::{Announcement, Said};
 use std::alloc::{AllocError, Global};
 
-/// What is said at each slot, as [`crate::Replica::agenda`] has it, or as it is added piece by
-/// piece: a slot is looked up in a number of steps that grows with the logarithm of the number of
-/// slots at which something is said, and at once where nothing is said at it or later.
+/// The announcements of each slot, as [`crate::Replica::note_said`] adds them.
 ///
-/// It stays what it was when the replica takes in more.
+/// A slot is looked up in O(log n) steps for n slots that have announcements, and in O(1) if no
+/// later slot has any. The agenda does not change when the replica takes in more.
 #[derive(Drop)]
 pub struct Agenda {
     by_slot: BySlot,

@@ -251,25 +251,6 @@ impl Replica {
         self.counters.torn
     }
 
-    /// The announcements in the sound beginnings by the slots of their stamps, at each slot in
-    /// order of processors, and of numbers for each processor. It takes one pass over the sound
-    /// beginnings: a look-up for each of their entries, and one for each processor, and what
-    /// [`Agenda::push`] costs for each announcement.
-    ///
-    /// # Errors
-    /// `AllocError` where memory was wanted and refused, which comes only where something is said.
-    pub fn agenda(&self) -> Result<Agenda, AllocError>
-        ensures heard { IfOk result (λ agenda. (t : ℕ) → said_at agenda t ≡ said (replica_of self.now) t) }
-        ensures wanted { OnErr result ((t : ℕ) × (said (replica_of self.now) t ≢ [])) }
-        ensures replica { IsReplica (replica_of self.now) }
-    {
-        let mut agenda = Agenda::new(self.alloc);
-        for processor in 0..self.processors {
-            self.note_said(processor, 0, &mut agenda)?;
-        }
-        Ok(agenda)
-    }
-
     /// Notes in an agenda what a processor announces in its sound beginning behind the first
     /// `from` entries of that, in order of numbers. It costs a look-up for each of the entries
     /// behind these, and what [`Agenda::push`] costs for each announcement.

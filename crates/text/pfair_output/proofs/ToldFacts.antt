@@ -14,8 +14,7 @@ use Rattle.pfair_admission.specs.declared.decision.Decision.{Decision}
 use Rattle.pfair_table.specs.declared.pick.Decided.{Decided}
 use Rattle.pfair_table.specs.Table.{Table}
 use Rattle.pfair_weight.specs.Name.{NameValue}
-use Rattle.pfair_lag.specs.Book.{Tally, Book, empty_book, tally_of, lag_of, entered_with, left}
-use Rattle.pfair_output.specs.Lags.{lags_header}
+use Rattle.pfair_lag.specs.Book.{Tally, Book, tally_of, lag_of, entered_with, left}
 use Rattle.pfair_output.specs.Told.{is_admitted, is_leave, told, all_told, slot_told, all_slots_told, tally_row, book_rows, rows_told}
 use Rattle.pfair_output.proofs.SlotFacts.{first_left}
 
@@ -129,10 +128,3 @@ over_done_to ds ts slot to book past = none (take (to - slot) (drop slot ds)) (t
     none : (ds : List (List Decided)) (ts : List Table) → length ds ≡ 0 → all_slots_told book ds ts ≡ book
     none [] ts e = refl
     none (d ∷ ds) ts e = absurd (omega arith)
-
--- a text that begins with a header, and then has the rows of a new book
-pub told_from_start : (ds : List (List Decided)) (ts : List Table) (book : Book) → book ≡ empty_book → (empty headed whole : List ℕ) → empty ≡ [] → headed ≡ empty ++ line lags_header
-    → whole ≡ headed ++ lines_text (rows_told book (drop book.time ds) (drop book.time ts)) → whole ≡ lines_text (lags_header ∷ rows_told empty_book ds ts)
-told_from_start ds ts book fresh empty headed whole e h w =
-    w ∙ ap (λ (b : Book). headed ++ lines_text (rows_told b (drop b.time ds) (drop b.time ts))) fresh
-    ∙ ap (λ (start : List ℕ). start ++ lines_text (rows_told empty_book ds ts)) (h ∙ ap (λ (start : List ℕ). start ++ line lags_header) e)

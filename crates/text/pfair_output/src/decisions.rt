@@ -14,25 +14,6 @@ use pfair_table::{Decided, Dispatcher};
 use pfair_text::{add_row, finish, new_text};
 use std::alloc::{AllocError, Global};
 
-/// The decisions at the boundaries of all slots that a dispatcher has planned, none of which is
-/// forgotten: a header, and a row for each announcement, slots in order, and in each as they were
-/// decided.
-///
-/// # Errors
-/// `AllocError` where memory was wanted and refused.
-pub fn decisions_of<R: Ready>(
-    alloc: Global,
-    dispatcher: &Dispatcher<R>,
-) -> Result<Vec<u8>, AllocError>
-    requires { dispatcher.now.forgotten ≡ 0 }
-    ensures { IfOk result (λ text. text.items ≡ decisions_text dispatcher.now.decided) }
-{
-    let mut writer = new_text(alloc);
-    add_decisions_header(&mut writer)?;
-    add_decisions_from(&mut writer, dispatcher, 0)?;
-    finish(writer)
-}
-
 /// Adds the header of decisions as rows.
 ///
 /// # Errors

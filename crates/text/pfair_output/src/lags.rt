@@ -23,29 +23,6 @@ use pfair_text::{add_row, finish, new_text};
 use pfair_weight::TaskName;
 use std::alloc::{AllocError, Global};
 
-/// The lags in all slots that a dispatcher has planned, none of which is forgotten: a header, and for
-/// each slot t, slots in order, a row for each member that isn't departing after the boundary of t, in
-/// the order of admission: the time t + 1, the task, and its lag at that time as a numerator over its
-/// period, counted from its joining slot.
-///
-/// Of a dispatcher that has planned all that its logs settle, the text is a function of what it
-/// holds alone.
-///
-/// # Errors
-/// `AllocError` where memory was wanted and refused.
-pub fn lags_of<R: Ready>(alloc: Global, dispatcher: &Dispatcher<R>) -> Result<Vec<u8>, AllocError>
-    requires { dispatcher.now.forgotten ≡ 0 }
-    ensures whole { IsWholePlan dispatcher.now → IfOk result (λ text.
-        text.items ≡ lags_text dispatcher.now.settings (replica_of dispatcher.now.held)) }
-    ensures told { IfOk result (λ text. text.items ≡
-        lines_text (lags_header ∷ rows_told empty_book dispatcher.now.decided dispatcher.now.tables)) }
-{
-    let mut writer = new_text(alloc);
-    add_lags_header(&mut writer)?;
-    add_lags_from(&mut writer, &mut LagBook::new(alloc), dispatcher)?;
-    finish(writer)
-}
-
 /// Adds the header of lags as rows.
 ///
 /// # Errors

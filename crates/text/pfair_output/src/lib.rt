@@ -6,10 +6,10 @@ mod lags;
 mod replay;
 mod runs;
 
-pub use decisions::{add_decisions_from, add_decisions_header, decisions_of};
-pub use lags::{add_lags_from, add_lags_header, lags_of, tell_all, tell_slots};
+pub use decisions::{add_decisions_from, add_decisions_header};
+pub use lags::{add_lags_from, add_lags_header, tell_all, tell_slots};
 pub use replay::{
     add_placed_header, add_placed_tables_from, add_replay_header, add_table_rows, add_tables_from,
-    placed_replay_of, replay_of,
+    placed_replay_of,
 };
 pub use runs::{decisions_of_script, lags_of_script};

@@ -14,20 +14,6 @@ use pfair_table::{Dispatcher, Pick};
 use pfair_text::{add_row, finish, new_text};
 use std::alloc::{AllocError, Global};
 
-/// The tables of a run as rows: a header, and a row for each quantum of the tables, that of slot k
-/// at place k.
-///
-/// # Errors
-/// `AllocError` where memory was wanted and refused.
-pub fn replay_of(alloc: Global, tables: &[Vec<Pick>]) -> Result<Vec<u8>, AllocError>
-    ensures { IfOk result (λ text. text.items ≡ replay_text (map (λ t. t.items) tables.now)) }
-{
-    let mut writer = new_text(alloc);
-    add_replay_header(&mut writer)?;
-    add_all(&mut writer, tables, &[])?;
-    finish(writer)
-}
-
 /// The tables of a run as rows that end with their places: row k of a slot's table with the k-th of
 /// the slot's places.
 ///

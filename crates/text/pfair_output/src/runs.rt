@@ -22,10 +22,11 @@ use pfair_table::{Script, ScriptFault, ScriptRun, Settings};
 use pfair_text::{finish, new_text};
 use std::alloc::{AllocError, Global};
 
-/// The decisions at the boundaries of all slots of a script's run, as
-/// [`decisions_of`](crate::decisions_of) writes them of the dispatcher that
-/// [`run_script`](pfair_table::run_script) gives. One slot at a time is held, beside the text and the
-/// entries. It costs what that run costs but for places, and the rows.
+/// Returns the decisions at the boundaries of all slots of a script's run as rows: a header, and a row
+/// for each announcement, slots in order, and in each slot in the order of the decisions.
+///
+/// One slot at a time is held, beside the text and the entries. The cost is that of
+/// [`run_script`](pfair_table::run_script) without places, and O(rows).
 ///
 /// # Errors
 /// As [`run_script`](pfair_table::run_script).
@@ -38,12 +39,13 @@ pub fn decisions_of_script<R: Ready>(alloc: Global, script: &Script) -> Result<V
     Ok(decisions_of_run(alloc, &mut run)?)
 }
 
-/// The lags in all slots of a script's run, as [`lags_of`](crate::lags_of) writes them of the
-/// dispatcher that [`run_script`](pfair_table::run_script) gives. One slot at a time is held, beside
-/// the text, the entries and a tally of each member.
+/// Returns the lags in all slots of a script's run as rows: a header, and for each slot t a row for
+/// each member that isn't departing after the boundary of t, in the order of admission: the time t + 1,
+/// the task, and its lag at that time as a numerator over its period, counted from its joining slot.
 ///
-/// It takes the time of that run without its places, of [`tell_all`](crate::tell_all) and
-/// [`LagBook::record`] for each slot, and O(rows).
+/// One slot at a time is held, beside the text, the entries and a tally of each member. The cost is
+/// that of [`run_script`](pfair_table::run_script) without places, of [`tell_all`](crate::tell_all)
+/// and [`LagBook::record`] for each slot, and O(rows).
 ///
 /// # Errors
 /// As [`run_script`](pfair_table::run_script).
