@@ -173,22 +173,32 @@ values_at es number (Some j) at i is = subst (λ k. slice_get (values_of es) k �
 pub found_none : (counts : Member → Bool) (admitted : ℕ) (es : Numbered) (names : Names) (name : NameValue) → IsRegister counts admitted es names → lookup (name_eq name) names ≡ None → IsFound counts name (values_of es) None
 found_none counts admitted es names name r none = none_named counts name names es r.found none
 
+pub found_at : (counts : Member → Bool) (admitted : ℕ) (es : Numbered) (names : Names) (name : NameValue) (number place : ℕ) → IsRegister counts admitted es names → lookup (name_eq name) names ≡ Some number
+    → slice_get (keys_of es) place ≡ Some number → slice_get (values_of es) place ≡ lookup (nat_eq number) es → IsFound counts name (values_of es) (Some place)
+found_at counts admitted es names name number place r leads key value =
+    let who = number_of es names name number r.named leads in (
+      who.member,
+      record {
+        at = value ∙ who.at;
+        named = (bytes_decides name who.member.name).1 (sym who.named);
+        only = λ other x at there named.
+            one_place (keys_of es) number place other r.unique key
+            (number_at counts names es other x r.found at there ∙ ap (λ n. lookup (name_eq n) names) (sym (same_name name x.name named)) ∙ leads);
+      },
+    )
+
 pub found_some : (counts : Member → Bool) (admitted : ℕ) (es : Numbered) (names : Names) (name : NameValue) (number : ℕ) (place : Option ℕ) → IsRegister counts admitted es names → lookup (name_eq name) names ≡ Some number
     → place ≡ position (nat_eq number) (keys_of es) → ((i : ℕ) → place ≡ Some i → slice_get (values_of es) i ≡ lookup (nat_eq number) es) → is_some place ≡ is_some (lookup (nat_eq number) es) → IsFound counts name (values_of es) place
 found_some counts admitted es names name number None r leads is value found =
     let who = number_of es names name number r.named leads in
     let no = found ∙ ap (λ (o : Option Member). is_some o) who.at in absurd (cc)
-found_some counts admitted es names name number (Some place) r leads is value found =
-    let who = number_of es names name number r.named leads in (
-      who.member,
-      record {
-        at = value place refl ∙ who.at;
-        named = (bytes_decides name who.member.name).1 (sym who.named);
-        only = λ other x at there named.
-            one_place (keys_of es) number place other r.unique (key_at (keys_of es) number place (sym is))
-            (number_at counts names es other x r.found at there ∙ ap (λ n. lookup (name_eq n) names) (sym (same_name name x.name named)) ∙ leads);
-      },
-    )
+found_some counts admitted es names name number (Some place) r leads is value found = found_at counts admitted es names name number place r leads (key_at (keys_of es) number place (sym is)) (value place refl)
+
+-- the number and the member of an entry
+pub parts_at : (es : Numbered) (i : ℕ) (e : ℕ × Member) → slice_get es i ≡ Some e → (slice_get (keys_of es) i ≡ Some e.0) × (slice_get (values_of es) i ≡ Some e.1)
+parts_at [] i e at = absurd (none-some e at)
+parts_at (d ∷ es) zero e at = (ap (λ (x : ℕ × Member). Some x.0) (same_Some d e at), ap (λ (x : ℕ × Member). Some x.1) (same_Some d e at))
+parts_at (d ∷ es) (suc i) e at = parts_at es i e at
 
 -- ---- one more
 

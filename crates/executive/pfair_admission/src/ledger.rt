@@ -47,8 +47,12 @@ impl Ledger {
     pub(crate) fn find(&self, name: &TaskName) -> Option<usize>
         ensures { (counts : Member → Bool) → HasRegister counts self.now → IsFound counts name.now (listed self.now) result }
     {
-        let number = self.names.get(name)?;
-        self.members.get_index_of(number)
+        let (hint, _, number) = self.names.get_full(name)?;
+        match self.members.get_index(hint) {
+            // Names mostly stand in the order of their members.
+            Some((there, _)) if there == number => Some(hint),
+            _ => self.members.get_index_of(number),
+        }
     }
 
     /// Drops the members that are freed by `slot`, in the order of the others. Allocates nothing.
