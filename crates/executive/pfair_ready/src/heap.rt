@@ -22,7 +22,7 @@ use std::marker::Model;
 /// - `take_first`: O(log n) for each key that it gives, for each whose release has come since the last
 ///   selection, and for each that was left behind and surfaces; and up to 64 steps.
 ///
-/// Growth is amortized. After `reserve(k)`, which takes 920 KB and some 350 bytes for each key, no call
+/// Growth is amortized. After `reserve(k)`, which takes 920 KB and some 370 bytes for each key, no call
 /// allocates as long as no more than k keys wait and no more than k were left behind.
 #[derive(Drop)]
 pub struct HeapReady {
