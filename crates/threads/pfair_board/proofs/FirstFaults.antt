@@ -1,8 +1,9 @@
 -- The first fault of a run's workers is one that the run may end with.
-use Rattle.std.proofs.Common.{◌≡◌, ◌⊎◌, sym, subst, refl, inl, inr, ℕ, Bool, Some, Ok, Err, Result, List, IsOk, IfErr, slice_get}
-use Rattle.pfair_table.specs.Table.{Table}
+use Rattle.std.proofs.Common.{◌≡◌, ◌∙◌, ◌⊎◌, ap, sym, subst, refl, inl, inr, ℕ, Bool, Some, Ok, Err, Option, Result, List, IsOk, IfErr, slice_get}
+use Rattle.pfair_replica.specs.HeldRows.{HeldRows, replica_of}
+use Rattle.pfair_table.specs.Table.{Settings, Table}
 use Rattle.pfair_table.specs.Script.{LoggedRun, replica_of_logs}
-use Rattle.pfair_board.specs.declared.worked.Worked.{Worked}
+use Rattle.pfair_board.specs.declared.threads.Worked.{Worked}
 use Rattle.pfair_board.specs.declared.fault.RunFault.{RunFault}
 use Rattle.pfair_board.specs.declared.fault.RunFault.TheVariants.{Memory, GateGaveUp, Astray, Stalled}
 use Rattle.pfair_desk.specs.Boards.{BoardFrame}
@@ -21,6 +22,16 @@ astray has m r b ws k w at work memory gate stray (Err Memory) same = absurd (me
 astray has m r b ws k w at work memory gate stray (Err GateGaveUp) same = absurd (gate (k, w, at, same))
 astray has m r b ws k w at work memory gate stray (Err Astray) same = inl (subst (λ x. IfErr x (IsWorkerFault m w.desk 1 (log_of r k))) same work.fault)
 astray has m r b ws k w at work memory gate stray (Err (Stalled slot)) same = absurd (subst (λ x. IfErr x (IsWorkerFault m w.desk 1 (log_of r k))) same work.fault)
+
+-- the first fault by what a replica in hand is, and by the number of slots, is that by the script
+pub first_of : {K : Type 0} {ws ws' : List (Worked K)} {whole taken : HeldRows} {n : ℕ} {s : Settings} {f f' : Option RunFault} (r : LoggedRun)
+    → ws ≡ ws' → whole ≡ taken → replica_of taken ≡ replica_of_logs r.logs → n ≡ s.slots → s ≡ r.settings → f ≡ f'
+    → IsFirstFault ws (replica_of whole) n f → IsFirstFault ws' (replica_of_logs r.logs) r.settings.slots f'
+first_of {ws' = ws'} {whole = whole} {n = n} {f = f} r workers taken held slots settings faults is =
+    let x = replica_of_logs r.logs in
+    subst (IsFirstFault ws' x r.settings.slots) faults
+    (subst (λ m. IsFirstFault ws' x m f) (slots ∙ ap (λ (s : Settings). s.slots) settings)
+    (subst (λ y. IsFirstFault ws' y n f) (ap replica_of taken ∙ held) (subst (λ v. IsFirstFault v (replica_of whole) n f) workers is)))
 
 pub run_fault : {K : Type 0} (has : K → ℕ → List Table → Type 0) (m : Bool) (r : LoggedRun) (b : BoardFrame) (ws : List (Worked K)) (f : RunFault)
     → AreWorks has m b r ws → IsFirstFault ws (replica_of_logs r.logs) r.settings.slots (Some f) → IsRunFaultOf has m r f

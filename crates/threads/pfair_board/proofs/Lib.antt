@@ -1,5 +1,4 @@
 mod FirstFaults
 mod Following
-mod Planning
 mod Rows
 mod Working

@@ -1,9 +1,11 @@
 -- Facts of the works of a run, row by row.
 use Rattle.std.proofs.Common.{◌≡◌, ◌<◌, ℕ, List, [], ◌∷◌, length, slice_get, slice_index_or, Some, Ok, Err, IsOk, IfOk, subst, ap, sym, arith}
 use Rattle.std.proofs.lemmas.Bool.{true≢false}
+use Rattle.pfair_replica.specs.Replica.{Replica, Below}
+use Rattle.pfair_replica.specs.Laws.{IsLeastJoin}
 use Rattle.pfair_table.specs.Table.{Table, plan}
 use Rattle.pfair_table.specs.Script.{LoggedRun, replica_of_logs}
-use Rattle.pfair_board.specs.declared.worked.Worked.{Worked}
+use Rattle.pfair_board.specs.declared.threads.Worked.{Worked}
 use Rattle.pfair_board.specs.declared.fault.RunFault.{RunFault}
 use Rattle.pfair_desk.specs.Boards.{BoardFrame}
 use Rattle.pfair_board.specs.Works.{IsWorkOf}
@@ -30,3 +32,7 @@ not_failed {K} has r b k w f good is = let none : IsOk {T = K} (Err f) = subst I
 pub first_is : {A : Type 0} (xs : List A) (x : A) → 0 < length xs → x ≡ slice_index_or xs 0 x → slice_get xs 0 ≡ Some x
 first_is [] x some same = absurd (omega (arith, some))
 first_is (y ∷ ys) x some same = ap Some (sym same)
+
+-- replicas of one shape that hold the same are one
+pub same_replica : (laws : IsLeastJoin) (x y : Replica) → x.processors ≡ y.processors → x.capacity ≡ y.capacity → Below x y → Below y x → x ≡ y
+same_replica laws x y rows row there back = λ i. record { processors = rows i; capacity = row i; at = laws.antisym x y there back i }

@@ -1,12 +1,13 @@
 -- What desks hold while a worker runs.
-use Rattle.std.proofs.Common.{◌≡◌, ◌∙◌, sym, subst, refl, ℕ, ◌+◌, Some, inl, inr, ⊎_elim, List, false}
-use Rattle.pfair_lattice.specs.HeldLaws.{below_itself}
+use Rattle.std.proofs.Common.{◌≡◌, ◌∙◌, sym, subst, refl, ℕ, ◌+◌, Some, inl, inr, ⊎_elim, List}
 use Rattle.pfair_lattice.specs.declared.flat.Flat.TheVariants.{One, Torn}
 use Rattle.pfair_entry.specs.Entry.{Logged}
-use Rattle.pfair_replica.specs.HeldRows.{HeldRows, held}
+use Rattle.pfair_replica.specs.HeldRows.{held}
 use Rattle.pfair_table.specs.Refinement.{Dispatch}
+use Rattle.pfair_table.specs.Table.{Table}
 use Rattle.pfair_desk.specs.Desks.{DeskView, GrownDesk}
-use Rattle.pfair_board.specs.Logs.{HoldsLog, IsBehind}
+use Rattle.pfair_board.specs.Logs.{HasPublished}
+use Rattle.pfair_board.specs.Works.{HasLearned, IsAtWork}
 
 pub grown_trans : (a b c : DeskView) → GrownDesk a b → GrownDesk b c → GrownDesk a c
 grown_trans a b c p q = record {
@@ -17,18 +18,28 @@ grown_trans a b c p q = record {
   kept = λ k n f is. q.kept k n f (p.kept k n f is);
 }
 
--- a log that is held is held later
-pub log_kept : (d e : DeskView) (first : ℕ) (log : List Logged) → GrownDesk d e → HoldsLog d first log → HoldsLog e first log
-log_kept d e first log grown holds i x at = subst (λ k. held e.replica k (first + i) ≡ Some (One x)) (sym grown.processor) (grown.kept d.processor (first + i) (One x) (holds i x at))
-
--- what is behind a desk is behind what it grows to
-pub behind_grown : (a : Dispatch) (d e : DeskView) → IsBehind a d → GrownDesk d e → IsBehind a e
-behind_grown a d e behind grown = record {
-  able = behind.able;
-  shape = (behind.shape.0 ∙ sym grown.processors, behind.shape.1 ∙ sym grown.capacity);
-  below = λ k n c is. ⊎_elim (λ same. inl (grown.kept k n c same)) (λ torn. inr (grown.kept k n Torn torn)) (behind.below k n c is);
+pub learned_nothing : (d : DeskView) → HasLearned d d
+learned_nothing d = record {
+  grown = record { processor = refl; cells = refl; processors = refl; capacity = refl; kept = λ k n f is. is };
+  next = refl;
 }
 
--- what has just planned of what the desk holds is behind it
-pub behind_now : (a : Dispatch) (d : DeskView) (x : HeldRows) → a.spent ≡ false → a.held ≡ x → x ≡ d.replica → IsBehind a d
-behind_now a d x able seen same = rw (seen ∙ same) (record { able = able; shape = (refl, refl); below = λ k n. below_itself (held d.replica k n) })
+pub learned_trans : (a b c : DeskView) → HasLearned a b → HasLearned b c → HasLearned a c
+learned_trans a b c p q = record { grown = grown_trans a b c p.grown q.grown; next = q.next ∙ p.next }
+
+-- a log that is published is published later, when more was learned
+pub published_later : (a b c : DeskView) (log : List Logged) → HasPublished a b log → HasLearned b c → HasPublished a c log
+published_later a b c log published learned = record {
+  held = λ i x at. subst (λ k. held c.replica k (a.next_number + i) ≡ Some (One x)) (sym learned.grown.processor)
+      (learned.grown.kept b.processor (a.next_number + i) (One x) (published.held i x at));
+  next = learned.next ∙ published.next;
+}
+
+-- what is at work at a desk is at work at what it grows to
+pub at_work_later : {K : Type 0} (has : K → ℕ → List Table → Type 0) (a : Dispatch) (sink : K) (d e : DeskView) → IsAtWork has a sink d → GrownDesk d e → IsAtWork has a sink e
+at_work_later has a sink d e at_work grown = record {
+  able = at_work.able;
+  shape = (at_work.shape.0 ∙ sym grown.processors, at_work.shape.1 ∙ sym grown.capacity);
+  below = λ k n c is. ⊎_elim (λ same. inl (grown.kept k n c same)) (λ torn. inr (grown.kept k n Torn torn)) (at_work.below k n c is);
+  given = subst (λ row. has sink row a.tables) (sym grown.processor) at_work.given;
+}

@@ -1,15 +1,15 @@
 -- What a finished run is.
 use Rattle.std.specs.Prelude.{ℕ, ◌≤◌, ◌≡◌, List, length, slice_get, Some, IsOk, IfOk}
 use Rattle.pfair_replica.specs.HeldRows.{replica_of}
-use Rattle.pfair_replica.specs.Replica.{frontier}
-use Rattle.pfair_table.specs.Table.{Table, plan}
+use Rattle.pfair_replica.specs.Replica.{Replica, frontier}
+use Rattle.pfair_table.specs.Table.{Settings, Table, plan}
 use Rattle.pfair_table.specs.Places.{places_of}
 use Rattle.pfair_table.specs.Script.{LoggedRun, capacity_of, replica_of_logs}
 use Rattle.pfair_table.specs.declared.planned.Run.{Run}
-use Rattle.pfair_board.specs.declared.worked.Worked.{Worked}
+use Rattle.pfair_table.specs.Planned.{as_tables, as_places}
 use Rattle.pfair_desk.specs.Boards.{BoardFrame}
 use Rattle.pfair_desk.specs.Desks.{DeskView, IsDeskOf}
-use Rattle.pfair_table.specs.Planned.{as_tables, as_places}
+use Rattle.pfair_board.specs.declared.threads.Worked.{Worked}
 
 -- the desk of row k of this board, which holds the script's replica
 pub record IsFullDesk (r : LoggedRun) (b : BoardFrame) (k : ℕ) (d : DeskView) : Type 0 where
@@ -17,24 +17,20 @@ pub record IsFullDesk (r : LoggedRun) (b : BoardFrame) (k : ℕ) (d : DeskView) 
   pub processor : d.processor ≡ k
   pub replica : replica_of d.replica ≡ replica_of_logs r.logs
 
--- the tables are the plan of the script's replica
-abbrev pub IsFullRun : LoggedRun → Run → Type 0
-IsFullRun r run = as_tables run.tables ≡ plan r.settings (replica_of_logs r.logs)
+-- the tables are the plan of a replica, and the places are those of the tables
+pub record IsRunOf (s : Settings) (x : Replica) (run : Run) : Type 0 where
+  pub tables : as_tables run.tables ≡ plan s x
+  pub places : as_places run.places ≡ places_of (as_tables run.tables)
 
--- the places are those of the tables
-abbrev pub IsPlacedRun : Run → Type 0
-IsPlacedRun run = as_places run.places ≡ places_of (as_tables run.tables)
-
--- A board as large as the script, with the desk of each of its rows, which holds the script's replica, and a run of each, whose tables
--- are the plan of it, and whose places are those of the tables; and the script's frontier doesn't stop the plan.
+-- A board as large as the script, with the desk of each of its rows, which holds the script's replica, and the run of each, which has the
+-- plan of it; and the script's frontier doesn't stop the plan.
 pub record IsFinished (r : LoggedRun) (b : BoardFrame) (ds : List DeskView) (rs : List Run) : Type 0 where
   pub processors : b.processors ≡ r.settings.processors
   pub capacity : b.capacity ≡ capacity_of r.logs
   pub desk_count : length ds ≡ r.settings.processors
   pub desks : (k : ℕ) (d : DeskView) → slice_get ds k ≡ Some d → IsFullDesk r b k d
   pub run_count : length rs ≡ r.settings.processors
-  pub runs : (k : ℕ) (run : Run) → slice_get rs k ≡ Some run → IsFullRun r run
-  pub places : (k : ℕ) (run : Run) → slice_get rs k ≡ Some run → IsPlacedRun run
+  pub runs : (k : ℕ) (run : Run) → slice_get rs k ≡ Some run → IsRunOf r.settings (replica_of_logs r.logs) run
   pub far_enough : r.settings.slots ≤ frontier (replica_of_logs r.logs)
 
 -- row k's work went well: its desk holds the script's replica, and its sink has the plan of it

@@ -2,7 +2,7 @@
 use Rattle.std.specs.Prelude.{ℕ, ◌≡◌, ◌<◌, ◌≤◌, List, Option, Some, None, Err, IsOk, slice_get}
 use Rattle.pfair_replica.specs.HeldRows.{replica_of}
 use Rattle.pfair_replica.specs.Replica.{Replica, Below, frontier}
-use Rattle.pfair_board.specs.declared.worked.Worked.{Worked}
+use Rattle.pfair_board.specs.declared.threads.Worked.{Worked}
 use Rattle.pfair_board.specs.declared.fault.RunFault.{RunFault}
 use Rattle.pfair_board.specs.declared.fault.RunFault.TheVariants.{Memory, GateGaveUp, Astray, Stalled}
 

@@ -1,10 +1,8 @@
 -- What a desk holds of a log.
-use Rattle.std.specs.Prelude.{◌≡◌, ◌≢◌, ℕ, ◌+◌, List, [], Some, false, slice_get, slice_index_or}
+use Rattle.std.specs.Prelude.{◌≡◌, ◌≢◌, ℕ, ◌+◌, List, [], Some, length, slice_get, slice_index_or}
 use Rattle.pfair_lattice.specs.declared.flat.Flat.TheVariants.{One}
 use Rattle.pfair_entry.specs.Entry.{Logged}
-use Rattle.pfair_replica.specs.HeldRows.{held, replica_of, SameShape}
-use Rattle.pfair_replica.specs.Replica.{Below}
-use Rattle.pfair_table.specs.Refinement.{Dispatch}
+use Rattle.pfair_replica.specs.HeldRows.{held}
 use Rattle.pfair_table.specs.Script.{LoggedRun}
 use Rattle.pfair_desk.specs.Desks.{DeskView}
 
@@ -20,8 +18,7 @@ HoldsLog d first log = (i : ℕ) (e : Logged) → slice_get log i ≡ Some e →
 abbrev pub IsTaken : DeskView → (first : ℕ) → List Logged → Type 0
 IsTaken d first log = (i : ℕ) × (e f : Logged) × (slice_get log i ≡ Some e) × (held d.replica d.processor (first + i) ≡ Some (One f)) × (f ≢ e)
 
--- What it has planned is of a replica that holds nothing but what the desk holds, and it can plan.
-pub record IsBehind (a : Dispatch) (d : DeskView) : Type 0 where
-  pub able : a.spent ≡ false
-  pub shape : SameShape a.held d.replica
-  pub below : Below (replica_of a.held) (replica_of d.replica)
+-- the desk has published the log from its next number on
+pub record HasPublished (old now : DeskView) (log : List Logged) : Type 0 where
+  pub held : HoldsLog now old.next_number log
+  pub next : now.next_number ≡ old.next_number + length log

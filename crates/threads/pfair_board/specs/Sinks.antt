@@ -1,7 +1,6 @@
 -- What the sinks of workers have after some tables.
 use Rattle.std.specs.Prelude.{ℕ, zero, suc, ◌≡◌, List, Option, Some, None}
 use Rattle.pfair_table.specs.Table.{Table}
-use Rattle.pfair_board.specs.declared.sink.OfFirst.{OfFirst}
 
 -- a run that is built has these tables
 abbrev pub has_built : List Table → ℕ → List Table → Type 0
@@ -12,6 +11,3 @@ abbrev pub has_first : {K : Type 0} → (has : K → ℕ → List Table → Type
 has_first has (Some sink) row tables = has sink row tables
 has_first has None zero tables = ⊥
 has_first has None (suc row) tables = Unit {0}
-
-abbrev pub first_has : {K : Type 0} → (has : K → ℕ → List Table → Type 0) → OfFirst K → ℕ → List Table → Type 0
-first_has has s row tables = has_first has s.sink row tables

@@ -1,12 +1,14 @@
 -- What the threads of a run begin with and hand back.
-use Rattle.std.specs.Prelude.{ℕ, ◌≡◌, Bool, List, [], length, slice_get, Some, IfErr, IfOk, OnOk}
-use Rattle.pfair_replica.specs.HeldRows.{replica_of}
+use Rattle.std.specs.Prelude.{ℕ, ◌≡◌, Bool, false, List, [], length, slice_get, Some, IfErr, IfOk, OnOk}
+use Rattle.pfair_replica.specs.HeldRows.{SameShape, replica_of}
+use Rattle.pfair_replica.specs.Replica.{Below}
 use Rattle.pfair_table.specs.Table.{Table, plan}
 use Rattle.pfair_table.specs.Script.{LoggedRun, capacity_of}
-use Rattle.pfair_board.specs.declared.worked.Worked.{Worked}
-use Rattle.pfair_board.specs.declared.workplace.Workplace.{Workplace}
+use Rattle.pfair_table.specs.Refinement.{Dispatch}
 use Rattle.pfair_desk.specs.Boards.{BoardFrame}
-use Rattle.pfair_desk.specs.Desks.{IsDeskOf}
+use Rattle.pfair_desk.specs.Desks.{DeskView, IsDeskOf, GrownDesk}
+use Rattle.pfair_board.specs.declared.threads.Worked.{Worked}
+use Rattle.pfair_board.specs.declared.threads.Workplace.{Workplace}
 use Rattle.pfair_board.specs.Logs.{HoldsLog, log_of}
 use Rattle.pfair_board.specs.WorkerFaults.{IsWorkerFault}
 
@@ -25,6 +27,22 @@ pub record AreWorks {K : Type 0} (has : K → ℕ → List Table → Type 0) (ma
   pub capacity : b.capacity ≡ capacity_of r.logs
   pub count : length ws ≡ b.processors
   pub each : (k : ℕ) (w : Worked K) → slice_get ws k ≡ Some w → IsWorkOf has may_give_up b r k w
+
+-- What plans a worker's slots has planned of nothing but what its desk holds, and can plan; and its sink has the tables.
+pub record IsAtWork {K : Type 0} (has : K → ℕ → List Table → Type 0) (a : Dispatch) (sink : K) (d : DeskView) : Type 0 where
+  pub able : a.spent ≡ false
+  pub shape : SameShape a.held d.replica
+  pub below : Below (replica_of a.held) (replica_of d.replica)
+  pub given : has sink d.processor a.tables
+
+-- all is planned that the desk settles
+abbrev pub HasPlanned : Dispatch → DeskView → Type 0
+HasPlanned a d = a.tables ≡ plan a.settings (replica_of d.replica)
+
+-- the desk holds all that it held, and has published nothing
+pub record HasLearned (old now : DeskView) : Type 0 where
+  pub grown : GrownDesk old now
+  pub next : now.next_number ≡ old.next_number
 
 -- the workplace of the board's row k, whose desk is at its first number, and whose sink has no tables
 pub record IsWorkplaceOf {R K : Type 0} (has : K → ℕ → List Table → Type 0) (b : BoardFrame) (k : ℕ) (w : Workplace R K) : Type 0 where

@@ -3,14 +3,15 @@ ghost use Rattle.std.specs.Prelude.{◌≡◌, IfOk, vec_len};
 
 use crossbeam_channel::{Receiver, Sender};
 use std::alloc::{AllocError, Global};
+use std::sync::Wait;
 
 /// Says that an entry of a processor may stand on the board by now.
-#[derive(Clone, Copy, Debug, PartialEq, Eq)]
-pub struct Hint {
+#[derive(Clone, Copy)]
+pub(crate) struct Hint {
     /// The processor, counted from 0.
-    pub proc: u8,
+    pub(crate) proc: u8,
     /// The entry's number, counted from 1.
-    pub number: u32,
+    pub(crate) number: u32,
 }
 
 /// A worker's end of the hints: a receiver, and a sender to each other worker. What a worker learns
@@ -23,11 +24,11 @@ pub struct Hints {
 }
 
 impl Hints {
-    /// The ends of all workers of so many processors, that of processor k at place k. It costs a
-    /// sender for each two workers.
+    /// Returns the ends of all workers of so many processors, that of processor k at place k.
+    /// O(n²) for n processors: a sender for each two workers.
     ///
     /// # Errors
-    /// `AllocError` where memory was wanted and refused.
+    /// `AllocError` if an allocation fails.
     pub fn all(alloc: Global, processors: u8) -> Result<Vec<Hints>, AllocError>
         ensures { IfOk result (λ all. vec_len all ≡ processors) }
     {
@@ -38,6 +39,18 @@ impl Hints {
             all.push(Hints { receiver, senders })?;
         }
         Ok(all)
+    }
+
+    /// Sends a hint to each other worker. One that has left needs none.
+    pub(crate) fn send(&self, rt: &impl Wait, hint: Hint) -> Result<(), AllocError> {
+        for sender in &self.senders {
+            if let Err(refused) = sender.send(rt, hint) {
+                if refused.is_out_of_memory() {
+                    return Err(AllocError);
+                }
+            }
+        }
+        Ok(())
     }
 }
 

@@ -10,19 +10,18 @@
 
 mod dispatchers;
 mod fault;
+mod first_fault;
 mod gate;
 mod hints;
 pub mod laws;
 mod sink;
-mod work;
-mod worked;
+mod threads;
 mod worker;
-mod workplace;
 
 pub use dispatchers::{Finished, run_dispatchers, run_dispatchers_into};
 pub use fault::RunFault;
 pub use gate::{Gate, OpenGate};
-pub use hints::{Hint, Hints};
+pub use hints::Hints;
 pub use pfair_desk::{Board, Desk, LookFault, PublishFault};
 pub use pfair_table::Run;
 pub use sink::Sink;

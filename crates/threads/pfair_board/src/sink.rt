@@ -12,11 +12,11 @@ pub trait Sink: Drop {
     /// What the sink of a row's worker has after these tables.
     ghost has: { Self → ℕ → List Table → Type 0 };
 
-    /// Takes the table of the next slot, of at most 64 rows with a task of its own each. The list
-    /// comes back, as room for the next table, where it isn't kept.
+    /// Takes the table of the next slot, of at most 64 rows with a task of its own each. Returns the
+    /// list, as room for the next table, if it isn't kept.
     ///
     /// # Errors
-    /// `AllocError` where memory was wanted and refused. The worker's run ends then.
+    /// `AllocError` if an allocation fails. The worker's run ends then.
     fn take(&mut self, slot: u64, table: Vec<Pick>) -> Result<Option<Vec<Pick>>, AllocError>
         requires fit { IsFit Settings.MAX_PROCESSORS table.items }
         requires before { (row : ℕ) × (tables : List Table) × (length tables ≡ slot) × has self.old row tables }
@@ -35,19 +35,14 @@ impl Sink for RunBuilder {
     }
 }
 
-/// The first worker's sink, and for the others none.
-#[derive(Drop)]
-pub(crate) struct OfFirst<K> {
-    pub(crate) sink: Option<K>,
-}
+/// The first worker has a sink. The others may have none.
+impl<K: Sink> Sink for Option<K> {
+    ghost use Rattle.pfair_board.specs.Sinks.{has_first};
 
-impl<K: Sink> Sink for OfFirst<K> {
-    ghost use Rattle.pfair_board.specs.Sinks.{first_has};
-
-    ghost has = { first_has K.has };
+    ghost has = { has_first K.has };
 
     fn take(&mut self, slot: u64, table: Vec<Pick>) -> Result<Option<Vec<Pick>>, AllocError> {
-        match &mut self.sink {
+        match self {
             Some(sink) => sink.take(slot, table),
             None => Ok(Some(table)),
         }

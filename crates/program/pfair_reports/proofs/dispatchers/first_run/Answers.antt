@@ -1,5 +1,5 @@
 use Rattle.std.specs.Prelude.{IfErr, IfSome}
-use Rattle.pfair_board.specs.Sinks.{first_has}
+use Rattle.pfair_board.specs.Sinks.{has_first}
 use Rattle.pfair_file.specs.Commands.{IsRefusalBy}
 use Rattle.pfair_reports.specs.Faults.{of_schedule}
 use Rattle.pfair_file.proofs.CommandFacts.{err_is}
@@ -13,9 +13,9 @@ returns-in_err-script-clause-taken g c = taken_as_schedule c.in_err-script.field
 pub returns-in_err-run_dispatchers_into-clause-only : goal.returns-in_err-run_dispatchers_into-clause-only
 returns-in_err-run_dispatchers_into-clause-only g c =
     err_is (λ r. IfErr r (IsFaultOfReplay g.G.Gate.may_give_up)) c.from_residual-in_err-run_dispatchers_into.result _ c.from_residual-in_err-run_dispatchers_into.ensures.1
-    (fault_of_replay (first_has g.K.Sink.has) g.G.Gate.may_give_up c.in_ok-script.script _ c.in_err-run_dispatchers_into.ensures.fault)
+    (fault_of_replay (has_first g.K.Sink.has) g.G.Gate.may_give_up c.in_ok-script.script _ c.in_err-run_dispatchers_into.ensures.fault)
 
 pub returns-in_err-run_dispatchers_into-clause-refused : goal.returns-in_err-run_dispatchers_into-clause-refused
 returns-in_err-run_dispatchers_into-clause-refused g c =
     err_is (λ r. IfErr r (λ e. IfSome (g.R.Read.remaining c.args.reader.now) (λ bytes. IsRefusalBy of_schedule bytes e))) c.from_residual-in_err-run_dispatchers_into.result _ c.from_residual-in_err-run_dispatchers_into.ensures.1
-    (refused_by_run (first_has g.K.Sink.has) g.G.Gate.may_give_up (g.R.Read.remaining c.args.reader.now) c.in_ok-script.script _ c.in_ok-script.ensures.ok c.in_err-run_dispatchers_into.ensures.fault)
+    (refused_by_run (has_first g.K.Sink.has) g.G.Gate.may_give_up (g.R.Read.remaining c.args.reader.now) c.in_ok-script.script _ c.in_ok-script.ensures.ok c.in_err-run_dispatchers_into.ensures.fault)

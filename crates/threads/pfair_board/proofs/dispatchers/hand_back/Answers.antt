@@ -1,9 +1,10 @@
 use Rattle.std.proofs.Common.{◌≡◌, ◌∙◌, sym, ap, ◌+◌, ◌∷◌, rules, arith, subst, add-one, length, slice_get, Some, vec_len}
 use Rattle.std.proofs.lemmas.Grind.{common_steps}
 use Rattle.std.specs.Vec.Iter.{into_iter_items}
-use Rattle.pfair_board.specs.Finish.{IsGood, IsFullDesk, IsFullRun, IsPlacedRun}
+use Rattle.pfair_board.specs.Finish.{IsGood, IsFullDesk, IsRunOf}
 use Rattle.pfair_desk.proofs.Rows.{each_snoc}
 use Rattle.pfair_table.specs.Places.{places_of}
+use Rattle.pfair_table.specs.Script.{replica_of_logs}
 use Rattle.pfair_board.specs.Sinks.{has_built}
 use Rattle.pfair_board.proofs.Rows.{none_in_empty, kept_plan, not_failed}
 use Rattle.pfair_board.proofs.dispatchers.hand_back.Goals as goal
@@ -19,7 +20,6 @@ loop-work-init c = record {
       subst (λ j. IsGood has_built c.args.script.now c.args.board j w) place (c.requires.good k w there));
   desks = λ k d at. absurd (none_in_empty c.new-desks.result.items k d c.new-desks.ensures.items at);
   runs = λ k run at. absurd (none_in_empty c.new-runs.result.items k run c.new-runs.ensures.items at);
-  places = λ k run at. absurd (none_in_empty c.new-runs.result.items k run c.new-runs.ensures.items at);
 }
 
 pub unreachable-requires : goal.unreachable-requires
@@ -49,8 +49,9 @@ loop-work-preserved c =
           subst (λ j. IsGood has_built script board j w) place (c.loop-work.invariant.good (k + 1) w there));
       desks = λ k d at. each_snoc (λ j x. IsFullDesk script board j x) c.loop-work.desks.items work.desk c.loop-work.invariant.desks
           (subst (λ j. IsFullDesk script board j work.desk) here good.desk) k d (rw (← c.in_ok-push.ensures.items) at);
-      runs = λ k run at. each_snoc (λ j x. IsFullRun script x) c.loop-work.runs.items made c.loop-work.invariant.runs
-          (c.in_ok-made.ensures.tables ∙ built_is) k run (rw (← c.in_ok-push-2.ensures.items) at);
-      places = λ k run at. each_snoc (λ j x. IsPlacedRun x) c.loop-work.runs.items made c.loop-work.invariant.places
-          (c.in_ok-made.ensures.places ∙ ap places_of (sym c.in_ok-made.ensures.tables)) k run (rw (← c.in_ok-push-2.ensures.items) at);
+      runs = λ k run at. each_snoc (λ j x. IsRunOf script.settings (replica_of_logs script.logs) x) c.loop-work.runs.items made c.loop-work.invariant.runs
+          (record {
+            tables = c.in_ok-made.ensures.tables ∙ built_is;
+            places = c.in_ok-made.ensures.places ∙ ap places_of (sym c.in_ok-made.ensures.tables);
+          }) k run (rw (← c.in_ok-push-2.ensures.items) at);
     }

@@ -42,7 +42,12 @@ loop-entry-preserved g c =
     }
 
 pub returns-clause-log : goal.returns-clause-log
-returns-clause-log g c = λ i e at.
-    (let within = slice_get_within c.args.log.now i e at in
-    subst (λ k. held c.loop-entry.desk.replica k (c.args.desk.now.next_number + i) ≡ Some (One e)) (sym c.loop-entry.invariant.grown.processor)
-    (c.loop-entry.invariant.log i e (omega (arith, within, c.loop-entry-test.false, c.loop-entry.auto.entry-index-end)) at))
+returns-clause-log g c =
+    let end : c.loop-entry.entry-index ≡ length c.args.log.now = omega (arith, c.loop-entry-test.false, c.loop-entry.auto.entry-index-end) in
+    record {
+      held = λ i e at.
+          (let within = slice_get_within c.args.log.now i e at in
+          subst (λ k. held c.loop-entry.desk.replica k (c.args.desk.now.next_number + i) ≡ Some (One e)) (sym c.loop-entry.invariant.grown.processor)
+          (c.loop-entry.invariant.log i e (omega (arith, within, end)) at));
+      next = c.loop-entry.invariant.next ∙ ap (λ n. c.args.desk.now.next_number + n) end;
+    }

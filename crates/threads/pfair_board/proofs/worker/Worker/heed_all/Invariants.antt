@@ -1,0 +1,12 @@
+use Rattle.std.proofs.Common.{◌≡◌}
+use Rattle.pfair_desk.specs.Desks.{IsDeskOf}
+use Rattle.pfair_board.specs.Works.{HasLearned, IsAtWork}
+use Rattle.pfair_board.proofs.worker.Worker.heed_all.Given as goal
+
+abbrev pub invariant-loop : goal.invariant-loop
+invariant-loop g l = record {
+  own : IsDeskOf l.desk l.board;
+  learned : HasLearned l.fn.desk l.desk;
+  settings : l.self.planner.settings ≡ l.fn.self.planner.settings;
+  at_work : IsAtWork g.K.Sink.has l.self.planner l.self.sink l.desk;
+}

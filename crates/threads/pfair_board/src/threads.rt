@@ -1,0 +1,183 @@
+//! The threads of a run, one for each processor.
+ghost use Rattle.std.specs.Prelude.{◌≡◌, ℕ, [], IfOk, OnOk, Some, slice_get, vec_len};
+ghost use Rattle.std.specs.PromisedHandle.{KeepsEach};
+ghost use Rattle.pfair_table.specs.Script.{capacity_of};
+ghost use Rattle.pfair_desk.specs.Desks.{IsDeskOf};
+ghost use Rattle.pfair_board.specs.Works.{AreWorkplaces, AreWorks, IsWorkOf, IsWorkplaceOf};
+
+use crate::fault::RunFault;
+use crate::gate::Gate;
+use crate::hints::Hints;
+use crate::sink::Sink;
+use crate::worker::Worker;
+use pfair_desk::{Board, Desk};
+use pfair_ready::Ready;
+use pfair_table::Script;
+use std::alloc::{AllocError, Global};
+use std::marker::PhantomData;
+use std::snapshot::Snapshot;
+use std::sync::Wait;
+use std::thread;
+use std::thread::{Promise, PromisedHandle, Scope, Threads};
+
+/// What a worker's thread hands back: its desk, and a fault or the sink that took the tables.
+#[derive(Drop)]
+pub(crate) struct Worked<K> {
+    pub(crate) desk: Desk,
+    pub(crate) kept: Result<K, RunFault>,
+}
+
+/// What a worker's thread begins with, and by its type what orders the worker's ready tasks.
+#[derive(Drop)]
+struct Workplace<R, K> {
+    desk: Desk,
+    hints: Hints,
+    sink: K,
+    ready: PhantomData<R>,
+}
+
+// Whose thread it is: the processor's, in a run of this script on this board, with this gate.
+#[derive(Drop)]
+struct RowOf<G> {
+    board: Snapshot<Board>,
+    script: Snapshot<Script>,
+    gate: Snapshot<G>,
+    processor: u8,
+}
+
+impl<G: Gate, K: Sink> Promise<Worked<K>> for RowOf<G> {
+    ghost kept_by = { λ p r. IsWorkOf K.has G.may_give_up p.board.value p.script.value p.processor r };
+}
+
+/// Starts a thread for each row of a board and joins them all. Each has one of these sinks, that of
+/// processor k the k-th.
+pub(crate) fn run_all<R: Ready + Send, G: Gate + Sync, K: Sink + Send>(
+    rt: &(impl Threads + Wait + Sync),
+    alloc: Global,
+    script: &Script,
+    board: &Board,
+    gate: &G,
+    sinks: Vec<K>,
+) -> Result<Vec<Worked<K>>, AllocError>
+    requires processors { board.now.processors ≡ script.now.settings.processors }
+    requires capacity { board.now.capacity ≡ capacity_of script.now.logs }
+    requires count { vec_len sinks ≡ board.now.processors }
+    requires empty { (k : ℕ) (sink : K) → slice_get sinks.items k ≡ Some sink → K.has sink k [] }
+    ensures { IfOk result (λ works. AreWorks K.has G.may_give_up board.now script.now works.items) }
+{
+    let workplaces = workplaces::<R, K>(alloc, board, sinks)?;
+    thread::scope(
+        thread::scope_env(),
+        rt,
+        move |scope| -> Result<Vec<Worked<K>>, AllocError>
+            requires { (board.now.processors ≡ script.now.settings.processors) × (board.now.capacity ≡ capacity_of script.now.logs) × AreWorkplaces K.has board.now workplaces.items }
+            ensures { IfOk result (λ works. AreWorks K.has G.may_give_up board.entry.now script.entry.now works.items) }
+        {
+            let mut threads = Vec::with_capacity(alloc, workplaces.len())?;
+            for workplace in workplaces {
+                let row = RowOf {
+                    board: Snapshot::of(board),
+                    script: Snapshot::of(script),
+                    gate: Snapshot::of(gate),
+                    processor: workplace.desk.proc(),
+                };
+                let started = scope.spawn_with(
+                    row,
+                    move || -> Worked<K>
+                        requires { IsWorkplaceOf K.has board.now workplace.desk.processor workplace × (board.now.processors ≡ script.now.settings.processors) × (board.now.capacity ≡ capacity_of script.now.logs) }
+                        ensures { IsWorkOf K.has G.may_give_up board.entry.now script.entry.now workplace.desk.processor result }
+                    { work(rt, alloc, script, board, workplace, gate) },
+                );
+                match started {
+                    Ok(started) => threads.push_reserved(started),
+                    Err(_) => break,
+                }
+            }
+            // by now no workplace is left whose hints a worker would wait for
+            join_all(rt, threads, board.processors())
+        },
+    )
+}
+
+// The workplace of each row of a board, that of processor k at place k, with the k-th of these
+// sinks.
+fn workplaces<R, K: Sink>(
+    alloc: Global,
+    board: &Board,
+    sinks: Vec<K>,
+) -> Result<Vec<Workplace<R, K>>, AllocError>
+    requires count { vec_len sinks ≡ board.now.processors }
+    requires empty { (k : ℕ) (sink : K) → slice_get sinks.items k ≡ Some sink → K.has sink k [] }
+    ensures { IfOk result (λ all. AreWorkplaces K.has board.now all.items) }
+{
+    let mut hints = Hints::all(alloc, board.processors())?.into_iter();
+    let mut sinks = sinks.into_iter();
+    let mut all = Vec::new(alloc);
+    for desk in board.desks()? {
+        let Some(hints) = hints.next() else {
+            unreachable!()
+        };
+        let Some(sink) = sinks.next() else {
+            unreachable!()
+        };
+        all.push(Workplace {
+            desk,
+            hints,
+            sink,
+            ready: PhantomData,
+        })?;
+    }
+    Ok(all)
+}
+
+// What a worker's thread does.
+fn work<R: Ready, G: Gate, K: Sink>(
+    rt: &impl Wait,
+    alloc: Global,
+    script: &Script,
+    board: &Board,
+    workplace: Workplace<R, K>,
+    gate: &G,
+) -> Worked<K>
+    requires place { IsWorkplaceOf K.has board.now workplace.desk.processor workplace }
+    requires processors { board.now.processors ≡ script.now.settings.processors }
+    requires capacity { board.now.capacity ≡ capacity_of script.now.logs }
+    ensures { IsWorkOf K.has G.may_give_up board.now script.now workplace.desk.processor result }
+{
+    let Workplace {
+        mut desk,
+        hints,
+        sink,
+        ..
+    } = workplace;
+    let log = script.log(desk.proc());
+    let kept = match Worker::<R, K>::new(alloc, script.settings(), &desk, hints, sink) {
+        Ok(worker) => worker.run(rt, &mut desk, board, log, gate),
+        Err(_) => Err(RunFault::Memory),
+    };
+    Worked { desk, kept }
+}
+
+// Joins the threads that were started, and answers what they hand back where there are as many as
+// processors. Else each is joined alone, so that what it hands back is dropped.
+fn join_all<W: Threads, T: Drop, P: Promise<T>>(
+    rt: &W,
+    threads: Vec<PromisedHandle<T, P>>,
+    processors: u8,
+) -> Result<Vec<T>, AllocError>
+    ensures count { OnOk result (vec_len threads ≡ processors) }
+    ensures len { IfOk result (λ results. vec_len results ≡ vec_len threads) }
+    ensures each { IfOk result (λ results. KeepsEach P.Promise (vec_len threads) threads.items results.items) }
+{
+    let is_whole = threads.len() == processors as usize;
+    match thread::join_promised(rt, threads) {
+        Ok(results) if is_whole => Ok(results),
+        Ok(_) => Err(AllocError),
+        Err(refused) => {
+            for started in refused.value {
+                drop(started.join(rt));
+            }
+            Err(AllocError)
+        }
+    }
+}
