@@ -103,8 +103,8 @@ pub fn run_dispatchers_into<R: Ready + Send, G: Gate + Sync, K: Sink + Send>(
     Ok(sink)
 }
 
-// Runs a dispatcher for each row of a board, the k-th of which has the k-th of these sinks, and
-// answers the first fault if there is one.
+// Runs a dispatcher for each row of a board, the k-th of which has the k-th of these sinks. Fails
+// with the first fault of the workers, if they have one.
 fn run_on<R: Ready + Send, G: Gate + Sync, K: Sink + Send>(
     rt: &(impl Threads + Wait + Sync),
     alloc: Global,

@@ -8,16 +8,16 @@ use thiserror::Error;
 /// Why a run gave no tables.
 #[derive(Clone, Copy, Debug, PartialEq, Eq, Error)]
 pub enum RunFault {
-    /// Memory was wanted and refused, or a thread couldn't be started.
+    /// An allocation failed, or a thread couldn't be started.
     #[error("out of memory")]
     Memory,
-    /// The gate answered false.
+    /// The gate gave up.
     #[error("gate gave up")]
     GateGaveUp,
-    /// What was learned from the board isn't what the logs say.
+    /// The board holds something other than the script's logs.
     #[error("gone astray")]
     Astray,
-    /// The logs settle the slots below this one alone, which is one of the run's.
+    /// The logs end before the slots do: they settle only the slots below this one.
     #[error("stalled at slot {slot}")]
     Stalled {
         /// The frontier of the logs.
@@ -26,7 +26,7 @@ pub enum RunFault {
 }
 
 impl RunFault {
-    /// The number under which the fault is reported: 90, 53, 54 and 52, in the order of the
+    /// Returns the number under which the fault is reported: 90, 53, 54 and 52, in the order of the
     /// variants.
     pub fn number(&self) -> u8
         ensures { result ≡ run_fault_number self.now }

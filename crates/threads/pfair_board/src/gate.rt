@@ -9,9 +9,9 @@ pub trait Gate {
     /// Whether a gate of this type may give up.
     ghost may_give_up: { Bool };
 
-    /// A worker comes, from its own thread, once for each slot, just before it plans that slot. The
-    /// worker is the processor whose log it has, counted from 0. False: the gate gave up, and the
-    /// worker's run ends.
+    /// Lets a worker pass, which comes from its own thread, once for each slot, just before it plans
+    /// that slot. The worker is the processor whose log it has, counted from 0. Returns `false` if
+    /// the gate gave up; the worker's run ends then.
     fn come<P: Wait>(&self, rt: &P, worker: u8, slot: u64) -> bool
         ensures { result ≡ false → may_give_up ≡ true };
 }

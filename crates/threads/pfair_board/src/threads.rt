@@ -158,8 +158,8 @@ fn work<R: Ready, G: Gate, K: Sink>(
     Worked { desk, kept }
 }
 
-// Joins the threads that were started, and answers what they hand back where there are as many as
-// processors. Else each is joined alone, so that what it hands back is dropped.
+// Joins the threads that were started, and returns what they hand back if there are as many as
+// processors. If the list of that can't be allocated, each is joined alone, and its result dropped.
 fn join_all<W: Threads, T: Drop, P: Promise<T>>(
     rt: &W,
     threads: Vec<PromisedHandle<T, P>>,
