@@ -1,0 +1,143 @@
+-- The first fault of a name, of a weight and of an entry is the one of which their clauses speak.
+use Rattle.std.proofs.Common.{ℕ, zero, suc, add-zero, zero-add, subst, List, [], ◌∷◌, Option, None, Some, Bool, true, false, inl, inr, ◌≡◌, ◌∙◌, ◌+◌, ◌<◌, length, refl, sym, ap, arith}
+use Rattle.std.specs.Prelude.{slice_index, nat_lt, ◌==◌}
+use Rattle.std.proofs.lemmas.Bool.Decides.{nat_tests}
+use Rattle.pfair_weight.specs.Name.{may_stand, IsTaskName}
+use Rattle.pfair_weight.specs.NameFault.{IsFaultOf as IsNameFaultOf}
+use Rattle.pfair_weight.specs.Share.{IsWeight}
+use Rattle.pfair_weight.specs.WeightFault.{IsFaultOf as IsWeightFaultOf}
+use Rattle.pfair_weight.specs.declared.name.NameFault.{NameFault}
+use Rattle.pfair_weight.specs.declared.name.NameFault.TheVariants as name
+use Rattle.pfair_weight.specs.declared.weight.WeightFault.{WeightFault}
+use Rattle.pfair_weight.specs.declared.weight.WeightFault.TheVariants as weight
+use Rattle.pfair_entry.specs.Entry.{Logged, IsEntry, IsWithinLimits}
+use Rattle.pfair_entry.specs.EntryFault.{IsBadDelay, IsBadIndex, IsInTime, IsFaultOf as IsEntryFaultOf}
+use Rattle.pfair_entry.specs.Notice.{announced_fault, entry_fault, first_failing, limit_fault, name_fault, refusal, weight_fault, IsLoggable, IsNamed, IsWeighed, IsWellSaid}
+use Rattle.pfair_entry.specs.declared.announcement.Announcement.{Announcement}
+use Rattle.pfair_entry.specs.declared.announcement.Announcement.TheVariants.{Arrive, Depart, Late}
+use Rattle.pfair_entry.specs.declared.entry.EntryFault.{EntryFault}
+use Rattle.pfair_entry.specs.declared.entry.EntryFault.TheVariants as entry
+use Rattle.pfair_entry.specs.declared.notice.NoticeFault.TheVariants as because
+
+-- ---- names
+
+next : (i place : ℕ) → suc i + place ≡ i + suc place
+next i place = omega arith
+
+-- where each item passes, none fails
+none_fails : (test : ℕ → ℕ → Bool) (place : ℕ) (items : List ℕ) → ((i : ℕ) → i < length items → test (i + place) (slice_index items i) ≡ true) → first_failing test place items ≡ None
+none_fails test place [] h = refl
+none_fails test place (x ∷ items) h =
+    let here : test place x ≡ true = rw (zero-add place) at (h 0 (omega arith)) in
+    rw here (none_fails test (suc place) items (λ i within. subst (λ n. test n (slice_index items i) ≡ true) (next i place) (h (suc i) (omega (arith, within)))))
+
+-- the first that fails
+first_fails : (test : ℕ → ℕ → Bool) (place : ℕ) (items : List ℕ) (at : ℕ) → at < length items → test (at + place) (slice_index items at) ≡ false
+    → ((i : ℕ) → i < at → test (i + place) (slice_index items i) ≡ true) → first_failing test place items ≡ Some (at + place)
+first_fails test place [] at within bad first = absurd (omega (arith, within))
+first_fails test place (x ∷ items) zero within bad first = let here : test place x ≡ false = rw (zero-add place) at bad in rw here (ap Some (sym (zero-add place)))
+first_fails test place (x ∷ items) (suc at) within bad first =
+    let here : test place x ≡ true = rw (zero-add place) at (first 0 (omega arith)) in
+    rw here (first_fails test (suc place) items at (omega (arith, within)) (subst (λ n. test n (slice_index items at) ≡ false) (next at place) bad) (λ i before. subst (λ n. test n (slice_index items i) ≡ true) (next i place) (first (suc i) (omega (arith, before))))
+    ∙ ap Some (sym (next at place)))
+
+pub no_name_fault : (bytes : List ℕ) → IsTaskName bytes → name_fault bytes ≡ None
+no_name_fault bytes ok =
+    let some : (length bytes == 0) ≡ false = grind (arith, nat_tests, ok.not_empty) in
+    let short : nat_lt 16 (length bytes) ≡ false = grind (arith, nat_tests, ok.not_too_long) in
+    let none = none_fails may_stand 0 bytes (λ i within. rw (add-zero i) (ok.each_may_stand i within)) in
+    rw (some, short, none) refl
+
+pub name_fault_is : (bytes : List ℕ) (f : NameFault) → IsNameFaultOf bytes f → name_fault bytes ≡ Some f
+name_fault_is bytes name.Empty h = rw h refl
+name_fault_is bytes name.TooLong h =
+    let some : (length bytes == 0) ≡ false = grind (arith, nat_tests, h) in
+    let long : nat_lt 16 (length bytes) ≡ true = grind (arith, nat_tests, h) in
+    rw (some, long) refl
+name_fault_is bytes (name.BadByte at) h =
+    let some : (length bytes == 0) ≡ false = grind (arith, nat_tests, h.not_empty) in
+    let short : nat_lt 16 (length bytes) ≡ false = grind (arith, nat_tests, h.not_too_long) in
+    let first = first_fails may_stand 0 bytes at h.inside (rw (add-zero at) h.bad) (λ i before. rw (add-zero i) (h.first i before)) in
+    rw (some, short, first, add-zero at) refl
+
+-- ---- weights
+
+no_weight_fault : (cost period : ℕ) → IsWeight cost period → weight_fault cost period ≡ None
+no_weight_fault cost period ok = grind (arith, nat_tests, ok.some_cost, ok.at_most_one, ok.period_in_range)
+
+pub weight_fault_is : (cost period : ℕ) (f : WeightFault) → IsWeightFaultOf cost period f → weight_fault cost period ≡ Some f
+weight_fault_is cost period weight.ZeroCost h = rw h refl
+weight_fault_is cost period weight.CostOverPeriod h = grind (arith, nat_tests, h.0, h.1)
+weight_fault_is cost period weight.PeriodTooLong h = grind (arith, nat_tests, h.0, h.1, h.2)
+
+-- ---- what is announced
+
+no_announced_fault : (a : Announcement) → IsNamed a → IsWeighed a → announced_fault a ≡ None
+no_announced_fault (Arrive name share early) named weighed = rw (no_name_fault name named, no_weight_fault share.cost share.period weighed) refl
+no_announced_fault (Depart name) named weighed = rw (no_name_fault name named) refl
+no_announced_fault (Late name index by) named weighed = rw (no_name_fault name named) refl
+
+-- ---- entries
+
+no_limit_fault : (a : Announcement) → IsWithinLimits a → limit_fault a ≡ None
+no_limit_fault (Arrive name share early) within = refl
+no_limit_fault (Depart name) within = refl
+no_limit_fault (Late name index by) within = grind (arith, nat_tests, within.0.0, within.0.1, within.1.0, within.1.1)
+
+bad_index : (a : Announcement) → IsBadIndex a → limit_fault a ≡ Some entry.BadIndex
+bad_index (Arrive name share early) bad = absurd bad
+bad_index (Depart name) bad = absurd bad
+bad_index (Late name index by) bad = grind (arith, nat_tests, bad)
+
+bad_delay : (a : Announcement) → IsBadDelay a → limit_fault a ≡ Some entry.BadDelay
+bad_delay (Arrive name share early) bad = absurd bad
+bad_delay (Depart name) bad = absurd bad
+bad_delay (Late name index by) bad = grind (arith, nat_tests, bad.0.0, bad.0.1, bad.1)
+
+-- floor and stamp in order leave what is announced
+in_time : (floor : ℕ) (s : ℕ × Announcement) → IsInTime floor s.0 → entry_fault (record { floor = floor; said = Some s }) ≡ limit_fault s.1
+in_time floor s h =
+    let low : nat_lt 1000000 floor ≡ false = grind (arith, nat_tests, h.0, h.1) in
+    let near : nat_lt 1000000 s.0 ≡ false = grind (arith, nat_tests, h.1) in
+    let after : nat_lt s.0 floor ≡ false = grind (arith, nat_tests, h.0) in
+    rw (low, near, after) refl
+
+no_entry_fault : (floor : ℕ) (s : Option (ℕ × Announcement)) → IsEntry (record { floor = floor; said = s }) → entry_fault (record { floor = floor; said = s }) ≡ None
+no_entry_fault floor None e = grind (arith, nat_tests, e.floor_in_range)
+no_entry_fault floor (Some s) e = in_time floor s (e.stamped, e.stamp_in_range) ∙ no_limit_fault s.1 e.within_limits
+
+entry_fault_is : (floor : ℕ) (s : Option (ℕ × Announcement)) (f : EntryFault) → IsEntryFaultOf (record { floor = floor; said = s }) f → entry_fault (record { floor = floor; said = s }) ≡ Some f
+entry_fault_is floor s entry.StampTooFar (inl far) = grind (arith, nat_tests, far)
+entry_fault_is floor None entry.StampTooFar (inr far) = absurd far
+entry_fault_is floor None entry.StampBeforeFloor h = absurd h
+entry_fault_is floor None entry.BadIndex h = absurd h
+entry_fault_is floor None entry.BadDelay h = absurd h
+entry_fault_is floor (Some s) entry.StampTooFar (inr far) = grind (arith, nat_tests, far)
+entry_fault_is floor (Some s) entry.StampBeforeFloor early =
+    let low : nat_lt 1000000 floor ≡ false = grind (arith, nat_tests, early.0) in
+    let near : nat_lt 1000000 s.0 ≡ false = grind (arith, nat_tests, early.0, early.1) in
+    let before : nat_lt s.0 floor ≡ true = grind (arith, nat_tests, early.1) in
+    rw (low, near, before) refl
+entry_fault_is floor (Some s) entry.BadIndex h = in_time floor s h.0 ∙ bad_index s.1 h.1
+entry_fault_is floor (Some s) entry.BadDelay h = in_time floor s h.0 ∙ bad_delay s.1 h.1
+
+-- ---- the first of all
+
+-- what a log may have is refused by no rule
+pub no_refusal : (e : Logged) → IsLoggable e → refusal e ≡ None
+no_refusal e h = go e.floor e.said h.well_said h.entry
+  where
+    go : (floor : ℕ) (s : Option (ℕ × Announcement)) → IsWellSaid s → IsEntry (record { floor = floor; said = s }) → refusal (record { floor = floor; said = s }) ≡ None
+    go floor None well e = rw (no_entry_fault floor None e) refl
+    go floor (Some s) well e = rw (no_announced_fault s.1 well.0 well.1, no_entry_fault floor (Some s) e) refl
+
+-- what has a name and a weight is refused as an entry
+pub entry_refused : (e : Logged) (f : EntryFault) → IsWellSaid e.said → IsEntryFaultOf e f → refusal e ≡ Some (because.Entry f)
+entry_refused e f well h = go e.floor e.said well h
+  where
+    go : (floor : ℕ) (s : Option (ℕ × Announcement)) → IsWellSaid s → IsEntryFaultOf (record { floor = floor; said = s }) f → refusal (record { floor = floor; said = s }) ≡ Some (because.Entry f)
+    go floor None well h = rw (entry_fault_is floor None f h) refl
+    go floor (Some s) well h = rw (no_announced_fault s.1 well.0 well.1, entry_fault_is floor (Some s) f h) refl
+
+-- the first fault of each
+pub ruleset first_faults = (no_name_fault, name_fault_is, weight_fault_is, no_refusal, entry_refused)

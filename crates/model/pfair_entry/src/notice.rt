@@ -1,0 +1,110 @@
+//! Announcements before they are checked, as a file, a row or C has them.
+ghost use Rattle.std.specs.Prelude.{◌≡◌, Some, IfOk, IfErr};
+ghost use Rattle.pfair_entry.specs.Notice.{announced_fault, checked, noticed, notice_fault_number, unchecked, IsLoggable, IsNamed, IsWeighed};
+
+use crate::announcement::Announcement;
+use crate::entry::{Entry, EntryFault};
+use pfair_weight::{NameFault, TaskName, Weight, WeightFault};
+use thiserror::Error;
+
+/// What is announced of a task, in unchecked numbers.
+#[derive(Clone, Copy)]
+pub enum Change {
+    /// It arrives.
+    Arrive {
+        /// Its quanta in each period.
+        cost: u64,
+        /// The slots of a period.
+        period: u64,
+        /// Whether its subtasks may run early.
+        early: bool,
+    },
+    /// It departs.
+    Depart,
+    /// Its subtasks come late.
+    Late {
+        /// The first of them, counted from 1.
+        index: u64,
+        /// By how many slots.
+        by: u64,
+    },
+}
+
+/// An announcement before it is checked.
+#[derive(Clone, Copy)]
+pub struct Notice<'a> {
+    /// The slot of the stamp.
+    pub at: u64,
+    /// The bytes of the task's name.
+    pub name: &'a [u8],
+    /// What is announced.
+    pub change: Change,
+}
+
+/// Why a floor and a notice make no entry.
+#[derive(Clone, Copy, Debug, PartialEq, Eq, Error)]
+pub enum NoticeFault {
+    /// Numbers 1 to 3: the name is no task's name.
+    #[error(transparent)]
+    Name(NameFault),
+    /// Numbers 4 to 6: cost and period make no weight.
+    #[error(transparent)]
+    Weight(WeightFault),
+    /// Numbers 7 to 10: floor, stamp and announcement make no entry.
+    #[error(transparent)]
+    Entry(EntryFault),
+}
+
+impl NoticeFault {
+    /// The number under which the fault is reported: that of the fault that it has.
+    pub fn number(&self) -> u8
+        ensures { result ≡ notice_fault_number self.now }
+    {
+        match self {
+            NoticeFault::Name(fault) => fault.number(),
+            NoticeFault::Weight(fault) => fault.number(),
+            NoticeFault::Entry(fault) => fault.number(),
+        }
+    }
+}
+
+/// The entry with this floor, and perhaps an announcement.
+///
+/// # Errors
+/// The first of these that applies: `Name`, `Weight` and `Entry`.
+#[tactic(auto, using(crate::proofs::Refusals::first_faults))]
+pub fn checked_entry(floor: u64, notice: Option<Notice<'_>>) -> Result<Entry, NoticeFault>
+    ensures checked { result ≡ checked (unchecked floor notice.entry) }
+    ensures entry { IfOk result (λ made. (made ≡ unchecked floor notice.entry) × IsLoggable made) }
+{
+    let Some(notice) = notice else {
+        return Entry::new(floor, None).map_err(NoticeFault::Entry);
+    };
+    let announcement = checked_announcement(&notice)?;
+    Entry::new(floor, Some((notice.at, announcement))).map_err(NoticeFault::Entry)
+}
+
+// The announcement of a notice, or what is wrong with its name or its weight.
+#[tactic(auto, using(crate::proofs::Refusals::first_faults))]
+fn checked_announcement(notice: &Notice<'_>) -> Result<Announcement, NoticeFault>
+    ensures ok { IfOk result (λ a. (a ≡ (noticed notice.now).1) × IsNamed a × IsWeighed a) }
+    ensures err { IfErr result (λ fault. announced_fault (noticed notice.now).1 ≡ Some fault) }
+{
+    let name = TaskName::from_bytes(notice.name).map_err(NoticeFault::Name)?;
+    match notice.change {
+        Change::Arrive {
+            cost,
+            period,
+            early,
+        } => {
+            let weight = Weight::new(cost, period).map_err(NoticeFault::Weight)?;
+            Ok(Announcement::Arrive {
+                name,
+                weight,
+                early,
+            })
+        }
+        Change::Depart => Ok(Announcement::Depart { name }),
+        Change::Late { index, by } => Ok(Announcement::Late { name, index, by }),
+    }
+}
