@@ -2,7 +2,7 @@
 
 use crate::devices::Sink;
 use pfair_board::{LookFault, PublishFault};
-use pfair_entry::{Entry, EntryFault, NoteFault};
+use pfair_entry::{Entry, EntryFault, NoteFault, NoticeFault};
 use pfair_entry_row::RowFault;
 use pfair_feed::{FeedFault, FollowFault, tell_refused};
 use pfair_file::{EntryCause, Field, FileFault, ScheduleFault, write_line};
@@ -70,20 +70,38 @@ const REFUSED: &str = "pfair: 64 entry 4294967295 of processor 255 refused: ";
 #[test]
 fn refused_entries_are_lines_of_one_write(rt: HostRuntime) -> Result<(), Fail> {
     for (cause, text) in [
-        (EntryCause::Name(NameFault::Empty), "1 empty name"),
-        (EntryCause::Name(NameFault::TooLong), "2 name too long"),
         (
-            EntryCause::Name(NameFault::BadByte { at: usize::MAX }),
+            EntryCause::Refused(NoticeFault::Name(NameFault::Empty)),
+            "1 empty name",
+        ),
+        (
+            EntryCause::Refused(NoticeFault::Name(NameFault::TooLong)),
+            "2 name too long",
+        ),
+        (
+            EntryCause::Refused(NoticeFault::Name(NameFault::BadByte { at: usize::MAX })),
             "3 bad byte at 18446744073709551615",
         ),
-        (EntryCause::Weight(WeightFault::ZeroCost), "4 zero cost"),
         (
-            EntryCause::Entry(EntryFault::StampBeforeFloor),
+            EntryCause::Refused(NoticeFault::Weight(WeightFault::ZeroCost)),
+            "4 zero cost",
+        ),
+        (
+            EntryCause::Refused(NoticeFault::Entry(EntryFault::StampBeforeFloor)),
             "7 stamp before floor",
         ),
-        (EntryCause::Entry(EntryFault::StampTooFar), "8 slot too far"),
-        (EntryCause::Entry(EntryFault::BadDelay), "9 bad delay"),
-        (EntryCause::Entry(EntryFault::BadIndex), "10 bad index"),
+        (
+            EntryCause::Refused(NoticeFault::Entry(EntryFault::StampTooFar)),
+            "8 slot too far",
+        ),
+        (
+            EntryCause::Refused(NoticeFault::Entry(EntryFault::BadDelay)),
+            "9 bad delay",
+        ),
+        (
+            EntryCause::Refused(NoticeFault::Entry(EntryFault::BadIndex)),
+            "10 bad index",
+        ),
         (EntryCause::LogFull, "12 log full"),
     ] {
         // the greatest processor and number that their types can hold

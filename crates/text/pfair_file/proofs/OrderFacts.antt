@@ -6,22 +6,22 @@ use Rattle.std.proofs.lemmas.Grind.{common_steps}
 use Rattle.std.proofs.lemmas.List.{length-set, get_or-set_same, get_or-set_other}
 use Rattle.toml.specs.Data.{Members}
 use Rattle.pfair_entry.specs.Entry.{Logged}
+use Rattle.pfair_entry.specs.declared.notice.NoticeFault.{NoticeFault}
 use Rattle.pfair_file.specs.Documents.{empty_logs}
 use Rattle.pfair_file.specs.Entries.{Logs, logs_after, with_entries, with_entry, longer_log}
 use Rattle.pfair_file.specs.FileOrder.{LogsAreInFileOrder, entries_for, entry_for, entry_list}
 use Rattle.pfair_file.specs.Tables.{made_at}
 use Rattle.pfair_file.specs.declared.made.Made.{Made}
-use Rattle.pfair_file.specs.declared.fault.EntryCause.{EntryCause}
 use Rattle.pfair_file.specs.declared.fault.FileFault.{FileFault}
 
 -- a longer log has the entry at its end
-longer-is : (p : ℕ) (log new : List Logged) (made : Result Logged EntryCause) → longer_log p log made ≡ Ok new → new ≡ log ++ entry_list made
+longer-is : (p : ℕ) (log new : List Logged) (made : Result Logged NoticeFault) → longer_log p log made ≡ Ok new → new ≡ log ++ entry_list made
 longer-is p log new (Ok entry) h =
     elim (cases_Bool (nat_le 4095 (length log))) [
       | inl full ↦ absurd (let bad = rw full at h in cc bad)
       | inr room ↦ (let same = rw room at h in cc same)
     ]
-longer-is p log new (Err cause) h =
+longer-is p log new (Err fault) h =
     elim (cases_Bool (nat_le 4095 (length log))) [
       | inl full ↦ absurd (let bad = rw full at h in cc bad)
       | inr room ↦ absurd (let bad = rw room at h in cc bad)

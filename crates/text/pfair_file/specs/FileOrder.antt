@@ -2,16 +2,16 @@
 use Rattle.std.specs.Prelude.{ℕ, ◌≡◌, ◌<◌, ◌+◌, ◌==◌, if◌then◌else◌, List, [], ◌∷◌, ◌++◌, Result, Ok, Err, slice_index_or}
 use Rattle.toml.specs.Data.{Members}
 use Rattle.pfair_entry.specs.Entry.{Logged}
+use Rattle.pfair_entry.specs.declared.notice.NoticeFault.{NoticeFault}
 use Rattle.pfair_file.specs.Documents.{empty_logs}
 use Rattle.pfair_file.specs.Entries.{Logs, with_entries}
 use Rattle.pfair_file.specs.Tables.{made_at}
 use Rattle.pfair_file.specs.declared.made.Made.{Made}
-use Rattle.pfair_file.specs.declared.fault.EntryCause.{EntryCause}
 use Rattle.pfair_file.specs.declared.fault.FileFault.{FileFault}
 
-abbrev pub entry_list : Result Logged EntryCause → List Logged
+abbrev pub entry_list : Result Logged NoticeFault → List Logged
 entry_list (Ok entry) = entry ∷ []
-entry_list (Err cause) = []
+entry_list (Err fault) = []
 
 -- the entry of a table, where the table names this processor
 abbrev pub entry_for : ℕ → Result Made FileFault → List Logged

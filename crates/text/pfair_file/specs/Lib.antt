@@ -1,4 +1,3 @@
-pub mod Causes
 pub mod Commands
 pub mod Documents
 pub mod Entries

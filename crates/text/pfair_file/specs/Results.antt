@@ -5,8 +5,3 @@ use Rattle.std.specs.Prelude.{Result, Ok, Err}
 abbrev pub and_then : {A B E : Type 0} → (A → Result B E) → Result A E → Result B E
 and_then f (Ok x) = f x
 and_then f (Err e) = Err e
-
--- `r.map_err(f)`
-abbrev pub map_err : {A E F : Type 0} → (E → F) → Result A E → Result A F
-map_err f (Ok x) = Ok x
-map_err f (Err e) = Err (f e)

@@ -1,8 +1,10 @@
 -- What the keys of an entry's table hold, in their order, each with the first of its faults.
-use Rattle.std.specs.Prelude.{ℕ, ◌-◌, nat_lt, if◌then◌else◌, Bool, false, List, Option, None, Some, Result, Ok, ok_or}
+use Rattle.std.specs.Prelude.{ℕ, ◌-◌, nat_lt, if◌then◌else◌, Bool, false, Option, None, Some, Result, Ok, ok_or}
 use Rattle.toml.specs.Data.{Data, Members, as_bool, as_str, get_member}
-use Rattle.pfair_weight.specs.declared.name.NameFault.{NameFault}
-use Rattle.pfair_file.specs.Causes.{made_entry, task_name_of}
+use Rattle.pfair_entry.specs.Notice.{announced, checked}
+use Rattle.pfair_entry.specs.declared.announcement.Announcement.{Announcement}
+use Rattle.pfair_entry.specs.declared.notice.Change.{Change}
+use Rattle.pfair_entry.specs.declared.notice.Change.TheVariants as change
 use Rattle.pfair_file.specs.Fields.{key_of}
 use Rattle.pfair_file.specs.Keys.{natural_at, number_at, text_at}
 use Rattle.pfair_file.specs.Kinds.{kind_named}
@@ -10,10 +12,7 @@ use Rattle.pfair_file.specs.Results.{and_then}
 use Rattle.pfair_file.specs.declared.field.Field.TheVariants as field
 use Rattle.pfair_file.specs.declared.fault.FileFault.{FileFault}
 use Rattle.pfair_file.specs.declared.fault.FileFault.TheVariants.{Range, WrongKind}
-use Rattle.pfair_file.specs.declared.notice.Change.{Change}
-use Rattle.pfair_file.specs.declared.notice.Change.TheVariants as change
 use Rattle.pfair_file.specs.declared.made.Made.{Made}
-use Rattle.pfair_file.specs.declared.notice.Notice.{Notice}
 use Rattle.pfair_file.specs.declared.kind.Kind.{Kind}
 use Rattle.pfair_file.specs.declared.kind.Kind.TheVariants.{Arrive, Depart, Late}
 
@@ -26,10 +25,6 @@ kind_in place (Some d) =
 
 abbrev pub kind_at : ℕ → Members → Result (Option Kind) FileFault
 kind_at place table = kind_in place (get_member (key_of field.Kind) table)
-
--- the name, or what is wrong with it, which is said after the faults of all keys
-abbrev pub name_at : ℕ → Members → Result (Result (List ℕ) NameFault) FileFault
-name_at place table = and_then (λ text. Ok (task_name_of text)) (text_at table place field.Name)
 
 -- whether a task may run early: false where nothing says so, and in version 1
 abbrev pub early_in : ℕ → Option Data → Result Bool FileFault
@@ -55,22 +50,22 @@ change_at version place Late table =
     (natural_at table place field.By))
     (natural_at table place field.Index)
 
--- the keys of an announcement
-abbrev pub notice_of : ℕ → ℕ → Kind → Members → Result Notice FileFault
+-- the keys of an announcement, with its stamp
+abbrev pub notice_of : ℕ → ℕ → Kind → Members → Result (ℕ × Announcement) FileFault
 notice_of version place kind table =
     and_then (λ at.
     and_then (λ name.
-    and_then (λ change. Ok (record { at = at; name = name; change = change }))
+    and_then (λ change. Ok (at, announced name change))
     (change_at version place kind table))
-    (name_at place table))
+    (text_at table place field.Name))
     (natural_at table place field.At)
 
 -- the announcement, where there is a kind
-abbrev pub notice_in : ℕ → ℕ → Members → Option Kind → Result (Option Notice) FileFault
+abbrev pub notice_in : ℕ → ℕ → Members → Option Kind → Result (Option (ℕ × Announcement)) FileFault
 notice_in version place table None = Ok None
 notice_in version place table (Some kind) = and_then (λ notice. Ok (Some notice)) (notice_of version place kind table)
 
-abbrev pub notice_at : ℕ → ℕ → Members → Result (Option Notice) FileFault
+abbrev pub notice_at : ℕ → ℕ → Members → Result (Option (ℕ × Announcement)) FileFault
 notice_at version place table = and_then (λ kind. notice_in version place table kind) (kind_at place table)
 
 -- what a table makes, once all its keys are read
@@ -78,7 +73,7 @@ abbrev pub made_at : ℕ → ℕ → ℕ → Members → Result Made FileFault
 made_at version processors place table =
     and_then (λ processor.
     and_then (λ floor.
-    and_then (λ notice. Ok (record { processor = processor; entry = made_entry floor notice }))
+    and_then (λ said. Ok (record { processor = processor; entry = checked (record { floor = floor; said = said }) }))
     (notice_at version place table))
     (natural_at table place field.Floor))
     (number_at table place field.Processor 0 (processors - 1))

@@ -4,8 +4,7 @@ ghost use Rattle.pfair_file.specs.Faults.{cause_number, file_fault_number};
 ghost use Rattle.pfair_file.specs.declared.fault.FileFault.TheVariants.{Memory};
 
 use crate::field::Field;
-use pfair_entry::EntryFault;
-use pfair_weight::{NameFault, WeightFault};
+use pfair_entry::NoticeFault;
 use std::alloc::AllocError;
 use thiserror::Error;
 
@@ -15,15 +14,9 @@ pub enum EntryCause {
     /// Number 12: the log has as many entries as a file can hold of one processor, 4,095.
     #[error("log full")]
     LogFull,
-    /// Numbers 1 to 3: the name is no task's name.
-    #[error("{0}")]
-    Name(NameFault),
-    /// Numbers 4 to 6: cost and period make no weight.
-    #[error("{0}")]
-    Weight(WeightFault),
-    /// Numbers 7 to 10: floor, stamp and announcement make no entry.
-    #[error("{0}")]
-    Entry(EntryFault),
+    /// Numbers 1 to 10: floor and announcement make no entry.
+    #[error(transparent)]
+    Refused(NoticeFault),
 }
 
 impl EntryCause {
@@ -33,9 +26,7 @@ impl EntryCause {
     {
         match self {
             EntryCause::LogFull => 12,
-            EntryCause::Name(fault) => fault.number(),
-            EntryCause::Weight(fault) => fault.number(),
-            EntryCause::Entry(fault) => fault.number(),
+            EntryCause::Refused(fault) => fault.number(),
         }
     }
 }
