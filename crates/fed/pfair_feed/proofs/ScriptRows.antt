@@ -10,7 +10,7 @@ use Rattle.pfair_text.proofs.RowFacts.{lines_text-append}
 use Rattle.pfair_lattice.specs.declared.flat.Flat.TheVariants.{One}
 use Rattle.pfair_entry.specs.Entry.{Logged}
 use Rattle.pfair_entry_row.specs.Laws.{RowsAreLines}
-use Rattle.pfair_entry_row.specs.Row.{IsLoggable}
+use Rattle.pfair_entry.specs.Notice.{IsLoggable}
 use Rattle.pfair_output.specs.Slots.{slots_from}
 use Rattle.pfair_table.specs.Script.{LoggedRun, capacity_of, contents_of, entry_of, is_short}
 use Rattle.pfair_feed.specs.Entries.{entries_text, log_rows, numbered_from}

@@ -2,7 +2,8 @@
 use Rattle.std.specs.Prelude.{ℕ, suc, ◌≡◌, ◌≢◌, ◌≤◌, ◌<◌, ◌⊎◌, List, [], ◌∷◌, ◌++◌, map}
 use Rattle.std.specs.List.{AllByRecursion}
 use Rattle.pfair_entry.specs.Entry.{Logged}
-use Rattle.pfair_entry_row.specs.Row.{entry_row, IsEntryAt, IsLoggable}
+use Rattle.pfair_entry.specs.Notice.{IsLoggable}
+use Rattle.pfair_entry_row.specs.Row.{entry_row, IsEntryAt}
 use Rattle.pfair_replica.specs.Replica.{Replica, frontier}
 use Rattle.pfair_table.specs.Events.{start}
 use Rattle.pfair_table.specs.Refinement.{course_of}

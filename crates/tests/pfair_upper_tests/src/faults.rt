@@ -214,9 +214,9 @@ pfair_follow: 70 reading failed: x?
 fn refused_rows_are_reported_in_one_write(rt: HostRuntime) {
     let faults = [
         FeedFault::Row(RowFault::NoRow),
-        FeedFault::Row(RowFault::Name(NameFault::BadByte { at: 1 })),
-        FeedFault::Row(RowFault::Weight(WeightFault::CostOverPeriod)),
-        FeedFault::Row(RowFault::Entry(EntryFault::StampBeforeFloor)),
+        FeedFault::Row(RowFault::Refused(NoticeFault::Name(NameFault::BadByte { at: 1 }))),
+        FeedFault::Row(RowFault::Refused(NoticeFault::Weight(WeightFault::CostOverPeriod))),
+        FeedFault::Row(RowFault::Refused(NoticeFault::Entry(EntryFault::StampBeforeFloor))),
         FeedFault::Row(RowFault::NoSuchProcessor),
         FeedFault::Row(RowFault::NumberOutOfRange),
         FeedFault::Follow(FollowFault::NoSuchProcessor),

@@ -6,7 +6,8 @@ use Rattle.std.proofs.lemmas.Fmt.{length-decimal-le}
 use Rattle.pfair_entry.specs.declared.announcement.Announcement.{Announcement}
 use Rattle.pfair_entry.specs.declared.announcement.Announcement.TheVariants.{Arrive, Depart, Late}
 use Rattle.pfair_entry_row.specs.Laws.{RowsAreShort}
-use Rattle.pfair_entry_row.specs.Row.{truth, announced_fields, said_fields, entry_fields, IsNamed, IsSpelled, IsSpelledOut, IsWellSaid}
+use Rattle.pfair_entry.specs.Notice.{IsNamed, IsWellSaid}
+use Rattle.pfair_entry_row.specs.Row.{truth, announced_fields, said_fields, entry_fields, IsSpelled, IsSpelledOut}
 use Rattle.pfair_entry_row.proofs.Refused.{sayable}
 
 -- the bytes of fields, each with a comma

@@ -1,8 +1,7 @@
 -- Rows as lines of a text.
-use Rattle.std.proofs.Common.{ℕ, Bool, true, false, List, [], ◌∷◌, ◌++◌, ◌≡◌, ◌≢◌, ◌<◌, ◌==◌, ◌^◌, refl, ap, ◌∙◌, sym, zero, suc, arith, length, map, Option, None, Some, append_assoc}
-use Rattle.std.specs.Prelude.{◌||◌, ◌&&◌, codes, not}
+use Rattle.std.proofs.Common.{ℕ, Bool, true, false, List, [], ◌∷◌, ◌++◌, ◌≡◌, ◌≢◌, ◌==◌, refl, ap, ◌∙◌, zero, suc, arith, length, Option, None, Some, append_assoc}
+use Rattle.std.specs.Prelude.{◌||◌, not}
 use Rattle.std.specs.List.{All, AllByRecursion, join_with_byte, list_all, list_any, slice_split}
-use Rattle.std.specs.Fmt.{decimal}
 use Rattle.std.proofs.lemmas.Bool.{and_from, and_parts, eqb-false, ne_eqb, not-true, or_parts}
 use Rattle.std.proofs.lemmas.List.Splits.{slice_split_at}
 use Rattle.pfair_entry.specs.Entry.{Logged}
@@ -10,8 +9,9 @@ use Rattle.pfair_entry.specs.declared.announcement.Announcement.{Announcement}
 use Rattle.pfair_entry.specs.declared.announcement.Announcement.TheVariants.{Arrive, Depart, Late}
 use Rattle.pfair_text.specs.Rows.{is_mark, is_plain}
 use Rattle.pfair_text.proofs.RowFacts.{is_plain-decimal}
-use Rattle.pfair_entry_row.specs.Laws.{Keyed, RowsAreLines, TextsAreRows, entries_text}
-use Rattle.pfair_entry_row.specs.Row.{truth, announced_fields, said_fields, entry_fields, entry_row, IsEntryAt, IsNamed, IsSpelled, IsSpelledOut, IsWellSaid}
+use Rattle.pfair_entry_row.specs.Laws.{RowsAreLines, TextsAreRows, entries_text}
+use Rattle.pfair_entry.specs.Notice.{IsNamed, IsWellSaid}
+use Rattle.pfair_entry_row.specs.Row.{truth, announced_fields, said_fields, entry_fields, entry_row, IsEntryAt, IsSpelled, IsSpelledOut}
 use Rattle.pfair_entry_row.proofs.Names.{is_plain-name}
 use Rattle.pfair_entry_row.proofs.Refused.{sayable}
 

@@ -1,25 +1,15 @@
 -- What the fields of a row hold, as an entry that no rule has looked at.
-use Rattle.std.specs.Prelude.{ℕ, ◌≡◌, ◌≢◌, List, [], ◌∷◌, Option, option_map}
+use Rattle.std.specs.Prelude.{ℕ, ◌≡◌, ◌≢◌, List, [], ◌∷◌, Option}
 use Rattle.pfair_entry.specs.Entry.{Logged}
+use Rattle.pfair_entry.specs.Notice.{announced, unchecked}
 use Rattle.pfair_entry.specs.declared.announcement.Announcement.{Announcement}
-use Rattle.pfair_entry.specs.declared.announcement.Announcement.TheVariants as said
+use Rattle.pfair_entry.specs.declared.notice.Change.{Change}
 use Rattle.pfair_entry_row.specs.declared.fields.Fields.{Fields}
-use Rattle.pfair_entry_row.specs.declared.line.Change.{Change}
-use Rattle.pfair_entry_row.specs.declared.line.Change.TheVariants.{Arrive, Depart, Late}
-use Rattle.pfair_entry_row.specs.declared.line.Notice.{Notice}
 use Rattle.pfair_entry_row.specs.declared.line.Line.{Line}
 use Rattle.pfair_entry_row.specs.Row.{dash, announced_fields, said_fields, IsSpelled, IsSpelledOut}
 
-abbrev pub announced : List ℕ → Change → Announcement
-announced name (Arrive cost period early) = said.Arrive name (record { cost = cost; period = period }) early
-announced name Depart = said.Depart name
-announced name (Late index by) = said.Late name index by
-
-abbrev pub noticed : Notice → ℕ × Announcement
-noticed n = (n.at, announced n.name.now n.change)
-
 abbrev pub logged : Line → Logged
-logged l = record { floor = l.floor; said = option_map noticed l.notice }
+logged l = unchecked l.floor l.notice
 
 -- ---- what the fields from the kind on, and from the stamp on, are the text of
 

@@ -1,11 +1,9 @@
 -- The row of an entry: eleven fields.
-use Rattle.std.specs.Prelude.{ℕ, ⊤, Bool, true, false, List, [], ◌∷◌, ◌<◌, ◌≡◌, ◌==◌, ◌^◌, Option, None, Some, IfSome, codes}
+use Rattle.std.specs.Prelude.{ℕ, Bool, true, false, List, [], ◌∷◌, ◌<◌, ◌≡◌, ◌==◌, ◌^◌, Option, None, Some, IfSome, codes}
 use Rattle.std.specs.List.{All, join_with_byte}
 use Rattle.std.specs.Fmt.{decimal}
-use Rattle.pfair_weight.specs.Name.{IsTaskName}
-use Rattle.pfair_weight.specs.Share.{IsWeight}
-use Rattle.pfair_entry.specs.Entry.{Logged, IsEntry}
-use Rattle.pfair_entry.specs.Names.{name_of}
+use Rattle.pfair_entry.specs.Entry.{Logged}
+use Rattle.pfair_entry.specs.Notice.{IsLoggable}
 use Rattle.pfair_entry.specs.declared.announcement.Announcement.{Announcement}
 use Rattle.pfair_entry.specs.declared.announcement.Announcement.TheVariants.{Arrive, Depart, Late}
 
@@ -61,25 +59,6 @@ pub record IsSayable (processor number : ℕ) (e : Logged) : Type 0 where
   pub number_fits : number < 2 ^ 64
   pub floor_fits : e.floor < 2 ^ 64
   pub spelled : IsSpelledOut e.said
-
--- ---- what the rules of entries allow
-
-abbrev pub IsNamed : Announcement → Type 0
-IsNamed a = IsTaskName (name_of a)
-
-abbrev pub IsWeighed : Announcement → Type 0
-IsWeighed (Arrive name weight early) = IsWeight weight.cost weight.period
-IsWeighed (Depart name) = ⊤
-IsWeighed (Late name index by) = ⊤
-
--- a task's name and a weight, where something is announced
-abbrev pub IsWellSaid : Option (ℕ × Announcement) → Type 0
-IsWellSaid said = IfSome said (λ s. IsNamed s.1 × IsWeighed s.1)
-
--- an entry that a log may have: beside name and weight, floor, stamp and announcement are within their limits
-pub record IsLoggable (e : Logged) : Type 0 where
-  pub well_said : IsWellSaid e.said
-  pub entry : IsEntry e
 
 -- an entry of a log, with the processor of the log and its number there
 pub record IsEntryAt (processor number : ℕ) (e : Logged) : Type 0 where

@@ -2,8 +2,7 @@
 ghost use Rattle.std.specs.Prelude.{◌≡◌};
 ghost use Rattle.pfair_entry_row.specs.Faults.{row_fault_number};
 
-use pfair_entry::EntryFault;
-use pfair_weight::{NameFault, WeightFault};
+use pfair_entry::NoticeFault;
 use thiserror::Error;
 
 /// Why bytes are no row of an entry, or why the row that they are names none.
@@ -15,15 +14,9 @@ pub enum RowFault {
     /// none.
     #[error("no entry's row")]
     NoRow,
-    /// Numbers 1 to 3: the name is no task's name.
-    #[error("{0}")]
-    Name(NameFault),
-    /// Numbers 4 to 6: cost and period make no weight.
-    #[error("{0}")]
-    Weight(WeightFault),
-    /// Numbers 7 to 10: floor, stamp and announcement make no entry.
-    #[error("{0}")]
-    Entry(EntryFault),
+    /// Numbers 1 to 10: floor and announcement make no entry.
+    #[error(transparent)]
+    Refused(NoticeFault),
     /// Number 13: the processor is past 255, so no run has it.
     #[error("no such processor")]
     NoSuchProcessor,
@@ -39,9 +32,7 @@ impl RowFault {
     {
         match self {
             RowFault::NoRow => 67,
-            RowFault::Name(fault) => fault.number(),
-            RowFault::Weight(fault) => fault.number(),
-            RowFault::Entry(fault) => fault.number(),
+            RowFault::Refused(fault) => fault.number(),
             RowFault::NoSuchProcessor => 13,
             RowFault::NumberOutOfRange => 14,
         }

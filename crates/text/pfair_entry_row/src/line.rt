@@ -1,31 +1,13 @@
 //! What a row says, whether or not a rule of entries refuses it.
 ghost use Rattle.std.specs.Prelude.{◌≡◌, ◌↔◌, codes, IsTrue, MatchOption, option_map};
+ghost use Rattle.pfair_entry.specs.Notice.{noticed};
 ghost use Rattle.pfair_entry_row.specs.Row.{entry_row, IsSayable, HasNoComma};
 ghost use Rattle.pfair_entry_row.specs.Faults.{SaysNothing};
-ghost use Rattle.pfair_entry_row.specs.Line.{logged, noticed, AreDashes, Announces, AnnouncesNothing, Notes, NotesNothing};
+ghost use Rattle.pfair_entry_row.specs.Line.{logged, AreDashes, Announces, AnnouncesNothing, Notes, NotesNothing};
 
 use crate::fields::{Fields, cut_fields};
 use crate::number::{is_dash, read_number, read_truth};
-
-/// What is announced of a task, by the fields of its kind.
-#[derive(Clone, Copy)]
-pub(crate) enum Change {
-    /// It arrives.
-    Arrive { cost: u64, period: u64, early: bool },
-    /// It departs.
-    Depart,
-    /// Its subtasks come late.
-    Late { index: u64, by: u64 },
-}
-
-/// What the fields of an announcement hold: the slot of the stamp, the bytes of the name, and what
-/// is announced.
-#[derive(Clone, Copy)]
-pub(crate) struct Notice<'a> {
-    pub(crate) at: u64,
-    pub(crate) name: &'a [u8],
-    pub(crate) change: Change,
-}
+use pfair_entry::{Change, Notice};
 
 /// What the fields of a row hold.
 #[derive(Clone, Copy)]

@@ -4,7 +4,7 @@ use Rattle.std.proofs.lemmas.List.{take_all}
 use Rattle.pfair_entry.specs.Entry.{Logged}
 use Rattle.std.proofs.lemmas.Option.{slice_get_read}
 use Rattle.pfair_text.specs.Rows.{text_so_far}
-use Rattle.pfair_entry_row.specs.Row.{IsLoggable}
+use Rattle.pfair_entry.specs.Notice.{IsLoggable}
 use Rattle.pfair_feed.proofs.Numbered.{all_next, entry_more}
 use Rattle.pfair_feed.proofs.entries.add_log.Goals as goal
 

@@ -6,7 +6,7 @@ use Rattle.pfair_entry.specs.Entry.{Logged}
 use Rattle.pfair_text.specs.Rows.{lines_text, text_so_far}
 use Rattle.pfair_table.specs.Table.{Settings}
 use Rattle.pfair_output.proofs.SlotFacts.{slot_more, slots_done}
-use Rattle.pfair_entry_row.specs.Row.{IsLoggable}
+use Rattle.pfair_entry.specs.Notice.{IsLoggable}
 use Rattle.pfair_feed.specs.Entries.{log_rows}
 use Rattle.pfair_feed.specs.RoundTrip.{IsScript}
 use Rattle.pfair_feed.proofs.Numbered.{all_next}

@@ -1,5 +1,5 @@
 use Rattle.std.proofs.Common.{option_map}
-use Rattle.pfair_entry_row.specs.Line.{noticed}
+use Rattle.pfair_entry.specs.Notice.{noticed}
 use Rattle.pfair_entry_row.proofs.RowFields.{is_said, no_fields, no_floor, no_notice, no_number, no_processor}
 use Rattle.pfair_entry_row.proofs.line.read_line.Goals as goal
 

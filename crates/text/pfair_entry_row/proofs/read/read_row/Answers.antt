@@ -10,4 +10,4 @@ returns-in-None-clause-back c p n e h is = absurd (c.in-None.ensures p n e (saya
 pub returns-in-Some-clause-back : goal.returns-in-Some-clause-back
 returns-in-Some-clause-back c p n e h is =
     let same = entry_row_injective p n e c.in-Some.line.processor c.in-Some.line.number (logged c.in-Some.line) (sayable p n e h) c.in-Some.ensures.0 (sym is ∙ c.in-Some.ensures.1) in
-    read_back p n e c.in-Some.line.processor c.in-Some.line.number (logged c.in-Some.line) c.entry_of.result h same c.entry_of.ensures.ok c.entry_of.ensures.err
+    c.entry_of.ensures.reading ∙ read_back p n e c.in-Some.line.processor c.in-Some.line.number (logged c.in-Some.line) h same
