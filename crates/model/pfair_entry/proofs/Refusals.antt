@@ -1,6 +1,6 @@
--- The first fault of a name, of a weight and of an entry is the one of which their clauses speak.
-use Rattle.std.proofs.Common.{ℕ, zero, suc, add-zero, zero-add, subst, List, [], ◌∷◌, Option, None, Some, Bool, true, false, inl, inr, ◌≡◌, ◌∙◌, ◌+◌, ◌<◌, length, refl, sym, ap, arith}
-use Rattle.std.specs.Prelude.{slice_index, nat_lt, ◌==◌}
+-- The first fault of a name and of a weight is the one of which their clauses speak, and what a log may have has none.
+use Rattle.std.proofs.Common.{ℕ, zero, suc, add-zero, zero-add, subst, List, [], ◌∷◌, Option, None, Some, Bool, true, false, ◌≡◌, ◌∙◌, ◌+◌, ◌<◌, length, refl, sym, ap, arith}
+use Rattle.std.specs.Prelude.{slice_index, nat_lt, ◌==◌, option_and_then}
 use Rattle.std.proofs.lemmas.Bool.Decides.{nat_tests}
 use Rattle.pfair_weight.specs.Name.{may_stand, IsTaskName}
 use Rattle.pfair_weight.specs.NameFault.{IsFaultOf as IsNameFaultOf}
@@ -11,13 +11,12 @@ use Rattle.pfair_weight.specs.declared.name.NameFault.TheVariants as name
 use Rattle.pfair_weight.specs.declared.weight.WeightFault.{WeightFault}
 use Rattle.pfair_weight.specs.declared.weight.WeightFault.TheVariants as weight
 use Rattle.pfair_entry.specs.Entry.{Logged, IsEntry, IsWithinLimits}
-use Rattle.pfair_entry.specs.EntryFault.{IsBadDelay, IsBadIndex, IsInTime, IsFaultOf as IsEntryFaultOf}
-use Rattle.pfair_entry.specs.Notice.{announced_fault, entry_fault, first_failing, limit_fault, name_fault, refusal, weight_fault, IsLoggable, IsNamed, IsWeighed, IsWellSaid}
+use Rattle.pfair_entry.specs.EntryFault.{entry_fault, limit_fault}
+use Rattle.pfair_entry.specs.Notice.{announced_fault, first_failing, name_fault, refusal, weight_fault, IsLoggable, IsNamed, IsWeighed, IsWellSaid}
 use Rattle.pfair_entry.specs.declared.announcement.Announcement.{Announcement}
 use Rattle.pfair_entry.specs.declared.announcement.Announcement.TheVariants.{Arrive, Depart, Late}
 use Rattle.pfair_entry.specs.declared.entry.EntryFault.{EntryFault}
-use Rattle.pfair_entry.specs.declared.entry.EntryFault.TheVariants as entry
-use Rattle.pfair_entry.specs.declared.notice.NoticeFault.TheVariants as because
+use Rattle.pfair_entry.specs.declared.notice.NoticeFault.TheVariants.{Entry}
 
 -- ---- names
 
@@ -84,60 +83,27 @@ no_limit_fault (Arrive name share early) within = refl
 no_limit_fault (Depart name) within = refl
 no_limit_fault (Late name index by) within = grind (arith, nat_tests, within.0.0, within.0.1, within.1.0, within.1.1)
 
-bad_index : (a : Announcement) → IsBadIndex a → limit_fault a ≡ Some entry.BadIndex
-bad_index (Arrive name share early) bad = absurd bad
-bad_index (Depart name) bad = absurd bad
-bad_index (Late name index by) bad = grind (arith, nat_tests, bad)
-
-bad_delay : (a : Announcement) → IsBadDelay a → limit_fault a ≡ Some entry.BadDelay
-bad_delay (Arrive name share early) bad = absurd bad
-bad_delay (Depart name) bad = absurd bad
-bad_delay (Late name index by) bad = grind (arith, nat_tests, bad.0.0, bad.0.1, bad.1)
-
--- floor and stamp in order leave what is announced
-in_time : (floor : ℕ) (s : ℕ × Announcement) → IsInTime floor s.0 → entry_fault (record { floor = floor; said = Some s }) ≡ limit_fault s.1
-in_time floor s h =
-    let low : nat_lt 1000000 floor ≡ false = grind (arith, nat_tests, h.0, h.1) in
-    let near : nat_lt 1000000 s.0 ≡ false = grind (arith, nat_tests, h.1) in
-    let after : nat_lt s.0 floor ≡ false = grind (arith, nat_tests, h.0) in
-    rw (low, near, after) refl
-
 no_entry_fault : (floor : ℕ) (s : Option (ℕ × Announcement)) → IsEntry (record { floor = floor; said = s }) → entry_fault (record { floor = floor; said = s }) ≡ None
 no_entry_fault floor None e = grind (arith, nat_tests, e.floor_in_range)
-no_entry_fault floor (Some s) e = in_time floor s (e.stamped, e.stamp_in_range) ∙ no_limit_fault s.1 e.within_limits
-
-entry_fault_is : (floor : ℕ) (s : Option (ℕ × Announcement)) (f : EntryFault) → IsEntryFaultOf (record { floor = floor; said = s }) f → entry_fault (record { floor = floor; said = s }) ≡ Some f
-entry_fault_is floor s entry.StampTooFar (inl far) = grind (arith, nat_tests, far)
-entry_fault_is floor None entry.StampTooFar (inr far) = absurd far
-entry_fault_is floor None entry.StampBeforeFloor h = absurd h
-entry_fault_is floor None entry.BadIndex h = absurd h
-entry_fault_is floor None entry.BadDelay h = absurd h
-entry_fault_is floor (Some s) entry.StampTooFar (inr far) = grind (arith, nat_tests, far)
-entry_fault_is floor (Some s) entry.StampBeforeFloor early =
-    let low : nat_lt 1000000 floor ≡ false = grind (arith, nat_tests, early.0) in
-    let near : nat_lt 1000000 s.0 ≡ false = grind (arith, nat_tests, early.0, early.1) in
-    let before : nat_lt s.0 floor ≡ true = grind (arith, nat_tests, early.1) in
-    rw (low, near, before) refl
-entry_fault_is floor (Some s) entry.BadIndex h = in_time floor s h.0 ∙ bad_index s.1 h.1
-entry_fault_is floor (Some s) entry.BadDelay h = in_time floor s h.0 ∙ bad_delay s.1 h.1
+no_entry_fault floor (Some s) e =
+    let low : nat_lt 1000000 floor ≡ false = grind (arith, nat_tests, e.floor_in_range) in
+    let near : nat_lt 1000000 s.0 ≡ false = grind (arith, nat_tests, e.stamp_in_range) in
+    let after : nat_lt s.0 floor ≡ false = grind (arith, nat_tests, e.stamped) in
+    rw (low, near, after) (no_limit_fault s.1 e.within_limits)
 
 -- ---- the first of all
 
+no_said_fault : (s : Option (ℕ × Announcement)) → IsWellSaid s → option_and_then (λ s. announced_fault s.1) s ≡ None
+no_said_fault None well = refl
+no_said_fault (Some s) well = no_announced_fault s.1 well.0 well.1
+
 -- what a log may have is refused by no rule
 pub no_refusal : (e : Logged) → IsLoggable e → refusal e ≡ None
-no_refusal e h = go e.floor e.said h.well_said h.entry
-  where
-    go : (floor : ℕ) (s : Option (ℕ × Announcement)) → IsWellSaid s → IsEntry (record { floor = floor; said = s }) → refusal (record { floor = floor; said = s }) ≡ None
-    go floor None well e = rw (no_entry_fault floor None e) refl
-    go floor (Some s) well e = rw (no_announced_fault s.1 well.0 well.1, no_entry_fault floor (Some s) e) refl
+no_refusal e h = rw (no_said_fault e.said h.well_said, no_entry_fault e.floor e.said h.entry) refl
 
 -- what has a name and a weight is refused as an entry
-pub entry_refused : (e : Logged) (f : EntryFault) → IsWellSaid e.said → IsEntryFaultOf e f → refusal e ≡ Some (because.Entry f)
-entry_refused e f well h = go e.floor e.said well h
-  where
-    go : (floor : ℕ) (s : Option (ℕ × Announcement)) → IsWellSaid s → IsEntryFaultOf (record { floor = floor; said = s }) f → refusal (record { floor = floor; said = s }) ≡ Some (because.Entry f)
-    go floor None well h = rw (entry_fault_is floor None f h) refl
-    go floor (Some s) well h = rw (no_announced_fault s.1 well.0 well.1, entry_fault_is floor (Some s) f h) refl
+pub entry_refused : (e : Logged) (f : EntryFault) → IsWellSaid e.said → entry_fault e ≡ Some f → refusal e ≡ Some (Entry f)
+entry_refused e f well h = rw (no_said_fault e.said well, h) refl
 
 -- the first fault of each
 pub ruleset first_faults = (no_name_fault, name_fault_is, weight_fault_is, no_refusal, entry_refused)

@@ -1,52 +1,24 @@
 -- What is wrong with a floor and an announcement that make no entry: the first that applies.
-use Rattle.std.specs.Prelude.{ℕ, ◌≡◌, ◌<◌, ◌≤◌, ◌⊎◌, Option, None, Some}
+use Rattle.std.specs.Prelude.{ℕ, ◌==◌, nat_lt, ◌||◌, if◌then◌else◌, Option, None, Some, option_and_then}
 use Rattle.pfair_entry.specs.declared.announcement.Announcement.{Announcement}
 use Rattle.pfair_entry.specs.declared.announcement.Announcement.TheVariants.{Arrive, Depart, Late}
 use Rattle.pfair_entry.specs.declared.entry.EntryFault.{EntryFault}
 use Rattle.pfair_entry.specs.declared.entry.EntryFault.TheVariants.{StampTooFar, StampBeforeFloor, BadIndex, BadDelay}
-use Rattle.pfair_entry.specs.Entry.{Logged, IsIndex}
+use Rattle.pfair_entry.specs.Entry.{Logged}
 
--- the stamp is past the last slot
-abbrev pub IsFarStamp : Option (ℕ × Announcement) → Type 0
-IsFarStamp None = ⊥
-IsFarStamp (Some s) = 1000000 < s.0
+-- of what is announced, whatever its stamp
+abbrev pub limit_fault : Announcement → Option EntryFault
+limit_fault (Late name index by) =
+    if (index == 0) || nat_lt 1000000 index then Some BadIndex else (if (by == 0) || nat_lt 1048576 by then Some BadDelay else None)
+limit_fault (Arrive name share early) = None
+limit_fault (Depart name) = None
 
--- both are slots, and the stamp is before the floor
-abbrev pub IsEarlyStamp : ℕ → Option (ℕ × Announcement) → Type 0
-IsEarlyStamp floor None = ⊥
-IsEarlyStamp floor (Some s) = (floor ≤ 1000000) × (s.0 < floor)
+-- of a stamp and of what is announced, from this floor on
+abbrev pub said_fault : ℕ → ℕ × Announcement → Option EntryFault
+said_fault floor s = if nat_lt 1000000 s.0 then Some StampTooFar else (if nat_lt s.0 floor then Some StampBeforeFloor else limit_fault s.1)
 
--- floor and stamp are in order
-abbrev pub IsInTime : ℕ → ℕ → Type 0
-IsInTime floor stamp = (floor ≤ stamp) × (stamp ≤ 1000000)
-
-abbrev pub IsBadIndex : Announcement → Type 0
-IsBadIndex (Arrive name weight early) = ⊥
-IsBadIndex (Depart name) = ⊥
-IsBadIndex (Late name index by) = (index ≡ 0) ⊎ (1000000 < index)
-
-abbrev pub IsBadDelay : Announcement → Type 0
-IsBadDelay (Arrive name weight early) = ⊥
-IsBadDelay (Depart name) = ⊥
-IsBadDelay (Late name index by) = IsIndex index × ((by ≡ 0) ⊎ (1048576 < by))
-
--- what is wrong with an announcement
-abbrev pub IsLimitFaultOf : Announcement → EntryFault → Type 0
-IsLimitFaultOf said StampTooFar = ⊥
-IsLimitFaultOf said StampBeforeFloor = ⊥
-IsLimitFaultOf said BadIndex = IsBadIndex said
-IsLimitFaultOf said BadDelay = IsBadDelay said
-
--- what is wrong with an announcement that is stamped in time
-abbrev pub IsAnnouncedInTime : ℕ → Option (ℕ × Announcement) → (Announcement → Type 0) → Type 0
-IsAnnouncedInTime floor None P = ⊥
-IsAnnouncedInTime floor (Some s) P = IsInTime floor s.0 × P s.1
-
-abbrev pub IsFaultOf : Logged → EntryFault → Type 0
-IsFaultOf e StampTooFar = (1000000 < e.floor) ⊎ IsFarStamp e.said
-IsFaultOf e StampBeforeFloor = IsEarlyStamp e.floor e.said
-IsFaultOf e BadIndex = IsAnnouncedInTime e.floor e.said IsBadIndex
-IsFaultOf e BadDelay = IsAnnouncedInTime e.floor e.said IsBadDelay
+abbrev pub entry_fault : Logged → Option EntryFault
+entry_fault e = if nat_lt 1000000 e.floor then Some StampTooFar else option_and_then (said_fault e.floor) e.said
 
 -- under which number it is reported
 abbrev pub entry_fault_number : EntryFault → ℕ

@@ -1,5 +1,5 @@
 -- Entries before they are checked, and the first rule that refuses one: of names, of weights, of entries.
-use Rattle.std.specs.Prelude.{ℕ, suc, ⊤, ◌==◌, nat_lt, ◌||◌, if◌then◌else◌, Bool, List, [], ◌∷◌, length, Option, None, Some, option_map, option_and_then, Result, Ok, Err, IfSome}
+use Rattle.std.specs.Prelude.{ℕ, suc, ⊤, ◌==◌, nat_lt, if◌then◌else◌, Bool, List, [], ◌∷◌, length, Option, None, Some, option_map, option_and_then, Result, Ok, Err, IfSome}
 use Rattle.std.specs.Option.{option_or, option_map_or}
 use Rattle.pfair_weight.specs.Name.{may_stand, IsTaskName}
 use Rattle.pfair_weight.specs.Share.{IsWeight}
@@ -10,12 +10,10 @@ use Rattle.pfair_weight.specs.declared.name.NameFault.TheVariants as name
 use Rattle.pfair_weight.specs.declared.weight.WeightFault.{WeightFault}
 use Rattle.pfair_weight.specs.declared.weight.WeightFault.TheVariants as weight
 use Rattle.pfair_entry.specs.Entry.{Logged, IsEntry}
-use Rattle.pfair_entry.specs.EntryFault.{entry_fault_number}
+use Rattle.pfair_entry.specs.EntryFault.{entry_fault, entry_fault_number}
 use Rattle.pfair_entry.specs.Names.{name_of}
 use Rattle.pfair_entry.specs.declared.announcement.Announcement.{Announcement}
 use Rattle.pfair_entry.specs.declared.announcement.Announcement.TheVariants as said
-use Rattle.pfair_entry.specs.declared.entry.EntryFault.{EntryFault}
-use Rattle.pfair_entry.specs.declared.entry.EntryFault.TheVariants as entry
 use Rattle.pfair_entry.specs.declared.notice.Change.{Change}
 use Rattle.pfair_entry.specs.declared.notice.Change.TheVariants.{Arrive, Depart, Late}
 use Rattle.pfair_entry.specs.declared.notice.Notice.{Notice}
@@ -55,7 +53,7 @@ pub record IsLoggable (e : Logged) : Type 0 where
   pub well_said : IsWellSaid e.said
   pub entry : IsEntry e
 
--- ---- the first fault of a name, of a weight and of an entry
+-- ---- the first fault of a name and of a weight
 
 -- the first place where an item fails the test of items at places, of items of which the first is at this place
 abbrev pub first_failing : (ℕ → ℕ → Bool) → ℕ → List ℕ → Option ℕ
@@ -71,19 +69,6 @@ abbrev pub weight_fault : ℕ → ℕ → Option WeightFault
 weight_fault cost period =
     if cost == 0 then Some weight.ZeroCost
     else (if nat_lt period cost then Some weight.CostOverPeriod else (if nat_lt 1000000000 period then Some weight.PeriodTooLong else None))
-
-abbrev pub limit_fault : Announcement → Option EntryFault
-limit_fault (said.Late name index by) =
-    if (index == 0) || nat_lt 1000000 index then Some entry.BadIndex else (if (by == 0) || nat_lt 1048576 by then Some entry.BadDelay else None)
-limit_fault (said.Arrive name share early) = None
-limit_fault (said.Depart name) = None
-
--- of a stamp and of what is announced, from this floor on
-abbrev pub said_fault : ℕ → ℕ × Announcement → Option EntryFault
-said_fault floor s = if nat_lt 1000000 s.0 then Some entry.StampTooFar else (if nat_lt s.0 floor then Some entry.StampBeforeFloor else limit_fault s.1)
-
-abbrev pub entry_fault : Logged → Option EntryFault
-entry_fault e = if nat_lt 1000000 e.floor then Some entry.StampTooFar else option_and_then (said_fault e.floor) e.said
 
 -- ---- the first of them all
 

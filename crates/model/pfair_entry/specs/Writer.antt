@@ -3,7 +3,7 @@ use Rattle.std.specs.Prelude.{ℕ, ◌≡◌, ◌+◌, ◌<◌, ◌≤◌, List,
 use Rattle.pfair_entry.specs.declared.writer.NoteFault.{NoteFault}
 use Rattle.pfair_entry.specs.declared.writer.NoteFault.TheVariants.{LogFull, FloorFell, Refused}
 use Rattle.pfair_entry.specs.Entry.{Logged, IsEntry}
-use Rattle.pfair_entry.specs.EntryFault.{IsFaultOf, entry_fault_number}
+use Rattle.pfair_entry.specs.EntryFault.{entry_fault, entry_fault_number}
 
 -- a log with room for so many entries, of which so many are written, the last with that floor (0 where there is none)
 pub record Written : Type 0 where
@@ -15,7 +15,7 @@ pub record Written : Type 0 where
 abbrev pub IsNoteFaultOf : Written → Logged → NoteFault → Type 0
 IsNoteFaultOf w e LogFull = w.written ≡ w.capacity
 IsNoteFaultOf w e FloorFell = (w.written < w.capacity) × (e.floor < w.floor)
-IsNoteFaultOf w e (Refused fault) = (w.written < w.capacity) × (w.floor ≤ e.floor) × IsFaultOf e fault
+IsNoteFaultOf w e (Refused fault) = (w.written < w.capacity) × (w.floor ≤ e.floor) × (entry_fault e ≡ Some fault)
 
 -- under which number it is reported
 abbrev pub note_fault_number : NoteFault → ℕ

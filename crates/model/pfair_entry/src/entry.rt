@@ -1,7 +1,7 @@
 //! The entries of a log.
-ghost use Rattle.std.specs.Prelude.{◌≡◌, IfOk, IfErr, OnOk};
+ghost use Rattle.std.specs.Prelude.{◌≡◌, Some, IfOk, IfErr, OnOk};
 ghost use Rattle.pfair_entry.specs.Entry.{IsEntry, IsWithinLimits};
-ghost use Rattle.pfair_entry.specs.EntryFault.{IsFaultOf, IsLimitFaultOf, entry_fault_number};
+ghost use Rattle.pfair_entry.specs.EntryFault.{entry_fault, entry_fault_number, limit_fault};
 
 use crate::announcement::Announcement;
 use pfair_lattice::Exact;
@@ -84,7 +84,7 @@ impl Entry {
     /// The first of these that applies: `StampTooFar`, `StampBeforeFloor`, `BadIndex`, `BadDelay`.
     pub fn new(floor: u64, said: Option<(u64, Announcement)>) -> Result<Entry, EntryFault>
         ensures ok { IfOk result (λ e. (e ≡ record { floor = floor; said = said }) × IsEntry e) }
-        ensures err { IfErr result (IsFaultOf record { floor = floor; said = said }) }
+        ensures err { IfErr result (λ fault. entry_fault (record { floor = floor; said = said }) ≡ Some fault) }
     {
         if floor > Entry::LAST_SLOT {
             return Err(EntryFault::StampTooFar);
@@ -123,7 +123,7 @@ impl Entry {
 // Whether what is delayed is a subtask of the run, and not by too much.
 fn within_limits(announcement: Announcement) -> Result<(), EntryFault>
     ensures ok { OnOk result (IsWithinLimits announcement) }
-    ensures err { IfErr result (IsLimitFaultOf announcement) }
+    ensures err { IfErr result (λ fault. limit_fault announcement ≡ Some fault) }
 {
     match announcement {
         Announcement::Late { index, .. } if index == 0 || index > Entry::LAST_INDEX => Err(
