@@ -1,15 +1,12 @@
 //! Entries, as C has them.
-ghost use Rattle.std.specs.Prelude.{◌≡◌, ◌≤◌, ◌<◌, IfOk, IfErr, OnOk, nat_eq};
-ghost use Rattle.pfair_weight.specs.Share.{IsWeight};
-ghost use Rattle.pfair_entry.specs.Entry.{IsEntry};
-ghost use Rattle.pfair_entry.specs.declared.announcement.Announcement.TheVariants.{Arrive as Arrival};
+ghost use Rattle.std.specs.Prelude.{◌≡◌, ◌≤◌, ◌<◌, IfOk, IfErr, OnOk};
+ghost use Rattle.pfair_entry.specs.Notice.{unchecked};
 ghost use Rattle.pfair_handle.specs.EntryRows.{entry_row, silent_row, announced_row};
-ghost use Rattle.pfair_handle.specs.Entries.{spelled, logged_of, IsInRange, IsMeant, IsNamed, IsNameFault, IsWeightFault, IsLoggedFault, IsArrivalFault, IsEntryFault};
+ghost use Rattle.pfair_handle.specs.Entries.{spelled, change_of, logged_of, IsInRange, IsWhole, IsMeant, IsUnreadable, IsEntryFault};
 
 use crate::answer::OUT_OF_RANGE;
 use crate::rows::{PfairName, name_row};
-use pfair_entry::{Announcement, Entry};
-use pfair_weight::{TaskName, Weight};
+use pfair_entry::{Announcement, Change, Entry, Notice, checked_entry};
 
 /// An entry of a log.
 #[repr(C)]
@@ -43,76 +40,64 @@ pub fn read_entry(entry: &PfairEntry) -> Result<Entry, u32>
     ensures err { IfErr result (IsEntryFault entry.now) }
     ensures numbered { IfErr result (λ number. (0 < number) × (10 < number → number ≡ 100)) }
 {
-    let said = match entry.kind {
-        0 => None,
-        1 => Some((entry.at, read_arrival(entry)?)),
-        2 => {
+    let notice = read_notice(entry)?;
+    checked_entry(entry.floor, notice).map_err(|fault| fault.number() as u32)
+}
+
+// The announcement before it is checked, if there is one, or the number of what keeps it from being read.
+fn read_notice(entry: &PfairEntry) -> Result<Option<Notice<'_>>, u32>
+    ensures ok { IfOk result (λ notice. unchecked entry.now.floor notice ≡ logged_of entry.now) }
+    ensures readable { OnOk result (IsInRange entry.now × IsWhole entry.now) }
+    ensures err { IfErr result (IsUnreadable entry.now) }
+{
+    match read_change(entry)? {
+        None => Ok(None),
+        Some(change) => {
             let name = read_name(&entry.name)?;
-            Some((entry.at, Announcement::Depart { name }))
+            let at = entry.at;
+            Ok(Some(Notice { at, name, change }))
         }
+    }
+}
+
+// What is announced, if something is.
+fn read_change(entry: &PfairEntry) -> Result<Option<Change>, u32>
+    ensures ok { IfOk result (λ change. (change ≡ change_of entry.now) × IsInRange entry.now) }
+    ensures err { IfErr result (λ number. (number ≡ OUT_OF_RANGE) × (IsInRange entry.now → ⊥)) }
+{
+    match entry.kind {
+        0 => Ok(None),
+        1 => {
+            let early = match entry.early {
+                0 => false,
+                1 => true,
+                _ => return Err(OUT_OF_RANGE),
+            };
+            let (cost, period) = (entry.cost, entry.period);
+            Ok(Some(Change::Arrive {
+                cost,
+                period,
+                early,
+            }))
+        }
+        2 => Ok(Some(Change::Depart)),
         3 => {
-            let name = read_name(&entry.name)?;
             let (index, by) = (entry.index, entry.by);
-            Some((entry.at, Announcement::Late { name, index, by }))
+            Ok(Some(Change::Late { index, by }))
         }
-        _ => return Err(OUT_OF_RANGE),
-    };
-    make_entry(entry.floor, said)
+        _ => Err(OUT_OF_RANGE),
+    }
 }
 
-// The arrival, or the number of what is wrong with it.
-fn read_arrival(entry: &PfairEntry) -> Result<Announcement, u32>
-    ensures ok { IfOk result (λ read. read ≡ Arrival (spelled entry.now.name) (record { cost = entry.now.cost; period = entry.now.period }) (nat_eq entry.now.early 1)) }
-    ensures meant { OnOk result ((entry.now.early ≤ 1) × IsNamed entry.now.name × IsWeight entry.now.cost entry.now.period) }
-    ensures err { IfErr result (IsArrivalFault entry.now) }
-    ensures numbered { IfErr result (λ number. (0 < number) × (10 < number → number ≡ 100)) }
+// The bytes of a name, or the number of a name that is too long.
+fn read_name(name: &PfairName) -> Result<&[u8], u32>
+    ensures ok { IfOk result (λ bytes. (bytes.now ≡ spelled name.now) × (name.now.length ≤ 16)) }
+    ensures err { IfErr result (λ number. (number ≡ 2) × (16 < name.now.length)) }
 {
-    let early = match entry.early {
-        0 => false,
-        1 => true,
-        _ => return Err(OUT_OF_RANGE),
-    };
-    let name = read_name(&entry.name)?;
-    let weight = read_weight(entry.cost, entry.period)?;
-    Ok(Announcement::Arrive {
-        name,
-        weight,
-        early,
-    })
-}
-
-// The name that these bytes spell, or the number of the fault.
-fn read_name(name: &PfairName) -> Result<TaskName, u32>
-    ensures ok { IfOk result (λ read. read ≡ spelled name.now) }
-    ensures named { OnOk result (IsNamed name.now) }
-    ensures err { IfErr result (IsNameFault name.now) }
-    ensures numbered { IfErr result (λ number. (0 < number) × (number < 4)) }
-{
-    let length = name.length;
-    if length > 16 {
+    if name.length > 16 {
         return Err(2);
     }
-    TaskName::from_bytes(&name.bytes[..length as usize]).map_err(|fault| fault.number() as u32)
-}
-
-// The weight, or the number of the fault.
-fn read_weight(cost: u64, period: u64) -> Result<Weight, u32>
-    ensures ok { IfOk result (λ read. read ≡ record { cost = cost; period = period }) }
-    ensures weight { OnOk result (IsWeight cost period) }
-    ensures err { IfErr result (IsWeightFault cost period) }
-    ensures numbered { IfErr result (λ number. (3 < number) × (number < 7)) }
-{
-    Weight::new(cost, period).map_err(|fault| fault.number() as u32)
-}
-
-// The entry, or the number of the fault.
-fn make_entry(floor: u64, said: Option<(u64, Announcement)>) -> Result<Entry, u32>
-    ensures ok { IfOk result (λ made. made ≡ record { floor = floor; said = said }) }
-    ensures entry { OnOk result (IsEntry record { floor = floor; said = said }) }
-    ensures err { IfErr result (IsLoggedFault record { floor = floor; said = said }) }
-    ensures numbered { IfErr result (λ number. (6 < number) × (number < 11)) }
-{
-    Entry::new(floor, said).map_err(|fault| fault.number() as u32)
+    Ok(&name.bytes[..name.length as usize])
 }
 
 /// The entry as C has it, with zeros in the fields that its kind doesn't need.
