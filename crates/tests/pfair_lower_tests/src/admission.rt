@@ -1,7 +1,76 @@
-//! The texts of refusals. Worked boundaries stand among the rows of whole runs.
+//! As many announcements as there may be, in one boundary, and the texts of refusals.
 
-use pfair_admission::Refusal;
-use std::alloc::AllocError;
+ghost use Rattle.std.specs.Prelude.{◌<◌, IfOk};
+ghost use Rattle.std.specs.List.{AllByRecursion};
+ghost use Rattle.pfair_entry.specs.Entry.{IsWithinLimits};
+
+use pfair_admission::{Decision, Members, Refusal};
+use pfair_entry::{Announcement, Said};
+use pfair_weight::{TaskName, Weight};
+use std::alloc::{AllocError, Global};
+use std::process::Abort;
+
+const MANY: u32 = 262_144;
+
+// A name of its own for each place.
+fn name(rt: &impl Abort, place: u32) -> TaskName
+    requires { place < 456976 }
+{
+    let text = [
+        b'a' + (place / 17_576) as u8,
+        b'a' + (place / 676 % 26) as u8,
+        b'a' + (place / 26 % 26) as u8,
+        b'a' + (place % 26) as u8,
+    ];
+    TaskName::from_bytes(text.as_slice()).expect(rt, "a name")
+}
+
+// A task of the least weight there is.
+fn arrives(rt: &impl Abort, name: TaskName) -> Said
+    ensures { IsWithinLimits result.2 }
+{
+    let announcement = Announcement::Arrive {
+        name,
+        weight: Weight::new(1, 1_000_000_000).expect(rt, "a weight"),
+        early: false,
+    };
+    (0, 1, announcement)
+}
+
+fn arrivals(rt: &impl Abort, alloc: Global) -> Result<Vec<Said>, AllocError>
+    ensures { IfOk result (λ all. AllByRecursion (λ a. IsWithinLimits a.2) all.items) }
+{
+    let mut announced = Vec::new(alloc);
+    for place in 0..MANY {
+        announced.push(arrives(rt, name(rt, place)))?;
+    }
+    Ok(announced)
+}
+
+// All are admitted, and stand in the order in which they were announced.
+fn hears(rt: &impl Abort, members: &mut Members, announced: &[Said])
+    requires { AllByRecursion (λ a. IsWithinLimits a.2) announced.now }
+{
+    assert!(rt; announced.len() <= 262_144 && members.heard() == 0);
+    assert!(rt; members.last_slot().is_none());
+    let decisions = members.boundary(0, announced).expect(rt, "memory");
+    assert_eq!(rt; (decisions.len(), members.len()), (262_144, 262_144));
+    for decision in &decisions {
+        assert_eq!(rt; *decision, Decision::Admitted);
+    }
+    let (last, _member) = members.at(262_143).expect(rt, "a member");
+    assert!(rt; *last == name(rt, 262_143));
+}
+
+#[test]
+fn as_many_as_there_may_be(rt: HostRuntime) {
+    let announced = arrivals(&rt, rt.alloc()).expect(&rt, "memory");
+    hears(
+        &rt,
+        &mut Members::new(rt.alloc(), 1, 1_000_000_000),
+        &announced,
+    );
+}
 
 #[test]
 fn refusals_have_texts(rt: HostRuntime) -> Result<(), AllocError> {

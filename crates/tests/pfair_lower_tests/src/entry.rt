@@ -1,7 +1,7 @@
-//! Worked entries and logs, and the texts of the faults.
+//! Worked entries and logs.
+
 use pfair_entry::{Announcement, Entry, EntryFault, NoteFault, Writer};
 use pfair_weight::TaskName;
-use std::test::Fail;
 
 fn late(name: TaskName, index: u64, by: u64) -> Option<(u64, Announcement)> {
     Some((0, Announcement::Late { name, index, by }))
@@ -46,26 +46,4 @@ fn refused_notes_are_not_counted(rt: HostRuntime) {
     let mut short = Writer::new(1);
     assert_eq!(&rt; short.note(5, None).expect(&rt, "a note").0, 1);
     assert_eq!(&rt; short.note(4, None), Err(NoteFault::LogFull));
-}
-
-#[test]
-fn faults_have_their_texts(rt: HostRuntime) -> Result<(), Fail> {
-    for (fault, text) in [
-        (
-            NoteFault::Refused(EntryFault::StampBeforeFloor),
-            "7 stamp before floor",
-        ),
-        (
-            NoteFault::Refused(EntryFault::StampTooFar),
-            "8 slot too far",
-        ),
-        (NoteFault::Refused(EntryFault::BadDelay), "9 bad delay"),
-        (NoteFault::Refused(EntryFault::BadIndex), "10 bad index"),
-        (NoteFault::FloorFell, "11 floor fell"),
-        (NoteFault::LogFull, "12 log full"),
-    ] {
-        let shown = format!(in rt.alloc(); "{} {fault}", fault.number())?;
-        assert_eq!(&rt; shown.as_str(), text);
-    }
-    Ok(())
 }

@@ -1,8 +1,8 @@
 //! Worked rows of the crates below the tables: windows and weights, the order, joins, entries,
 //! replicas, members and ready structures.
 //!
-//! Each module tests one crate through its public calls; `many_arrivals` and `full_replicas` do so at
-//! the sizes that users have, with ample memory.
+//! Each module tests one crate through its public calls; `admission` and `full_replicas` do so at the
+//! sizes that users have, with ample memory.
 #![tactic(auto)]
 
 #[cfg(test)]
@@ -14,10 +14,7 @@ mod full_replicas;
 #[cfg(test)]
 mod lattice;
 #[cfg(test)]
-mod many_arrivals;
-#[cfg(test)]
 mod order;
-#[cfg(test)]
 #[cfg(test)]
 mod ready;
 #[cfg(test)]

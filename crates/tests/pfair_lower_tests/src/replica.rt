@@ -1,105 +1,63 @@
-//! Worked rows of marks and of a merge, and the texts of the faults.
+//! Worked rows of marks, faults and merges.
 
 use pfair_entry::Entry;
 use pfair_lattice::Flat;
 use pfair_replica::{EntryKey, MergeFault, Replica, TakeFault, Taken};
 use std::process::Abort;
-use std::test::Fail;
 
-// What a replica of one processor has once entries came that say nothing, each by its number and
-// its floor.
-#[derive(Clone, Copy)]
-struct Row {
-    entries: &'static [(u32, u64)],
-    mark: u64,
-    missing: Option<u32>,
-    torn: &'static [EntryKey],
-    fallen: &'static [EntryKey],
-}
+// The numbers and floors of entries that come from one processor; then its mark, the first number
+// that is missing, and the keys that are torn or fallen.
+type Row = (
+    &'static [(u32, u64)],
+    u64,
+    Option<u32>,
+    &'static [EntryKey],
+    &'static [EntryKey],
+);
+
+const ROWS: [Row; 8] = [
+    (&[(1, 4), (3, 9)], 4, Some(2), &[], &[]),
+    (&[(1, 4), (3, 9), (2, 6)], 9, Some(4), &[], &[]),
+    (&[(1, 5), (2, 4)], 5, Some(3), &[], &[(0, 2)]),
+    (
+        &[(1, 3), (2, 5), (2, 6), (2, 5)],
+        3,
+        Some(3),
+        &[(0, 2)],
+        &[],
+    ),
+    (&[(1, 2), (2, 3), (3, 5)], 5, Some(4), &[], &[]),
+    (
+        &[(1, 2), (2, 3), (3, 5), (2, 4)],
+        2,
+        Some(4),
+        &[(0, 2)],
+        &[],
+    ),
+    (&[(1, 2), (3, 5), (4, 4)], 2, Some(2), &[], &[]),
+    (&[(1, 2), (3, 5), (4, 4), (2, 3)], 5, None, &[], &[(0, 4)]),
+];
 
 fn floor(rt: &impl Abort, floor: u64) -> Entry {
     Entry::new(floor, None).expect(rt, "an entry")
 }
 
-// The answer of a take.
-fn take(x: &mut Replica, processor: u8, number: u32, entry: Entry) -> Result<Taken, TakeFault> {
-    x.take(processor, number, entry)
-}
-
-fn assert_row(rt: &impl Abort, x: &mut Replica, row: Row) -> Result<(), Fail> {
-    for (number, at) in row.entries {
-        take(x, 0, *number, floor(rt, *at))?;
+fn assert_row(rt: &impl Abort, x: &mut Replica, row: Row) {
+    let (entries, mark, missing, torn, fallen) = row;
+    for (number, at) in entries {
+        assert!(rt; x.take(0, *number, floor(rt, *at)).is_ok());
     }
-    assert_eq!(rt; (x.mark(0), x.missing(0)), (row.mark, row.missing));
+    assert_eq!(rt; (x.mark(0), x.missing(0)), (mark, missing));
     let faults = x.faults().expect(rt, "memory");
-    assert_eq!(rt; faults.torn.as_slice(), row.torn);
-    assert_eq!(rt; faults.fallen.as_slice(), row.fallen);
-    Ok(())
+    assert!(rt; faults.torn.as_slice() == torn && faults.fallen.as_slice() == fallen);
 }
 
 #[test]
-fn marks_and_faults(rt: HostRuntime) -> Result<(), Fail> {
-    for row in [
-        Row {
-            entries: &[(1, 4), (3, 9)],
-            mark: 4,
-            missing: Some(2),
-            torn: &[],
-            fallen: &[],
-        },
-        Row {
-            entries: &[(1, 4), (3, 9), (2, 6)],
-            mark: 9,
-            missing: Some(4),
-            torn: &[],
-            fallen: &[],
-        },
-        Row {
-            entries: &[(1, 5), (2, 4)],
-            mark: 5,
-            missing: Some(3),
-            torn: &[],
-            fallen: &[(0, 2)],
-        },
-        Row {
-            entries: &[(1, 3), (2, 5), (2, 6), (2, 5)],
-            mark: 3,
-            missing: Some(3),
-            torn: &[(0, 2)],
-            fallen: &[],
-        },
-        Row {
-            entries: &[(1, 2), (2, 3), (3, 5)],
-            mark: 5,
-            missing: Some(4),
-            torn: &[],
-            fallen: &[],
-        },
-        Row {
-            entries: &[(1, 2), (2, 3), (3, 5), (2, 4)],
-            mark: 2,
-            missing: Some(4),
-            torn: &[(0, 2)],
-            fallen: &[],
-        },
-        Row {
-            entries: &[(1, 2), (3, 5), (4, 4)],
-            mark: 2,
-            missing: Some(2),
-            torn: &[],
-            fallen: &[],
-        },
-        Row {
-            entries: &[(1, 2), (3, 5), (4, 4), (2, 3)],
-            mark: 5,
-            missing: None,
-            torn: &[],
-            fallen: &[(0, 4)],
-        },
-    ] {
-        assert_row(&rt, &mut Replica::new(rt.alloc(), 1, 4)?, row)?;
+fn marks_and_faults(rt: HostRuntime) {
+    for row in ROWS {
+        let mut x = Replica::new(rt.alloc(), 1, 4).expect(&rt, "memory");
+        assert_row(&rt, &mut x, row);
     }
-    Ok(())
 }
 
 fn refuses(rt: &impl Abort, x: &mut Replica, y: &mut Replica, larger: &mut Replica) {
@@ -110,78 +68,55 @@ fn refuses(rt: &impl Abort, x: &mut Replica, y: &mut Replica, larger: &mut Repli
         (0, 0, TakeFault::NumberOutOfRange),
         (0, 2, TakeFault::NumberOutOfRange),
     ] {
-        assert_eq!(rt; take(x, processor, number, entry), Err(fault));
+        assert_eq!(rt; x.take(processor, number, entry), Err(fault));
     }
-    assert_eq!(rt; take(y, 0, 1, entry), Ok(Taken::New));
+    assert_eq!(rt; y.take(0, 1, entry), Ok(Taken::New));
     assert_eq!(rt; larger.merge(y), Err(MergeFault::OtherShape));
     assert!(rt; larger.get(0, 1).is_none());
 }
 
 #[test]
-fn other_keys_and_shapes_are_refused(rt: HostRuntime) -> Result<(), Fail> {
-    let mut x = Replica::new(rt.alloc(), 1, 1)?;
-    let mut y = Replica::new(rt.alloc(), 1, 4)?;
-    refuses(&rt, &mut x, &mut y, &mut Replica::new(rt.alloc(), 1, 5)?);
-    Ok(())
+fn other_keys_and_shapes_are_refused(rt: HostRuntime) {
+    let mut x = Replica::new(rt.alloc(), 1, 1).expect(&rt, "memory");
+    let mut y = Replica::new(rt.alloc(), 1, 4).expect(&rt, "memory");
+    let mut larger = Replica::new(rt.alloc(), 1, 5).expect(&rt, "memory");
+    refuses(&rt, &mut x, &mut y, &mut larger);
+}
+
+// Whether a replica holds an entry that the other one holds, and where they differ a torn one.
+fn is_torn(rt: &impl Abort, x: &Replica) -> bool {
+    let held = Some(Flat::One(floor(rt, 1)));
+    x.get(0, 1) == held
+        && x.get(0, 2) == Some(Flat::Torn)
+        && x.get(1, 1) == held
+        && x.get(1, 2).is_none()
+}
+
+fn are_equal(x: &Replica, y: &Replica) -> bool {
+    x.le(y) && y.le(x)
+}
+
+// Merges the second into the first, whose copy is given too, and then either once more.
+fn assert_merged(rt: &impl Abort, now: &mut Replica, x: &Replica, y: &Replica) {
+    assert!(rt; are_equal(now, x) && !x.le(y));
+    assert!(rt; now.merge(y).is_ok());
+    assert!(rt; is_torn(rt, now) && x.le(now) && y.le(now));
+    assert!(rt; now.merge(x).is_ok() && now.merge(y).is_ok());
+    assert!(rt; is_torn(rt, now));
+}
+
+fn take_two(rt: &impl Abort, x: &mut Replica, y: &mut Replica) {
+    assert!(rt; x.take(0, 1, floor(rt, 1)) == Ok(Taken::New));
+    assert!(rt; x.take(0, 2, floor(rt, 2)) == Ok(Taken::New));
+    assert!(rt; y.take(0, 2, floor(rt, 3)) == Ok(Taken::New));
+    assert!(rt; y.take(1, 1, floor(rt, 1)) == Ok(Taken::New));
 }
 
 #[test]
-fn faults_have_texts(rt: HostRuntime) -> Result<(), Fail> {
-    for (fault, text) in [
-        (TakeFault::NoSuchProcessor, "13 no such processor"),
-        (TakeFault::NumberOutOfRange, "14 number out of range"),
-        (TakeFault::Memory, "90 out of memory"),
-    ] {
-        let shown = format!(in rt.alloc(); "{} {fault}", fault.number())?;
-        assert_eq!(&rt; shown.as_str(), text);
-    }
-    for (fault, text) in [
-        (MergeFault::OtherShape, "15 other shape"),
-        (MergeFault::Memory, "90 out of memory"),
-    ] {
-        let shown = format!(in rt.alloc(); "{} {fault}", fault.number())?;
-        assert_eq!(&rt; shown.as_str(), text);
-    }
-    Ok(())
-}
-
-// The merge of two replicas.
-fn joined(x: &Replica, y: &Replica) -> Result<Replica, MergeFault> {
-    let mut now = x.copy()?;
-    now.merge(y)?;
-    Ok(now)
-}
-
-// Asserts that one of three keys is torn.
-fn assert_torn(rt: &impl Abort, x: &Replica) {
-    let a = floor(rt, 1);
-    for (processor, number, held) in [
-        (0, 1, Flat::One(a)),
-        (0, 2, Flat::Torn),
-        (1, 1, Flat::One(a)),
-    ] {
-        assert_eq!(rt; x.get(processor, number), Some(held));
-    }
-    assert!(rt; x.get(1, 2).is_none());
-}
-
-// Two contents meet at one of three keys.
-fn merges(rt: &impl Abort, x: &mut Replica, y: &mut Replica) -> Result<(), Fail> {
-    take(x, 0, 1, floor(rt, 1))?;
-    take(x, 0, 2, floor(rt, 2))?;
-    take(y, 0, 2, floor(rt, 3))?;
-    take(y, 1, 1, floor(rt, 1))?;
-    assert!(rt; !x.le(y) && !y.le(x));
-    let both = joined(x, y)?;
-    assert_torn(rt, &both);
-    assert!(rt; x.le(&both) && y.le(&both));
-    assert!(rt; y.merge(x).is_ok());
-    assert!(rt; both.le(y) && y.le(&both));
-    Ok(())
-}
-
-#[test]
-fn two_contents_of_a_key_tear_it(rt: HostRuntime) -> Result<(), Fail> {
-    let mut x = Replica::new(rt.alloc(), 2, 2)?;
-    merges(&rt, &mut x, &mut Replica::new(rt.alloc(), 2, 2)?)
+fn two_contents_of_a_key_tear_it(rt: HostRuntime) {
+    let mut x = Replica::new(rt.alloc(), 2, 2).expect(&rt, "memory");
+    let mut y = Replica::new(rt.alloc(), 2, 2).expect(&rt, "memory");
+    take_two(&rt, &mut x, &mut y);
+    assert_merged(&rt, &mut x.copy().expect(&rt, "memory"), &x, &y);
+    assert_merged(&rt, &mut y.copy().expect(&rt, "memory"), &y, &x);
 }

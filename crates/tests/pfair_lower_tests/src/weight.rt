@@ -7,21 +7,6 @@ use std::test::Fail;
 // Release, deadline, b-bit and group deadline.
 type Window = (u64, u64, u64, u64);
 
-const EIGHT_ELEVENTHS: [Window; 8] = [
-    (0, 2, 1, 4),
-    (1, 3, 1, 4),
-    (2, 5, 1, 8),
-    (4, 6, 1, 8),
-    (5, 7, 1, 8),
-    (6, 9, 1, 11),
-    (8, 10, 1, 11),
-    (9, 11, 0, 11),
-];
-
-const THREE_TENTHS: [Window; 3] = [(0, 4, 1, 0), (3, 7, 1, 0), (6, 10, 0, 0)];
-
-const WHOLE: [Window; 2] = [(0, 1, 0, 1), (1, 2, 0, 2)];
-
 fn window(weight: Weight, index: u64, theta: u64) -> Window
     requires first { 1 ≤ index }
     requires last { index ≤ 1000001 }
@@ -45,18 +30,7 @@ fn read(stepper: &Stepper) -> Window {
 }
 
 #[test]
-fn windows_by_rows(rt: HostRuntime) {
-    for (cost, period, rows) in [
-        (8, 11, EIGHT_ELEVENTHS.as_slice()),
-        (3, 10, THREE_TENTHS.as_slice()),
-        (1, 1, WHOLE.as_slice()),
-    ] {
-        let weight = Weight::new(cost, period).expect(&rt, "a weight");
-        for (place, row) in rows.iter().enumerate() {
-            assert!(&rt; place < 8);
-            assert_eq!(&rt; window(weight, place as u64 + 1, 0), *row);
-        }
-    }
+fn the_last_window_of_the_longest_period(rt: HostRuntime) {
     let weight = Weight::new(1, 1_000_000_000).expect(&rt, "a weight");
     assert_eq!(&rt;
         window(weight, 1_000_001, 0),
@@ -68,7 +42,6 @@ fn windows_by_rows(rt: HostRuntime) {
 fn faults_have_texts(rt: HostRuntime) -> Result<(), Fail> {
     for (cost, period, text) in [
         (0, 5, "4 zero cost"),
-        (0, 0, "4 zero cost"),
         (5, 3, "5 cost over period"),
         (1, 1_000_000_001, "6 period too long"),
     ] {
@@ -89,14 +62,10 @@ fn faults_have_texts(rt: HostRuntime) -> Result<(), Fail> {
 }
 
 #[test]
-fn names_in_order(rt: HostRuntime) {
+fn a_name_has_16_bytes(rt: HostRuntime) {
     let longest = TaskName::from_bytes(b"abcdefghijklmnop").expect(&rt, "a name");
     assert!(&rt; longest.as_bytes() == b"abcdefghijklmnop".as_slice());
     assert_eq!(&rt; size_of::<TaskName>(), 16);
-    let a = TaskName::from_bytes(b"a").expect(&rt, "a name");
-    let a_zero = TaskName::from_bytes(b"a0").expect(&rt, "a name");
-    let b = TaskName::from_bytes(b"b").expect(&rt, "a name");
-    assert!(&rt; a < a_zero && a_zero < longest && longest < b && a != a_zero);
 }
 
 #[test]

@@ -2,7 +2,7 @@ use Rattle.std.proofs.Common.{sym, subst, List, [], ◌∷◌, ◌++◌}
 use Rattle.std.specs.List.{AllByRecursion}
 use Rattle.pfair_entry.specs.Entry.{IsWithinLimits}
 use Rattle.pfair_entry.specs.Said.{Said}
-use Rattle.pfair_lower_tests.proofs.many_arrivals.arrivals.Goals as goal
+use Rattle.pfair_lower_tests.proofs.admission.arrivals.Goals as goal
 
 -- one announcement more is within its limits
 within_push : (all : List Said) (said : Said) → AllByRecursion (λ a. IsWithinLimits a.2) all → IsWithinLimits said.2 → AllByRecursion (λ a. IsWithinLimits a.2) (all ++ said ∷ [])
