@@ -5,16 +5,12 @@
 #![tactic(auto)]
 
 #[cfg(test)]
-mod full_load;
-#[cfg(test)]
 mod notation;
 #[cfg(test)]
 mod run;
 #[cfg(test)]
-mod sample;
+mod runs;
 #[cfg(test)]
 mod shown;
 #[cfg(test)]
 mod sizes;
-#[cfg(test)]
-mod tests;

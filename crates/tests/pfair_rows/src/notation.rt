@@ -3,13 +3,19 @@
 //! `0 3 2 2 depart a` is the entry of processor 0 with number 3 and floor 2, in which the departure
 //! of a is stamped 2. The others are `0 1 0 0 arrive a 1 2`, a weight of 1/2, `0 1 0 0 early a 1
 //! 2`, where it may run ahead of its windows, and `1 3 3 4 late b 4 2`, subtask 4 by 2 slots; `1 4
-//! 5` says nothing. `plan 3` asks for three slots.
+//! 5` says nothing. `plan 3` asks for three slots. `absorb`, before events with a `,` between them,
+//! is the coming of what another dispatcher holds to which these came.
 
 use pfair_entry::{Announcement, Entry};
 use pfair_table::Event;
 use pfair_weight::{TaskName, Weight};
-use std::alloc::{AllocError, Global};
+use std::alloc::Global;
 use std::process::Abort;
+
+/// The words of a text.
+pub(crate) fn words_of<'a>(rt: &impl Abort, alloc: Global, text: &'a str) -> Vec<&'a str> {
+    text.split_whitespace().collect(alloc).expect(rt, "memory")
+}
 
 /// The word at a place, or none.
 pub(crate) fn word<'a>(words: &[&'a str], place: usize) -> &'a str {
@@ -47,41 +53,26 @@ fn announcement(rt: &impl Abort, words: &[&str]) -> Announcement {
     }
 }
 
-/// Puts what some words say behind the events.
-pub(crate) fn push(
-    rt: &impl Abort,
-    events: &mut Vec<Event>,
-    words: &[&str],
-) -> Result<(), AllocError> {
-    if word(words, 0) == "plan" {
-        for _ in 0..number(rt, words, 1) {
-            events.push(Event::Plan)?;
-        }
-        return Ok(());
-    }
+fn taking(rt: &impl Abort, words: &[&str]) -> Event {
     let said = if words.len() > 3 {
         Some((number(rt, words, 3), announcement(rt, words)))
     } else {
         None
     };
-    events.push(Event::Take {
+    Event::Take {
         proc: u8::try_from(number(rt, words, 0)).expect(rt, "a processor"),
         number: u32::try_from(number(rt, words, 1)).expect(rt, "a number"),
         entry: Entry::new(number(rt, words, 2), said).expect(rt, "an entry"),
-    })?;
-    Ok(())
+    }
 }
 
-/// Puts the events of a text behind others.
-pub(crate) fn push_all(
-    rt: &impl Abort,
-    alloc: Global,
-    events: &mut Vec<Event>,
-    text: &str,
-) -> Result<(), AllocError> {
-    for part in text.split(';') {
-        let words: Vec<&str> = part.split_whitespace().collect(alloc)?;
-        push(rt, events, &words)?;
+/// Puts what some words say behind the events.
+pub(crate) fn push(rt: &impl Abort, events: &mut Vec<Event>, words: &[&str]) {
+    if word(words, 0) == "plan" {
+        for _ in 0..number(rt, words, 1) {
+            events.push(Event::Plan).expect(rt, "memory");
+        }
+    } else {
+        events.push(taking(rt, words)).expect(rt, "memory");
     }
-    Ok(())
 }

@@ -1,27 +1,23 @@
 //! Runs of events, by hand and by `run_events`.
 
-ghost use Rattle.std.specs.Prelude.{◌≡◌, IfOk};
+ghost use Rattle.std.specs.Prelude.{◌≡◌};
 
-use crate::notation::{number, push, push_all, word};
+use crate::notation::{number, push, word, words_of};
 use crate::shown::{push_answer, push_decisions, push_places, push_tables};
-use pfair_in_time::never_misses;
 use pfair_ready::{HeapReady, PlainReady, Ready};
 use pfair_replica::Replica;
 use pfair_table::{Dispatcher, Event, Settings, run_events};
-use std::alloc::{AllocError, Global};
+use std::alloc::Global;
 use std::process::Abort;
 
 // The room that each dispatcher has for entries of one log.
 const CAPACITY: u32 = 256;
 
-/// A run on a machine of so many processors, with such a frame and so many slots, and what is
-/// wanted of it.
+/// A run, and what is wanted of it.
 #[derive(Clone, Copy)]
 pub(crate) struct Run<'a> {
-    pub machine: (u8, u64, u64),
-    /// What other dispatchers took; `absorb 0` among the events is the coming of what the first of
-    /// them holds.
-    pub others: &'a [&'a str],
+    /// The number of processors, the frame and the number of slots.
+    pub machine: &'a str,
     pub events: &'a str,
     /// The answers, with commas between them.
     pub answers: &'a str,
@@ -29,150 +25,141 @@ pub(crate) struct Run<'a> {
     pub tables: &'a str,
     /// The decisions at each slot that is planned.
     pub decisions: &'a str,
-    /// The places of each slot that is planned, or nothing where they aren't looked at.
+    /// The places of each slot that is planned, or nothing if they aren't looked at.
     pub places: &'a str,
 }
 
-fn settings_of(rt: &impl Abort, machine: (u8, u64, u64)) -> Settings {
-    Settings::new(machine.0, machine.1, machine.2).expect(rt, "settings")
+fn settings_of(rt: &impl Abort, alloc: Global, machine: &str) -> Settings {
+    let words = words_of(rt, alloc, machine);
+    let processors = u8::try_from(number(rt, &words, 0)).expect(rt, "processors");
+    Settings::new(processors, number(rt, &words, 1), number(rt, &words, 2)).expect(rt, "settings")
 }
 
-fn left_by<R: Ready>(
-    alloc: Global,
-    settings: Settings,
-    events: &[Event],
-) -> Result<Dispatcher<R>, AllocError>
-    ensures { IfOk result (λ d. d.forgotten ≡ 0) }
-{
-    // settings have 1 to 64 processors
-    prove!(settings.processors() <= Settings::MAX_PROCESSORS);
-    run_events(alloc, settings, CAPACITY, events)
-}
-
-/// The dispatcher that the events of a text leave.
+/// The dispatcher that the events of a text leave, between which stands this character.
 pub(crate) fn left<R: Ready>(
     rt: &impl Abort,
     alloc: Global,
-    machine: (u8, u64, u64),
+    machine: &str,
     text: &str,
-) -> Result<Dispatcher<R>, AllocError>
-    ensures { IfOk result (λ d. d.forgotten ≡ 0) }
+    between: char,
+) -> Dispatcher<R>
+    ensures { result.forgotten ≡ 0 }
 {
     let mut events = Vec::new(alloc);
-    push_all(rt, alloc, &mut events, text)?;
-    left_by(alloc, settings_of(rt, machine), &events)
+    for part in text.split(between) {
+        push(rt, &mut events, &words_of(rt, alloc, part));
+    }
+    left_by(rt, alloc, settings_of(rt, alloc, machine), &events)
+}
+
+fn left_by<R: Ready>(
+    rt: &impl Abort,
+    alloc: Global,
+    settings: Settings,
+    events: &[Event],
+) -> Dispatcher<R>
+    ensures { result.forgotten ≡ 0 }
+{
+    // settings have 1 to 64 processors
+    prove!(settings.processors() <= Settings::MAX_PROCESSORS);
+    run_events(alloc, settings, CAPACITY, events).expect(rt, "memory")
 }
 
 /// What a dispatcher holds that took the events of a text.
 pub(crate) fn held(
     rt: &impl Abort,
     alloc: Global,
-    machine: (u8, u64, u64),
+    machine: &str,
     text: &str,
-) -> Result<Replica, AllocError> {
-    let left: Dispatcher<HeapReady> = left(rt, alloc, machine, text)?;
-    Ok(left.into_replica())
+    between: char,
+) -> Replica {
+    left::<PlainReady>(rt, alloc, machine, text, between).into_replica()
 }
 
-// Puts the events of a run behind others.
-fn push_run(
-    rt: &impl Abort,
-    alloc: Global,
-    events: &mut Vec<Event>,
-    run: Run<'_>,
-) -> Result<(), AllocError> {
+// The events of a run.
+fn events_of(rt: &impl Abort, alloc: Global, run: Run<'_>) -> Vec<Event> {
+    let mut events = Vec::new(alloc);
     for part in run.events.split(';') {
-        let words: Vec<&str> = part.split_whitespace().collect(alloc)?;
-        if word(&words, 0) == "absorb" {
-            let other = word(run.others, number(rt, &words, 1) as usize);
-            events.push(Event::Absorb(held(rt, alloc, run.machine, other)?))?;
-        } else {
-            push(rt, events, &words)?;
+        match part.trim().strip_prefix("absorb ") {
+            Some(others) => {
+                let held = held(rt, alloc, run.machine, others, ',');
+                events.push(Event::Absorb(held)).expect(rt, "memory");
+            }
+            None => push(rt, &mut events, &words_of(rt, alloc, part)),
         }
     }
-    Ok(())
+    events
 }
 
 // Asserts what a dispatcher has planned and decided.
-fn assert_left<R: Ready>(
-    rt: &impl Abort,
-    dispatcher: &Dispatcher<R>,
-    text: &mut String,
-    run: Run<'_>,
-) -> Result<(), AllocError> {
-    text.clear();
-    push_tables(text, dispatcher)?;
+fn assert_left<R: Ready>(rt: &impl Abort, alloc: Global, left: &Dispatcher<R>, run: Run<'_>) {
+    let mut text = String::new(alloc);
+    assert!(rt; push_tables(&mut text, left).is_ok());
     assert_eq!(rt; text.as_str(), run.tables);
     text.clear();
-    push_decisions(text, dispatcher)?;
+    assert!(rt; push_decisions(&mut text, left).is_ok());
     assert_eq!(rt; text.as_str(), run.decisions);
     text.clear();
-    push_places(text, dispatcher)?;
+    assert!(rt; push_places(&mut text, left).is_ok());
     assert!(rt; run.places.is_empty() || text.as_str() == run.places);
-    Ok(())
 }
 
-// Asserts what is answered to events that come one by one, and what they leave.
-fn assert_steps<R: Ready>(
-    rt: &impl Abort,
-    dispatcher: &mut Dispatcher<R>,
-    text: &mut String,
-    events: &[Event],
-    run: Run<'_>,
-) -> Result<(), AllocError> {
-    for (place, event) in events.iter().enumerate() {
-        if place > 0 {
-            text.push_str(", ")?;
-        }
-        push_answer(text, dispatcher, event)?;
-    }
-    assert_eq!(rt; text.as_str(), run.answers);
-    assert_left(rt, dispatcher, text, run)
-}
-
-// Asserts what events leave that come one by one.
-fn assert_stepped<R: Ready>(
+// Asserts what is answered to events that come one by one.
+fn assert_answers<R: Ready>(
     rt: &impl Abort,
     alloc: Global,
+    dispatcher: &mut Dispatcher<R>,
+    events: &[Event],
+    answers: &str,
+) {
+    let mut text = String::new(alloc);
+    for (place, event) in events.iter().enumerate() {
+        text.push_str(if place > 0 { ", " } else { "" })
+            .expect(rt, "memory");
+        assert!(rt; push_answer(&mut text, dispatcher, event).is_ok());
+    }
+    assert_eq!(rt; text.as_str(), answers);
+}
+
+// Asserts what events answer and leave that come one by one, and what `run_events` leaves.
+fn assert_over<R: Ready>(
+    rt: &impl Abort,
+    alloc: Global,
+    settings: Settings,
     events: &[Event],
     run: Run<'_>,
-) -> Result<(), AllocError> {
-    let settings = settings_of(rt, run.machine);
+) {
     // settings have 1 to 64 processors
     prove!(settings.processors() <= Settings::MAX_PROCESSORS);
-    let mut dispatcher: Dispatcher<R> = Dispatcher::new(alloc, settings, CAPACITY)?;
-    assert_steps(rt, &mut dispatcher, &mut String::new(alloc), events, run)
+    let new = Dispatcher::<R>::new(alloc, settings, CAPACITY);
+    let mut stepped = new.expect(rt, "memory");
+    assert_answers(rt, alloc, &mut stepped, events, run.answers);
+    assert_left(rt, alloc, &stepped, run);
+    let at_once: Dispatcher<R> = left_by(rt, alloc, settings, events);
+    assert_left(rt, alloc, &at_once, run);
 }
 
-// Asserts what `run_events` leaves, over two ready structures. The laws of dispatchers in hand hold
-// of both.
-fn assert_run<R: Ready, Q: Ready>(
-    rt: &impl Abort,
-    alloc: Global,
-    events: &[Event],
-    run: Run<'_>,
-) -> Result<(), AllocError> {
-    let settings = settings_of(rt, run.machine);
-    let one: Dispatcher<R> = left_by(alloc, settings, events)?;
-    let other: Dispatcher<Q> = left_by(alloc, settings, events)?;
-    one.plans_alike(&other);
-    never_misses(&one);
-    assert_left(rt, &one, &mut String::new(alloc), run)?;
-    assert_left(rt, &other, &mut String::new(alloc), run)
+/// Asserts what is wanted of a run, over plain lists and over heaps.
+pub(crate) fn assert_run(rt: &impl Abort, alloc: Global, run: Run<'_>) {
+    let settings = settings_of(rt, alloc, run.machine);
+    let events = events_of(rt, alloc, run);
+    assert_over::<PlainReady>(rt, alloc, settings, &events, run);
+    assert_over::<HeapReady>(rt, alloc, settings, &events, run);
 }
 
-/// Asserts what is wanted of runs, over plain lists and over heaps.
-pub(crate) fn assert_runs(
-    rt: &impl Abort,
-    alloc: Global,
-    runs: &[Run<'_>],
-) -> Result<(), AllocError> {
-    for run in runs {
-        let mut events = Vec::new(alloc);
-        push_run(rt, alloc, &mut events, *run)?;
-        assert_stepped::<PlainReady>(rt, alloc, &events, *run)?;
-        assert_stepped::<HeapReady>(rt, alloc, &events, *run)?;
-        assert_run::<PlainReady, HeapReady>(rt, alloc, &events, *run)?;
+/// Asserts what is wanted of the runs of a text, each with its title and its parts in lines of their
+/// own, between which empty lines stand.
+pub(crate) fn assert_runs(rt: &impl Abort, alloc: Global, text: &str) {
+    for part in text.split("\n\n") {
+        let lines: Vec<&str> = part.trim().lines().collect(alloc).expect(rt, "memory");
+        let run = Run {
+            machine: word(&lines, 1),
+            events: word(&lines, 2),
+            answers: word(&lines, 3),
+            tables: word(&lines, 4),
+            decisions: word(&lines, 5),
+            places: word(&lines, 6),
+        };
+        assert_run(rt, alloc, run);
     }
-    Ok(())
 }
