@@ -1,90 +1,97 @@
-//! What the workers of a run come to their gate with.
+//! Gates that wait, count or give up.
 
-use crate::board::{sample, silent};
-use pfair_board::{Gate, OpenGate, RunFault, run_dispatchers};
-use pfair_ready::HeapReady;
-use std::alloc::{AllocError, Global};
+use pfair_board::Gate;
+use std::alloc::Global;
+use std::process::Abort;
 use std::sync::Wait;
 use std::sync::atomic::{AtomicU64, Ordering};
-use std::test::Fail;
+use std::thread;
 
-// Gives up at one slot alone.
+/// Each of two workers' first come ends only after the other's first has begun. It counts the calls
+/// of each.
 #[derive(Drop)]
-struct ShutAt {
-    slot: u64,
+pub(crate) struct Meeting {
+    first: AtomicU64,
+    second: AtomicU64,
 }
 
-impl Gate for ShutAt {
+impl Meeting {
+    pub(crate) fn new() -> Meeting {
+        Meeting {
+            first: AtomicU64::new(0),
+            second: AtomicU64::new(0),
+        }
+    }
+
+    /// Whether each worker has come six times.
+    pub(crate) fn has_ended(&self) -> bool {
+        self.first.load(Ordering::SeqCst) == 6 && self.second.load(Ordering::SeqCst) == 6
+    }
+}
+
+impl Gate for Meeting {
     ghost use Rattle.std.specs.Prelude.{true};
 
     ghost may_give_up = { true };
 
-    fn come<P: Wait>(&self, _rt: &P, _worker: u8, slot: u64) -> bool {
-        slot != self.slot
+    fn come<P: Wait>(&self, _rt: &P, worker: u8, _slot: u64) -> bool {
+        let (mine, other) = if worker == 0 {
+            (&self.first, &self.second)
+        } else {
+            (&self.second, &self.first)
+        };
+        if mine.fetch_add(1, Ordering::SeqCst) > 0 {
+            return true;
+        }
+        comes_to(other, 1)
     }
 }
 
-// A gate that asks another one, and so gives up no more than that.
+/// Waits until so many calls are counted. Answers whether they were.
+pub(crate) fn comes_to(calls: &AtomicU64, wanted: u64) -> bool {
+    for _ in 0..10_000_000 {
+        if calls.load(Ordering::SeqCst) >= wanted {
+            return true;
+        }
+        thread::yield_now();
+    }
+    false
+}
+
+/// Gives up at once.
 #[derive(Drop)]
-struct Asking;
+pub(crate) struct ShutGate;
 
-impl Gate for Asking {
-    ghost use Rattle.std.specs.Prelude.{false};
+impl Gate for ShutGate {
+    ghost use Rattle.std.specs.Prelude.{true};
 
-    ghost may_give_up = { false };
+    ghost may_give_up = { true };
 
-    fn come<P: Wait>(&self, rt: &P, worker: u8, slot: u64) -> bool {
-        OpenGate.come(rt, worker, slot)
+    fn come<P: Wait>(&self, _rt: &P, _worker: u8, _slot: u64) -> bool {
+        false
     }
 }
 
-#[test]
-fn a_gate_asks_another(rt: HostRuntime) -> Result<(), Fail> {
-    let script = sample(&rt, rt.alloc())?;
-    let run = run_dispatchers::<HeapReady, _>(&rt, rt.alloc(), &script, &Asking);
-    assert!(&rt; run.is_ok());
-    Ok(())
-}
-
-#[test]
-fn faults_have_texts(rt: HostRuntime) -> Result<(), Fail> {
-    for (fault, text) in [
-        (RunFault::Stalled { slot: 7 }, "52 stalled at slot 7"),
-        (RunFault::GateGaveUp, "53 gate gave up"),
-        (RunFault::Astray, "54 gone astray"),
-        (RunFault::Memory, "90 out of memory"),
-    ] {
-        let shown = format!(in rt.alloc(); "{} {fault}", fault.number())?;
-        assert!(&rt; shown.as_str() == text);
-    }
-    Ok(())
-}
-
-#[test]
-fn a_gate_is_shut_at_one_slot(rt: HostRuntime) -> Result<(), Fail> {
-    let script = sample(&rt, rt.alloc())?;
-    for slot in 0..6u64 {
-        let run = run_dispatchers::<HeapReady, _>(&rt, rt.alloc(), &script, &ShutAt { slot });
-        assert!(&rt; matches!(run, Err(RunFault::GateGaveUp)));
-    }
-    let run = run_dispatchers::<HeapReady, _>(&rt, rt.alloc(), &script, &ShutAt { slot: 6 });
-    assert!(&rt; run.is_ok());
-    Ok(())
-}
-
-// Opens to each worker at slots 0, 1, 2 and so on, once for each, and counts its calls.
+/// Opens to each worker at slots 0, 1, 2 and so on, once for each, and counts its calls.
 #[derive(Drop)]
-struct InTurn {
-    calls: Vec<AtomicU64>,
+pub(crate) struct InTurn {
+    pub(crate) calls: Vec<AtomicU64>,
 }
 
 impl InTurn {
-    fn new(alloc: Global, workers: u8) -> Result<InTurn, AllocError> {
+    pub(crate) fn new(rt: &impl Abort, alloc: Global, workers: u8) -> InTurn {
         let mut calls = Vec::new(alloc);
         for _ in 0..workers {
-            calls.push(AtomicU64::new(0))?;
+            calls.push(AtomicU64::new(0)).expect(rt, "memory");
         }
-        Ok(InTurn { calls })
+        InTurn { calls }
+    }
+
+    /// Whether each worker has come so often.
+    pub(crate) fn has_opened(&self, often: u64) -> bool {
+        self.calls
+            .iter()
+            .all(|calls| calls.load(Ordering::SeqCst) == often)
     }
 }
 
@@ -99,16 +106,4 @@ impl Gate for InTurn {
             None => false,
         }
     }
-}
-
-#[test]
-fn each_of_64_workers_comes_to_each_slot_in_turn(rt: HostRuntime) -> Result<(), Fail> {
-    let script = silent(&rt, rt.alloc(), 64, 3)?;
-    let gate = InTurn::new(rt.alloc(), 64)?;
-    let run = run_dispatchers::<HeapReady, _>(&rt, rt.alloc(), &script, &gate);
-    assert!(&rt; run.is_ok());
-    for calls in &gate.calls {
-        assert!(&rt; calls.load(Ordering::SeqCst) == 3);
-    }
-    Ok(())
 }

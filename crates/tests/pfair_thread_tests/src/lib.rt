@@ -1,6 +1,6 @@
-//! Boards and desks, and runs of scripts in threads.
+//! Boards and desks, and runs of scripts in threads, through public calls.
 //!
-//! Each module tests one crate through its public calls.
+//! `sample` and `gates` have what the tests of `board` run; `desk` has those of boards without threads.
 #![tactic(auto)]
 
 #[cfg(test)]
@@ -9,3 +9,5 @@ mod board;
 mod desk;
 #[cfg(test)]
 mod gates;
+#[cfg(test)]
+mod sample;
