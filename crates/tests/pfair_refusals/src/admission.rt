@@ -1,266 +1,286 @@
-//! Boundaries of admission.
+//! Boundaries of admission: members that hear each boundary at once, beside twins that hear one
+//! announcement after another.
+ghost use Rattle.std.specs.Prelude.{IfOk};
+ghost use Rattle.std.specs.List.{AllByRecursion};
 ghost use Rattle.std.specs.Option.{ForSome};
 ghost use Rattle.pfair_entry.specs.Entry.{IsWithinLimits};
 
 use crate::Look;
 use crate::entries::name;
-use crate::twins::{Twins, said};
-use pfair_admission::{Decision, Refusal};
-use pfair_entry::{Announcement, Said};
+use pfair_admission::{Decision, Incarnation, Members, Refusal};
+use pfair_entry::{Announcement, Entry, Said};
 use pfair_weight::Weight;
-use std::alloc::Global;
+use std::alloc::{AllocError, Global};
 
-const NAME_TAKEN: Decision = Decision::Refused(Refusal::NameTaken);
+/// What is said of a task.
+#[derive(Clone, Copy)]
+pub(crate) enum Kind {
+    // The cost and the period of its weight.
+    Arrives(u64, u64),
+    Departs,
+    // Subtask 2 comes so many slots late.
+    IsLate(u64),
+}
 
-const OUTSIDE_FRAME: Decision = Decision::Refused(Refusal::PeriodOutsideFrame);
+/// The letter of a task, what is said of it, and the decision.
+pub(crate) type Heard = (u8, Kind, Decision);
+
+/// A slot, what is heard at it, and the task that is then given a quantum with the subtask that runs,
+/// if it may have one.
+pub(crate) type Step = (u64, &'static [Heard], (u8, Option<u64>));
 
 const NO_ROOM: Decision = Decision::Refused(Refusal::NoRoom);
 
-const NO_SUCH_TASK: Decision = Decision::Refused(Refusal::NoSuchTask);
-
 const DEPARTING: Decision = Decision::Refused(Refusal::AlreadyDeparting);
 
-const RELEASED: Decision = Decision::Refused(Refusal::AlreadyReleased);
-
-// A task of one letter arrives.
-fn arrival(letter: u8, cost: u64, period: u64, early: bool) -> Option<Said>
-    ensures { ForSome result (λ said. IsWithinLimits said.2) }
-{
-    let name = name(letter)?;
-    let weight = Weight::new(cost, period).ok()?;
-    said(Announcement::Arrive {
-        name,
-        weight,
-        early,
-    })
-}
-
-// A task of one letter departs.
-fn departure(letter: u8) -> Option<Said>
-    ensures { ForSome result (λ said. IsWithinLimits said.2) }
-{
-    let name = name(letter)?;
-    said(Announcement::Depart { name })
-}
-
-// Subtask 2 of a task of one letter, and all after it, come late by so many slots.
-fn delay(letter: u8, by: u64) -> Option<Said>
-    ensures { ForSome result (λ said. IsWithinLimits said.2) }
-{
-    let name = name(letter)?;
-    said(Announcement::Late { name, index: 2, by })
-}
-
-/// Four arrivals, the last of a name that is taken then.
-pub(crate) fn four_arrivals(alloc: Global) -> Look {
-    take_four(&mut Twins::new(alloc, 2, 6))
-}
-
-fn take_four(twins: &mut Twins) -> Look {
-    let (Some(a), Some(b), Some(c), Some(again)) = (
-        arrival(b'a', 1, 2, false),
-        arrival(b'b', 2, 3, false),
-        arrival(b'c', 1, 3, false),
-        arrival(b'a', 1, 3, false),
-    ) else {
-        return Ok(false);
-    };
-    let heard = [a, b, c, again];
-    let decisions = [
-        Decision::Admitted,
-        Decision::Admitted,
-        Decision::Admitted,
-        NAME_TAKEN,
-    ];
-    Ok(twins.hear(0, heard.as_slice(), decisions.as_slice())? && twins.are(b"abc"))
-}
-
 /// A task that has run holds its weight until its claim ends, and another one finds no room before.
-pub(crate) fn leaver(alloc: Global) -> Look {
-    lose_a_leaver(&mut Twins::new(alloc, 1, 2))
-}
-
-fn lose_a_leaver(twins: &mut Twins) -> Look {
-    let (Some(task), Some(a), Some(leaves), Some(b)) = (
-        name(b'a'),
-        arrival(b'a', 1, 2, false),
-        departure(b'a'),
-        arrival(b'b', 1, 1, false),
-    ) else {
-        return Ok(false);
-    };
-    let departs = Decision::Departing { freed_at: 3 };
-    Ok(
-        twins.hear(0, [a].as_slice(), [Decision::Admitted].as_slice())?
-            && twins.run(&task, Some(1))
-            && twins.hear(1, [leaves].as_slice(), [departs].as_slice())?
-            && twins.run(&task, None)
-            && twins.hear(2, [b].as_slice(), [NO_ROOM].as_slice())?
-            && twins.are(b"a")
-            && twins.hear(3, [b].as_slice(), [Decision::Admitted].as_slice())?
-            && twins.are(b"b"),
-    )
-}
+pub(crate) const LEAVER: [Step; 4] = [
+    (
+        0,
+        &[(b'a', Kind::Arrives(1, 2), Decision::Admitted)],
+        (b'a', Some(1)),
+    ),
+    (
+        1,
+        &[(b'a', Kind::Departs, Decision::Departing { freed_at: 3 })],
+        (b'a', None),
+    ),
+    (2, &[(b'b', Kind::Arrives(1, 1), NO_ROOM)], (b'b', None)),
+    (
+        3,
+        &[(b'b', Kind::Arrives(1, 1), Decision::Admitted)],
+        (b'b', Some(1)),
+    ),
+];
 
 /// A task that never ran leaves its room and its name in the slot in which it departs.
-pub(crate) fn at_once(alloc: Global) -> Look {
-    lose_at_once(&mut Twins::new(alloc, 1, 1))
-}
-
-fn lose_at_once(twins: &mut Twins) -> Look {
-    let (Some(a), Some(leaves)) = (arrival(b'a', 1, 1, false), departure(b'a')) else {
-        return Ok(false);
-    };
-    let decisions = [
-        Decision::Admitted,
-        Decision::Departing { freed_at: 0 },
-        Decision::Admitted,
-    ];
-    Ok(twins.hear(0, [a, leaves, a].as_slice(), decisions.as_slice())? && twins.are(b"a"))
-}
+pub(crate) const AT_ONCE: [Step; 1] = [(
+    0,
+    &[
+        (b'a', Kind::Arrives(1, 1), Decision::Admitted),
+        (b'a', Kind::Departs, Decision::Departing { freed_at: 0 }),
+        (b'a', Kind::Arrives(1, 1), Decision::Admitted),
+    ],
+    (b'a', Some(1)),
+)];
 
 /// All that is refused of a task that departs, and of one that isn't there.
-pub(crate) fn refused_leaver(alloc: Global) -> Look {
-    refuse_a_leaver(&mut Twins::new(alloc, 1, 5))
-}
+pub(crate) const REFUSED_LEAVER: [Step; 4] = [
+    (
+        0,
+        &[(b'a', Kind::Arrives(2, 5), Decision::Admitted)],
+        (b'a', Some(1)),
+    ),
+    (
+        1,
+        &[
+            (b'a', Kind::Departs, Decision::Departing { freed_at: 4 }),
+            (b'a', Kind::Departs, DEPARTING),
+            (b'x', Kind::Departs, Decision::Refused(Refusal::NoSuchTask)),
+            (b'a', Kind::IsLate(1), DEPARTING),
+            (
+                b'a',
+                Kind::Arrives(1, 5),
+                Decision::Refused(Refusal::NameTaken),
+            ),
+        ],
+        (b'a', None),
+    ),
+    (3, &[(b'b', Kind::Arrives(1, 1), NO_ROOM)], (b'b', None)),
+    (
+        4,
+        &[(b'b', Kind::Arrives(1, 1), Decision::Admitted)],
+        (b'b', Some(1)),
+    ),
+];
 
-fn refuse_a_leaver(twins: &mut Twins) -> Look {
-    let (Some(task), Some(a), Some(leaves), Some(stranger)) = (
-        name(b'a'),
-        arrival(b'a', 2, 5, false),
-        departure(b'a'),
-        departure(b'x'),
-    ) else {
+/// The boundaries of some slots on a machine of one processor. After want of memory the members have
+/// to be those of a beginning, as their twins were on their way, and then hear the rest.
+pub(crate) fn boundaries(alloc: Global, frame: u64, steps: &[Step]) -> Look {
+    if !(1..=1_000_000_000).contains(&frame) {
         return Ok(false);
-    };
-    let (Some(late), Some(again), Some(b)) = (
-        delay(b'a', 1),
-        arrival(b'a', 1, 5, false),
-        arrival(b'b', 1, 1, false),
-    ) else {
-        return Ok(false);
-    };
-    let heard = [leaves, leaves, stranger, late, again];
-    let decisions = [
-        Decision::Departing { freed_at: 4 },
-        DEPARTING,
-        NO_SUCH_TASK,
-        DEPARTING,
-        NAME_TAKEN,
-    ];
-    Ok(
-        twins.hear(0, [a].as_slice(), [Decision::Admitted].as_slice())?
-            && twins.run(&task, Some(1))
-            && twins.hear(1, heard.as_slice(), decisions.as_slice())?
-            && twins.hear(3, [b].as_slice(), [NO_ROOM].as_slice())?
-            && twins.hear(4, [b].as_slice(), [Decision::Admitted].as_slice())?
-            && twins.are(b"b"),
-    )
-}
-
-/// A late release up to the slot of the release is accepted, and one after it is refused.
-pub(crate) fn late_release(alloc: Global) -> Look {
-    Ok(late_release_at(alloc, 2, Decision::Delayed, 5)? && late_release_at(alloc, 3, RELEASED, 2)?)
-}
-
-fn late_release_at(alloc: Global, slot: u64, decision: Decision, begins: u64) -> Look {
-    delay_at(&mut Twins::new(alloc, 1, 2), slot, decision, begins)
-}
-
-// A late release in this slot, the decision on it, and the slot from which subtask 2 may run then.
-fn delay_at(twins: &mut Twins, slot: u64, decision: Decision, begins: u64) -> Look {
-    let (Some(task), Some(a), Some(late)) = (name(b'a'), arrival(b'a', 1, 2, false), delay(b'a', 3))
-    else {
-        return Ok(false);
-    };
-    Ok(
-        twins.hear(0, [a].as_slice(), [Decision::Admitted].as_slice())?
-            && twins.run(&task, Some(1))
-            && twins.hear(slot, [late].as_slice(), [decision].as_slice())?
-            && may_run_from(twins, b'a', 2, begins),
-    )
-}
-
-/// The name, the frame and the room are looked at in this order.
-pub(crate) fn refused_arrivals(alloc: Global) -> Look {
-    refuse_arrivals(&mut Twins::new(alloc, 1, 12))
-}
-
-fn refuse_arrivals(twins: &mut Twins) -> Look {
-    let (Some(odd), Some(a), Some(b), Some(small)) = (
-        arrival(b'a', 1, 5, false),
-        arrival(b'a', 12, 12, false),
-        arrival(b'b', 1, 5, false),
-        arrival(b'b', 1, 12, false),
-    ) else {
-        return Ok(false);
-    };
-    let heard = [odd, a, odd, b, small];
-    let decisions = [
-        OUTSIDE_FRAME,
-        Decision::Admitted,
-        NAME_TAKEN,
-        OUTSIDE_FRAME,
-        NO_ROOM,
-    ];
-    Ok(twins.hear(0, heard.as_slice(), decisions.as_slice())? && twins.are(b"a"))
-}
-
-/// A task with early release is late only in what has not run, and begins its next job no earlier
-/// than its release.
-pub(crate) fn early_release(alloc: Global) -> Look {
-    Ok(delayed_early(alloc)? && refused_early(alloc)?)
-}
-
-fn delayed_early(alloc: Global) -> Look {
-    delay_early(&mut Twins::new(alloc, 1, 4))
-}
-
-fn refused_early(alloc: Global) -> Look {
-    refuse_early(&mut Twins::new(alloc, 1, 4))
-}
-
-// Subtask 1 has run when the late release of subtask 2 comes, which is accepted.
-fn delay_early(twins: &mut Twins) -> Look {
-    let (Some(task), Some(a), Some(late)) = (name(b'a'), arrival(b'a', 2, 4, true), delay(b'a', 3))
-    else {
-        return Ok(false);
-    };
-    Ok(
-        twins.hear(0, [a].as_slice(), [Decision::Admitted].as_slice())?
-            && twins.run(&task, Some(1))
-            && twins.hear(1, [late].as_slice(), [Decision::Delayed].as_slice())?
-            && may_run_from(twins, b'a', 2, 5),
-    )
-}
-
-// Both subtasks of the first job have run when it comes, and it is refused.
-fn refuse_early(twins: &mut Twins) -> Look {
-    let (Some(task), Some(a), Some(late)) = (name(b'a'), arrival(b'a', 2, 4, true), delay(b'a', 3))
-    else {
-        return Ok(false);
-    };
-    Ok(
-        twins.hear(0, [a].as_slice(), [Decision::Admitted].as_slice())?
-            && twins.run(&task, Some(1))
-            && twins.run(&task, Some(2))
-            && twins.hear(2, [late].as_slice(), [RELEASED].as_slice())?
-            && may_run_from(twins, b'a', 3, 4),
-    )
-}
-
-// Whether the next subtask of the member is this one, and may run from that slot on.
-fn may_run_from(twins: &Twins, letter: u8, index: u64, slot: u64) -> bool {
-    let Some(task) = name(letter) else {
-        return false;
-    };
-    match twins.get(&task) {
-        Some(member) => {
-            member.next() == index
-                && member.next_subtask().0 == slot
-                && (1..=8).contains(&index)
-                && member.eligible(index) == slot
-        }
-        None => false,
     }
+    let mut members = Members::new(alloc, 1, frame);
+    let mut twins = Members::new(alloc, 1, frame);
+    walk(alloc, &mut members, &mut twins, steps)
+}
+
+fn walk(alloc: Global, members: &mut Members, twins: &mut Members, steps: &[Step]) -> Look {
+    for (slot, heard, (letter, index)) in steps {
+        let announced = announced(alloc, heard)?;
+        let is_right = hears(members, twins, *slot, &announced, heard)?
+            && runs(members, *letter) == *index
+            && runs(twins, *letter) == *index;
+        if !is_right {
+            return Ok(false);
+        }
+    }
+    Ok(true)
+}
+
+// What is said, which is within its limits.
+fn said(letter: u8, kind: Kind) -> Option<Said>
+    ensures { ForSome result (λ said. IsWithinLimits said.2) }
+{
+    let name = name(letter)?;
+    let announcement = match kind {
+        Kind::Arrives(cost, period) => Announcement::Arrive {
+            name,
+            weight: Weight::new(cost, period).ok()?,
+            early: false,
+        },
+        Kind::Departs => Announcement::Depart { name },
+        Kind::IsLate(by) => Announcement::Late { name, index: 2, by },
+    };
+    let entry = Entry::new(0, Some((0, announcement))).ok()?;
+    let (_, announcement) = entry.said()?;
+    Some((0, 1, announcement))
+}
+
+fn announced(alloc: Global, heard: &[Heard]) -> Result<Vec<Said>, AllocError>
+    ensures { IfOk result (λ all. AllByRecursion (λ a. IsWithinLimits a.2) all.items) }
+{
+    let mut all = Vec::new(alloc);
+    for (letter, kind, _) in heard {
+        let Some(one) = said(*letter, *kind) else {
+            return Err(AllocError);
+        };
+        all.push(one)?;
+    }
+    Ok(all)
+}
+
+// The boundary of a slot, at once and one by one.
+fn hears(
+    members: &mut Members,
+    twins: &mut Members,
+    slot: u64,
+    announced: &[Said],
+    heard: &[Heard],
+) -> Look
+    requires { AllByRecursion (λ a. IsWithinLimits a.2) announced.now }
+{
+    let answer = hear(members, slot, announced);
+    let Some(beginning) = follow(members, twins, slot, heard)? else {
+        return Ok(false);
+    };
+    match answer {
+        Some(Ok(decisions)) => Ok(beginning == heard.len() && are_decided(&decisions, heard)),
+        Some(Err(_)) => catch_up(members, twins, slot, heard, beginning),
+        None => Ok(false),
+    }
+}
+
+// The boundary of a slot, if it counts all that it heard, also after want of memory.
+fn hear(
+    members: &mut Members,
+    slot: u64,
+    announced: &[Said],
+) -> Option<Result<Vec<Decision>, AllocError>>
+    requires { AllByRecursion (λ a. IsWithinLimits a.2) announced.now }
+{
+    let before = members.heard();
+    let count = announced.len() as u64;
+    let is_late = members.last_slot().is_some_and(|last| last > slot);
+    if slot > 1_000_000 || count > 1000 || before + count > 262_144 || is_late {
+        return None;
+    }
+    let answer = members.boundary(slot, announced);
+    let is_counted = members.heard() == before + count && members.last_slot() == Some(slot);
+    if is_counted { Some(answer) } else { None }
+}
+
+// The twins hear the announcements one by one. How many they had heard when they were last like the
+// members; `None` if they never were, or if a decision is another one.
+fn follow(
+    members: &Members,
+    twins: &mut Members,
+    slot: u64,
+    heard: &[Heard],
+) -> Result<Option<usize>, AllocError> {
+    let nothing: [Said; 0] = [];
+    if hear(twins, slot, nothing.as_slice()).is_none() {
+        return Ok(None);
+    }
+    let mut beginning = None;
+    if are_same(members, twins) {
+        beginning = Some(0);
+    }
+    for (place, one) in heard.iter().enumerate() {
+        if !hears_one(twins, slot, one)? {
+            return Ok(None);
+        }
+        if are_same(members, twins) {
+            beginning = Some(place + 1);
+        }
+    }
+    Ok(beginning)
+}
+
+// The members hear what their beginning lacks, one by one, and are then like their twins.
+fn catch_up(
+    members: &mut Members,
+    twins: &Members,
+    slot: u64,
+    heard: &[Heard],
+    beginning: usize,
+) -> Look {
+    for one in heard.iter().skip(beginning) {
+        if !hears_one(members, slot, one)? {
+            return Ok(false);
+        }
+    }
+    Ok(are_same(members, twins))
+}
+
+// Whether one announcement is decided as it should be.
+fn hears_one(members: &mut Members, slot: u64, one: &Heard) -> Look {
+    let Some(said) = said(one.0, one.1) else {
+        return Ok(false);
+    };
+    match hear(members, slot, [said].as_slice()) {
+        Some(answer) => Ok(are_decided(&answer?, [*one].as_slice())),
+        None => Ok(false),
+    }
+}
+
+fn are_decided(decisions: &[Decision], heard: &[Heard]) -> bool {
+    for (decision, one) in decisions.iter().zip(heard.iter()) {
+        if *decision != one.2 {
+            return false;
+        }
+    }
+    decisions.len() == heard.len()
+}
+
+// The subtask that a task runs with a quantum, if it has more and may have one.
+fn runs(members: &mut Members, letter: u8) -> Option<u64> {
+    let name = name(letter)?;
+    let has_more = match members.get(&name) {
+        Some(member) => member.next() <= 1_000_000,
+        None => true,
+    };
+    if has_more { members.ran(&name) } else { None }
+}
+
+// Whether the members are the same, in the same order.
+fn are_same(members: &Members, twins: &Members) -> bool {
+    for place in 0..members.len() {
+        let (Some((_, member)), Some((_, twin))) = (members.at(place), twins.at(place)) else {
+            return false;
+        };
+        if !is_same(member, twin) {
+            return false;
+        }
+    }
+    members.len() == twins.len()
+}
+
+fn is_same(member: &Incarnation, twin: &Incarnation) -> bool {
+    member.name() == twin.name()
+        && member.weight() == twin.weight()
+        && member.joined() == twin.joined()
+        && member.next() == twin.next()
+        && member.theta(2) == twin.theta(2)
+        && member.freed_at() == twin.freed_at()
 }

@@ -61,40 +61,6 @@ fn publish_two(board: &Board, desk: &mut Desk, first: u64, second: u64) -> Look
     publish_one(board, desk, second)
 }
 
-/// A new board.
-pub(crate) fn new(alloc: Global) -> Look {
-    let board = two_rows(alloc)?;
-    Ok(board.processors() == 2 && board.capacity() == 2)
-}
-
-/// The desks of a board. After want of memory the board stands, and is asked for them once more.
-pub(crate) fn desks(alloc: Global) -> Look {
-    desks_of(&two_rows(alloc)?)
-}
-
-fn desks_of(board: &Board) -> Look {
-    let desks = match board.desks() {
-        Ok(desks) => desks,
-        Err(_) => board.desks()?,
-    };
-    Ok(are_new(&desks))
-}
-
-fn are_new(desks: &[Desk]) -> bool {
-    for desk in desks {
-        if !is_new(desk) {
-            return false;
-        }
-    }
-    true
-}
-
-// Whether the desk has published and found nothing.
-fn is_new(desk: &Desk) -> bool {
-    let held = desk.replica();
-    desk.next_number() == 1 && held.missing(0) == Some(1) && held.missing(1) == Some(1)
-}
-
 /// An entry that is published. After want of memory the desk is as before, and publishes it once
 /// more.
 pub(crate) fn publish(alloc: Global) -> Look {

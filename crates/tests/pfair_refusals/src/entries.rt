@@ -96,14 +96,6 @@ fn are_placed(places: &[Vec<u8>]) -> bool {
     places.len() == PLACES.len()
 }
 
-/// Whether a table is that of a slot, which is one of the six.
-pub(crate) fn is_table(table: &[Pick], slot: u64) -> bool {
-    match TABLES.get(slot as usize) {
-        Some(known) => are_picks(table, known),
-        None => false,
-    }
-}
-
 // Whether a table has these picks: each by the letter of its task and the index of its subtask.
 fn are_picks(table: &[Pick], known: &[(u8, u64)]) -> bool {
     for (pick, (letter, index)) in table.iter().zip(known.iter()) {

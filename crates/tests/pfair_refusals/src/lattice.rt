@@ -101,61 +101,37 @@ fn join_into(now: &mut Outer, old: &Outer, other: &Outer, whole: &Outer) -> Look
     Ok(is_whole(now) && is_between(whole, now, whole))
 }
 
-/// A pair that a map lacks. After want of memory the key is missing still, and the other key is as
-/// it was.
-pub(crate) fn put_missing_key(alloc: Global) -> Look {
+/// A pair at a key that a map has, or lacks. After want of memory the map lies between the old one
+/// and the join, and a key that was missing still is.
+pub(crate) fn put(alloc: Global, key: u8) -> Look {
     let other = grown(alloc)?;
-    match other.get(&2) {
-        Some(value) => put_missing(alloc, value),
+    match other.get(&key) {
+        Some(value) => put_at(alloc, key, value),
         None => Ok(false),
     }
 }
 
-fn put_missing(alloc: Global, value: &Middle) -> Look {
-    let old = outer(alloc, (1, 1, 1), 5)?;
-    let mut now = outer(alloc, (1, 1, 1), 5)?;
-    put_missing_into(&mut now, &old, value)
-}
-
-fn put_missing_into(now: &mut Outer, old: &Outer, value: &Middle) -> Look {
-    if now.put(2, value).is_err() {
-        if now.get(&2).is_some() || !is_between(old, now, old) {
-            return Ok(false);
-        }
-        now.put(2, value)?;
-    }
-    Ok(now.len() == 2 && content_at(now, (2, 1, 1)) == Some(Flat::One(8)))
-}
-
-/// A pair at a key that the map has. After want of memory it lies between the old map and the join.
-pub(crate) fn put_shared_key(alloc: Global) -> Look {
-    let other = grown(alloc)?;
-    match other.get(&1) {
-        Some(value) => put_shared(alloc, value),
-        None => Ok(false),
-    }
-}
-
-fn put_shared(alloc: Global, value: &Middle) -> Look {
+fn put_at(alloc: Global, key: u8, value: &Middle) -> Look {
     let mut whole = outer(alloc, (1, 1, 1), 5)?;
-    whole.put(1, value)?;
-    put_shared_up_to(alloc, value, &whole)
+    whole.put(key, value)?;
+    put_up_to(alloc, key, value, &whole)
 }
 
-fn put_shared_up_to(alloc: Global, value: &Middle, whole: &Outer) -> Look {
+fn put_up_to(alloc: Global, key: u8, value: &Middle, whole: &Outer) -> Look {
     let old = outer(alloc, (1, 1, 1), 5)?;
     let mut now = outer(alloc, (1, 1, 1), 5)?;
-    put_shared_into(&mut now, &old, value, whole)
+    put_into(&mut now, &old, key, value, whole)
 }
 
-fn put_shared_into(now: &mut Outer, old: &Outer, value: &Middle, whole: &Outer) -> Look {
-    if now.put(1, value).is_err() {
-        if !is_between(old, now, whole) {
+fn put_into(now: &mut Outer, old: &Outer, key: u8, value: &Middle, whole: &Outer) -> Look {
+    if now.put(key, value).is_err() {
+        let is_unchanged = now.get(&key).is_none() && is_between(old, now, old);
+        if !is_between(old, now, whole) || !is_unchanged && old.get(&key).is_none() {
             return Ok(false);
         }
-        now.put(1, value)?;
+        now.put(key, value)?;
     }
-    Ok(content_at(now, (1, 2, 1)) == Some(Flat::One(7)) && is_between(whole, now, whole))
+    Ok(is_between(whole, now, whole))
 }
 
 /// A copy, which is equal to what was copied.

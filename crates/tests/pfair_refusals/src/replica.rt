@@ -3,11 +3,11 @@
 use crate::Look;
 use crate::entries::{quiet, ten};
 use pfair_lattice::Flat;
-use pfair_replica::{EntryKey, MergeFault, Replica, TakeFault, Taken};
+use pfair_replica::{MergeFault, Replica, TakeFault, Taken};
 use std::alloc::{AllocError, Global};
 
-/// A replica that holds those of the ten entries whose numbers are odd, or even, or all of them.
-pub(crate) fn holding(alloc: Global, odd: bool, even: bool) -> Result<Replica, AllocError> {
+// A replica that holds those of the ten entries whose numbers are odd, or even, or all of them.
+fn holding(alloc: Global, odd: bool, even: bool) -> Result<Replica, AllocError> {
     let mut replica = Replica::new(alloc, 2, 5)?;
     take_some(&mut replica, odd, even)?;
     Ok(replica)
@@ -24,50 +24,9 @@ fn take_some(replica: &mut Replica, odd: bool, even: bool) -> Result<(), AllocEr
     Ok(())
 }
 
-/// Whether each holds what the other does.
-pub(crate) fn are_equal(left: &Replica, right: &Replica) -> bool {
+// Whether each holds what the other does.
+fn are_equal(left: &Replica, right: &Replica) -> bool {
     left.le(right) && right.le(left)
-}
-
-/// Whether the lengths of the sound beginnings, the marks, the frontier and the first torn key are
-/// those of a scan.
-pub(crate) fn are_counted(replica: &Replica) -> bool {
-    let mut frontier = u64::MAX;
-    let mut torn = None;
-    for processor in 0..replica.processors() {
-        let (count, mark) = scanned(replica, processor);
-        if replica.sound_count(processor) != count || replica.mark(processor) != mark {
-            return false;
-        }
-        frontier = frontier.min(mark);
-        torn = torn.or(first_torn_in(replica, processor));
-    }
-    replica.frontier() == frontier && replica.first_torn() == torn
-}
-
-// How many entries a processor's sound beginning has, and its last floor.
-fn scanned(replica: &Replica, processor: u8) -> (u32, u64) {
-    let mut so_far = (0, 0);
-    for before in 0..replica.capacity() {
-        match replica.get(processor, before + 1) {
-            Some(Flat::One(entry)) if so_far.1 <= entry.floor() => {
-                so_far = (before + 1, entry.floor());
-            }
-            _ => return so_far,
-        }
-    }
-    so_far
-}
-
-// The first torn key of a processor.
-fn first_torn_in(replica: &Replica, processor: u8) -> Option<EntryKey> {
-    for before in 0..replica.capacity() {
-        let number = before + 1;
-        if let Some(Flat::Torn) = replica.get(processor, number) {
-            return Some((processor, number));
-        }
-    }
-    None
 }
 
 /// An entry that is new. After want of memory it isn't held, and is taken once more.
@@ -82,18 +41,14 @@ fn take_into(replica: &mut Replica, empty: &Replica) -> Look {
         return Ok(false);
     };
     if replica.take(1, 4, entry) == Err(TakeFault::Memory) {
-        if replica.get(1, 4).is_some() || !are_equal(replica, empty) || !are_counted(replica) {
+        if replica.get(1, 4).is_some() || !are_equal(replica, empty) {
             return Ok(false);
         }
         if replica.take(1, 4, entry) != Ok(Taken::New) {
             return Err(AllocError);
         }
     }
-    Ok(
-        replica.get(1, 4) == Some(Flat::One(entry))
-            && replica.take(1, 4, entry) == Ok(Taken::Known)
-            && are_counted(replica),
-    )
+    Ok(replica.get(1, 4) == Some(Flat::One(entry)) && replica.take(1, 4, entry) == Ok(Taken::Known))
 }
 
 /// The merge of two halves of ten entries. After want of memory what is held lies between, and it
@@ -116,47 +71,14 @@ fn merge_between(alloc: Global, old: &Replica, other: &Replica, whole: &Replica)
 
 fn merge_into(now: &mut Replica, old: &Replica, other: &Replica, whole: &Replica) -> Look {
     if now.merge(other) == Err(MergeFault::Memory) {
-        if !old.le(now) || !now.le(whole) || !are_counted(now) {
+        if !old.le(now) || !now.le(whole) {
             return Ok(false);
         }
         if now.merge(other).is_err() {
             return Err(AllocError);
         }
     }
-    Ok(are_equal(now, whole) && now.merge(other).is_ok() && are_counted(now))
-}
-
-/// A merge that tears, and one that fills a gap. After want of memory the counters are those of
-/// what is held then.
-pub(crate) fn merge_torn(alloc: Global) -> Look {
-    let mut other = holding(alloc, false, true)?;
-    let mut now = holding(alloc, true, false)?;
-    tear_and_merge(&mut now, &mut other)
-}
-
-fn tear_and_merge(now: &mut Replica, other: &mut Replica) -> Look {
-    let Some(other_entry) = quiet(6) else {
-        return Ok(false);
-    };
-    for (processor, number) in [(0, 1), (1, 3)] {
-        if other.take(processor, number, other_entry) == Err(TakeFault::Memory) {
-            return Err(AllocError);
-        }
-    }
-    if now.merge(other) == Err(MergeFault::Memory) {
-        if !are_counted(now) {
-            return Ok(false);
-        }
-        if now.merge(other).is_err() {
-            return Err(AllocError);
-        }
-    }
-    Ok(
-        are_counted(now)
-            && now.first_torn() == Some((0, 1))
-            && now.mark(0) == 0
-            && now.sound_count(1) == 2,
-    )
+    Ok(are_equal(now, whole) && now.merge(other).is_ok())
 }
 
 /// A copy, which is equal to what was copied.
@@ -168,12 +90,12 @@ pub(crate) fn copy(alloc: Global) -> Look {
 
 fn is_copied(replica: &Replica, whole: &Replica) -> bool {
     match replica.copy() {
-        Ok(copy) => are_equal(&copy, whole) && are_counted(&copy),
+        Ok(copy) => are_equal(&copy, whole),
         Err(_) => are_equal(replica, whole),
     }
 }
 
-/// The faults of a replica with a torn key and a fallen floor, and what is said at a slot.
+/// The faults of a replica with a torn key and a fallen floor.
 pub(crate) fn faults(alloc: Global) -> Look {
     let mut replica = Replica::new(alloc, 2, 5)?;
     faults_of(&mut replica)
@@ -194,20 +116,4 @@ fn faults_of(replica: &mut Replica) -> Look {
     let is_torn = faults.torn.iter().all(|key| *key == (1, 3));
     let is_fallen = faults.fallen.iter().all(|key| *key == (0, 2));
     Ok(is_torn && faults.torn.len() == 1 && is_fallen && faults.fallen.len() == 1)
-}
-
-/// What is said at slot 0: three arrivals.
-pub(crate) fn said(alloc: Global) -> Look {
-    let replica = holding(alloc, true, true)?;
-    Ok(is_said(&replica))
-}
-
-fn is_said(replica: &Replica) -> bool {
-    match replica.agenda() {
-        Ok(agenda) => {
-            let heard = agenda.at(0);
-            heard.len() == 3 && heard.iter().all(|one| one.1 < 3)
-        }
-        Err(_) => replica.frontier() == 6,
-    }
 }

@@ -3,14 +3,13 @@ ghost use Rattle.std.specs.Prelude.{◌≡◌, ◌<◌, IfOk};
 ghost use Rattle.pfair_desk.specs.Desks.{IsDeskOf};
 
 use crate::Look;
-use crate::entries::{is_table, is_whole, ten};
+use crate::entries::{is_whole, ten};
 use crate::table::logs;
 use pfair_board::{
-    Board, Desk, Finished, Hints, OpenGate, PublishFault, RunFault, Sink, run_dispatchers,
-    run_dispatchers_into, run_worker,
+    Board, Desk, Finished, Hints, OpenGate, PublishFault, RunFault, run_dispatchers, run_worker,
 };
 use pfair_ready::HeapReady;
-use pfair_table::{Pick, Script, Settings};
+use pfair_table::{Script, Settings};
 use std::alloc::{AllocError, Global};
 use std::sync::Wait;
 use std::thread::Threads;
@@ -21,7 +20,7 @@ fn sample(alloc: Global) -> Result<Option<Script>, AllocError> {
     Ok(Script::new(settings, logs(alloc)?).ok())
 }
 
-/// The run whose tables and places are kept.
+/// A run of the ten entries in threads.
 pub(crate) fn kept<P: Threads + Wait + Sync>(rt: &P, alloc: Global) -> Look {
     let Some(script) = sample(alloc)? else {
         return Ok(false);
@@ -44,38 +43,6 @@ fn is_finished(finished: &Finished) -> bool {
 fn holds_ten(desk: &Desk) -> bool {
     let held = desk.replica();
     held.missing(0).is_none() && held.missing(1).is_none() && held.frontier() == 6
-}
-
-// Compares each table with the sample's, and keeps none.
-#[derive(Drop)]
-struct Comparing {
-    slots: u64,
-    right: bool,
-}
-
-impl Sink for Comparing {
-    ghost has = { λ sink row tables. Unit {0} };
-
-    fn take(&mut self, slot: u64, table: Vec<Pick>) -> Result<Option<Vec<Pick>>, AllocError> {
-        self.right = self.right && is_table(&table, slot);
-        self.slots = slot.saturating_add(1);
-        Ok(Some(table))
-    }
-}
-
-/// The run whose tables are handed on, without places.
-pub(crate) fn handed_on<P: Threads + Wait + Sync>(rt: &P, alloc: Global) -> Look {
-    let Some(script) = sample(alloc)? else {
-        return Ok(false);
-    };
-    let sink = Comparing {
-        slots: 0,
-        right: true,
-    };
-    match run_dispatchers_into::<HeapReady, _, _>(rt, alloc, &script, &OpenGate, sink) {
-        Ok(sink) => Ok(sink.right && sink.slots == 6),
-        Err(fault) => Ok(fault == RunFault::Memory),
-    }
 }
 
 /// A worker of the second log, while the first stands on the board: no hint tells of it, so that the
