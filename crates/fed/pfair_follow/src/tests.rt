@@ -1,7 +1,6 @@
 //! What no contract says: that memory suffices, what is complained of, and the rows of runs that were
 //! worked out by hand.
 
-use crate::entries::entries;
 use crate::fault::{ProgramFault, write_fault};
 use crate::rows::follow_rows;
 use pfair_entry_row::RowFault;
@@ -13,12 +12,8 @@ use std::alloc::Global;
 use std::io;
 use std::io::{Read, Write};
 use std::process::Abort;
-use std::test::Fail;
 
 // One processor for four slots, with one task of weight 2/4 that may run ahead of its windows.
-const FILE: &str =
-    "version = 2\nprocessors = 1\nframe = 4\nslots = 4\nentry = [{ processor = 0, floor = 0, kind = \"arrive\", at = 0, name = \"a\", cost = 2, period = 4, early = true }]\n";
-
 const ROWS: &str = "0,1,0,0,arrive,a,2,4,true,-,-\n0,2,4,-,-,-,-,-,-,-,-\n";
 
 const BACKWARDS: &str =
@@ -132,7 +127,14 @@ fn run_from(rt: &impl Abort, from: u64, is_strict: bool) -> Run {
     }
 }
 
-// The number of the fault, or 0.
+// What a run writes and tells, and the number of its fault, or 0.
+#[derive(Drop)]
+struct End {
+    rows: Vec<u8>,
+    told: Vec<u8>,
+    number: u8,
+}
+
 fn number_of(end: &Result<(), ProgramFault>) -> u8 {
     match end {
         Ok(()) => 0,
@@ -140,23 +142,43 @@ fn number_of(end: &Result<(), ProgramFault>) -> u8 {
     }
 }
 
-#[test]
-fn rows_of_runs_that_are_fed(rt: HostRuntime) -> Result<(), Fail> {
-    for (output, from, is_strict, input, rows, complaints, number) in RUNS {
-        let run = run_from(&rt, from, is_strict);
-        let mut out: Vec<u8> = Vec::new(rt.alloc());
-        let mut told: Vec<u8> = Vec::new(rt.alloc());
-        let mut reader = input.as_bytes();
-        let end = follow_rows(rt.alloc(), output, &run, &mut reader, &mut out, &mut told);
-        assert_eq!(rt; out.as_slice(), rows.as_bytes());
-        assert_eq!(rt; told.as_slice(), complaints.as_bytes());
-        assert_eq!(rt; number_of(&end), number);
+// Runs the rows of one output, and returns what is written and told, and the number of the fault.
+fn fed<I: Read>(rt: &impl Abort, alloc: Global, asked: (Output, u64, bool), reader: &mut I) -> End {
+    let (output, from, is_strict) = asked;
+    let run = run_from(rt, from, is_strict);
+    let mut rows: Vec<u8> = Vec::new(alloc);
+    let mut told: Vec<u8> = Vec::new(alloc);
+    let end = follow_rows(alloc, output, &run, reader, &mut rows, &mut told);
+    End {
+        rows,
+        told,
+        number: number_of(&end),
     }
-    Ok(())
 }
 
 #[test]
-fn a_writer_or_a_reader_that_fails(rt: HostRuntime) -> Result<(), Fail> {
+fn rows_of_runs_that_are_fed(rt: HostRuntime) {
+    for (output, from, is_strict, input, rows, complaints, number) in RUNS {
+        let asked = (output, from, is_strict);
+        let end = fed(&rt, rt.alloc(), asked, &mut input.as_bytes());
+        assert_eq!(rt; end.rows.as_slice(), rows.as_bytes());
+        assert_eq!(rt; end.told.as_slice(), complaints.as_bytes());
+        assert_eq!(rt; end.number, number);
+    }
+}
+
+#[test]
+fn a_reader_that_fails_at_its_end(rt: HostRuntime) {
+    let mut reader = Failing {
+        text: ROWS.as_bytes(),
+    };
+    let end = fed(&rt, rt.alloc(), (Output::Tables, 0, false), &mut reader);
+    assert!(rt; end.number == 70 && end.told.is_empty());
+    assert_eq!(rt; end.rows.as_slice(), TABLES.as_bytes());
+}
+
+#[test]
+fn a_writer_that_fails_at_each_byte(rt: HostRuntime) {
     let run = run_from(&rt, 0, false);
     for left in 0..TABLES.len() {
         let mut out = Room {
@@ -176,134 +198,10 @@ fn a_writer_or_a_reader_that_fails(rt: HostRuntime) -> Result<(), Fail> {
         assert!(rt; number_of(&end) == 71 && told.is_empty());
         assert_eq!(rt; out.taken.as_slice(), &TABLES.as_bytes()[..left]);
     }
-    let mut out: Vec<u8> = Vec::new(rt.alloc());
-    let mut told: Vec<u8> = Vec::new(rt.alloc());
-    let mut reader = Failing {
-        text: ROWS.as_bytes(),
-    };
-    let end = follow_rows(
-        rt.alloc(),
-        Output::Tables,
-        &run,
-        &mut reader,
-        &mut out,
-        &mut told,
-    );
-    assert!(rt; number_of(&end) == 70 && told.is_empty());
-    assert_eq!(rt; out.as_slice(), TABLES.as_bytes());
-    Ok(())
-}
-
-// Takes a few bytes at a time, and fails at the call behind so many, be it of `write` or of `flush`.
-#[derive(Drop)]
-struct Brittle {
-    taken: Vec<u8>,
-    calls: usize,
-}
-
-impl Brittle {
-    fn call(&mut self) -> io::Result<()> {
-        match self.calls.checked_sub(1) {
-            Some(left) => {
-                self.calls = left;
-                Ok(())
-            }
-            None => Err(io::Error::from(io::ErrorKind::Interrupted)),
-        }
-    }
-}
-
-impl Write for Brittle {
-    fn write(&mut self, buf: &[u8]) -> io::Result<usize> {
-        self.call()?;
-        let count = buf.len().min(9);
-        self.taken.extend_from_slice(&buf[..count])?;
-        Ok(count)
-    }
-
-    fn flush(&mut self) -> io::Result<()> {
-        self.call()
-    }
 }
 
 #[test]
-fn a_writer_that_fails_at_each_call(rt: HostRuntime) -> Result<(), Fail> {
-    let wholes = [
-        (Output::Tables, TABLES),
-        (Output::PlacedTables, PLACED),
-        (Output::Decisions, DECISIONS),
-        (Output::Lags, LAGS),
-    ];
-    let run = run_from(&rt, 0, true);
-    for (output, whole) in wholes {
-        let mut is_whole = false;
-        for calls in 0..20 {
-            let mut out = Brittle {
-                taken: Vec::new(rt.alloc()),
-                calls,
-            };
-            let mut told: Vec<u8> = Vec::new(rt.alloc());
-            let mut reader = BACKWARDS.as_bytes();
-            let end = follow_rows(rt.alloc(), output, &run, &mut reader, &mut out, &mut told);
-            is_whole = end.is_ok();
-            let number = if is_whole { 0 } else { 71 };
-            assert!(rt; number_of(&end) == number && told.is_empty());
-            assert!(rt; whole.as_bytes().starts_with(out.taken.as_slice()));
-            assert!(rt; !is_whole || out.taken.len() == whole.len());
-        }
-        assert!(rt; is_whole);
-    }
-    Ok(())
-}
-
-#[test]
-fn rows_that_are_cut_at_each_byte(rt: HostRuntime) -> Result<(), Fail> {
-    let run = run_from(&rt, 0, true);
-    let first = "0,1,0,0,arrive,a,2,4,true,-,-\n".len();
-    for length in 0..ROWS.len() {
-        let mut out: Vec<u8> = Vec::new(rt.alloc());
-        let mut told: Vec<u8> = Vec::new(rt.alloc());
-        let mut reader = &ROWS.as_bytes()[..length];
-        let end = follow_rows(
-            rt.alloc(),
-            Output::Tables,
-            &run,
-            &mut reader,
-            &mut out,
-            &mut told,
-        );
-        assert!(rt; number_of(&end) == 52);
-        assert_eq!(rt; out.as_slice(), b"slot,processor,task,index\n".as_slice());
-        let missing = if length < first {
-            "missing 0,1\n"
-        } else {
-            "missing 0,2\n"
-        };
-        assert_eq!(rt; told.as_slice(), missing.as_bytes());
-    }
-    Ok(())
-}
-
-// The rows of a file and the number of its fault.
-fn entries_in(alloc: Global, file: &str) -> (Vec<u8>, u8) {
-    let mut out: Vec<u8> = Vec::new(alloc);
-    let end = entries(alloc, &mut file.as_bytes(), &mut out);
-    (out, number_of(&end))
-}
-
-#[test]
-fn entries_of_files(rt: HostRuntime) -> Result<(), Fail> {
-    let (rows, number) = entries_in(rt.alloc(), FILE);
-    assert!(rt; number == 0 && rows.as_slice() == ROWS.as_bytes());
-    for (file, number) in [("x", 60), ("", 61), ("version = 3", 65)] {
-        let (rows, seen) = entries_in(rt.alloc(), file);
-        assert!(rt; seen == number && rows.is_empty());
-    }
-    Ok(())
-}
-
-#[test]
-fn faults_have_lines_and_statuses(rt: HostRuntime) -> Result<(), Fail> {
+fn faults_have_lines_and_statuses(rt: HostRuntime) {
     let torn = FollowFault::Torn { proc: 2, number: 7 };
     let faults = [
         (
@@ -345,5 +243,4 @@ fn faults_have_lines_and_statuses(rt: HostRuntime) -> Result<(), Fail> {
         assert_eq!(rt; write_fault(&fault, &mut text), status);
         assert_eq!(rt; text.as_slice(), line.as_bytes());
     }
-    Ok(())
 }
