@@ -1,10 +1,12 @@
 //! Worked runs.
 
 use crate::run::{Run, assert_run, assert_runs, held, left};
-use pfair_output::lags_of;
+use pfair_lag::LagBook;
+use pfair_output::{add_lags_from, add_lags_header};
 use pfair_ready::{HeapReady, Ready};
 use pfair_replica::Replica;
 use pfair_table::Dispatcher;
+use pfair_text::{finish, new_text};
 use std::alloc::Global;
 use std::process::Abort;
 
@@ -151,7 +153,10 @@ const LAGS: &str = "time,task,numerator,period\n\
 
 fn assert_lags<R: Ready>(rt: &impl Abort, alloc: Global) {
     let planned: Dispatcher<R> = left(rt, alloc, FULL.machine, FULL.events, ';');
-    let lags = lags_of(alloc, &planned).expect(rt, "memory");
+    let mut writer = new_text(alloc);
+    add_lags_header(&mut writer).expect(rt, "memory");
+    add_lags_from(&mut writer, &mut LagBook::new(alloc), &planned).expect(rt, "memory");
+    let lags = finish(writer).expect(rt, "memory");
     assert!(rt; lags.as_slice() == LAGS.as_bytes());
 }
 
