@@ -1,7 +1,7 @@
 //! The lines of faults, each of which goes out in one write.
 
 use crate::devices::Sink;
-use pfair_board::{LookFault, PublishFault};
+use pfair_board::{LookFault, PublishFault, RunFault};
 use pfair_entry::{Entry, EntryFault, NoteFault, NoticeFault};
 use pfair_entry_row::RowFault;
 use pfair_feed::{FeedFault, FollowFault, tell_refused};
@@ -11,7 +11,6 @@ use pfair_replica::{MergeFault, TakeFault};
 use pfair_reports::{ProgramFault, write_fault};
 use pfair_table::PlanFault;
 use pfair_weight::{NameFault, WeightFault};
-use std::test::Fail;
 
 const OF_THE_PROGRAM: &str = "pfair: 4 zero cost
 pfair: 5 cost over period
@@ -68,7 +67,7 @@ fn faults_of_the_program_are_lines_of_one_write(rt: HostRuntime) {
 const REFUSED: &str = "pfair: 64 entry 4294967295 of processor 255 refused: ";
 
 #[test]
-fn refused_entries_are_lines_of_one_write(rt: HostRuntime) -> Result<(), Fail> {
+fn refused_entries_are_lines_of_one_write(rt: HostRuntime) {
     for (cause, text) in [
         (
             EntryCause::Refused(NoticeFault::Name(NameFault::Empty)),
@@ -112,13 +111,12 @@ fn refused_entries_are_lines_of_one_write(rt: HostRuntime) -> Result<(), Fail> {
         });
         let mut writer = Sink::of(rt.alloc(), usize::MAX);
         let _ = write_fault(&fault, &mut writer);
-        let line = format!(in rt.alloc(); "{REFUSED}{text}\n")?;
+        let line = format!(in rt.alloc(); "{REFUSED}{text}\n").expect(&rt, "memory");
         assert!(rt;
             writer.taken.as_slice() == line.as_bytes() && writer.calls == 1,
             "{text}"
         );
     }
-    Ok(())
 }
 
 const OF_CALLS: &str = "pfair: 30 entry 2 of processor 1 torn
@@ -172,6 +170,10 @@ pfair: 90 out of memory
 pfair: 50 row full
 pfair: 51 number taken
 pfair: 90 out of memory
+pfair: 52 stalled at slot 7
+pfair: 53 gate gave up
+pfair: 54 gone astray
+pfair: 90 out of memory
 ";
 
 #[test]
@@ -189,6 +191,14 @@ fn faults_of_boards_have_their_texts(rt: HostRuntime) {
         PublishFault::RowFull,
         PublishFault::Taken { standing },
         PublishFault::Memory,
+    ] {
+        write_line("pfair", fault.number(), &fault, &mut text);
+    }
+    for fault in [
+        RunFault::Stalled { slot: 7 },
+        RunFault::GateGaveUp,
+        RunFault::Astray,
+        RunFault::Memory,
     ] {
         write_line("pfair", fault.number(), &fault, &mut text);
     }
@@ -236,15 +246,12 @@ fn refused_rows_are_reported_in_one_write(rt: HostRuntime) {
 }
 
 #[test]
-fn the_longest_row_that_is_kept_is_reported_in_one_write(rt: HostRuntime) -> Result<(), Fail> {
-    let long = "1".repeat(rt.alloc(), 257)?;
+fn the_longest_row_that_is_kept_is_reported_in_one_write(rt: HostRuntime) {
+    let long = "1".repeat(rt.alloc(), 257).expect(&rt, "memory");
+    let fault = FeedFault::Row(RowFault::NoRow);
     let mut writer = Sink::of(rt.alloc(), usize::MAX);
-    tell_refused(
-        &mut writer,
-        &FeedFault::Row(RowFault::NoRow),
-        long.as_bytes(),
-    );
-    let line = format!(in rt.alloc(); "pfair_follow: 67 no entry's row: {long}\n")?;
+    tell_refused(&mut writer, &fault, long.as_bytes());
+    let line = format!(in rt.alloc(); "pfair_follow: 67 no entry's row: {long}\n");
+    let line = line.expect(&rt, "memory");
     assert!(rt; writer.taken.as_slice() == line.as_bytes() && writer.calls == 1);
-    Ok(())
 }

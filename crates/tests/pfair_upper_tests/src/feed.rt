@@ -10,10 +10,8 @@ use pfair_feed::{FeedFault, FollowFault, Follower, Output, entries_of, follow, t
 use pfair_file::read_file;
 use pfair_ready::{HeapReady, Ready};
 use pfair_table::Settings;
-use std::alloc::Global;
-use std::io::Write;
+use std::alloc::{AllocError, Global};
 use std::process::Abort;
-use std::test::Fail;
 
 // A task of weight 2/4 that may run ahead of its windows, and the end of the log.
 const ROWS: &str = "0,1,0,0,arrive,a,2,4,true,-,-\n0,2,4,-,-,-,-,-,-,-,-\n";
@@ -112,27 +110,30 @@ fn lines_are_fed_in_pieces(rt: HostRuntime) {
     }
 }
 
-#[test]
-fn each_question_is_answered(rt: HostRuntime) -> Result<(), Fail> {
-    let mut text: Vec<u8> = Vec::new(rt.alloc());
-    let mut answers: Vec<u8> = Vec::new(rt.alloc());
+// Questions before and after each of 300 entries, and the answers.
+fn push_questions(text: &mut String, answers: &mut String) -> Result<(), AllocError> {
     for slot in 1..=300u32 {
-        write!(&mut text, "?\n0,{slot},{slot},-,-,-,-,-,-,-,-\n")?;
-        write!(&mut answers, "missing 0,{slot}\n")?;
+        write!(text, "?\n0,{slot},{slot},-,-,-,-,-,-,-,-\n")?;
+        write!(answers, "missing 0,{slot}\n")?;
     }
-    text.extend_from_slice(b"?\n")?;
-    let mut reader = Source::of(text.as_slice(), 4096);
-    let end = feed_all::<HeapReady>(&rt, rt.alloc(), 300, &mut reader, true);
-    assert!(rt; end.fault == None && end.rows.is_empty());
-    assert!(rt; end.complaints.as_slice() == answers.as_slice());
-    Ok(())
+    text.push_str("?\n")
 }
 
 #[test]
-fn a_row_of_100000_bytes_is_refused(rt: HostRuntime) -> Result<(), Fail> {
-    let mut text = "1".repeat(rt.alloc(), 100_000)?;
-    text.push('\n')?;
-    text.push_str(ROWS)?;
+fn each_question_is_answered(rt: HostRuntime) {
+    let (mut text, mut answers) = (String::new(rt.alloc()), String::new(rt.alloc()));
+    assert!(rt; push_questions(&mut text, &mut answers).is_ok());
+    let mut reader = Source::of(text.as_bytes(), 4096);
+    let end = feed_all::<HeapReady>(&rt, rt.alloc(), 300, &mut reader, true);
+    assert!(rt; end.fault == None && end.rows.is_empty());
+    assert!(rt; end.complaints.as_slice() == answers.as_bytes());
+}
+
+#[test]
+fn a_row_of_100000_bytes_is_refused(rt: HostRuntime) {
+    let mut text = "1".repeat(rt.alloc(), 100_000).expect(&rt, "memory");
+    text.push('\n').expect(&rt, "memory");
+    text.push_str(ROWS).expect(&rt, "memory");
     for at_once in [1, 4096] {
         let mut reader = Source::of(text.as_bytes(), at_once);
         let end = feed_all::<HeapReady>(&rt, rt.alloc(), 4, &mut reader, false);
@@ -140,7 +141,6 @@ fn a_row_of_100000_bytes_is_refused(rt: HostRuntime) -> Result<(), Fail> {
         assert_eq!(rt; end.rows.as_slice(), WHOLE.as_bytes());
         assert_eq!(rt; end.complaints.len(), 33 + 257 + 1);
     }
-    Ok(())
 }
 
 #[test]

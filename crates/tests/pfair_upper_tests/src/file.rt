@@ -2,12 +2,13 @@
 
 use crate::devices::Sink;
 use crate::reports::SAMPLE;
-use pfair_file::{FileFault, ScheduleFault, given_words, opened, read_file, write_line};
+use pfair_file::{
+    EntryCause, FileFault, ScheduleFault, given_words, opened, read_file, write_line,
+};
 use std::alloc::{AllocError, Global};
 use std::env::FillError;
 use std::process::Abort;
 use std::rt::Env;
-use std::test::Fail;
 
 // A file whose one log has so many entries, besides what closes it.
 fn long_file(alloc: Global, entries: usize) -> Result<String, AllocError> {
@@ -16,19 +17,17 @@ fn long_file(alloc: Global, entries: usize) -> Result<String, AllocError> {
 }
 
 #[test]
-fn a_log_has_at_most_4095_entries_of_a_file(rt: HostRuntime) -> Result<(), Fail> {
-    let most = long_file(rt.alloc(), 4095)?;
+fn a_log_has_at_most_4095_entries_of_a_file(rt: HostRuntime) {
+    let most = long_file(rt.alloc(), 4095).expect(&rt, "memory");
     assert!(&rt; read_file(rt.alloc(), most.as_bytes()).is_ok());
-    let more = long_file(rt.alloc(), 4096)?;
-    let fault = read_file(rt.alloc(), more.as_bytes())
-        .err()
-        .expect(&rt, "a fault");
-    let line = format!(in rt.alloc(); "{} {fault}", fault.number())?;
-    assert_eq!(&rt;
-        line.as_str(),
-        "64 entry 4096 of processor 0 refused: 12 log full"
-    );
-    Ok(())
+    let more = long_file(rt.alloc(), 4096).expect(&rt, "memory");
+    let fault = read_file(rt.alloc(), more.as_bytes()).err();
+    let full = FileFault::Entry {
+        proc: 0,
+        number: 4096,
+        cause: EntryCause::LogFull,
+    };
+    assert!(&rt; fault == Some(full));
 }
 
 #[test]
@@ -108,11 +107,11 @@ fn words_behind_the_name(rt: HostRuntime) {
 }
 
 #[test]
-fn a_long_line_is_not_cut(rt: HostRuntime) -> Result<(), Fail> {
-    let long = "a text that is longer than the room for a line, ".repeat(rt.alloc(), 3)?;
+fn a_long_line_is_not_cut(rt: HostRuntime) {
+    let text = "a text that is longer than the room for a line, ";
+    let long = text.repeat(rt.alloc(), 3).expect(&rt, "memory");
     let mut writer = Sink::of(rt.alloc(), usize::MAX);
     write_line("pfair", 1, &long, &mut writer);
-    let line = format!(in rt.alloc(); "pfair: 1 {long}\n")?;
+    let line = format!(in rt.alloc(); "pfair: 1 {long}\n").expect(&rt, "memory");
     assert_eq!(rt; writer.taken.as_slice(), line.as_bytes());
-    Ok(())
 }

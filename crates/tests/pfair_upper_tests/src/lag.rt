@@ -7,7 +7,6 @@ use pfair_lag::{
 use pfair_table::Pick;
 use pfair_weight::{TaskName, Weight};
 use std::process::Abort;
-use std::test::Fail;
 
 type Found = Result<Option<Miss>, PickFault>;
 
@@ -64,21 +63,29 @@ fn windows_and_lags_agree(rt: HostRuntime) {
 }
 
 // Enters a of weight 1/2, in the first slot of which it runs, and b of weight 1/3 two slots later.
-fn counts(rt: &impl Abort, book: &mut LagBook) -> Result<(), Fail> {
-    let (a, b) = (TaskName::from_bytes(b"a")?, TaskName::from_bytes(b"b")?);
-    let (half, third) = (Weight::new(1, 2)?, Weight::new(1, 3)?);
-    assert!(rt; book.enter(a, half)?);
+fn counts(rt: &impl Abort, book: &mut LagBook) {
+    let (a, b) = (name(rt, b"a"), name(rt, b"b"));
+    enters(rt, book, a, 2);
     records(rt, book, &[Pick { name: a, index: 1 }]);
-    assert_eq!(rt; book.lag(&a), Some((-1, 2)));
+    assert!(rt; book.lag(&a) == Some((-1, 2)));
     records(rt, book, &[]);
-    assert_eq!(rt; book.lag(&a), Some((0, 2)));
-    assert!(rt; book.enter(b, third)?);
+    assert!(rt; book.lag(&a) == Some((0, 2)));
+    enters(rt, book, b, 3);
     records(rt, book, &[]);
-    assert_eq!(rt; (book.lag(&a), book.lag(&b)), (Some((1, 2)), Some((1, 3))));
-    assert!(rt; !book.enter(a, third)? && book.time() == 3);
+    assert!(rt; book.lag(&a) == Some((1, 2)) && book.lag(&b) == Some((1, 3)));
+    let third = Weight::new(1, 3).expect(rt, "a weight");
+    assert!(rt; book.enter(a, third) == Ok(false) && book.time() == 3);
     assert!(rt; book.name_at(0) == Some(&a) && book.name_at(1) == Some(&b));
     assert!(rt; book.name_at(2).is_none());
-    Ok(())
+}
+
+fn name(rt: &impl Abort, letter: &[u8]) -> TaskName {
+    TaskName::from_bytes(letter).expect(rt, "a name")
+}
+
+fn enters(rt: &impl Abort, book: &mut LagBook, name: TaskName, period: u64) {
+    let weight = Weight::new(1, period).expect(rt, "a weight");
+    assert!(rt; book.enter(name, weight) == Ok(true));
 }
 
 fn records(rt: &impl Abort, book: &mut LagBook, picks: &[Pick]) {
@@ -87,6 +94,6 @@ fn records(rt: &impl Abort, book: &mut LagBook, picks: &[Pick]) {
 }
 
 #[test]
-fn counts_lags(rt: HostRuntime) -> Result<(), Fail> {
-    counts(&rt, &mut LagBook::new(rt.alloc()))
+fn counts_lags(rt: HostRuntime) {
+    counts(&rt, &mut LagBook::new(rt.alloc()));
 }

@@ -1,10 +1,8 @@
-//! Tests of lags, texts, outputs, task files, fed runs and reports, through public calls.
+//! Tests of lags, texts of faults, task files, long runs, fed runs and reports, through public calls.
 //!
 //! `devices` has readers and writers that are slow or fail; the other modules have tests.
 #![tactic(auto)]
 
-#[cfg(test)]
-mod alike;
 #[cfg(test)]
 mod devices;
 #[cfg(test)]
@@ -24,8 +22,4 @@ mod lag;
 #[cfg(test)]
 mod long_runs;
 #[cfg(test)]
-mod output;
-#[cfg(test)]
 mod reports;
-#[cfg(test)]
-mod text;

@@ -6,7 +6,6 @@ use pfair_table::{Dispatcher, Pick, Run, Settings, Step};
 use pfair_weight::{TaskName, Weight};
 use std::alloc::Global;
 use std::process::Abort;
-use std::test::Fail;
 
 // Slots in which the task of weight 1/2 runs, with the subtask: at the edges of the run, about slot
 // 1,000, and about slots 1,024 and 2,048, where what is planned goes on in another piece.
@@ -22,48 +21,31 @@ const SLOTS: [(u64, u64); 8] = [
 ];
 
 // A task of weight 1/2 arrives, and the log settles all slots.
-fn takes_the_log<R: Ready>(
-    rt: &impl Abort,
-    dispatcher: &mut Dispatcher<R>,
-    name: TaskName,
-) -> Result<(), Fail> {
-    let (weight, early) = (Weight::new(1, 2)?, false);
+fn takes_the_log<R: Ready>(rt: &impl Abort, dispatcher: &mut Dispatcher<R>, name: TaskName) {
     let arrival = Announcement::Arrive {
         name,
-        weight,
-        early,
+        weight: Weight::new(1, 2).expect(rt, "a weight"),
+        early: false,
     };
-    let first = dispatcher.take(0, 1, Entry::new(0, Some((0, arrival)))?)?;
-    let second = dispatcher.take(0, 2, Entry::new(3000, None)?)?;
-    assert!(rt; first == second);
-    Ok(())
+    let first = Entry::new(0, Some((0, arrival))).expect(rt, "an entry");
+    let last = Entry::new(3000, None).expect(rt, "an entry");
+    assert!(rt; dispatcher.take(0, 1, first).is_ok() && dispatcher.take(0, 2, last).is_ok());
 }
 
-fn plans<R: Ready>(
-    rt: &impl Abort,
-    dispatcher: &mut Dispatcher<R>,
-    slots: u64,
-) -> Result<(), Fail> {
+fn plans<R: Ready>(rt: &impl Abort, dispatcher: &mut Dispatcher<R>, slots: u64) {
     for _slot in 0..slots {
         let next = dispatcher.next_slot();
-        assert_eq!(rt; dispatcher.plan_next()?, Step::Planned(next));
+        assert!(rt; dispatcher.plan_next() == Ok(Step::Planned(next)));
     }
-    Ok(())
 }
 
 // After 1,000 slots the dispatcher is made anew, takes memory ahead, and goes on.
-fn goes_on<R: Ready>(
-    rt: &impl Abort,
-    dispatcher: &mut Dispatcher<R>,
-    name: TaskName,
-) -> Result<(), Fail> {
-    takes_the_log(rt, dispatcher, name)?;
-    plans(rt, dispatcher, 1000)?;
-    dispatcher.reopen()?;
-    dispatcher.reserve(1500, 1)?;
-    plans(rt, dispatcher, 2000)?;
-    assert!(rt; dispatcher.plan_next()? == Step::Done);
-    Ok(())
+fn goes_on<R: Ready>(rt: &impl Abort, dispatcher: &mut Dispatcher<R>, name: TaskName) {
+    takes_the_log(rt, dispatcher, name);
+    plans(rt, dispatcher, 1000);
+    assert!(rt; dispatcher.reopen().is_ok() && dispatcher.reserve(1500, 1).is_ok());
+    plans(rt, dispatcher, 2000);
+    assert!(rt; dispatcher.plan_next() == Ok(Step::Done));
 }
 
 // All tables and their places are handed over, in the order of the slots.
@@ -79,18 +61,18 @@ fn assert_handed_over(rt: &impl Abort, run: &Run, name: TaskName) {
     }
 }
 
-fn assert_goes_on<R: Ready>(rt: &impl Abort, alloc: Global) -> Result<(), Fail> {
-    let name = TaskName::from_bytes(b"a")?;
+fn assert_goes_on<R: Ready>(rt: &impl Abort, alloc: Global) {
+    let name = TaskName::from_bytes(b"a").expect(rt, "a name");
     let settings = Settings::new(1, 2, 3000).expect(rt, "settings");
-    let mut dispatcher = Dispatcher::<R>::new(alloc, settings, 4)?;
-    let ended = goes_on(rt, &mut dispatcher, name);
+    let new = Dispatcher::<R>::new(alloc, settings, 4);
+    let mut dispatcher = new.expect(rt, "memory");
+    goes_on(rt, &mut dispatcher, name);
     let run = dispatcher.into_run().expect(rt, "memory");
     assert_handed_over(rt, &run, name);
-    ended
 }
 
 #[test]
-fn made_anew_after_a_thousand_slots(rt: HostRuntime) -> Result<(), Fail> {
-    assert_goes_on::<PlainReady>(&rt, rt.alloc())?;
-    assert_goes_on::<HeapReady>(&rt, rt.alloc())
+fn made_anew_after_a_thousand_slots(rt: HostRuntime) {
+    assert_goes_on::<PlainReady>(&rt, rt.alloc());
+    assert_goes_on::<HeapReady>(&rt, rt.alloc());
 }

@@ -8,7 +8,6 @@ use std::alloc::Global;
 use std::io::{Read, Write};
 use std::process::Abort;
 use std::sync::Wait;
-use std::test::Fail;
 use std::thread::Threads;
 
 /// A file with each kind of entry.
@@ -94,7 +93,7 @@ pub(crate) const COMMANDS: [(Command, &str); 4] = [
 ];
 
 // Commands over other files, and what they write.
-const OTHERS: [(Command, &str, &str); 10] = [
+const OTHERS: [(Command, &str, &str); 11] = [
     (
         Command::Placed,
         TWO_THIRDS,
@@ -104,6 +103,12 @@ const OTHERS: [(Command, &str, &str); 10] = [
         Command::Replay,
         FIVE_ARRIVALS,
         "slot,processor,task,index\n0,0,a,1\n1,0,b,1\n2,0,a,2\n",
+    ),
+    (
+        Command::Decisions,
+        FIVE_ARRIVALS,
+        "slot,processor,number,task,outcome,value\n0,0,1,a,admitted,-\n0,0,2,a,refused,20
+0,0,3,d,refused,21\n0,0,4,b,admitted,-\n0,0,5,c,refused,22\n",
     ),
     (
         Command::Decisions,
@@ -280,24 +285,24 @@ const FALLING: &str = "version = 1\nprocessors = 1\nframe = 1\nslots = 8\nentry 
 { processor = 0, floor = 5 }, { processor = 0, floor = 4 }]\n";
 
 #[test]
-fn refused_files_have_their_lines(rt: HostRuntime) -> Result<(), Fail> {
+fn refused_files_have_their_lines(rt: HostRuntime) {
     for (old, new, line) in CHANGES {
-        let file = SAMPLE.replacen(rt.alloc(), old, new, 1)?;
+        let file = SAMPLE
+            .replacen(rt.alloc(), old, new, 1)
+            .expect(&rt, "memory");
         assert_refused(&rt, rt.alloc(), file.as_str(), line, 2);
     }
     for (file, line) in REFUSED {
         assert_refused(&rt, rt.alloc(), file, line, 2);
     }
-    let file = SAMPLE.replacen(rt.alloc(), "floor = 5", "floor = 2", 1)?;
-    assert_refused(
-        &rt,
-        rt.alloc(),
-        file.as_str(),
-        "pfair: 52 stalled at slot 3\n",
-        3,
-    );
-    assert_refused(&rt, rt.alloc(), FALLING, "pfair: 52 stalled at slot 5\n", 3);
-    Ok(())
+    let late = SAMPLE.replacen(rt.alloc(), "floor = 5", "floor = 2", 1);
+    let late = late.expect(&rt, "memory");
+    for (file, line) in [
+        (late.as_str(), "pfair: 52 stalled at slot 3\n"),
+        (FALLING, "pfair: 52 stalled at slot 5\n"),
+    ] {
+        assert_refused(&rt, rt.alloc(), file, line, 3);
+    }
 }
 
 #[test]
