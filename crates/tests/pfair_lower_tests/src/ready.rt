@@ -116,3 +116,58 @@ fn rows_of_lists_and_heaps(rt: HostRuntime) {
     assert_rows::<PlainReady>(&rt, rt.alloc());
     assert_rows::<HeapReady>(&rt, rt.alloc());
 }
+
+// One step of two structures at a slot, drawn from a number. Returns how many keys were selected.
+fn step<R: Ready, Q: Ready>(
+    rt: &impl Abort,
+    one: &mut R,
+    other: &mut Q,
+    slot: u64,
+    drawn: u64,
+) -> usize {
+    let letter = b'a' + (drawn / 8 % 20) as u8;
+    let key = key(rt, (slot.saturating_add(drawn % 90), drawn / 3 % 2, letter));
+    match drawn % 8 {
+        0..=4 => {
+            let release = slot.saturating_add(drawn / 160 % 130);
+            let inserted = one.insert(release, key).expect(rt, "memory");
+            assert_eq!(rt; inserted, other.insert(release, key).expect(rt, "memory"));
+            0
+        }
+        5 => {
+            assert_eq!(rt; one.remove(&key.name), other.remove(&key.name));
+            0
+        }
+        _ => {
+            assert!(rt; one.now() <= slot && other.now() <= slot);
+            let first = one.take_first(slot, 4).expect(rt, "memory");
+            let second = other.take_first(slot, 4).expect(rt, "memory");
+            assert!(rt; first.as_slice() == second.as_slice());
+            first.len()
+        }
+    }
+}
+
+// Five steps at each of 800 slots, by a linear rule.
+fn walk<R: Ready, Q: Ready>(rt: &impl Abort, one: &mut R, other: &mut Q) {
+    let (mut state, mut selected) = (1u64, 0usize);
+    for slot in 0..800 {
+        for _ in 0..5u8 {
+            state = state
+                .wrapping_mul(6364136223846793005)
+                .wrapping_add(1442695040888963407);
+            selected = selected.saturating_add(step(rt, one, other, slot, state >> 33));
+        }
+    }
+    // the walk came through selections
+    assert!(rt; selected > 100);
+}
+
+#[test]
+fn four_thousand_steps_of_a_heap_and_a_list(rt: HostRuntime) {
+    walk(
+        &rt,
+        &mut HeapReady::new(rt.alloc()),
+        &mut PlainReady::new(rt.alloc()),
+    );
+}
