@@ -16,7 +16,7 @@ pub const SPENT: u32 = 31;
 /// A task file has too many bytes.
 pub const FILE_TOO_LONG: u32 = 66;
 
-/// Memory was wanted and refused.
+/// An allocation failed.
 pub const MEMORY: u32 = 90;
 
 /// A number is out of its range.

@@ -30,7 +30,7 @@ pub struct PfairLag {
 /// 64 bits. It costs what it costs to tell a book the slots 0 to `to` - 1.
 ///
 /// # Errors
-/// `AllocError` where memory was wanted and refused.
+/// Returns [`AllocError`] if an allocation fails.
 pub fn count_lags<R: Ready>(
     alloc: Global,
     dispatcher: &Dispatcher<R>,
@@ -59,7 +59,7 @@ pub fn count_lags<R: Ready>(
 /// the slots 0 to `to` - 1.
 ///
 /// # Errors
-/// `AllocError` where memory was wanted and refused; the lags of some first slots may be written
+/// Returns [`AllocError`] if an allocation fails; the lags of some first slots may be written
 /// then.
 pub fn write_lags<R: Ready>(
     alloc: Global,

@@ -35,7 +35,7 @@ pub enum PlanFault {
     /// A plan has wanted memory: the dispatcher has to be reopened.
     #[error("spent")]
     Spent,
-    /// Want of memory.
+    /// An allocation failed.
     #[error("out of memory")]
     Memory,
 }

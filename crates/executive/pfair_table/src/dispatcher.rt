@@ -61,7 +61,7 @@ impl<R: Ready> Dispatcher<R> {
     /// entries, 1 to 4,096. It costs the number of processors.
     ///
     /// # Errors
-    /// `AllocError` where memory was wanted and refused.
+    /// Returns [`AllocError`] if an allocation fails.
     pub fn new(alloc: Global, settings: Settings, capacity: u32) -> Result<Self, AllocError>
         requires { IsShape settings.processors capacity }
         ensures settings { IfOk result (λ d. d.settings ≡ settings) }
@@ -224,7 +224,7 @@ impl<R: Ready> Dispatcher<R> {
     /// and none is copied: it costs the number of those slots.
     ///
     /// # Errors
-    /// `AllocError` where memory was wanted and refused.
+    /// Returns [`AllocError`] if an allocation fails.
     pub fn into_run(self) -> Result<Run, AllocError>
         ensures tables { IfOk result (λ run. as_tables run.tables ≡ drop self.forgotten self.tables) }
         ensures places { IfOk result (λ run. as_places run.places ≡ drop self.forgotten (places_of self.tables)) }
@@ -254,7 +254,7 @@ impl<R: Ready> Dispatcher<R> {
     /// # Errors
     /// Looked at first, in this order: [`PlanFault::Torn`] exactly where something held is torn,
     /// [`PlanFault::Spent`] exactly where the dispatcher is spent; nothing has then changed.
-    /// [`PlanFault::Memory`] where memory was wanted and refused: what is held and what was planned
+    /// [`PlanFault::Memory`] if an allocation fails: what is held and what was planned
     /// stand, the slot isn't planned, and the dispatcher is spent.
     pub fn plan_next(&mut self) -> Result<Step, PlanFault>
         ensures course { OnOk result (course_of self.new ≡ happens self.old.settings (course_of self.old) PlanEvent) }
@@ -328,7 +328,7 @@ impl<R: Ready> Dispatcher<R> {
     ///
     /// # Errors
     /// [`PlanFault::Torn`] exactly where something held is torn; nothing has then changed.
-    /// [`PlanFault::Memory`] where memory was wanted and refused; the dispatcher is then spent, and
+    /// [`PlanFault::Memory`] if an allocation fails; the dispatcher is then spent, and
     /// else as before.
     pub fn reopen(&mut self) -> Result<(), PlanFault>
         ensures ok { OnOk result ((self.new ≡ record self.old { spent = false }) × (has_torn (replica_of self.old.held) ≡ false)) }

@@ -113,7 +113,7 @@ impl<T: Drop> Pieces<T> {
     /// Adds an element.
     ///
     /// # Errors
-    /// `AllocError` where memory was wanted and refused; the list is then as before.
+    /// Returns [`AllocError`] if an allocation fails; the list is then as before.
     pub(crate) fn push(&mut self, value: T) -> Result<(), AllocError>
         ensures ok { OnOk result (self.new ≡ record self.old { items = self.old.items ++ value ∷ [] }) }
         ensures err { OnErr result (self.new ≡ self.old) }
@@ -141,7 +141,7 @@ impl<T: Drop> Pieces<T> {
     /// no more than a list of 1,024 pieces has.
     ///
     /// # Errors
-    /// `AllocError` where memory was wanted and refused.
+    /// Returns [`AllocError`] if an allocation fails.
     pub(crate) fn reserve(&mut self, more: usize) -> Result<(), AllocError>
         ensures { self.new ≡ self.old }
     {
@@ -164,7 +164,7 @@ impl<T: Drop> Pieces<T> {
     /// The elements that aren't forgotten as one list. It costs their number: each is moved.
     ///
     /// # Errors
-    /// `AllocError` where memory was wanted and refused.
+    /// Returns [`AllocError`] if an allocation fails.
     pub(crate) fn into_list(self) -> Result<Vec<T>, AllocError>
         ensures { IfOk result (λ list. list.items ≡ drop self.forgotten self.items) }
     {

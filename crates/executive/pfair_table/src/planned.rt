@@ -128,7 +128,7 @@ impl Planned {
     /// Takes the room of so many further slots, of so many rows each.
     ///
     /// # Errors
-    /// `AllocError` where memory was wanted and refused.
+    /// Returns [`AllocError`] if an allocation fails.
     pub(crate) fn reserve(&mut self, slots: usize, rows: usize) -> Result<(), AllocError>
         ensures { self.new ≡ self.old }
     {

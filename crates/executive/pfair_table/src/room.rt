@@ -24,7 +24,7 @@ impl Room {
     /// That for so many rows.
     ///
     /// # Errors
-    /// `AllocError` where memory was wanted and refused.
+    /// Returns [`AllocError`] if an allocation fails.
     pub(crate) fn for_rows(alloc: Global, rows: usize) -> Result<Room, AllocError> {
         Ok(Room {
             table: Vec::with_capacity(alloc, rows)?,
@@ -36,7 +36,7 @@ impl Room {
 /// A list without what it has, with room for so many elements. It takes memory where it has less.
 ///
 /// # Errors
-/// `AllocError` where memory was wanted and refused; the list is then gone.
+/// Returns [`AllocError`] if an allocation fails; the list is then gone.
 pub(crate) fn emptied<T: Drop>(mut list: Vec<T>, count: usize) -> Result<Vec<T>, AllocError>
     ensures items { IfOk result (λ first. first.items ≡ []) }
     ensures capacity { IfOk result (λ first. count ≤ vec_capacity first) }

@@ -20,7 +20,7 @@ use std::alloc::{AllocError, Global};
 /// refused changes nothing, and the run goes on. It costs what its events cost.
 ///
 /// # Errors
-/// `AllocError` where memory was wanted and refused; the run then ends.
+/// Returns [`AllocError`] if an allocation fails; the run then ends.
 pub fn run_events<R: Ready>(
     alloc: Global,
     settings: Settings,
@@ -41,7 +41,7 @@ pub fn run_events<R: Ready>(
     Ok(dispatcher)
 }
 
-// One event: what is refused changes nothing, and only want of memory is an error.
+// One event: what is refused changes nothing, and only a failed allocation is an error.
 fn happen<R: Ready>(dispatcher: &mut Dispatcher<R>, event: &Event) -> Result<(), AllocError>
     requires { dispatcher.old.spent ≡ false }
     ensures settings { dispatcher.new.settings ≡ dispatcher.old.settings }
@@ -75,7 +75,7 @@ fn happen<R: Ready>(dispatcher: &mut Dispatcher<R>, event: &Event) -> Result<(),
     }
 }
 
-/// Offers an entry: one that is refused changes nothing, and only want of memory is an error.
+/// Offers an entry: one that is refused changes nothing, and only a failed allocation is an error.
 pub(crate) fn offer<R: Ready>(
     dispatcher: &mut Dispatcher<R>,
     processor: u8,

@@ -56,7 +56,7 @@ impl RunBuilder {
     /// rows; now and then what was added before is moved to where it has room.
     ///
     /// # Errors
-    /// `AllocError` where memory was wanted and refused; all is then as before.
+    /// Returns [`AllocError`] if an allocation fails; all is then as before.
     pub fn push(&mut self, table: Vec<Pick>) -> Result<(), AllocError>
         requires { IsFit Settings.MAX_PROCESSORS table.items }
         ensures ok { OnOk result (self.new ≡ self.old ++ table.items ∷ []) }

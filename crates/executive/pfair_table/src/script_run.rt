@@ -48,7 +48,7 @@ impl<R: Ready> ScriptRun<R> {
     ///
     /// # Errors
     /// [`ScriptFault::Stalled`] only where the frontier of the logs, which is that slot, is below the
-    /// number of slots. [`ScriptFault::Memory`] where memory was wanted and refused.
+    /// number of slots. [`ScriptFault::Memory`] if an allocation fails.
     pub fn new(alloc: Global, script: &Script) -> Result<ScriptRun<R>, ScriptFault>
         ensures start { IfOk result (IsStartOfRun script.now) }
         ensures settled { OnOk result (script.now.settings.slots ≤ frontier (replica_of_logs script.now.logs)) }
@@ -105,7 +105,7 @@ impl<R: Ready> ScriptRun<R> {
     ///
     /// # Errors
     /// [`PlanFault::Spent`] exactly where memory was refused to a plan before; nothing has then
-    /// changed. [`PlanFault::Memory`] where memory was wanted and refused: the slot isn't planned,
+    /// changed. [`PlanFault::Memory`] if an allocation fails: the slot isn't planned,
     /// the table of the one before is gone, and the run is spent. [`PlanFault::Torn`] never: a script
     /// has one content for each of its entries.
     pub fn plan_next(&mut self) -> Result<Option<u64>, PlanFault>

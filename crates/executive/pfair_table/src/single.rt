@@ -26,7 +26,7 @@ pub enum ScriptFault {
         /// The frontier of the logs.
         slot: u64,
     },
-    /// Want of memory.
+    /// An allocation failed.
     #[error("out of memory")]
     Memory,
 }
@@ -58,7 +58,7 @@ impl From<AllocError> for ScriptFault {
 ///
 /// # Errors
 /// [`ScriptFault::Stalled`] only where the frontier of the logs, which is that slot, is below the
-/// number of slots. [`ScriptFault::Memory`] where memory was wanted and refused.
+/// number of slots. [`ScriptFault::Memory`] if an allocation fails.
 pub fn run_script<R: Ready>(alloc: Global, script: &Script) -> Result<Dispatcher<R>, ScriptFault>
     ensures ok { IfOk result (IsRunOf script.now) }
     ensures standing { IfOk result (λ d. d.forgotten ≡ 0) }
@@ -76,7 +76,7 @@ pub fn run_script<R: Ready>(alloc: Global, script: &Script) -> Result<Dispatcher
 /// entries, each a number of steps that grows with the logarithm of the length of its log.
 ///
 /// # Errors
-/// `AllocError` where memory was wanted and refused.
+/// Returns [`AllocError`] if an allocation fails.
 pub fn take_script<R: Ready>(alloc: Global, script: &Script) -> Result<Dispatcher<R>, AllocError>
     ensures settings { IfOk result (λ d. d.settings ≡ script.now.settings) }
     ensures held { IfOk result (λ d. replica_of d.held ≡ replica_of_logs script.now.logs) }

@@ -52,7 +52,7 @@ impl<R: Ready> SlotPlanner<R> {
     /// number of processors.
     ///
     /// # Errors
-    /// `AllocError` where memory was wanted and refused.
+    /// Returns [`AllocError`] if an allocation fails.
     pub fn new(
         alloc: Global,
         settings: Settings,
@@ -111,7 +111,7 @@ impl<R: Ready> SlotPlanner<R> {
     /// # Errors
     /// Looked at first, in this order: [`PlanFault::Torn`] exactly where something held is torn,
     /// [`PlanFault::Spent`] exactly where memory was refused to a plan before.
-    /// [`PlanFault::Memory`] where memory was wanted and refused: the slot isn't planned, and no further
+    /// [`PlanFault::Memory`] if an allocation fails: the slot isn't planned, and no further
     /// plan is answered.
     pub fn plan_next(
         &mut self,

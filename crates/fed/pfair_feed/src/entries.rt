@@ -21,7 +21,7 @@ use std::alloc::{AllocError, Global};
 /// says.
 ///
 /// # Errors
-/// `AllocError` where memory was wanted and refused.
+/// Returns [`AllocError`] if an allocation fails.
 pub fn entries_of(alloc: Global, script: &Script) -> Result<Vec<u8>, AllocError>
     ensures text { IfOk result (λ text. text.items ≡ entries_text script.now.logs) }
     ensures script { OnOk result (IsScript script.now) }

@@ -13,7 +13,7 @@ pub enum FeedFault {
     /// The line is no entry's row, or a rule of entries refuses what it says.
     #[error("{0}")]
     Row(RowFault),
-    /// The entry was not taken, or nothing was planned or written after it; or want of memory.
+    /// The entry was not taken, or nothing was planned or written after it; or an allocation failed.
     #[error("{0}")]
     Follow(FollowFault),
     /// Number 70: the reader answered an error.

@@ -33,7 +33,7 @@ pub enum FollowFault {
     /// Number 71: the writer answered an error, or took none of a piece that isn't empty.
     #[error("writing failed")]
     WriteFailed,
-    /// Number 90: want of memory.
+    /// Number 90: an allocation failed.
     #[error("out of memory")]
     Memory,
 }

@@ -54,7 +54,7 @@ impl<R: Ready> Follower<R> {
     /// those before are left out. It costs the number of processors.
     ///
     /// # Errors
-    /// `AllocError` where memory was wanted and refused.
+    /// Returns [`AllocError`] if an allocation fails.
     pub fn new(
         alloc: Global,
         settings: Settings,
@@ -83,7 +83,7 @@ impl<R: Ready> Follower<R> {
     /// Writes the header of the rows, and flushes it.
     ///
     /// # Errors
-    /// [`FollowFault::Memory`] where memory was wanted and refused, and nothing is then written;
+    /// [`FollowFault::Memory`] if an allocation fails, and nothing is then written;
     /// [`FollowFault::WriteFailed`] where the writer failed, and has then a part of the line.
     pub fn write_header<W: Write>(&self, writer: &mut W) -> Result<(), FollowFault>
         ensures written { OnOk result (Appends (W.contents writer.old) (W.contents writer.new) (line (header_of self.now.output))) }

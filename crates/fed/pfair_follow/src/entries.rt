@@ -20,8 +20,8 @@ use std::io::{Read, Write};
 ///
 /// # Errors
 /// [`ProgramFault::Schedule`] with the cause where the file has no script, as
-/// [`read_script`](pfair_file::read_script) says, and [`ProgramFault::Memory`] where memory was
-/// wanted and refused: nothing has then been written. [`ProgramFault::WriteFailed`] where the writer
+/// [`read_script`](pfair_file::read_script) says, and [`ProgramFault::Memory`] if an allocation
+/// fails: nothing has then been written. [`ProgramFault::WriteFailed`] where the writer
 /// answered an error, or took nothing; a prefix of the text has then gone out.
 pub fn entries<R: Read, W: Write>(
     alloc: Global,

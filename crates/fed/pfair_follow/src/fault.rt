@@ -28,7 +28,7 @@ pub enum ProgramFault {
     /// Number 80: the words ask for nothing.
     #[error("command line refused")]
     CommandLine,
-    /// Number 90: want of memory.
+    /// Number 90: an allocation failed.
     #[error("out of memory")]
     Memory,
 }

@@ -35,7 +35,7 @@ const LOG: u32 = Script::LONGEST_LOG as u32;
 /// ends before all are: the rows of those before it are written, and `complaints` has the keys. Else
 /// the fault at which the follower stopped: [`ProgramFault::Feed`] with a torn entry, or with a
 /// refused row where `run.is_strict`; [`ProgramFault::Schedule`] with `ReadFailed`;
-/// [`ProgramFault::WriteFailed`]; [`ProgramFault::Memory`] where memory was wanted and refused. The
+/// [`ProgramFault::WriteFailed`]; [`ProgramFault::Memory`] if an allocation fails. The
 /// writer has then the rows of what was read before, and after `WriteFailed` a prefix of those of
 /// the last row.
 pub fn follow_rows<I: Read, W: Write, E: Write>(

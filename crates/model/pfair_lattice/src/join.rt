@@ -32,7 +32,7 @@ pub trait Join: Drop {
     /// Joins `other` in.
     ///
     /// # Errors
-    /// `AllocError` where memory was wanted and refused, which never comes where `other` is already
+    /// Returns [`AllocError`] if an allocation fails, which never happens if `other` is already
     /// below, or has nothing for which there is no place. Then a part of `other` is joined in: the
     /// value is above what it was and below the whole join, and joining `other` again gives the
     /// same join.
@@ -50,7 +50,7 @@ pub trait Join: Drop {
     /// A second value that is equal to this one.
     ///
     /// # Errors
-    /// `AllocError` where memory was wanted and refused.
+    /// Returns [`AllocError`] if an allocation fails.
     fn copy(&self) -> Result<Self, AllocError>
         ensures equal { IfOk result (λ copy. copy ≡ self.now) }
         ensures memory { OnErr result takes_memory };
@@ -61,7 +61,7 @@ pub trait Join: Drop {
     /// A join is above both sides, and below whatever else is.
     ghost least: { (x y z : Self) → joins x y z → IsLeastUpperBound below x y z };
 
-    /// What want of memory leaves is between the old value and the join, and joining again gives
+    /// What a failed allocation leaves is between the old value and the join, and joining again gives
     /// the same join.
     ghost resumes: { (x y z : Self) → partly x y z → IsPartlyJoined below joins x y z };
 

@@ -77,7 +77,7 @@ impl<K: Exact + Ord, V: Join> JoinMap<K, V> {
     /// stands there with it.
     ///
     /// # Errors
-    /// `AllocError` where memory was wanted and refused: never where the map has the key and its
+    /// Returns [`AllocError`] if an allocation fails: never if the map has the key and its
     /// values take no memory, and never where what stands there is above `value` already, or has a
     /// place for all of it. Then a missing key is still missing, at a key that is there a part of
     /// `value` may be joined in, and every other key holds what it held. The same call again gives

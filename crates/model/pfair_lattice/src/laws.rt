@@ -48,7 +48,7 @@ pub fn le_is_the_order_of_join<J: Join>()
     ensures { IsOrderOfJoin J.below J.joins }
 {}
 
-/// What is left after want of memory lies between the old value and the join, and joining again
+/// What is left after a failed allocation lies between the old value and the join, and joining again
 /// gives the same join.
 pub fn want_of_memory_resumes<J: Join>()
     ensures { (old other now : J) → J.partly old other now → IsPartlyJoined J.below J.joins old other now }

@@ -42,7 +42,7 @@ impl Agenda {
     /// is moved to where it has room.
     ///
     /// # Errors
-    /// `AllocError` where memory was wanted and refused, and then the agenda says what it said
+    /// Returns [`AllocError`] if an allocation fails; then the agenda says what it said
     /// before.
     pub fn push(
         &mut self,

@@ -25,7 +25,7 @@ pub enum TakeFault {
     /// The number is 0 or past the capacity.
     #[error("number out of range")]
     NumberOutOfRange,
-    /// Memory was wanted and refused.
+    /// An allocation failed.
     #[error("out of memory")]
     Memory,
 }
@@ -59,7 +59,7 @@ pub enum MergeFault {
     /// It has another number of processors, or another capacity.
     #[error("other shape")]
     OtherShape,
-    /// Memory was wanted and refused.
+    /// An allocation failed.
     #[error("out of memory")]
     Memory,
 }

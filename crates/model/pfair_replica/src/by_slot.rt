@@ -43,7 +43,7 @@ impl BySlot {
     /// Adds something behind what is listed at a slot.
     ///
     /// # Errors
-    /// `AllocError` where memory was wanted and refused, and then all is listed that was before.
+    /// Returns [`AllocError`] if an allocation fails; then all is listed that was before.
     pub(crate) fn push(&mut self, alloc: Global, slot: u64, said: Said) -> Result<(), AllocError>
         ensures ok { OnOk result ((t : ℕ) → listed_at self.new.lists t ≡ listed_at self.old.lists t ++ one_at slot said t) }
         ensures err { OnErr result ((t : ℕ) → listed_at self.new.lists t ≡ listed_at self.old.lists t) }

@@ -55,7 +55,7 @@ impl Replica {
     /// nothing. It costs a step for each processor, whatever the capacity.
     ///
     /// # Errors
-    /// `AllocError` where memory was wanted and refused.
+    /// Returns [`AllocError`] if an allocation fails.
     pub fn new(alloc: Global, processors: u8, capacity: u32) -> Result<Replica, AllocError>
         requires { IsShape processors capacity }
         ensures { IfOk result (λ x. replica_of x ≡ empty_replica processors capacity) }
@@ -142,7 +142,7 @@ impl Replica {
     ///
     /// # Errors
     /// `OtherShape` where the other has another number of processors or another capacity, and then
-    /// nothing is changed. `Memory` where memory was wanted and refused, which comes only where the
+    /// nothing is changed. `Memory` if an allocation fails, which happens only if the
     /// other holds something at a key at which this replica holds nothing: then a part of the other
     /// is merged in, and merging it again gives what one merge would have given.
     pub fn merge(&mut self, other: &Replica) -> Result<(), MergeFault>
@@ -160,7 +160,7 @@ impl Replica {
             return Err(MergeFault::OtherShape);
         }
         let joined = self.rows.join(&other.rows);
-        // want of memory leaves a part of the other joined in
+        // a failed allocation leaves a part of the other joined in
         self.counters
             .follow_join(&self.rows, &other.rows, self.processors, self.capacity);
         joined?;
@@ -171,7 +171,7 @@ impl Replica {
     /// held.
     ///
     /// # Errors
-    /// `AllocError` where memory was wanted and refused.
+    /// Returns [`AllocError`] if an allocation fails.
     pub fn copy(&self) -> Result<Replica, AllocError>
         ensures { IfOk result (λ copy. copy ≡ self.now) }
     {
@@ -256,7 +256,7 @@ impl Replica {
     /// behind these, and what [`Agenda::push`] costs for each announcement.
     ///
     /// # Errors
-    /// `AllocError` where memory was wanted and refused, which comes only where something is
+    /// Returns [`AllocError`] if an allocation fails, which happens only if something is
     /// announced there. At each slot the agenda then says what it said before, and behind it a
     /// beginning of what the processor announces.
     pub fn note_said(&self, proc: u8, from: u32, agenda: &mut Agenda) -> Result<(), AllocError>
@@ -278,7 +278,7 @@ impl Replica {
     /// processors times the capacity.
     ///
     /// # Errors
-    /// `AllocError` where memory was wanted and refused, which comes only where something is wrong.
+    /// Returns [`AllocError`] if an allocation fails, which happens only if something is wrong.
     pub fn faults(&self) -> Result<Faults, AllocError>
         ensures torn { IfOk result (λ faults. faults.torn.items ≡ torn_keys (replica_of self.now)) }
         ensures fallen { IfOk result (λ faults. faults.fallen.items ≡ fallen_keys (replica_of self.now)) }

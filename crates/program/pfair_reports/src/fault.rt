@@ -33,7 +33,7 @@ pub enum ProgramFault {
     /// Number 80: the words ask for nothing.
     #[error("command line refused")]
     CommandLine,
-    /// Number 90: want of memory.
+    /// Number 90: an allocation failed.
     #[error("out of memory")]
     Memory,
 }
@@ -96,7 +96,7 @@ impl ProgramFault {
 
     /// The exit status that goes with the fault: 1 for a command line or a weight, that of its
     /// cause for a file without a schedule, 3 for a run that went astray or whose gate gave up, 4
-    /// for want of memory, 5 for writing.
+    /// if an allocation failed, 5 for writing.
     pub fn status(&self) -> u8
         ensures { result ≡ status_of self.now }
     {

@@ -21,8 +21,8 @@ use std::io::{Read, Write};
 ///
 /// # Errors
 /// [`ProgramFault::Schedule`] with the cause where the file has no schedule, as
-/// [`scheduled`](pfair_file::scheduled) says, and [`ProgramFault::Memory`] where memory was wanted
-/// and refused: nothing has then been written.
+/// [`scheduled`](pfair_file::scheduled) says, and [`ProgramFault::Memory`] if an allocation
+/// fails: nothing has then been written.
 /// [`ProgramFault::WriteFailed`] where the writer answered an error, or took nothing; a prefix of
 /// the text has then gone out.
 pub fn lags<R: Read, W: Write>(

@@ -28,8 +28,8 @@ use std::thread::Threads;
 ///
 /// # Errors
 /// [`ProgramFault::Schedule`] with the cause where the file has no schedule, as
-/// [`scheduled`](pfair_file::scheduled) says, [`ProgramFault::Memory`] where memory was wanted
-/// and refused or a thread couldn't be started, [`ProgramFault::GateGaveUp`] only where the gate's
+/// [`scheduled`](pfair_file::scheduled) says, [`ProgramFault::Memory`] if an allocation
+/// fails or a thread can't be started, [`ProgramFault::GateGaveUp`] only where the gate's
 /// type may give up, and [`ProgramFault::Astray`] where a worker learned something else than the
 /// logs say: nothing has then been written.
 /// [`ProgramFault::WriteFailed`] where the writer answered an error, or took nothing; a prefix of

@@ -25,7 +25,7 @@ use std::io::Write;
 ///
 /// # Errors
 /// [`ProgramFault::WriteFailed`] where the writer answered an error or took nothing; a prefix of
-/// the text has then gone out. [`ProgramFault::Memory`] where memory was wanted and refused; nothing
+/// the text has then gone out. [`ProgramFault::Memory`] if an allocation fails; nothing
 /// has then gone out.
 pub fn windows<W: Write>(
     alloc: Global,

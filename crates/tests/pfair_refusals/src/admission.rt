@@ -94,7 +94,7 @@ pub(crate) const REFUSED_LEAVER: [Step; 4] = [
     ),
 ];
 
-/// The boundaries of some slots on a machine of one processor. After want of memory the members have
+/// The boundaries of some slots on a machine of one processor. After a failed allocation the members have
 /// to be those of a beginning, as their twins were on their way, and then hear the rest.
 pub(crate) fn boundaries(alloc: Global, frame: u64, steps: &[Step]) -> Look {
     if !(1..=1_000_000_000).contains(&frame) {
@@ -171,7 +171,7 @@ fn hears(
     }
 }
 
-// The boundary of a slot, if it counts all that it heard, also after want of memory.
+// The boundary of a slot, if it counts all that it heard, also after a failed allocation.
 fn hear(
     members: &mut Members,
     slot: u64,

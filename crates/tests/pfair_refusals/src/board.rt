@@ -61,7 +61,7 @@ fn publish_two(board: &Board, desk: &mut Desk, first: u64, second: u64) -> Look
     publish_one(board, desk, second)
 }
 
-/// An entry that is published. After want of memory the desk is as before, and publishes it once
+/// An entry that is published. After a failed allocation the desk is as before, and publishes it once
 /// more.
 pub(crate) fn publish(alloc: Global) -> Look {
     publish_on(&two_rows(alloc)?)
@@ -95,7 +95,7 @@ fn publish_at(board: &Board, desk: &mut Desk) -> Look
     }
 }
 
-/// A look at what another desk published. After want of memory the desk is as before, and looks
+/// A look at what another desk published. After a failed allocation the desk is as before, and looks
 /// once more.
 pub(crate) fn look(alloc: Global) -> Look {
     look_on(&two_rows(alloc)?)
@@ -132,7 +132,7 @@ fn look_at(board: &Board, writer: &mut Desk, reader: &mut Desk) -> Look
     )
 }
 
-/// A refresh that finds two entries. After want of memory what was found is held, and another
+/// A refresh that finds two entries. After a failed allocation what was found is held, and another
 /// refresh finds the rest.
 pub(crate) fn refresh(alloc: Global) -> Look {
     refresh_on(&two_rows(alloc)?)
@@ -164,7 +164,7 @@ fn refresh_from(board: &Board, writer: &mut Desk, reader: &mut Desk) -> Look
     Ok(reader.replica().missing(0).is_none() && reader.replica().le(writer.replica()))
 }
 
-/// A meet of two desks that published. After want of memory the first holds a part of the second,
+/// A meet of two desks that published. After a failed allocation the first holds a part of the second,
 /// and meets it again.
 pub(crate) fn meet(alloc: Global) -> Look {
     meet_on(&two_rows(alloc)?)

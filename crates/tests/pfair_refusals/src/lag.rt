@@ -16,7 +16,7 @@ fn has_entered(book: &LagBook, names: &[TaskName]) -> bool {
     book.name_at(names.len()).is_none() && book.time() == 0
 }
 
-// Enters a task after those that are there. After want of memory nothing has changed, and it is
+// Enters a task after those that are there. After a failed allocation nothing has changed, and it is
 // entered once more.
 fn enters(
     book: &mut LagBook,

@@ -73,7 +73,7 @@ fn is_between(old: &Outer, now: &Outer, whole: &Outer) -> bool {
     old.le(now) && now.le(whole)
 }
 
-/// A join that adds keys at each of three depths. After want of memory it is made once more.
+/// A join that adds keys at each of three depths. After a failed allocation it is made once more.
 pub(crate) fn join_three_deep(alloc: Global) -> Look {
     let other = grown(alloc)?;
     join_from(alloc, &other)
@@ -101,7 +101,7 @@ fn join_into(now: &mut Outer, old: &Outer, other: &Outer, whole: &Outer) -> Look
     Ok(is_whole(now) && is_between(whole, now, whole))
 }
 
-/// A pair at a key that a map has, or lacks. After want of memory the map lies between the old one
+/// A pair at a key that a map has, or lacks. After a failed allocation the map lies between the old one
 /// and the join, and a key that was missing still is.
 pub(crate) fn put(alloc: Global, key: u8) -> Look {
     let other = grown(alloc)?;

@@ -3,7 +3,7 @@
 //!
 //! It is run with one allocation after another refused, by a library that is loaded before it.
 //! After each call it looks, by calls that take no memory, whether the answer is the ample one, or
-//! want of memory with the state that the call promises then. It says in a line what it looked at,
+//! a failed allocation with the state that the call promises then. It says in a line what it looked at,
 //! and ends with status 0 where all was as promised, with 1 at the first call where it was not, and
 //! with 4 where it wanted memory for its own looking.
 #![tactic(auto)]
@@ -24,7 +24,7 @@ use std::process::ExitCode;
 use std::sync::Wait;
 use std::thread::Threads;
 
-// What a look answers: whether all was as promised, or want of memory for the looking.
+// What a look answers: whether all was as promised, or that an allocation for the looking failed.
 type Look = Result<bool, AllocError>;
 
 // A look, and what it was at.

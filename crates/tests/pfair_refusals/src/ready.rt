@@ -18,7 +18,7 @@ fn key(d: u64, letter: u8) -> Option<Key> {
     })
 }
 
-/// A key that is new. After want of memory nothing has changed, and it is inserted once more.
+/// A key that is new. After a failed allocation nothing has changed, and it is inserted once more.
 pub(crate) fn insert<R: Ready>(alloc: Global) -> Look {
     insert_into(&mut R::new(alloc))
 }
@@ -40,7 +40,7 @@ fn insert_into<R: Ready>(ready: &mut R) -> Look {
     Ok(ready.held(&b.name) == Some((0, b)) && ready.held(&a.name) == Some((3, a)))
 }
 
-/// A selection of one key of two that are released. After want of memory all is held still and the
+/// A selection of one key of two that are released. After a failed allocation all is held still and the
 /// slot has moved; then it is made once more.
 pub(crate) fn take_first<R: Ready>(alloc: Global) -> Look {
     take_first_of(&mut R::new(alloc))

@@ -29,7 +29,7 @@ fn are_equal(left: &Replica, right: &Replica) -> bool {
     left.le(right) && right.le(left)
 }
 
-/// An entry that is new. After want of memory it isn't held, and is taken once more.
+/// An entry that is new. After a failed allocation it isn't held, and is taken once more.
 pub(crate) fn take(alloc: Global) -> Look {
     let empty = Replica::new(alloc, 2, 5)?;
     let mut replica = Replica::new(alloc, 2, 5)?;
@@ -51,7 +51,7 @@ fn take_into(replica: &mut Replica, empty: &Replica) -> Look {
     Ok(replica.get(1, 4) == Some(Flat::One(entry)) && replica.take(1, 4, entry) == Ok(Taken::Known))
 }
 
-/// The merge of two halves of ten entries. After want of memory what is held lies between, and it
+/// The merge of two halves of ten entries. After a failed allocation what is held lies between, and it
 /// is merged once more.
 pub(crate) fn merge(alloc: Global) -> Look {
     let whole = holding(alloc, true, true)?;

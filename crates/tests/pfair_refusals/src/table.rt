@@ -102,7 +102,7 @@ pub(crate) fn plans<R: Ready>(alloc: Global) -> Look {
     plans_rest(&mut dispatcher)
 }
 
-/// Reopening after three slots. After want of memory plans are spent, and it is reopened once more.
+/// Reopening after three slots. After a failed allocation plans are spent, and it is reopened once more.
 pub(crate) fn reopen<R: Ready>(alloc: Global) -> Look {
     let mut dispatcher: Dispatcher<R> = half_planned(alloc)?;
     reopens_and_plans(&mut dispatcher)

@@ -24,7 +24,7 @@ struct Head {
 /// Adds the line that names the fields.
 ///
 /// # Errors
-/// `AllocError` where memory was wanted and refused; the text is not to be used any more then.
+/// Returns [`AllocError`] if an allocation fails; the text is not to be used any more then.
 pub fn add_header(writer: &mut Writer<Vec<u8>>) -> Result<(), AllocError>
     requires { IsOpen writer.old }
     ensures open { OnOk result (IsOpen writer.new) }
@@ -53,7 +53,7 @@ pub fn add_header(writer: &mut Writer<Vec<u8>>) -> Result<(), AllocError>
 /// the three again.
 ///
 /// # Errors
-/// `AllocError` where memory was wanted and refused; the text is not to be used any more then.
+/// Returns [`AllocError`] if an allocation fails; the text is not to be used any more then.
 pub fn add_entry(
     writer: &mut Writer<Vec<u8>>,
     processor: u8,
@@ -87,7 +87,7 @@ pub fn add_entry(
 /// The row of an entry alone, without a line's end, as [`add_entry`] writes it.
 ///
 /// # Errors
-/// `AllocError` where memory was wanted and refused.
+/// Returns [`AllocError`] if an allocation fails.
 pub fn row_of(
     alloc: Global,
     processor: u8,

@@ -25,7 +25,7 @@ use toml::Table;
 /// The file's first fault: [`FileFault::NotToml`]; then, key by key in the order of [`Field`],
 /// `Missing`, `WrongKind` and `Range`, or `Version` for a version that is none of 1 and 2; the
 /// entries table by table, and for each table after its keys `Entry`. [`FileFault::Memory`] only
-/// for want of memory.
+/// if an allocation fails.
 pub fn read_file(alloc: Global, bytes: &[u8]) -> Result<Script, FileFault>
     ensures ok { IfOk result (λ script. script_of_file bytes.now ≡ Ok script) }
     ensures fault { IfErr result (λ f. f ≢ Memory → script_of_file bytes.now ≡ Err f) }

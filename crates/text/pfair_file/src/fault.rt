@@ -31,7 +31,7 @@ impl EntryCause {
     }
 }
 
-/// The first fault of a task file, or want of memory. A place is the number of the entry's table in
+/// The first fault of a task file, or a failed allocation. A place is the number of the entry's table in
 /// the file, counted from 1, and 0 for the file's own keys.
 #[derive(Clone, Copy, Debug, PartialEq, Eq, Error)]
 pub enum FileFault {
@@ -75,14 +75,14 @@ pub enum FileFault {
     /// Number 65: the version is none of 1 and 2.
     #[error("unknown version")]
     Version,
-    /// Number 90: want of memory.
+    /// Number 90: an allocation failed.
     #[error("out of memory")]
     Memory,
 }
 
 impl FileFault {
     /// The number under which the fault is reported: 60 to 65 in the order of the variants, and 90
-    /// for want of memory.
+    /// if an allocation failed.
     pub fn number(&self) -> u8
         ensures { result ≡ file_fault_number self.now }
     {

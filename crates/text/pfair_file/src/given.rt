@@ -9,7 +9,7 @@ use std::rt::Env;
 /// The words after the program's name.
 ///
 /// # Errors
-/// `no_text` where a word is no text, and what a want of memory makes of the fault's type where
+/// `no_text` where a word is no text, and what a failed allocation makes of the fault's type where
 /// memory was wanting.
 pub fn given_words<P: Env + AllocGlobal, F: From<AllocError> + Drop>(
     rt: &P,

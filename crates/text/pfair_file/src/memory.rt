@@ -1,4 +1,4 @@
-//! Errors that tell of a want of memory.
+//! Errors that mean a failed allocation.
 
 ghost use Rattle.std.specs.IoError.{error_kind};
 ghost use Rattle.std.specs.Prelude.{IsTrue, ◌≡◌, ◌↔◌};
@@ -6,7 +6,7 @@ ghost use Rattle.std.specs.Prelude.{IsTrue, ◌≡◌, ◌↔◌};
 use std::io;
 use std::io::ErrorKind;
 
-/// Whether an error of the platform is its want of memory.
+/// Returns whether an error of the platform means that memory ran out.
 pub(crate) fn is_want_of_memory(error: &io::Error) -> bool
     ensures { IsTrue result ↔ (error_kind error.now ≡ ErrorKind.OutOfMemory) }
 {

@@ -58,7 +58,7 @@ pub fn scheduled<R: Read>(
 /// # Errors
 /// [`ScheduleFault::ReadFailed`] where the reader answers an error, [`ScheduleFault::FileTooLong`]
 /// where more than 67,108,864 bytes come, [`ScheduleFault::File`] with the first fault of the file,
-/// and [`ScheduleFault::Memory`] where memory was wanted and refused.
+/// and [`ScheduleFault::Memory`] if an allocation fails.
 pub fn read_script<R: Read>(alloc: Global, reader: &mut R) -> Result<Script, ScheduleFault>
     ensures ok { IfOk result (λ s. IfSome (R.remaining reader.old) (λ bytes. script_of_file bytes ≡ Ok s)) }
     ensures refused { IfErr result (λ e. IfSome (R.remaining reader.old) (λ bytes. IsRefusalOf bytes e)) }

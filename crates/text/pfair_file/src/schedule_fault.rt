@@ -27,7 +27,7 @@ pub enum ScheduleFault {
     /// Number 70: the file could not be opened, or the reader answered an error.
     #[error("reading failed")]
     ReadFailed,
-    /// Number 90: want of memory.
+    /// Number 90: an allocation failed.
     #[error("out of memory")]
     Memory,
 }
@@ -81,7 +81,7 @@ impl ScheduleFault {
     }
 
     /// The exit status that goes with the fault: 2 for a task file, 3 for a run that is stalled, 4
-    /// for want of memory, 5 for reading.
+    /// if an allocation failed, 5 for reading.
     pub fn status(&self) -> u8
         ensures { result ≡ schedule_fault_status self.now }
     {

@@ -17,7 +17,7 @@ use std::alloc::{AllocError, Global};
 /// Adds the header of decisions as rows.
 ///
 /// # Errors
-/// `AllocError` where memory was wanted and refused.
+/// Returns [`AllocError`] if an allocation fails.
 pub fn add_decisions_header(writer: &mut Writer<Vec<u8>>) -> Result<(), AllocError>
     requires { IsOpen writer.old }
     ensures open { OnOk result (IsOpen writer.new) }
@@ -40,7 +40,7 @@ pub fn add_decisions_header(writer: &mut Writer<Vec<u8>>) -> Result<(), AllocErr
 /// dispatcher has planned, from a slot on that isn't forgotten. It costs the rows.
 ///
 /// # Errors
-/// `AllocError` where memory was wanted and refused.
+/// Returns [`AllocError`] if an allocation fails.
 pub fn add_decisions_from<R: Ready>(
     writer: &mut Writer<Vec<u8>>,
     dispatcher: &Dispatcher<R>,

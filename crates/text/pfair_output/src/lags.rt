@@ -26,7 +26,7 @@ use std::alloc::{AllocError, Global};
 /// Adds the header of lags as rows.
 ///
 /// # Errors
-/// `AllocError` where memory was wanted and refused.
+/// Returns [`AllocError`] if an allocation fails.
 pub fn add_lags_header(writer: &mut Writer<Vec<u8>>) -> Result<(), AllocError>
     requires { IsOpen writer.old }
     ensures open { OnOk result (IsOpen writer.new) }
@@ -40,7 +40,7 @@ pub fn add_lags_header(writer: &mut Writer<Vec<u8>>) -> Result<(), AllocError>
 /// [`LagBook::record`] cost for each slot.
 ///
 /// # Errors
-/// `AllocError` where memory was wanted and refused; the book is then told a part of this.
+/// Returns [`AllocError`] if an allocation fails; the book is then told a part of this.
 pub fn add_lags_from<R: Ready>(
     writer: &mut Writer<Vec<u8>>,
     book: &mut LagBook,
@@ -64,7 +64,7 @@ pub fn add_lags_from<R: Ready>(
 /// [`LagBook::record`] cost for each slot.
 ///
 /// # Errors
-/// `AllocError` where memory was wanted and refused; the book is then told a part of this.
+/// Returns [`AllocError`] if an allocation fails; the book is then told a part of this.
 pub fn tell_slots<R: Ready>(
     book: &mut LagBook,
     dispatcher: &Dispatcher<R>,
@@ -142,7 +142,7 @@ pub(crate) fn tell_slot(
 /// who departs. It costs a look-up for each decision, and a pass over the book for each departure.
 ///
 /// # Errors
-/// `AllocError` where memory was wanted and refused; the book is then told some of the decisions.
+/// Returns [`AllocError`] if an allocation fails; the book is then told some of the decisions.
 pub fn tell_all(book: &mut LagBook, decided: &[Decided]) -> Result<(), AllocError>
     ensures { OnOk result (book.new ≡ all_told decided.now book.old) }
 {

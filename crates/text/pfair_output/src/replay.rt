@@ -21,7 +21,7 @@ use std::alloc::{AllocError, Global};
 /// in the rows.
 ///
 /// # Errors
-/// `AllocError` where memory was wanted and refused.
+/// Returns [`AllocError`] if an allocation fails.
 pub fn placed_replay_of(
     alloc: Global,
     tables: &[Vec<Pick>],
@@ -38,7 +38,7 @@ pub fn placed_replay_of(
 /// Adds the header of tables as rows.
 ///
 /// # Errors
-/// `AllocError` where memory was wanted and refused.
+/// Returns [`AllocError`] if an allocation fails.
 pub fn add_replay_header(writer: &mut Writer<Vec<u8>>) -> Result<(), AllocError>
     requires { IsOpen writer.old }
     ensures open { OnOk result (IsOpen writer.new) }
@@ -50,7 +50,7 @@ pub fn add_replay_header(writer: &mut Writer<Vec<u8>>) -> Result<(), AllocError>
 /// Adds the header of tables as rows that end with their places.
 ///
 /// # Errors
-/// `AllocError` where memory was wanted and refused.
+/// Returns [`AllocError`] if an allocation fails.
 pub fn add_placed_header(writer: &mut Writer<Vec<u8>>) -> Result<(), AllocError>
     requires { IsOpen writer.old }
     ensures open { OnOk result (IsOpen writer.new) }
@@ -66,7 +66,7 @@ pub fn add_placed_header(writer: &mut Writer<Vec<u8>>) -> Result<(), AllocError>
 /// the rows.
 ///
 /// # Errors
-/// `AllocError` where memory was wanted and refused.
+/// Returns [`AllocError`] if an allocation fails.
 pub fn add_table_rows(
     writer: &mut Writer<Vec<u8>>,
     slot: u64,
@@ -85,7 +85,7 @@ pub fn add_table_rows(
 /// forgotten, under the header of [`add_replay_header`]. It costs the rows.
 ///
 /// # Errors
-/// `AllocError` where memory was wanted and refused.
+/// Returns [`AllocError`] if an allocation fails.
 pub fn add_tables_from<R: Ready>(
     writer: &mut Writer<Vec<u8>>,
     dispatcher: &Dispatcher<R>,
@@ -106,7 +106,7 @@ pub fn add_tables_from<R: Ready>(
 /// Adds the same rows, each with its place at the end, under the header of [`add_placed_header`].
 ///
 /// # Errors
-/// `AllocError` where memory was wanted and refused.
+/// Returns [`AllocError`] if an allocation fails.
 pub fn add_placed_tables_from<R: Ready>(
     writer: &mut Writer<Vec<u8>>,
     dispatcher: &Dispatcher<R>,

@@ -21,7 +21,7 @@ pub enum ReadFault {
     TooLong,
     /// The reader answered an error.
     ReadFailed,
-    /// Want of memory.
+    /// An allocation failed.
     Memory,
 }
 
@@ -33,7 +33,7 @@ pub enum ReadFault {
 /// # Errors
 /// [`ReadFault::TooLong`] only where more than [`LONGEST_FILE`] bytes came,
 /// [`ReadFault::ReadFailed`] where the reader answered an error, at once and whatever its kind, and
-/// [`ReadFault::Memory`] where memory was wanted and refused.
+/// [`ReadFault::Memory`] if an allocation fails.
 pub fn read_bytes<R: Read>(alloc: Global, reader: &mut R) -> Result<Vec<u8>, ReadFault>
     ensures short { IfOk result (λ bytes. length bytes.items ≤ 67108864) }
     ensures whole { IfOk result (λ bytes. Consumes (R.remaining reader.old) (R.remaining reader.new) bytes.items) }

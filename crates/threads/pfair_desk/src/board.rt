@@ -42,7 +42,7 @@ impl Board {
     /// times `capacity`.
     ///
     /// # Errors
-    /// `AllocError` where memory was wanted and refused.
+    /// Returns [`AllocError`] if an allocation fails.
     pub fn new(alloc: Global, processors: u8, capacity: u32) -> Result<Board, AllocError>
         requires { IsShape processors capacity }
         ensures { IfOk result (λ b. (b.processors ≡ processors) × (b.capacity ≡ capacity)) }
@@ -82,7 +82,7 @@ impl Board {
     /// room grows with the number of desks alone, as notes of cells take none.
     ///
     /// # Errors
-    /// `AllocError` where memory was wanted and refused.
+    /// Returns [`AllocError`] if an allocation fails.
     pub fn desks(&self) -> Result<Vec<Desk>, AllocError>
         ensures count { IfOk result (λ desks. vec_len desks ≡ self.now.processors) }
         ensures fresh { IfOk result (λ desks. (k : ℕ) (d : DeskView) → slice_get desks.items k ≡ Some d → state_of d ≡ fresh_desk self.now k) }

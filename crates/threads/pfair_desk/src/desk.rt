@@ -202,7 +202,7 @@ impl Desk {
     /// holds and for each number of a row in which it holds one.
     ///
     /// # Errors
-    /// `AllocError` where memory was wanted and refused, which comes only where the other holds
+    /// Returns [`AllocError`] if an allocation fails, which happens only if the other holds
     /// something at a key at which this desk holds nothing: then a part of that is joined in, and
     /// another meet gives what one would have given.
     pub fn meet(&mut self, other: &Desk) -> Result<(), AllocError>
@@ -223,14 +223,14 @@ impl Desk {
 
     /// Looks at each processor's numbers, from the first that the desk doesn't hold up to the first
     /// empty cell, and answers how many keys are newly held. In a row that gained some, no number
-    /// up to the last one gained is missing then, also after want of memory.
+    /// up to the last one gained is missing then, also after a failed allocation.
     ///
     /// It costs, for each processor, a look at each number that is newly held and at one empty
     /// cell, and a look-up for each number past its sound beginning that was held already. What is
     /// in a sound beginning isn't gone through again.
     ///
     /// # Errors
-    /// `AllocError` where memory was wanted and refused, which comes only where a key of the board
+    /// Returns [`AllocError`] if an allocation fails, which happens only if a key of the board
     /// is still not held; what was found until then is held.
     pub fn refresh(&mut self, board: &Board) -> Result<u64, AllocError>
         requires own { IsDeskOf self.old board.now }

@@ -14,7 +14,7 @@ pub enum LookFault {
     /// The number is 0 or past the capacity.
     #[error("number out of range")]
     NumberOutOfRange,
-    /// Memory was wanted and refused.
+    /// An allocation failed.
     #[error("out of memory")]
     Memory,
 }
@@ -44,7 +44,7 @@ pub enum PublishFault {
         /// The entry that stands there.
         standing: Entry,
     },
-    /// Memory was wanted and refused.
+    /// An allocation failed.
     #[error("out of memory")]
     Memory,
 }
