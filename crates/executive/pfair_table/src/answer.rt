@@ -5,13 +5,12 @@ ghost use Rattle.pfair_table.specs.PlanFault.{plan_fault_number};
 
 use thiserror::Error;
 
-/// What a plan has done.
+/// What a call of `plan_next` did.
 #[derive(Clone, Copy, Debug, PartialEq, Eq)]
 pub enum Step {
-    /// This slot was planned.
+    /// It planned this slot.
     Planned(u64),
-    /// Nothing: the next slot is at or past the frontier, up to which the logs that are held are
-    /// settled.
+    /// Nothing: the next slot is at or past the frontier, below which the logs are settled.
     Waiting {
         /// The frontier.
         frontier: u64,
@@ -23,8 +22,8 @@ pub enum Step {
 /// Why a slot was not planned, or nothing reopened.
 #[derive(Clone, Copy, Debug, PartialEq, Eq, Error)]
 pub enum PlanFault {
-    /// Two contents of one entry met; this is the least such key. What was planned stands, and no
-    /// more is planned.
+    /// An entry has two contents; this is the least such key. Planned slots stay, and no further slot
+    /// is planned.
     #[error("entry {number} of processor {proc} torn")]
     Torn {
         /// The processor in whose log the entry stands, counted from 0.
@@ -32,7 +31,7 @@ pub enum PlanFault {
         /// Its number in that log, counted from 1.
         number: u32,
     },
-    /// A plan has wanted memory: the dispatcher has to be reopened.
+    /// An allocation failed in an earlier plan: the dispatcher has to be reopened.
     #[error("spent")]
     Spent,
     /// An allocation failed.
@@ -41,7 +40,8 @@ pub enum PlanFault {
 }
 
 impl PlanFault {
-    /// The number under which the fault is reported: 30, 31 and 90, in the order of the variants.
+    /// Returns the number under which the fault is reported: 30, 31 and 90, in the order of the
+    /// variants.
     pub fn number(&self) -> u8
         ensures { result ≡ plan_fault_number self.now }
     {

@@ -31,10 +31,10 @@ use pfair_replica::{MergeFault, Replica, TakeFault, Taken};
 use std::alloc::{AllocError, Global};
 use std::marker::Model;
 
-/// Holds what one processor has heard of all logs, and plans slot after slot what that settles.
+/// Plans slot after slot for one processor, from the log entries that have reached it.
 ///
-/// A slot that is planned stays as it is, whatever comes later. The same entries give the same
-/// tables, in whatever order, with whatever losses and repeats they come.
+/// A planned slot never changes, whatever arrives later. The same entries give the same tables, in
+/// whatever order they arrive, with whatever losses and repeats.
 #[derive(Drop)]
 pub struct Dispatcher<R: Ready> {
     settings: Settings,
@@ -57,8 +57,8 @@ impl<R: Ready> Model for Dispatcher<R> {
 }
 
 impl<R: Ready> Dispatcher<R> {
-    /// A dispatcher that holds nothing and has planned nothing, with room for logs of `capacity`
-    /// entries, 1 to 4,096. It costs the number of processors.
+    /// Creates a dispatcher that holds no entries and has planned nothing, with room for logs of
+    /// `capacity` entries, 1 to 4,096. O(M) for M processors.
     ///
     /// # Errors
     /// Returns [`AllocError`] if an allocation fails.
@@ -80,11 +80,11 @@ impl<R: Ready> Dispatcher<R> {
         })
     }
 
-    /// Takes entry `number` (from 1) of the log of `processor` (from 0), as [`Replica::take`], and
-    /// costs what that costs: nothing is planned or read for it.
+    /// Takes entry `number` (from 1) of the log of processor `proc` (from 0), as [`Replica::take`].
+    /// Nothing is planned. The cost is that of [`Replica::take`].
     ///
     /// # Errors
-    /// Those of [`Replica::take`]; the dispatcher is then as before.
+    /// Those of [`Replica::take`]; nothing has then changed.
     pub fn take(&mut self, proc: u8, number: u32, entry: Entry) -> Result<Taken, TakeFault>
         ensures answer { IfOk result (IsTakenAs (held self.old.held proc number) entry) }
         ensures key { OnOk result (IsKeyOf self.old.held proc number) }
@@ -96,11 +96,11 @@ impl<R: Ready> Dispatcher<R> {
         self.replica.take(proc, number, entry)
     }
 
-    /// Takes all that another replica holds, as [`Replica::merge`], and costs what that costs.
+    /// Takes all entries of another replica, as [`Replica::merge`], and at its cost.
     ///
     /// # Errors
-    /// Those of [`Replica::merge`]: after `OtherShape` the dispatcher is as before, and after
-    /// `Memory` it holds a part of what the other holds beside what it held.
+    /// Those of [`Replica::merge`]. After `OtherShape` nothing has changed; after `Memory` some of the
+    /// other's entries have been added.
     pub fn absorb(&mut self, other: &Replica) -> Result<(), MergeFault>
         ensures same_shape { OnOk result (SameShape self.old.held other.now) }
         ensures fault { IfErr result (IsMergeFaultOf self.old.held other.now) }
@@ -112,23 +112,23 @@ impl<R: Ready> Dispatcher<R> {
         self.replica.merge(other)
     }
 
-    /// What the dispatcher plans for.
+    /// Returns the processors, frame and slots that the dispatcher plans for.
     pub fn settings(&self) -> Settings
         ensures { result ≡ self.now.settings }
     {
         self.settings
     }
 
-    /// What it holds.
+    /// Returns the entries that the dispatcher holds.
     pub fn replica(&self) -> &Replica
         ensures value { result.now ≡ self.now.held }
     {
         &self.replica
     }
 
-    /// The headline at two dispatchers, whatever was called on either: where their settings are
-    /// equal and what they hold agrees, each slot that both have planned has one table, that of
-    /// what either holds, the same decisions and the same places. It does nothing.
+    /// States the headline of two dispatchers, whatever was called on either: if their settings are
+    /// equal and their replicas agree, each slot that both have planned has the same table, which is
+    /// that of either replica, the same decisions and the same places. It does nothing.
     pub fn plans_alike<Q: Ready>(&self, other: &Dispatcher<Q>)
         ensures planned { HavePlannedAlike self.now other.now }
         ensures placed { HavePlacedAlike self.now other.now }
@@ -137,8 +137,8 @@ impl<R: Ready> Dispatcher<R> {
         prove!(other.replica.processors() >= 1);
     }
 
-    /// The slot that is planned next: so many slots are planned, at most as many as the run has. The
-    /// forgotten ones count.
+    /// Returns the slot that is planned next, which is the number of planned slots, forgotten ones
+    /// among them: at most the slots of the run.
     pub fn next_slot(&self) -> u64
         ensures value { result ≡ length self.now.tables }
         ensures decided { result ≡ length self.now.decided }
@@ -149,8 +149,8 @@ impl<R: Ready> Dispatcher<R> {
         self.planned.len() as u64
     }
 
-    /// The slot below which all is forgotten: 0 where nothing is, and at most
-    /// [`next_slot`](Dispatcher::next_slot). It costs nothing.
+    /// Returns the slot below which all is forgotten, 0 at first, and at most
+    /// [`next_slot`](Dispatcher::next_slot). O(1).
     pub fn forgotten(&self) -> u64
         ensures value { result ≡ self.now.forgotten }
         ensures planned { self.now.forgotten ≤ length self.now.tables }
@@ -158,22 +158,20 @@ impl<R: Ready> Dispatcher<R> {
         self.planned.forgotten() as u64
     }
 
-    /// Forgets the tables, places and decisions of all slots below `slots`, or of all that are planned
-    /// where these are fewer. Plans, members and what is held stay as they are, and what was
-    /// forgotten stays forgotten, also after [`reopen`](Dispatcher::reopen), which plans these slots
-    /// again.
+    /// Forgets the tables, places and decisions of all slots below `slots`, or of all planned slots if
+    /// these are fewer. Later plans, members and entries do not change. What was forgotten stays
+    /// forgotten, also after [`reopen`](Dispatcher::reopen), which plans these slots again.
     ///
-    /// The memory of 1,024 slots is given back at a time, as soon as all of them are forgotten and a
-    /// later slot is planned; 16 bytes stand for these. It costs the slots that are given back, and it
-    /// takes no memory.
+    /// Memory is given back for 1,024 slots at a time, once all of them are forgotten and a later slot
+    /// is planned; 16 bytes stay for them. O(slots that are given back); it allocates nothing.
     pub fn forget(&mut self, slots: u64)
         ensures { self.new ≡ record self.old { forgotten = max self.old.forgotten (min slots (length self.old.tables)) } }
     {
         self.planned.forget(slots as usize);
     }
 
-    /// The table of a slot: its quanta in the PD2 order. `None` exactly where the slot isn't
-    /// planned, or is forgotten.
+    /// Returns the table of a slot: its quanta in the PD2 order. `None` if the slot isn't planned or
+    /// is forgotten, and only then.
     pub fn table(&self, slot: u64) -> Option<&[Pick]>
         ensures value { self.now.forgotten ≤ slot → option_map (λ rows. rows.now) result ≡ slice_get self.now.tables slot }
         ensures forgotten { slot < self.now.forgotten → result ≡ None }
@@ -181,10 +179,10 @@ impl<R: Ready> Dispatcher<R> {
         self.planned.table(slot as usize)
     }
 
-    /// The places of a slot: for each row of its table the processor that runs it. A task that is
-    /// in the table before stays where it was, and the others, in row order, each take the least
-    /// processor that no row keeps and none has taken. `None` exactly where the slot isn't planned,
-    /// or is forgotten.
+    /// Returns the places of a slot: for each row of its table the processor that runs it. A task
+    /// that also ran in the slot before keeps its processor; the others, in row order, each take the
+    /// least processor that is free. `None` if the slot isn't planned or is forgotten, and only then.
+    ///
     /// The law [`places_are_kept`](crate::laws::places_are_kept) holds of them, since no table has
     /// more rows than there are processors, or a task twice.
     pub fn places(&self, slot: u64) -> Option<&[u8]>
@@ -195,8 +193,8 @@ impl<R: Ready> Dispatcher<R> {
         self.planned.places(slot as usize)
     }
 
-    /// The decisions at the boundary of a slot, in the order of processor and number. `None`
-    /// exactly where the slot isn't planned, or is forgotten.
+    /// Returns the admission decisions at the boundary of a slot, in the order of processor and
+    /// number. `None` if the slot isn't planned or is forgotten, and only then.
     pub fn decisions(&self, slot: u64) -> Option<&[Decided]>
         ensures value { self.now.forgotten ≤ slot → option_map (λ rows. rows.now) result ≡ slice_get self.now.decided slot }
         ensures forgotten { slot < self.now.forgotten → result ≡ None }
@@ -204,9 +202,9 @@ impl<R: Ready> Dispatcher<R> {
         self.planned.decided(slot as usize)
     }
 
-    /// The members after the slots that are planned: in the order of admission the tasks that were
-    /// admitted and aren't freed at the boundary of the last of these, each with the subtask that is
-    /// next after its table. `None` exactly where the dispatcher is spent. It costs nothing.
+    /// Returns the members after the last planned slot: in the order of admission the tasks that were
+    /// admitted and aren't freed at that slot's boundary, each with its next subtask. `None` if the
+    /// dispatcher is spent, and only then. O(1).
     pub fn members(&self) -> Option<&Members>
         ensures none { IfNone result (self.now.spent ≡ true) }
         ensures some { IfSome result (λ members. self.now.spent ≡ false) }
@@ -220,8 +218,8 @@ impl<R: Ready> Dispatcher<R> {
         Some(&self.planner.members)
     }
 
-    /// The tables of the slots that are planned and not forgotten, and their places. Each is moved,
-    /// and none is copied: it costs the number of those slots.
+    /// Returns the tables and places of the planned slots that aren't forgotten. Each is moved, none
+    /// is copied: O(those slots).
     ///
     /// # Errors
     /// Returns [`AllocError`] if an allocation fails.
@@ -232,30 +230,27 @@ impl<R: Ready> Dispatcher<R> {
         self.planned.into_run()
     }
 
-    /// What is held, with no copy.
+    /// Returns the entries that the dispatcher holds, without a copy.
     pub fn into_replica(self) -> Replica
         ensures { result ≡ self.held }
     {
         self.replica
     }
 
-    /// Plans the next slot where what is held settles it.
+    /// Plans the next slot if the entries settle it.
     ///
-    /// [`Step::Done`] exactly where all slots of the run are planned, else [`Step::Waiting`]
-    /// exactly where the next slot is not below the frontier. After either the tables are the whole
-    /// plan of what is held.
+    /// Returns [`Step::Done`] if all slots of the run are planned, else [`Step::Waiting`] if the next
+    /// slot is not below the frontier. After either the tables are the whole plan of the entries.
     ///
-    /// It costs a look-up for each processor; what is said at the slot, and for each of its quanta
-    /// a number of steps that grows with the logarithm of the number of tasks; and the entries that
-    /// have come into sound beginnings since the last slot was planned, each of which is looked at
-    /// once over all plans. It doesn't grow with the entries held. Every 1,024 slots memory is asked
-    /// for the slots that come, and nothing that was planned before is copied.
+    /// O(M log n + a) for M processors, n tasks and a announcements at the slot; beside that each
+    /// entry is looked at once over all plans. The cost doesn't grow with the entries held. Room for
+    /// 1,024 slots is allocated at a time, and nothing that was planned before is copied.
     ///
     /// # Errors
-    /// Looked at first, in this order: [`PlanFault::Torn`] exactly where something held is torn,
-    /// [`PlanFault::Spent`] exactly where the dispatcher is spent; nothing has then changed.
-    /// [`PlanFault::Memory`] if an allocation fails: what is held and what was planned
-    /// stand, the slot isn't planned, and the dispatcher is spent.
+    /// The first that applies: [`PlanFault::Torn`] if an entry held is torn and [`PlanFault::Spent`]
+    /// if the dispatcher is spent, and nothing has then changed; [`PlanFault::Memory`] if an
+    /// allocation fails: entries and planned slots stay, the slot isn't planned, and the dispatcher
+    /// is spent.
     pub fn plan_next(&mut self) -> Result<Step, PlanFault>
         ensures course { OnOk result (course_of self.new ≡ happens self.old.settings (course_of self.old) PlanEvent) }
         ensures rest { OnOk result (self.new ≡ record self.old { tables = self.new.tables; decided = self.new.decided }) }
@@ -293,7 +288,7 @@ impl<R: Ready> Dispatcher<R> {
         }
     }
 
-    /// Takes room for the next `slots` slots, or for all that are left if these are fewer, and for
+    /// Makes room for the next `slots` slots, or for all that are left if these are fewer, and for
     /// `tasks` members at once, or for as many as the logs have entries if these are fewer.
     ///
     /// Over [`HeapReady`](pfair_ready::HeapReady) the plan of such a slot allocates nothing if no entry
@@ -304,7 +299,8 @@ impl<R: Ready> Dispatcher<R> {
     /// task.
     ///
     /// # Errors
-    /// `AllocError` if an allocation fails. All is as before, and the room that was taken is used later.
+    /// Returns [`AllocError`] if an allocation fails. All is as before, and the room that was made is
+    /// used later.
     pub fn reserve(&mut self, slots: u64, tasks: usize) -> Result<(), AllocError>
         ensures { self.new ≡ self.old }
     {
@@ -322,14 +318,13 @@ impl<R: Ready> Dispatcher<R> {
         self.planned.reserve(wanted as usize, processors as usize)
     }
 
-    /// Makes all but the replica and what was planned anew from these two, after which plans go on
-    /// as if no memory had been wanted. Forgotten slots are planned once more, and stay forgotten. It
-    /// costs what the plans of all slots so far cost.
+    /// Works everything but entries and planned slots out anew, after which plans go on as if no
+    /// allocation had failed. Forgotten slots are planned once more, and stay forgotten. The cost is
+    /// that of planning all slots so far.
     ///
     /// # Errors
-    /// [`PlanFault::Torn`] exactly where something held is torn; nothing has then changed.
-    /// [`PlanFault::Memory`] if an allocation fails; the dispatcher is then spent, and
-    /// else as before.
+    /// [`PlanFault::Torn`] if an entry held is torn; nothing has then changed.
+    /// [`PlanFault::Memory`] if an allocation fails; the dispatcher is then spent, and else as before.
     pub fn reopen(&mut self) -> Result<(), PlanFault>
         ensures ok { OnOk result ((self.new ≡ record self.old { spent = false }) × (has_torn (replica_of self.old.held) ≡ false)) }
         ensures fault { IfErr result (IsReopenFault self.old) }

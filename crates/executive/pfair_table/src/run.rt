@@ -16,8 +16,8 @@ use pfair_ready::Ready;
 use pfair_replica::{MergeFault, TakeFault};
 use std::alloc::{AllocError, Global};
 
-/// The dispatcher that a list of events leaves, from one that holds nothing. An event that is
-/// refused changes nothing, and the run goes on. It costs what its events cost.
+/// Returns the dispatcher that a list of events leaves, from one that holds nothing. An event that is
+/// refused changes nothing, and the run goes on. The cost is that of the events.
 ///
 /// # Errors
 /// Returns [`AllocError`] if an allocation fails; the run then ends.

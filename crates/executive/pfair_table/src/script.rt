@@ -30,9 +30,12 @@ impl Script {
     /// The most entries of a log.
     pub const LONGEST_LOG: usize = 4_096;
 
-    /// A run of these settings with these logs, that of processor k at place k. The logs come back
-    /// exactly where there is not one for each processor, or one has more than
-    /// [`Script::LONGEST_LOG`] entries. It costs the number of logs; no entry is looked at.
+    /// Creates the script of a run with these settings and logs, that of processor k at place k. No
+    /// entry is looked at: O(M) for M processors.
+    ///
+    /// # Errors
+    /// Returns the logs if there is not one for each processor, or if one has more than
+    /// [`Script::LONGEST_LOG`] entries.
     pub fn new(settings: Settings, logs: Vec<Vec<Entry>>) -> Result<Script, Vec<Vec<Entry>>>
         ensures ok { IfOk result (λ script. (script ≡ record { settings = settings; logs = lists_of logs.items }) × IsLoggedRun script) }
         ensures back { IfErr result (λ back. (back ≡ logs) × ¬ (IsLoggedRun record { settings = settings; logs = lists_of logs.items })) }
@@ -44,7 +47,7 @@ impl Script {
         }
     }
 
-    /// What the run is set to.
+    /// Returns the run's settings.
     pub fn settings(&self) -> Settings
         ensures value { result ≡ self.now.settings }
         ensures run { IsLoggedRun self.now }
@@ -52,7 +55,7 @@ impl Script {
         self.settings
     }
 
-    /// The log of a processor, which is one of the run's: its entry n is at place n - 1.
+    /// Returns the log of a processor of the run: its entry n is at place n - 1.
     pub fn log(&self, proc: u8) -> &[Entry]
         requires { proc < self.now.settings.processors }
         ensures value { slice_get self.now.logs proc ≡ Some result.now }
@@ -62,8 +65,8 @@ impl Script {
         &self.logs[proc as usize]
     }
 
-    /// The numbers that a replica of the logs has room for: the length of the longest, at least 1.
-    /// It costs the number of logs.
+    /// Returns the capacity that a replica of the logs needs: the length of the longest log, at least
+    /// 1. O(M) for M processors.
     pub fn capacity(&self) -> u32
         ensures value { result ≡ capacity_of self.now.logs }
         ensures shape { IsShape self.now.settings.processors (capacity_of self.now.logs) }

@@ -18,11 +18,10 @@ use std::alloc::Global;
 use std::marker::Model;
 use std::mem;
 
-/// A script's run, slot by slot: the tables and the decisions are those of a dispatcher that holds
-/// the script, and those of the last planned slot alone are kept. Places are not worked out.
+/// Runs a script slot by slot and keeps the last planned slot alone: its table and its decisions,
+/// which are those of a dispatcher that holds the script. Places are not worked out.
 ///
-/// Its memory doesn't grow with the slots: it has that of the entries, of the tasks, and of one
-/// slot.
+/// Its memory is that of the entries, of the tasks and of one slot; it doesn't grow with the slots.
 #[derive(Drop)]
 pub struct ScriptRun<R: Ready> {
     alloc: Global,
@@ -43,12 +42,11 @@ impl<R: Ready> Model for ScriptRun<R> {
 }
 
 impl<R: Ready> ScriptRun<R> {
-    /// The run of a script of which no slot is planned. It costs the entries, each a number of steps
-    /// that grows with the logarithm of the length of its log.
+    /// Creates the run of a script before its first slot. O(e log e) for e entries.
     ///
     /// # Errors
-    /// [`ScriptFault::Stalled`] only where the frontier of the logs, which is that slot, is below the
-    /// number of slots. [`ScriptFault::Memory`] if an allocation fails.
+    /// [`ScriptFault::Stalled`] if the frontier of the logs, which is that slot, is below the number
+    /// of slots. [`ScriptFault::Memory`] if an allocation fails.
     pub fn new(alloc: Global, script: &Script) -> Result<ScriptRun<R>, ScriptFault>
         ensures start { IfOk result (IsStartOfRun script.now) }
         ensures settled { OnOk result (script.now.settings.slots ≤ frontier (replica_of_logs script.now.logs)) }
@@ -71,7 +69,8 @@ impl<R: Ready> ScriptRun<R> {
         })
     }
 
-    /// The slot that is planned next: so many slots are planned, at most as many as the run has.
+    /// Returns the slot that is planned next, which is the number of planned slots: at most the slots
+    /// of the run.
     pub fn next_slot(&self) -> u64
         ensures value { result ≡ self.now.planned }
         ensures within { result ≤ self.now.settings.slots }
@@ -80,34 +79,33 @@ impl<R: Ready> ScriptRun<R> {
         self.planner.next_slot()
     }
 
-    /// The table of the last planned slot: its quanta in the PD2 order. No rows where no slot is
-    /// planned, or where the plan of the next one was refused memory.
+    /// Returns the table of the last planned slot: its quanta in the PD2 order. It is empty if no slot
+    /// is planned, or if an allocation failed in the plan of the next one.
     pub fn table(&self) -> &[Pick]
         ensures { result.now ≡ self.now.table }
     {
         &self.last.table
     }
 
-    /// The decisions at the boundary of the last planned slot, in the order of processor and number.
-    /// None where no slot is planned.
+    /// Returns the decisions at the boundary of the last planned slot, in the order of processor and
+    /// number. There are none if no slot is planned.
     pub fn decisions(&self) -> &[Decided]
         ensures { result.now ≡ self.now.decided }
     {
         &self.last.decided
     }
 
-    /// Plans the next slot, and answers which; `None`, with nothing changed, exactly where all slots
-    /// of the run are planned.
+    /// Plans the next slot and returns it. `None`, with nothing changed, if all slots of the run are
+    /// planned, and only then.
     ///
-    /// It costs a look-up for each processor; what is said at the slot; and for each of its quanta a
-    /// number of steps that grows with the logarithm of the number of tasks. The room of the slot
+    /// O(M log n + a) for M processors, n tasks and a announcements at the slot. The room of the slot
     /// before is used again.
     ///
     /// # Errors
-    /// [`PlanFault::Spent`] exactly where memory was refused to a plan before; nothing has then
-    /// changed. [`PlanFault::Memory`] if an allocation fails: the slot isn't planned,
-    /// the table of the one before is gone, and the run is spent. [`PlanFault::Torn`] never: a script
-    /// has one content for each of its entries.
+    /// [`PlanFault::Spent`] if an allocation failed in an earlier plan; nothing has then changed.
+    /// [`PlanFault::Memory`] if an allocation fails: the slot isn't planned, the table of the one
+    /// before is gone, and the run is spent. Never [`PlanFault::Torn`], since a script has one content
+    /// for each of its entries.
     pub fn plan_next(&mut self) -> Result<Option<u64>, PlanFault>
         ensures slot { IfOk result (IsNextOf self.old) }
         ensures next { OnOk result (self.new ≡ after_next self.old) }

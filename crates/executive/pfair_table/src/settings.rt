@@ -38,9 +38,9 @@ impl Settings {
     /// The most slots of a run.
     pub const MAX_SLOTS: u64 = 1_000_000;
 
-    /// These settings: 1 to [`Settings::MAX_PROCESSORS`] processors, a frame of 1 to
-    /// [`Settings::MAX_FRAME`] slots, and 1 to [`Settings::MAX_SLOTS`] slots. `None` exactly where
-    /// one of them is out of its range.
+    /// Creates settings of 1 to [`Settings::MAX_PROCESSORS`] processors, a frame of 1 to
+    /// [`Settings::MAX_FRAME`] slots, and 1 to [`Settings::MAX_SLOTS`] slots. `None` if one of them is
+    /// out of its range, and only then.
     pub fn new(processors: u8, frame: u64, slots: u64) -> Option<Settings>
         ensures { SomeIff result (IsSettings record { processors = processors; frame = frame; slots = slots }) record { processors = processors; frame = frame; slots = slots } }
     {
@@ -58,7 +58,7 @@ impl Settings {
         }
     }
 
-    /// The number of processors.
+    /// Returns the number of processors.
     pub fn processors(&self) -> u8
         ensures value { result ≡ self.now.processors }
         ensures limits { IsSettings self.now }
@@ -66,7 +66,7 @@ impl Settings {
         self.processors
     }
 
-    /// The slots of a frame, which each weight's period has to divide.
+    /// Returns the slots of a frame, which each weight's period has to divide.
     pub fn frame(&self) -> u64
         ensures value { result ≡ self.now.frame }
         ensures limits { IsSettings self.now }
@@ -74,7 +74,7 @@ impl Settings {
         self.frame
     }
 
-    /// The number of slots that are planned at most.
+    /// Returns the number of slots that are planned at most.
     pub fn slots(&self) -> u64
         ensures value { result ≡ self.now.slots }
         ensures limits { IsSettings self.now }

@@ -20,7 +20,7 @@ use thiserror::Error;
 /// Why a script was not run to its end.
 #[derive(Clone, Copy, Debug, PartialEq, Eq, Error)]
 pub enum ScriptFault {
-    /// The logs settle the slots below this one alone, which is one of the run's.
+    /// The logs settle only the slots below this one, which is one of the run's.
     #[error("stalled at slot {slot}")]
     Stalled {
         /// The frontier of the logs.
@@ -32,7 +32,7 @@ pub enum ScriptFault {
 }
 
 impl ScriptFault {
-    /// The number under which the fault is reported: 52 and 90, in the order of the variants.
+    /// Returns the number under which the fault is reported: 52 and 90, in the order of the variants.
     pub fn number(&self) -> u8
         ensures { result ≡ script_fault_number self.now }
     {
@@ -53,12 +53,12 @@ impl From<AllocError> for ScriptFault {
     }
 }
 
-/// The dispatcher that has taken every entry of a script's logs, and planned all slots of the run.
-/// It costs the entries, and the quanta of all slots.
+/// Returns a dispatcher that has taken every entry of a script's logs and planned all slots of the
+/// run. O(e log e) for e entries, and the cost of planning all slots.
 ///
 /// # Errors
-/// [`ScriptFault::Stalled`] only where the frontier of the logs, which is that slot, is below the
-/// number of slots. [`ScriptFault::Memory`] if an allocation fails.
+/// [`ScriptFault::Stalled`] if the frontier of the logs, which is that slot, is below the number of
+/// slots. [`ScriptFault::Memory`] if an allocation fails.
 pub fn run_script<R: Ready>(alloc: Global, script: &Script) -> Result<Dispatcher<R>, ScriptFault>
     ensures ok { IfOk result (IsRunOf script.now) }
     ensures standing { IfOk result (λ d. d.forgotten ≡ 0) }
@@ -72,8 +72,8 @@ pub fn run_script<R: Ready>(alloc: Global, script: &Script) -> Result<Dispatcher
     }
 }
 
-/// The dispatcher that has taken every entry of a script's logs, and planned nothing. It costs the
-/// entries, each a number of steps that grows with the logarithm of the length of its log.
+/// Returns a dispatcher that has taken every entry of a script's logs and planned nothing. O(e log e)
+/// for e entries.
 ///
 /// # Errors
 /// Returns [`AllocError`] if an allocation fails.

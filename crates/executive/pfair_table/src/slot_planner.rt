@@ -17,12 +17,11 @@ use std::alloc::{AllocError, Global};
 use std::marker::Model;
 use std::snapshot::Snapshot;
 
-/// Plans slot after slot of a replica that is held elsewhere and grows there, and keeps none of what
-/// it planned: as a [`Dispatcher`](crate::Dispatcher) to which what it holds is handed in, and which
-/// forgets each slot at once.
+/// Plans slot after slot of a replica that stands and grows elsewhere, and keeps no planned slot: as
+/// a [`Dispatcher`](crate::Dispatcher) that is handed its entries and forgets each slot at once.
 ///
-/// Its memory is that of the tasks and of what was said at slots that are not planned yet; it doesn't
-/// grow with the slots.
+/// Its memory is that of the tasks and of the announcements at slots that are not planned yet; it
+/// doesn't grow with the slots.
 #[derive(Drop)]
 pub struct SlotPlanner<R: Ready> {
     settings: Settings,
@@ -48,8 +47,8 @@ impl<R: Ready> Model for SlotPlanner<R> {
 }
 
 impl<R: Ready> SlotPlanner<R> {
-    /// Before the first slot of a replica, of as many processors as the settings have. It costs the
-    /// number of processors.
+    /// Creates a planner before its first slot, for a replica of as many processors as the settings
+    /// have. O(M) for M processors.
     ///
     /// # Errors
     /// Returns [`AllocError`] if an allocation fails.
@@ -74,14 +73,15 @@ impl<R: Ready> SlotPlanner<R> {
         })
     }
 
-    /// What is planned for.
+    /// Returns the processors, frame and slots that it plans for.
     pub fn settings(&self) -> Settings
         ensures { result ≡ self.now.settings }
     {
         self.settings
     }
 
-    /// The slot that is planned next: so many slots are planned, at most as many as the run has.
+    /// Returns the slot that is planned next, which is the number of planned slots: at most the slots
+    /// of the run.
     pub fn next_slot(&self) -> u64
         ensures value { result ≡ length self.now.tables }
         ensures within { result ≤ self.now.settings.slots }
@@ -92,27 +92,26 @@ impl<R: Ready> SlotPlanner<R> {
         self.planned
     }
 
-    /// Whether memory was refused to a plan, after which none is answered.
+    /// Returns whether an allocation failed in a plan, after which every plan is refused.
     pub fn is_spent(&self) -> bool
         ensures { result ≡ self.now.spent }
     {
         self.spent
     }
 
-    /// Plans the next slot where the replica settles it: its table and its decisions. `None` exactly
-    /// where it isn't below the frontier, or all slots of the run are planned; what was planned is then
-    /// the whole plan of the replica. The table uses the room of a list, whose content goes.
+    /// Plans the next slot if the replica settles it, and returns its table and its decisions. `None`
+    /// if the slot isn't below the frontier or all slots of the run are planned, and only then; the
+    /// planned slots are then the whole plan of the replica. The table reuses `room`, whose content is
+    /// dropped.
     ///
-    /// The replica is the one that was handed in before, or one that holds more. It costs a look-up for
-    /// each processor; what is said at the slot, and for each of its quanta a number of steps that grows
-    /// with the logarithm of the number of tasks; and the entries that have come into sound beginnings
-    /// since the last slot was planned, each of which is looked at once over all plans.
+    /// The replica is the one that was handed in before, or one that holds more. O(M log n + a) for M
+    /// processors, n tasks and a announcements at the slot; beside that each entry is looked at once
+    /// over all plans.
     ///
     /// # Errors
-    /// Looked at first, in this order: [`PlanFault::Torn`] exactly where something held is torn,
-    /// [`PlanFault::Spent`] exactly where memory was refused to a plan before.
-    /// [`PlanFault::Memory`] if an allocation fails: the slot isn't planned, and no further
-    /// plan is answered.
+    /// The first that applies: [`PlanFault::Torn`] if an entry held is torn; [`PlanFault::Spent`] if
+    /// an allocation failed in an earlier plan; [`PlanFault::Memory`] if an allocation fails: the slot
+    /// isn't planned, and every later plan is refused.
     pub fn plan_next(
         &mut self,
         replica: &Replica,
