@@ -18,7 +18,7 @@ pub struct Agenda {
 }
 
 impl Agenda {
-    /// The agenda in which nothing is said. It wants no memory.
+    /// Creates an agenda without announcements. Allocates nothing.
     pub fn new(alloc: Global) -> Agenda
         ensures { (t : ℕ) → said_at result t ≡ [] }
     {
@@ -28,22 +28,19 @@ impl Agenda {
         }
     }
 
-    /// What is said at a slot, in the order in which it was added: by processors, and by numbers
-    /// for each processor, where the agenda is that of a replica. It costs one look-up of the slot,
-    /// unless all that is said is said before it.
+    /// Returns the announcements of a slot, in the order in which they were added. One look-up of the
+    /// slot, and O(1) if no later slot has announcements.
     pub fn at(&self, slot: u64) -> &[Said]
         ensures { result.now ≡ said_at self.now slot }
     {
         self.by_slot.at(slot)
     }
 
-    /// Adds what is said at a slot behind what was said at it before. It costs one look-up of the
-    /// slot, and a second one where nothing was said at it; now and then what is said at the slot
-    /// is moved to where it has room.
+    /// Adds an announcement behind those of a slot. One or two look-ups of the slot, and O(1)
+    /// amortized.
     ///
     /// # Errors
-    /// Returns [`AllocError`] if an allocation fails; then the agenda says what it said
-    /// before.
+    /// Returns [`AllocError`] if an allocation fails; nothing has then changed.
     pub fn push(
         &mut self,
         slot: u64,

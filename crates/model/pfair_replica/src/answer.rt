@@ -31,7 +31,8 @@ pub enum TakeFault {
 }
 
 impl TakeFault {
-    /// The number under which the fault is reported: 13, 14 and 90, in the order of the variants.
+    /// Returns the number under which the fault is reported: 13, 14 and 90, in the order of the
+    /// variants.
     pub fn number(&self) -> u8
         ensures { result ≡ take_fault_number self.now }
     {
@@ -65,7 +66,7 @@ pub enum MergeFault {
 }
 
 impl MergeFault {
-    /// The number under which the fault is reported: 15 and 90, in the order of the variants.
+    /// Returns the number under which the fault is reported: 15 and 90, in the order of the variants.
     pub fn number(&self) -> u8
         ensures { result ≡ merge_fault_number self.now }
     {

@@ -16,7 +16,7 @@ pub(crate) struct BySlot {
 }
 
 impl BySlot {
-    /// Nothing is listed. It wants no memory.
+    /// Creates lists without items. Allocates nothing.
     pub(crate) fn new(alloc: Global) -> BySlot
         ensures { (t : ℕ) → listed_at result.lists t ≡ [] }
     {
@@ -26,8 +26,7 @@ impl BySlot {
         }
     }
 
-    /// What is listed at a slot. It costs one look-up of the slot, unless all that is listed is
-    /// before it.
+    /// Returns the items of a slot. One look-up of the slot, and O(1) if no later slot has items.
     pub(crate) fn at(&self, slot: u64) -> &[Said]
         ensures { result.now ≡ listed_at self.now.lists slot }
     {
@@ -40,10 +39,10 @@ impl BySlot {
         }
     }
 
-    /// Adds something behind what is listed at a slot.
+    /// Adds an item behind those of a slot.
     ///
     /// # Errors
-    /// Returns [`AllocError`] if an allocation fails; then all is listed that was before.
+    /// Returns [`AllocError`] if an allocation fails; nothing has then changed.
     pub(crate) fn push(&mut self, alloc: Global, slot: u64, said: Said) -> Result<(), AllocError>
         ensures ok { OnOk result ((t : ℕ) → listed_at self.new.lists t ≡ listed_at self.old.lists t ++ one_at slot said t) }
         ensures err { OnErr result ((t : ℕ) → listed_at self.new.lists t ≡ listed_at self.old.lists t) }

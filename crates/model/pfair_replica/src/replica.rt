@@ -1,10 +1,10 @@
-//! What one dispatcher holds of the logs of all processors.
+//! One dispatcher's copy of the logs of all processors.
 //!
-//! A replica is a finite map from keys, a processor and a number, to one entry or the mark that two
-//! different ones met there (torn). It only grows, and replicas merge by joins, as replicated data
-//! types do (Shapiro, Preguiça, Baquero and Zawirski, 2011). How far each processor has committed
-//! itself is read off its sound beginning: the longest run of its entries 1, 2, 3 and so on that is
-//! held, none of them torn, whose floors never fall.
+//! A replica is a finite map from keys, a processor and a number, to one entry, or to the mark that
+//! two different entries met there (torn). It only grows, and replicas merge by joins, as replicated
+//! data types do (Shapiro, Preguiça, Baquero and Zawirski, 2011). How far each processor has committed
+//! itself is read off its sound beginning: the longest run of its entries 1, 2, 3 and so on, none of
+//! them torn, whose floors never fall.
 ghost use Rattle.std.specs.Prelude.{◌≡◌, ◌≢◌, ◌≤◌, ◌↔◌, ◌⊎◌, ◌++◌, ℕ, [], length, slice_get, is_some, IsSome, IsTrue, IfOk, IfErr, OnOk, OnErr, Ok, Err, Some};
 ghost use Rattle.pfair_lattice.specs.declared.flat.Flat.TheVariants.{One};
 ghost use Rattle.pfair_entry.specs.Entry.{Logged, IsEntry};
@@ -24,11 +24,10 @@ use pfair_lattice::{Flat, Join};
 use std::alloc::{AllocError, Global};
 use std::marker::Model;
 
-/// What one dispatcher holds of the logs of all processors: 1 to 64 processors, counted from 0, and
-/// 1 to 4,096 entries in each log, counted from 1.
+/// One dispatcher's copy of the logs of all processors: 1 to 64 processors, counted from 0, and 1 to
+/// 4,096 entries in each log, counted from 1.
 ///
-/// A look-up of a key, of which the calls speak, takes a number of steps that grows with the
-/// logarithm of the number of processors, and of the number of entries that are held in the log.
+/// Costs are in look-ups of a key, each O(log e) for e entries held.
 #[derive(Drop)]
 pub struct Replica {
     processors: u8,
@@ -51,8 +50,8 @@ impl Model for Replica {
 }
 
 impl Replica {
-    /// The replica of so many processors, with room for so many entries in each log, that holds
-    /// nothing. It costs a step for each processor, whatever the capacity.
+    /// Creates a replica of so many processors, with room for so many entries in each log, that holds
+    /// nothing. O(M) for M processors.
     ///
     /// # Errors
     /// Returns [`AllocError`] if an allocation fails.
@@ -70,7 +69,7 @@ impl Replica {
         })
     }
 
-    /// How many processors there are.
+    /// Returns the number of processors.
     pub fn processors(&self) -> u8
         ensures value { result ≡ self.now.processors }
         ensures rows { IsHeldRows self.now }
@@ -78,7 +77,7 @@ impl Replica {
         self.processors
     }
 
-    /// How many entries a log can have; no number is greater.
+    /// Returns how many entries a log can have; no number is greater.
     pub fn capacity(&self) -> u32
         ensures value { result ≡ self.now.capacity }
         ensures rows { IsHeldRows self.now }
@@ -86,8 +85,8 @@ impl Replica {
         self.capacity
     }
 
-    /// What is held at a key: one entry, `Torn`, or `None`. A key that the replica hasn't room for
-    /// holds nothing. It costs one look-up.
+    /// Returns the content of a key: one entry, `Torn`, or `None`, also for a key past the replica's
+    /// shape. One look-up.
     pub fn get(&self, proc: u8, number: u32) -> Option<Flat<Entry>>
         ensures value { result ≡ held self.now proc number }
         ensures entry { (e : Logged) → result ≡ Some (One e) → IsEntry e }
@@ -95,15 +94,13 @@ impl Replica {
         held_at(&self.rows, proc, number)
     }
 
-    /// Takes one entry in, and answers what it met there. What is held afterwards is the join with
-    /// it.
+    /// Adds one entry and returns what it met at its key. The replica is then the join with it.
     ///
-    /// It costs a few look-ups, and one more for each entry by which the sound beginning of the
-    /// processor grows.
+    /// A few look-ups, and one more for each entry by which the processor's sound beginning grows.
     ///
     /// # Errors
-    /// The first of these that applies, and then nothing is changed: `NoSuchProcessor`,
-    /// `NumberOutOfRange`, and `Memory`, which comes only where nothing was held at the key.
+    /// The first of these that applies, and then nothing has changed: `NoSuchProcessor`,
+    /// `NumberOutOfRange`, and `Memory`, which happens only if nothing was held at the key.
     pub fn take(&mut self, proc: u8, number: u32, entry: Entry) -> Result<Taken, TakeFault>
         ensures taken { OnOk result (replica_of self.new ≡ with_entry (replica_of self.old) proc number entry) }
         ensures answer { IfOk result (IsTakenAs (held self.old proc number) entry) }
@@ -133,18 +130,17 @@ impl Replica {
         Ok(taken)
     }
 
-    /// Merges the other in: afterwards each key holds what either held, the common entry, or
-    /// `Torn`.
+    /// Merges another replica in: each key then has what either had, the common entry, or `Torn`.
     ///
-    /// It costs two look-ups for each entry that the other holds, and in each row where it holds
-    /// something, be it known here already, a look-up for each entry of the sound beginning, and
-    /// for each number up to the first torn one, or up to the capacity where none is.
+    /// Two look-ups for each entry of the other. For each log of which the other has an entry, a
+    /// look-up for each entry of the sound beginning, and for each number up to the first torn one, or
+    /// up to the capacity if none is torn.
     ///
     /// # Errors
-    /// `OtherShape` where the other has another number of processors or another capacity, and then
-    /// nothing is changed. `Memory` if an allocation fails, which happens only if the
-    /// other holds something at a key at which this replica holds nothing: then a part of the other
-    /// is merged in, and merging it again gives what one merge would have given.
+    /// `OtherShape` if the other has another number of processors or another capacity; nothing has
+    /// then changed. `Memory` if an allocation fails, which happens only if the other has a key that
+    /// this replica hasn't: a part of the other is then merged in, and merging it again gives what one
+    /// merge would have given.
     pub fn merge(&mut self, other: &Replica) -> Result<(), MergeFault>
         ensures merged { OnOk result (replica_of self.new ≡ join (replica_of self.old) (replica_of other.now)) }
         ensures same_shape { OnOk result (SameShape self.old other.now) }
@@ -167,8 +163,7 @@ impl Replica {
         Ok(())
     }
 
-    /// A second replica that is equal to this one. It costs two look-ups for each entry that is
-    /// held.
+    /// Returns a copy. Two look-ups for each entry.
     ///
     /// # Errors
     /// Returns [`AllocError`] if an allocation fails.
@@ -184,16 +179,16 @@ impl Replica {
         })
     }
 
-    /// The slot up to which a processor has committed itself: the last floor of its sound
-    /// beginning, or 0 where that is empty. It is kept, not looked for.
+    /// Returns the slot up to which a processor has committed itself: the last floor of its sound
+    /// beginning, or 0 if that is empty. O(1).
     pub fn mark(&self, proc: u8) -> u64
         ensures { result ≡ mark (replica_of self.now) proc }
     {
         self.sound_beginning(proc).1
     }
 
-    /// How many entries the sound beginning of a processor has: these are its entries 1, 2, 3 and
-    /// so on, which `get` gives. It is kept, not counted.
+    /// Returns the number of entries of a processor's sound beginning, which are its entries 1, 2, 3
+    /// and so on. O(1).
     pub fn sound_count(&self, proc: u8) -> u32
         ensures value { result ≡ length (sound_beginning (replica_of self.now) proc) }
         ensures within { result ≤ self.now.capacity }
@@ -201,8 +196,8 @@ impl Replica {
         self.sound_beginning(proc).0
     }
 
-    /// The least mark of all processors: below this slot every announcement is known. It costs a
-    /// step for each processor.
+    /// Returns the least mark of all processors: below this slot every announcement is known. O(M) for
+    /// M processors.
     pub fn frontier(&self) -> u64
         ensures value { result ≡ frontier (replica_of self.now) }
         ensures replica { IsReplica (replica_of self.now) }
@@ -214,8 +209,8 @@ impl Replica {
         least
     }
 
-    /// Whether each key that is held here is held there, with the same content or torn. It costs a
-    /// look-up there for each entry that is held here, up to the first that isn't held there.
+    /// Returns whether each key of this replica is in the other, with the same content or torn. A
+    /// look-up for each entry, up to the first that the other hasn't.
     pub fn le(&self, other: &Replica) -> bool
         ensures { IsTrue result ↔ Below (replica_of self.now) (replica_of other.now) }
     {
@@ -227,8 +222,8 @@ impl Replica {
         true
     }
 
-    /// The least number of a processor's log that isn't held, or `None` where all are. What is torn
-    /// is held. It costs a look-up for each number up to that one.
+    /// Returns the least number of a processor's log that isn't held, or `None` if all are; torn ones
+    /// are held. A look-up for each number up to that one.
     pub fn missing(&self, proc: u8) -> Option<u32>
         ensures value { result ≡ missing (replica_of self.now) proc }
         ensures least { IsLeastMissing (replica_of self.now) proc result }
@@ -241,8 +236,8 @@ impl Replica {
         None
     }
 
-    /// The least torn key, by processors and then by numbers, or `None` where nothing is torn. It
-    /// is kept, not looked for.
+    /// Returns the least torn key, by processors and then by numbers, or `None` if nothing is torn.
+    /// O(1).
     pub fn first_torn(&self) -> Option<EntryKey>
         ensures key { result ≡ slice_get (torn_keys (replica_of self.now)) 0 }
         ensures some { is_some result ≡ has_torn (replica_of self.now) }
@@ -251,14 +246,13 @@ impl Replica {
         self.counters.torn
     }
 
-    /// Notes in an agenda what a processor announces in its sound beginning behind the first
-    /// `from` entries of that, in order of numbers. It costs a look-up for each of the entries
-    /// behind these, and what [`Agenda::push`] costs for each announcement.
+    /// Adds to an agenda the announcements of a processor's sound beginning after its first `from`
+    /// entries, in order of numbers. A look-up for each of those entries, and the cost of
+    /// [`Agenda::push`] for each announcement.
     ///
     /// # Errors
-    /// Returns [`AllocError`] if an allocation fails, which happens only if something is
-    /// announced there. At each slot the agenda then says what it said before, and behind it a
-    /// beginning of what the processor announces.
+    /// Returns [`AllocError`] if an allocation fails, which happens only if there is such an
+    /// announcement. Some of the first ones are then added.
     pub fn note_said(&self, proc: u8, from: u32, agenda: &mut Agenda) -> Result<(), AllocError>
         ensures heard { OnOk result ((t : ℕ) → said_at agenda.new t ≡ said_at agenda.old t ++ said_behind (replica_of self.now) t proc from) }
         ensures wanted { OnErr result ((t : ℕ) × (said_behind (replica_of self.now) t proc from ≢ [])) }
@@ -273,9 +267,8 @@ impl Replica {
         Ok(())
     }
 
-    /// What is wrong with the logs: every torn key, and every entry that ends a sound beginning by
-    /// a floor that fell. It costs a look-up for each number of each log, so as many as the
-    /// processors times the capacity.
+    /// Returns what is wrong with the logs: every torn key, and every entry that ends a sound
+    /// beginning because its floor fell. A look-up for each number of each log.
     ///
     /// # Errors
     /// Returns [`AllocError`] if an allocation fails, which happens only if something is wrong.

@@ -36,8 +36,8 @@ pub fn add_decisions_header(writer: &mut Writer<Vec<u8>>) -> Result<(), AllocErr
     )
 }
 
-/// Adds a row for each announcement that was decided at the boundaries of the slots that a
-/// dispatcher has planned, from a slot on that isn't forgotten. It costs the rows.
+/// Adds a row for each announcement that was decided at the boundaries of a dispatcher's planned slots,
+/// from a slot on that isn't forgotten. O(rows).
 ///
 /// # Errors
 /// Returns [`AllocError`] if an allocation fails.

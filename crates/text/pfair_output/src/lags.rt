@@ -35,12 +35,12 @@ pub fn add_lags_header(writer: &mut Writer<Vec<u8>>) -> Result<(), AllocError>
     add_row(writer, &[b"time", b"task", b"numerator", b"period"])
 }
 
-/// Tells a book the slots that a dispatcher has planned, from the book's time on, none of which is
-/// forgotten, and adds the rows after each. It costs the rows, and what [`tell_all`] and
-/// [`LagBook::record`] cost for each slot.
+/// Records in a book the slots that a dispatcher has planned, from the book's time on, none of which is
+/// forgotten, and adds the rows after each. O(rows), and the cost of [`tell_all`] and
+/// [`LagBook::record`] for each slot.
 ///
 /// # Errors
-/// Returns [`AllocError`] if an allocation fails; the book is then told a part of this.
+/// Returns [`AllocError`] if an allocation fails; a part of this is then recorded.
 pub fn add_lags_from<R: Ready>(
     writer: &mut Writer<Vec<u8>>,
     book: &mut LagBook,
@@ -59,12 +59,12 @@ pub fn add_lags_from<R: Ready>(
     Ok(())
 }
 
-/// Tells a book the slots that a dispatcher has planned, from the book's time up to a slot, as far
-/// as they are planned, none of which is forgotten. It costs what [`tell_all`] and
-/// [`LagBook::record`] cost for each slot.
+/// Records in a book the slots that a dispatcher has planned, from the book's time up to a slot, as
+/// far as they are planned, none of which is forgotten. The cost is that of [`tell_all`] and
+/// [`LagBook::record`] for each slot.
 ///
 /// # Errors
-/// Returns [`AllocError`] if an allocation fails; the book is then told a part of this.
+/// Returns [`AllocError`] if an allocation fails; a part of this is then recorded.
 pub fn tell_slots<R: Ready>(
     book: &mut LagBook,
     dispatcher: &Dispatcher<R>,
@@ -81,7 +81,7 @@ pub fn tell_slots<R: Ready>(
     Ok(())
 }
 
-// Tells the book a slot that is planned, and adds the rows after it.
+// Records a planned slot in the book, and adds the rows after it.
 fn add_slot<R: Ready>(
     writer: &mut Writer<Vec<u8>>,
     book: &mut LagBook,
@@ -103,7 +103,7 @@ fn add_slot<R: Ready>(
     add_lags(writer, book)
 }
 
-// Tells the book a slot that a dispatcher has planned.
+// Records a planned slot of a dispatcher in the book.
 fn tell_planned<R: Ready>(
     book: &mut LagBook,
     dispatcher: &Dispatcher<R>,
@@ -124,7 +124,7 @@ fn tell_planned<R: Ready>(
     tell_slot(book, decided, table)
 }
 
-/// Tells the book a slot: its decisions, and then its table.
+/// Records a slot in the book: its decisions, and then its table.
 pub(crate) fn tell_slot(
     book: &mut LagBook,
     decided: &[Decided],
@@ -138,11 +138,11 @@ pub(crate) fn tell_slot(
     Ok(())
 }
 
-/// Tells a book of lags who enters and who leaves at the boundary of a slot: who is admitted, and
-/// who departs. It costs a look-up for each decision, and a pass over the book for each departure.
+/// Records in a book of lags who is admitted and who departs at the boundary of a slot. A look-up for
+/// each decision, and a pass over the book for each departure.
 ///
 /// # Errors
-/// Returns [`AllocError`] if an allocation fails; the book is then told some of the decisions.
+/// Returns [`AllocError`] if an allocation fails; some of the decisions are then recorded.
 pub fn tell_all(book: &mut LagBook, decided: &[Decided]) -> Result<(), AllocError>
     ensures { OnOk result (book.new ≡ all_told decided.now book.old) }
 {
@@ -152,7 +152,7 @@ pub fn tell_all(book: &mut LagBook, decided: &[Decided]) -> Result<(), AllocErro
     Ok(())
 }
 
-// Tells the book one decision.
+// Records one decision in the book.
 fn tell(book: &mut LagBook, decided: &Decided) -> Result<(), AllocError>
     ensures { OnOk result (book.new ≡ told decided.now.announcement decided.now.decision book.old) }
 {

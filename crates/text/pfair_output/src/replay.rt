@@ -14,11 +14,10 @@ use pfair_table::{Dispatcher, Pick};
 use pfair_text::{add_row, finish, new_text};
 use std::alloc::{AllocError, Global};
 
-/// The tables of a run as rows that end with their places: row k of a slot's table with the k-th of
-/// the slot's places.
+/// Returns the tables of a run as rows that end with their places: row k of a slot's table with the
+/// k-th of the slot's places.
 ///
-/// A row that has no place, where fewer are given, ends with its index. Time and memory are linear
-/// in the rows.
+/// If fewer places than rows are given, the other rows end with their index. O(rows) time and memory.
 ///
 /// # Errors
 /// Returns [`AllocError`] if an allocation fails.
@@ -62,8 +61,7 @@ pub fn add_placed_header(writer: &mut Writer<Vec<u8>>) -> Result<(), AllocError>
     )
 }
 
-/// Adds a row for each quantum of a slot's table, under the header of [`add_replay_header`]. It costs
-/// the rows.
+/// Adds a row for each quantum of a slot's table, under the header of [`add_replay_header`]. O(rows).
 ///
 /// # Errors
 /// Returns [`AllocError`] if an allocation fails.
@@ -81,8 +79,8 @@ pub fn add_table_rows(
     add_table(writer, slot, table, &[])
 }
 
-/// Adds a row for each quantum of the tables that a dispatcher has planned, from a slot on that isn't
-/// forgotten, under the header of [`add_replay_header`]. It costs the rows.
+/// Adds a row for each quantum of a dispatcher's planned tables, from a slot on that isn't forgotten,
+/// under the header of [`add_replay_header`]. O(rows).
 ///
 /// # Errors
 /// Returns [`AllocError`] if an allocation fails.
@@ -104,6 +102,7 @@ pub fn add_tables_from<R: Ready>(
 }
 
 /// Adds the same rows, each with its place at the end, under the header of [`add_placed_header`].
+/// O(rows).
 ///
 /// # Errors
 /// Returns [`AllocError`] if an allocation fails.
