@@ -35,11 +35,8 @@ impl Model for Board {
 }
 
 impl Board {
-    /// A board of empty cells, for 1 to 64 processors, counted from 0, and logs of 1 to 4,096
-    /// entries, counted from 1.
-    ///
-    /// It costs a step and the room of a pointer for each cell, of which there are `processors`
-    /// times `capacity`.
+    /// Creates a board of empty cells, for 1 to 64 processors, counted from 0, and logs of 1 to 4,096
+    /// entries, counted from 1. O(`processors` `capacity`), and a pointer's memory for each cell.
     ///
     /// # Errors
     /// Returns [`AllocError`] if an allocation fails.
@@ -59,7 +56,7 @@ impl Board {
         })
     }
 
-    /// How many rows there are.
+    /// Returns the number of rows.
     pub fn processors(&self) -> u8
         ensures value { result ≡ self.now.processors }
         ensures shape { IsShape self.now.processors self.now.capacity }
@@ -67,7 +64,7 @@ impl Board {
         self.processors
     }
 
-    /// How many cells each row has; no number is greater.
+    /// Returns the number of cells of each row; no entry's number is greater.
     pub fn capacity(&self) -> u32
         ensures value { result ≡ self.now.capacity }
         ensures shape { IsShape self.now.processors self.now.capacity }
@@ -75,11 +72,10 @@ impl Board {
         self.capacity
     }
 
-    /// One desk for each row, that of processor k at place k, each with an empty replica. A second
-    /// call gives desks of their own, so that a row can have two pens.
+    /// Returns a desk for each row, that of processor k at place k, each with an empty replica. A second
+    /// call gives other desks, so that a row can have two pens.
     ///
-    /// It costs a step for each cell and each desk: processors times processors times capacity. The
-    /// room grows with the number of desks alone, as notes of cells take none.
+    /// O(M M c) time for M processors and a capacity of c, and O(M) memory, as notes of cells take none.
     ///
     /// # Errors
     /// Returns [`AllocError`] if an allocation fails.

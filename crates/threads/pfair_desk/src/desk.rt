@@ -21,10 +21,9 @@ use pfair_replica::laws::read_by_number;
 use std::alloc::{AllocError, Global};
 use std::marker::Model;
 
-/// The pen of one row of a board, a note for each of its cells, and what was learned of them.
+/// The pen of one row of a board, with a replica of the cells that it has seen.
 ///
-/// A desk is used with the board that made it. What it holds it keeps, unchanged, and nothing that
-/// it holds is torn.
+/// A desk is used with the board that made it. Its entries never change, and none is torn.
 #[derive(Drop)]
 pub struct Desk {
     processor: u8,
@@ -70,7 +69,7 @@ impl Desk {
         })
     }
 
-    /// The processor whose row it is, counted from 0.
+    /// Returns the processor whose row it is, counted from 0.
     pub fn proc(&self) -> u8
         ensures value { result ≡ self.now.processor }
         ensures row { self.now.processor < self.now.replica.processors }
@@ -78,8 +77,8 @@ impl Desk {
         self.processor
     }
 
-    /// The number at which the desk publishes next, counted from 1; past the capacity where its row
-    /// is full.
+    /// Returns the number at which the desk publishes next, counted from 1; it is past the capacity if
+    /// the row is full.
     pub fn next_number(&self) -> u32
         ensures value { result ≡ self.now.next_number }
         ensures numbered { (1 ≤ self.now.next_number) × (self.now.next_number ≤ self.now.replica.capacity + 1) }
@@ -87,7 +86,7 @@ impl Desk {
         self.next_number
     }
 
-    /// What the desk holds.
+    /// Returns the desk's replica.
     pub fn replica(&self) -> &Replica
         ensures value { result.now ≡ self.now.replica }
         ensures rows { IsHeldRows self.now.replica }
@@ -98,16 +97,15 @@ impl Desk {
         &self.replica
     }
 
-    /// Looks at one cell, and answers its entry, which the desk holds from then on, or `None` where
-    /// it is empty: then the desk holds nothing of that key, and is unchanged.
+    /// Looks at one cell and returns its entry, which the desk then holds, or `None` if the cell is
+    /// empty; the desk then has no entry of that key, and is unchanged.
     ///
-    /// It costs a number of steps that grows with the logarithm of the entries held in the row; and
-    /// where the entry fills the first gap of its row, the same for each entry that is held right
-    /// behind the gap, which happens once to each entry.
+    /// O(log e) for e entries of the row, and the same for each entry right behind a gap that this one
+    /// fills, once for each entry.
     ///
     /// # Errors
-    /// The first of these that applies, and then the desk is unchanged: `NoSuchProcessor`,
-    /// `NumberOutOfRange`, and `Memory`, which comes only where the desk held nothing of that key.
+    /// The first of these that applies, and then nothing has changed: `NoSuchProcessor`,
+    /// `NumberOutOfRange`, and `Memory`, which happens only if the desk had no entry of that key.
     pub fn look(&mut self, board: &Board, proc: u8, number: u32) -> Result<Option<Entry>, LookFault>
         requires own { IsDeskOf self.old board.now }
         ensures some { (e : Logged) → result ≡ Ok (Some e) → state_of self.new ≡ learned (state_of self.old) proc number e }
@@ -135,16 +133,15 @@ impl Desk {
         }
     }
 
-    /// Puts an entry at the desk's next number, and answers that number. The desk holds the entry
-    /// from then on. It costs what a look costs.
+    /// Puts an entry at the desk's next number and returns that number. The desk then holds the entry.
+    /// The cost is that of a look.
     ///
     /// # Errors
-    /// The first of these that applies. `RowFull` exactly where the next number is past the
-    /// capacity; nothing has then changed. `Taken` where another entry stands there: the desk then
-    /// holds that one, and its next number is one further. `Memory`, which comes only where the
-    /// desk held nothing at that number; it is then as before. The cell may be set by then:
-    /// publishing the same entry once more answers its number, and another one meets the first as
-    /// `Taken`.
+    /// The first of these that applies. `RowFull` if the next number is past the capacity; nothing has
+    /// then changed. `Taken` if the cell has another entry: the desk then holds that one, and its next
+    /// number is one further. `Memory`, which happens only if the desk had no entry at that number;
+    /// the desk is then as before, but the cell may be set: publishing the same entry once more
+    /// returns its number, and another entry meets the first as `Taken`.
     pub fn publish(&mut self, board: &Board, entry: Entry) -> Result<u32, PublishFault>
         requires own { IsDeskOf self.old board.now }
         ensures ok { IfOk result (λ n. (n ≡ self.old.next_number) × (state_of self.new ≡ numbered (state_of self.old) entry)) }
@@ -195,16 +192,16 @@ impl Desk {
         processor as usize * self.replica.capacity() as usize + (number as usize - 1)
     }
 
-    /// Joins in what another desk of the same board holds. Afterwards the desk holds what either
-    /// held, and nothing torn.
+    /// Adds the entries of another desk of the same board. The desk then holds those of both, none of
+    /// them torn.
     ///
-    /// It costs a step for each cell of the board, and a look-up for each entry that the other
-    /// holds and for each number of a row in which it holds one.
+    /// O(cells of the board), and a look-up for each entry of the other and for each number of a row in
+    /// which it has one.
     ///
     /// # Errors
-    /// Returns [`AllocError`] if an allocation fails, which happens only if the other holds
-    /// something at a key at which this desk holds nothing: then a part of that is joined in, and
-    /// another meet gives what one would have given.
+    /// Returns [`AllocError`] if an allocation fails, which happens only if the other has a key that
+    /// this desk hasn't: some of those are then added, and another meet gives what one would have
+    /// given.
     pub fn meet(&mut self, other: &Desk) -> Result<(), AllocError>
         requires own { OfOneBoard self.old other.now }
         ensures ok { OnOk result (state_of self.new ≡ met (state_of self.old) (state_of other.now)) }
@@ -222,16 +219,16 @@ impl Desk {
     }
 
     /// Looks at each processor's numbers, from the first that the desk doesn't hold up to the first
-    /// empty cell, and answers how many keys are newly held. In a row that gained some, no number
-    /// up to the last one gained is missing then, also after a failed allocation.
+    /// empty cell, and returns how many keys are new. In a row that gained some, no number up to the
+    /// last one is missing then, also after a failed allocation.
     ///
-    /// It costs, for each processor, a look at each number that is newly held and at one empty
-    /// cell, and a look-up for each number past its sound beginning that was held already. What is
-    /// in a sound beginning isn't gone through again.
+    /// For each processor a look at each new number and at one empty cell, and a look-up for each
+    /// number past its sound beginning that was held already. Entries of a sound beginning are not
+    /// gone through again.
     ///
     /// # Errors
-    /// Returns [`AllocError`] if an allocation fails, which happens only if a key of the board
-    /// is still not held; what was found until then is held.
+    /// Returns [`AllocError`] if an allocation fails, which happens only if the board has a key that
+    /// the desk still hasn't; what was found before that is held.
     pub fn refresh(&mut self, board: &Board) -> Result<u64, AllocError>
         requires own { IsDeskOf self.old board.now }
         ensures count { IfOk result (λ c. c ≡ gained (replica_of self.old.replica) (replica_of self.new.replica)) }

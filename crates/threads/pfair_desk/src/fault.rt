@@ -20,7 +20,8 @@ pub enum LookFault {
 }
 
 impl LookFault {
-    /// The number under which the fault is reported: 13, 14 and 90, in the order of the variants.
+    /// Returns the number under which the fault is reported: 13, 14 and 90, in the order of the
+    /// variants.
     pub fn number(&self) -> u8
         ensures { result ≡ look_fault_number self.now }
     {
@@ -50,7 +51,8 @@ pub enum PublishFault {
 }
 
 impl PublishFault {
-    /// The number under which the fault is reported: 50, 51 and 90, in the order of the variants.
+    /// Returns the number under which the fault is reported: 50, 51 and 90, in the order of the
+    /// variants.
     pub fn number(&self) -> u8
         ensures { result ≡ publish_fault_number self.now }
     {
