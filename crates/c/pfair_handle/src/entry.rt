@@ -32,8 +32,8 @@ pub struct PfairEntry {
     pub by: u64,
 }
 
-/// The entry, or the number of what is wrong with it: a number out of its range, then the name's
-/// fault, the weight's, the entry's.
+/// Returns the entry, or the number of what is wrong with it: a number out of its range, then the
+/// name's fault, the weight's, the entry's.
 pub fn read_entry(entry: &PfairEntry) -> Result<Entry, u32>
     ensures ok { IfOk result (λ read. read ≡ logged_of entry.now) }
     ensures meant { OnOk result (IsMeant entry.now) }
@@ -100,7 +100,7 @@ fn read_name(name: &PfairName) -> Result<&[u8], u32>
     Ok(&name.bytes[..name.length as usize])
 }
 
-/// The entry as C has it, with zeros in the fields that its kind doesn't need.
+/// Returns the entry as C has it, with zeros in the fields that its kind doesn't need.
 pub fn entry_row(entry: &Entry) -> PfairEntry
     ensures { result ≡ entry_row entry.now }
 {

@@ -26,8 +26,8 @@ pub struct PfairLag {
     pub period: u64,
 }
 
-/// How many lags the slots `from` to `to` - 1 have, where no slot is forgotten; no more than fit into
-/// 64 bits. It costs what it costs to tell a book the slots 0 to `to` - 1.
+/// Returns how many lags the slots `from` to `to` - 1 have, where no slot is forgotten; no more
+/// than fit into 64 bits. It costs what it costs to tell a book the slots 0 to `to` - 1.
 ///
 /// # Errors
 /// Returns [`AllocError`] if an allocation fails.

@@ -55,7 +55,7 @@ pub struct Handle {
 }
 
 impl Handle {
-    /// Whether there is a dispatcher.
+    /// Returns whether there is a dispatcher.
     pub fn is_open(&self) -> bool
         ensures { result ≡ is_kept self.now.owner.kept }
     {
@@ -89,7 +89,7 @@ impl Handle {
         owner.close();
     }
 
-    /// The dispatcher takes the entry, as [`Dispatcher::take`](pfair_table::Dispatcher::take).
+    /// Takes the entry, as [`Dispatcher::take`](pfair_table::Dispatcher::take).
     ///
     /// # Errors
     /// Those of that call; the dispatcher is then as before.
@@ -114,7 +114,7 @@ impl Handle {
         answer
     }
 
-    /// The dispatcher takes all that the other holds, as
+    /// Takes all that the other holds, as
     /// [`Dispatcher::absorb`](pfair_table::Dispatcher::absorb).
     ///
     /// # Errors
@@ -138,7 +138,7 @@ impl Handle {
         answer
     }
 
-    /// Whether the other holds all that this dispatcher holds, as
+    /// Returns whether the other holds all that this dispatcher holds, as
     /// [`Replica::le`](pfair_replica::Replica::le).
     pub fn le(&mut self, alloc: Global, other: &mut Handle) -> bool
         requires open { is_kept self.old.owner.kept ≡ true }

@@ -22,8 +22,8 @@ pub struct PfairQuantum {
     pub index: u64,
 }
 
-/// How many quanta the slots `from` to `to` - 1, none of which is forgotten, have, where they are
-/// planned. It costs the slots.
+/// Returns how many quanta the slots `from` to `to` - 1, none of which is forgotten, have, where
+/// they are planned. It costs the slots.
 pub fn count_quanta<R: Ready>(dispatcher: &Dispatcher<R>, from: u64, to: u64) -> u64
     requires standing { dispatcher.now.forgotten ≤ from }
     requires few { to ≤ Settings.MAX_SLOTS }

@@ -43,7 +43,7 @@ pub struct PfairDecided {
     pub freed_at: u64,
 }
 
-/// A name as C has it.
+/// Returns a name as C has it.
 pub fn name_row(name: &TaskName) -> PfairName
     ensures { result ≡ name_row name.now }
 {

@@ -18,7 +18,7 @@ pub struct PfairWindow {
     pub group_deadline: u64,
 }
 
-/// The window of subtask `index` at the offset `theta`.
+/// Returns the window of subtask `index` at the offset `theta`.
 pub fn window_row(weight: Weight, index: u64, theta: u64) -> PfairWindow
     requires first { 1 ≤ index }
     requires last { index ≤ MAX_INDEX }

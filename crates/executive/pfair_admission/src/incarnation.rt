@@ -69,7 +69,7 @@ impl Incarnation {
         }
     }
 
-    /// The task's name.
+    /// Returns the task's name.
     pub fn name(&self) -> &TaskName
         ensures value { result.now ≡ self.now.name }
         ensures member { IsMember self.now }
@@ -77,7 +77,7 @@ impl Incarnation {
         &self.name
     }
 
-    /// The task's weight.
+    /// Returns the task's weight.
     pub fn weight(&self) -> Weight
         ensures value { result ≡ self.now.weight }
         ensures member { IsMember self.now }
@@ -85,7 +85,7 @@ impl Incarnation {
         self.weight
     }
 
-    /// Whether a subtask may run as soon as the one before it in the same job has run (early
+    /// Returns whether a subtask may run as soon as the one before it in the same job has run (early
     /// release, as in Anderson and Srinivasan's ERfair scheduling).
     pub fn early(&self) -> bool
         ensures value { result ≡ self.now.early }
@@ -94,7 +94,7 @@ impl Incarnation {
         self.early
     }
 
-    /// The slot in which it joined.
+    /// Returns the slot in which it joined.
     pub fn joined(&self) -> u64
         ensures value { result ≡ self.now.joined }
         ensures member { IsMember self.now }
@@ -102,7 +102,7 @@ impl Incarnation {
         self.joined
     }
 
-    /// The index of the next subtask, from 1 to [`MAX_INDEX`].
+    /// Returns the index of the next subtask, from 1 to [`MAX_INDEX`].
     pub fn next(&self) -> u64
         ensures value { result ≡ self.now.next }
         ensures member { IsMember self.now }
@@ -110,7 +110,7 @@ impl Incarnation {
         self.stepper.index()
     }
 
-    /// The slot from which its weight and its name are free, where it is departing.
+    /// Returns the slot from which its weight and its name are free, where it is departing.
     pub fn freed_at(&self) -> Option<u64>
         ensures value { result ≡ self.now.freed_at }
         ensures member { IsMember self.now }
@@ -118,16 +118,16 @@ impl Incarnation {
         self.freed_at
     }
 
-    /// Whether it is departing, and so gets no quantum.
+    /// Returns whether it is departing, and so gets no quantum.
     pub fn is_departing(&self) -> bool
         ensures { result ≡ is_departing self.now }
     {
         self.freed_at.is_some()
     }
 
-    /// The offset of the windows of subtask `index`, in slots: the joining slot and the accepted
-    /// delays of this subtask and of those before it (the intra-sporadic model of Anderson and
-    /// Srinivasan). It goes through the accepted delays once.
+    /// Returns the offset of the windows of subtask `index`, in slots: the joining slot and the
+    /// accepted delays of this subtask and of those before it (the intra-sporadic model of Anderson
+    /// and Srinivasan). It goes through the accepted delays once.
     pub fn theta(&self, index: u64) -> u64
         ensures value { result ≡ theta self.now index }
         ensures within { result ≤ MAX_OFFSET }
@@ -136,9 +136,9 @@ impl Incarnation {
         self.joined + delay_up_to(&self.delays, index)
     }
 
-    /// The slot from which subtask `index` may run, once the one before it has run: its release,
-    /// or, for an early task, the joining slot where the subtask doesn't start a job and no
-    /// accepted delay has exactly its index. It goes through the accepted delays, twice at most.
+    /// Returns the slot from which subtask `index` may run, once the one before it has run: its
+    /// release, or, for an early task, the joining slot where the subtask doesn't start a job and
+    /// no accepted delay has exactly its index. It goes through the accepted delays, twice at most.
     pub fn eligible(&self, index: u64) -> u64
         requires first { 1 ≤ index }
         requires last { index ≤ MAX_INDEX }
@@ -151,8 +151,8 @@ impl Incarnation {
         }
     }
 
-    /// The slot from which the next subtask may run, and its key. It costs the same however many
-    /// delays were accepted.
+    /// Returns the slot from which the next subtask may run, and its key. It costs the same however
+    /// many delays were accepted.
     pub fn next_subtask(&self) -> (u64, Key)
         ensures { result ≡ (eligible_from self.now self.now.next, next_key self.now) }
     {

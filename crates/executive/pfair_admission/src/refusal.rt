@@ -28,7 +28,8 @@ pub enum Refusal {
 }
 
 impl Refusal {
-    /// The number under which the refusal is reported: 20 to 25, in the order of the variants.
+    /// Returns the number under which the refusal is reported: 20 to 25, in the order of the
+    /// variants.
     pub fn number(&self) -> u8
         ensures { result ≡ refusal_number self.now }
     {

@@ -69,7 +69,7 @@ impl Model for LagBook {
 }
 
 impl LagBook {
-    /// A book in which no task is entered and no slot recorded. It takes no memory; what is entered
+    /// Creates a book without tasks and slots. It allocates nothing; what is entered
     /// later comes from `alloc`.
     pub fn new(alloc: Global) -> Self
         ensures { result ≡ empty_book }
@@ -126,7 +126,7 @@ impl LagBook {
         self.time += 1;
     }
 
-    /// How many slots have been recorded.
+    /// Returns how many slots have been recorded.
     pub fn time(&self) -> u64
         ensures value { result ≡ self.now.time }
         ensures short { result ≤ MAX_HORIZON }
@@ -134,9 +134,9 @@ impl LagBook {
         self.time
     }
 
-    /// The lag of a task, as a numerator over its period p: `e * t - p * A`, where e is its cost, t
-    /// the number of slots recorded since it was entered, and A the number of those of them in
-    /// which it ran. `None` where it isn't there.
+    /// Returns the lag of a task, as a numerator over its period p: `e * t - p * A`, where e is its
+    /// cost, t the number of slots recorded since it was entered, and A the number of those of them
+    /// in which it ran. `None` where it isn't there.
     pub fn lag(&self, name: &TaskName) -> Option<(i64, u64)>
         ensures { result ≡ option_map lag_of (tally_of name.now self.now) }
     {
@@ -144,7 +144,7 @@ impl LagBook {
         Some(account.lag(self.time))
     }
 
-    /// The name at a place, counted from 0, in order of entering, and that task's lag, as
+    /// Returns the name at a place, counted from 0, in order of entering, and that task's lag, as
     /// [`LagBook::lag`]. `None` exactly where there are no more than `place` tasks. It costs the
     /// same whatever is entered: no name is looked up.
     pub fn row_at(&self, place: usize) -> Option<(&TaskName, (i64, u64))>
@@ -155,21 +155,22 @@ impl LagBook {
         Some((name, account.lag(self.time)))
     }
 
-    /// How many tasks are entered.
+    /// Returns how many tasks are entered.
     pub fn len(&self) -> usize
         ensures { result ≡ length self.now.entered }
     {
         self.accounts.len()
     }
 
-    /// Whether no task is entered.
+    /// Returns whether no task is entered.
     pub fn is_empty(&self) -> bool
         ensures { IsTrue result ↔ (length self.now.entered ≡ 0) }
     {
         self.accounts.is_empty()
     }
 
-    /// The name at a place, counted from 0, in order of entering. No name stands at two places.
+    /// Returns the name at a place, counted from 0, in order of entering. No name stands at two
+    /// places.
     pub fn name_at(&self, place: usize) -> Option<&TaskName>
         ensures name { option_map (λ n. n.now) result ≡ option_map (λ e. e.0) (slice_get self.now.entered place) }
         ensures apart { NamesApart (λ e. e.0) self.now.entered }

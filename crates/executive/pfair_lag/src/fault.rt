@@ -25,7 +25,7 @@ pub enum PickFault {
 }
 
 impl PickFault {
-    /// The number under which the fault is reported: 40 and 41, in the order of the variants.
+    /// Returns the number under which the fault is reported: 40 and 41, in the order of the variants.
     pub fn number(&self) -> u8
         ensures { result ≡ pick_fault_number self.now }
     {

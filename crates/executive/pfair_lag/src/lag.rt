@@ -9,8 +9,8 @@ use crate::MAX_HORIZON;
 use crate::fault::{PickFault, check_picks};
 use pfair_weight::Weight;
 
-/// Whether the lag stays strictly between -1 and 1 at each time from 0 to the horizon. This is so
-/// exactly where each subtask runs in its window (Baruah, Cohen, Plaxton and Varvel 1996).
+/// Returns whether the lag stays strictly between -1 and 1 at each time from 0 to the horizon. This
+/// is so exactly where each subtask runs in its window (Baruah, Cohen, Plaxton and Varvel 1996).
 ///
 /// `picks` are the slots in which the task ran, the i-th of them that of subtask i. The horizon is
 /// at most [`MAX_HORIZON`]. It goes through the times and asks for no window, and takes no memory.
@@ -38,8 +38,8 @@ pub fn lag_within(weight: Weight, picks: &[u64], horizon: u64) -> Result<bool, P
     Ok(true)
 }
 
-/// Whether the lag stays below 1 at each time from 0 to the horizon. This is so exactly where each
-/// subtask runs before its deadline (ERfair, Anderson and Srinivasan).
+/// Returns whether the lag stays below 1 at each time from 0 to the horizon. This is so exactly
+/// where each subtask runs before its deadline (ERfair, Anderson and Srinivasan).
 ///
 /// `picks` are the slots in which the task ran, the i-th of them that of subtask i. The horizon is
 /// at most [`MAX_HORIZON`]. It goes through the times and asks for no window, and takes no memory.

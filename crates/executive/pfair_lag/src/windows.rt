@@ -36,7 +36,7 @@ pub enum Miss {
     },
 }
 
-/// The first subtask that is out of its window: ran early or late, or did not run though its
+/// Returns the first subtask that is out of its window: ran early or late, or did not run though its
 /// deadline is at most the horizon. `None` exactly where all are in their windows.
 ///
 /// `picks` are the slots in which the task ran, the i-th of them that of subtask i. The horizon is
@@ -69,7 +69,7 @@ pub fn first_miss(weight: Weight, picks: &[u64], horizon: u64) -> Result<Option<
     Ok(None)
 }
 
-/// Whether each subtask that ran did so in its window, and each whose deadline is at most the
+/// Returns whether each subtask that ran did so in its window, and each whose deadline is at most the
 /// horizon ran. This is so exactly where the lag stays strictly between -1 and 1 up to the horizon
 /// (Baruah, Cohen, Plaxton and Varvel 1996).
 ///

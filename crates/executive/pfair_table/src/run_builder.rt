@@ -38,7 +38,7 @@ impl Model for RunBuilder {
 }
 
 impl RunBuilder {
-    /// A run of no slots. It takes no memory.
+    /// Creates a run of no slots. Allocates nothing.
     pub fn new(alloc: Global) -> RunBuilder
         ensures { result ≡ [] }
     {

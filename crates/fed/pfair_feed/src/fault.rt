@@ -22,7 +22,7 @@ pub enum FeedFault {
 }
 
 impl FeedFault {
-    /// The number under which the fault is reported: 70, or that of the fault that it has.
+    /// Returns the number under which the fault is reported: 70, or that of the fault that it has.
     pub fn number(&self) -> u8
         ensures { result ≡ feed_fault_number self.now }
     {
@@ -33,7 +33,7 @@ impl FeedFault {
         }
     }
 
-    /// Whether it speaks of one line, behind which the input can be read on: the line is no
+    /// Returns whether it speaks of one line, behind which the input can be read on: the line is no
     /// entry's row, or its entry is refused.
     pub fn is_refusal(&self) -> bool
         ensures { result ≡ is_refusal self.now }

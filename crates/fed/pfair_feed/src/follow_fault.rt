@@ -39,7 +39,7 @@ pub enum FollowFault {
 }
 
 impl FollowFault {
-    /// The number under which the fault is reported.
+    /// Returns the number under which the fault is reported.
     pub fn number(&self) -> u8
         ensures { result ≡ follow_fault_number self.now }
     {

@@ -49,9 +49,9 @@ impl<R: Ready> Model for Follower<R> {
 }
 
 impl<R: Ready> Follower<R> {
-    /// A follower that holds nothing, has planned nothing and written nothing, with room for logs
-    /// of `capacity` entries, 1 to 4,096. It writes the rows of slot `from` and of those after it;
-    /// those before are left out. It costs the number of processors.
+    /// Creates a follower that holds nothing, has planned nothing and written nothing, with room
+    /// for logs of `capacity` entries, 1 to 4,096. It writes the rows of slot `from` and of those
+    /// after it; those before are left out. It costs the number of processors.
     ///
     /// # Errors
     /// Returns [`AllocError`] if an allocation fails.
@@ -94,8 +94,9 @@ impl<R: Ready> Follower<R> {
         write_header(self.alloc, self.output, writer)
     }
 
-    /// Takes entry `number` (from 1) of the log of `proc` (from 0), plans all that is then settled, and writes
-    /// and flushes the rows of the new slots. If there are none, nothing is written or flushed.
+    /// Takes entry `number` (from 1) of the log of `proc` (from 0), plans all that is then settled,
+    /// and writes and flushes the rows of the new slots. If there are none, nothing is written or
+    /// flushed.
     ///
     /// It costs what [`Dispatcher::take`] costs, what [`Dispatcher::plan_next`] costs for each new slot, and
     /// the new rows.
@@ -191,25 +192,25 @@ impl<R: Ready> Follower<R> {
         }
     }
 
-    /// What it holds and has planned. Where the rows aren't lags it tells nothing of slots whose rows
-    /// are written.
+    /// Returns the dispatcher: what it holds and has planned. Where the rows aren't lags it tells
+    /// nothing of slots whose rows are written.
     pub fn dispatcher(&self) -> &Dispatcher<R>
         ensures { result.now ≡ self.now.dispatch }
     {
         &self.dispatcher
     }
 
-    /// The first slot whose rows are still to be written.
+    /// Returns the first slot whose rows are still to be written.
     pub fn told(&self) -> u64
         ensures { result ≡ self.now.told }
     {
         self.told
     }
 
-    /// The number of the entry that would settle more of the log of a processor: the one right
-    /// behind the log's sound beginning, where its last floor is below the number of slots and
-    /// nothing is held there. `None` where the log settles all slots, where the entry behind its
-    /// beginning is held but its floor fell, where the log has no room for one more, and where
+    /// Returns the number of the entry that would settle more of the log of a processor: the one
+    /// right behind the log's sound beginning, where its last floor is below the number of slots
+    /// and nothing is held there. `None` where the log settles all slots, where the entry behind
+    /// its beginning is held but its floor fell, where the log has no room for one more, and where
     /// there is no such processor. It costs one look-up.
     pub fn missing(&self, proc: u8) -> Option<u32>
         ensures value { result ≡ missing_of self.now.dispatch.settings (replica_of self.now.dispatch.held) proc }
@@ -225,9 +226,9 @@ impl<R: Ready> Follower<R> {
         if is_wanted { Some(number) } else { None }
     }
 
-    /// The law of two followers, whatever was called on either: where their settings and outputs
-    /// are equal and what they hold agrees, what one has planned has rows that begin those of the
-    /// other, from any slot on. It does nothing.
+    /// States the law of two followers, whatever was called on either: where their settings and
+    /// outputs are equal and what they hold agrees, what one has planned has rows that begin those
+    /// of the other, from any slot on. It does nothing.
     pub fn tells_alike<Q: Ready>(&self, other: &Follower<Q>)
         ensures { HaveToldAlike self.now other.now }
     {

@@ -96,7 +96,7 @@ impl From<WriteFailed> for ProgramFault {
 }
 
 impl ProgramFault {
-    /// The number of the fault, by which users and scripts know it.
+    /// Returns the number of the fault, by which users and scripts know it.
     pub fn number(&self) -> u8
         ensures { result ≡ number_of self.now }
     {
@@ -109,9 +109,9 @@ impl ProgramFault {
         }
     }
 
-    /// The exit status that goes with the fault: 1 for a command line, 2 for a row or a task file
-    /// that is refused, 3 for an entry that is torn and for input that ended too early, 4 for want
-    /// of memory, 5 for reading or writing.
+    /// Returns the exit status that goes with the fault: 1 for a command line, 2 for a row or a
+    /// task file that is refused, 3 for an entry that is torn and for input that ended too early, 4
+    /// if an allocation failed, 5 for reading or writing.
     pub fn status(&self) -> u8
         ensures { result ≡ status_of self.now }
     {

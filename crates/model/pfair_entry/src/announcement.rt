@@ -48,7 +48,7 @@ impl Exact for Announcement {
 }
 
 impl Announcement {
-    /// The name of the task that it is about.
+    /// Returns the name of the task that it is about.
     pub fn name(&self) -> TaskName
         ensures { result ≡ name_of self.now }
     {

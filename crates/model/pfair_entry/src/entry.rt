@@ -26,7 +26,8 @@ pub enum EntryFault {
 }
 
 impl EntryFault {
-    /// The number under which the fault is reported: 8, 7, 10 and 9, in the order of the variants.
+    /// Returns the number under which the fault is reported: 8, 7, 10 and 9, in the order of the
+    /// variants.
     pub fn number(&self) -> u8
         ensures { result ≡ entry_fault_number self.now }
     {
@@ -78,7 +79,7 @@ impl Entry {
     /// The longest delay, in slots.
     pub const LONGEST_DELAY: u64 = 1_048_576;
 
-    /// The entry with this floor, and perhaps an announcement with its stamp.
+    /// Creates the entry with this floor, and perhaps an announcement with its stamp.
     ///
     /// # Errors
     /// The first of these that applies: `StampTooFar`, `StampBeforeFloor`, `BadIndex`, `BadDelay`.
@@ -102,7 +103,8 @@ impl Entry {
         Ok(Entry { floor, said })
     }
 
-    /// The slot before which nothing is stamped from this entry on; at most [`Entry::LAST_SLOT`].
+    /// Returns the slot before which nothing is stamped from this entry on; at most
+    /// [`Entry::LAST_SLOT`].
     pub fn floor(&self) -> u64
         ensures value { result ≡ self.now.floor }
         ensures entry { IsEntry self.now }
@@ -110,8 +112,8 @@ impl Entry {
         self.floor
     }
 
-    /// The announcement, with the slot of its stamp, which is at or after the floor and at most
-    /// [`Entry::LAST_SLOT`].
+    /// Returns the announcement, with the slot of its stamp, which is at or after the floor and at
+    /// most [`Entry::LAST_SLOT`].
     pub fn said(&self) -> Option<(u64, Announcement)>
         ensures value { result ≡ self.now.said }
         ensures entry { IsEntry self.now }

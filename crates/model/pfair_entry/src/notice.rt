@@ -56,7 +56,7 @@ pub enum NoticeFault {
 }
 
 impl NoticeFault {
-    /// The number under which the fault is reported: that of the fault that it has.
+    /// Returns the number under which the fault is reported: that of the fault that it has.
     pub fn number(&self) -> u8
         ensures { result ≡ notice_fault_number self.now }
     {
@@ -68,7 +68,7 @@ impl NoticeFault {
     }
 }
 
-/// The entry with this floor, and perhaps an announcement.
+/// Returns the entry with this floor, and perhaps an announcement.
 ///
 /// # Errors
 /// The first of these that applies: `Name`, `Weight` and `Entry`.

@@ -23,7 +23,7 @@ pub enum NoteFault {
 }
 
 impl NoteFault {
-    /// The number under which the fault is reported: 12 and 11, or that of the entry's fault.
+    /// Returns the number under which the fault is reported: 12 and 11, or that of the entry's fault.
     pub fn number(&self) -> u8
         ensures { result ≡ note_fault_number self.now }
     {
@@ -56,7 +56,7 @@ impl Model for Writer {
 }
 
 impl Writer {
-    /// The writer of an empty log that has room for `capacity` entries.
+    /// Creates the writer of an empty log that has room for `capacity` entries.
     pub fn new(capacity: u32) -> Writer
         ensures { result ≡ record { capacity = capacity; written = 0; floor = 0 } }
     {
@@ -67,7 +67,7 @@ impl Writer {
         }
     }
 
-    /// The next entry of the log, after its number, which is counted from 1.
+    /// Returns the next entry of the log, after its number, which is counted from 1.
     ///
     /// # Errors
     /// The first of these that applies, and then the writer is unchanged: `LogFull`, `FloorFell`,

@@ -36,7 +36,7 @@ impl<K: Exact + Ord, V: Join> Model for JoinMap<K, V> {
 }
 
 impl<K: Exact + Ord, V: Join> JoinMap<K, V> {
-    /// The map without keys. It takes no memory, and asks `alloc` for what it grows by later.
+    /// Creates a map without keys. It allocates nothing, and asks `alloc` for what it grows by later.
     pub fn new(alloc: Global) -> JoinMap<K, V>
         ensures { result ≡ [] }
     {
@@ -46,7 +46,7 @@ impl<K: Exact + Ord, V: Join> JoinMap<K, V> {
         }
     }
 
-    /// How many keys there are. Those of inner maps don't count.
+    /// Returns how many keys there are. Those of inner maps don't count.
     pub fn len(&self) -> usize
         ensures count { result ≡ length self.now }
         ensures ordered { IsOrdered K.cmp self.now }
@@ -54,14 +54,14 @@ impl<K: Exact + Ord, V: Join> JoinMap<K, V> {
         self.map.len()
     }
 
-    /// The value at `key`, or `None` where the map lacks the key.
+    /// Returns the value at `key`, or `None` where the map lacks the key.
     pub fn get(&self, key: &K) -> Option<&V>
         ensures { option_copied result ≡ get K.cmp self.now key.now }
     {
         self.map.get(key)
     }
 
-    /// The value at `key`, to be changed in place, or `None` where the map lacks the key.
+    /// Returns the value at `key`, to be changed in place, or `None` where the map lacks the key.
     ///
     /// When the borrow ends the map holds at `key` what was left there last, and all else as
     /// before.

@@ -45,8 +45,8 @@ pub struct Key {
 }
 
 impl Key {
-    /// The key of subtask `index` of a task with this weight and name, whose windows are shifted by
-    /// `theta` slots.
+    /// Returns the key of subtask `index` of a task with this weight and name, whose windows are
+    /// shifted by `theta` slots.
     ///
     /// Subtasks are counted from 1, and `index` is at most [`MAX_INDEX`]; `theta` is at most
     /// [`MAX_OFFSET`]. The deadline, the b-bit and the group deadline are those of the window

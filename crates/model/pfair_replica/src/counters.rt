@@ -35,7 +35,7 @@ pub(crate) struct Counters {
 }
 
 impl Counters {
-    /// Those of so many rows with nothing in them.
+    /// Creates the counters of so many empty rows.
     pub fn new(alloc: Global, processors: u8) -> Result<Counters, AllocError>
         ensures beginnings { IfOk result (λ counters. counters.beginnings.items ≡ replicate processors (record { count = 0; mark = 0 })) }
         ensures torn { IfOk result (λ counters. counters.torn ≡ None) }
@@ -46,7 +46,7 @@ impl Counters {
         })
     }
 
-    /// The same again.
+    /// Returns a copy.
     pub fn copy(&self) -> Result<Counters, AllocError>
         ensures beginnings { IfOk result (λ copy. copy.beginnings.items ≡ self.now.beginnings.items) }
         ensures torn { IfOk result (λ copy. copy.torn ≡ self.now.torn) }

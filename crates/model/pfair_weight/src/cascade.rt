@@ -30,8 +30,8 @@ impl Model for Cascade {
 }
 
 impl Cascade {
-    /// For a window that closes at `close`, in slots, at offset 0. It takes a step for each slot
-    /// up to there, so `close` should be small.
+    /// Creates the cascade of a window that closes at `close`, in slots, at offset 0. It takes a
+    /// step for each slot up to there, so `close` should be small.
     pub fn new(weight: Weight, close: u64) -> Self
         requires below_one { weight.cost < weight.period }
         requires range { close ≤ 1000001000000000 }
@@ -55,7 +55,7 @@ impl Cascade {
         }
     }
 
-    /// For a window that closes so many slots later.
+    /// Goes on to the window that closes so many slots later.
     pub fn advance(&mut self, slots: u64)
         requires { self.old.close + slots ≤ 1000001000000000 }
         ensures { self.new ≡ record self.old { close = self.old.close + slots } }
@@ -67,7 +67,7 @@ impl Cascade {
         self.close += slots;
     }
 
-    /// The slot where the cascade ends, at offset 0.
+    /// Returns the slot where the cascade ends, at offset 0.
     pub fn end(&self) -> u64
         ensures value { result ≡ cascade_end self.now.weight self.now.close }
         ensures within { result ≤ self.now.close + self.now.weight.period }

@@ -25,7 +25,7 @@ impl Model for Fraction {
 }
 
 impl Fraction {
-    /// `numerator` over `denominator`, by the only division.
+    /// Creates `numerator` over `denominator`, by the only division.
     pub fn new(numerator: u64, denominator: u64) -> Self
         requires { 0 < denominator }
         ensures { result ≡ record { numerator = numerator; denominator = denominator } }
@@ -37,14 +37,14 @@ impl Fraction {
         }
     }
 
-    /// The greatest whole number that is not above it.
+    /// Returns the greatest whole number that is not above it.
     pub fn floor(&self) -> u64
         ensures { result ≡ self.now.numerator / self.now.denominator }
     {
         self.whole
     }
 
-    /// The least whole number that is not below it.
+    /// Returns the least whole number that is not below it.
     pub fn ceiling(&self) -> u64
         requires { IsSmall self.now }
         ensures { result ≡ div_ceil self.now.numerator self.now.denominator }

@@ -31,7 +31,8 @@ pub enum NameFault {
 }
 
 impl NameFault {
-    /// The number under which the fault is reported: 1, 2 and 3, in the order of the variants.
+    /// Returns the number under which the fault is reported: 1, 2 and 3, in the order of the
+    /// variants.
     pub fn number(&self) -> u8
         ensures { result ≡ name_fault_number self.now }
     {
@@ -73,7 +74,7 @@ impl TaskName {
     /// The most bytes of a name.
     pub const MAX_LEN: usize = 16;
 
-    /// The name that these bytes spell.
+    /// Returns the name that these bytes spell.
     ///
     /// # Errors
     /// The first that applies: [`NameFault::Empty`], [`NameFault::TooLong`],
@@ -98,7 +99,7 @@ impl TaskName {
         Ok(TaskName { bytes: padded })
     }
 
-    /// The bytes that spell the name. It costs the same whatever the name.
+    /// Returns the bytes that spell the name. It costs the same whatever the name.
     pub fn as_bytes(&self) -> &[u8]
         ensures value { result.now ≡ self.now }
         ensures named { IsTaskName self.now }

@@ -100,7 +100,7 @@ impl Stepper {
         self.theta += by;
     }
 
-    /// The subtask where it stands, from 1 to [`MAX_INDEX`].
+    /// Returns the subtask where it stands, from 1 to [`MAX_INDEX`].
     pub fn index(&self) -> u64
         ensures value { result ≡ self.now.index }
         ensures position { IsPosition self.now }
@@ -108,7 +108,7 @@ impl Stepper {
         self.index
     }
 
-    /// The offset where it stands, in slots, from 0 to [`MAX_OFFSET`].
+    /// Returns the offset where it stands, in slots, from 0 to [`MAX_OFFSET`].
     pub fn theta(&self) -> u64
         ensures value { result ≡ self.now.theta }
         ensures position { IsPosition self.now }
@@ -116,7 +116,7 @@ impl Stepper {
         self.theta
     }
 
-    /// The slot in which the subtask's window opens, as [`crate::release`].
+    /// Returns the slot in which the subtask's window opens, as [`crate::release`].
     pub fn release(&self) -> u64
         ensures value { result ≡ release_of self.now.weight self.now.index self.now.theta }
         ensures within { result < 2 ^ 50 }
@@ -125,7 +125,7 @@ impl Stepper {
         self.opened + self.theta
     }
 
-    /// The slot before which the subtask's window closes, as [`crate::deadline`].
+    /// Returns the slot before which the subtask's window closes, as [`crate::deadline`].
     pub fn deadline(&self) -> u64
         ensures value { result ≡ deadline_of self.now.weight self.now.index self.now.theta }
         ensures within { result < 2 ^ 50 }
@@ -134,7 +134,7 @@ impl Stepper {
         self.served.ceiling() + self.theta
     }
 
-    /// 1 where the subtask's window reaches into that of the next, else 0, as [`crate::b_bit`].
+    /// Returns 1 if the subtask's window reaches into that of the next, else 0, as [`crate::b_bit`].
     pub fn b_bit(&self) -> u64
         ensures value { result ≡ b_bit_of self.now.weight self.now.index }
         ensures within { result ≤ 1 }
@@ -143,7 +143,7 @@ impl Stepper {
         self.served.ceiling() - self.served.floor()
     }
 
-    /// The subtask's group deadline, as [`crate::group_deadline`].
+    /// Returns the subtask's group deadline, as [`crate::group_deadline`].
     pub fn group_deadline(&self) -> u64
         ensures value { result ≡ group_deadline_of self.now.weight self.now.index self.now.theta }
         ensures within { result < 2 ^ 50 }

@@ -22,7 +22,8 @@ pub enum WeightFault {
 }
 
 impl WeightFault {
-    /// The number under which the fault is reported: 4, 5 and 6, in the order of the variants.
+    /// Returns the number under which the fault is reported: 4, 5 and 6, in the order of the
+    /// variants.
     pub fn number(&self) -> u8
         ensures { result ≡ weight_fault_number self.now }
     {
@@ -60,7 +61,7 @@ impl Weight {
     /// The longest period, in slots.
     pub const MAX_PERIOD: u64 = 1_000_000_000;
 
-    /// The weight of `cost` quanta in each period of `period` slots.
+    /// Creates the weight of `cost` quanta in each period of `period` slots.
     ///
     /// # Errors
     /// The first that applies: [`WeightFault::ZeroCost`], [`WeightFault::CostOverPeriod`],
@@ -80,7 +81,7 @@ impl Weight {
         }
     }
 
-    /// The quanta of each period, from 1 to the period.
+    /// Returns the quanta of each period, from 1 to the period.
     pub fn cost(self) -> u64
         ensures value { result ≡ self.cost }
         ensures weight { IsWeight self.cost self.period }
@@ -88,7 +89,7 @@ impl Weight {
         self.cost
     }
 
-    /// The slots of each period, from 1 to [`Weight::MAX_PERIOD`].
+    /// Returns the slots of each period, from 1 to [`Weight::MAX_PERIOD`].
     pub fn period(self) -> u64
         ensures value { result ≡ self.period }
         ensures weight { IsWeight self.cost self.period }
@@ -96,7 +97,7 @@ impl Weight {
         self.period
     }
 
-    /// Whether the weight is heavy: at least half of a processor. Else it is light.
+    /// Returns whether the weight is heavy: at least half of a processor. Else it is light.
     pub fn is_heavy(self) -> bool
         ensures heavy { IsTrue result ↔ IsHeavy self }
         ensures weight { IsWeight self.cost self.period }
@@ -104,8 +105,8 @@ impl Weight {
         2 * self.cost >= self.period
     }
 
-    /// The weight in units of one quantum for each frame of `frame` slots, that is the quanta of
-    /// one frame. `None` exactly where the period doesn't divide the frame.
+    /// Returns the weight in units of one quantum for each frame of `frame` slots, that is the
+    /// quanta of one frame. `None` exactly where the period doesn't divide the frame.
     pub fn units(self, frame: u64) -> Option<u64>
         ensures exact { SomeIff result (frame % self.period ≡ 0) (units_of self frame) }
         ensures within { IfSome result (λ units. units ≤ frame) }

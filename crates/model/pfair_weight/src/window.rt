@@ -14,7 +14,7 @@ pub const MAX_INDEX: u64 = 1_000_001;
 /// The greatest offset, in slots.
 pub const MAX_OFFSET: u64 = 1_099_511_627_776;
 
-/// The slot in which the window of subtask `index` opens: `theta` and the whole slots of
+/// Returns the slot in which the window of subtask `index` opens: `theta` and the whole slots of
 /// (index - 1) * period / cost, rounded down (Baruah, Cohen, Plaxton and Varvel, 1996).
 pub fn release(weight: Weight, index: u64, theta: u64) -> u64
     requires first { 1 ≤ index }
@@ -27,7 +27,7 @@ pub fn release(weight: Weight, index: u64, theta: u64) -> u64
     theta + (index - 1) * weight.period() / weight.cost()
 }
 
-/// The slot before which the window of subtask `index` closes: `theta` and the slots of
+/// Returns the slot before which the window of subtask `index` closes: `theta` and the slots of
 /// index * period / cost, rounded up (Baruah, Cohen, Plaxton and Varvel, 1996). The last slot of
 /// the window is the one before it.
 pub fn deadline(weight: Weight, index: u64, theta: u64) -> u64
@@ -41,8 +41,8 @@ pub fn deadline(weight: Weight, index: u64, theta: u64) -> u64
     theta + (index * weight.period()).div_ceil(weight.cost())
 }
 
-/// The b-bit of subtask `index`: 1 where its window reaches into that of the next subtask, by one
-/// slot, else 0 (Anderson and Srinivasan). It is the same at each offset.
+/// Returns the b-bit of subtask `index`: 1 where its window reaches into that of the next subtask,
+/// by one slot, else 0 (Anderson and Srinivasan). It is the same at each offset.
 pub fn b_bit(weight: Weight, index: u64) -> u64
     requires first { 1 ≤ index }
     requires last { index ≤ MAX_INDEX }
@@ -54,7 +54,8 @@ pub fn b_bit(weight: Weight, index: u64) -> u64
     served.div_ceil(weight.cost()) - served / weight.cost()
 }
 
-/// The group deadline of subtask `index`: 0 for a light weight, and the deadline for a weight of 1.
+/// Returns the group deadline of subtask `index`: 0 for a light weight, and the deadline for a
+/// weight of 1.
 ///
 /// For a heavy weight below 1 it is the slot where the cascade of windows of two slots ends that
 /// the subtask is in (Anderson and Srinivasan): the first slot t at or after its deadline such
@@ -80,7 +81,7 @@ pub fn group_deadline(weight: Weight, index: u64, theta: u64) -> u64
     theta + end_of_cascade(weight, close)
 }
 
-/// Whether subtask `index` is the first of a job. Job k of a weight is its subtasks
+/// Returns whether subtask `index` is the first of a job. Job k of a weight is its subtasks
 /// (k - 1) * cost + 1 to k * cost, the quanta of its k-th period.
 pub fn starts_job(weight: Weight, index: u64) -> bool
     requires { 1 ≤ index }

@@ -79,7 +79,7 @@ impl From<RunFault> for ProgramFault {
 }
 
 impl ProgramFault {
-    /// The number of the fault, by which users and scripts know it.
+    /// Returns the number of the fault, by which users and scripts know it.
     pub fn number(&self) -> u8
         ensures { result ≡ number_of self.now }
     {
@@ -94,9 +94,9 @@ impl ProgramFault {
         }
     }
 
-    /// The exit status that goes with the fault: 1 for a command line or a weight, that of its
-    /// cause for a file without a schedule, 3 for a run that went astray or whose gate gave up, 4
-    /// if an allocation failed, 5 for writing.
+    /// Returns the exit status that goes with the fault: 1 for a command line or a weight, that of
+    /// its cause for a file without a schedule, 3 for a run that went astray or whose gate gave up,
+    /// 4 if an allocation failed, 5 for writing.
     pub fn status(&self) -> u8
         ensures { result ≡ status_of self.now }
     {

@@ -26,7 +26,8 @@ pub enum RowFault {
 }
 
 impl RowFault {
-    /// The number under which the fault is reported: 67, that of the fault that it has, 13 or 14.
+    /// Returns the number under which the fault is reported: 67, that of the fault that it has, 13
+    /// or 14.
     pub fn number(&self) -> u8
         ensures { result ≡ row_fault_number self.now }
     {

@@ -12,7 +12,7 @@ use pfair_entry::{Entry, checked_entry};
 /// More bytes than any row of an entry has.
 pub const LONGEST_ROW: usize = 256;
 
-/// The processor, the number and the entry that a row names, without its line's end.
+/// Returns the processor, the number and the entry that a row names, without its line's end.
 ///
 /// Just the rows that [`add_entry`](crate::add_entry) writes are read, so each entry has one row.
 /// The row is gone through a few times; no memory is taken.

@@ -84,7 +84,7 @@ pub fn add_entry(
     }
 }
 
-/// The row of an entry alone, without a line's end, as [`add_entry`] writes it.
+/// Returns the row of an entry alone, without a line's end, as [`add_entry`] writes it.
 ///
 /// # Errors
 /// Returns [`AllocError`] if an allocation fails.

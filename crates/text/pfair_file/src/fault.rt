@@ -20,7 +20,7 @@ pub enum EntryCause {
 }
 
 impl EntryCause {
-    /// The number under which the cause is reported: 12, or that of the fault that it has.
+    /// Returns the number under which the cause is reported: 12, or that of the fault that it has.
     pub fn number(&self) -> u8
         ensures { result ≡ cause_number self.now }
     {
@@ -81,8 +81,8 @@ pub enum FileFault {
 }
 
 impl FileFault {
-    /// The number under which the fault is reported: 60 to 65 in the order of the variants, and 90
-    /// if an allocation failed.
+    /// Returns the number under which the fault is reported: 60 to 65 in the order of the variants,
+    /// and 90 if an allocation failed.
     pub fn number(&self) -> u8
         ensures { result ≡ file_fault_number self.now }
     {

@@ -40,7 +40,7 @@ pub enum Field {
 }
 
 impl Field {
-    /// The key as it stands in the file.
+    /// Returns the key as it stands in the file.
     pub fn key(self) -> &'static str
         ensures { result.now ≡ key_of self }
     {

@@ -6,7 +6,7 @@ use crate::memory::is_want_of_memory;
 use std::alloc::{AllocError, AllocGlobal};
 use std::rt::Env;
 
-/// The words after the program's name.
+/// Returns the words after the program's name.
 ///
 /// # Errors
 /// `no_text` where a word is no text, and what a failed allocation makes of the fault's type where

@@ -13,7 +13,7 @@ pub enum Kind {
     Late,
 }
 
-/// The kind that has this name in a file.
+/// Returns the kind that has this name in a file.
 pub fn find_kind(name: &str) -> Option<Kind>
     ensures { result ≡ kind_named name.now }
 {

@@ -10,7 +10,7 @@ use crate::fault::FileFault;
 use crate::field::Field;
 use toml::{Table, Value};
 
-/// The value at a key, if there is one.
+/// Returns the value at a key, if there is one.
 pub fn find(table: &Table, field: Field) -> Option<&Value>
     ensures { option_map (λ v. view v.now) result ≡ get_member (key_of field) (table_view table.now) }
 {
@@ -27,7 +27,7 @@ fn value(table: &Table, place: u64, field: Field) -> Result<&Value, FileFault>
     }
 }
 
-/// The integer at a key.
+/// Returns the integer at a key.
 pub fn integer(table: &Table, place: u64, field: Field) -> Result<i64, FileFault>
     ensures { result ≡ integer_at (table_view table.now) place field }
 {
@@ -37,7 +37,7 @@ pub fn integer(table: &Table, place: u64, field: Field) -> Result<i64, FileFault
     }
 }
 
-/// The text at a key.
+/// Returns the text at a key.
 pub fn text(table: &Table, place: u64, field: Field) -> Result<&str, FileFault>
     ensures { result_map_both (λ t. t.now) (λ e. e) result ≡ text_at (table_view table.now) place field }
 {
@@ -47,7 +47,7 @@ pub fn text(table: &Table, place: u64, field: Field) -> Result<&str, FileFault>
     }
 }
 
-/// An integer that isn't negative, or the fault.
+/// Returns an integer that isn't negative, or the fault.
 pub fn not_negative(value: i64, fault: FileFault) -> Result<u64, FileFault>
     ensures { result ≡ natural fault value }
 {
@@ -57,7 +57,7 @@ pub fn not_negative(value: i64, fault: FileFault) -> Result<u64, FileFault>
     }
 }
 
-/// An integer from `low` to `high`, or the fault.
+/// Returns an integer from `low` to `high`, or the fault.
 pub fn within(value: i64, low: u64, high: u64, fault: FileFault) -> Result<u64, FileFault>
     ensures { result ≡ ranged low high fault value }
 {
@@ -69,7 +69,7 @@ pub fn within(value: i64, low: u64, high: u64, fault: FileFault) -> Result<u64, 
     }
 }
 
-/// The number at a key, from `low` to `high`.
+/// Returns the number at a key, from `low` to `high`.
 pub fn number(
     table: &Table,
     place: u64,
@@ -83,7 +83,7 @@ pub fn number(
     within(value, low, high, FileFault::Range { place, field })
 }
 
-/// The number at a key, which isn't negative.
+/// Returns the number at a key, which isn't negative.
 pub fn natural_number(table: &Table, place: u64, field: Field) -> Result<u64, FileFault>
     ensures { result ≡ natural_at (table_view table.now) place field }
 {

@@ -16,7 +16,7 @@ use std::alloc::Global;
 use std::fs::{File, Files};
 use std::io::Read;
 
-/// A task file, opened for reading.
+/// Opens a task file for reading.
 ///
 /// # Errors
 /// [`ScheduleFault::Memory`] where memory was wanting, and else [`ScheduleFault::ReadFailed`].
@@ -30,7 +30,7 @@ pub fn opened<P: Files>(rt: &P, file: &str) -> Result<P::File, ScheduleFault>
     }
 }
 
-/// The dispatcher that has planned all slots of the script that a reader's bytes hold.
+/// Returns the dispatcher that has planned all slots of the script that a reader's bytes hold.
 ///
 /// No more than 67,108,864 bytes are taken from the reader, but where the file is too long or
 /// memory was wanting: one more may then be.
@@ -52,8 +52,8 @@ pub fn scheduled<R: Read>(
     Ok(run_script(alloc, &script)?)
 }
 
-/// The script that a reader's bytes hold. It costs the reading of all bytes, and what [`read_file`]
-/// costs for them.
+/// Returns the script that a reader's bytes hold. It costs the reading of all bytes, and what
+/// [`read_file`] costs for them.
 ///
 /// # Errors
 /// [`ScheduleFault::ReadFailed`] where the reader answers an error, [`ScheduleFault::FileTooLong`]

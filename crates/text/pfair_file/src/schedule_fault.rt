@@ -67,7 +67,7 @@ impl From<ScriptFault> for ScheduleFault {
 }
 
 impl ScheduleFault {
-    /// The number of the fault, by which users and scripts know it.
+    /// Returns the number of the fault, by which users and scripts know it.
     pub fn number(&self) -> u8
         ensures { result ≡ schedule_fault_number self.now }
     {
@@ -80,8 +80,8 @@ impl ScheduleFault {
         }
     }
 
-    /// The exit status that goes with the fault: 2 for a task file, 3 for a run that is stalled, 4
-    /// if an allocation failed, 5 for reading.
+    /// Returns the exit status that goes with the fault: 2 for a task file, 3 for a run that is
+    /// stalled, 4 if an allocation failed, 5 for reading.
     pub fn status(&self) -> u8
         ensures { result ≡ schedule_fault_status self.now }
     {

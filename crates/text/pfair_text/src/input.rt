@@ -25,7 +25,7 @@ pub enum ReadFault {
     Memory,
 }
 
-/// All the bytes of a reader.
+/// Returns all bytes of a reader.
 ///
 /// At most one byte more than the longest file has is read, whatever the answer, so the call ends
 /// whatever the reader gives. Takes time and memory in proportion to the bytes that come.

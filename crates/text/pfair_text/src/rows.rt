@@ -8,7 +8,7 @@ ghost use Rattle.pfair_text.specs.Rows.{is_plain, IsOpen, line, text_so_far};
 use csv::{Writer, WriterBuilder};
 use std::alloc::{AllocError, Global};
 
-/// An empty text, to which rows are added.
+/// Creates an empty text, to which rows are added.
 pub fn new_text(alloc: Global) -> Writer<Vec<u8>>
     ensures open { IsOpen result }
     ensures text { text_so_far result ≡ [] }
@@ -35,7 +35,7 @@ pub fn add_row(writer: &mut Writer<Vec<u8>>, fields: &[&[u8]]) -> Result<(), All
     }
 }
 
-/// The whole text. Fails if an allocation fails.
+/// Returns the whole text, unless an allocation fails.
 pub fn finish(writer: Writer<Vec<u8>>) -> Result<Vec<u8>, AllocError>
     ensures { IfOk result (λ text. text.items ≡ text_so_far writer) }
 {

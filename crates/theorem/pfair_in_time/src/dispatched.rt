@@ -14,9 +14,10 @@ use pfair_replica::Replica;
 use pfair_table::{Dispatcher, Settings};
 use pfair_weight::Weight;
 
-/// No admitted task misses by what this dispatcher has planned: while nothing that it holds is torn,
-/// each of its slots has the table that follows from what it holds, each row of it is in time, and
-/// after it the next subtask of each member that isn't departing is still to be due.
+/// States that no admitted task misses by what this dispatcher has planned: while nothing that it
+/// holds is torn, each of its slots has the table that follows from what it holds, each row of it
+/// is in time, and after it the next subtask of each member that isn't departing is still to be
+/// due.
 ///
 /// It changes and answers nothing, and a program has no need to call it: it stands for its clause. It
 /// looks once at each key of the replica, since that a weight is one is known of its type alone.
