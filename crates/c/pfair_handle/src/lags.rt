@@ -55,8 +55,8 @@ pub fn count_lags<R: Ready>(
 }
 
 /// Writes the lags in the slots `from` to `to` - 1 over the first rows, where no slot is forgotten:
-/// after each slot those of the tasks that stay, in the order of admission. It costs the rows, and what it costs to tell a book
-/// the slots 0 to `to` - 1.
+/// after each slot those of the tasks that stay, in the order of admission. O(rows), and the cost of
+/// recording the slots 0 to `to` - 1 in a book.
 ///
 /// # Errors
 /// Returns [`AllocError`] if an allocation fails; the lags of some first slots may be written

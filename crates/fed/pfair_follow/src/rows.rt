@@ -26,9 +26,9 @@ const LOG: u32 = Script::LONGEST_LOG as u32;
 /// read settles it, flushed before more is read; before them the header, where `run.from` is 0.
 ///
 /// What is written is what `pfair` writes of a task file with the same entries, from slot `run.from`
-/// on, in whatever order their rows come and however often each. A row that is refused costs a line to `complaints`, and is skipped unless `run.is_strict`;
-/// the line `?` asks for the keys of the entries that would settle more. It costs what
-/// [`follow`](pfair_feed::follow) costs.
+/// on, in whatever order their rows come and however often each. A refused row is reported in a line
+/// to `complaints`, and is skipped unless `run.is_strict`; the line `?` asks for the keys of the
+/// entries that would settle more. The cost is that of [`follow`](pfair_feed::follow).
 ///
 /// # Errors
 /// [`ProgramFault::Schedule`] with `Stalled` and the first slot that isn't settled, where the input

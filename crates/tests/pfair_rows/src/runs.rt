@@ -43,7 +43,8 @@ new, new, new, slot 0, slot 1, slot 2, slot 3, slot 4, slot 5, slot 6, slot 7
 
 the name, the period and the room are looked at in this order
 1 12 1
-0 1 0 0 arrive a 1 5; 0 2 0 0 arrive a 12 12; 0 3 0 0 arrive a 1 5; 0 4 0 0 arrive b 1 5; 0 5 0 0 arrive b 1 12; 0 6 1; plan 2
+0 1 0 0 arrive a 1 5; 0 2 0 0 arrive a 12 12; 0 3 0 0 arrive a 1 5; 0 4 0 0 arrive b 1 5; \
+0 5 0 0 arrive b 1 12; 0 6 1; plan 2
 new, new, new, new, new, new, slot 0, done
 [a1]
 [0.1 a refused 21, 0.2 a admitted, 0.3 a refused 20, 0.4 b refused 21, 0.5 b refused 22]
@@ -99,10 +100,12 @@ new, new, new, new, slot 0, done
 
 what a light leaver is refused, and what others are beside it
 1 5 5
-0 1 0 0 arrive a 2 5; 0 2 1 1 depart a; 0 3 1 1 depart a; 0 4 1 1 depart x; 0 5 1 1 late a 2 1; 0 6 1 1 arrive a 1 5; 0 7 3 3 arrive b 1 1; 0 8 4 4 arrive b 1 1; 0 9 5; plan 5
+0 1 0 0 arrive a 2 5; 0 2 1 1 depart a; 0 3 1 1 depart a; 0 4 1 1 depart x; 0 5 1 1 late a 2 1; \
+0 6 1 1 arrive a 1 5; 0 7 3 3 arrive b 1 1; 0 8 4 4 arrive b 1 1; 0 9 5; plan 5
 new, new, new, new, new, new, new, new, new, slot 0, slot 1, slot 2, slot 3, slot 4
 [a1][][][][b1]
-[0.1 a admitted][0.2 a departing 4, 0.3 a refused 24, 0.4 x refused 23, 0.5 a refused 24, 0.6 a refused 20][][0.7 b refused 22][0.8 b admitted]
+[0.1 a admitted][0.2 a departing 4, 0.3 a refused 24, 0.4 x refused 23, 0.5 a refused 24, 0.6 a refused 20][]\
+[0.7 b refused 22][0.8 b admitted]
 
 a delayed subtask of an early task waits for its release
 1 4 8
@@ -130,10 +133,13 @@ fn runs_of_events(rt: HostRuntime) {
 // misses a deadline. The others stay within the two.
 const FULL: Run<'static> = Run {
     machine: "2 12 12",
-    events: "0 1 0 0 arrive a 1 2; 0 2 0 0 arrive b 1 3; 1 1 0 0 arrive c 3 6; 1 2 0 0 early d 8 12; 1 3 2 2 late b 2 2; 0 3 4 4 depart a; 0 4 4 4 arrive e 2 4; 0 5 5 5 arrive e 2 4; 0 6 12; 1 4 12; plan 13",
-    answers: "new, new, new, new, new, new, new, new, new, new, slot 0, slot 1, slot 2, slot 3, slot 4, slot 5, slot 6, slot 7, slot 8, slot 9, slot 10, slot 11, done",
+    events: "0 1 0 0 arrive a 1 2; 0 2 0 0 arrive b 1 3; 1 1 0 0 arrive c 3 6; 1 2 0 0 early d 8 12; \
+        1 3 2 2 late b 2 2; 0 3 4 4 depart a; 0 4 4 4 arrive e 2 4; 0 5 5 5 arrive e 2 4; 0 6 12; 1 4 12; plan 13",
+    answers: "new, new, new, new, new, new, new, new, new, new, slot 0, slot 1, slot 2, slot 3, slot 4, slot 5, \
+        slot 6, slot 7, slot 8, slot 9, slot 10, slot 11, done",
     tables: "[d1 a1][c1 b1][d2 a2][c2 d3][c3 d4][e1 d5][b2 c4][d6 e2][c5 d7][b3 e3][c6 d8][e4 b4]",
-    decisions: "[0.1 a admitted, 0.2 b admitted, 1.1 c admitted, 1.2 d admitted][][1.3 b delayed][][0.3 a departing 5, 0.4 e refused 22][0.5 e admitted][][][][][][]",
+    decisions: "[0.1 a admitted, 0.2 b admitted, 1.1 c admitted, 1.2 d admitted][][1.3 b delayed][]\
+        [0.3 a departing 5, 0.4 e refused 22][0.5 e admitted][][][][][][]",
     places: "",
 };
 
@@ -172,26 +178,34 @@ const TEN: [(&str, &str); 5] = [
     (BACKWARD, ANSWERS),
     (
         TWICE,
-        "new, known, new, known, new, known, new, known, new, known, new, known, new, known, new, known, new, known, new, known, slot 0, slot 1, slot 2, slot 3, slot 4, slot 5, done",
+        "new, known, new, known, new, known, new, known, new, known, new, known, new, known, new, known, new, \
+            known, new, known, slot 0, slot 1, slot 2, slot 3, slot 4, slot 5, done",
     ),
     (
-        "absorb 0 1 0 0 arrive a 1 2, 0 2 0 0 arrive b 2 3, 0 3 2 2 depart a, 0 4 4, 0 5 6; plan 1; absorb 1 1 0 0 arrive c 1 3, 1 2 1 3 arrive d 1 2, 1 3 3 4 late b 4 2, 1 4 5, 1 5 6; plan 7",
+        "absorb 0 1 0 0 arrive a 1 2, 0 2 0 0 arrive b 2 3, 0 3 2 2 depart a, 0 4 4, 0 5 6; plan 1; \
+            absorb 1 1 0 0 arrive c 1 3, 1 2 1 3 arrive d 1 2, 1 3 3 4 late b 4 2, 1 4 5, 1 5 6; plan 7",
         HALVES,
     ),
     (
-        "absorb 1 1 0 0 arrive c 1 3, 1 2 1 3 arrive d 1 2, 1 3 3 4 late b 4 2, 1 4 5, 1 5 6; plan 1; absorb 0 1 0 0 arrive a 1 2, 0 2 0 0 arrive b 2 3, 0 3 2 2 depart a, 0 4 4, 0 5 6; plan 7",
+        "absorb 1 1 0 0 arrive c 1 3, 1 2 1 3 arrive d 1 2, 1 3 3 4 late b 4 2, 1 4 5, 1 5 6; plan 1; \
+            absorb 0 1 0 0 arrive a 1 2, 0 2 0 0 arrive b 2 3, 0 3 2 2 depart a, 0 4 4, 0 5 6; plan 7",
         HALVES,
     ),
 ];
 
 const FORWARD: &str =
-    "0 1 0 0 arrive a 1 2; 0 2 0 0 arrive b 2 3; 0 3 2 2 depart a; 0 4 4; 0 5 6; 1 1 0 0 arrive c 1 3; 1 2 1 3 arrive d 1 2; 1 3 3 4 late b 4 2; 1 4 5; 1 5 6; plan 7";
+    "0 1 0 0 arrive a 1 2; 0 2 0 0 arrive b 2 3; 0 3 2 2 depart a; 0 4 4; 0 5 6; 1 1 0 0 arrive c 1 3; \
+        1 2 1 3 arrive d 1 2; 1 3 3 4 late b 4 2; 1 4 5; 1 5 6; plan 7";
 
 const BACKWARD: &str =
-    "1 5 6; 1 4 5; 1 3 3 4 late b 4 2; 1 2 1 3 arrive d 1 2; 1 1 0 0 arrive c 1 3; 0 5 6; 0 4 4; 0 3 2 2 depart a; 0 2 0 0 arrive b 2 3; 0 1 0 0 arrive a 1 2; plan 7";
+    "1 5 6; 1 4 5; 1 3 3 4 late b 4 2; 1 2 1 3 arrive d 1 2; 1 1 0 0 arrive c 1 3; 0 5 6; 0 4 4; \
+        0 3 2 2 depart a; 0 2 0 0 arrive b 2 3; 0 1 0 0 arrive a 1 2; plan 7";
 
 const TWICE: &str =
-    "0 1 0 0 arrive a 1 2; 0 1 0 0 arrive a 1 2; 0 2 0 0 arrive b 2 3; 0 2 0 0 arrive b 2 3; 0 3 2 2 depart a; 0 3 2 2 depart a; 0 4 4; 0 4 4; 0 5 6; 0 5 6; 1 1 0 0 arrive c 1 3; 1 1 0 0 arrive c 1 3; 1 2 1 3 arrive d 1 2; 1 2 1 3 arrive d 1 2; 1 3 3 4 late b 4 2; 1 3 3 4 late b 4 2; 1 4 5; 1 4 5; 1 5 6; 1 5 6; plan 7";
+    "0 1 0 0 arrive a 1 2; 0 1 0 0 arrive a 1 2; 0 2 0 0 arrive b 2 3; 0 2 0 0 arrive b 2 3; 0 3 2 2 depart a; \
+        0 3 2 2 depart a; 0 4 4; 0 4 4; 0 5 6; 0 5 6; 1 1 0 0 arrive c 1 3; 1 1 0 0 arrive c 1 3; \
+        1 2 1 3 arrive d 1 2; 1 2 1 3 arrive d 1 2; 1 3 3 4 late b 4 2; 1 3 3 4 late b 4 2; 1 4 5; 1 4 5; \
+        1 5 6; 1 5 6; plan 7";
 
 // The entries of one processor, and those of the other.
 const FIRST: &str = "0 1 0 0 arrive a 1 2; 0 2 0 0 arrive b 2 3; 0 3 2 2 depart a; 0 4 4; 0 5 6";
@@ -209,7 +223,8 @@ const MACHINE: &str = "2 6 6";
 // What one processor holds back keeps the others from planning.
 const SHORT: Run<'static> = Run {
     machine: MACHINE,
-    events: "0 1 0 0 arrive a 1 2; 0 2 0 0 arrive b 2 3; 0 3 2 2 depart a; 0 4 4; 0 5 6; 1 1 0 0 arrive c 1 3; 1 2 1 3 arrive d 1 2; plan 2",
+    events: "0 1 0 0 arrive a 1 2; 0 2 0 0 arrive b 2 3; 0 3 2 2 depart a; 0 4 4; 0 5 6; 1 1 0 0 arrive c 1 3; \
+        1 2 1 3 arrive d 1 2; plan 2",
     answers: "new, new, new, new, new, new, new, slot 0, waiting 1",
     tables: "[b1 a1]",
     decisions: "[0.1 a admitted, 0.2 b admitted, 1.1 c admitted]",
@@ -224,7 +239,8 @@ fn ten_entries_in_any_order_and_in_parts(rt: HostRuntime) {
             events,
             answers,
             tables: "[b1 a1][b2 c1][][b3 d1][c2][d2]",
-            decisions: "[0.1 a admitted, 0.2 b admitted, 1.1 c admitted][][0.3 a departing 3][1.2 d admitted][1.3 b delayed][]",
+            decisions: "[0.1 a admitted, 0.2 b admitted, 1.1 c admitted][][0.3 a departing 3][1.2 d admitted]\
+                [1.3 b delayed][]",
             places: "[0 1][0 1][][0 1][0][0]",
         };
         assert_run(&rt, rt.alloc(), run);

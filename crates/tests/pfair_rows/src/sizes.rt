@@ -49,7 +49,8 @@ fn late_numbers_of_a_long_log(rt: HostRuntime) -> Result<(), AllocError> {
     let mut texts = no_texts(rt.alloc());
     push_quiet(&mut texts)?;
     texts.events.push_str(
-        "1 3 4; 1 2 1 1 depart b; 1 1 0 1 arrive a 1 4; 0 203 4; 0 202 1 1 arrive b 1 2; 0 201 1 1 arrive a 1 2; plan 5",
+        "1 3 4; 1 2 1 1 depart b; 1 1 0 1 arrive a 1 4; 0 203 4; 0 202 1 1 arrive b 1 2; \
+            0 201 1 1 arrive a 1 2; plan 5",
     )?;
     texts.answers.push_str("new, new, new, new, new, new, slot 0, slot 1, slot 2, slot 3, done")?;
     let mut run = run_of("2 4 4", &texts);
