@@ -111,7 +111,7 @@ fn step_row(step: Step) -> PfairStep
 }
 
 /// Allocates for the next `slots` slots and for `tasks` members at once, as
-/// [`Dispatcher::reserve`](pfair_table::Dispatcher::reserve), and costs what that costs.
+/// [`Dispatcher::reserve`](pfair_table::Dispatcher::reserve), and at its cost.
 ///
 /// Answers 0; 102 if the handle has no dispatcher; 90 if an allocation fails. What is held and planned
 /// is as before in each case.

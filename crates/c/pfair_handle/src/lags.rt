@@ -27,7 +27,8 @@ pub struct PfairLag {
 }
 
 /// Returns how many lags the slots `from` to `to` - 1 have, where no slot is forgotten; no more
-/// than fit into 64 bits. It costs what it costs to tell a book the slots 0 to `to` - 1.
+/// than fit into 64 bits. The cost is that of
+/// recording the slots 0 to `to` - 1 in a book.
 ///
 /// # Errors
 /// Returns [`AllocError`] if an allocation fails.

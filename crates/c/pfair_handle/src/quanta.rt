@@ -23,7 +23,7 @@ pub struct PfairQuantum {
 }
 
 /// Returns how many quanta the slots `from` to `to` - 1, none of which is forgotten, have, where
-/// they are planned. It costs the slots.
+/// they are planned. O(slots).
 pub fn count_quanta<R: Ready>(dispatcher: &Dispatcher<R>, from: u64, to: u64) -> u64
     requires standing { dispatcher.now.forgotten ≤ from }
     requires few { to ≤ Settings.MAX_SLOTS }
@@ -37,7 +37,7 @@ pub fn count_quanta<R: Ready>(dispatcher: &Dispatcher<R>, from: u64, to: u64) ->
 }
 
 /// Writes the quanta of the slots `from` to `to` - 1, none of which is forgotten, over the first rows,
-/// slot by slot, each slot's in the order of its table. It costs the slots and the quanta.
+/// slot by slot, each slot's in the order of its table. O(slots + quanta).
 pub fn write_quanta<R: Ready>(
     dispatcher: &Dispatcher<R>,
     from: u64,

@@ -151,8 +151,8 @@ impl Incarnation {
         }
     }
 
-    /// Returns the slot from which the next subtask may run, and its key. It costs the same however
-    /// many delays were accepted.
+    /// Returns the slot from which the next subtask may run, and its key. O(1), however many delays
+    /// were accepted.
     pub fn next_subtask(&self) -> (u64, Key)
         ensures { result ≡ (eligible_from self.now self.now.next, next_key self.now) }
     {

@@ -117,7 +117,7 @@ impl LagBook {
     /// Records that one slot has passed, in which the tasks of these picks ran. A task that is
     /// named twice had one quantum, and one that isn't entered counts for nobody.
     ///
-    /// Fewer than [`MAX_HORIZON`] slots have been recorded. It takes no memory.
+    /// Fewer than [`MAX_HORIZON`] slots have been recorded. It allocates nothing.
     pub fn record(&mut self, picks: &[Pick])
         requires { self.old.time < MAX_HORIZON }
         ensures { self.new ≡ recorded (map (λ p. p.name) picks.now) self.old }

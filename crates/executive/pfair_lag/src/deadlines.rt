@@ -17,7 +17,7 @@ use pfair_weight::{Weight, deadline};
 /// deadline is at most the horizon. `None` exactly where none is late. It is never [`Miss::Early`].
 ///
 /// `picks` are the slots in which the task ran, the i-th of them that of subtask i. The horizon is
-/// at most [`MAX_HORIZON`]. It takes no memory.
+/// at most [`MAX_HORIZON`]. It allocates nothing.
 ///
 /// # Errors
 /// [`PickFault`], at the first place at fault.
@@ -48,7 +48,7 @@ pub fn first_late(weight: Weight, picks: &[u64], horizon: u64) -> Result<Option<
 /// Anderson and Srinivasan).
 ///
 /// `picks` are the slots in which the task ran, the i-th of them that of subtask i. The horizon is
-/// at most [`MAX_HORIZON`]. It goes through the deadlines, and takes no memory.
+/// at most [`MAX_HORIZON`]. O(deadlines); it allocates nothing.
 ///
 /// # Errors
 /// [`PickFault`], at the first place at fault.

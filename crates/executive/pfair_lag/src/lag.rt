@@ -13,7 +13,7 @@ use pfair_weight::Weight;
 /// is so exactly where each subtask runs in its window (Baruah, Cohen, Plaxton and Varvel 1996).
 ///
 /// `picks` are the slots in which the task ran, the i-th of them that of subtask i. The horizon is
-/// at most [`MAX_HORIZON`]. It goes through the times and asks for no window, and takes no memory.
+/// at most [`MAX_HORIZON`]. O(horizon); it allocates nothing.
 ///
 /// # Errors
 /// [`PickFault`], at the first place at fault.
@@ -42,7 +42,7 @@ pub fn lag_within(weight: Weight, picks: &[u64], horizon: u64) -> Result<bool, P
 /// where each subtask runs before its deadline (ERfair, Anderson and Srinivasan).
 ///
 /// `picks` are the slots in which the task ran, the i-th of them that of subtask i. The horizon is
-/// at most [`MAX_HORIZON`]. It goes through the times and asks for no window, and takes no memory.
+/// at most [`MAX_HORIZON`]. O(horizon); it allocates nothing.
 ///
 /// # Errors
 /// [`PickFault`], at the first place at fault.

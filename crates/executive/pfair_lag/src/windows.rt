@@ -40,7 +40,7 @@ pub enum Miss {
 /// deadline is at most the horizon. `None` exactly where all are in their windows.
 ///
 /// `picks` are the slots in which the task ran, the i-th of them that of subtask i. The horizon is
-/// at most [`MAX_HORIZON`]. It takes no memory.
+/// at most [`MAX_HORIZON`]. It allocates nothing.
 ///
 /// # Errors
 /// [`PickFault`], at the first place at fault.
@@ -74,7 +74,7 @@ pub fn first_miss(weight: Weight, picks: &[u64], horizon: u64) -> Result<Option<
 /// (Baruah, Cohen, Plaxton and Varvel 1996).
 ///
 /// `picks` are the slots in which the task ran, the i-th of them that of subtask i. The horizon is
-/// at most [`MAX_HORIZON`]. It goes through the windows, and takes no memory.
+/// at most [`MAX_HORIZON`]. O(windows); it allocates nothing.
 ///
 /// # Errors
 /// [`PickFault`], at the first place at fault.

@@ -65,7 +65,7 @@ fn place_of_row(places: &[u8], row: usize) -> Option<u8>
     places.get(row).copied()
 }
 
-/// The place of a task in a table with those places. It costs the rows of the table.
+/// The place of a task in a table with those places. O(rows of the table).
 pub(crate) fn find_place(table: &[Pick], places: &[u8], name: &TaskName) -> Option<u8>
     ensures { result ≡ place_of table.now places.now name.now }
 {

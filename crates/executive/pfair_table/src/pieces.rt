@@ -58,7 +58,7 @@ impl<T: Drop> Model for Pieces<T> {
 }
 
 impl<T: Drop> Pieces<T> {
-    /// The list without elements. It takes no memory.
+    /// The list without elements. It allocates nothing.
     pub(crate) fn new(alloc: Global) -> Pieces<T>
         ensures { result ≡ record { items = []; forgotten = 0; gone = 0 } }
     {

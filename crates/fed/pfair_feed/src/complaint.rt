@@ -19,7 +19,7 @@ const LINE_ROOM: usize = 512;
 /// Writes the line of a refusal, `pfair_follow: NUMBER TEXT: LINE`, as far as the writer takes it.
 ///
 /// It goes out in one write, as far as there is room for it, and with a question mark in place of
-/// each byte that is no printed character of ASCII. It takes no memory.
+/// each byte that is no printed character of ASCII. It allocates nothing.
 pub fn tell_refused<E: Write>(complaints: &mut E, fault: &FeedFault, line: &[u8]) {
     let mut text = [0; LINE_ROOM];
     let mut room = &mut text[..];
@@ -36,7 +36,7 @@ pub fn tell_refused<E: Write>(complaints: &mut E, fault: &FeedFault, line: &[u8]
 }
 
 /// Writes a line `missing PROCESSOR,NUMBER` for each log of which [`Follower::missing`] names the
-/// entry that would settle more, in order of processors. It takes no memory.
+/// entry that would settle more, in order of processors. It allocates nothing.
 ///
 /// # Errors
 /// [`WriteFailed`] where the writer answered an error, or took nothing; it has then a prefix of the

@@ -16,7 +16,7 @@ use pfair_text::{finish, new_text};
 use std::alloc::{AllocError, Global};
 
 /// Returns the entries of a script as rows: the logs in order of processors, and in each its
-/// entries, from number 1 on. It costs the rows. What comes of them when they are fed, in whatever
+/// entries, from number 1 on. O(rows). What comes of them when they are fed, in whatever
 /// order and however often each,
 /// [`entries_give_their_schedule`](crate::laws::entries_give_their_schedule) says.
 ///

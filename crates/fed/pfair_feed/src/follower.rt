@@ -51,7 +51,7 @@ impl<R: Ready> Model for Follower<R> {
 impl<R: Ready> Follower<R> {
     /// Creates a follower that holds nothing, has planned nothing and written nothing, with room
     /// for logs of `capacity` entries, 1 to 4,096. It writes the rows of slot `from` and of those
-    /// after it; those before are left out. It costs the number of processors.
+    /// after it; those before are left out. O(M) for M processors.
     ///
     /// # Errors
     /// Returns [`AllocError`] if an allocation fails.
@@ -211,7 +211,7 @@ impl<R: Ready> Follower<R> {
     /// right behind the log's sound beginning, where its last floor is below the number of slots
     /// and nothing is held there. `None` where the log settles all slots, where the entry behind
     /// its beginning is held but its floor fell, where the log has no room for one more, and where
-    /// there is no such processor. It costs one look-up.
+    /// there is no such processor. One look-up.
     pub fn missing(&self, proc: u8) -> Option<u32>
         ensures value { result ≡ missing_of self.now.dispatch.settings (replica_of self.now.dispatch.held) proc }
         ensures key { IfSome result (IsKeyOf self.now.dispatch.held proc) }

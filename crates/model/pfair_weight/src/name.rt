@@ -99,7 +99,7 @@ impl TaskName {
         Ok(TaskName { bytes: padded })
     }
 
-    /// Returns the bytes that spell the name. It costs the same whatever the name.
+    /// Returns the bytes that spell the name. O(1).
     pub fn as_bytes(&self) -> &[u8]
         ensures value { result.now ≡ self.now }
         ensures named { IsTaskName self.now }

@@ -17,7 +17,7 @@ use std::io::{Read, Write};
 ///
 /// The whole text is made before the first byte goes out; of the slots one at a time is held. No more
 /// than 67,108,864 bytes are taken from the reader, but where the file is too long or memory was
-/// wanting: one more may then be. It costs the reading of the file, a run of its script, and the rows.
+/// wanting: one more may then be. The cost is that of reading the file, of running its script, and O(rows).
 ///
 /// # Errors
 /// [`ProgramFault::Schedule`] with the cause where the file has no schedule, as

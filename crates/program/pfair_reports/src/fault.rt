@@ -111,7 +111,7 @@ impl ProgramFault {
 }
 
 /// Writes the line of a fault, `pfair: NUMBER TEXT`, in one write, and gives its exit status, also
-/// where the writer fails. It takes no memory.
+/// where the writer fails. It allocates nothing.
 pub fn write_fault<W: Write>(fault: &ProgramFault, writer: &mut W) -> u8
     ensures { result ≡ status_of fault.now }
 {

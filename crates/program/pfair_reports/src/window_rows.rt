@@ -21,7 +21,7 @@ use std::io::Write;
 /// Plaxton and Varvel and, for the last two, Anderson and Srinivasan define them.
 ///
 /// `count` is at most [`LAST_INDEX`](Entry::LAST_INDEX). The whole text is made before the first
-/// write. It costs the rows.
+/// write. O(rows).
 ///
 /// # Errors
 /// [`ProgramFault::WriteFailed`] where the writer answered an error or took nothing; a prefix of

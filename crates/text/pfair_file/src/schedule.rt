@@ -34,7 +34,7 @@ pub fn opened<P: Files>(rt: &P, file: &str) -> Result<P::File, ScheduleFault>
 ///
 /// No more than 67,108,864 bytes are taken from the reader, but where the file is too long or
 /// memory was wanting: one more may then be.
-/// It costs what [`read_script`] costs, and what [`Dispatcher::plan_next`] costs for each slot.
+/// The cost is that of [`read_script`], and of [`Dispatcher::plan_next`] for each slot.
 ///
 /// # Errors
 /// As [`read_script`], and [`ScheduleFault::Stalled`] with the frontier of the logs where it is

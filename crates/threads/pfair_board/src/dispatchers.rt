@@ -40,7 +40,7 @@ pub struct Finished {
 /// of it, and its places are those of the tables. No table rests on hints, but that a run comes to
 /// Ok does: their end, which each worker awaits, tells that every log stands on the board.
 ///
-/// Each thread costs what [`run_worker`](crate::run_worker) costs. Beside that the entries of all
+/// Each thread has the cost of [`run_worker`](crate::run_worker). Beside that the entries of all
 /// logs are gone through once to take the script, and once for each thread, to compare what it
 /// holds. A thread holds each entry once, in its desk.
 ///
