@@ -1,34 +1,80 @@
 /*
- * pfair.h: the Pfair executive for C. Windows of subtasks, and dispatchers behind handles. It computes schedules; it
- * does not execute tasks.
+ * pfair.h: the C interface of Ramluhay, a proportionate-fair (Pfair) scheduler for M processors.
  *
- * Build with the flags of `pkg-config --cflags --libs pfair`, once scripts/install has installed the library: they take
- * the shared one, libpfair.so, and with -static or -Wl,-Bstatic before them the static one, libpfair.a. A program that
- * takes the shared one finds it when it runs, in the folder where it was installed.
+ * The library computes windows of subtasks, and plans by the PD2 order which subtask runs on which processor in each
+ * slot. It computes schedules; it does not execute tasks. docs/SPECIFICATION.md has the rules and docs/GLOSSARY.md the
+ * words.
  *
- * Without a C library. This header wants <stdbool.h>, <stddef.h> and <stdint.h>, which each compiler brings, and nothing
- * else. The archive as rt builds it wants rattle_alloc, rattle_realloc and rattle_dealloc, which call
- * malloc, realloc and free (the kit's c/liblibc_c.a has them; the installed archive too), and memcpy, memmove, memset and
- * __udivti3 (of libgcc). Its code is for x86-64-v2, with the SSE registers enabled. A call takes 5 KB of stack at most
- * (measured: a plan with 64 processors and 800 tasks), but pfair_read_file: 11 KB for a common file, and 110 KB where keys
- * are nested as deep as can be read, 79. Nothing of it belongs to a thread, and it has no state of its own.
+ * Each processor has a log, whose entries announce that tasks arrive, depart or come late. A dispatcher takes entries
+ * of all logs, in any order, and plans a slot once every log says that it announces nothing more at that slot (answers
+ * are left out here):
  *
- * What the caller has to see to, since no call can check it:
- *  - each pointer points to a live, aligned object of its type that no other argument points into; `rows` points to
- *    `room` such objects, and may be NULL where `room` is 0;
- *  - a handle begins as PFAIR_NONE, and only the calls below change it: no copy of it is used;
- *  - at most one call at a time uses a handle. A handle may go from one thread to another: each call on it begins after
- *    the one before has ended, in the sense of the memory model (a lock, a join or a message between the threads);
- *  - malloc, realloc and free belong to one allocator, and align a block to each power of two up to 16 that divides
- *    its size;
- *  - no call comes from a signal handler, or from the child of a fork of a process with threads.
+ *     struct pfair_dispatcher d = PFAIR_NONE;
+ *     pfair_open(&d, 1, 6, 100, 2);               1 processor, a frame of 6 slots, 100 slots, logs of 2 entries
+ *     pfair_take(&d, 0, 1, &arrival, &taken);     entry 1 of the log of processor 0
+ *     pfair_take(&d, 0, 2, &last, &taken);        entry 2, with floor 100: no more announcements before slot 100
+ *     pfair_plan_next(&d, &step);                 plans slot 0
+ *     pfair_table(&d, 0, &count, rows, room);     reads its table
+ *     pfair_close(&d);
  *
- * Each call checks everything else, and answers by a number. A list of answers is in the order of the checks: the answer
- * is the first that applies, and 0 where none does. What a call writes it writes after 0, and after no other answer but
- * those that say so.
+ * UNITS. Slot t is the time from t to t + 1. A quantum is one slot of one processor. Releases, deadlines, floors and
+ * stamps are slots, periods are in slots, costs in quanta. Processors, slots and rows are numbered from 0; the entries
+ * of a log and the subtasks of a task from 1.
  *
- * A dispatcher that holds something torn, or to which memory was refused, goes on taking entries and telling what it
- * holds and has planned; only plans are refused.
+ * LINKING. After scripts/install, build with the flags of `pkg-config --cflags --libs pfair`. They link the shared
+ * library, libpfair.so, in the folder where it was installed; with -static or -Wl,-Bstatic before them, the static one,
+ * libpfair.a. The code needs x86-64-v2, with the SSE registers enabled.
+ *
+ * WITHOUT A C LIBRARY. This header includes only <stdbool.h>, <stddef.h> and <stdint.h>, which every compiler brings.
+ * libpfair.a needs malloc, realloc, free, memcpy, memmove, memset, and __udivti3 of libgcc. The archive that rt builds,
+ * libpfair_c.a, needs rattle_alloc, rattle_realloc and rattle_dealloc in place of the first three; those of the kit's
+ * c/liblibc_c.a call them.
+ *
+ * STACK. A call takes at most 5 KB (measured: a plan with 64 processors and 800 tasks). pfair_read_file takes 11 KB for
+ * a common file, and 110 KB for keys that are nested 79 deep, the most that is read.
+ *
+ * MEMORY. These calls allocate, and answer 90 if an allocation fails; all others allocate nothing:
+ *
+ *     pfair_open, pfair_read_file, pfair_take, pfair_take_log, pfair_absorb, pfair_faults,
+ *     pfair_plan_next, pfair_plan_to, pfair_reserve, pfair_reopen, pfair_lags
+ *
+ * pfair_faults and pfair_lags free all that they allocate. A dispatcher owns all other memory until pfair_close;
+ * pfair_forget frees some of it earlier. The caller owns what its pointers lead to: the library copies what it needs,
+ * and keeps no pointer of the caller's after a call.
+ *
+ * THREADS. The library has no state of its own, neither global nor of a thread.
+ *  - Calls on different handles may run at the same time, as far as malloc, realloc and free may.
+ *  - At most one call at a time may use a handle, also if it only reads: each call changes the handle while it runs.
+ *    pfair_absorb and pfair_below use both of their handles.
+ *  - Any thread may use a handle, if its call begins after the one before has ended, in the sense of the memory model:
+ *    a lock, a join or a message orders the two threads.
+ *  - pfair_version, pfair_window, pfair_windows and pfair_name_of use no handle.
+ *
+ * ANSWERS. Each call but pfair_version answers with a number of enum pfair_answer: 0 if it did what it says, else why
+ * not.
+ *  - The answers of a call are listed in the order of its checks: it gives the first that applies, and 0 if none does.
+ *  - Each call but pfair_open and pfair_read_file answers 102 if a handle that it is given has no dispatcher. It checks
+ *    this first (pfair_absorb and pfair_below second), and then changes and writes nothing. The lists leave it out.
+ *  - A call writes its results if it answers 0, and after no other answer but those whose text says so.
+ *  - A call with `rows` and `room` writes over the first rows. If there are more than `room`, it answers 103 and writes
+ *    how many there are, but no row. So a `room` of 0 asks for their number. (pfair_windows is told the number.)
+ *
+ * TORN AND SPENT. If a dispatcher has met two different entries for one number of a log, that number is torn, for good,
+ * and nothing more is planned (30). If an allocation failed in a plan, the dispatcher is spent, and plans nothing until
+ * pfair_reopen (31). In both states it still takes entries, and can be read as before; only pfair_members needs one that
+ * isn't spent.
+ *
+ * COSTS. M is the number of processors, and n that of members: tasks that were admitted and aren't freed. A look-up is
+ * that of a number in a log: O(log e) for the e entries that the dispatcher has of that log.
+ *
+ * WHAT THE CALLER OWES, since no call can check it:
+ *  - Each pointer points to a live, aligned object of its type that no other argument points into. `rows` points to
+ *    `room` such objects, and `entries` and `bytes` to `length`. `rows` may be NULL if `room` is 0, and `entries` if
+ *    `length` is 0.
+ *  - A handle begins as PFAIR_NONE. Only the calls below change it, and no copy of it is used.
+ *  - malloc, realloc and free belong to one allocator. It aligns a block to the greatest power of two that divides its
+ *    size, up to 16.
+ *  - No call comes from a signal handler, or from the child of a fork of a process with threads.
  */
 #ifndef PFAIR_H
 #define PFAIR_H
@@ -36,6 +82,7 @@
 #include <stddef.h>
 #include <stdint.h>
 
+/* The version of this header, as text and as a number. */
 #define PFAIR_VERSION "0.4.0"
 #define PFAIR_VERSION_NUMBER 400
 
@@ -43,7 +90,7 @@
 extern "C" {
 #endif
 
-/* The answers. Numbers from 100 on belong to this library alone. */
+/* What calls answer. Numbers below 100 are also those of the programs' faults. */
 enum pfair_answer {
     PFAIR_DONE = 0,
     PFAIR_NAME_EMPTY = 1,         /* a name of no bytes */
@@ -60,24 +107,26 @@ enum pfair_answer {
     PFAIR_NO_SUCH_NUMBER = 14,    /* an entry's number is 0 or past the capacity */
     PFAIR_OTHER_SHAPE = 15,       /* two dispatchers with different numbers of processors, or different capacities */
     PFAIR_TORN = 30,              /* two different entries were taken for one number */
-    PFAIR_SPENT = 31,             /* memory was refused to a plan, and the dispatcher is spent; pfair_reopen helps */
+    PFAIR_SPENT = 31,             /* the dispatcher is spent: an allocation failed in a plan, and pfair_reopen helps */
     PFAIR_FILE_NOT_TOML = 60,     /* a task file is no TOML document */
-    PFAIR_FILE_MISSING = 61,      /* a key isn't there */
-    PFAIR_FILE_WRONG_KIND = 62,   /* what stands at a key is of another kind than the key asks for */
-    PFAIR_FILE_RANGE = 63,        /* what stands at a key is out of its range */
-    PFAIR_FILE_ENTRY = 64,        /* the keys of a table are in order, and make no entry */
-    PFAIR_FILE_VERSION = 65,      /* the file's version is none of 1 and 2 */
+    PFAIR_FILE_MISSING = 61,      /* a key is missing */
+    PFAIR_FILE_WRONG_KIND = 62,   /* the value of a key is of the wrong type */
+    PFAIR_FILE_RANGE = 63,        /* the value of a key is out of its range */
+    PFAIR_FILE_ENTRY = 64,        /* each key of a table is valid, but together they make no entry */
+    PFAIR_FILE_VERSION = 65,      /* the file's version is neither 1 nor 2 */
     PFAIR_FILE_TOO_LONG = 66,     /* a task file of more than 67,108,864 bytes */
-    PFAIR_MEMORY = 90,            /* memory was wanted and refused */
-    PFAIR_OUT_OF_RANGE = 100,     /* a number is out of the range that its call states */
-    PFAIR_OPEN_ALREADY = 101,     /* the handle has a dispatcher */
-    PFAIR_NOT_OPEN = 102,         /* a handle has none */
+    PFAIR_MEMORY = 90,            /* an allocation failed */
+    PFAIR_OUT_OF_RANGE = 100,     /* a number is out of the range that its call states, or two handles are one */
+    PFAIR_OPEN_ALREADY = 101,     /* the handle already has a dispatcher */
+    PFAIR_NOT_OPEN = 102,         /* a handle has no dispatcher */
     PFAIR_NO_ROOM = 103,          /* there is room for fewer rows than there are */
     PFAIR_NOT_PLANNED = 104       /* the slot isn't planned, or is forgotten */
 };
 
-/* The number of the library's own version, 10,000 times its first part and 100 times its second added to the third: a
-   shared library can have another than this header, PFAIR_VERSION_NUMBER. */
+/*
+ * Returns the library's version: 10,000 times its first part, plus 100 times its second, plus its third. A shared
+ * library may have another version than the header, which is PFAIR_VERSION_NUMBER.
+ */
 uint32_t pfair_version(void);
 
 /* ---- windows */
