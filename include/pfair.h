@@ -61,8 +61,8 @@
  *
  * TORN AND SPENT. If a dispatcher has met two different entries for one number of a log, that number is torn, for good,
  * and nothing more is planned (30). If an allocation failed in a plan, the dispatcher is spent, and plans nothing until
- * pfair_reopen (31). In both states it still takes entries, and can be read as before; only pfair_members needs one that
- * isn't spent.
+ * pfair_reopen (31). In both states it still takes entries, and can be read as before; only pfair_members answers 31 if
+ * it is spent.
  *
  * COSTS. M is the number of processors, and n that of members: tasks that were admitted and aren't freed. A look-up is
  * that of a number in a log: O(log e) for the e entries that the dispatcher has of that log.
@@ -134,55 +134,55 @@ uint32_t pfair_version(void);
 struct pfair_window {
     uint64_t release;        /* the slot in which the window opens */
     uint64_t deadline;       /* the slot before which it closes */
-    uint64_t b_bit;          /* 1 where it reaches into the window of the next subtask, else 0 */
-    uint64_t group_deadline; /* 0 for a weight below 1/2 */
+    uint64_t b_bit;          /* 1 if it reaches into the window of the next subtask, else 0 */
+    uint64_t group_deadline; /* where its cascade of tight windows ends; 0 for a weight below 1/2 */
 };
 
 /*
- * The window of subtask `index` (1 to 1,000,001) of the weight cost/period at the offset `theta` (0 to 2^40).
+ * Writes the window of subtask `index` (1 to 1,000,001) of a task of weight cost/period, shifted by the offset `theta`
+ * (0 to 2^40 slots): the slot in which the task joined, plus its late releases up to that subtask.
  *   4    the cost is 0
- *   5    the cost is over the period
- *   6    the period is over 1,000,000,000
+ *   5    the cost is greater than the period
+ *   6    the period is over 1,000,000,000 slots
  *   100  the index or the offset is out of its range
- *   0    the window is written
- * Cost: constant.
+ * O(1).
  */
 uint32_t pfair_window(uint64_t cost, uint64_t period, uint64_t index, uint64_t theta, struct pfair_window *window);
 
 /*
- * The windows of the `count` subtasks from `first` on (each of 1 to 1,000,001) of the weight cost/period at the offset
- * `theta` (0 to 2^40), one after another.
+ * Writes the windows of `count` subtasks, from `first` on, one after another, as pfair_window.
  *   4 to 6  as pfair_window
  *   100     `first` is 0, first + count is over 1,000,002, or the offset is out of its range
- *   103     there are fewer than `count` rows
- *   0       the first `count` rows are written
- * Cost: the rows.
+ *   103     `room` is less than `count`
+ * O(count).
  */
 uint32_t pfair_windows(uint64_t cost, uint64_t period, uint64_t first, uint64_t count, uint64_t theta, struct pfair_window *rows, size_t room);
 
 /* ---- entries of logs */
 
-/* A task's name: the first `length` bytes. In names that the library writes, zeros follow. */
+/* A task's name: the first `length` bytes, 1 to 16. In names that the library writes, zeros follow. */
 struct pfair_name {
     uint8_t bytes[16];
     uint64_t length;
 };
 
+/* What an entry announces: nothing; that a task arrives, or departs; or that subtasks are released late. */
 enum pfair_kind { PFAIR_NOTHING = 0, PFAIR_ARRIVE = 1, PFAIR_DEPART = 2, PFAIR_LATE = 3 };
 
-/* Fields that a kind doesn't need are ignored. */
+/* An entry of a log. In one that is taken, fields that its kind doesn't need are ignored. */
 struct pfair_entry {
-    uint64_t floor;         /* from this entry on nothing in its log is stamped before this slot: 0 to 1,000,000 */
-    uint64_t kind;          /* what is announced, one of enum pfair_kind */
-    uint64_t at;            /* the stamp: the slot at whose boundary the announcement is decided */
-    struct pfair_name name; /* of which task */
-    uint64_t cost, period;  /* for an arrival: the weight */
-    uint64_t early;         /* for an arrival: 1 where a subtask may run before its release, as soon as the one before
-                               it in the same job has run, else 0 */
-    uint64_t index, by;     /* for a late release: from which subtask on, and by how many slots */
+    uint64_t floor;         /* from this entry on the log stamps nothing before this slot: 0 to 1,000,000 */
+    uint64_t kind;          /* one of enum pfair_kind */
+    uint64_t at;            /* the stamp: the slot at whose boundary this is decided, from the floor to 1,000,000 */
+    struct pfair_name name; /* the task that is announced */
+    uint64_t cost, period;  /* of an arrival, the weight: `cost` quanta in each `period` slots */
+    uint64_t early;         /* of an arrival: 1 if a subtask may run before its release, as soon as the one before it
+                               in the same job has run, else 0 */
+    uint64_t index, by;     /* of a late release: the first late subtask (1 to 1,000,000), and by how many slots it and
+                               those after it are late (1 to 1,048,576) */
 };
 
-/* The name that a text spells. A name that is too long keeps its length, and is refused where it is used. */
+/* Returns the name that a text spells. If the text is too long the name has its length, and calls refuse it by 2. */
 static inline struct pfair_name pfair_name_of(const char *text) {
     struct pfair_name name = {{0}, 0};
     for (; text[name.length] != 0; name.length++)
@@ -192,7 +192,7 @@ static inline struct pfair_name pfair_name_of(const char *text) {
 
 /* ---- dispatchers */
 
-/* A handle. It begins as PFAIR_NONE, and only the library uses its fields. */
+/* A handle: where a dispatcher is, or PFAIR_NONE. Only the library uses its fields. */
 struct pfair_dispatcher {
     bool is_open;
     void *at;
@@ -200,13 +200,13 @@ struct pfair_dispatcher {
 #define PFAIR_NONE {false, NULL}
 
 /*
- * Makes a dispatcher that holds nothing: 1 to 64 processors, a frame of 1 to 1,000,000,000 slots, which each arrival's
- * period has to divide, 1 to 1,000,000 slots to plan, and logs of 1 to 4,096 entries.
- *   101  the handle has a dispatcher already
+ * Opens a dispatcher that has no entries and has planned nothing: for 1 to 64 processors, a frame of 1 to 1,000,000,000
+ * slots, a run of 1 to 1,000,000 slots, and logs of at most `capacity` entries (1 to 4,096). An arrival is refused when
+ * it is decided (21) if its period doesn't divide the frame.
+ *   101  the handle already has a dispatcher
  *   100  a number is out of its range
- *   90   memory was refused
- *   0    the handle has it
- * Unless the answer is 0, the handle is as before. Cost: the number of processors.
+ *   90   an allocation failed
+ * The handle is as before unless the answer is 0. O(M).
  */
 uint32_t pfair_open(struct pfair_dispatcher *d, uint8_t processors, uint64_t frame, uint64_t slots, uint32_t capacity);
 
@@ -229,99 +229,90 @@ enum pfair_key_of_file {
     PFAIR_KEY_BY = 15
 };
 
-/* Where a task file is at fault. What an answer doesn't say is 0. */
+/* Where a task file is at fault. Fields that the answer doesn't need are 0: all of them after 60 and 65. */
 struct pfair_file_fault {
     uint64_t place;     /* after 61 to 63: the number of the entry's table, from 1, or 0 for the file's own keys */
-    uint64_t field;     /* after 61 to 63: which key, one of enum pfair_key_of_file */
-    uint64_t processor; /* after 64: of which processor's log, from 0, */
-    uint64_t number;    /* the entry under which number there, from 1, */
-    uint64_t cause;     /* is wrong for this: 12 where the log is full (4,095 entries), or 1 to 10 */
+    uint64_t field;     /* after 61 to 63: the key, one of enum pfair_key_of_file */
+    uint64_t processor; /* after 64: the processor of the entry */
+    uint64_t number;    /* after 64: its number in that log */
+    uint64_t cause;     /* after 64: 12 if the log is full (4,095 entries), else 1 to 10 for what is wrong with it */
 };
 
 /*
- * Reads a task file, as the command `pfair replay` takes it, and makes a dispatcher for it, with the processors, the
- * frame and the slots that the file names. It has taken every entry of the file, and for each log whose last floor is
- * below the number of slots one more, with that floor; and it has planned nothing. The capacity is the length of the
- * longest log.
- *   101       the handle has a dispatcher already
- *   66        there are more than 67,108,864 bytes
- *   60 to 65  the file's first fault, and `fault` says where: 60 first, then key by key and table by table
- *   90        memory was refused; at any place
- *   0         the handle has it
- * `fault` is written after 60 to 65 alone. Unless the answer is 0, the handle is as before. Cost: the bytes, and for each
- * entry that of pfair_take.
+ * Opens a dispatcher for a task file, as the command `pfair replay` reads it. It has the file's processors, frame and
+ * slots, has taken all its entries, and has planned nothing. Each log that is empty, or whose last floor is below the
+ * number of slots, has one more entry, whose floor is that number. The capacity is the length of the longest log.
+ *   101       the handle already has a dispatcher
+ *   66        `length` is over 67,108,864
+ *   60 to 65  the file's first fault, which is written to `fault`: 60 comes first, then the file's own keys, and then
+ *             the entries' tables, each in order
+ *   90        an allocation failed; this may come instead of 60 to 65
+ * The handle is as before unless the answer is 0. O(length + e log e) for e entries.
  */
 uint32_t pfair_read_file(struct pfair_dispatcher *d, struct pfair_file_fault *fault, const uint8_t *bytes, size_t length);
 
 /*
- * Frees the dispatcher; the handle is PFAIR_NONE again.
- *   102  the handle has no dispatcher
- *   0    done
- * Cost: the entries held, the tasks, and the quanta and decisions of the planned slots.
+ * Frees the dispatcher. The handle is then PFAIR_NONE, and may be opened again. O(e + n + s + q) for e entries, and s
+ * planned slots with q quanta and decisions.
  */
 uint32_t pfair_close(struct pfair_dispatcher *d);
 
-/* What was said where a dispatcher was opened. */
+/* What a dispatcher was opened with, as pfair_open. */
 struct pfair_settings {
     uint64_t processors, frame, slots, capacity;
 };
 
-/*
- * What the dispatcher plans for.
- *   102  the handle has no dispatcher
- *   0    the settings are written
- * Cost: constant.
- */
+/* Writes what the dispatcher was opened with. O(1). */
 uint32_t pfair_settings(struct pfair_dispatcher *d, struct pfair_settings *settings);
 
+/* What an entry met under its number. */
 enum pfair_taken {
-    PFAIR_NEW = 0,    /* nothing was held under this number; now the entry is */
-    PFAIR_KNOWN = 1,  /* an equal entry was held */
-    PFAIR_TORN_NOW = 2 /* another entry was held, or it was torn already; now it is torn */
+    PFAIR_NEW = 0,    /* nothing; the number now has the entry */
+    PFAIR_KNOWN = 1,  /* an equal entry */
+    PFAIR_TORN_NOW = 2 /* a different entry, or it was torn already; it is torn now */
 };
 
 /*
- * Takes entry `number` (1 to the capacity) of the log of `processor` (from 0).
- *   102       the handle has no dispatcher
- *   100       the kind is over 3, or an arrival's `early` is over 1
- *   1 to 3    what is wrong with the name
- *   4 to 6    what is wrong with the weight
- *   7 to 10   what is wrong with floor, stamp, delay or index: 8 first, then 7, 10, 9
- *   13, 14    there is no such processor, no such number
- *   90        memory was refused; only where nothing was held under this number
- *   0         it is taken, and `taken` says what it met, one of enum pfair_taken
- * Unless the answer is 0, nothing has changed. Cost: a few look-ups, which grow with the logarithm of the entries held in
- * a log, and one more for each entry by which the run of entries 1, 2, 3 .. of this log grows.
+ * Takes entry `number` (1 to the capacity) of the log of `processor`, and writes to `taken` what it met there, one of
+ * enum pfair_taken. Entries may come in any order, and repeatedly. Nothing is planned.
+ *   100      the kind is over 3, or `early` of an arrival is over 1
+ *   1 to 3   the name is wrong
+ *   4 to 6   the weight is wrong
+ *   8, 7     the floor or the stamp is past 1,000,000; the stamp is before the floor
+ *   10, 9    the index, the delay of a late release is out of its range
+ *   13, 14   there is no such processor, no such number
+ *   90       an allocation failed; only if the dispatcher had nothing under this number
+ * Nothing has changed unless the answer is 0. A few look-ups, and one more for each entry by which the log's sound
+ * beginning (pfair_mark) grows.
  */
 uint32_t pfair_take(struct pfair_dispatcher *d, uint8_t processor, uint32_t number, const struct pfair_entry *entry, uint64_t *taken);
 
-/* How many entries a call took, and how many of them met what, as enum pfair_taken has it: the last three make the first. */
+/* How many entries were taken: `fresh` of them as PFAIR_NEW, `known` as PFAIR_KNOWN, and `torn` as PFAIR_TORN_NOW. */
 struct pfair_taken_log {
     uint64_t taken, fresh, known, torn;
 };
 
 /*
- * Takes `length` entries of the log of `processor`, one after another, under the numbers `first`, `first` + 1 and so on,
- * each as pfair_take does. At the first that is refused it stops.
- *   102     the handle has no dispatcher
- *   13, 14  there is no such processor, no such number as `first` (1 to the capacity); also where `length` is 0
+ * Takes `length` entries of the log of `processor` under the numbers from `first` on, one after another, and stops at
+ * the first that is refused. The counts are written after every answer but 102.
+ *   13, 14  there is no such processor, no number `first` (1 to the capacity); also if `length` is 0
  *   100, 1 to 10, 14, 90  as pfair_take, of the first entry that is refused
- *   0       all are taken
- * But after 102 `counted` is written: the first `taken` entries are taken and stand, and after another answer than 0 it is
- * the next one that is refused. Cost: that of pfair_take for each.
+ * Whatever the answer, the first `taken` entries are taken, and no others. The cost is that of pfair_take for each.
  */
 uint32_t pfair_take_log(struct pfair_dispatcher *d, uint8_t processor, uint32_t first, struct pfair_taken_log *counted, const struct pfair_entry *entries, size_t length);
 
 /*
- * Takes all that another dispatcher holds; the other stays as it is.
- *   100  the two handles are one; nothing has changed
- *   102  a handle has no dispatcher; nothing has changed
- *   15   the other has another number of processors, or another capacity; nothing has changed
- *   90   memory was refused; a part is taken, and absorbing the other again gives what one call would have given
- *   0    done
- * Cost: two look-ups for each entry that the other holds, and one for each entry of the logs in which it holds any.
+ * Takes all entries of another dispatcher, which stays as it is. A number is torn then if it is torn there, or if both
+ * have different entries under it.
+ *   100  the two handles are one
+ *   15   the other has another number of processors, or another capacity
+ *   90   an allocation failed: some of the entries are taken, and absorbing the other again gives what one call would
+ *        have given
+ * Nothing has changed after 100 and 15. Two look-ups for each entry of the other; and in each log of which it has any,
+ * one for each entry of the sound beginning, and one for each number up to the first torn one, or to the capacity.
  *
- * (The handles are compared here: the library itself takes them for two.)
+ * The exported functions pfair_absorb and pfair_below must not be given one handle twice. The macros see to that in C
+ * and C++; other languages have to.
  */
 uint32_t pfair_absorb(struct pfair_dispatcher *d, struct pfair_dispatcher *other);
 static inline uint32_t pfair_absorb_another(struct pfair_dispatcher *d, struct pfair_dispatcher *other) {
