@@ -22,8 +22,8 @@
  * of a log and the subtasks of a task from 1.
  *
  * LINKING. After scripts/install, build with the flags of `pkg-config --cflags --libs pfair`. They link the shared
- * library, libpfair.so, in the folder where it was installed; with -static or -Wl,-Bstatic before them, the static one,
- * libpfair.a. The code needs x86-64-v2, with the SSE registers enabled.
+ * library, libpfair.so, which a program finds where it was installed; with -static or -Wl,-Bstatic before them, the
+ * static one, libpfair.a. The code needs x86-64-v2, with the SSE registers enabled.
  *
  * WITHOUT A C LIBRARY. This header includes only <stdbool.h>, <stddef.h> and <stdint.h>, which every compiler brings.
  * libpfair.a needs malloc, realloc, free, memcpy, memmove, memset, and __udivti3 of libgcc. The archive that rt builds,
@@ -57,7 +57,7 @@
  *    this first (pfair_absorb and pfair_below second), and then changes and writes nothing. The lists leave it out.
  *  - A call writes its results if it answers 0, and after no other answer but those whose text says so.
  *  - A call with `rows` and `room` writes over the first rows. If there are more than `room`, it answers 103 and writes
- *    how many there are, but no row. So a `room` of 0 asks for their number. (pfair_windows is told the number.)
+ *    how many there are, but no row. So a `room` of 0 asks for their number. (pfair_windows writes no number.)
  *
  * TORN AND SPENT. If a dispatcher has met two different entries for one number of a log, that number is torn, for good,
  * and nothing more is planned (30). If an allocation failed in a plan, the dispatcher is spent, and plans nothing until
@@ -257,7 +257,7 @@ uint32_t pfair_read_file(struct pfair_dispatcher *d, struct pfair_file_fault *fa
  */
 uint32_t pfair_close(struct pfair_dispatcher *d);
 
-/* What a dispatcher was opened with, as pfair_open. */
+/* The arguments of pfair_open, or what pfair_read_file took for them. */
 struct pfair_settings {
     uint64_t processors, frame, slots, capacity;
 };
@@ -279,8 +279,8 @@ enum pfair_taken {
  *   1 to 3   the name is wrong
  *   4 to 6   the weight is wrong
  *   8, 7     the floor or the stamp is past 1,000,000; the stamp is before the floor
- *   10, 9    the index, the delay of a late release is out of its range
- *   13, 14   there is no such processor, no such number
+ *   10, 9    the index of a late release is out of its range; its delay is
+ *   13, 14   there is no such processor; no such number
  *   90       an allocation failed; only if the dispatcher had nothing under this number
  * Nothing has changed unless the answer is 0. A few look-ups, and one more for each entry by which the log's sound
  * beginning (pfair_mark) grows.
@@ -295,7 +295,7 @@ struct pfair_taken_log {
 /*
  * Takes `length` entries of the log of `processor` under the numbers from `first` on, one after another, and stops at
  * the first that is refused. The counts are written after every answer but 102.
- *   13, 14  there is no such processor, no number `first` (1 to the capacity); also if `length` is 0
+ *   13, 14  there is no such processor; no number `first` (1 to the capacity); also if `length` is 0
  *   100, 1 to 10, 14, 90  as pfair_take, of the first entry that is refused
  * Whatever the answer, the first `taken` entries are taken, and no others. The cost is that of pfair_take for each.
  */
@@ -322,63 +322,58 @@ static inline uint32_t pfair_absorb_another(struct pfair_dispatcher *d, struct p
 
 /* ---- what is held: to send logs on, to ask for what was lost, to write a dispatcher down */
 
+/* What a dispatcher has under a number of a log. */
 enum pfair_held_kind {
-    PFAIR_HELD_NOTHING = 0, /* nothing is held under this number */
+    PFAIR_HELD_NOTHING = 0, /* nothing */
     PFAIR_HELD_ENTRY = 1,   /* one entry */
-    PFAIR_HELD_TORN = 2     /* two different entries were taken for it */
+    PFAIR_HELD_TORN = 2     /* it is torn: two different entries were taken */
 };
 
 /*
- * What is held at entry `number` (1 to the capacity) of the log of `processor` (from 0).
- *   102     the handle has no dispatcher
- *   13, 14  there is no such processor, no such number
- *   0       `kind` says what is held, one of enum pfair_held_kind; where it is an entry, that is written, with zeros in
- *           the fields that its kind doesn't need
- * Cost: a look-up, which grows with the logarithm of the entries held in the log.
+ * Writes to `kind` what the dispatcher has under `number` (1 to the capacity) of the log of `processor`, one of enum
+ * pfair_held_kind. If it is an entry, this is written too, with zeros in the fields that its kind doesn't need.
+ *   13, 14  there is no such processor; no such number
+ * One look-up.
  */
 uint32_t pfair_held(struct pfair_dispatcher *d, uint8_t processor, uint32_t number, uint64_t *kind, struct pfair_entry *entry);
 
 /*
- * How far a processor has committed itself: its sound beginning is the longest run of held entries 1, 2, 3 .., none
- * torn, whose floors never fall.
- *   102  the handle has no dispatcher
+ * Writes how far the log of `processor` is known: to `count` the length of its sound beginning, and to `slot` its mark.
+ * The sound beginning is the longest run of entries 1, 2, 3 and so on, none missing or torn, whose floors never fall;
+ * the mark is its last floor, or 0.
  *   13   there is no such processor
- *   0    `slot` is the floor of the last entry of the sound beginning, or 0, and `count` how many entries that has
- * Cost: constant.
+ * O(1).
  */
 uint32_t pfair_mark(struct pfair_dispatcher *d, uint8_t processor, uint64_t *slot, uint64_t *count);
 
 /*
- * The least number of a processor's log that isn't held (what is torn is held).
- *   102  the handle has no dispatcher
+ * Writes the least number of the log of `processor` under which the dispatcher has nothing, or 0 if there is none. A
+ * torn number isn't missing.
  *   13   there is no such processor
- *   0    the number is written, or 0 where all are held
- * Cost: a look-up for each number up to that one.
+ * A look-up for each number up to that one.
  */
 uint32_t pfair_missing(struct pfair_dispatcher *d, uint8_t processor, uint64_t *number);
 
-/* An entry's key: in which log it stands, and where. */
+/* A number of the log of a processor. */
 struct pfair_key {
     uint64_t processor, number;
 };
 
 /*
- * What is wrong with the logs: the keys that are torn, and behind these the entries right after a sound beginning whose
- * floor is lower; each by processors and numbers. `torn` and `fallen` are how many there are of each.
- *   102  the handle has no dispatcher
- *   90   memory was refused; only where there is such a key
- *   103  there are more than `room` keys: the two numbers are written, but no row
- *   0    the two numbers and the first `torn` + `fallen` rows are written
- * Cost: a look-up for each number of each log.
+ * Writes what is wrong with the logs: first the torn keys, then those of fallen entries, each in the order of processor
+ * and number; and to `torn` and `fallen` how many there are of each. An entry is fallen if it comes right after a sound
+ * beginning and its floor is lower than the last one there; the rest of its log is ignored.
+ *   90   an allocation failed; only if there is such a key
+ *   103  there are more than `room` keys; `torn` and `fallen` are written
+ * M times the capacity look-ups.
  */
 uint32_t pfair_faults(struct pfair_dispatcher *d, uint64_t *torn, uint64_t *fallen, struct pfair_key *rows, size_t room);
 
 /*
- * Whether another dispatcher holds all that this one holds, each key with the same entry or torn.
+ * Writes to `is_below` 1 if another dispatcher has all that this one has, each number with the same entry or torn;
+ * else 0.
  *   100  the two handles are one
- *   102  a handle has no dispatcher
- *   0    `is_below` is 1 or 0
- * Cost: a look-up there for each entry that is held here.
+ * A look-up in the other for each entry here, up to the first that the other doesn't have.
  */
 uint32_t pfair_below(struct pfair_dispatcher *d, struct pfair_dispatcher *other, uint64_t *is_below);
 static inline uint32_t pfair_below_another(struct pfair_dispatcher *d, struct pfair_dispatcher *other, uint64_t *is_below) {
@@ -388,123 +383,116 @@ static inline uint32_t pfair_below_another(struct pfair_dispatcher *d, struct pf
 
 /* ---- plans */
 
+/* How a plan ended. */
 enum pfair_step_kind {
-    PFAIR_PLANNED = 0,    /* `slot` was planned */
-    PFAIR_WAITING = 1,    /* the next slot isn't settled: `slot` is the frontier */
+    PFAIR_PLANNED = 0,    /* `slot` is planned */
+    PFAIR_WAITING = 1,    /* the next slot isn't settled: it isn't below the frontier, which is `slot` */
     PFAIR_ALL_PLANNED = 2 /* all slots of the run are planned */
 };
 
-/* After 0 all four are written, after 30 the last two alone, and after any other answer none. */
+/* What a plan did. After 0 all four fields are written, after 30 the last two alone, and after other answers none. */
 struct pfair_step {
     uint64_t kind;              /* one of enum pfair_step_kind */
-    uint64_t slot;              /* as the kind says; 0 where all slots are planned */
-    uint64_t processor, number; /* after 30 which entry is torn, the least; after 0 both are 0 */
+    uint64_t slot;              /* as the kind says; 0 if all slots are planned */
+    uint64_t processor, number; /* after 30: the least key that is torn; after 0: both 0 */
 };
 
 /*
- * Plans the next slot, if what is held settles it.
- *   102  the handle has no dispatcher
- *   30   something held is torn, and the step's processor and number say what; nothing has changed
- *   31   an earlier call was refused memory; nothing has changed
- *   90   memory was refused: the slot isn't planned, what was planned stands, and plans answer 31 until pfair_reopen
- *   0    the step is written
- * Cost: the number of processors, what is announced for the slot, the logarithm of the number of tasks for each quantum,
- * and what was taken since the last plan; not the entries held. Every 1,024 slots a block of some 72 KB is asked of
- * malloc for what is planned next, and nothing of what was planned is copied. If more tasks join than ever before, what
- * is kept of the tasks is moved to twice the room, now and then. After pfair_reserve neither happens.
+ * Plans the next slot, if it is below the frontier, and writes what was done. A planned slot never changes.
+ *   30   a number is torn; nothing has changed
+ *   31   the dispatcher is spent; nothing has changed
+ *   90   an allocation failed: the slot isn't planned, the slots before it stay, and the dispatcher is spent
+ * O((M + r) log n + a + l) for r releases that come at the slot (also of tasks that left), a announcements at it, and l
+ * late releases accepted of the tasks that these name; O(n) more if a task is freed; and a look-up for each entry taken
+ * since the last plan. Entries taken before that cost nothing.
+ *
+ * It allocates a table and places for each slot in which a task runs, some 72 KB every 1,024 slots, and room for what
+ * is announced and for tasks, which doubles now and then when more tasks are members than ever before. Nothing that was
+ * planned is copied. pfair_reserve allocates ahead.
  */
 uint32_t pfair_plan_next(struct pfair_dispatcher *d, struct pfair_step *step);
 
 /*
- * Plans until `until` slots are planned, or the next one isn't settled, or none is left.
- *   102  the handle has no dispatcher
+ * Plans until `until` slots are planned, the next one isn't settled, or all slots of the run are planned. The step is
+ * PFAIR_PLANNED with slot `until` - 1, planned now or before, or says why the plans ended earlier.
  *   100  `until` is 0
- *   30, 31, 90  as pfair_plan_next, where fewer than `until` slots are planned; those planned before that stand
- *   0    the step is written: PFAIR_PLANNED with slot `until` - 1, planned now or before; or why the plans ended
- * Where fewer than `until` slots are planned, one that holds something torn, or is spent, is told by 30 or 31, and never
- * as waiting or as done.
- * Cost: what the plans of the slots cost.
+ *   30, 31, 90  as pfair_plan_next, if fewer than `until` slots are planned; those planned before that stay
+ * The cost is that of the plans.
  */
 uint32_t pfair_plan_to(struct pfair_dispatcher *d, uint64_t until, struct pfair_step *step);
 
 /*
- * Takes the memory of the next `slots` slots, or of all that are left of the run if these are fewer, and of `tasks`
- * members at once, or of as many as the logs have room for entries if these are fewer. Until these slots are planned,
- * and as long as no more tasks are members, the plan of a slot asks malloc for nothing if nothing is announced at it
- * and no entry was taken since the slot before; and else for what was announced alone, by blocks that don't grow with
- * the tasks.
- *   102  the handle has no dispatcher
- *   90   memory was refused: what is held and what was planned stand, plans go on, and what was taken is used by them
- *   0    the memory is there
- * Cost: for each slot for which there is no memory yet 25 bytes for each processor, and some 120 for the slot; 1,300 to
- * 2,000 bytes for each task for which there is none; and some 700 KB once.
+ * Allocates ahead: for the next `slots` slots, or all that are left of the run if these are fewer; and for `tasks`
+ * members at once, or as many as the logs have room for entries if these are fewer. If `slots` is 0 or no slot is left,
+ * it allocates nothing, for tasks neither.
+ *   90   an allocation failed; what was allocated is used by later plans, and all else is as before
+ *
+ * The plan of such a slot then allocates nothing if nothing is announced at it and no entry was taken since the slot
+ * before; else only for what was announced, in blocks whose size doesn't depend on the tasks. This holds while at most
+ * `tasks` tasks are members, and at most as many releases are left behind: a departure or a late release may leave one,
+ * until its time comes. pfair_reopen drops what was allocated for tasks.
+ *
+ * Time and memory are O(M slots + tasks): 25 M bytes and some 120 more for a slot, 1,300 to 2,000 bytes for a task, and
+ * once 920 KB for the calendar of releases, which the first tasks need anyway. Room that is there isn't made again.
  */
 uint32_t pfair_reserve(struct pfair_dispatcher *d, uint64_t slots, uint64_t tasks);
 
 /*
- * Forgets the tables, places and decisions of all slots below `slots`, or of all that are planned where these are fewer:
- * their memory is given back, 1,024 slots at a time, as soon as a later slot is planned, and calls tell nothing of these
- * slots any more (104). Plans and members are as if they stood, and what was forgotten stays forgotten. So a run may go on
- * with memory that doesn't grow: 16 bytes stay for each 1,024 slots.
- *   102  the handle has no dispatcher
- *   0    they are forgotten
- * Cost: the slots whose memory is given back. It asks malloc for nothing.
+ * Forgets the tables, places and decisions of all slots below `slots`, or of all that are planned if these are fewer.
+ * Calls answer 104 for these slots from now on. Plans, members and entries are as if they were still there.
+ *
+ * The call frees memory in blocks of 1,024 slots, counted from slot 0: those of which all slots are forgotten and a
+ * later slot is planned. Of each block 16 bytes stay. So the memory of a run hardly grows if this is called again and
+ * again. O(slots freed).
  */
 uint32_t pfair_forget(struct pfair_dispatcher *d, uint64_t slots);
 
 /*
- * After memory was refused to a plan, makes anew what plans need. Forgotten slots are planned once more, and stay
- * forgotten.
- *   102  the handle has no dispatcher
- *   30   something held is torn; nothing has changed
- *   90   memory was refused; plans answer 31
- *   0    plans go on as if memory had been ample
- * Cost: what the plans of all slots so far cost.
+ * Rebuilds what plans need from the entries, so that a spent dispatcher plans on as if no allocation had failed.
+ * Planned slots stay as they are; forgotten ones are planned once more, and stay forgotten.
+ *   30   a number is torn; nothing has changed
+ *   90   an allocation failed: the dispatcher is spent, and else as before
+ * The cost is that of the plans of all slots so far.
  */
 uint32_t pfair_reopen(struct pfair_dispatcher *d);
 
 /*
- * The frontier: below this slot every announcement is known. It falls where an entry of a sound beginning is torn.
- *   102  the handle has no dispatcher
- *   0    the slot is written
- * Cost: the number of processors.
+ * Writes the frontier, the least mark of all processors: every announcement below this slot is known. It can fall only
+ * when an entry of a sound beginning becomes torn. O(M).
  */
 uint32_t pfair_frontier(struct pfair_dispatcher *d, uint64_t *slot);
 
-/*
- * The slot that is planned next, which is also the number of planned slots.
- *   102  the handle has no dispatcher
- *   0    the slot is written
- * Cost: constant.
- */
+/* Writes the slot that is planned next, which is the number of planned slots, forgotten ones included. O(1). */
 uint32_t pfair_next_slot(struct pfair_dispatcher *d, uint64_t *slot);
 
-/* ---- what was planned: `count` is the number of rows, and the first `count` of `rows` are written */
+/* ---- what was planned: `count` is the number of rows */
 
-/* A quantum. Rows are in the PD2 order. */
+/* A quantum: which subtask of which task runs. */
 struct pfair_pick {
     struct pfair_name name;
-    uint64_t index; /* of the task's subtask, from 1 */
+    uint64_t index; /* of the subtask */
 };
 
+/* A decision: what became of an announcement. */
 struct pfair_decided {
     struct pfair_name name;
     uint64_t processor, number; /* which entry announced it */
     uint64_t outcome;           /* 0 admitted, 1 departing, 2 delayed, else refused:
                                    20 name taken, 21 period outside frame, 22 no room,
                                    23 no such task, 24 already departing, 25 already released */
-    uint64_t freed_at;          /* for a departure: the slot from which weight and name are free; else 0 */
+    uint64_t freed_at;          /* of a departure: the slot from which weight and name are free; else 0 */
 };
 
 /*
- * The table of a slot; its places, for each row of the table the processor that runs it (a task that runs in two
- * consecutive slots stays on its processor); and the decisions at the slot's boundary, in the order of processor and
- * number.
- *   102  the handle has no dispatcher
+ * Three calls read a planned slot. A table has at most M rows, and a task that runs in two consecutive slots stays on
+ * its processor.
+ *   pfair_table      writes the table, in the PD2 order
+ *   pfair_places     writes for each row of the table the processor that runs it
+ *   pfair_decisions  writes the decisions at the slot's boundary, in the order of processor and number
+ * Each answers
  *   104  the slot isn't planned, or is forgotten
- *   103  there are more than `room` rows: `count` is written, but no row
- *   0    `count` and the rows are written
- * A table has at most as many rows as there are processors. Cost: the number of rows.
+ *   103  there are more than `room` rows; `count` is written
+ * O(rows).
  */
 uint32_t pfair_table(struct pfair_dispatcher *d, uint64_t slot, uint64_t *count, struct pfair_pick *rows, size_t room);
 uint32_t pfair_places(struct pfair_dispatcher *d, uint64_t slot, uint64_t *count, uint8_t *rows, size_t room);
@@ -512,19 +500,17 @@ uint32_t pfair_decisions(struct pfair_dispatcher *d, uint64_t slot, uint64_t *co
 
 /* A quantum of one of several slots. */
 struct pfair_quantum {
-    uint64_t slot, row, place; /* the row of the slot's table, and the processor that runs it, both from 0 */
+    uint64_t slot, row, place; /* the row of the slot's table, and the processor that runs it */
     struct pfair_name name;
-    uint64_t index; /* of the task's subtask, from 1 */
+    uint64_t index; /* of the subtask */
 };
 
 /*
- * The quanta of the slots `from` to `to` - 1: slot by slot, each slot's in the order of its table. There are none where
- * `from` isn't below `to`.
- *   102  the handle has no dispatcher
- *   104  slot `to` - 1 isn't planned, or slot `from` is forgotten
- *   103  there are more than `room` rows: `count` is written, but no row
- *   0    `count` and the rows are written
- * Cost: the slots and the rows.
+ * Writes the quanta of the slots `from` to `to` - 1, slot by slot, each slot's in the order of its table. There are
+ * none if `from` isn't below `to`.
+ *   104  fewer than `to` slots are planned; or `from` is below `to`, and is forgotten
+ *   103  there are more than `room` rows; `count` is written
+ * O(slots + rows).
  */
 uint32_t pfair_quanta(struct pfair_dispatcher *d, uint64_t from, uint64_t to, uint64_t *count, struct pfair_quantum *rows, size_t room);
 
@@ -535,14 +521,13 @@ struct pfair_decision {
 };
 
 /*
- * The decisions at the boundaries of the slots `from` to `to` - 1: slot by slot, each slot's in the order of processor
- * and number. There are none where `from` isn't below `to`. The answers are those of pfair_quanta.
- * Cost: the slots and the rows.
+ * Writes the decisions at the boundaries of the slots `from` to `to` - 1, slot by slot, each slot's in the order of
+ * processor and number. Answers and cost are those of pfair_quanta.
  */
 uint32_t pfair_decisions_of(struct pfair_dispatcher *d, uint64_t from, uint64_t to, uint64_t *count, struct pfair_decision *rows, size_t room);
 
-/* The lag of a task at a time: its fluid share of the slots since it joined, less the quanta that it had, in quanta:
-   numerator/period. Without late releases a task's lag stays below 1, and above -1 unless the task is early. */
+/* The lag of a task at a time, numerator/period in quanta: its fluid share of the slots since it joined, less the
+   quanta that it had. If it was never delayed, its lag is below 1, and above -1 unless the task is early. */
 struct pfair_lag {
     uint64_t time; /* the end of slot `time` - 1 */
     struct pfair_name name;
@@ -551,17 +536,14 @@ struct pfair_lag {
 };
 
 /*
- * The lags in the slots `from` to `to` - 1: after each slot t those of the tasks that are admitted, and not departing
- * after the boundary of t, at the time t + 1; slot by slot, each slot's in the order of admission. There are none where
- * `from` isn't below `to`.
- *   102  the handle has no dispatcher
- *   104  slot `to` - 1 isn't planned, or any slot is forgotten, since lags count from slot 0 on
- *   90   memory was refused, which a few words for each task need; the rows of some first ones of these slots may be
- *        written
- *   103  there are more than `room` rows: `count` is written, but no row
- *   0    `count` and the rows are written
- * Cost: the rows, and twice the slots, decisions and quanta of slots 0 to `to` - 1, with a look-up for each decision and
- * quantum and a pass over the tasks for each departure: lags are counted from slot 0 on in each call, whatever `from` is.
+ * Writes the lags after each of the slots `from` to `to` - 1. After slot t, at the time t + 1, there is a row for each
+ * member that isn't departing after the boundary of t, in the order of admission. There are none if `from` isn't below
+ * `to`.
+ *   104  fewer than `to` slots are planned; or `from` is below `to`, and any slot is forgotten
+ *   90   an allocation failed; the rows of some first slots may be written, and `count` isn't
+ *   103  there are more than `room` rows; `count` is written
+ * Lags are counted from slot 0 on in each call, twice: O(rows), and O(s + q + x n) for the slots, the quanta and
+ * decisions, and the departures before slot `to`. It allocates a few words for each task.
  */
 uint32_t pfair_lags(struct pfair_dispatcher *d, uint64_t from, uint64_t to, uint64_t *count, struct pfair_lag *rows, size_t room);
 
@@ -569,23 +551,21 @@ uint32_t pfair_lags(struct pfair_dispatcher *d, uint64_t from, uint64_t to, uint
 struct pfair_member {
     struct pfair_name name;
     uint64_t cost, period; /* the weight */
-    uint64_t early;        /* 1 where its subtasks may run early, else 0 */
+    uint64_t early;        /* 1 if its subtasks may run early, else 0 */
     uint64_t joined;       /* the slot at whose boundary it was admitted */
-    uint64_t next;         /* its next subtask: the first that has not run, from 1 */
-    uint64_t theta;        /* the offset of that subtask's window, as pfair_window takes it: the slot in which it joined, and
-                              by how much the late releases up to this subtask put it off */
-    uint64_t is_departing; /* 1 where it is departing, and gets no more quanta, else 0 */
-    uint64_t freed_at;     /* where it is departing: the slot from which weight and name are free; else 0 */
+    uint64_t next;         /* its next subtask: the first that has not run */
+    uint64_t theta;        /* the offset of that subtask's window, for pfair_window: `joined` plus the late releases up
+                              to this subtask */
+    uint64_t is_departing; /* 1 if it is departing, and gets no more quanta, else 0 */
+    uint64_t freed_at;     /* if it is departing: the slot from which weight and name are free; else 0 */
 };
 
 /*
- * The members after the planned slots: the tasks that were admitted and aren't freed at the boundary of the last of these,
- * in the order of admission, as they are after that slot's table.
- *   102  the handle has no dispatcher
- *   31   memory was refused to a plan: the members are known again after pfair_reopen
- *   103  there are more than `room` rows: `count` is written, but no row
- *   0    `count` and the rows are written
- * Cost: the rows, and a look at each late release that was accepted of these tasks.
+ * Writes the members after the planned slots, in the order of admission: the tasks that were admitted and aren't freed
+ * at the boundary of the last planned slot, as they are after its table.
+ *   31   the dispatcher is spent
+ *   103  there are more than `room` rows; `count` is written
+ * O(rows + l) for l late releases accepted of these tasks.
  */
 uint32_t pfair_members(struct pfair_dispatcher *d, uint64_t *count, struct pfair_member *rows, size_t room);
 
