@@ -18,8 +18,8 @@
  *     pfair_close(&d);
  *
  * UNITS. Slot t is the time from t to t + 1. A quantum is one slot of one processor. Releases, deadlines, floors and
- * stamps are slots, periods are in slots, costs in quanta. Processors, slots and rows are numbered from 0; the entries
- * of a log and the subtasks of a task from 1.
+ * stamps are slots; periods, delays and offsets count slots, and costs quanta. Processors, slots and rows are numbered
+ * from 0; the entries of a log and the subtasks of a task from 1.
  *
  * LINKING. After scripts/install, build with the flags of `pkg-config --cflags --libs pfair`. They link the shared
  * library, libpfair.so, which a program finds where it was installed; with -static or -Wl,-Bstatic before them, the
@@ -135,7 +135,7 @@ struct pfair_window {
     uint64_t release;        /* the slot in which the window opens */
     uint64_t deadline;       /* the slot before which it closes */
     uint64_t b_bit;          /* 1 if it reaches into the window of the next subtask, else 0 */
-    uint64_t group_deadline; /* where its cascade of tight windows ends; 0 for a weight below 1/2 */
+    uint64_t group_deadline; /* if the b-bit is 1, where the cascade of tight windows ends; 0 for a weight below 1/2 */
 };
 
 /*
@@ -173,7 +173,7 @@ enum pfair_kind { PFAIR_NOTHING = 0, PFAIR_ARRIVE = 1, PFAIR_DEPART = 2, PFAIR_L
 struct pfair_entry {
     uint64_t floor;         /* from this entry on the log stamps nothing before this slot: 0 to 1,000,000 */
     uint64_t kind;          /* one of enum pfair_kind */
-    uint64_t at;            /* the stamp: the slot at whose boundary this is decided, from the floor to 1,000,000 */
+    uint64_t at;            /* the stamp: at the boundary of which slot it is decided, from the floor to 1,000,000 */
     struct pfair_name name; /* the task that is announced */
     uint64_t cost, period;  /* of an arrival, the weight: `cost` quanta in each `period` slots */
     uint64_t early;         /* of an arrival: 1 if a subtask may run before its release, as soon as the one before it
@@ -182,7 +182,7 @@ struct pfair_entry {
                                those after it are late (1 to 1,048,576) */
 };
 
-/* Returns the name that a text spells. If the text is too long the name has its length, and calls refuse it by 2. */
+/* Returns the name that a text spells. If the text is over 16 bytes, so is the name, and pfair_take answers 2. */
 static inline struct pfair_name pfair_name_of(const char *text) {
     struct pfair_name name = {{0}, 0};
     for (; text[name.length] != 0; name.length++)
@@ -365,7 +365,7 @@ struct pfair_key {
  * beginning and its floor is lower than the last one there; the rest of its log is ignored.
  *   90   an allocation failed; only if there is such a key
  *   103  there are more than `room` keys; `torn` and `fallen` are written
- * M times the capacity look-ups.
+ * A look-up for each number of each log, up to the capacity.
  */
 uint32_t pfair_faults(struct pfair_dispatcher *d, uint64_t *torn, uint64_t *fallen, struct pfair_key *rows, size_t room);
 
@@ -542,8 +542,8 @@ struct pfair_lag {
  *   104  fewer than `to` slots are planned; or `from` is below `to`, and any slot is forgotten
  *   90   an allocation failed; the rows of some first slots may be written, and `count` isn't
  *   103  there are more than `room` rows; `count` is written
- * Lags are counted from slot 0 on in each call, twice: O(rows), and O(s + q + x n) for the slots, the quanta and
- * decisions, and the departures before slot `to`. It allocates a few words for each task.
+ * Each call counts the lags from slot 0 on, twice: O(rows + s + q + x n) for s slots, q quanta and decisions, and x
+ * departures before slot `to`. It allocates a few words for each task.
  */
 uint32_t pfair_lags(struct pfair_dispatcher *d, uint64_t from, uint64_t to, uint64_t *count, struct pfair_lag *rows, size_t room);
 
