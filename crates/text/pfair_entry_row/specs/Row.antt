@@ -7,11 +7,6 @@ use Rattle.pfair_entry.specs.Notice.{IsLoggable}
 use Rattle.pfair_entry.specs.declared.announcement.Announcement.{Announcement}
 use Rattle.pfair_entry.specs.declared.announcement.Announcement.TheVariants.{Arrive, Depart, Late}
 
-abbrev pub entry_header : List (List ℕ)
-entry_header =
-    codes "processor" ∷ codes "number" ∷ codes "floor" ∷ codes "at" ∷ codes "kind" ∷ codes "name" ∷ codes "cost" ∷ codes "period" ∷ codes "early" ∷ codes "index"
-    ∷ codes "by" ∷ []
-
 -- what stands where an entry has nothing
 abbrev pub dash : List ℕ
 dash = codes "-"

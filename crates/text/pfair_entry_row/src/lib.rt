@@ -11,4 +11,4 @@ mod write;
 
 pub use fault::RowFault;
 pub use read::{LONGEST_ROW, read_row};
-pub use write::{add_entry, add_header, row_of};
+pub use write::add_entry;

@@ -4,14 +4,14 @@ ghost use Rattle.pfair_weight.specs.Name.{IsTaskName};
 ghost use Rattle.pfair_weight.specs.Share.{IsWeight};
 ghost use Rattle.pfair_text.specs.Rows.{IsOpen, is_plain, line, text_so_far};
 ghost use Rattle.pfair_entry.specs.declared.announcement.Announcement.TheVariants.{Arrive, Depart, Late};
-ghost use Rattle.pfair_entry_row.specs.Row.{entry_fields, entry_header, entry_row, truth, IsEntryAt};
+ghost use Rattle.pfair_entry_row.specs.Row.{entry_fields, truth, IsEntryAt};
 
 use csv::Writer;
 use itoa::Buffer;
 use pfair_entry::{Announcement, Entry};
-use pfair_text::{add_row, finish, new_text};
+use pfair_text::add_row;
 use pfair_weight::{TaskName, Weight};
-use std::alloc::{AllocError, Global};
+use std::alloc::AllocError;
 
 // What each row begins with.
 #[derive(Clone, Copy)]
@@ -19,33 +19,6 @@ struct Head {
     processor: u8,
     number: u32,
     floor: u64,
-}
-
-/// Adds the line that names the fields.
-///
-/// # Errors
-/// Returns [`AllocError`] if an allocation fails; the text is not to be used any more then.
-pub fn add_header(writer: &mut Writer<Vec<u8>>) -> Result<(), AllocError>
-    requires { IsOpen writer.old }
-    ensures open { OnOk result (IsOpen writer.new) }
-    ensures text { OnOk result (text_so_far writer.new ≡ text_so_far writer.old ++ line entry_header) }
-{
-    add_row(
-        writer,
-        &[
-            b"processor",
-            b"number",
-            b"floor",
-            b"at",
-            b"kind",
-            b"name",
-            b"cost",
-            b"period",
-            b"early",
-            b"index",
-            b"by",
-        ],
-    )
 }
 
 /// Adds the row of an entry: processor, number, floor, stamp, kind, name, cost, period, early,
@@ -82,26 +55,6 @@ pub fn add_entry(
         Announcement::Depart { name } => add_departure(writer, head, at, name),
         Announcement::Late { name, index, by } => add_delay(writer, head, at, name, index, by),
     }
-}
-
-/// Returns the row of an entry alone, without a line's end, as [`add_entry`] writes it.
-///
-/// # Errors
-/// Returns [`AllocError`] if an allocation fails.
-pub fn row_of(
-    alloc: Global,
-    processor: u8,
-    number: u32,
-    entry: &Entry,
-) -> Result<Vec<u8>, AllocError>
-    ensures row { IfOk result (λ row. row.items ≡ entry_row processor number entry.now) }
-    ensures entry { IsEntryAt processor number entry.now }
-{
-    let mut writer = new_text(alloc);
-    add_entry(&mut writer, processor, number, entry)?;
-    let mut row = finish(writer)?;
-    row.pop();
-    Ok(row)
 }
 
 // Adds the row of an entry that announces nothing.
