@@ -16,7 +16,7 @@ KINDS = (None, "arrive", "depart", "late")
 
 
 def whole(number: Any, bits: int, what: str) -> int:
-    """A whole number that C can hold. (ctypes would cut off what is too great.)"""
+    """Returns the number, or refuses one that doesn't fit so many bits: ctypes would truncate it."""
     given = operator.index(number)
     if not 0 <= given < 1 << bits:
         raise OutOfRange(f"{OutOfRange.__doc__}: {what} = {given}")
@@ -25,10 +25,28 @@ def whole(number: Any, bits: int, what: str) -> int:
 
 @dataclass(frozen=True)
 class Entry:
-    """An entry of a processor's log, by the keys of a task file.
+    """An entry of a processor's log, with the keys of a task file.
 
-    From it on nothing in its log is stamped before slot `floor`. `kind` says what it announces: "arrive", "depart", "late", or None
-    where it announces nothing. `at` is the stamp, the slot at whose boundary the announcement is decided.
+    Nothing is checked until a dispatcher takes it; fields that its kind doesn't need are ignored there.
+
+    Attributes
+    ----------
+    floor : int
+        A slot, 0 to 1,000,000: from this entry on nothing in its log is stamped before it.
+    kind : str or None
+        What is announced: "arrive", "depart", "late", or None for nothing.
+    at : int
+        The stamp, `floor` to 1,000,000: the slot at whose boundary the announcement is decided.
+    name : str
+        The task: 1 to 16 bytes, a letter a-z, then letters a-z, digits and underscores.
+    cost, period : int
+        For an arrival, the weight: `cost` quanta in each `period` slots, 1 <= cost <= period <= 1,000,000,000.
+    early : bool
+        For an arrival: a subtask may run before its release, as soon as the one before it in the same job has run.
+    index : int
+        For a late release, the first subtask that is late, 1 to 1,000,000.
+    by : int
+        For a late release, the delay in slots, 1 to 1,048,576.
     """
 
     floor: int = 0
@@ -43,29 +61,111 @@ class Entry:
 
 
 def arrive(name: str, cost: int, period: int, at: int = 0, floor: int = 0, early: bool = False) -> Entry:
-    """The arrival of a task of weight cost/period. Where `early`, a subtask may run before its release, as soon as the one before it
-    in the same job has run."""
+    """Returns an entry that announces the arrival of a task.
+
+    Parameters
+    ----------
+    name : str
+        The task.
+    cost, period : int
+        Its weight: `cost` quanta in each `period` slots.
+    at : int
+        The slot in which it joins, if it is admitted.
+    floor : int
+        The entry's floor, a slot.
+    early : bool
+        Whether a subtask may run before its release, as soon as the one before it in the same job has run (ERfair).
+
+    Returns
+    -------
+    Entry
+        Its ranges are those of `Entry`, and are checked when it is taken.
+    """
     return Entry(floor, "arrive", at, name, cost, period, early)
 
 
 def depart(name: str, at: int, floor: int = 0) -> Entry:
-    """The departure of a task."""
+    """Returns an entry that announces the departure of a task.
+
+    Parameters
+    ----------
+    name : str
+        The task.
+    at : int
+        The slot from which on it gets no quantum.
+    floor : int
+        The entry's floor, a slot.
+
+    Returns
+    -------
+    Entry
+    """
     return Entry(floor, "depart", at, name)
 
 
 def late(name: str, index: int, by: int, at: int, floor: int = 0) -> Entry:
-    """A late release: from subtask `index` on all releases of the task come `by` slots later."""
+    """Returns an entry that announces a late release (an intra-sporadic task).
+
+    Parameters
+    ----------
+    name : str
+        The task.
+    index : int
+        The first subtask that is late, from 1; all later ones are too.
+    by : int
+        The delay, in slots.
+    at : int
+        The slot at whose boundary it is decided.
+    floor : int
+        The entry's floor, a slot.
+
+    Returns
+    -------
+    Entry
+    """
     return Entry(floor, "late", at, name, index=index, by=by)
 
 
 def promise(floor: int) -> Entry:
-    """Says that nothing that follows in this log is stamped before slot `floor`: so slots below it can be settled."""
+    """Returns an entry that announces nothing but its floor, so that slots below it can be settled.
+
+    Parameters
+    ----------
+    floor : int
+        The slot before which nothing that follows in the log is stamped.
+
+    Returns
+    -------
+    Entry
+    """
     return Entry(floor)
 
 
 def rows_of(entries: Union[Sequence[Entry], Rows]) -> Rows:
-    """Entries as the library reads them: an array of the dtype ENTRY. Such an array is given back as it is, or copied where its rows
-    don't lie one behind another; any other array is refused by TypeError."""
+    """Returns entries as the library reads them.
+
+    Parameters
+    ----------
+    entries : sequence of Entry, or ndarray of dtype ENTRY
+
+    Returns
+    -------
+    ndarray of dtype ENTRY
+        A row for each entry. An array is returned as it is, or copied if its rows aren't contiguous.
+
+    Raises
+    ------
+    TypeError
+        If an array has another dtype or more than one dimension, or a field that counts isn't a whole number.
+    OutOfRange
+        If a kind is unknown, or a number is negative or at least 2**64.
+    NameBadByte
+        If a name has a byte of zero.
+
+    Notes
+    -----
+    O(n) for n entries. The other rules of entries are checked when they are taken.
+    """
     if isinstance(entries, np.ndarray):
         if entries.dtype != ENTRY or entries.ndim != 1:
             raise TypeError(f"an array of {entries.ndim} dimensions and the dtype {entries.dtype} isn't a list of rows of the dtype ENTRY")
@@ -85,7 +185,7 @@ def rows_of(entries: Union[Sequence[Entry], Rows]) -> Rows:
 
 
 def entry_of(row: Any) -> Entry:
-    """The entry that a row of the library says."""
+    """Returns the entry of a row that the library wrote."""
     return Entry(
         int(row["floor"]), KINDS[int(row["kind"])], int(row["at"]), bytes(row["name"]).decode(), int(row["cost"]), int(row["period"]),
         bool(row["early"]), int(row["index"]), int(row["by"]),
@@ -94,10 +194,20 @@ def entry_of(row: Any) -> Entry:
 
 @dataclass
 class Script:
-    """A run's settings, and the log of each of its processors: what a task file says.
+    """The settings of a run, and the log of each processor: the contents of a task file.
 
-    `processors` 1 to 64; `frame` 1 to 1,000,000,000 slots, which the period of each task has to divide; `slots` 1 to 1,000,000.
-    A log that `logs` leaves out is empty.
+    Nothing is checked until the script is planned.
+
+    Attributes
+    ----------
+    processors : int
+        The number of processors, 1 to 64.
+    frame : int
+        The frame in slots, 1 to 1,000,000,000. A task is admitted only if its period divides it.
+    slots : int
+        The number of slots of the run, 1 to 1,000,000.
+    logs : list of list of Entry
+        The logs, by processors from 0; one that is left out is empty.
     """
 
     processors: int
@@ -106,24 +216,45 @@ class Script:
     logs: list[list[Entry]] = field(default_factory=list)
 
     def log(self, processor: int) -> list[Entry]:
-        """The log of a processor."""
+        """Returns the log of a processor, from 0."""
         return self.logs[processor] if processor < len(self.logs) else []
 
     def closed(self, processor: int) -> list[Entry]:
-        """The log of a processor with the promise behind it that nothing follows, where it doesn't end with one, as the reader of task
-        files closes it."""
+        """Returns the log of a processor, closed as the reader of task files does it.
+
+        Parameters
+        ----------
+        processor : int
+            From 0.
+
+        Returns
+        -------
+        list of Entry
+            The log, with `promise(slots)` behind it if it is empty or its last floor is below `slots`.
+        """
         log = self.log(processor)
         return [*log] if log and log[-1].floor >= self.slots else [*log, promise(self.slots)]
 
     def text(self) -> str:
-        """The task file, in TOML."""
+        """Returns the script as a task file.
+
+        Returns
+        -------
+        str
+            TOML, in version 2 of the format. Its reader checks it, and closes the logs.
+
+        Raises
+        ------
+        KeyError
+            If an entry's kind is unknown.
+        """
         lines = ["version = 2", f"processors = {self.processors}", f"frame = {self.frame}", f"slots = {self.slots}", "entry = ["]
         for processor, log in enumerate(self.logs):
             lines += [f"    {{ {_fields(processor, entry)} }}," for entry in log]
         return "\n".join([*lines, "]", ""])
 
 
-# what of an entry stands in a task file, by what it announces
+# the keys of an entry in a task file, by its kind
 _FIELDS = {None: (), "arrive": ("cost", "period"), "depart": (), "late": ("index", "by")}
 
 

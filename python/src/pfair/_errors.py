@@ -1,4 +1,4 @@
-"""An exception for each answer by which a call is refused."""
+"""An exception for each answer by which a call is refused. Its docstring is its message, up to ": found"."""
 from __future__ import annotations
 
 
@@ -178,7 +178,8 @@ class NotPlanned(PfairError):
     number = 104
 
 
-# 101 and 103 answer a C program that opens a handle twice, or offers too few rows: neither comes from here.
+#: The exceptions by the answers of the C library. Its answers 101 (a handle is opened twice) and 103 (too few rows are
+#: offered) don't leave this package.
 BY_NUMBER: dict[int, type[PfairError]] = {
     kind.number: kind
     for kind in (
@@ -190,7 +191,7 @@ BY_NUMBER: dict[int, type[PfairError]] = {
 
 
 def check(answer: int, where: str = "", **found: int) -> None:
-    """Raises what an answer of the C library says, unless that is 0."""
+    """Raises the exception of an answer of the C library, unless that is 0."""
     if answer:
         kind = BY_NUMBER[answer]
         text = (kind.__doc__ or "").partition(": found")[0]

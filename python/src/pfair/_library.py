@@ -31,13 +31,13 @@ class FileFault(c.Structure):
     _fields_ = [("place", c.c_uint64), ("field", c.c_uint64), ("processor", c.c_uint64), ("number", c.c_uint64), ("cause", c.c_uint64)]
 
 
-# Arrays have the layout of the library's structs: a name is 16 bytes and its length, of which users see the bytes alone, since no
-# name has a zero in it and zeros follow it.
+# Arrays have the layout of the library's structs. A name is 16 bytes and its length, which users don't see: zeros
+# follow a name, and none is in it.
 _NAME, _NUMBER = ("S16", 24), ("u8", 8)
 
 
 def _rows(**fields: tuple[str, int]) -> np.dtype[Any]:
-    """Rows of these fields, each with its format and the bytes that it takes."""
+    """Returns the dtype of these fields, each with its format and its size in bytes."""
     offsets, end = [], 0
     for _, size in fields.values():
         offsets.append(end)
@@ -45,21 +45,25 @@ def _rows(**fields: tuple[str, int]) -> np.dtype[Any]:
     return np.dtype({"names": list(fields), "formats": [kind for kind, _ in fields.values()], "offsets": offsets, "itemsize": end})
 
 
-#: The window of a subtask: slots, and b_bit 0 or 1; group_deadline is 0 for a weight below 1/2.
+#: The window of a subtask, from slot `release` to before slot `deadline`; `b_bit` 0 or 1; `group_deadline` a slot, or 0
+#: for a weight below 1/2.
 WINDOW = _rows(release=_NUMBER, deadline=_NUMBER, b_bit=_NUMBER, group_deadline=_NUMBER)
-#: A quantum: `row` of the slot's table, in the PD2 order, `place` the processor that runs it, `index` that of the task's subtask, from 1.
+#: A quantum: `row` its row in the slot's table, in PD2 order, and `place` the processor that runs it, both from 0;
+#: `index` its subtask, from 1.
 QUANTUM = _rows(slot=_NUMBER, row=_NUMBER, place=_NUMBER, task=_NAME, index=_NUMBER)
-#: A decision on an announcement; OUTCOMES says what an outcome is, and `freed_at` is the slot from which a departing task's weight is free.
+#: A decision on the announcement of entry `number` of the log of `processor`, at the boundary of `slot`: `outcome` as
+#: in OUTCOMES; `freed_at` for a departure the slot from which the task's weight and name are free, else 0.
 DECISION = _rows(slot=_NUMBER, task=_NAME, processor=_NUMBER, number=_NUMBER, outcome=_NUMBER, freed_at=_NUMBER)
-#: A lag: of the task at a time (the end of slot `time` - 1), in quanta, numerator/period.
+#: A lag: of the task at a time (the end of slot `time` - 1), in quanta: numerator/period.
 LAG = _rows(time=_NUMBER, task=_NAME, numerator=("i8", 8), period=_NUMBER)
-#: A member: a task that was admitted and isn't freed, of weight cost/period; `early` 0 or 1, `joined` the slot in which it was admitted,
-#: `next` its next subtask, from 1, `theta` the offset of that one's window, `is_departing` 0 or 1, `freed_at` as in DECISION.
+#: A member, a task that was admitted and isn't freed, of weight cost/period: `early` 0 or 1; `joined` the slot in which
+#: it was admitted; `next` its next subtask, from 1; `theta` the offset of that one's window, in slots; `is_departing` 0
+#: or 1; `freed_at` as in DECISION.
 MEMBER = _rows(
     task=_NAME, cost=_NUMBER, period=_NUMBER, early=_NUMBER, joined=_NUMBER, next=_NUMBER, theta=_NUMBER, is_departing=_NUMBER, freed_at=_NUMBER
 )
-#: An entry as the library reads it: `kind` 0 for none, 1 to 3 for an arrival, a departure and a late release; `name` with zeros behind it,
-#: and `length`, that of the name.
+#: An entry as the library reads it: `kind` 0 for no announcement, 1 for an arrival, 2 for a departure, 3 for a late
+#: release; `name` with zeros behind it, and `length` its length; the rest as in `Entry`.
 ENTRY = np.dtype(
     [("floor", "u8"), ("kind", "u8"), ("at", "u8"), ("name", "S16"), ("length", "u8"), ("cost", "u8"), ("period", "u8"), ("early", "u8"), ("index", "u8"), ("by", "u8")]
 )
