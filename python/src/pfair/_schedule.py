@@ -17,17 +17,32 @@ from ._rows import Decision, Rows as PictureRows
 from ._trace import Decided, Lag, Quantum, quanta_of, words_of, write_trace
 
 
-# as many slots of a picture have windows that can be told apart
+# slots of a picture whose windows can be told apart
 _SHOWN = 400
-# as many lags are looked at at once
+# lags of a piece: what one call returns
 _LAGS_AT_ONCE = 1 << 21
-# as many of them are turned into numbers of Python at once
+# lags that become numbers of Python at once
 _READ_AT_ONCE = 1 << 15
 
 
 class Counts(NamedTuple):
-    """What a schedule has of each: `preemptions` are quanta of a job that come after a gap, `moves` quanta on another processor than
-    the task's one before, and `behind` the lags, of a task after a slot, that are 1 or more."""
+    """The counts of a schedule.
+
+    Attributes
+    ----------
+    arrivals : int
+        The arrivals that were decided.
+    refused : int
+        Those of them that were refused.
+    quanta : int
+        The quanta of all slots.
+    preemptions : int
+        The quanta of a job, except its first, that come after a gap.
+    moves : int
+        The quanta that run on another processor than the task's one before. A name that joins again is another task.
+    behind : int
+        The lags, of a task after a slot, that are 1 or more. Late releases aren't taken into account.
+    """
 
     arrivals: int
     refused: int
@@ -38,7 +53,39 @@ class Counts(NamedTuple):
 
 
 class Schedule:
-    """All slots of a script. `quanta` and `decisions` are arrays of the dtypes QUANTUM and DECISION."""
+    """Plans all slots of a script, and keeps what was planned.
+
+    Parameters
+    ----------
+    script : Script
+        Logs past its number of processors are ignored.
+
+    Attributes
+    ----------
+    script : Script
+        The one that was given.
+    quanta : ndarray of dtype QUANTUM
+        Slot by slot, in PD2 order; see `Dispatcher.quanta`.
+    decisions : ndarray of dtype DECISION
+        Slot by slot, in the order of processors and numbers; see `Dispatcher.decisions`.
+
+    Raises
+    ------
+    Stalled
+        If the logs settle fewer slots than the script has, since floors fall in one: found["frontier"] is the first
+        slot that isn't settled.
+    PfairError
+        As `Dispatcher.take_log`, for the first entry that is refused.
+    OutOfRange
+        If the number of processors, the frame or the number of slots is out of its range, or a closed log has more than
+        4,096 entries.
+    OutOfMemory
+        If an allocation fails.
+
+    Notes
+    -----
+    The cost of taking the logs and of planning the slots; see `Dispatcher.take` and `Dispatcher.plan`.
+    """
 
     def __init__(self, script: Script) -> None:
         self.script = script
@@ -53,11 +100,47 @@ class Schedule:
         self.decisions: Rows = self._dispatcher.decisions()
 
     def lags(self, start: int = 0, stop: Optional[int] = None) -> Rows:
-        """The lags after each of slots `start` to `stop - 1`: an array of the dtype LAG."""
+        """Returns the lags after each of slots `start` to `stop - 1`.
+
+        Parameters
+        ----------
+        start : int
+            The first slot, from 0.
+        stop : int, optional
+            The slot behind the last one; by default the number of slots.
+
+        Returns
+        -------
+        ndarray of dtype LAG
+            As `Dispatcher.lags`, which has the order and the cost.
+
+        Raises
+        ------
+        NotPlanned
+            If `stop` is past the script's slots.
+        OutOfMemory
+            If an allocation fails.
+        OutOfRange
+            If a number is negative or too large for its type in C.
+        """
         return self._dispatcher.lags(start, stop)
 
     def counts(self) -> Counts:
-        """Arrivals and refused ones, quanta, preemptions, moves, and lags of 1 or more."""
+        """Counts arrivals, quanta, preemptions, moves, and lags of 1 or more.
+
+        Returns
+        -------
+        Counts
+
+        Raises
+        ------
+        OutOfMemory
+            If an allocation fails.
+
+        Notes
+        -----
+        O(q log q) for q quanta, and the cost of `lags` for each piece of at most 2,097,152 lags.
+        """
         arrivals = [row for row in self.decisions if self._entry(row).kind == "arrive"]
         rows, incarnations = self.quanta, self._incarnations()
         order = np.lexsort((rows["slot"], incarnations))
@@ -83,7 +166,7 @@ class Schedule:
         return self.script.log(int(decision["processor"]))[int(decision["number"]) - 1]
 
     def _incarnations(self) -> npt.NDArray[np.int64]:
-        """Of each quantum, which admitted arrival it belongs to: the last of its name that was admitted in or before its slot."""
+        """Returns the admitted arrival of each quantum: the last one of its name up to its slot."""
         joined: dict[bytes, list[tuple[int, int]]] = {}
         place = 0
         for row in self.decisions:
@@ -99,12 +182,59 @@ class Schedule:
         return found
 
     def write_trace(self, out: TextIO, format: str = "json", slot: float = 1.0) -> None:
-        """Writes a trace for a viewer: "json", the Trace Event Format of Perfetto and chrome://tracing, or "vcd", a value change dump for
-        GTKWave. In it a slot takes `slot` milliseconds."""
+        """Writes a trace of the schedule for a viewer.
+
+        Parameters
+        ----------
+        out : text file
+            It is written to, and stays open.
+        format : str
+            "json", the Trace Event Format of Perfetto and chrome://tracing, or "vcd", a value change dump for GTKWave.
+        slot : float
+            The length of a slot in the trace, 0.001 to 1,000,000 milliseconds.
+
+        Raises
+        ------
+        ValueError
+            If the format is unknown or the length out of its range; nothing is written.
+        OutOfMemory
+            If an allocation fails for the lags of "json"; the beginning of the trace is written.
+
+        Notes
+        -----
+        "json" has decisions, quanta and lags, and reads the lags at the cost that `counts` has for them. "vcd" has
+        quanta alone.
+        """
         write_trace(_Source(self), format, slot, out)
 
     def svg(self, start: int = 0, stop: Optional[int] = None, picture: str = "schedule") -> str:
-        """The picture of slots `start` to `stop - 1` (of all, at most 4,096), an SVG document: of the "schedule" or of the "lags"."""
+        """Returns a picture of slots `start` to `stop - 1`.
+
+        Parameters
+        ----------
+        start : int
+            The first slot, from 0.
+        stop : int, optional
+            The slot behind the last one, at most 4,096 behind `start`; by default the number of slots.
+        picture : str
+            "schedule" or "lags".
+
+        Returns
+        -------
+        str
+            An SVG document.
+
+        Raises
+        ------
+        ValueError
+            If there is no such picture.
+        OutOfRange
+            If there is no slot to show, or more than 4,096, or a number is negative.
+        NotPlanned
+            If `stop` is past the script's slots.
+        OutOfMemory
+            If an allocation fails for "lags".
+        """
         if picture not in pictures.PICTURES:
             raise ValueError(f"no such picture: {picture}")
         first, behind = whole(start, 64, "start"), self.script.slots if stop is None else whole(stop, 64, "stop")
@@ -113,18 +243,48 @@ class Schedule:
         return pictures.svg(_Source(self), picture, first, behind)
 
     def _repr_svg_(self) -> str:
-        """The picture that a notebook shows: of the first slots, as many as it can make out."""
+        """Returns the picture that a notebook shows: of the first 400 slots, whose windows can be told apart."""
         return self.svg(0, min(self.script.slots, _SHOWN))
 
     def plot(self, start: int = 0, stop: Optional[int] = None, picture: str = "schedule", width: float = 7.0) -> Any:
-        """The picture of `svg` as a Figure of Matplotlib, `width` inches wide, for a paper: `plot().savefig("schedule.pdf")` writes
-        vectors. Wants matplotlib."""
+        """Draws the picture of `svg` by Matplotlib, for a paper.
+
+        Parameters
+        ----------
+        start, stop, picture
+            As in `svg`.
+        width : float
+            The width in inches.
+
+        Returns
+        -------
+        matplotlib.figure.Figure
+            `plot().savefig("schedule.pdf")` writes vectors.
+
+        Raises
+        ------
+        ImportError
+            If Matplotlib isn't installed.
+        ValueError, OutOfRange, NotPlanned, OutOfMemory
+            As `svg`.
+        """
         from ._plot import Plot
 
         return Plot(self.svg(start, stop, picture), width).figure
 
     def to_pandas(self) -> Any:
-        """The quanta and the decisions as two DataFrames, with the tasks as categories. Wants pandas."""
+        """Returns the quanta and the decisions as data frames.
+
+        Returns
+        -------
+        tuple of pandas.DataFrame
+            The quanta and the decisions, each with the columns of its dtype: `task` first, as categories.
+
+        Raises
+        ------
+        ImportError
+            If pandas isn't installed.
+        """
         import pandas
 
         def frame(rows: Rows) -> Any:
@@ -137,7 +297,7 @@ class Schedule:
 
 
 class _Source(PictureRows):
-    """A schedule, as traces and pictures are made of it."""
+    """A schedule as the source of traces and pictures."""
 
     def __init__(self, schedule: Schedule) -> None:
         script = schedule.script
@@ -173,7 +333,7 @@ class _Source(PictureRows):
 
 
 def numbered(names: npt.NDArray[np.bytes_]) -> tuple[npt.NDArray[np.int64], list[bytes]]:
-    """A number for each name, from 0, and the names by their numbers. They are compared as two words, which is quicker than as text."""
+    """Returns a number from 0 for each name, and the names by number; names are compared as two words, for speed."""
     words = np.ascontiguousarray(names).view(np.uint64).reshape(-1, 2)
     head, heads = np.unique(words[:, 0], return_inverse=True)
     tail, tails = np.unique(words[:, 1], return_inverse=True)
@@ -183,8 +343,32 @@ def numbered(names: npt.NDArray[np.bytes_]) -> tuple[npt.NDArray[np.int64], list
 
 
 def read_task_file(file: Union[str, "os.PathLike[str]", bytes]) -> Script:
-    """The script of a task file, given by its path or by its bytes, as the programs read it. What is wrong with it is raised as one of
-    the exceptions below TaskFileError."""
+    """Reads a task file as the programs do.
+
+    Parameters
+    ----------
+    file : str, os.PathLike or bytes
+        Its path, or its contents as bytes.
+
+    Returns
+    -------
+    Script
+        Without the closing entry of a log, `promise(slots)`, which `Script.closed` puts there.
+
+    Raises
+    ------
+    TaskFileError
+        One of its subclasses, for the first fault of the file.
+    OutOfMemory
+        If an allocation fails.
+    OSError
+        If the file can't be read.
+
+    Notes
+    -----
+    O(b) for b bytes, for each entry the cost of `Dispatcher.take`, and for each number up to the length of the longest
+    log a look-up in each log.
+    """
     if isinstance(file, bytes):
         text = file
     else:
@@ -196,12 +380,29 @@ def read_task_file(file: Union[str, "os.PathLike[str]", bytes]) -> Script:
 
 
 def _log_of(dispatcher: Dispatcher, processor: int) -> list[Entry]:
-    """The entries of a log, without the promise that closes it."""
+    """Returns the entries of a log, without the promise that closes it."""
     held = (dispatcher.held(processor, number) for number in range(1, dispatcher.capacity + 1))
     log = [entry for entry in held if entry is not None]
     return log[:-1] if log and log[-1] == promise(dispatcher.slots) else log
 
 
 def schedule(given: Union[Script, str, "os.PathLike[str]", bytes]) -> Schedule:
-    """The schedule of a script, or of a task file, given by its path or by its bytes."""
+    """Plans all slots of a script or of a task file.
+
+    Parameters
+    ----------
+    given : Script, str, os.PathLike or bytes
+        A script, or a task file by its path or its contents as bytes.
+
+    Returns
+    -------
+    Schedule
+
+    Raises
+    ------
+    TaskFileError, OSError
+        As `read_task_file`.
+    PfairError
+        As `Schedule`.
+    """
     return Schedule(given if isinstance(given, Script) else read_task_file(given))
