@@ -139,7 +139,7 @@ class Schedule:
 
         Notes
         -----
-        O(q log q) for q quanta, and the cost of `lags` for each piece of at most 2,097,152 lags.
+        O(q (n + log q)) for q quanta and n task names, and the cost of `lags` for each piece of at most 2,097,152 lags.
         """
         arrivals = [row for row in self.decisions if self._entry(row).kind == "arrive"]
         rows, incarnations = self.quanta, self._incarnations()

@@ -15,17 +15,41 @@ from ._schedule import Counts, Schedule
 Weights = npt.NDArray[np.float64]
 Summary = TypeVar("Summary")
 
+#: The periods, in slots, that `task_set` draws from unless it is given others.
 PERIODS = (8, 10, 12, 15, 16, 20, 24, 30, 40, 48, 60)
-# sets that are drawn before it is given up
+# sets that uunifast_discard draws before it gives up
 _MOST_DRAWN = 1_000_000
 
 
 def uunifast_discard(tasks: int, load: float, rng: np.random.Generator) -> Weights:
-    """Weights that add to the load, none over 1, each such set as likely as any other.
+    """Draws weights with a given sum, each at most 1, uniformly from all such sets.
 
-    UUniFast (E. Bini, G. Buttazzo: Measuring the performance of schedulability tests, Real-Time Systems 30, 2005); sets with a weight
-    over 1 are discarded (R. Davis, A. Burns, RTSS 2009). It takes long where the load is near the number of tasks: rand_fixed_sum
-    draws alike and discards none.
+    Parameters
+    ----------
+    tasks : int
+        The number of weights.
+    load : float
+        Their sum, above 0 and at most `tasks`.
+    rng : numpy.random.Generator
+        Where the random numbers come from.
+
+    Returns
+    -------
+    ndarray of float64
+        The weights.
+
+    Raises
+    ------
+    ValueError
+        If the load is out of its range, or if 1,000,000 sets were drawn and each has a weight over 1.
+
+    Notes
+    -----
+    O(n) for each set of n weights. Near a load of n most sets are discarded: `rand_fixed_sum` draws from the same
+    distribution and discards none.
+
+    UUniFast: E. Bini, G. Buttazzo, Measuring the performance of schedulability tests, Real-Time Systems 30, 2005.
+    Discarding sets with a weight over 1: R. Davis, A. Burns, RTSS 2009.
     """
     _in_range(tasks, load)
     for _ in range(_MOST_DRAWN):
@@ -38,11 +62,35 @@ def uunifast_discard(tasks: int, load: float, rng: np.random.Generator) -> Weigh
 
 
 def rand_fixed_sum(tasks: int, load: float, rng: np.random.Generator) -> Weights:
-    """Weights that add to the load, none over 1, each such set as likely as any other, without discarding any.
+    """Draws weights with a given sum, each at most 1, uniformly from all such sets, without discarding any.
 
-    RandFixedSum (R. Stafford, 2006; P. Emberson, R. Stafford, R. Davis: Techniques for the synthesis of multiprocessor tasksets, WATERS
-    2010). The sets with a sum are a slice of the unit cube. It is made of cones with their tip in its middle, one on each face where a
-    weight is 0 or 1: a face is drawn by the volumes of the cones, then a set in it by the same rule, and then how near to the tip.
+    Parameters
+    ----------
+    tasks : int
+        The number of weights.
+    load : float
+        Their sum, above 0 and at most `tasks`.
+    rng : numpy.random.Generator
+        Where the random numbers come from.
+
+    Returns
+    -------
+    ndarray of float64
+        The weights.
+
+    Raises
+    ------
+    ValueError
+        If the load is out of its range.
+
+    Notes
+    -----
+    O(n**2) for n weights. The sets with a sum are a slice of the unit cube, made of cones with their tip in its middle,
+    one on each face where a weight is 0 or 1. The face is drawn by the volumes of the cones, then a set in it by the
+    same rule, and then how near to the tip.
+
+    RandFixedSum: R. Stafford, 2006; P. Emberson, R. Stafford, R. Davis, Techniques for the synthesis of multiprocessor
+    tasksets, WATERS 2010.
     """
     _in_range(tasks, load)
     volume = _volumes(tasks, load)
@@ -65,8 +113,7 @@ def _in_range(tasks: int, load: float) -> None:
 
 
 def _volumes(tasks: int, load: float) -> Callable[[int, float], float]:
-    """The volumes of the slices of unit cubes, up to a factor, for sums that differ from the load by whole numbers: the density of the
-    sum of so many uniform numbers, by the recurrence of Irwin and Hall."""
+    """Returns a function for the volumes of slices of unit cubes, up to a factor: the recurrence of Irwin and Hall."""
     part = load - floor(load)
     rows = [np.array([1.0])]
     for number in range(2, tasks + 1):
@@ -82,8 +129,39 @@ def _volumes(tasks: int, load: float) -> Callable[[int, float], float]:
 
 
 def task_set(weights: Sequence[float], processors: int, slots: int, rng: np.random.Generator, periods: Sequence[int] = PERIODS, early: bool = False) -> Script:
-    """Tasks near these weights that all arrive at slot 0, with periods (in slots) drawn from `periods`. Costs are whole quanta, at least 1,
-    so that the weights add to at most the sum that is given, and as near to it as they can."""
+    """Makes a script of tasks near the given weights, which all arrive at slot 0.
+
+    Parameters
+    ----------
+    weights : sequence of float
+        The weights to come near, each above 0 and at most 1.
+    processors : int
+        The number of processors; the tasks t0, t1, .. are dealt to their logs in turn.
+    slots : int
+        The number of slots of the run.
+    rng : numpy.random.Generator
+        Where the periods are drawn.
+    periods : sequence of int
+        The periods to draw from, in slots.
+    early : bool
+        Whether the subtasks of the tasks may run before their releases, within a job.
+
+    Returns
+    -------
+    Script
+        Its frame is the least common multiple of the periods that were drawn.
+
+    Raises
+    ------
+    ValueError
+        If costs of 1 already exceed the sum of the weights: only longer periods can help.
+
+    Notes
+    -----
+    O(n log n) for n tasks. Costs are whole quanta, at least 1. The sum of the tasks' weights exceeds that of `weights`
+    by at most a billionth, and is less than 1/p below it, p being the least of `periods`. The script isn't checked:
+    `Schedule` refuses a frame of more than 1,000,000,000 slots.
+    """
     drawn = [int(period) for period in rng.choice(periods, len(weights))]
     logs: list[list[Entry]] = [[] for _ in range(processors)]
     for place, (cost, period) in enumerate(zip(_costs(weights, drawn), drawn)):
@@ -110,13 +188,41 @@ def _costs(weights: Sequence[float], periods: Sequence[int]) -> list[int]:
 
 
 def weights_of(script: Script) -> list[Fraction]:
-    """The weights of a script's arrivals."""
+    """Returns the weights of a script's arrivals.
+
+    Parameters
+    ----------
+    script : Script
+
+    Returns
+    -------
+    list of Fraction
+        In the order of processors and entries.
+    """
     return [Fraction(entry.cost, entry.period) for log in script.logs for entry in log if entry.kind == "arrive"]
 
 
 def fits_partitioned_edf(weights: Iterable[Fraction], processors: int) -> bool:
-    """Whether first fit, with the heaviest first, puts each task on one of the processors, none of which is then loaded above 1: each
-    processor schedules its own tasks by EDF (C. Liu, J. Layland, 1973)."""
+    """Returns whether first fit, heaviest task first, puts each task on a processor whose load stays at most 1.
+
+    Parameters
+    ----------
+    weights : iterable of Fraction
+        The weights of the tasks.
+    processors : int
+        The number of processors, each of which schedules its own tasks by EDF.
+
+    Returns
+    -------
+    bool
+        If true, no task misses a deadline.
+
+    Notes
+    -----
+    O(n log n + n M) for n tasks and M processors. EDF meets all deadlines of a processor with a load of at most 1: C.
+    Liu, J. Layland, Scheduling algorithms for multiprogramming in a hard-real-time environment, Journal of the ACM 20,
+    1973.
+    """
     loads = [Fraction(0)] * processors
     for weight in sorted(weights, reverse=True):
         for place, load in enumerate(loads):
@@ -129,20 +235,77 @@ def fits_partitioned_edf(weights: Iterable[Fraction], processors: int) -> bool:
 
 
 def fits_global_edf(weights: Iterable[Fraction], processors: int) -> bool:
-    """The test of J. Goossens, S. Funk and S. Baruah (2003) for global EDF: a sum of at most M - (M - 1) times the greatest weight."""
+    """Returns whether a set passes the test of Goossens, Funk and Baruah for global EDF.
+
+    It does if the sum of its weights is at most M - (M - 1) u, with M processors and the greatest weight u, or if it is
+    empty. The test is sufficient: a set that fails it may still meet its deadlines.
+
+    Parameters
+    ----------
+    weights : iterable of Fraction
+        The weights of the tasks.
+    processors : int
+        The number of processors.
+
+    Returns
+    -------
+    bool
+
+    Notes
+    -----
+    O(n) for n tasks. J. Goossens, S. Funk, S. Baruah, Priority-driven scheduling of periodic task systems on
+    multiprocessors, Real-Time Systems 25, 2003.
+    """
     given = list(weights)
     return not given or sum(given) <= processors - (processors - 1) * max(given)
 
 
 def summary_of(script: Script) -> Counts:
-    """The counts of a script's schedule."""
+    """Plans a script and returns the counts of its schedule.
+
+    Parameters
+    ----------
+    script : Script
+
+    Returns
+    -------
+    Counts
+
+    Raises
+    ------
+    PfairError
+        As `Schedule`.
+    """
     return Schedule(script).counts()
 
 
 def run(scripts: Iterable[Script], summary: Callable[[Script], Summary] = summary_of, executor: Optional[Executor] = None, chunk: int = 16) -> list[Summary]:  # type: ignore[assignment]
-    """What `summary` makes of each script, in their order, on any executor of concurrent.futures: on processes of this machine where
-    none is given, and on `distributed.Client(...).get_executor()` where a study outgrows it. Neither the executor nor its order changes
-    what comes out."""
+    """Returns the summary of each script, in the order of the scripts, made by an executor.
+
+    Neither the executor nor the order in which it works changes the result.
+
+    Parameters
+    ----------
+    scripts : iterable of Script
+        The runs to summarize.
+    summary : callable
+        It is called with each script, by default `summary_of`. For processes it has to be picklable.
+    executor : concurrent.futures.Executor, optional
+        By default a pool of processes on this machine. If a study outgrows it,
+        `distributed.Client(...).get_executor()`.
+    chunk : int
+        How many scripts a process gets at a time.
+
+    Returns
+    -------
+    list
+        What `summary` returned.
+
+    Raises
+    ------
+    Exception
+        What `summary` raises for the first script for which it does.
+    """
     if executor is not None:
         return list(executor.map(summary, scripts, chunksize=chunk))
     with ProcessPoolExecutor() as processes:
