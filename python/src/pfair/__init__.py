@@ -1,8 +1,11 @@
 """The Pfair executive for Python: windows of subtasks, dispatchers, schedules, and sets of tasks to study.
 
-It computes schedules by the PD2 order of Anderson and Srinivasan over the Pfair model of Baruah, Cohen, Plaxton and Varvel; it does not
-execute tasks. What plans is a library in C whose every call is proved to meet its contract. Times are in slots, and each task runs in
-quanta of one slot.
+It computes schedules by the PD2 order of Anderson and Srinivasan over the Pfair model of Baruah, Cohen, Plaxton and
+Varvel; it does not execute tasks. What plans is a library in C whose every call is proved to meet its contract. Times
+are in slots, and each quantum is one slot of one processor.
+
+Slots and counts are whole numbers, as `operator.index` takes them: any other type raises TypeError. Refusals by the
+library are exceptions below `PfairError`: `number` is the library's answer, and `found` says where, by names.
 """
 from . import study as study
 from ._dispatcher import OUTCOMES, Dispatcher, Faults, Planned, TakenCounts, windows

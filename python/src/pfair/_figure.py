@@ -1,4 +1,4 @@
-"""What pictures have in common: where slots and rows lie, names, times, weights and the key, and the tasks of a run."""
+"""What pictures have in common: positions of slots and rows, names, times, weights, the key, and the tasks of a run."""
 from __future__ import annotations
 
 from typing import Callable, Iterator, NamedTuple, Optional
@@ -9,12 +9,12 @@ from ._trace import Member
 
 #: The most slots of one picture.
 MOST_SLOTS = 4096
-# up to so many slots: how wide one is, in pixels
+# the most slots of a picture, and the width of a slot in pixels
 WIDTHS = ((14, 40), (40, 28), (72, 18), (120, 12), (240, 8), (400, 4), (MOST_SLOTS, 2))
 NARROWEST, LEFT, RIGHT, TOP = 640, 118, 40, 76
-# every how many rows the scale stands again
+# the scale is repeated above every so many rows
 ROWS_OF_SCALE = 16
-#: An entry of the key: the kind of thing, its width, where its words begin, the words, and the sample at a place.
+#: An entry of the key: the kind of thing, its width, where its words begin, the words, and what draws the sample.
 Entry = tuple[str, int, int, str, Callable[[int, int], str]]
 
 
@@ -31,24 +31,23 @@ class Sizes(NamedTuple):
 
 
 def slot_width(slots: int) -> int:
-    """How wide a slot is in a picture of so many."""
+    """Returns the width of a slot in a picture of so many."""
     return next(width for most, width in WIDTHS if slots <= most)
 
 
 def scale_step(wide: int, end: int) -> int:
-    """Every how many slots a number stands: as many as its digits take."""
+    """Returns by how many slots numbers of the scale are apart, so that their digits have room."""
     need = max(24, 7 * len(str(end)) + 4)
     return next(some for tens in (1, 10, 100) for some in (tens, 2 * tens, 5 * tens) if some * wide >= need)
 
 
 def name_width(name: str) -> int:
-    """As many pixels as a name takes at most."""
+    """Returns the most pixels that a name takes."""
     return sum(12 if letter in "mw" else 8 for letter in name)
 
 
 class Life(Member):
-    """A task from its admission on: when it departs and when its weight is free, the last of its subtasks that ran, and
-    its late releases: the slot, the first subtask, by how many slots, and where the window of that opened before."""
+    """A task from its admission on: departure, freeing slot, last subtask that ran, and its late releases."""
 
     leave: Optional[int] = None
     freed: Optional[int] = None
@@ -57,14 +56,14 @@ class Life(Member):
     def __init__(self, row: Decision) -> None:
         super().__init__(row.entry["cost"], row.entry["period"], row.slot)
         self.name, self.weight = row.task, f"{row.entry['cost']}/{row.entry['period']}"
+        # the slot, the first subtask, the delay, and the release that it had before
         self.late: list[tuple[int, int, int, int]] = []
 
     def departure(self) -> str:
         return f"{self.name} departs at slot {self.leave}, weight held until slot {self.freed}"
 
     def windows(self, start: int, stop: int) -> Iterator[tuple[int, int, int]]:
-        """The subtasks whose windows are in sight, with the slots in which these open and before which they close. The
-        window of a subtask that never ran ends where its task departs."""
+        """Yields index, release and deadline of windows in sight; one that never ran ends where its task departs."""
         latest = self.joined + sum(by for _, by in self.delays)
         # all subtasks up to this one have closed by the first slot
         index = max(0, (start - latest) * self.cost // self.period)
@@ -81,7 +80,7 @@ class Life(Member):
 
 
 def lives_of(decided: list[Decision]) -> list[Life]:
-    """The tasks that were admitted."""
+    """Returns the tasks that were admitted."""
     last: dict[str, Life] = {}
     lives = []
     for row in decided:
@@ -116,16 +115,16 @@ class Figure:
         self.kinds: set[str] = set()  # of things that the key has to name
 
     def x(self, slot: int) -> int:
-        """Where a slot begins; one that isn't shown counts as the nearest that is."""
+        """Returns where a slot begins; one that isn't shown counts as the nearest that is."""
         return self.left + (min(max(slot, self.start), self.stop) - self.start) * self.sizes.slot
 
     def y(self, row: int) -> int:
-        """Where a row begins; above every sixteenth there is room for a scale."""
+        """Returns where a row begins; above every sixteenth there is room for a scale."""
         scales = max(0, min(row, len(self.names) - 1)) // ROWS_OF_SCALE
         return TOP + row * (self.lanes + self.sizes.strip) + 12 * scales
 
     def cell_y(self, processor: int) -> int:
-        """Where a processor's row begins."""
+        """Returns where a processor's row begins."""
         return self.y(len(self.names)) + (12 if self.processors else 0) + processor * self.sizes.cell
 
     def svg(self) -> str:
@@ -133,7 +132,7 @@ class Figure:
         return document(self.width, height, self.title, self.told, self.colours, self.parts)
 
     def ground(self, admitted: set[str]) -> None:
-        """The title, and a band and a name for each row."""
+        """Draws the title, and a band and a name for each row."""
         self.parts += [text(16, 24, "title", self.title), text(16, 42, "entry", self.told)]
         wide, high = self.x(self.stop) - self.left, self.lanes + self.sizes.strip
         for row, name in enumerate(self.names):
@@ -145,7 +144,7 @@ class Figure:
                 self.kinds.add("absent")
 
     def frame(self, has_slots: bool) -> None:
-        """The lines and the numbers of times."""
+        """Draws the lines and the numbers of times."""
         for time in range(self.start, self.stop + 1):
             is_numbered = time % self.step == 0
             if is_numbered or self.sizes.slot >= 8:
@@ -158,14 +157,14 @@ class Figure:
         self.parts.append(line(self.left, self.bottom, self.x(self.stop), self.bottom, "edge"))
 
     def scale(self, y: int, has_slots: bool) -> None:
-        """Numbers of slots, in their middle, or of times, where they are."""
+        """Draws the numbers of slots, in their middle, or of times, at their boundary."""
         aside, end = (self.sizes.slot // 2, self.stop) if has_slots else (0, self.stop + 1)
         first = -(-self.start // self.step) * self.step
         self.parts += [text(self.x(time) + aside, y, "scale", time) for time in range(first, end, self.step)]
         self.parts.append(text(self.left - 22, y, "side", "slot" if has_slots else "time"))
 
     def weights(self, lives: list[Life], down: int) -> None:
-        """The weight of each task that isn't free before, where it joins."""
+        """Draws the weight of each task that isn't freed by the first slot, where it joins."""
         for life in lives:
             if life.freed is None or life.freed > self.start:
                 x = self.x(life.joined) + 5
@@ -174,7 +173,7 @@ class Figure:
                 self.kinds.add("weight")
 
     def key(self, *lines: tuple[Entry, ...]) -> None:
-        """The key: an entry stands behind the one before it, if the picture has such a thing."""
+        """Draws the key: an entry for each kind of thing that the picture has, one behind the other."""
         for entries in lines:
             x, y = 16, self.bottom + 36 + 20 * self.key_lines
             for kind, width, begins, words, sample in entries:
@@ -185,5 +184,5 @@ class Figure:
 
 
 def blank(x: int, y: int) -> str:
-    """No sample: the words say all."""
+    """Returns no sample, for an entry whose words say all."""
     return ""

@@ -17,13 +17,13 @@ ALIGNS = {"start": "left", "middle": "center", "end": "right"}
 
 
 def styles_of(css: str) -> dict[str, dict[str, str]]:
-    """The properties of each class."""
+    """Returns the properties of each class."""
     rules = re.findall(r"\.?(\w+){([^}]*)}", css)
     return {name: dict(part.split(":", 1) for part in body.split(";") if part) for name, body in rules}
 
 
 def elements_of(root: Any) -> Iterator[Any]:
-    """What is drawn, in its order, without groups."""
+    """Yields what is drawn, in its order, without groups."""
     for child in root:
         if child.tag == SVG + "g":
             yield from elements_of(child)
@@ -36,7 +36,7 @@ def numbers(element: Any, *keys: str) -> list[float]:
 
 
 def colour(said: str) -> Any:
-    """A colour of the picture's style as Matplotlib has it."""
+    """Returns a colour of the picture's style as Matplotlib has it."""
     found = re.fullmatch(r"rgb\((\d+),(\d+),(\d+)\)", said)
     return tuple(int(part) / 255 for part in found.groups()) if found else said
 
@@ -58,7 +58,7 @@ class Plot:
             getattr(self, tag[len(SVG) :])(list(elements), style, order)
 
     def style(self, classes: str) -> dict[str, str]:
-        """The properties of an element, by its classes."""
+        """Returns the properties of an element, by its classes."""
         found: dict[str, str] = {}
         for name in classes.split():
             found.update(self.styles.get(name, {}))
@@ -114,7 +114,7 @@ class Plot:
 
 
 def points(mark: Any) -> list[tuple[int, float, float]]:
-    """The corners of a mark's outline: 1 for a move and 2 for a line, and where."""
+    """Returns the corners of a mark's outline: 1 for a move or 2 for a line, and the position."""
     x = y = 0.0
     made = []
     for command, said in re.findall(r"([MmlhvV])([^A-Za-z]*)", mark.get("d")):
@@ -128,7 +128,7 @@ def points(mark: Any) -> list[tuple[int, float, float]]:
 
 
 def outline(mark: Any) -> Path:
-    """A mark as Matplotlib has it, with its first axis to the right and the second up."""
+    """Returns a mark as Matplotlib has it, with its second axis up."""
     if mark.get("r"):
         return Path.unit_circle()
     made = points(mark)
@@ -136,12 +136,12 @@ def outline(mark: Any) -> Path:
 
 
 def extent(mark: Any) -> float:
-    """How far a mark reaches from its place."""
+    """Returns how far a mark reaches from its position."""
     return float(mark.get("r")) if mark.get("r") else max(max(abs(x), abs(y)) for _, x, y in points(mark))
 
 
 def file_of(svg: str, format: str) -> bytes:
-    """A picture as a file of this format."""
+    """Returns a picture as a file of this format."""
     made = io.BytesIO()
     with matplotlib.rc_context({"pdf.fonttype": 42}):
         Plot(svg, 7.0).figure.savefig(made, format=format, dpi=200)

@@ -14,7 +14,7 @@ from ._trace import Decided, Lag, Quantum, quanta_of, words_of
 
 
 class Refused(Exception):
-    """The program refused a file: its fault, a number and a text, and its status."""
+    """A refusal by the program: the number and text of its fault, and its exit status."""
 
     def __init__(self, text: str, status: int) -> None:
         super().__init__(text)
@@ -22,13 +22,13 @@ class Refused(Exception):
 
 
 class Program(Rows):
-    """A task file, what was decided of its entries, and the rows of its slots, which are read as they come."""
+    """A task file, its decisions, and the rows of its slots, read as the program prints them."""
 
     def __init__(self, path: Union[str, "os.PathLike[str]"], program: Union[str, "os.PathLike[str]"]) -> None:
         self.path, self.program = os.fspath(path), os.fspath(program)
         if os.path.exists(path) and not os.path.isfile(path) and not os.path.isdir(path):
             self.keep_pipe()
-        # what is wrong in the file is for the program to say
+        # the program reads the file first, so that it reports what is wrong there
         rows = list(self.rows("decisions"))
         read = tables_of(self.path)
         self.processors, self.frame, self.slots = read["processors"], read["frame"], read["slots"]
@@ -44,7 +44,7 @@ class Program(Rows):
             self.told.append(Decision(int(slot), task, outcome, 0 if value == "-" else int(value), entry))
 
     def keep_pipe(self) -> None:
-        """Keeps what comes through a pipe in a file, since each command reads it anew."""
+        """Copies a pipe's contents to a file, since each command reads them anew."""
         self.kept = tempfile.NamedTemporaryFile()
         with open(self.path, "rb") as pipe:
             shutil.copyfileobj(pipe, self.kept)
@@ -52,7 +52,7 @@ class Program(Rows):
         self.path = self.kept.name
 
     def rows(self, *command: str) -> Iterator[list[str]]:
-        """The rows of a command, without their header."""
+        """Yields the rows of a command, without their header."""
         words = [self.program, *command, self.path]
         complaint = tempfile.TemporaryFile("w+", errors="replace")
         try:
@@ -98,7 +98,7 @@ class Program(Rows):
 
 
 def tables_of(path: str) -> Any:
-    """A task file by Python's reader, which comes with Python 3.11."""
+    """Reads a task file by Python's TOML reader, which comes with Python 3.11."""
     for name in ("tomllib", "tomli"):
         try:
             reader = importlib.import_module(name)

@@ -7,8 +7,7 @@ from ._trace import Lag, Source
 
 
 class Decision(NamedTuple):
-    """A decision at the boundary of a slot. `value` is the slot from which a departing task's weight is free, or the
-    number of a refusal; `entry` has the fields of the announcement by their keys."""
+    """A decision: `value` is a departure's freeing slot or a refusal's number, `entry` the announcement's fields."""
 
     slot: int
     task: str
@@ -23,9 +22,9 @@ class Rows(Source):
     frame: int
 
     def decided(self) -> Iterable[Decision]:
-        """All decisions."""
+        """Returns all decisions."""
         raise NotImplementedError
 
     def lags(self, start: int = 0) -> Iterable[Lag]:
-        """The lags at times after `start`."""
+        """Returns the lags at times after `start`."""
         raise NotImplementedError

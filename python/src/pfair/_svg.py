@@ -26,7 +26,7 @@ STYLE = """text{font:11px Helvetica,Arial,'DejaVu Sans',sans-serif;fill:#1f2933}
 .lag{fill:none;stroke:#0072b2;stroke-width:1.5;stroke-linecap:square}
 .past{fill:none;stroke:#c1121f;stroke-width:1.5;stroke-linecap:square}
 """
-# the marks that stand for decisions and lags, the hatched ground of weight that is held, and the white ground of all
+# the marks of decisions and lags, the hatching of held weights, and the white ground
 MARKS = """<defs><pattern id="hatch" width="5" height="5" patternUnits="userSpaceOnUse" patternTransform="rotate(45)">\
 <rect width="5" height="5" fill="#eef1f4"/><line y2="5" stroke="#8a94a1" stroke-width="1.5"/></pattern>
 <path id="join" d="M0 0l-3.5 6h7z" fill="#1f2933"/><path id="departure" d="M0 0l-3.5 -6h7z" fill="#1f2933"/>
@@ -39,7 +39,7 @@ MARKS = """<defs><pattern id="hatch" width="5" height="5" patternUnits="userSpac
 
 
 def document(width: int, height: int, title: str, told: str, processors: int, parts: Iterable[str]) -> str:
-    """An SVG document of these parts, with a style for each processor."""
+    """Returns an SVG document of these parts, with a style for each processor."""
     colours = "".join(f".p{place}{{fill:rgb({COLOURS[place % len(COLOURS)]})}}\n" for place in range(processors))
     size = f'width="{width}" height="{height}" viewBox="0 0 {width} {height}"'
     head = f'<svg xmlns="http://www.w3.org/2000/svg" {size} role="img">\n<title>{title}</title>\n<desc>{told}</desc>\n'
@@ -59,34 +59,34 @@ def line(x1: int, y1: int, x2: int, y2: int, style: str) -> str:
 
 
 def step(x1: int, y1: int, x2: int, y2: int, style: str) -> str:
-    """A line across from the first point, and then up or down to the second."""
+    """Returns a line across from the first point, and then up or down to the second."""
     return f'<path d="M{x1} {y1}H{x2}V{y2}" class="{style}"/>\n'
 
 
 def mark(x: int, y: int, name: str) -> str:
-    """A mark, by its name in MARKS."""
+    """Returns a mark, by its name in MARKS."""
     return f'<use href="#{name}" x="{x}" y="{y}"/>\n'
 
 
 def bar(x: int, y: int, width: int, height: int, style: str, told: str = "") -> str:
-    """A rectangle, and what a viewer shows where it is pointed at."""
+    """Returns a rectangle, and its tooltip if it has one."""
     shape = f'<rect x="{x}" y="{y}" width="{width}" height="{height}" class="{style}"'
     round = ' rx="2"' if style == "window" else ""
     return f"{shape}{round}><title>{escaped(told)}</title></rect>\n" if told else f"{shape}{round}/>\n"
 
 
 def group(told: str, *parts: str) -> str:
-    """Elements that are told of together."""
+    """Returns elements that share a tooltip."""
     return f"<g><title>{escaped(told)}</title>\n{''.join(parts)}</g>\n"
 
 
 def layer(name: str, parts: list[str]) -> str:
-    """Elements of one kind, by a name."""
+    """Returns elements of one kind, under its name."""
     return f'<g id="{name}">\n{"".join(parts)}</g>\n'
 
 
 def style_on(place: int) -> str:
-    """The style of words on the colour of a processor."""
+    """Returns the style of words on the colour of a processor."""
     return "on dark" if place % len(COLOURS) in LIGHT else "on"
 
 

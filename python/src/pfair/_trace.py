@@ -1,6 +1,6 @@
-"""Traces of schedules that viewers open: the Trace Event Format (chrome://tracing, Perfetto) and value change dumps (GTKWave).
+"""Traces for viewers: the Trace Event Format (Perfetto, chrome://tracing) and value change dumps (GTKWave).
 
-Nothing of the package or of numpy is used here, so that scripts/trace writes its traces by the same code.
+It uses nothing else of the package, and no numpy, so that scripts/trace writes its traces by the same code.
 """
 from __future__ import annotations
 
@@ -48,7 +48,7 @@ class Source:
     slots: int
 
     def names(self) -> list[str]:
-        """The tasks that were admitted, in the order of their first admission."""
+        """Returns the tasks that were admitted, in the order of their first admission."""
         raise NotImplementedError
 
     def decisions(self) -> Iterable[Decided]:
@@ -62,20 +62,20 @@ class Source:
 
 
 class Member:
-    """A task from its joining slot on, with the delays of its releases that were accepted."""
+    """A task from its joining slot on, with its accepted delays; a name that joins again is another one."""
 
     def __init__(self, cost: int, period: int, joined: int) -> None:
         self.cost, self.period, self.joined = cost, period, joined
         self.delays: list[tuple[int, int]] = []
 
     def window(self, index: int) -> tuple[int, int]:
-        """The slots in which a subtask opens and before which it closes."""
+        """Returns the window of a subtask: the slot in which it opens, and the one before which it closes."""
         theta = self.joined + sum(by for first, by in self.delays if first <= index)
         return theta + (index - 1) * self.period // self.cost, theta - (-index * self.period // self.cost)
 
 
 def words_of(kind: str, task: str, outcome: str, value: Any, entry: Any) -> str:
-    """A decision in words; `entry` has the fields of the announcement by their keys."""
+    """Returns a decision in words; `entry` has the fields of the announcement by their keys."""
     if outcome == "admitted":
         return f"{task} joins with {entry['cost']}/{entry['period']}"
     if outcome == "departing":
@@ -86,7 +86,7 @@ def words_of(kind: str, task: str, outcome: str, value: Any, entry: Any) -> str:
 
 
 class JsonTrace:
-    """The Trace Event Format, with times in microseconds; a slot takes so many milliseconds."""
+    """The Trace Event Format, with times in microseconds; a slot takes `slot` milliseconds."""
 
     def __init__(self, source: Source, slot: float, out: TextIO) -> None:
         self.source, self.slot, self.out, self.first = source, slot * 1000, out, True
@@ -123,7 +123,7 @@ class JsonTrace:
 
 
 class VcdTrace:
-    """A value change dump, with times in microseconds; a slot takes so many milliseconds."""
+    """A value change dump, with times in microseconds; a slot takes `slot` milliseconds."""
 
     def __init__(self, source: Source, slot: float, out: TextIO) -> None:
         self.source, self.slot, self.out = source, slot * 1000, out
@@ -159,7 +159,7 @@ class VcdTrace:
         return round(slot * self.slot)
 
     def change(self, slot: int, now: dict[int, str]) -> None:
-        """Writes what is other than before."""
+        """Writes the signals that differ from before."""
         running, named = ({text.rpartition("_")[0] for text in on.values()} for on in (self.on, now))
         changes = [f"s{now.get(place, '-')} {code}\n" for place, code in self.places.items() if now.get(place) != self.on.get(place)]
         changes += [f"1{self.tasks[name]}\n" for name in sorted(named - running)] + [f"0{self.tasks[name]}\n" for name in sorted(running - named)]
@@ -170,7 +170,7 @@ class VcdTrace:
 
 
 def code_of(number: int) -> str:
-    """The short code of a signal: printable bytes."""
+    """Returns the short code of a signal: printable bytes."""
     code = ""
     while True:
         code += chr(33 + number % 94)
@@ -180,8 +180,7 @@ def code_of(number: int) -> str:
 
 
 def quanta_of(rows: Iterable[tuple[int, int, str, int]], decisions: Iterable[tuple[int, str, str, Any]]) -> Iterator[Quantum]:
-    """Quanta with their windows: of quanta as (slot, place, task, index), and of decisions as (slot, task, outcome, entry), both in the
-    order of slots. A name that joins again is another task from then on."""
+    """Yields quanta with windows, from (slot, place, task, index) and (slot, task, outcome, entry), both by slot."""
     members: dict[str, Member] = {}
     waiting = iter(decisions)
     decided = next(waiting, None)

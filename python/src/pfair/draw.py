@@ -51,7 +51,7 @@ Exit status, by the numbers of the faults:
 
 
 class Fault(Exception):
-    """Nothing is drawn: a number and a text, and the status."""
+    """Ends the command: the number and text of a fault, and the exit status."""
 
     def __init__(self, text: str, status: int) -> None:
         super().__init__(text)
@@ -78,7 +78,7 @@ def number(text: str) -> int:
 
 
 def words_of(argv: Optional[list[str]]) -> argparse.Namespace:
-    """What the command line asks for."""
+    """Returns the options of the command line."""
     layout = functools.partial(argparse.RawDescriptionHelpFormatter, width=100)
     parser = Parser(NAME, USAGE, DESCRIPTION, EPILOG, formatter_class=layout, allow_abbrev=False, add_help=False)
     parser.add_argument("picture", choices=picture.PICTURES, help=argparse.SUPPRESS)
@@ -108,7 +108,7 @@ def words_of(argv: Optional[list[str]]) -> argparse.Namespace:
 
 
 def source_of(file: str, program: Optional[str]) -> Rows:
-    """The rows of a task file: of the program, or of the library."""
+    """Returns the rows of a task file, from the program or from the library."""
     if program is not None:
         return Program(file, program)
     from ._errors import PfairError, Stalled, TaskFileError
@@ -122,7 +122,7 @@ def source_of(file: str, program: Optional[str]) -> Rows:
 
 
 def drawn(words: argparse.Namespace, source: Rows) -> bytes:
-    """The bytes of what is asked for."""
+    """Returns the bytes of the picture."""
     start, stop = words.slots or (0, source.slots)
     if refused := picture.refusal(start, stop, source.slots):
         raise Fault(f"81 {refused}", 1)
@@ -133,7 +133,7 @@ def drawn(words: argparse.Namespace, source: Rows) -> bytes:
 
 
 def converted(svg: str, format: str) -> bytes:
-    """A picture in another format."""
+    """Returns a picture in another format."""
     if shutil.which("rsvg-convert"):
         words = ["rsvg-convert", "--unlimited", "--format", format, *(["--zoom", "2"] if format == "png" else [])]
         done = subprocess.run(words, input=svg.encode(), stdout=subprocess.PIPE, stderr=subprocess.PIPE)
@@ -149,7 +149,7 @@ def converted(svg: str, format: str) -> bytes:
 
 
 def write(content: bytes, out: Optional[str]) -> None:
-    """Writes all, or leaves a file as it was."""
+    """Writes the whole content, or leaves a file as it was."""
     if out is None:
         with open(1, "wb", buffering=0, closefd=False) as stdout:
             left = memoryview(content)
@@ -191,7 +191,25 @@ def draw(argv: Optional[list[str]], program: Optional[str]) -> None:
 
 
 def main(argv: Optional[list[str]] = None, program: Optional[str] = None) -> int:
-    """Runs the command by these words, with the program `pfair` or with the library. Returns the exit status."""
+    """Runs the command and returns its exit status.
+
+    Parameters
+    ----------
+    argv : list of str, optional
+        The words behind the command's name; by default those of the process.
+    program : str, optional
+        The program `pfair` whose rows are drawn, unless the command line names one; by default the library is used.
+
+    Returns
+    -------
+    int
+        0 if the picture is written, 1 to 5 for a fault, which is reported on standard error, or 130 after an interrupt.
+
+    Raises
+    ------
+    SystemExit
+        After `--help` or `--version`.
+    """
     try:
         draw(argv, program)
     except (Fault, Refused) as fault:

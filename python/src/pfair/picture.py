@@ -1,7 +1,7 @@
 """Pictures of schedules and of lags in SVG, and the page around one for a browser.
 
-A figure places bars, lines, words and marks by the rows of a source. Nothing of numpy or of the shared library is
-used here, so that scripts/pfair_picture draws by the same code with Python alone.
+A figure places bars, lines, words and marks by the rows of a source. It uses neither numpy nor the shared library, so
+that scripts/pfair_picture draws by the same code with Python alone.
 """
 from __future__ import annotations
 
@@ -17,7 +17,7 @@ from ._trace import Lag, Quantum
 PAST = "at or past a bound (late releases are not taken into account)"
 # the width of an entry of the key with nothing behind it
 LAST = 0
-#: What a picture can show.
+#: The kinds of pictures.
 PICTURES = ("schedule", "lags")
 PAGE = """<!DOCTYPE html>
 <html lang="en">
@@ -43,7 +43,7 @@ PAGE = """<!DOCTYPE html>
 
 
 def schedule_sizes(slots: int, tasks: int) -> Sizes:
-    """The more tasks and slots, the thinner the lanes."""
+    """Returns the sizes of a schedule: the more tasks and slots, the thinner the lanes."""
     wide, cell = slot_width(slots), 15 if slots <= 120 else 7
     if tasks <= 24 and slots <= 120:
         return Sizes(wide, 13, 7, 7, 2, 13, cell)
@@ -53,13 +53,13 @@ def schedule_sizes(slots: int, tasks: int) -> Sizes:
 
 
 def lag_sizes(slots: int, tasks: int) -> Sizes:
-    """A lane is as high as a lag of 1; above both there is room for a weight, and for lags past the bound."""
+    """Returns the sizes of lags: a lane is a lag of 1, with room above for a weight and for lags past the bound."""
     lane = 20 if tasks <= 24 else 14 if tasks <= 60 else 9
     return Sizes(slot_width(slots), lane, 8 + lane // 4, lane // 4, 0, 3, 0)
 
 
 def shortened(name: str, room: int) -> str:
-    """A name in the small letters of a processor's row, or as many of its first letters as there is room for."""
+    """Returns a name in the small letters of a processor's row, cut to its first letters if there is no room."""
     short = name
     while short and name_width(short) * 3 // 4 + (0 if short == name else 6) > room:
         short = short[:-1]
@@ -88,7 +88,7 @@ class ScheduleFigure(Figure):
         self.keys({quantum.place for quantum in quanta})
 
     def ran(self, source: Rows) -> list[Quantum]:
-        """The quanta in sight; each task is told the last of its subtasks that ran."""
+        """Returns the quanta in sight, and sets the last subtask that ran of each task."""
         waiting: dict[str, list[Life]] = {}
         for life in reversed(self.lives):
             waiting.setdefault(life.name, []).append(life)
@@ -105,11 +105,11 @@ class ScheduleFigure(Figure):
         return shown
 
     def lane_y(self, task: str, index: int) -> int:
-        """Odd subtasks lie above, even ones below."""
+        """Returns where the lane of a subtask begins: odd ones lie above, even ones below."""
         return self.y(self.row_of[task]) + self.sizes.above + (1 - index % 2) * (self.sizes.lane + 1)
 
     def bars(self, quanta: list[Quantum]) -> None:
-        """Weights that are held, lines from quanta to their windows, windows, and quanta by tasks and by processors."""
+        """Draws held weights, lines from quanta to their windows, windows, and quanta by tasks and by processors."""
         held = [mark for life in self.lives for mark in self.held(life)]
         ties = [mark for quantum in quanta for mark in self.tie(quantum)]
         windows = [mark for life in self.lives for mark in self.windows(life)]
@@ -124,7 +124,7 @@ class ScheduleFigure(Figure):
         self.parts += [*held, *ties, layer("windows", windows), layer("quanta", bars), layer("processors", cells)]
 
     def tie(self, quantum: Quantum) -> Iterator[str]:
-        """A line between a quantum and its window, if it lies apart from that."""
+        """Yields a line between a quantum and its window, if slots lie between them."""
         slot, opens, closes = quantum.slot, quantum.release, quantum.deadline
         y = self.lane_y(quantum.task, quantum.subtask) + self.sizes.lane // 2
         if slot + 1 < opens:
@@ -138,17 +138,17 @@ class ScheduleFigure(Figure):
             yield bar(x, self.lane_y(life.name, index), self.x(closes) - x, self.sizes.lane, self.window_style(), told)
 
     def window_style(self) -> str:
-        """With narrow slots outlines would fill the windows."""
+        """Returns the style of windows: outlines would fill narrow ones."""
         return "window" if self.sizes.slot >= 8 else "dense"
 
     def held(self, life: Life) -> Iterator[str]:
-        """The weight that a task holds from its departure until it is freed."""
+        """Yields the weight that a task holds from its departure until it is freed."""
         if life.leave is not None and life.freed is not None and self.x(life.leave) < self.x(life.freed):
             x, high = self.x(life.leave), 2 * self.sizes.lane + 1
             yield bar(x, self.lane_y(life.name, 1), self.x(life.freed) - x, high, "held", life.departure())
 
     def labels(self, quanta: list[Quantum]) -> None:
-        """The processors at the left, and what quanta have room for."""
+        """Draws the numbers of processors at the left, and the words that quanta have room for."""
         wide, lane, gap, cell = self.sizes.slot, self.sizes.lane, self.sizes.gap, self.sizes.cell
         has_names = wide >= 12
         for processor in range(self.processors):
@@ -167,7 +167,7 @@ class ScheduleFigure(Figure):
                 self.parts.append(text(x, self.cell_y(place) + cell - 4, style, short))
 
     def words_on(self, index: int, place: int) -> str:
-        """The index of a quantum, and its processor if colours repeat; nothing if there is no room."""
+        """Returns the index of a quantum, and its processor if colours repeat, as far as there is room."""
         digits, wide = len(str(index)), self.sizes.slot
         if self.sizes.lane < 10:
             return ""
@@ -176,7 +176,7 @@ class ScheduleFigure(Figure):
         return str(index) if 5 * max(digits, 2) + 2 < wide else ""
 
     def life_marks(self, life: Life) -> Iterator[str]:
-        """An arrow up where a task joins, and one down where it departs."""
+        """Yields an arrow up where a task joins, and one down where it departs."""
         top = self.y(self.row_of[life.name])
         bottom = top + self.lanes
         if life.joined >= self.start:
@@ -188,7 +188,7 @@ class ScheduleFigure(Figure):
             yield group(life.departure(), arrow(self.x(life.leave), top + 2, bottom - 4, bottom - 2, "departure"))
 
     def late_marks(self, life: Life) -> Iterator[str]:
-        """A stamp where it was said, and an arrow from the old window to the new one."""
+        """Yields a stamp where a late release is decided, with an arrow from the old window to the new one."""
         for slot, index, by, old in life.late:
             if slot >= self.start:
                 self.kinds.add("late")
@@ -199,7 +199,7 @@ class ScheduleFigure(Figure):
                 yield group(f"{life.name}, slot {slot}: from subtask {index} on later by {by}", *parts)
 
     def later(self, middle: int, old: int, index: int, by: int) -> Iterator[str]:
-        """The arrow of a late release, with its length if there is room."""
+        """Yields the arrow of a late release, with its length if there is room."""
         left, right = self.x(old), self.x(old + by)
         self.kinds.add("later")
         yield line(left, middle, right, middle, "late")
@@ -209,7 +209,7 @@ class ScheduleFigure(Figure):
             yield text((left + right) // 2, middle - 4 if index % 2 else middle + 11, "more", f"+{by}")
 
     def refusals(self, decided: list[Decision]) -> None:
-        """A cross for what was refused of a task at a slot, with the number, or how many there are."""
+        """Draws a cross for the refusals of a task at a slot, with the number of a single one, or their count."""
         refused: dict[tuple[int, str], list[int]] = {}
         for row in decided:
             if row.outcome == "refused" and row.slot >= self.start:
@@ -289,7 +289,7 @@ class LagsFigure(Figure):
         self.kinds.add("bounds")
 
     def steps(self, source: Rows, joined: set[tuple[str, int]]) -> None:
-        """A step for each lag in sight, from the one before it: 0 where the task has just joined."""
+        """Draws a step for each lag in sight, from the one before it: 0 if the task has just joined."""
         last: dict[str, tuple[int, bool]] = {}
         time = x1 = x2 = -1
         for lag in source.lags(max(0, self.start - 1)):
@@ -309,12 +309,12 @@ class LagsFigure(Figure):
             last[lag.task] = y, is_past
 
     def lag_y(self, lag: Lag) -> tuple[int, bool]:
-        """Where a lag is drawn, and whether it is further away than that."""
+        """Returns where a lag is drawn, and whether it is further away than that."""
         most, far = self.sizes.lane + self.sizes.lane // 4, abs(lag.numerator) * self.sizes.lane // lag.period
         return self.zero[lag.task] + (min(far, most) if lag.numerator < 0 else -min(far, most)), far > most
 
     def lag(self, x1: int, y1: int, x2: int, y2: int, was_past: bool, is_past: bool) -> str:
-        """A step, in red while the lag is at or past a bound, with a dot if there is room."""
+        """Returns a step, in red while the lag is at or past a bound, with a dot if there is room."""
         self.kinds.update(("past",) if was_past else (), ("lag",) if not (was_past and is_past) else ())
         if was_past and not is_past:
             drawn = line(x1, y1, x2, y1, "past") + line(x2, y1, x2, y2, "lag")
@@ -327,7 +327,7 @@ class LagsFigure(Figure):
         return drawn + mark(x2, y2, dot)
 
     def beyond(self, lag: Lag, x: int, y: int) -> str:
-        """A triangle for a lag that is further than is drawn, with its number if there is room."""
+        """Returns a triangle for a lag that is further than is drawn, with its value if there is room."""
         name = "below" if lag.numerator < 0 else "above"
         self.kinds.add(name)
         if self.sizes.slot < 28:
@@ -341,7 +341,7 @@ class LagsFigure(Figure):
         kinds.update(["far"] if kinds & {"past", "outside"} else [])
 
         def both(style: str, dot: str) -> Callable[[int, int], str]:
-            """A line, a dot or both, as the lags have them."""
+            """Returns the sample of a line, a dot or both, as the lags have them."""
 
             def drawn(x: int, y: int) -> str:
                 drawn_line = across(style)(x, y) if style in kinds else ""
@@ -365,7 +365,7 @@ class LagsFigure(Figure):
 
 
 def across(style: str) -> Callable[[int, int], str]:
-    """A line of a style, as the key has it."""
+    """Returns the sample of a line of a style."""
     return lambda x, y: line(x, y + 6, x + 24, y + 6, style)
 
 
@@ -374,7 +374,7 @@ def late_sample(x: int, y: int) -> str:
 
 
 def refusal(start: int, stop: int, slots: int) -> str:
-    """Why no picture of a run of so many slots shows `start` to `stop - 1`, or nothing if one does."""
+    """Returns why no picture of a run of so many slots shows `start` to `stop - 1`, or nothing if one does."""
     if start >= stop:
         return f"slots from {start} to before {stop} refused: there are none"
     if stop > slots:
@@ -385,9 +385,28 @@ def refusal(start: int, stop: int, slots: int) -> str:
 
 
 def svg(source: Rows, picture: str = "schedule", start: int = 0, stop: Optional[int] = None) -> str:
-    """Returns a picture of slots `start` to `stop - 1` (of all, 4,096 at most), the "schedule" or the "lags", in SVG.
+    """Returns a picture of slots `start` to `stop - 1` in SVG.
 
-    Raises ValueError if there is no such picture, or if it can't show these slots.
+    Parameters
+    ----------
+    source : Rows
+        The rows of a run.
+    picture : str
+        "schedule" or "lags".
+    start : int
+        The first slot, from 0.
+    stop : int, optional
+        The slot behind the last one, at most 4,096 behind `start`; by default the number of slots of the run.
+
+    Returns
+    -------
+    str
+        An SVG document.
+
+    Raises
+    ------
+    ValueError
+        If there is no such picture, or if it can't show these slots.
     """
     end = source.slots if stop is None else stop
     if picture not in PICTURES:
@@ -398,7 +417,18 @@ def svg(source: Rows, picture: str = "schedule", start: int = 0, stop: Optional[
 
 
 def page(picture: str) -> str:
-    """Returns the page around a picture, to zoom, move and point at in a browser: HTML that asks for no other file."""
+    """Returns a page around a picture, to zoom, move and point at in a browser.
+
+    Parameters
+    ----------
+    picture : str
+        An SVG document, as `svg` makes it.
+
+    Returns
+    -------
+    str
+        HTML that loads no other file.
+    """
     folder = pathlib.Path(__file__).parent
     css, js = ((folder / name).read_text(encoding="utf-8") for name in ("page.css", "page.js"))
     return PAGE.format(css, picture, js)
