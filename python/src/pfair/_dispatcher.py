@@ -60,7 +60,7 @@ def windows(cost: int, period: int, count: int, first: int = 1, theta: int = 0) 
     ZeroCost, CostOverPeriod, PeriodTooLong
         If the weight is out of its range.
     OutOfRange
-        If `first`, `count` or `theta` is out of its range, or any number is negative.
+        If `first`, `count` or `theta` is out of its range, or a number is negative or too large for its type in C.
 
     Notes
     -----
@@ -156,7 +156,7 @@ class Dispatcher:
 
     Once it is closed, calls and properties raise `NotOpen`, except `close`, and `absorb` and `is_below` with itself. A
     call that raises has changed nothing, unless its description says otherwise. After `Torn`, `Spent` or `OutOfMemory`
-    a dispatcher still takes entries and returns what it holds and has planned.
+    a dispatcher still takes entries, and returns its contents and what was planned.
     """
 
     def __init__(self, processors: int, frame: int, slots: int, capacity: int = 4096) -> None:
@@ -222,7 +222,12 @@ class Dispatcher:
         return number.value
 
     def close(self) -> None:
-        """Frees the dispatcher; a second call does nothing."""
+        """Frees the dispatcher; a second call does nothing.
+
+        Notes
+        -----
+        O(e + t + r) for e entries, t tasks, and r quanta and decisions of the planned slots.
+        """
         with self._lock:
             if self._handle.is_open:
                 check(library.pfair_close(self._handle))

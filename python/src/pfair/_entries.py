@@ -156,7 +156,7 @@ def rows_of(entries: Union[Sequence[Entry], Rows]) -> Rows:
     Raises
     ------
     TypeError
-        If an array has another dtype or more than one dimension, or a field that counts isn't a whole number.
+        If an array has another dtype or isn't one-dimensional, or a field that counts isn't a whole number.
     OutOfRange
         If a kind is unknown, or a number is negative or at least 2**64.
     NameBadByte
