@@ -1,5 +1,5 @@
 //! What each worker does.
-ghost use Rattle.std.specs.Prelude.{◌≡◌, ◌≤◌, ◌+◌, [], false, length, IfOk, IfErr, OnOk};
+ghost use Rattle.std.specs.Prelude.{◌≡◌, ◌≤◌, ◌+◌, [], false, true, length, IfOk, IfErr, OnOk};
 ghost use Rattle.pfair_replica.specs.HeldRows.{replica_of};
 ghost use Rattle.pfair_table.specs.Table.{plan};
 ghost use Rattle.pfair_desk.specs.Desks.{IsDeskOf, GrownDesk};
@@ -185,8 +185,9 @@ impl<R: Ready, K: Sink> Worker<R, K> {
         ensures fault { IfErr result (IsPlanningFault G.may_give_up) }
     {
         let replica = desk.replica();
-        let settled = replica.frontier().min(self.planner.settings().slots());
-        for _ in rt.forever() {
+        let slots = self.planner.settings().slots();
+        let settled = replica.frontier().min(slots);
+        for planned in 0..slots + 1 {
             let slot = self.planner.next_slot();
             if slot < settled && !gate.come(rt, desk.proc(), slot) {
                 return Err(RunFault::GateGaveUp);
@@ -195,7 +196,9 @@ impl<R: Ready, K: Sink> Worker<R, K> {
                 return Ok(());
             }
         }
-        Ok(())
+        // each turn has planned a slot, and a run has no more than these
+        prove!(self.planner.next_slot() <= self.planner.settings().slots());
+        unreachable!()
     }
 
     // Plans the next slot, if the desk settles it, and hands its table to the sink. Returns whether
@@ -205,6 +208,7 @@ impl<R: Ready, K: Sink> Worker<R, K> {
         ensures settings { self.new.planner.settings ≡ self.old.planner.settings }
         ensures at_work { OnOk result (IsAtWork K.has self.new.planner self.new.sink desk.now) }
         ensures all { IfOk result (λ more. more ≡ false → HasPlanned self.new.planner desk.now) }
+        ensures more { IfOk result (λ more. more ≡ true → length self.new.planner.tables ≡ length self.old.planner.tables + 1) }
     {
         let slot = self.planner.next_slot();
         let room = mem::replace(&mut self.room, Vec::new(self.alloc));
