@@ -7,6 +7,17 @@ use pfair_table::{Dispatcher, Event, PlanFault, Step};
 use pfair_weight::TaskName;
 use std::alloc::AllocError;
 
+/// Puts a number behind the text.
+pub(crate) fn push_number(text: &mut String, number: u64) -> Result<(), AllocError> {
+    write!(text, "{number}")
+}
+
+/// Puts a word and a number behind the text.
+pub(crate) fn push_with(text: &mut String, word: &str, number: u64) -> Result<(), AllocError> {
+    text.push_str(word)?;
+    push_number(text, number)
+}
+
 // Puts the name behind the text.
 fn push_name(text: &mut String, name: &TaskName) -> Result<(), AllocError> {
     for byte in name.as_bytes() {
@@ -27,7 +38,7 @@ pub(crate) fn push_tables<R: Ready>(
                 text.push(' ')?;
             }
             push_name(text, &pick.name)?;
-            write!(text, "{}", pick.index)?;
+            push_number(text, pick.index)?;
         }
         text.push(']')?;
     }
@@ -45,7 +56,7 @@ pub(crate) fn push_places<R: Ready>(
             if row > 0 {
                 text.push(' ')?;
             }
-            write!(text, "{place}")?;
+            push_number(text, *place as u64)?;
         }
         text.push(']')?;
     }
@@ -56,9 +67,9 @@ pub(crate) fn push_places<R: Ready>(
 fn push_decision(text: &mut String, decision: Decision) -> Result<(), AllocError> {
     match decision {
         Decision::Admitted => text.push_str("admitted")?,
-        Decision::Departing { freed_at } => write!(text, "departing {freed_at}")?,
+        Decision::Departing { freed_at } => push_with(text, "departing ", freed_at)?,
         Decision::Delayed => text.push_str("delayed")?,
-        Decision::Refused(refusal) => write!(text, "refused {}", refusal.number())?,
+        Decision::Refused(refusal) => push_with(text, "refused ", refusal.number() as u64)?,
     }
     Ok(())
 }
@@ -75,7 +86,9 @@ pub(crate) fn push_decisions<R: Ready>(
             if place > 0 {
                 text.push_str(", ")?;
             }
-            write!(text, "{}.{} ", decided.proc, decided.number)?;
+            push_number(text, decided.proc as u64)?;
+            push_with(text, ".", decided.number as u64)?;
+            text.push(' ')?;
             push_name(text, &decided.announcement.name())?;
             text.push(' ')?;
             push_decision(text, decided.decision)?;
@@ -100,11 +113,11 @@ pub(crate) fn push_answer<R: Ready>(
             Ok(Taken::New) => text.push_str("new")?,
             Ok(Taken::Known) => text.push_str("known")?,
             Ok(Taken::Torn) => text.push_str("torn")?,
-            Err(fault) => write!(text, "fault {}", fault.number())?,
+            Err(fault) => push_with(text, "fault ", fault.number() as u64)?,
         },
         Event::Absorb(other) => match dispatcher.absorb(other) {
             Ok(()) => text.push_str("merged")?,
-            Err(fault) => write!(text, "fault {}", fault.number())?,
+            Err(fault) => push_with(text, "fault ", fault.number() as u64)?,
         },
         Event::Plan => push_planned(text, dispatcher.plan_next())?,
     }
@@ -114,11 +127,14 @@ pub(crate) fn push_answer<R: Ready>(
 // Puts what a plan answers behind the text.
 fn push_planned(text: &mut String, answer: Result<Step, PlanFault>) -> Result<(), AllocError> {
     match answer {
-        Ok(Step::Planned(slot)) => write!(text, "slot {slot}")?,
-        Ok(Step::Waiting { frontier }) => write!(text, "waiting {frontier}")?,
+        Ok(Step::Planned(slot)) => push_with(text, "slot ", slot)?,
+        Ok(Step::Waiting { frontier }) => push_with(text, "waiting ", frontier)?,
         Ok(Step::Done) => text.push_str("done")?,
-        Err(PlanFault::Torn { proc, number }) => write!(text, "fault 30 at {proc}.{number}")?,
-        Err(fault) => write!(text, "fault {}", fault.number())?,
+        Err(PlanFault::Torn { proc, number }) => {
+            push_with(text, "fault 30 at ", proc as u64)?;
+            push_with(text, ".", number as u64)?;
+        }
+        Err(fault) => push_with(text, "fault ", fault.number() as u64)?,
     }
     Ok(())
 }
