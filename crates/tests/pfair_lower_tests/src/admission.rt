@@ -4,6 +4,7 @@ ghost use Rattle.std.specs.Prelude.{◌<◌, IfOk};
 ghost use Rattle.std.specs.List.{AllByRecursion};
 ghost use Rattle.pfair_entry.specs.Entry.{IsWithinLimits};
 
+use crate::weight::assert_text;
 use pfair_admission::{Decision, Members, Refusal};
 use pfair_entry::{Announcement, Said};
 use pfair_weight::{TaskName, Weight};
@@ -73,7 +74,7 @@ fn as_many_as_there_may_be(rt: HostRuntime) {
 }
 
 #[test]
-fn refusals_have_texts(rt: HostRuntime) -> Result<(), AllocError> {
+fn refusals_have_texts(rt: HostRuntime) {
     for (refusal, text) in [
         (Refusal::NameTaken, "20 name taken"),
         (Refusal::PeriodOutsideFrame, "21 period outside frame"),
@@ -82,8 +83,6 @@ fn refusals_have_texts(rt: HostRuntime) -> Result<(), AllocError> {
         (Refusal::AlreadyDeparting, "24 already departing"),
         (Refusal::AlreadyReleased, "25 already released"),
     ] {
-        let line = format!(in rt.alloc(); "{} {refusal}", refusal.number())?;
-        assert_eq!(&rt; line.as_str(), text);
+        assert_text(&rt, rt.alloc(), refusal.number(), &refusal, text);
     }
-    Ok(())
 }

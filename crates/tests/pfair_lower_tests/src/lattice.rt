@@ -1,34 +1,24 @@
 //! A worked join of maps that nest three deep.
 
 use pfair_lattice::{Flat, Join, JoinMap};
-use std::alloc::{AllocError, Global};
+use std::alloc::Global;
 use std::process::Abort;
 
 type Row = JoinMap<u64, Flat<u8>>;
 
-type Rows = JoinMap<u64, Row>;
+type Deep = JoinMap<u64, JoinMap<u64, Row>>;
 
-type Deep = JoinMap<u64, Rows>;
+// The map that holds one value.
+fn single<V: Join>(rt: &impl Abort, alloc: Global, key: u64, value: &V) -> JoinMap<u64, V> {
+    let mut map = JoinMap::new(alloc);
+    map.put(key, value).expect(rt, "memory");
+    map
+}
 
 // `{1: {1: {number: One(content)}}}`
-fn deep(alloc: Global, number: u64, content: u8) -> Result<Deep, AllocError> {
-    let rows = rows(alloc, number, content)?;
-    let mut deep = Deep::new(alloc);
-    deep.put(1, &rows)?;
-    Ok(deep)
-}
-
-fn rows(alloc: Global, number: u64, content: u8) -> Result<Rows, AllocError> {
-    let row = row(alloc, number, content)?;
-    let mut rows = Rows::new(alloc);
-    rows.put(1, &row)?;
-    Ok(rows)
-}
-
-fn row(alloc: Global, number: u64, content: u8) -> Result<Row, AllocError> {
-    let mut row = Row::new(alloc);
-    row.put(number, &Flat::One(content))?;
-    Ok(row)
+fn deep(rt: &impl Abort, alloc: Global, number: u64, content: u8) -> Deep {
+    let row = single(rt, alloc, number, &Flat::One(content));
+    single(rt, alloc, 1, &single(rt, alloc, 1, &row))
 }
 
 fn row_of(deep: &Deep) -> Option<&Row> {
@@ -44,7 +34,7 @@ fn assert_joined(rt: &impl Abort, x: &mut Deep, y: &Deep) {
 
 #[test]
 fn joins_three_deep(rt: HostRuntime) {
-    let mut x = deep(rt.alloc(), 1, 5).expect(&rt, "memory");
-    let y = deep(rt.alloc(), 2, 6).expect(&rt, "memory");
+    let mut x = deep(&rt, rt.alloc(), 1, 5);
+    let y = deep(&rt, rt.alloc(), 2, 6);
     assert_joined(&rt, &mut x, &y);
 }

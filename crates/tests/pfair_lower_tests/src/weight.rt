@@ -2,7 +2,9 @@
 ghost use Rattle.std.specs.Prelude.{◌≤◌, ◌<◌};
 
 use pfair_weight::{Stepper, TaskName, Weight, b_bit, deadline, group_deadline, release};
-use std::test::Fail;
+use std::alloc::Global;
+use std::fmt::Display;
+use std::process::Abort;
 
 // Release, deadline, b-bit and group deadline.
 type Window = (u64, u64, u64, u64);
@@ -38,16 +40,27 @@ fn the_last_window_of_the_longest_period(rt: HostRuntime) {
     );
 }
 
+/// Asserts the number and the text of a fault.
+pub(crate) fn assert_text<D: Display>(
+    rt: &impl Abort,
+    alloc: Global,
+    number: u8,
+    fault: &D,
+    text: &str,
+) {
+    let shown = format!(in alloc; "{number} {fault}").expect(rt, "memory");
+    assert_eq!(rt; shown.as_str(), text);
+}
+
 #[test]
-fn faults_have_texts(rt: HostRuntime) -> Result<(), Fail> {
+fn faults_have_texts(rt: HostRuntime) {
     for (cost, period, text) in [
         (0, 5, "4 zero cost"),
         (5, 3, "5 cost over period"),
         (1, 1_000_000_001, "6 period too long"),
     ] {
         let fault = Weight::new(cost, period).expect_err(&rt, "a fault");
-        let shown = format!(in rt.alloc(); "{} {fault}", fault.number())?;
-        assert_eq!(&rt; shown.as_str(), text);
+        assert_text(&rt, rt.alloc(), fault.number(), &fault, text);
     }
     for (name, text) in [
         ("", "1 empty name"),
@@ -55,10 +68,8 @@ fn faults_have_texts(rt: HostRuntime) -> Result<(), Fail> {
         ("a-b", "3 bad byte at 1"),
     ] {
         let fault = TaskName::from_bytes(name.as_bytes()).expect_err(&rt, "a fault");
-        let shown = format!(in rt.alloc(); "{} {fault}", fault.number())?;
-        assert_eq!(&rt; shown.as_str(), text);
+        assert_text(&rt, rt.alloc(), fault.number(), &fault, text);
     }
-    Ok(())
 }
 
 #[test]
