@@ -10,7 +10,7 @@ use Rattle.pfair_replica.specs.declared.answer.TakeFault.{TakeFault}
 use Rattle.pfair_replica.specs.declared.answer.Taken.TheVariants.{New, Known, Torn as TornNumber}
 use Rattle.pfair_replica.specs.declared.answer.MergeFault.TheVariants.{Memory as OutOfMemory}
 use Rattle.pfair_table.specs.Refinement.{Dispatch, course_of, IsStepOf, IsPlanFault, after_fault}
-use Rattle.pfair_table.specs.PlanFault.{plan_fault_number}
+use Rattle.pfair_table.specs.Faults.{plan_fault_number}
 use Rattle.pfair_table.specs.declared.answer.Step.{Step}
 use Rattle.pfair_table.specs.declared.answer.Step.TheVariants.{Planned, Waiting, Done}
 use Rattle.pfair_table.specs.declared.answer.PlanFault.TheVariants.{Torn, Spent, Memory}

@@ -5,11 +5,10 @@ ghost use Rattle.pfair_handle.specs.Behind.{Of};
 ghost use Rattle.pfair_c.specs.Files.{IsReadFrom, IsFileFault, at_key, fault_row, field_number};
 
 use crate::open::put_new;
-use pfair_file::{Field, FileFault, read_file};
+use pfair_file::{Field, FileFault, LONGEST_FILE, read_file};
 use pfair_handle::Handle;
 use pfair_handle::answer::{FILE_TOO_LONG, MEMORY, OPEN_ALREADY};
 use pfair_table::take_script;
-use pfair_text::LONGEST_FILE;
 use std::alloc::Global;
 
 /// The place of a task file's fault.

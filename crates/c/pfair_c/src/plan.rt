@@ -4,7 +4,7 @@ ghost use Rattle.pfair_replica.specs.HeldRows.{replica_of};
 ghost use Rattle.pfair_replica.specs.Replica.{frontier, has_torn};
 ghost use Rattle.pfair_handle.specs.Kept.{is_kept};
 ghost use Rattle.pfair_handle.specs.Behind.{Of, Between};
-ghost use Rattle.pfair_table.specs.PlanFault.{plan_fault_number};
+ghost use Rattle.pfair_table.specs.Faults.{plan_fault_number};
 ghost use Rattle.pfair_c.specs.Answers.{IsPlannedTo, IsRefusedTo, IsPlannedUpTo, IsStoppedAt, step_row, fault_row};
 
 use crate::open::{change, tell};

@@ -19,8 +19,8 @@ use Rattle.pfair_table.specs.Table.{Settings}
 use Rattle.std.specs.Prelude.{Result, Ok, Err, IsErrAnd, IfErr}
 use Rattle.std.proofs.Common.{subst}
 use Rattle.pfair_replica.specs.Replica.{frontier}
-use Rattle.pfair_table.specs.declared.single.ScriptFault.{ScriptFault}
-use Rattle.pfair_table.specs.declared.single.ScriptFault.TheVariants.{Stalled}
+use Rattle.pfair_table.specs.declared.run_fault.RunFault.{RunFault}
+use Rattle.pfair_table.specs.declared.run_fault.RunFault.TheVariants.{Stalled}
 use Rattle.pfair_table.specs.ScriptRun.{IsScriptFaultOf}
 use Rattle.pfair_table.specs.Script.{LoggedRun, IsLoggedRun, is_short, lists_of, entry_of, row_of, contents_of, held_of, replica_of_logs, capacity_of}
 
@@ -142,7 +142,7 @@ script_whole logs k n h = row_whole (slice_get logs k) n h
 -- ---- why a script isn't run
 
 -- a script stalls where its frontier is too low
-pub stalls : {T : Type 0} (run : LoggedRun) (r : Result T ScriptFault) (fault : ScriptFault) (mark slots : ℕ) → IsErrAnd r (λ e. e ≡ fault) → mark ≡ frontier (replica_of_logs run.logs) → slots ≡ run.settings.slots
+pub stalls : {T : Type 0} (run : LoggedRun) (r : Result T RunFault) (fault : RunFault) (mark slots : ℕ) → IsErrAnd r (λ e. e ≡ fault) → mark ≡ frontier (replica_of_logs run.logs) → slots ≡ run.settings.slots
     → (fault ≡ Stalled mark) × (mark < slots) → IfErr r (IsScriptFaultOf run)
 stalls run (Ok x) fault mark slots own mark_is slots_are stalled = absurd own
 stalls run (Err e) fault mark slots own mark_is slots_are stalled = subst (IsScriptFaultOf run) (sym (own ∙ stalled.0)) (mark_is, (let below = stalled.1 in omega (arith, below, slots_are)))

@@ -11,7 +11,7 @@ pub mod SlotPlans
 pub mod Laws
 pub mod EventLaws
 pub mod Queue
-pub mod PlanFault
+pub mod Faults
 pub mod Planned
 pub mod Refinement
 pub mod PlaceLaws

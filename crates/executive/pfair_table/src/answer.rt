@@ -1,7 +1,7 @@
 //! What a plan answers.
 
 ghost use Rattle.std.specs.Prelude.{◌≡◌};
-ghost use Rattle.pfair_table.specs.PlanFault.{plan_fault_number};
+ghost use Rattle.pfair_table.specs.Faults.{plan_fault_number};
 
 use thiserror::Error;
 

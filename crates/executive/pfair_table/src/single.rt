@@ -4,62 +4,26 @@ ghost use Rattle.std.specs.Prelude.{◌≡◌, ◌+◌, ◌<◌, ◌≤◌, List
 ghost use Rattle.pfair_replica.specs.HeldRows.{replica_of};
 ghost use Rattle.pfair_table.specs.Refinement.{IsWholePlan};
 ghost use Rattle.pfair_table.specs.Script.{held_of, replica_of_logs};
-ghost use Rattle.pfair_table.specs.ScriptRun.{IsRunOf, IsScriptFaultOf, script_fault_number};
-ghost use Rattle.pfair_table.specs.declared.single.ScriptFault.TheVariants.{Stalled};
+ghost use Rattle.pfair_table.specs.ScriptRun.{IsRunOf, IsScriptFaultOf};
+ghost use Rattle.pfair_table.specs.declared.run_fault.RunFault.TheVariants.{Stalled};
 ghost use Rattle.pfair_entry.specs.Entry.{Logged};
 
 use crate::answer::{PlanFault, Step};
 use crate::dispatcher::Dispatcher;
 use crate::run::offer;
+use crate::run_fault::RunFault;
 use crate::script::Script;
 use pfair_entry::Entry;
 use pfair_ready::Ready;
 use std::alloc::{AllocError, Global};
-use thiserror::Error;
-
-/// Why a script was not run to its end.
-#[derive(Clone, Copy, Debug, PartialEq, Eq, Error)]
-pub enum ScriptFault {
-    /// The logs settle only the slots below this one, which is one of the run's.
-    #[error("stalled at slot {slot}")]
-    Stalled {
-        /// The frontier of the logs.
-        slot: u64,
-    },
-    /// An allocation failed.
-    #[error("out of memory")]
-    Memory,
-}
-
-impl ScriptFault {
-    /// Returns the number under which the fault is reported: 52 and 90, in the order of the variants.
-    pub fn number(&self) -> u8
-        ensures { result ≡ script_fault_number self.now }
-    {
-        match self {
-            ScriptFault::Stalled { .. } => 52,
-            ScriptFault::Memory => 90,
-        }
-    }
-}
-
-impl From<AllocError> for ScriptFault {
-    ghost use Rattle.pfair_table.specs.declared.single.ScriptFault.TheVariants.{Memory};
-
-    ghost from_gives = { λ _ e. e ≡ Memory };
-
-    fn from(_error: AllocError) -> ScriptFault {
-        ScriptFault::Memory
-    }
-}
 
 /// Returns a dispatcher that has taken every entry of a script's logs and planned all slots of the
 /// run. O(e log e) for e entries, and the cost of planning all slots.
 ///
 /// # Errors
-/// [`ScriptFault::Stalled`] if the frontier of the logs, which is that slot, is below the number of
-/// slots. [`ScriptFault::Memory`] if an allocation fails.
-pub fn run_script<R: Ready>(alloc: Global, script: &Script) -> Result<Dispatcher<R>, ScriptFault>
+/// [`RunFault::Stalled`] if the frontier of the logs, which is that slot, is below the number of
+/// slots. [`RunFault::Memory`] if an allocation fails.
+pub fn run_script<R: Ready>(alloc: Global, script: &Script) -> Result<Dispatcher<R>, RunFault>
     ensures ok { IfOk result (IsRunOf script.now) }
     ensures standing { IfOk result (λ d. d.forgotten ≡ 0) }
     ensures fault { IfErr result (IsScriptFaultOf script.now) }
@@ -68,7 +32,7 @@ pub fn run_script<R: Ready>(alloc: Global, script: &Script) -> Result<Dispatcher
     check_settled(dispatcher.replica().frontier(), script.settings().slots())?;
     match plan_all(&mut dispatcher) {
         Ok(()) => Ok(dispatcher),
-        Err(_) => Err(ScriptFault::Memory),
+        Err(_) => Err(RunFault::Memory),
     }
 }
 
@@ -94,12 +58,12 @@ pub fn take_script<R: Ready>(alloc: Global, script: &Script) -> Result<Dispatche
 }
 
 /// That a frontier is not below the number of slots.
-pub(crate) fn check_settled(frontier: u64, slots: u64) -> Result<(), ScriptFault>
+pub(crate) fn check_settled(frontier: u64, slots: u64) -> Result<(), RunFault>
     ensures settled { OnOk result (slots ≤ frontier) }
     ensures stalled { IfErr result (λ fault. (fault ≡ Stalled frontier) × (frontier < slots)) }
 {
     if frontier < slots {
-        return Err(ScriptFault::Stalled { slot: frontier });
+        return Err(RunFault::Stalled { slot: frontier });
     }
     Ok(())
 }

@@ -3,13 +3,18 @@
 ghost use Rattle.std.specs.Prelude.{◌≡◌, ◌≤◌, [], false, IfOk, IfErr, OnOk, None, length};
 ghost use Rattle.pfair_replica.specs.Replica.{Below, has_torn};
 ghost use Rattle.pfair_replica.specs.HeldRows.{SameShape, replica_of};
+ghost use Rattle.pfair_table.specs.Script.{replica_of_logs};
+ghost use Rattle.pfair_table.specs.ScriptRun.{IsBySlot, IsScriptFaultOf};
 ghost use Rattle.pfair_table.specs.Refinement.{after_fault, IsPlanFault, IsWholePlan};
 ghost use Rattle.pfair_table.specs.SlotPlans.{IsNextPlan, after_plan, seeing};
 
 use crate::answer::PlanFault;
 use crate::pick::Pick;
 use crate::planner::Planner;
+use crate::run_fault::RunFault;
+use crate::script::Script;
 use crate::settings::Settings;
+use crate::single::{check_settled, take_script};
 use crate::slot::SlotPlan;
 use pfair_ready::Ready;
 use pfair_replica::Replica;
@@ -36,6 +41,8 @@ pub struct SlotPlanner<R: Ready> {
 impl<R: Ready> Model for SlotPlanner<R> {
     ghost use Rattle.pfair_replica.specs.HeldRows.{replica_of};
     ghost use Rattle.pfair_table.specs.Readings.{AreReadingsOf};
+    ghost use Rattle.pfair_table.specs.Script.{replica_of_logs};
+    ghost use Rattle.pfair_table.specs.ScriptRun.{IsBySlot, IsScriptFaultOf};
     ghost use Rattle.pfair_table.specs.Refinement.{Dispatch, IsKept};
     ghost use Rattle.pfair_table.specs.SlotPlans.{tables_to, decided_to};
 
@@ -71,6 +78,28 @@ impl<R: Ready> SlotPlanner<R> {
             seen: Snapshot::of(replica),
             of: Snapshot::of(replica),
         })
+    }
+
+    /// Returns a replica of every entry of a script's logs, which settles all slots of the run, and a
+    /// planner before its first slot. O(e log e) for e entries.
+    ///
+    /// # Errors
+    /// [`RunFault::Stalled`] if the frontier of the logs, which is that slot, is below the number of
+    /// slots. [`RunFault::Memory`] if an allocation fails.
+    pub fn of_script(alloc: Global, script: &Script) -> Result<(Replica, SlotPlanner<R>), RunFault>
+        ensures settings { IfOk result (λ r. r.1.settings ≡ script.now.settings) }
+        ensures held { IfOk result (λ r. replica_of r.0 ≡ replica_of_logs script.now.logs) }
+        ensures start { IfOk result (λ r. r.1.tables ≡ []) }
+        ensures able { IfOk result (λ r. IsBySlot r.0 r.1) }
+        ensures fault { IfErr result (IsScriptFaultOf script.now) }
+    {
+        let settings = script.settings();
+        let replica = take_script::<R>(alloc, script)?.into_replica();
+        // a replica holds entries of its own logs
+        prove!(replica.processors() >= 1);
+        check_settled(replica.frontier(), settings.slots())?;
+        let planner = SlotPlanner::new(alloc, settings, &replica)?;
+        Ok((replica, planner))
     }
 
     /// Returns the processors, frame and slots that it plans for.

@@ -28,10 +28,6 @@ keeps_all None new bs e k = tt
 keeps_all (Some xs) None bs e k = k
 keeps_all (Some xs) (Some ys) bs e k = k ∙ sym (append-nil xs) ∙ ap (λ l. xs ++ l) (sym e)
 
-pub keeps_self : (w : Option (List ℕ)) → Keeps w w
-keeps_self None = tt
-keeps_self (Some xs) = refl
-
 -- nothing happens
 pub stays : (f : Follow) (old new : Option (List ℕ)) → IsCaughtUp f → Keeps old new → HasGoneOn f f old new
 stays f old new caught k = record {

@@ -2,6 +2,7 @@
 use Rattle.std.proofs.Common.{ℕ, ◌≡◌, ◌≢◌, refl, sym, ap, subst, ◌∙◌, List, Option, Ok, Err, true, false, inl, inr}
 use Rattle.std.specs.Prelude.{◌⊎◌}
 use Rattle.std.specs.Io.KnownBytes.{Keeps}
+use Rattle.std.proofs.KnownBytes.{Keeps-refl}
 use Rattle.pfair_text.specs.Output.{TakesPrefix}
 use Rattle.pfair_entry.specs.Entry.{Logged}
 use Rattle.pfair_entry_row.specs.declared.fault.RowFault.{RowFault}
@@ -11,12 +12,11 @@ use Rattle.pfair_replica.specs.HeldRows.{replica_of}
 use Rattle.pfair_replica.specs.Offered.{taken}
 use Rattle.pfair_replica.specs.Replica.{Replica}
 use Rattle.pfair_feed.specs.Follow.{Follow, IsSameRun, IsStopOf, news}
-use Rattle.pfair_feed.specs.declared.follow_fault.FollowFault.{FollowFault}
-use Rattle.pfair_feed.specs.declared.follow_fault.FollowFault.TheVariants.{NoSuchProcessor, NumberOutOfRange, Torn, Spent, WriteFailed, Memory}
-use Rattle.pfair_feed.specs.Faults.{is_key_refusal}
-use Rattle.pfair_feed.specs.declared.fault.FeedFault.TheVariants.{Follow as Fault, Row}
+use Rattle.pfair_file.specs.declared.program_fault.ProgramFault.{ProgramFault}
+use Rattle.pfair_file.specs.declared.program_fault.ProgramFault.TheVariants.{NoSuchProcessor, NumberOutOfRange, WriteFailed, Memory, Row}
+use Rattle.pfair_file.specs.ProgramFaults.{is_refusal}
 use Rattle.pfair_feed.specs.Feeding.{HasFailed, HasStood, IsCaughtUp, IsFedLine, IsTakenFrom}
-use Rattle.pfair_feed.proofs.Going.{keeps_self, stays, stood_same}
+use Rattle.pfair_feed.proofs.Going.{stays, stood_same}
 
 -- what is held after a reading
 abbrev after_reading : Replica → Reading → Replica
@@ -42,25 +42,21 @@ taken_from_none line x fault r err back = record {
 -- ---- what a fault leaves
 
 -- where memory was wanting the entry may be taken or not, and else it is
-held_left : (line : List ℕ) (x y z : Replica) (e : FollowFault) → (z ≡ y → IsTakenFrom line x z) → (e ≢ Memory → z ≡ y) → (e ≡ Memory → (z ≡ x) ⊎ (z ≡ y)) → (z ≡ x) ⊎ IsTakenFrom line x z
+held_left : (line : List ℕ) (x y z : Replica) (e : ProgramFault) → (z ≡ y → IsTakenFrom line x z) → (e ≢ Memory → z ≡ y) → (e ≡ Memory → (z ≡ x) ⊎ (z ≡ y)) → (z ≡ x) ⊎ IsTakenFrom line x z
 held_left line x y z Memory t offered wanted = elim (wanted refl) [
   | inl same ↦ inl same
   | inr taken ↦ inr (t taken)
 ]
-held_left line x y z NoSuchProcessor t offered wanted = inr (t (offered (λ e. absurd (cc e))))
-held_left line x y z NumberOutOfRange t offered wanted = inr (t (offered (λ e. absurd (cc e))))
-held_left line x y z (Torn proc number) t offered wanted = inr (t (offered (λ e. absurd (cc e))))
-held_left line x y z Spent t offered wanted = inr (t (offered (λ e. absurd (cc e))))
-held_left line x y z WriteFailed t offered wanted = inr (t (offered (λ e. absurd (cc e))))
+held_left line x y z fault t offered wanted = inr (t (offered (λ e. absurd (cc e))))
 
-stood_taken : (line : List ℕ) (f g : Follow) (p n : ℕ) (e : Logged) (fault : FollowFault) → (replica_of g.dispatch.held ≡ taken (replica_of f.dispatch.held) p n e → IsTakenFrom line (replica_of f.dispatch.held) (replica_of g.dispatch.held))
+stood_taken : (line : List ℕ) (f g : Follow) (p n : ℕ) (e : Logged) (fault : ProgramFault) → (replica_of g.dispatch.held ≡ taken (replica_of f.dispatch.held) p n e → IsTakenFrom line (replica_of f.dispatch.held) (replica_of g.dispatch.held))
     → IsSameRun f g → g.told ≡ f.told → IsStopOf f g p n e fault → (fault ≢ Memory → replica_of g.dispatch.held ≡ taken (replica_of f.dispatch.held) p n e) → HasStood line f g
 stood_taken line f g p n e fault row run told stop offered = record {
   output_is = run.output_is;
   told_is = told;
   grown = run.grown;
   held_is = held_left line (replica_of f.dispatch.held) (taken (replica_of f.dispatch.held) p n e) (replica_of g.dispatch.held) fault row offered
-      (λ memory. wanted (subst (λ (h : FollowFault). IsStopOf f g p n e h) memory stop));
+      (λ memory. wanted (subst (λ (h : ProgramFault). IsStopOf f g p n e h) memory stop));
 }
   where
     wanted : IsStopOf f g p n e Memory → (replica_of g.dispatch.held ≡ replica_of f.dispatch.held) ⊎ (replica_of g.dispatch.held ≡ taken (replica_of f.dispatch.held) p n e)
@@ -68,28 +64,28 @@ stood_taken line f g p n e fault row run told stop offered = record {
     wanted (key, inr (held, able, cause)) = inr held
 
 -- the follower stopped at the entry whose row the line is
-pub failed_at : (line : List ℕ) (f g : Follow) (v w : Option (List ℕ)) (p n : ℕ) (e : Logged) (r : Reading) (fault : FollowFault) → r ≡ Ok (p, n, e)
+pub failed_at : (line : List ℕ) (f g : Follow) (v w : Option (List ℕ)) (p n : ℕ) (e : Logged) (r : Reading) (fault : ProgramFault) → r ≡ Ok (p, n, e)
     → ((q m : ℕ) (d : Logged) → IsEntryAt q m d → line ≡ entry_row q m d → r ≡ Ok (q, m, d)) → IsEntryAt p n e → line ≡ entry_row p n e
     → IsSameRun f g → g.told ≡ f.told → IsStopOf f g p n e fault → (fault ≢ Memory → replica_of g.dispatch.held ≡ taken (replica_of f.dispatch.held) p n e)
-    → (fault ≢ WriteFailed → Keeps v w) → (fault ≡ WriteFailed → TakesPrefix v w (news f g)) → HasFailed line (Fault fault) f g v w
+    → (fault ≢ WriteFailed → Keeps v w) → (fault ≡ WriteFailed → TakesPrefix v w (news f g)) → HasFailed line fault f g v w
 failed_at line f g v w p n e r fault ok back at row run told stop offered nothing cut =
     let taken_so = taken_from_row line (replica_of f.dispatch.held) (replica_of g.dispatch.held) p n e r ok back at row in
     record {
-      cause = record { processor = p; number = n; entry = e; is_entry = at; row_is = row; stop = stop };
-      taken_is = λ other. taken_so (offered (λ same. other (ap Fault same)));
+      cause = inr (record { processor = p; number = n; entry = e; is_entry = at; row_is = row; stop = stop });
+      taken_is = λ other. taken_so (offered other);
       stood = stood_taken line f g p n e fault taken_so run told stop offered;
-      nothing = λ other. nothing (λ same. other (ap Fault same));
-      cut = λ same. cut (cc same);
+      nothing = nothing;
+      cut = cut;
     }
 
 -- the line is no entry's row
 pub failed_row : (line : List ℕ) (f : Follow) (w : Option (List ℕ)) (fault : RowFault) (r : Reading) → r ≡ Err fault
     → ((q m : ℕ) (d : Logged) → IsEntryAt q m d → line ≡ entry_row q m d → r ≡ Ok (q, m, d)) → IsRowFaultOf line fault → HasFailed line (Row fault) f f w w
 failed_row line f w fault r err back cause = record {
-  cause = (cause, refl);
+  cause = inl (fault, refl, cause, refl);
   taken_is = λ other. taken_from_none line (replica_of f.dispatch.held) fault r err back;
   stood = stood_same line f f refl;
-  nothing = λ other. keeps_self w;
+  nothing = λ other. Keeps-refl w;
   cut = λ same. absurd (cc same);
 }
 
@@ -100,21 +96,19 @@ fed_none line f g v w caught same k held =
 
 -- ---- keys that are refused
 
-unchanged : (f g : Follow) (p n : ℕ) (e : Logged) (fault : FollowFault) → is_key_refusal fault ≡ true → IsStopOf f g p n e fault → g ≡ f
+unchanged : (f g : Follow) (p n : ℕ) (e : Logged) (fault : ProgramFault) → is_refusal fault ≡ true → IsStopOf f g p n e fault → g ≡ f
 unchanged f g p n e NoSuchProcessor is stop = stop.1
 unchanged f g p n e NumberOutOfRange is stop = stop.2
-unchanged f g p n e (Torn proc number) is stop = absurd (cc is)
-unchanged f g p n e Spent is stop = absurd (cc is)
-unchanged f g p n e WriteFailed is stop = absurd (cc is)
-unchanged f g p n e Memory is stop = absurd (cc is)
+unchanged f g p n e (Row fault) is stop = absurd stop
+unchanged f g p n e fault is stop = absurd (cc is)
 
-not_memory : (fault : FollowFault) → is_key_refusal fault ≡ true → fault ≢ Memory
-not_memory fault e same = absurd (let h : false ≡ true = ap is_key_refusal (sym same) ∙ e in cc h)
+not_memory : (fault : ProgramFault) → is_refusal fault ≡ true → fault ≢ Memory
+not_memory fault e same = absurd (let h : false ≡ true = ap is_refusal (sym same) ∙ e in cc h)
 
-not_writing : (fault : FollowFault) → is_key_refusal fault ≡ true → fault ≢ WriteFailed
-not_writing fault e same = absurd (let h : false ≡ true = ap is_key_refusal (sym same) ∙ e in cc h)
+not_writing : (fault : ProgramFault) → is_refusal fault ≡ true → fault ≢ WriteFailed
+not_writing fault e same = absurd (let h : false ≡ true = ap is_refusal (sym same) ∙ e in cc h)
 
-pub refused_line : (line : List ℕ) (f g : Follow) (v w : Option (List ℕ)) (p n : ℕ) (e : Logged) (r : Reading) (fault : FollowFault) → IsCaughtUp f → is_key_refusal fault ≡ true → r ≡ Ok (p, n, e)
+pub refused_line : (line : List ℕ) (f g : Follow) (v w : Option (List ℕ)) (p n : ℕ) (e : Logged) (r : Reading) (fault : ProgramFault) → IsCaughtUp f → is_refusal fault ≡ true → r ≡ Ok (p, n, e)
     → ((q m : ℕ) (d : Logged) → IsEntryAt q m d → line ≡ entry_row q m d → r ≡ Ok (q, m, d)) → IsEntryAt p n e → line ≡ entry_row p n e
     → IsStopOf f g p n e fault → (fault ≢ Memory → replica_of g.dispatch.held ≡ taken (replica_of f.dispatch.held) p n e) → (fault ≢ WriteFailed → Keeps v w)
     → (g ≡ f) × IsFedLine line f g v w

@@ -15,8 +15,8 @@ use Rattle.pfair_replica.specs.Offered.{has_key, taken}
 use Rattle.pfair_replica.specs.Replica.{Replica, frontier, has_torn, only, with_entry}
 use Rattle.pfair_table.specs.Table.{Settings}
 use Rattle.pfair_feed.specs.Follow.{Follow, IsGrown, IsStopOf}
-use Rattle.pfair_feed.specs.declared.follow_fault.FollowFault.{FollowFault}
-use Rattle.pfair_feed.specs.declared.follow_fault.FollowFault.TheVariants.{Memory}
+use Rattle.pfair_file.specs.declared.program_fault.ProgramFault.{ProgramFault}
+use Rattle.pfair_file.specs.declared.program_fault.ProgramFault.TheVariants.{Memory}
 use Rattle.pfair_feed.specs.Feeding.{IsCaughtUp}
 use Rattle.pfair_feed.proofs.Plans.{longer}
 use Rattle.pfair_feed.proofs.Planned.{planned}
@@ -71,12 +71,12 @@ no_memory f g p n e caught here grown (key, inr (left, able, inr due)) =
     absurd (omega (arith, now, late, told, settled))
 
 -- the entry that was read is that of the row
-pub repeat_wants_none : (line : List ℕ) (f g : Follow) (p n : ℕ) (e : Logged) (r : Reading) (fault : FollowFault) → IsCaughtUp f → r ≡ Ok (p, n, e)
+pub repeat_wants_none : (line : List ℕ) (f g : Follow) (p n : ℕ) (e : Logged) (r : Reading) (fault : ProgramFault) → IsCaughtUp f → r ≡ Ok (p, n, e)
     → ((q m : ℕ) (d : Logged) → IsEntryAt q m d → line ≡ entry_row q m d → r ≡ Ok (q, m, d))
     → IsGrown (record f.dispatch { held = g.dispatch.held }) g.dispatch → IsStopOf f g p n e fault
     → (q m : ℕ) (d : Logged) → IsEntryAt q m d → line ≡ entry_row q m d → held f.dispatch.held q m ≡ Some (One d) → fault ≡ Memory → ⊥
 repeat_wants_none line f g p n e r fault caught ok back grown stop q m d at row here memory =
-    no_memory f g p n e caught known grown (subst (λ (h : FollowFault). IsStopOf f g p n e h) memory stop)
+    no_memory f g p n e caught known grown (subst (λ (h : ProgramFault). IsStopOf f g p n e h) memory stop)
   where
     key : Reading → ℕ × ℕ × Logged
     key (Ok t) = t

@@ -9,11 +9,11 @@ use Rattle.pfair_replica.specs.Offered.{taken}
 use Rattle.pfair_replica.specs.Replica.{Replica, has_torn}
 use Rattle.pfair_table.specs.Refinement.{IsWholePlan}
 use Rattle.pfair_text.specs.Output.{TakesPrefix}
-use Rattle.pfair_feed.specs.declared.follow_fault.FollowFault.TheVariants.{Memory, WriteFailed}
 use Rattle.pfair_entry_row.specs.declared.fault.RowFault.TheVariants.{NoRow}
-use Rattle.pfair_feed.specs.Faults.{IsCauseIn, is_refusal}
-use Rattle.pfair_feed.specs.declared.fault.FeedFault.{FeedFault}
-use Rattle.pfair_feed.specs.declared.fault.FeedFault.TheVariants.{Follow as Fault, ReadFailed, Row}
+use Rattle.pfair_file.specs.ProgramFaults.{is_refusal}
+use Rattle.pfair_file.specs.declared.program_fault.ProgramFault.{ProgramFault}
+use Rattle.pfair_file.specs.declared.program_fault.ProgramFault.TheVariants.{Memory, ReadFailed, Row, WriteFailed}
+use Rattle.pfair_feed.specs.Faults.{IsCauseIn}
 use Rattle.pfair_feed.specs.Follow.{Follow, IsGrown, news}
 
 -- ---- lines
@@ -98,17 +98,6 @@ pub record AreWelcome (processors capacity : ℕ) (bytes rest : List ℕ) : Type
   pub are_lines : AreLines bytes lines rest
   pub each : AllByRecursion (IsWelcome processors capacity) lines
 
--- ---- one byte after another, of which only the first of an open line are kept
-
--- a line that is kept whole is fed; one that is longer brings nothing
-pub record IsFedKept (kept : List ℕ) (before after : Follow) (old new : Option (List ℕ)) : Type 0 where
-  pub short : length kept ≤ 256 → IsFedLine kept before after old new
-  pub long : 256 < length kept → (after ≡ before) × Keeps old new
-
-pub record IsFedByte (byte : ℕ) (kept kept' : List ℕ) (before after : Follow) (old new : Option (List ℕ)) : Type 0 where
-  pub inside : byte ≢ 10 → (kept' ≡ take 257 (kept ++ byte ∷ [])) × (after ≡ before) × Keeps old new
-  pub at_end : byte ≡ 10 → (kept' ≡ []) × IsFedKept kept before after old new
-
 -- ---- faults
 
 -- What stands of a follower after a fault at a line: more may be planned, no row counts as told, and what is held is as before, or with the
@@ -120,29 +109,29 @@ pub record HasStood (line : List ℕ) (before after : Follow) : Type 0 where
   pub held_is : (replica_of after.dispatch.held ≡ replica_of before.dispatch.held) ⊎ IsTakenFrom line (replica_of before.dispatch.held) (replica_of after.dispatch.held)
 
 -- a line was fed, and a fault came: the writer was not written to, or it failed and has a part of what is new
-pub record HasFailed (line : List ℕ) (e : FeedFault) (before after : Follow) (old new : Option (List ℕ)) : Type 0 where
+pub record HasFailed (line : List ℕ) (e : ProgramFault) (before after : Follow) (old new : Option (List ℕ)) : Type 0 where
   pub cause : IsCauseIn before after line e
-  pub taken_is : e ≢ Fault Memory → IsTakenFrom line (replica_of before.dispatch.held) (replica_of after.dispatch.held)
+  pub taken_is : e ≢ Memory → IsTakenFrom line (replica_of before.dispatch.held) (replica_of after.dispatch.held)
   pub stood : HasStood line before after
-  pub nothing : e ≢ Fault WriteFailed → Keeps old new
-  pub cut : e ≡ Fault WriteFailed → TakesPrefix old new (news before after)
+  pub nothing : e ≢ WriteFailed → Keeps old new
+  pub cut : e ≡ WriteFailed → TakesPrefix old new (news before after)
 
 -- The next byte, where there is one, shows that no line was fed: the reader failed, or an allocation for a byte inside a line, or the line that
 -- ends is longer than any row.
-abbrev pub IsUnfed : (kept : List ℕ) → (next : Option ℕ) → FeedFault → Type 0
+abbrev pub IsUnfed : (kept : List ℕ) → (next : Option ℕ) → ProgramFault → Type 0
 IsUnfed kept next e =
     ((e ≡ ReadFailed) × (next ≡ None))
-    ⊎ ((e ≡ Fault Memory) × (byte : ℕ) × (next ≡ Some byte) × (byte ≢ 10))
+    ⊎ ((e ≡ Memory) × (byte : ℕ) × (next ≡ Some byte) × (byte ≢ 10))
     ⊎ ((e ≡ Row NoRow) × (next ≡ Some 10) × (256 < length kept))
 
 -- what a fault leaves at a line that is kept so far: all is as before, or the line has ended, and was fed
-abbrev pub IsLeft : (kept : List ℕ) → (next : Option ℕ) → FeedFault → (before after : Follow) → (old new : Option (List ℕ)) → Type 0
+abbrev pub IsLeft : (kept : List ℕ) → (next : Option ℕ) → ProgramFault → (before after : Follow) → (old new : Option (List ℕ)) → Type 0
 IsLeft kept next e before after old new =
     (IsUnfed kept next e × (after ≡ before) × Keeps old new) ⊎ ((next ≡ Some 10) × (length kept ≤ 256) × HasFailed kept e before after old new)
 
 -- What had been fed of some bytes when a fault came: all of them where the reader failed, else all but a part of what one read gave. The
 -- question is never refused.
-pub record IsStopped (bytes : List ℕ) (e : FeedFault) (before after : Follow) (old new : Option (List ℕ)) : Type 0 where
+pub record IsStopped (bytes : List ℕ) (e : ProgramFault) (before after : Follow) (old new : Option (List ℕ)) : Type 0 where
   pub fed : List ℕ
   pub more : List ℕ
   pub rest : List ℕ

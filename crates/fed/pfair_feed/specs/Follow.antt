@@ -15,8 +15,8 @@ use Rattle.pfair_table.specs.Table.{Settings}
 use Rattle.pfair_table.specs.Refinement.{Dispatch, IsWholePlan}
 use Rattle.pfair_feed.specs.declared.output.Output.{Output}
 use Rattle.pfair_feed.specs.declared.output.Output.TheVariants.{Lags}
-use Rattle.pfair_feed.specs.declared.follow_fault.FollowFault.{FollowFault}
-use Rattle.pfair_feed.specs.declared.follow_fault.FollowFault.TheVariants.{NoSuchProcessor, NumberOutOfRange, Torn, Spent, WriteFailed, Memory}
+use Rattle.pfair_file.specs.declared.program_fault.ProgramFault.{ProgramFault}
+use Rattle.pfair_file.specs.declared.program_fault.ProgramFault.TheVariants.{NoSuchProcessor, NumberOutOfRange, Torn, Spent, WriteFailed, Memory}
 use Rattle.pfair_feed.specs.Rows.{rows_from}
 
 -- a follower, as a contract sees it: what it writes, its dispatcher, and the first slot whose rows are still to be written
@@ -82,8 +82,8 @@ abbrev pub AreDue : (before after : Follow) → Type 0
 AreDue before after = (after.dispatch.spent ≡ false) × IsWholePlan after.dispatch × (before.told < length after.dispatch.tables)
 
 -- Why a follower stops at an entry, and what it is then. An allocation fails for the entry, and nothing has changed; or, if nothing held is torn
--- and the dispatcher wasn't spent, in the plan of a slot, or for rows that are due.
-abbrev pub IsStopOf : (before after : Follow) → (k n : ℕ) → Logged → FollowFault → Type 0
+-- and the dispatcher wasn't spent, in the plan of a slot, or for rows that are due. No other fault of the programs comes.
+abbrev pub IsStopOf : (before after : Follow) → (k n : ℕ) → Logged → ProgramFault → Type 0
 IsStopOf f g k n e NoSuchProcessor = (f.dispatch.held.processors ≤ k) × (g ≡ f)
 IsStopOf f g k n e NumberOutOfRange = (k < f.dispatch.held.processors) × ((n ≡ 0) ⊎ (f.dispatch.held.capacity < n)) × (g ≡ f)
 IsStopOf f g k n e (Torn proc number) = IsKeyOf f.dispatch.held k n × (slice_get (torn_keys (replica_of g.dispatch.held)) 0 ≡ Some (proc, number)) × IsOnlyTaken f g
@@ -93,6 +93,7 @@ IsStopOf f g k n e Memory =
     IsKeyOf f.dispatch.held k n
     × (((held f.dispatch.held k n ≡ None) × (g ≡ f))
     ⊎ ((replica_of g.dispatch.held ≡ taken (replica_of f.dispatch.held) k n e) × IsAble f g × (IsStuck g.dispatch ⊎ AreDue f g)))
+IsStopOf f g k n e fault = ⊥
 
 -- ---- what would settle more
 

@@ -2,7 +2,6 @@ pub mod Entries
 pub mod Faults
 pub mod Feeding
 pub mod Follow
-pub mod FollowFaults
 pub mod Laws
 pub mod Missing
 pub mod RoundTrip

@@ -1,14 +1,14 @@
 //! What is told of lines that are refused, and of logs that are short.
 
-ghost use Rattle.std.specs.Prelude.{◌≡◌, ◌↔◌, OnErr, OnOk, true};
+ghost use Rattle.std.specs.Prelude.{◌≡◌, ◌≢◌, IfErr, OnErr, OnOk, true};
 ghost use Rattle.std.specs.Io.KnownBytes.{Appends};
 ghost use Rattle.pfair_text.specs.Output.{TakesPrefix};
 ghost use Rattle.pfair_feed.specs.Feeding.{question};
 ghost use Rattle.pfair_feed.specs.Missing.{missing_line, missing_text};
 
-use crate::fault::FeedFault;
 use crate::follower::Follower;
 use itoa::Buffer;
+use pfair_file::ProgramFault;
 use pfair_ready::Ready;
 use pfair_text::{WriteFailed, send};
 use std::io::Write;
@@ -20,7 +20,7 @@ const LINE_ROOM: usize = 512;
 ///
 /// It goes out in one write, as far as there is room for it, and with a question mark in place of
 /// each byte that is no printed character of ASCII. It allocates nothing.
-pub fn tell_refused<E: Write>(complaints: &mut E, fault: &FeedFault, line: &[u8]) {
+pub fn tell_refused<E: Write>(complaints: &mut E, fault: &ProgramFault, line: &[u8]) {
     let mut text = [0; LINE_ROOM];
     let mut room = &mut text[..];
     let number = fault.number();
@@ -68,20 +68,22 @@ fn tell_key<E: Write>(complaints: &mut E, processor: u8, number: u32) -> Result<
     send(complaints, b"\n")
 }
 
-// Answers a line if it is the question, and else tells that it was refused. Returns whether it is the question.
+// Answers a line that is refused if it is the question, and else tells that it is refused, which ends a strict run.
 pub(crate) fn complain<R: Ready, E: Write>(
     follower: &Follower<R>,
     complaints: &mut E,
-    fault: &FeedFault,
+    is_strict: bool,
+    fault: ProgramFault,
     line: &[u8],
-) -> bool
-    ensures asked { (result ≡ true) ↔ (line.now ≡ question) }
+) -> Result<(), ProgramFault>
+    ensures skipped { OnOk result (is_strict ≡ true → line.now ≡ question) }
+    ensures ended { IfErr result (λ e. (e ≡ fault) × (is_strict ≡ true) × (line.now ≢ question)) }
     ensures answered { line.now ≡ question → TakesPrefix (E.contents complaints.old) (E.contents complaints.new) (missing_text follower.now) }
 {
     if line == b"?".as_slice() {
         let _ = tell_missing(follower, complaints);
-        return true;
+        return Ok(());
     }
-    tell_refused(complaints, fault, line);
-    false
+    tell_refused(complaints, &fault, line);
+    if is_strict { Err(fault) } else { Ok(()) }
 }

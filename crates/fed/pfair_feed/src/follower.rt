@@ -11,13 +11,13 @@ ghost use Rattle.pfair_table.specs.Events.{start};
 ghost use Rattle.pfair_table.specs.Refinement.{IsWholePlan, course_of};
 ghost use Rattle.pfair_feed.specs.Rows.{header_of};
 ghost use Rattle.pfair_feed.specs.Follow.{HasFollowed, HaveToldAlike, IsSameRun, IsStopOf, missing_of, news};
-ghost use Rattle.pfair_feed.specs.declared.follow_fault.FollowFault.TheVariants.{Memory, WriteFailed};
+ghost use Rattle.pfair_file.specs.declared.program_fault.ProgramFault.TheVariants.{Memory, WriteFailed};
 ghost use Rattle.pfair_feed.specs.declared.output.Output.TheVariants.{Lags};
 
-use crate::follow_fault::FollowFault;
 use crate::output::{Output, write_header, write_rows};
 use crate::planning::plan_all;
 use pfair_entry::Entry;
+use pfair_file::ProgramFault;
 use pfair_lag::LagBook;
 use pfair_ready::Ready;
 use pfair_replica::Taken;
@@ -83,9 +83,9 @@ impl<R: Ready> Follower<R> {
     /// Writes the header of the rows, and flushes it.
     ///
     /// # Errors
-    /// [`FollowFault::Memory`] if an allocation fails, and nothing is then written;
-    /// [`FollowFault::WriteFailed`] where the writer failed, and has then a part of the line.
-    pub fn write_header<W: Write>(&self, writer: &mut W) -> Result<(), FollowFault>
+    /// [`ProgramFault::Memory`] if an allocation fails, and nothing is then written;
+    /// [`ProgramFault::WriteFailed`] where the writer failed, and has then a part of the line.
+    pub fn write_header<W: Write>(&self, writer: &mut W) -> Result<(), ProgramFault>
         ensures written { OnOk result (Appends (W.contents writer.old) (W.contents writer.new) (line (header_of self.now.output))) }
         ensures cut { IsErrOf result WriteFailed → TakesPrefix (W.contents writer.old) (W.contents writer.new) (line (header_of self.now.output)) }
         ensures nothing { IfErr result (λ e. e ≢ WriteFailed → Keeps (W.contents writer.old) (W.contents writer.new)) }
@@ -103,13 +103,13 @@ impl<R: Ready> Follower<R> {
     ///
     /// # Errors
     /// The first of these that applies:
-    /// - [`FollowFault::NoSuchProcessor`] or [`FollowFault::NumberOutOfRange`] if no log has the key, and
-    ///   [`FollowFault::Memory`] if the key wasn't held and an allocation for its entry fails: nothing has changed.
-    /// - [`FollowFault::Torn`] if something held is then torn, and [`FollowFault::Spent`] if an allocation failed
+    /// - [`ProgramFault::NoSuchProcessor`] or [`ProgramFault::NumberOutOfRange`] if no log has the key, and
+    ///   [`ProgramFault::Memory`] if the key wasn't held and an allocation for its entry fails: nothing has changed.
+    /// - [`ProgramFault::Torn`] if something held is then torn, and [`ProgramFault::Spent`] if an allocation failed
     ///   in an earlier plan: the entry is held, and nothing else has changed.
-    /// - [`FollowFault::Memory`] if an allocation fails in the plan of a slot: the slots before it are planned, and
+    /// - [`ProgramFault::Memory`] if an allocation fails in the plan of a slot: the slots before it are planned, and
     ///   the dispatcher is spent.
-    /// - [`FollowFault::Memory`] if an allocation for the new rows fails, and [`FollowFault::WriteFailed`] if the
+    /// - [`ProgramFault::Memory`] if an allocation for the new rows fails, and [`ProgramFault::WriteFailed`] if the
     ///   writer fails: all slots are planned.
     ///
     /// After a fault no new row counts as told: a later call writes all of them. Only after `WriteFailed` may the
@@ -120,7 +120,7 @@ impl<R: Ready> Follower<R> {
         proc: u8,
         number: u32,
         entry: Entry,
-    ) -> Result<Taken, FollowFault>
+    ) -> Result<Taken, ProgramFault>
         ensures answer { IfOk result (IsTakenAs (held self.old.dispatch.held proc number) entry) }
         ensures offered { (result ≡ Err Memory → ⊥) → replica_of self.new.dispatch.held ≡ taken (replica_of self.old.dispatch.held) proc number entry }
         ensures run { IsSameRun self.old self.new }
@@ -140,7 +140,7 @@ impl<R: Ready> Follower<R> {
     }
 
     // Writes the rows of the slots that are planned and not told.
-    fn tell<W: Write>(&mut self, writer: &mut W) -> Result<(), FollowFault>
+    fn tell<W: Write>(&mut self, writer: &mut W) -> Result<(), ProgramFault>
         ensures rest { self.new ≡ record self.old { told = self.new.told } }
         ensures told { OnOk result (self.new.told ≡ max self.old.told (length self.old.dispatch.tables)) }
         ensures stands { OnErr result (self.new ≡ self.old) }

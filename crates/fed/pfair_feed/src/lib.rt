@@ -5,8 +5,6 @@
 
 mod complaint;
 mod entries;
-mod fault;
-mod follow_fault;
 mod follower;
 mod input;
 pub mod laws;
@@ -16,8 +14,6 @@ mod planning;
 
 pub use complaint::{tell_missing, tell_refused};
 pub use entries::entries_of;
-pub use fault::FeedFault;
-pub use follow_fault::FollowFault;
 pub use follower::Follower;
 pub use input::follow;
 pub use line::feed;

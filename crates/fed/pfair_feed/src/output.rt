@@ -5,10 +5,10 @@ ghost use Rattle.std.specs.Io.KnownBytes.{Appends, Keeps};
 ghost use Rattle.pfair_text.specs.Output.{TakesPrefix};
 ghost use Rattle.pfair_text.specs.Rows.{IsOpen, line, lines_text, text_so_far};
 ghost use Rattle.pfair_feed.specs.Rows.{IsTold, IsBookOf, header_of, rows_from};
-ghost use Rattle.pfair_feed.specs.declared.follow_fault.FollowFault.TheVariants.{Memory, WriteFailed};
+ghost use Rattle.pfair_file.specs.declared.program_fault.ProgramFault.TheVariants.{Memory, WriteFailed};
 
-use crate::follow_fault::FollowFault;
 use csv::Writer;
+use pfair_file::ProgramFault;
 use pfair_lag::LagBook;
 use pfair_output::{
     add_decisions_from, add_decisions_header, add_lags_from, add_lags_header, add_placed_header,
@@ -38,7 +38,7 @@ pub(crate) fn write_header<W: Write>(
     alloc: Global,
     output: Output,
     writer: &mut W,
-) -> Result<(), FollowFault>
+) -> Result<(), ProgramFault>
     ensures written { OnOk result (Appends (W.contents writer.old) (W.contents writer.new) (line (header_of output))) }
     ensures cut { IsErrOf result WriteFailed → TakesPrefix (W.contents writer.old) (W.contents writer.new) (line (header_of output)) }
     ensures nothing { IfErr result (λ e. e ≢ WriteFailed → Keeps (W.contents writer.old) (W.contents writer.new)) }
@@ -74,7 +74,7 @@ pub(crate) fn write_rows<R: Ready, W: Write>(
     from: u64,
     book: &mut LagBook,
     writer: &mut W,
-) -> Result<(), FollowFault>
+) -> Result<(), ProgramFault>
     requires book { IsBookOf from dispatcher.now.tables dispatcher.now.decided book.old }
     requires standing { IsTold output dispatcher.now.forgotten from }
     ensures book { OnOk result (IsBookOf (max from (length dispatcher.now.tables)) dispatcher.now.tables dispatcher.now.decided book.new) }
@@ -137,7 +137,7 @@ fn add_lags<R: Ready>(
 }
 
 // Sends a text, and flushes it, unless it is empty.
-fn send_now<W: Write>(writer: &mut W, text: &[u8]) -> Result<(), FollowFault>
+fn send_now<W: Write>(writer: &mut W, text: &[u8]) -> Result<(), ProgramFault>
     ensures written { OnOk result (Appends (W.contents writer.old) (W.contents writer.new) text.now) }
     ensures cut { IfErr result (λ _. TakesPrefix (W.contents writer.old) (W.contents writer.new) text.now) }
     ensures cause { IfErr result (λ e. e ≡ WriteFailed) }
@@ -149,6 +149,6 @@ fn send_now<W: Write>(writer: &mut W, text: &[u8]) -> Result<(), FollowFault>
     send(writer, text)?;
     match writer.flush() {
         Ok(()) => Ok(()),
-        Err(_) => Err(FollowFault::WriteFailed),
+        Err(_) => Err(ProgramFault::WriteFailed),
     }
 }

@@ -17,7 +17,7 @@ use Rattle.pfair_feed.specs.Rows.{header_of, rows_from}
 use Rattle.pfair_feed.specs.Feeding.{AreFedBytes, AreTakenFrom, AreWelcome}
 use Rattle.pfair_feed.specs.Laws.{WholeText}
 use Rattle.pfair_words.specs.declared.follow.Run.{Run}
-use Rattle.pfair_follow.specs.declared.fault.ProgramFault.{ProgramFault}
+use Rattle.pfair_file.specs.declared.program_fault.ProgramFault.{ProgramFault}
 use Rattle.pfair_follow.specs.Runs.{AreTakenAll, IsEndOf, IsFed, IsFedEndOf, IsFedShort, IsFollowed, IsFresh, IsSettled, IsSettledBelow, IsShort, IsUnread, head_from, text_from}
 
 -- one text behind another

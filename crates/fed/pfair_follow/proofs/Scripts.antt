@@ -10,18 +10,14 @@ use Rattle.pfair_table.specs.Script.{LoggedRun, capacity_of, is_short, replica_o
 use Rattle.pfair_table.specs.Table.{Settings}
 use Rattle.pfair_feed.specs.declared.output.Output.{Output}
 use Rattle.pfair_feed.specs.Rows.{rows_from}
-use Rattle.pfair_feed.specs.Feeding.{AreTakenFrom}
+use Rattle.pfair_feed.specs.Feeding.{AreTakenFrom, IsLeft}
 use Rattle.pfair_feed.specs.Laws.{EntriesGiveTheirSchedule, LinesAreOne}
 use Rattle.pfair_feed.specs.RoundTrip.{HasScheduleOf, HaveTheRows, rows_of}
-use Rattle.pfair_file.specs.declared.schedule_fault.ScheduleFault.TheVariants as schedule
-use Rattle.pfair_feed.specs.declared.follow_fault.FollowFault.{FollowFault}
-use Rattle.pfair_feed.specs.declared.follow_fault.FollowFault.TheVariants as follow
-use Rattle.pfair_feed.specs.declared.fault.FeedFault.{FeedFault}
-use Rattle.pfair_feed.specs.declared.fault.FeedFault.TheVariants as feed
 use Rattle.pfair_words.specs.declared.follow.Run.{Run}
-use Rattle.pfair_follow.specs.declared.fault.ProgramFault.{ProgramFault}
-use Rattle.pfair_follow.specs.declared.fault.ProgramFault.TheVariants.{Memory, Schedule, WriteFailed}
-use Rattle.pfair_follow.specs.Faults.{of_feed, of_follow, stalled}
+use Rattle.pfair_file.specs.declared.program_fault.ProgramFault.{ProgramFault}
+use Rattle.pfair_file.specs.declared.program_fault.ProgramFault.TheVariants.{Memory, ReadFailed, Row, Stalled, WriteFailed}
+use Rattle.pfair_entry_row.specs.declared.fault.RowFault.TheVariants.{NoRow}
+use Rattle.pfair_feed.specs.Follow.{Follow, IsStopOf}
 use Rattle.pfair_follow.specs.Runs.{IsEndOf, IsFollowed, IsSettled, IsSettledBelow, text_from}
 use Rattle.pfair_follow.specs.Scripts.{HasScript, IsScriptStalled, IsScriptWritten, OfItsScript}
 
@@ -97,28 +93,21 @@ module _ (gives : EntriesGiveTheirSchedule) (one : LinesAreOne) (output : Output
       })
       (of_script (IsSettledBelow run.settings slot) followed)
 
-  -- no other fault is that of a run that stalls
-  no_follow_stall : (fault : FollowFault) (slot : ℕ) → of_follow fault ≡ stalled slot → ⊥
-  no_follow_stall follow.Memory slot e = cc e
-  no_follow_stall follow.WriteFailed slot e = cc e
-  no_follow_stall follow.NoSuchProcessor slot e = cc e
-  no_follow_stall follow.NumberOutOfRange slot e = cc e
-  no_follow_stall (follow.Torn proc number) slot e = cc e
-  no_follow_stall follow.Spent slot e = cc e
+  -- no line, and no reader, is at fault so
+  no_stall : (kept : List ℕ) (next : Option ℕ) (e : ProgramFault) (f g : Follow) (v w : Option (List ℕ)) → IsLeft kept next e f g v w → (slot : ℕ) → e ≡ Stalled slot → ⊥
+  no_stall kept next e f g v w (inl (inl (is, none), unchanged, keeps)) slot same = absurd (let h : ReadFailed ≡ Stalled slot = sym is ∙ same in cc h)
+  no_stall kept next e f g v w (inl (inr (inl (is, byte, at, inside)), unchanged, keeps)) slot same = absurd (let h : Memory ≡ Stalled slot = sym is ∙ same in cc h)
+  no_stall kept next e f g v w (inl (inr (inr (is, ended, long)), unchanged, keeps)) slot same = absurd (let h : Row NoRow ≡ Stalled slot = sym is ∙ same in cc h)
+  no_stall kept next e f g v w (inr (ended, short, failed)) slot same = elim failed.cause [
+    | inl row ↦ absurd (let h : Row row.0 ≡ Stalled slot = sym row.1 ∙ same in cc h)
+    | inr stopped ↦ absurd (subst (λ (d : ProgramFault). IsStopOf f g stopped.processor stopped.number stopped.entry d) same stopped.stop)
+  ]
 
-  no_feed_stall : (fault : FeedFault) (slot : ℕ) → of_feed fault ≡ stalled slot → ⊥
-  no_feed_stall (feed.Row fault) slot e = cc e
-  no_feed_stall (feed.Follow fault) slot e = no_follow_stall fault slot e
-  no_feed_stall feed.ReadFailed slot e = cc e
-
-  abbrev slot_of : ProgramFault → ℕ
-  slot_of (Schedule (schedule.Stalled slot)) = slot
-  slot_of fault = 0
-
-  pub stalls : (fault : ProgramFault) → IsEndOf output run given left before after fault → (slot : ℕ) → fault ≡ stalled slot → OfItsScript run given (λ script. IsScriptStalled output run slot script before after)
-  stalls fault (inl (kept, inl (memory, none))) slot e = absurd (let h : Memory ≡ stalled slot = sym memory ∙ e in cc h)
-  stalls fault (inl (kept, inr (failed, cut))) slot e = absurd (let h : WriteFailed ≡ stalled slot = sym failed ∙ e in cc h)
-  stalls fault (inr (inl (f, g, fresh, (cause, is, upto)))) slot e = absurd (no_feed_stall cause slot (sym is ∙ e))
+  pub stalls : (fault : ProgramFault) → IsEndOf output run given left before after fault → (slot : ℕ) → fault ≡ Stalled slot → OfItsScript run given (λ script. IsScriptStalled output run slot script before after)
+  stalls fault (inl (kept, inl (memory, none))) slot e = absurd (let h : Memory ≡ Stalled slot = sym memory ∙ e in cc h)
+  stalls fault (inl (kept, inr (failed, cut))) slot e = absurd (let h : WriteFailed ≡ Stalled slot = sym failed ∙ e in cc h)
+  stalls fault (inr (inl (f, g, fresh, at))) slot e = absurd (no_stall _ _ fault at.stopped.mid g at.stopped.reached after at.stopped.left slot e)
   stalls fault (inr (inr (there, is, followed))) slot e =
-      let same : there ≡ slot = ap slot_of (sym is ∙ e) in
+      let both : Stalled there ≡ Stalled slot = sym is ∙ e in
+      let same : there ≡ slot = cc both in
       stalls_as_its_script slot (subst (λ (n : ℕ). IsFollowed output run (IsSettledBelow run.settings n) given left before after) same followed)

@@ -11,12 +11,10 @@ use Rattle.pfair_feed.specs.declared.output.Output.{Output}
 use Rattle.pfair_feed.specs.Follow.{Follow}
 use Rattle.pfair_feed.specs.RowLaws.{text_of}
 use Rattle.pfair_feed.specs.Rows.{header_of, rows_from}
-use Rattle.pfair_feed.specs.declared.fault.FeedFault.{FeedFault}
 use Rattle.pfair_feed.specs.Feeding.{AreFedBytes, AreLines, AreTakenFrom, AreWelcome, IsStopped}
 use Rattle.pfair_words.specs.declared.follow.Run.{Run}
-use Rattle.pfair_follow.specs.declared.fault.ProgramFault.{ProgramFault}
-use Rattle.pfair_follow.specs.declared.fault.ProgramFault.TheVariants.{Memory, WriteFailed}
-use Rattle.pfair_follow.specs.Faults.{of_feed, stalled}
+use Rattle.pfair_file.specs.declared.program_fault.ProgramFault.{ProgramFault}
+use Rattle.pfair_file.specs.declared.program_fault.ProgramFault.TheVariants.{Memory, Stalled, WriteFailed}
 
 -- ---- what is written
 
@@ -83,8 +81,8 @@ pub record IsFed (f g : Follow) (given left before after : Option (List ℕ)) : 
   pub at_end : IsAtEnd left
   pub fed : AreFedBytes bytes f g begun after rest
 
--- after the header a fault came at some byte
-pub record IsFedUpTo (fault : FeedFault) (f g : Follow) (given left before after : Option (List ℕ)) : Type 0 where
+-- after the header a fault came at some byte: that of a row, of the reader, of the writer or of memory
+pub record IsStoppedAt (f g : Follow) (given left before after : Option (List ℕ)) (fault : ProgramFault) : Type 0 where
   pub bytes : List ℕ
   pub begun : Option (List ℕ)
   pub head : Appends before begun (head_from f.output f.told)
@@ -95,14 +93,10 @@ pub record IsFedUpTo (fault : FeedFault) (f g : Follow) (given left before after
 abbrev pub IsUnread : (output : Output) (from : ℕ) (given left before after : Option (List ℕ)) → ProgramFault → Type 0
 IsUnread output from given left before after fault = Keeps given left × (((fault ≡ Memory) × Keeps before after) ⊎ ((fault ≡ WriteFailed) × TakesPrefix before after (head_from output from)))
 
--- the fault of a row, of the reader, of the writer or of memory
-abbrev pub IsStoppedAt : (f g : Follow) (given left before after : Option (List ℕ)) → ProgramFault → Type 0
-IsStoppedAt f g given left before after fault = (cause : FeedFault) × (fault ≡ of_feed cause) × IsFedUpTo cause f g given left before after
-
 -- the input ended too early
 abbrev pub IsFedShort : (f g : Follow) (given left before after : Option (List ℕ)) → ProgramFault → Type 0
 IsFedShort f g given left before after fault =
-    (fault ≡ stalled (length g.dispatch.tables)) × (length g.dispatch.tables < g.dispatch.settings.slots) × IsFed f g given left before after
+    (fault ≡ Stalled (length g.dispatch.tables)) × (length g.dispatch.tables < g.dispatch.settings.slots) × IsFed f g given left before after
 
 abbrev pub IsFedEndOf : (f g : Follow) (given left before after : Option (List ℕ)) → ProgramFault → Type 0
 IsFedEndOf f g given left before after fault =
@@ -114,7 +108,7 @@ HasStopped output run given left before after fault = (f g : Follow) × IsFresh 
 
 -- the input ended before all slots were settled, and the rows of those that were are written
 abbrev pub IsShort : Output → Run → (given left before after : Option (List ℕ)) → ProgramFault → Type 0
-IsShort output run given left before after fault = (slot : ℕ) × (fault ≡ stalled slot) × IsFollowed output run (IsSettledBelow run.settings slot) given left before after
+IsShort output run given left before after fault = (slot : ℕ) × (fault ≡ Stalled slot) × IsFollowed output run (IsSettledBelow run.settings slot) given left before after
 
 abbrev pub IsEndOf : Output → Run → (given left before after : Option (List ℕ)) → ProgramFault → Type 0
 IsEndOf output run given left before after fault =

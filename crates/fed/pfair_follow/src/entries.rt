@@ -1,12 +1,11 @@
 //! The command `entries`: the entries of a task file as rows.
 
-ghost use Rattle.pfair_file.specs.Commands.{IsCommandOf, IsFaultBy};
-ghost use Rattle.pfair_follow.specs.Faults.{of_schedule};
+ghost use Rattle.pfair_file.specs.Commands.{IsCommandOf};
+ghost use Rattle.pfair_file.specs.Schedules.{IsRefusalOf};
 ghost use Rattle.pfair_follow.specs.Entries.{IsOutputOf};
 
-use crate::fault::ProgramFault;
 use pfair_feed::entries_of;
-use pfair_file::read_script;
+use pfair_file::{ProgramFault, read_script};
 use pfair_text::send;
 use std::alloc::Global;
 use std::io::{Read, Write};
@@ -19,16 +18,15 @@ use std::io::{Read, Write};
 /// from the reader, but where the file is too long or memory was wanting: one more may then be.
 ///
 /// # Errors
-/// [`ProgramFault::Schedule`] with the cause where the file has no script, as
-/// [`read_script`](pfair_file::read_script) says, and [`ProgramFault::Memory`] if an allocation
-/// fails: nothing has then been written. [`ProgramFault::WriteFailed`] where the writer
+/// Those of [`read_script`], and [`ProgramFault::Memory`] if an allocation fails: nothing has then
+/// been written. [`ProgramFault::WriteFailed`] where the writer
 /// answered an error, or took nothing; a prefix of the text has then gone out.
 pub fn entries<R: Read, W: Write>(
     alloc: Global,
     reader: &mut R,
     writer: &mut W,
 ) -> Result<(), ProgramFault>
-    ensures { IsCommandOf of_schedule ProgramFault.WriteFailed IsOutputOf (IsFaultBy of_schedule) result
+    ensures { IsCommandOf IsOutputOf IsRefusalOf result
         (R.remaining reader.old) (R.remaining reader.new) (W.contents writer.old) (W.contents writer.new) }
 {
     let script = read_script(alloc, reader)?;

@@ -6,17 +6,15 @@ mod fault;
 mod rows;
 #[cfg(test)]
 mod tests;
-mod words;
 
 use entries::entries;
-use fault::{ProgramFault, write_fault};
+use fault::write_fault;
 use pfair_feed::Output;
-use pfair_file::{given_words, opened};
+use pfair_file::{ProgramFault, given_words, opened};
 use pfair_text::send;
-use pfair_words::follow::{Asked, Run};
+use pfair_words::follow::{Asked, Run, read_words};
 use rows::follow_rows;
 use std::process::ExitCode;
-use words::read_words;
 
 fn main(rt: HostRuntime) -> ExitCode {
     match run(&rt) {

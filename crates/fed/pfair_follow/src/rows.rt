@@ -3,16 +3,15 @@
 ghost use Rattle.std.specs.Prelude.{ℕ, List, true, false, ◌≡◌, ◌≢◌, ◌⊎◌, ◌<◌, ◌≤◌, IfErr, IsErrOf, OnOk, length};
 ghost use Rattle.std.specs.Io.KnownBytes.{Appends, Consumes, Keeps};
 ghost use Rattle.pfair_text.specs.Output.{TakesPrefix};
-ghost use Rattle.pfair_feed.specs.declared.follow_fault.FollowFault.TheVariants as follow;
 ghost use Rattle.pfair_feed.specs.Feeding.{AreWelcome, IsCaughtUp};
-ghost use Rattle.pfair_follow.specs.Faults.{is_row_fault, stalled};
+ghost use Rattle.pfair_file.specs.ProgramFaults.{is_refusal};
+ghost use Rattle.pfair_file.specs.declared.program_fault.ProgramFault.TheVariants.{Memory, Stalled, WriteFailed};
 ghost use Rattle.pfair_follow.specs.Runs.{AreTakenAll, IsEndOf, IsFed, IsFedEndOf, IsFollowed, IsSettled, head_from};
 ghost use Rattle.pfair_follow.specs.Scripts.{IsScriptStalled, IsScriptWritten, OfItsScript};
 
-use crate::fault::ProgramFault;
 use pfair_feed::laws::{entries_give_their_schedule, lines_are_one, text_is_whole};
-use pfair_feed::{FollowFault, Follower, Output, follow, tell_missing};
-use pfair_file::ScheduleFault;
+use pfair_feed::{Follower, Output, follow, tell_missing};
+use pfair_file::ProgramFault;
 use pfair_ready::{HeapReady, Ready};
 use pfair_table::Script;
 use pfair_words::follow::Run;
@@ -31,13 +30,11 @@ const LOG: u32 = Script::LONGEST_LOG as u32;
 /// entries that would settle more. The cost is that of [`follow`](pfair_feed::follow).
 ///
 /// # Errors
-/// [`ProgramFault::Schedule`] with `Stalled` and the first slot that isn't settled, where the input
-/// ends before all are: the rows of those before it are written, and `complaints` has the keys. Else
-/// the fault at which the follower stopped: [`ProgramFault::Feed`] with a torn entry, or with a
-/// refused row where `run.is_strict`; [`ProgramFault::Schedule`] with `ReadFailed`;
-/// [`ProgramFault::WriteFailed`]; [`ProgramFault::Memory`] if an allocation fails. The
-/// writer has then the rows of what was read before, and after `WriteFailed` a prefix of those of
-/// the last row.
+/// [`ProgramFault::Stalled`] with the first slot that isn't settled, if the input ends before all
+/// are: the rows of those before it are written, and `complaints` has the keys. Else the fault at
+/// which [`follow`](pfair_feed::follow) stopped, or that of the header. The writer has then the rows
+/// of what was read before, and after [`ProgramFault::WriteFailed`] a prefix of those of the last
+/// row.
 pub fn follow_rows<I: Read, W: Write, E: Write>(
     alloc: Global,
     output: Output,
@@ -48,9 +45,9 @@ pub fn follow_rows<I: Read, W: Write, E: Write>(
 ) -> Result<(), ProgramFault>
     ensures settled { OnOk result (IsFollowed output run.now (IsSettled run.now.settings) (I.remaining reader.old) (I.remaining reader.new) (W.contents writer.old) (W.contents writer.new)) }
     ensures script { OnOk result (OfItsScript run.now (I.remaining reader.old) (λ script. IsScriptWritten output run.now script (W.contents writer.old) (W.contents writer.new))) }
-    ensures stalled { (slot : ℕ) → IsErrOf result (stalled slot) → OfItsScript run.now (I.remaining reader.old) (λ script. IsScriptStalled output run.now slot script (W.contents writer.old) (W.contents writer.new)) }
+    ensures stalled { (slot : ℕ) → IsErrOf result (Stalled slot) → OfItsScript run.now (I.remaining reader.old) (λ script. IsScriptStalled output run.now slot script (W.contents writer.old) (W.contents writer.new)) }
     ensures strict { OnOk result (run.now.is_strict ≡ true → AreTakenAll run.now.settings (I.remaining reader.old) (I.remaining reader.new)) }
-    ensures lenient { IfErr result (λ e. run.now.is_strict ≡ false → is_row_fault e ≡ false) }
+    ensures lenient { IfErr result (λ e. run.now.is_strict ≡ false → is_refusal e ≡ false) }
     ensures ended { IfErr result (IsEndOf output run.now (I.remaining reader.old) (I.remaining reader.new) (W.contents writer.old) (W.contents writer.new)) }
 {
     // what a follower has written from the first slot on is what is written at once, of a script too
@@ -89,7 +86,7 @@ fn feed_all<R: Ready, I: Read, W: Write, E: Write>(
     ensures settled { OnOk result (follower.new.dispatch.settings.slots ≤ length follower.new.dispatch.tables) }
     ensures strict { OnOk result (is_strict ≡ true → (bytes rest : List ℕ) × Consumes (I.remaining reader.old) (I.remaining reader.new) bytes
         × AreWelcome follower.old.dispatch.held.processors follower.old.dispatch.held.capacity bytes rest) }
-    ensures lenient { IfErr result (λ e. is_strict ≡ false → is_row_fault e ≡ false) }
+    ensures lenient { IfErr result (λ e. is_strict ≡ false → is_refusal e ≡ false) }
     ensures ended { IfErr result (IsFedEndOf follower.old follower.new (I.remaining reader.old) (I.remaining reader.new) (W.contents writer.old) (W.contents writer.new)) }
 {
     begin(follower, writer)?;
@@ -98,11 +95,11 @@ fn feed_all<R: Ready, I: Read, W: Write, E: Write>(
 }
 
 // Writes the header, unless rows are left out.
-fn begin<R: Ready, W: Write>(follower: &Follower<R>, writer: &mut W) -> Result<(), FollowFault>
+fn begin<R: Ready, W: Write>(follower: &Follower<R>, writer: &mut W) -> Result<(), ProgramFault>
     ensures written { OnOk result (Appends (W.contents writer.old) (W.contents writer.new) (head_from follower.now.output follower.now.told)) }
-    ensures cut { IsErrOf result follow.WriteFailed → TakesPrefix (W.contents writer.old) (W.contents writer.new) (head_from follower.now.output follower.now.told) }
-    ensures nothing { IfErr result (λ e. e ≢ follow.WriteFailed → Keeps (W.contents writer.old) (W.contents writer.new)) }
-    ensures cause { IfErr result (λ e. (e ≡ follow.WriteFailed) ⊎ (e ≡ follow.Memory)) }
+    ensures cut { IsErrOf result WriteFailed → TakesPrefix (W.contents writer.old) (W.contents writer.new) (head_from follower.now.output follower.now.told) }
+    ensures nothing { IfErr result (λ e. e ≢ WriteFailed → Keeps (W.contents writer.old) (W.contents writer.new)) }
+    ensures cause { IfErr result (λ e. (e ≡ WriteFailed) ⊎ (e ≡ Memory)) }
 {
     if follower.told() == 0 {
         follower.write_header(writer)
@@ -114,12 +111,12 @@ fn begin<R: Ready, W: Write>(follower: &Follower<R>, writer: &mut W) -> Result<(
 // Whether all slots are settled; the keys that are missing are told where they aren't.
 fn end<R: Ready, E: Write>(follower: &Follower<R>, complaints: &mut E) -> Result<(), ProgramFault>
     ensures settled { OnOk result (follower.now.dispatch.settings.slots ≤ length follower.now.dispatch.tables) }
-    ensures short { IfErr result (λ e. (e ≡ stalled (length follower.now.dispatch.tables)) × (length follower.now.dispatch.tables < follower.now.dispatch.settings.slots)) }
+    ensures short { IfErr result (λ e. (e ≡ Stalled (length follower.now.dispatch.tables)) × (length follower.now.dispatch.tables < follower.now.dispatch.settings.slots)) }
 {
     let slot = follower.dispatcher().next_slot();
     if slot < follower.dispatcher().settings().slots() {
         let _ = tell_missing(follower, complaints);
-        return Err(ProgramFault::Schedule(ScheduleFault::Stalled { slot }));
+        return Err(ProgramFault::Stalled { slot });
     }
     Ok(())
 }

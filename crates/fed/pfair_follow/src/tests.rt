@@ -1,11 +1,11 @@
 //! What no contract says: that memory suffices, what is complained of, and the rows of runs that were
 //! worked out by hand.
 
-use crate::fault::{ProgramFault, write_fault};
+use crate::fault::write_fault;
 use crate::rows::follow_rows;
 use pfair_entry_row::RowFault;
-use pfair_feed::{FeedFault, FollowFault, Output};
-use pfair_file::ScheduleFault;
+use pfair_feed::Output;
+use pfair_file::ProgramFault;
 use pfair_table::Settings;
 use pfair_words::follow::Run;
 use std::alloc::Global;
@@ -202,30 +202,22 @@ fn a_writer_that_fails_at_each_byte(rt: HostRuntime) {
 
 #[test]
 fn faults_have_lines_and_statuses(rt: HostRuntime) {
-    let torn = FollowFault::Torn { proc: 2, number: 7 };
+    let torn = ProgramFault::Torn { proc: 2, number: 7 };
     let faults = [
         (
-            ProgramFault::Schedule(ScheduleFault::Stalled { slot: 3 }),
+            ProgramFault::Stalled { slot: 3 },
             "pfair_follow: 52 stalled at slot 3\n",
             3,
         ),
         (
-            ProgramFault::Schedule(ScheduleFault::ReadFailed),
+            ProgramFault::ReadFailed,
             "pfair_follow: 70 reading failed\n",
             5,
         ),
-        (
-            ProgramFault::Feed(FeedFault::Follow(torn)),
-            "pfair_follow: 30 entry 7 of processor 2 torn\n",
-            3,
-        ),
+        (torn, "pfair_follow: 30 entry 7 of processor 2 torn\n", 3),
         // its line was written with the row
-        (ProgramFault::Feed(FeedFault::Row(RowFault::NoRow)), "", 2),
-        (
-            ProgramFault::Feed(FeedFault::Follow(FollowFault::NoSuchProcessor)),
-            "",
-            2,
-        ),
+        (ProgramFault::Row(RowFault::NoRow), "", 2),
+        (ProgramFault::NoSuchProcessor, "", 2),
         (
             ProgramFault::WriteFailed,
             "pfair_follow: 71 writing failed\n",

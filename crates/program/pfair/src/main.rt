@@ -3,17 +3,15 @@
 
 #[cfg(test)]
 mod tests;
-mod words;
 
 use pfair_board::OpenGate;
-use pfair_file::{given_words, opened};
-use pfair_reports::{ProgramFault, decisions, lags, replay, replay_placed, windows, write_fault};
+use pfair_file::{ProgramFault, given_words, opened};
+use pfair_reports::{decisions, lags, replay, replay_placed, windows, write_fault};
 use pfair_text::send;
-use pfair_words::schedule::Asked;
+use pfair_words::schedule::{Asked, read_words};
 use std::process::ExitCode;
 use std::sync::Wait;
 use std::thread::Threads;
-use words::read_words;
 
 fn main(rt: HostRuntime) -> ExitCode {
     match run(&rt, &rt) {

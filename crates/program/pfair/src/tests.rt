@@ -1,8 +1,8 @@
 //! What the words of command lines ask for, and the lines that tell why some are refused.
 
-use crate::words::read_words;
-use pfair_reports::{ProgramFault, write_fault};
-use pfair_words::schedule::Asked;
+use pfair_file::ProgramFault;
+use pfair_reports::write_fault;
+use pfair_words::schedule::{Asked, read_words};
 use std::alloc::Global;
 use std::process::Abort;
 

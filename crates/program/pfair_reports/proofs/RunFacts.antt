@@ -1,22 +1,17 @@
 -- What is known of the text of a dispatcher that ran a file's script is known of the output of the file.
-use Rattle.std.proofs.Common.{ℕ, List, Option, Ok, Bool, ◌≡◌, ◌≢◌, ◌≤◌, refl, sym, ap, ◌∙◌, subst, map}
+use Rattle.std.proofs.Common.{ℕ, List, Option, Ok, Bool, ◌≡◌, ◌≤◌, ap, ◌∙◌, subst, map}
 use Rattle.std.proofs.lemmas.Option.{IfSome_then}
-use Rattle.std.specs.Prelude.{IfSome, Vec, Result, Err, IsErrAnd}
-use Rattle.pfair_text.specs.Input.{TakesOneFile}
+use Rattle.std.specs.Prelude.{IfSome, Vec}
 use Rattle.std.specs.declared.alloc.Global.{Global}
-use Rattle.pfair_file.specs.Commands.{IsRefusalBy}
 use Rattle.pfair_file.specs.Schedules.{IsRefusalOf}
-use Rattle.pfair_file.specs.declared.schedule_fault.ScheduleFault.{ScheduleFault}
-use Rattle.pfair_file.specs.declared.schedule_fault.ScheduleFault.TheVariants as schedule
-use Rattle.pfair_file.proofs.CommandFacts.{TakesOver, err_is}
-use Rattle.pfair_reports.specs.declared.fault.ProgramFault.{ProgramFault}
-use Rattle.pfair_reports.specs.declared.fault.ProgramFault.TheVariants.{Memory, Schedule, WriteFailed}
-use Rattle.pfair_reports.specs.Faults.{of_run, of_schedule}
+use Rattle.pfair_file.specs.declared.program_fault.ProgramFault.{ProgramFault}
+use Rattle.pfair_file.specs.declared.program_fault.ProgramFault.TheVariants.{GateGaveUp, Astray}
+use Rattle.pfair_file.specs.ProgramFaults.{of_run}
 use Rattle.pfair_replica.specs.Replica.{frontier}
 use Rattle.pfair_table.specs.declared.pick.Pick.{Pick}
 use Rattle.pfair_table.specs.Script.{LoggedRun}
-use Rattle.pfair_board.specs.declared.fault.RunFault.{RunFault}
-use Rattle.pfair_board.specs.declared.fault.RunFault.TheVariants as run
+use Rattle.pfair_table.specs.declared.run_fault.RunFault.{RunFault}
+use Rattle.pfair_table.specs.declared.run_fault.RunFault.TheVariants as run
 use Rattle.pfair_board.specs.RunFaults.{IsRunFaultOf}
 use Rattle.pfair_table.specs.declared.planned.Run.{Run}
 use Rattle.pfair_table.specs.Table.{Table}
@@ -60,55 +55,16 @@ places_made made built {places = places} tables_are placed are places_are run is
     ∙ ap (λ (ts : List Table). placed_text ts (places_of built)) tables_are
     ∙ ap placed_replay_text is.plan
 
--- a run that isn't finished is a fault of a replay
-pub fault_of_replay : {K : Type 0} (has : K → ℕ → List Table → Type 0) (may_give_up : Bool) (script : LoggedRun) (fault : RunFault) → IsRunFaultOf has may_give_up script fault → IsFaultOfReplay may_give_up (of_run fault)
-fault_of_replay has may_give_up script run.Memory is = (schedule.Memory, refl)
-fault_of_replay has may_give_up script run.GateGaveUp is = is.0
-fault_of_replay has may_give_up script run.Astray is = tt
-fault_of_replay has may_give_up script (run.Stalled slot) is = (schedule.Stalled slot, refl)
+-- what refuses a file refuses its replay
+pub refused_by_file : (may_give_up : Bool) (given : Option (List ℕ)) (fault : ProgramFault) → IsRefusalOf given fault → IsFaultOfReplay may_give_up given fault
+refused_by_file may_give_up given GateGaveUp is = absurd is
+refused_by_file may_give_up given Astray is = absurd is
+refused_by_file may_give_up given fault is = is
 
--- the cause that a fault has
-abbrev cause_of : ProgramFault → ScheduleFault
-cause_of (Schedule cause) = cause
-cause_of fault = schedule.Memory
-
-pub unlike : WriteFailed ≢ Memory
-unlike same = cc same
-
--- the program's faults take over those of a schedule
-abbrev pub takes_over : TakesOver of_schedule WriteFailed
-takes_over = record {
-  cause_of = cause_of;
-  same_cause = elim [ schedule.Stalled slot ↦ refl | schedule.File fault ↦ refl | schedule.FileTooLong ↦ refl | schedule.ReadFailed ↦ refl | schedule.Memory ↦ refl ];
-  no_cause = refl;
-  no_want = unlike;
-}
-
--- a run's fault says of the file what its cause says
+-- so does a run that isn't finished
 pub refused_by_run : {K : Type 0} (has : K → ℕ → List Table → Type 0) (may_give_up : Bool) (given : Option (List ℕ)) (script : LoggedRun) (fault : RunFault) → IfSome given (λ bytes. script_of_file bytes ≡ Ok script) → IsRunFaultOf has may_give_up script fault
-    → IfSome given (λ bytes. IsRefusalBy of_schedule bytes (of_run fault))
-refused_by_run has may_give_up given script fault read is = IfSome_then given read (λ bytes its cause same.
-    subst (IsRefusalOf bytes) (ap cause_of same ∙ takes_over.same_cause cause) (at bytes its fault is))
-  where
-    at : (bytes : List ℕ) → script_of_file bytes ≡ Ok script → (fault : RunFault) → IsRunFaultOf has may_give_up script fault → IsRefusalOf bytes (cause_of (of_run fault))
-    at bytes its run.Memory is = tt
-    at bytes its run.GateGaveUp is = tt
-    at bytes its run.Astray is = tt
-    at bytes its (run.Stalled slot) is = (script, its, is.0, is.1)
-
--- what was taken of a file before a fault of the schedule was taken before the program's fault
-pub taken_as_schedule : {A T : Type 0} {given left : Option (List ℕ)} (cause : ScheduleFault) (r : Result T ProgramFault) → IsErrAnd r (λ e. e ≡ of_schedule cause)
-    → TakesOneFile {T = A} schedule.FileTooLong schedule.ReadFailed schedule.Memory (Err cause) given left
-    → TakesOneFile (Schedule schedule.FileTooLong) (Schedule schedule.ReadFailed) Memory r given left
-taken_as_schedule {T = T} {given = given} {left = left} cause r is taken = err_is (λ r. TakesOneFile {T = T} (Schedule schedule.FileTooLong) (Schedule schedule.ReadFailed) Memory r given left) r (of_schedule cause) is (record {
-  long = λ same. taken.long (ap Err (at schedule.FileTooLong (cc same)));
-  unread = λ same. taken.unread (ap Err (at schedule.ReadFailed (cc same)));
-  within = tt;
-  within_fault = λ short known. taken.within_fault (λ same. short (ap of_schedule same)) (λ same. known (ap of_schedule same));
-  end = tt;
-  end_fault = λ short read known. taken.end_fault (λ same. short (ap of_schedule same)) (λ same. read (ap of_schedule same)) (λ same. known (ap of_schedule same));
-  most = taken.most;
-})
-  where
-    at : (other : ScheduleFault) → of_schedule cause ≡ of_schedule other → cause ≡ other
-    at other same = sym (takes_over.same_cause cause) ∙ ap cause_of same ∙ takes_over.same_cause other
+    → IsFaultOfReplay may_give_up given (of_run fault)
+refused_by_run has may_give_up given script run.Memory read is = tt
+refused_by_run has may_give_up given script run.GateGaveUp read is = is.0
+refused_by_run has may_give_up given script run.Astray read is = tt
+refused_by_run has may_give_up given script (run.Stalled slot) read is = IfSome_then given read (λ bytes its. (script, its, is.0, is.1))

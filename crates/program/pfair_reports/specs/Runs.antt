@@ -1,5 +1,5 @@
 -- What the commands write of a task file, and the faults of a replay.
-use Rattle.std.specs.Prelude.{ℕ, Bool, true, List, ◌≡◌, ◌≤◌, Ok}
+use Rattle.std.specs.Prelude.{ℕ, Bool, true, List, ◌≡◌, ◌≤◌, Option, Ok}
 use Rattle.pfair_replica.specs.Replica.{Replica, frontier}
 use Rattle.pfair_text.specs.Rows.{TextWriter, IsOpen, text_so_far}
 use Rattle.pfair_table.specs.Table.{Table, plan}
@@ -9,10 +9,9 @@ use Rattle.pfair_output.specs.Decisions.{decisions_text}
 use Rattle.pfair_output.specs.Lags.{lags_text}
 use Rattle.pfair_output.specs.Runs.{decided_of}
 use Rattle.pfair_file.specs.Documents.{script_of_file}
-use Rattle.pfair_file.specs.Commands.{IsFaultBy}
-use Rattle.pfair_reports.specs.declared.fault.ProgramFault.{ProgramFault}
-use Rattle.pfair_reports.specs.declared.fault.ProgramFault.TheVariants.{GateGaveUp, Astray}
-use Rattle.pfair_reports.specs.Faults.{of_schedule}
+use Rattle.pfair_file.specs.Schedules.{IsRefusalOf}
+use Rattle.pfair_file.specs.declared.program_fault.ProgramFault.{ProgramFault}
+use Rattle.pfair_file.specs.declared.program_fault.ProgramFault.TheVariants.{GateGaveUp, Astray}
 
 -- the replica of all that a script says
 abbrev pub replica_of_run : LoggedRun → Replica
@@ -38,11 +37,11 @@ lags_of_run run = lags_text run.settings (replica_of_run run)
 abbrev pub IsOutputOf : (LoggedRun → List ℕ) → List ℕ → (List ℕ → Type 0) → Type 0
 IsOutputOf text bytes P = (run : LoggedRun) × (script_of_file bytes ≡ Ok run) × (run.settings.slots ≤ frontier (replica_of_run run)) × P (text run)
 
--- the faults that a replay may end with before it writes
-abbrev pub IsFaultOfReplay : Bool → ProgramFault → Type 0
-IsFaultOfReplay may_give_up GateGaveUp = may_give_up ≡ true
-IsFaultOfReplay may_give_up Astray = Unit {0}
-IsFaultOfReplay may_give_up fault = IsFaultBy of_schedule fault
+-- why a replay writes nothing, by the bytes that its reader has to give, if they are known
+abbrev pub IsFaultOfReplay : Bool → Option (List ℕ) → ProgramFault → Type 0
+IsFaultOfReplay may_give_up given GateGaveUp = may_give_up ≡ true
+IsFaultOfReplay may_give_up given Astray = Unit {0}
+IsFaultOfReplay may_give_up given fault = IsRefusalOf given fault
 
 -- the writer has the rows of these tables, whichever row's worker they are of
 abbrev pub has_rows : TextWriter → ℕ → List Table → Type 0

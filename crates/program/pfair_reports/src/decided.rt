@@ -1,11 +1,11 @@
 //! The command `decisions`: the admission decisions of a task file.
 
-ghost use Rattle.pfair_file.specs.Commands.{IsCommandOf, IsFaultBy};
-ghost use Rattle.pfair_reports.specs.Faults.{of_schedule};
+ghost use Rattle.pfair_file.specs.Commands.{IsCommandOf};
+ghost use Rattle.pfair_file.specs.Schedules.{IsRefusalOf};
 ghost use Rattle.pfair_reports.specs.Runs.{IsOutputOf, decisions_of_run};
 
-use crate::fault::ProgramFault;
 use crate::schedule_rows::scheduled_decisions;
+use pfair_file::ProgramFault;
 use pfair_text::send;
 use std::alloc::Global;
 use std::io::{Read, Write};
@@ -20,17 +20,16 @@ use std::io::{Read, Write};
 /// wanting: one more may then be. The cost is that of reading the file, of running its script, and O(rows).
 ///
 /// # Errors
-/// [`ProgramFault::Schedule`] with the cause where the file has no schedule, as
-/// [`scheduled`](pfair_file::scheduled) says, and [`ProgramFault::Memory`] if an allocation
-/// fails: nothing has then been written.
-/// [`ProgramFault::WriteFailed`] where the writer answered an error, or took nothing; a prefix of
-/// the text has then gone out.
+/// Those of [`scheduled`](pfair_file::scheduled) if the file has no schedule, and
+/// [`ProgramFault::Memory`] if an allocation fails: nothing has then been written.
+/// [`ProgramFault::WriteFailed`] if the writer answered an error, or took nothing; a prefix of the
+/// text has then gone out.
 pub fn decisions<R: Read, W: Write>(
     alloc: Global,
     reader: &mut R,
     writer: &mut W,
 ) -> Result<(), ProgramFault>
-    ensures { IsCommandOf of_schedule ProgramFault.WriteFailed (IsOutputOf decisions_of_run) (IsFaultBy of_schedule) result
+    ensures { IsCommandOf (IsOutputOf decisions_of_run) IsRefusalOf result
         (R.remaining reader.old) (R.remaining reader.new) (W.contents writer.old) (W.contents writer.new) }
 {
     let text = scheduled_decisions(alloc, reader)?;

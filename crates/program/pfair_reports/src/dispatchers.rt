@@ -1,19 +1,14 @@
 //! The run of a script's dispatchers, each in a thread of its own.
 
 ghost use Rattle.std.specs.Prelude.{◌≡◌, [], Ok, IfErr, IfOk, IfSome};
-ghost use Rattle.pfair_text.specs.Input.{TakesOneFile};
+ghost use Rattle.pfair_file.specs.Input.{TakesOneFile};
 ghost use Rattle.pfair_table.specs.Script.{LoggedRun};
 ghost use Rattle.pfair_board.specs.Finish.{HasPlan};
 ghost use Rattle.pfair_file.specs.Documents.{script_of_file};
-ghost use Rattle.pfair_file.specs.Commands.{IsRefusalBy};
-ghost use Rattle.pfair_reports.specs.Faults.{of_schedule};
 ghost use Rattle.pfair_reports.specs.Runs.{IsFaultOfReplay};
-ghost use Rattle.pfair_file.specs.declared.schedule_fault.ScheduleFault.TheVariants.{FileTooLong, ReadFailed};
-ghost use Rattle.pfair_reports.specs.declared.fault.ProgramFault.TheVariants.{Memory, Schedule};
 
-use crate::fault::ProgramFault;
 use pfair_board::{Gate, Sink, run_dispatchers_into};
-use pfair_file::read_script;
+use pfair_file::{ProgramFault, read_script};
 use pfair_ready::HeapReady;
 use std::alloc::Global;
 use std::io::Read;
@@ -32,9 +27,8 @@ pub(crate) fn first_run<R: Read, G: Gate + Sync, K: Sink + Send>(
     requires { K.has sink 0 [] }
     ensures plan { IfOk result (λ kept. (run : LoggedRun) × HasPlan K.has run kept) }
     ensures ok { IfOk result (λ kept. IfSome (R.remaining reader.old) (λ bytes. (run : LoggedRun) × (script_of_file bytes ≡ Ok run) × HasPlan K.has run kept)) }
-    ensures refused { IfErr result (λ e. IfSome (R.remaining reader.old) (λ bytes. IsRefusalBy of_schedule bytes e)) }
-    ensures taken { TakesOneFile (Schedule FileTooLong) (Schedule ReadFailed) Memory result (R.remaining reader.old) (R.remaining reader.new) }
-    ensures only { IfErr result (IsFaultOfReplay G.may_give_up) }
+    ensures refused { IfErr result (IsFaultOfReplay G.may_give_up (R.remaining reader.old)) }
+    ensures taken { TakesOneFile result (R.remaining reader.old) (R.remaining reader.new) }
 {
     let script = read_script(alloc, reader)?;
     Ok(run_dispatchers_into::<HeapReady, G, K>(rt, alloc, &script, gate, sink)?)

@@ -13,8 +13,9 @@ mod tables;
 mod window_rows;
 
 pub use decided::decisions;
-pub use fault::{ProgramFault, write_fault};
+pub use fault::write_fault;
 pub use lag_rows::lags;
+pub use pfair_file::ProgramFault;
 pub use placed_tables::replay_placed;
 pub use tables::replay;
 pub use window_rows::windows;

@@ -2,12 +2,11 @@
 //! row.
 
 ghost use Rattle.pfair_file.specs.Commands.{IsCommandOf};
-ghost use Rattle.pfair_reports.specs.Faults.{of_schedule};
 ghost use Rattle.pfair_reports.specs.Runs.{IsFaultOfReplay, IsOutputOf, placed_replay_of_run};
 
 use crate::dispatchers::first_run;
-use crate::fault::ProgramFault;
 use pfair_board::Gate;
+use pfair_file::ProgramFault;
 use pfair_output::placed_replay_of;
 use pfair_table::RunBuilder;
 use pfair_text::send;
@@ -34,7 +33,7 @@ pub fn replay_placed<R: Read, W: Write, G: Gate + Sync>(
     writer: &mut W,
     gate: &G,
 ) -> Result<(), ProgramFault>
-    ensures { IsCommandOf of_schedule ProgramFault.WriteFailed (IsOutputOf placed_replay_of_run) (IsFaultOfReplay G.may_give_up) result
+    ensures { IsCommandOf (IsOutputOf placed_replay_of_run) (IsFaultOfReplay G.may_give_up) result
         (R.remaining reader.old) (R.remaining reader.new) (W.contents writer.old) (W.contents writer.new) }
 {
     let built = first_run(rt, alloc, reader, gate, RunBuilder::new(alloc))?;

@@ -2,13 +2,12 @@
 //! in a thread of its own.
 
 ghost use Rattle.pfair_file.specs.Commands.{IsCommandOf};
-ghost use Rattle.pfair_reports.specs.Faults.{of_schedule};
 ghost use Rattle.pfair_reports.specs.Runs.{IsFaultOfReplay, IsOutputOf, replay_of_run};
 
 use crate::dispatchers::first_run;
-use crate::fault::ProgramFault;
 use crate::rows::Rows;
 use pfair_board::Gate;
+use pfair_file::ProgramFault;
 use pfair_text::send;
 use std::alloc::Global;
 use std::io::{Read, Write};
@@ -27,13 +26,12 @@ use std::thread::Threads;
 /// wanting: one more may then be.
 ///
 /// # Errors
-/// [`ProgramFault::Schedule`] with the cause where the file has no schedule, as
-/// [`scheduled`](pfair_file::scheduled) says, [`ProgramFault::Memory`] if an allocation
-/// fails or a thread can't be started, [`ProgramFault::GateGaveUp`] only where the gate's
-/// type may give up, and [`ProgramFault::Astray`] where a worker learned something else than the
-/// logs say: nothing has then been written.
-/// [`ProgramFault::WriteFailed`] where the writer answered an error, or took nothing; a prefix of
-/// the text has then gone out.
+/// Those of [`scheduled`](pfair_file::scheduled) if the file has no schedule,
+/// [`ProgramFault::Memory`] if an allocation fails or a thread can't be started,
+/// [`ProgramFault::GateGaveUp`] only if the gate's type may give up, and [`ProgramFault::Astray`] if
+/// a worker learned something other than the logs: nothing has then been written.
+/// [`ProgramFault::WriteFailed`] if the writer answered an error, or took nothing; a prefix of the
+/// text has then gone out.
 pub fn replay<R: Read, W: Write, G: Gate + Sync>(
     rt: &(impl Threads + Wait + Sync),
     alloc: Global,
@@ -41,7 +39,7 @@ pub fn replay<R: Read, W: Write, G: Gate + Sync>(
     writer: &mut W,
     gate: &G,
 ) -> Result<(), ProgramFault>
-    ensures { IsCommandOf of_schedule ProgramFault.WriteFailed (IsOutputOf replay_of_run) (IsFaultOfReplay G.may_give_up) result
+    ensures { IsCommandOf (IsOutputOf replay_of_run) (IsFaultOfReplay G.may_give_up) result
         (R.remaining reader.old) (R.remaining reader.new) (W.contents writer.old) (W.contents writer.new) }
 {
     let rows = first_run(rt, alloc, reader, gate, Rows::new(alloc)?)?;

@@ -5,12 +5,12 @@ ghost use Rattle.std.specs.Io.KnownBytes.{Appends, Keeps};
 ghost use Rattle.pfair_text.specs.Output.{TakesPrefix};
 ghost use Rattle.pfair_text.specs.Rows.{IsOpen, line, text_so_far};
 ghost use Rattle.pfair_reports.specs.Windows.{window_row, windows_text};
-ghost use Rattle.pfair_reports.specs.declared.fault.ProgramFault.TheVariants.{WriteFailed, Memory};
+ghost use Rattle.pfair_file.specs.declared.program_fault.ProgramFault.TheVariants.{WriteFailed, Memory};
 
-use crate::fault::ProgramFault;
 use csv::Writer;
 use itoa::Buffer;
 use pfair_entry::Entry;
+use pfair_file::ProgramFault;
 use pfair_text::{add_row, finish, new_text, send};
 use pfair_weight::{Stepper, Weight};
 use std::alloc::{AllocError, Global};

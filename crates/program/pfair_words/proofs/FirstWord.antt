@@ -16,8 +16,8 @@ use Rattle.pfair_words.specs.ScheduleAsked.{IsAnswer, IsAnswerToAny}
 use Rattle.pfair_words.specs.Plain.{Begins, IsNamedFirst}
 use Rattle.pfair_words.specs.declared.schedule.Asked.{Asked}
 use Rattle.pfair_words.specs.declared.schedule.Asked.TheVariants.{Windows, Replay, Decisions, Lags, Help}
-use Rattle.pfair_words.specs.declared.schedule.WordsFault.{WordsFault}
-use Rattle.pfair_words.specs.declared.schedule.WordsFault.TheVariants.{Weight, Refused, Memory}
+use Rattle.pfair_file.specs.declared.program_fault.ProgramFault.{ProgramFault}
+use Rattle.pfair_file.specs.declared.program_fault.ProgramFault.TheVariants.{Weight, CommandLine, Memory}
 use Rattle.pfair_words.specs.ScheduleLine.{line}
 use Rattle.pfair_words.proofs.LineFacts.{decisions_leaf, lags_leaf, replay_leaf, windows_leaf}
 
@@ -150,7 +150,7 @@ begins (word ∷ rest) n none is =
     by false e false f false g true h = is_first (codes "lags") word rest n _ h (lags_first rest) is
     by false e false f false g false h = absurd (no_first word rest n (rw (e, f, g, h) refl) none is)
 
-named : (words : List Text) (r : Result Asked WordsFault) (o : Option Named) → subcommand_of line words ≡ o → fault_of line words ≡ [] → IsAnswerToAny o r → IsNamedFirst words r
+named : (words : List Text) (r : Result Asked ProgramFault) (o : Option Named) → subcommand_of line words ≡ o → fault_of line words ≡ [] → IsAnswerToAny o r → IsNamedFirst words r
 named words r None is none h = subst (IsNamedFirst words) (sym h) tt
 named words (Ok (Help text)) (Some n) is none h = tt
 named words (Ok (Windows w count)) (Some n) is none h = subst (λ name. Begins name words) h.name (begins words n none is)
@@ -159,17 +159,18 @@ named words (Ok (Decisions file)) (Some n) is none h = subst (λ name. Begins na
 named words (Ok (Lags file)) (Some n) is none h = subst (λ name. Begins name words) h.0 (begins words n none is)
 named words (Err (Weight fault)) (Some n) is none h = subst (λ name. Begins name words) h.3.name (begins words n none is)
 named words (Err Memory) (Some n) is none h = tt
-named words (Err Refused) (Some n) is none h = tt
+named words (Err CommandLine) (Some n) is none h = tt
+named words (Err _) (Some n) is none h = absurd h
 
 -- so what is answered is what the first word names
-pub first_answer : (words : List Text) (r : Result Asked WordsFault) → IsAnswer words r → IsNamedFirst words r
+pub first_answer : (words : List Text) (r : Result Asked ProgramFault) → IsAnswer words r → IsNamedFirst words r
 first_answer words (Ok (Help text)) h = tt
 first_answer words (Ok (Windows w n)) (inl h) = named words (Ok (Windows w n)) (subcommand_of line words) refl h.0 h.1
 first_answer words (Ok (Replay file set)) (inl h) = named words (Ok (Replay file set)) (subcommand_of line words) refl h.0 h.1
 first_answer words (Ok (Decisions file)) (inl h) = named words (Ok (Decisions file)) (subcommand_of line words) refl h.0 h.1
 first_answer words (Ok (Lags file)) (inl h) = named words (Ok (Lags file)) (subcommand_of line words) refl h.0 h.1
-first_answer words (Err (Weight fault)) (inl h) = named words (Err (Weight fault)) (subcommand_of line words) refl h.0 h.1
 first_answer words (Ok asked) (inr h) = absurd h.2
-first_answer words (Err (Weight fault)) (inr h) = absurd h.2
 first_answer words (Err Memory) h = tt
-first_answer words (Err Refused) h = tt
+first_answer words (Err CommandLine) h = tt
+first_answer words (Err fault) (inl h) = named words (Err fault) (subcommand_of line words) refl h.0 h.1
+first_answer words (Err fault) (inr h) = absurd h.2

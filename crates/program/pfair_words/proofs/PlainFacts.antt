@@ -15,20 +15,19 @@ use Rattle.pfair_words.specs.ScheduleLine.{line}
 use Rattle.pfair_words.specs.Plain.{AskNumbers, HasCount, IsDecisionsAnswer, IsLagsAnswer, IsPlain, IsPlainAnswer, IsRefusal, IsReplayAnswer, IsTextAnswer, IsWindowsAnswer}
 use Rattle.pfair_words.specs.declared.schedule.Asked.{Asked}
 use Rattle.pfair_words.specs.declared.schedule.Asked.TheVariants.{Windows, Replay, Decisions, Lags, Help}
-use Rattle.pfair_words.specs.declared.schedule.WordsFault.{WordsFault}
-use Rattle.pfair_words.specs.declared.schedule.WordsFault.TheVariants.{Weight, Refused, Memory}
+use Rattle.pfair_file.specs.declared.program_fault.ProgramFault.{ProgramFault}
+use Rattle.pfair_file.specs.declared.program_fault.ProgramFault.TheVariants.{Weight, CommandLine, Memory}
 use Rattle.pfair_words.specs.declared.schedule.TheConstants.{MAX_COUNT}
 use Rattle.pfair_words.proofs.FirstWord.{first_answer}
 use Rattle.pfair_words.proofs.LineFacts as line
 
 abbrev Answer : Type 0
-Answer = Result Asked WordsFault
+Answer = Result Asked ProgramFault
 
 -- the parser takes the words, or it doesn't
 parts : (words : List Text) (G : Type 0) (r : Answer) → IsAnswer words r → (r ≡ Err Memory → G) → (IsAnswerToTaken words r → G) → (IsAnswerToUntaken words r → G) → G
 parts words G (Err Memory) h wanting taken untaken = wanting refl
-parts words G (Err Refused) h wanting taken untaken = elim h [ inl x ↦ taken x | inr x ↦ untaken x ]
-parts words G (Err (Weight f)) h wanting taken untaken = elim h [ inl x ↦ taken x | inr x ↦ untaken x ]
+parts words G (Err fault) h wanting taken untaken = elim h [ inl x ↦ taken x | inr x ↦ untaken x ]
 parts words G (Ok a) h wanting taken untaken = elim h [ inl x ↦ taken x | inr x ↦ untaken x ]
 
 -- words that the parser takes are answered by the command that they name
@@ -56,8 +55,9 @@ module _ (rows : List Row) (f : Text) (file : first_of (codes "file") rows ≡ S
   decisions_answer (Ok (Lags name)) h = absurd (apart (codes "decisions") (codes "lags") refl refl h.0)
   decisions_answer (Ok (Help text)) h = absurd h
   decisions_answer (Err Memory) h = refl
-  decisions_answer (Err Refused) h = absurd (h.no_decisions f (refl, file))
+  decisions_answer (Err CommandLine) h = absurd (h.no_decisions f (refl, file))
   decisions_answer (Err (Weight fault)) h = absurd (apart (codes "decisions") (codes "windows") refl refl h.3.name)
+  decisions_answer (Err _) h = absurd h
 
   lags_answer : (r : Answer) → IsAnswerTo (codes "lags", rows) r → IsLagsAnswer f r
   lags_answer (Ok (Lags name)) h = some_inj _ _ (sym h.1 ∙ file)
@@ -66,8 +66,9 @@ module _ (rows : List Row) (f : Text) (file : first_of (codes "file") rows ≡ S
   lags_answer (Ok (Decisions name)) h = absurd (apart (codes "lags") (codes "decisions") refl refl h.0)
   lags_answer (Ok (Help text)) h = absurd h
   lags_answer (Err Memory) h = refl
-  lags_answer (Err Refused) h = absurd (h.no_lags f (refl, file))
+  lags_answer (Err CommandLine) h = absurd (h.no_lags f (refl, file))
   lags_answer (Err (Weight fault)) h = absurd (apart (codes "lags") (codes "windows") refl refl h.3.name)
+  lags_answer (Err _) h = absurd h
 
   replay_answer : (set : Bool) → ((flag : Bool) → IsFlag (one_of (codes "affinity") rows) flag → flag ≡ set) → (r : Answer) → IsAnswerTo (codes "replay", rows) r → IsReplayAnswer f set r
   replay_answer set is (Ok (Replay name flag)) h = (some_inj _ _ (sym h.0.1 ∙ file), is flag h.1)
@@ -76,8 +77,9 @@ module _ (rows : List Row) (f : Text) (file : first_of (codes "file") rows ≡ S
   replay_answer set is (Ok (Lags name)) h = absurd (apart (codes "replay") (codes "lags") refl refl h.0)
   replay_answer set is (Ok (Help text)) h = absurd h
   replay_answer set is (Err Memory) h = refl
-  replay_answer set is (Err Refused) h = absurd (h.no_replay f (refl, file))
+  replay_answer set is (Err CommandLine) h = absurd (h.no_replay f (refl, file))
   replay_answer set is (Err (Weight fault)) h = absurd (apart (codes "replay") (codes "windows") refl refl h.3.name)
+  replay_answer set is (Err _) h = absurd h
 
 -- ---- windows
 
@@ -142,15 +144,16 @@ module _ (e p n : Text) (he : IsPlain e) (hp : IsPlain p) (hn : IsPlain n) where
   windows_answer (Ok (Lags name)) h = absurd (apart (codes "windows") (codes "lags") refl refl h.0)
   windows_answer (Ok (Help text)) h = absurd h
   windows_answer (Err Memory) h = tt
-  windows_answer (Err Refused) h = λ a b c k. h.no_windows a b c (to_asked a b c k)
+  windows_answer (Err CommandLine) h = λ a b c k. h.no_windows a b c (to_asked a b c k)
   windows_answer (Err (Weight fault)) h = (h.0, h.1, h.2, to_spelled h.0 h.1 h.2 h.3, h.4)
+  windows_answer (Err _) h = absurd h
 
   windows_refusal : (r : Answer) → IsAnswerToUntaken words r → IsWindowsAnswer e p n r
   windows_refusal (Ok (Help text)) h = absurd (no_text h.0 (among_refused _ _ _ h.0 (subst (IsAmong h.0) (line.windows_taken e p n he hp hn) h.1)) h.2)
   windows_refusal (Ok a) h = absurd h.2
   windows_refusal (Err Memory) h = tt
-  windows_refusal (Err Refused) h = λ a b c k. subst (IsAmong h.0) (taken a b c k) h.1
-  windows_refusal (Err (Weight fault)) h = absurd h.2
+  windows_refusal (Err CommandLine) h = λ a b c k. subst (IsAmong h.0) (taken a b c k) h.1
+  windows_refusal (Err _) h = absurd h.2
 
   windows_any : (r : Answer) → IsAnswer words r → IsWindowsAnswer e p n r
   windows_any r h =
@@ -165,17 +168,17 @@ text_of : (kind : ErrorKind) → (kind ≡ DisplayHelp) ⊎ (kind ≡ DisplayVer
 text_of kind text (Ok (Help t)) h = tt
 text_of kind text (Ok a) h = absurd h
 text_of kind text (Err Memory) h = refl
-text_of kind (inl is) (Err Refused) h = absurd (h.0 is)
-text_of kind (inr is) (Err Refused) h = absurd (h.1 is)
-text_of kind text (Err (Weight fault)) h = absurd h
+text_of kind (inl is) (Err CommandLine) h = absurd (h.0 is)
+text_of kind (inr is) (Err CommandLine) h = absurd (h.1 is)
+text_of kind text (Err _) h = absurd h
 
 refusal_of : (r : Answer) → IsAnswerToKind MissingSubcommand r → IsRefusal r
 refusal_of (Ok (Help t)) (inl e) = absurd (search rules)
 refusal_of (Ok (Help t)) (inr e) = absurd (search rules)
 refusal_of (Ok a) h = absurd h
 refusal_of (Err Memory) h = tt
-refusal_of (Err Refused) h = tt
-refusal_of (Err (Weight fault)) h = absurd h
+refusal_of (Err CommandLine) h = tt
+refusal_of (Err _) h = absurd h
 
 -- words that fail by one kind are answered by that kind
 of_kind : (words : List Text) (kind : ErrorKind) (r : Answer) → fault_of line words ≡ kind ∷ [] → IsAnswer words r → (r ≡ Err Memory) ⊎ IsAnswerToKind kind r

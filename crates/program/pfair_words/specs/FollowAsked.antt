@@ -10,8 +10,8 @@ use Rattle.pfair_words.specs.FollowLine.{line}
 use Rattle.pfair_words.specs.declared.follow.Run.{Run}
 use Rattle.pfair_words.specs.declared.follow.Asked.{Asked}
 use Rattle.pfair_words.specs.declared.follow.Asked.TheVariants.{Entries, Replay, Decisions, Lags, Help}
-use Rattle.pfair_words.specs.declared.follow.WordsFault.{WordsFault}
-use Rattle.pfair_words.specs.declared.follow.WordsFault.TheVariants.{Refused, Memory}
+use Rattle.pfair_file.specs.declared.program_fault.ProgramFault.{ProgramFault}
+use Rattle.pfair_file.specs.declared.program_fault.ProgramFault.TheVariants.{CommandLine, Memory}
 
 -- settings within their limits
 pub record AskSettings (rows : List Row) (settings : Settings) : Type 0 where
@@ -57,36 +57,38 @@ pub record AskNothing (named : Named) : Type 0 where
   pub no_lags : named.0 ≡ codes "lags" → AsksNoRun named.1
 
 -- why a command is refused: it asks for nothing
-abbrev pub IsRefusedAs : Named → WordsFault → Type 0
+abbrev pub IsRefusedAs : Named → ProgramFault → Type 0
 IsRefusedAs named Memory = ⊤
-IsRefusedAs named Refused = AskNothing named
+IsRefusedAs named CommandLine = AskNothing named
+IsRefusedAs named _ = ⊥
 
 -- what is answered to a command
-abbrev pub IsAnswerTo : Named → Result Asked WordsFault → Type 0
+abbrev pub IsAnswerTo : Named → Result Asked ProgramFault → Type 0
 IsAnswerTo named (Ok asked) = Ask named asked
 IsAnswerTo named (Err fault) = IsRefusedAs named fault
 
 -- and to words that may name none
-abbrev pub IsAnswerToAny : Option Named → Result Asked WordsFault → Type 0
+abbrev pub IsAnswerToAny : Option Named → Result Asked ProgramFault → Type 0
 IsAnswerToAny (Some named) result = IsAnswerTo named result
-IsAnswerToAny None result = result ≡ Err Refused
+IsAnswerToAny None result = result ≡ Err CommandLine
 
 -- what is answered where the parser gives no command but an error of this kind: a text about the program, a refusal, or want of memory
-abbrev pub IsAnswerToKind : ErrorKind → Result Asked WordsFault → Type 0
+abbrev pub IsAnswerToKind : ErrorKind → Result Asked ProgramFault → Type 0
 IsAnswerToKind kind (Ok (Help text)) = IsTextKind kind
 IsAnswerToKind kind (Ok _) = ⊥
 IsAnswerToKind kind (Err Memory) = ⊤
-IsAnswerToKind kind (Err Refused) = IsRefusalKind kind
+IsAnswerToKind kind (Err CommandLine) = IsRefusalKind kind
+IsAnswerToKind kind (Err _) = ⊥
 
 -- the parser takes the words, and the answer is that to the command that they name
-abbrev pub IsAnswerToTaken : List Text → Result Asked WordsFault → Type 0
+abbrev pub IsAnswerToTaken : List Text → Result Asked ProgramFault → Type 0
 IsAnswerToTaken words result = IsTaken line words (λ named. IsAnswerToAny named result)
 
 -- the parser doesn't take them, and the answer is that to one of the kinds of its error
-abbrev pub IsAnswerToUntaken : List Text → Result Asked WordsFault → Type 0
+abbrev pub IsAnswerToUntaken : List Text → Result Asked ProgramFault → Type 0
 IsAnswerToUntaken words result = IsUntaken line words (λ kind. IsAnswerToKind kind result)
 
 -- what is answered to words; memory may always be wanting
-abbrev pub IsAnswer : List Text → Result Asked WordsFault → Type 0
+abbrev pub IsAnswer : List Text → Result Asked ProgramFault → Type 0
 IsAnswer words (Err Memory) = ⊤
 IsAnswer words result = IsAnswerToTaken words result ⊎ IsAnswerToUntaken words result

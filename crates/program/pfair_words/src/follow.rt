@@ -12,7 +12,6 @@ ghost use Rattle.pfair_words.specs.FollowAsked.{
   IsAnswerTo,
   IsAnswerToAny,
 };
-ghost use Rattle.pfair_words.specs.declared.follow.WordsFault.TheVariants.{Memory};
 
 mod command;
 mod help;
@@ -20,8 +19,9 @@ mod help;
 use crate::parse::{Parsed, file_name, is_set, number, parse};
 use clap::ArgMatches;
 use command::command_line;
+use pfair_file::ProgramFault;
 use pfair_table::Settings;
-use std::alloc::{AllocError, Global};
+use std::alloc::Global;
 
 /// A run that is fed by rows of entries.
 #[derive(Clone, Copy, Debug, PartialEq, Eq)]
@@ -49,23 +49,6 @@ pub enum Asked {
     Help { text: String },
 }
 
-/// Why the words ask for nothing.
-#[derive(Clone, Copy, Debug, PartialEq, Eq)]
-pub enum WordsFault {
-    /// No command has this form.
-    Refused,
-    /// An allocation failed.
-    Memory,
-}
-
-impl From<AllocError> for WordsFault {
-    ghost from_gives = { λ _ e. e ≡ Memory };
-
-    fn from(_: AllocError) -> WordsFault {
-        WordsFault::Memory
-    }
-}
-
 /// Reads the words after the program's name.
 ///
 /// `entries FILE` asks for the rows of the entries of that file, whatever its name is. `replay`,
@@ -76,31 +59,31 @@ impl From<AllocError> for WordsFault {
 /// definitions what is answered to any words.
 ///
 /// # Errors
-/// [`WordsFault::Refused`] if a number isn't spelt as one or is out of its range, a word is missing or
-/// surplus, the command is unknown, or there are no words. [`WordsFault::Memory`] if an allocation
-/// fails.
-pub fn read_words(alloc: Global, words: &[String]) -> Result<Asked, WordsFault>
+/// [`ProgramFault::CommandLine`] if a number isn't spelt as one or is out of its range, a word is
+/// missing or surplus, the command is unknown, or there are no words. [`ProgramFault::Memory`] if an
+/// allocation fails.
+pub fn read_words(alloc: Global, words: &[String]) -> Result<Asked, ProgramFault>
     ensures { IsAnswer (texts words.now) result }
 {
     match parse(alloc, command_line(alloc)?, words)? {
         Parsed::Taken(matches) => read_matches(alloc, &matches),
         Parsed::Help(text) => Ok(Asked::Help { text }),
-        Parsed::Refused => Err(WordsFault::Refused),
+        Parsed::Refused => Err(ProgramFault::CommandLine),
     }
 }
 
 // What the words that `clap` took ask for.
-fn read_matches(alloc: Global, matches: &ArgMatches<'_>) -> Result<Asked, WordsFault>
+fn read_matches(alloc: Global, matches: &ArgMatches<'_>) -> Result<Asked, ProgramFault>
     ensures { IsAnswerToAny (subcommand_rows_of matches.now) result }
 {
     match matches.subcommand() {
         Some((name, words)) => read_command(alloc, name, words),
-        None => Err(WordsFault::Refused),
+        None => Err(ProgramFault::CommandLine),
     }
 }
 
 // What a command asks for.
-fn read_command(alloc: Global, name: &str, words: &ArgMatches<'_>) -> Result<Asked, WordsFault>
+fn read_command(alloc: Global, name: &str, words: &ArgMatches<'_>) -> Result<Asked, ProgramFault>
     ensures { IsAnswerTo (name.now, rows_of (found_of words.now)) result }
 {
     if name == "entries" {
@@ -112,44 +95,44 @@ fn read_command(alloc: Global, name: &str, words: &ArgMatches<'_>) -> Result<Ask
     } else if name == "lags" {
         read_lags(words)
     } else {
-        Err(WordsFault::Refused)
+        Err(ProgramFault::CommandLine)
     }
 }
 
-fn read_entries(alloc: Global, words: &ArgMatches<'_>) -> Result<Asked, WordsFault>
+fn read_entries(alloc: Global, words: &ArgMatches<'_>) -> Result<Asked, ProgramFault>
     ensures { IsAnswerTo (codes "entries", rows_of (found_of words.now)) result }
 {
     match file_name(alloc, words)? {
         Some(file) => Ok(Asked::Entries { file }),
-        None => Err(WordsFault::Refused),
+        None => Err(ProgramFault::CommandLine),
     }
 }
 
-fn read_replay(words: &ArgMatches<'_>) -> Result<Asked, WordsFault>
+fn read_replay(words: &ArgMatches<'_>) -> Result<Asked, ProgramFault>
     ensures { IsAnswerTo (codes "replay", rows_of (found_of words.now)) result }
 {
     let affinity = is_set(words, "affinity");
     match read_run(words) {
         Some(run) => Ok(Asked::Replay { run, affinity }),
-        None => Err(WordsFault::Refused),
+        None => Err(ProgramFault::CommandLine),
     }
 }
 
-fn read_decisions(words: &ArgMatches<'_>) -> Result<Asked, WordsFault>
+fn read_decisions(words: &ArgMatches<'_>) -> Result<Asked, ProgramFault>
     ensures { IsAnswerTo (codes "decisions", rows_of (found_of words.now)) result }
 {
     match read_run(words) {
         Some(run) => Ok(Asked::Decisions { run }),
-        None => Err(WordsFault::Refused),
+        None => Err(ProgramFault::CommandLine),
     }
 }
 
-fn read_lags(words: &ArgMatches<'_>) -> Result<Asked, WordsFault>
+fn read_lags(words: &ArgMatches<'_>) -> Result<Asked, ProgramFault>
     ensures { IsAnswerTo (codes "lags", rows_of (found_of words.now)) result }
 {
     match read_run(words) {
         Some(run) => Ok(Asked::Lags { run }),
-        None => Err(WordsFault::Refused),
+        None => Err(ProgramFault::CommandLine),
     }
 }
 

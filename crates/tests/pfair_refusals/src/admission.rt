@@ -5,16 +5,17 @@ ghost use Rattle.std.specs.List.{AllByRecursion};
 ghost use Rattle.std.specs.Option.{ForSome};
 ghost use Rattle.pfair_entry.specs.Entry.{IsWithinLimits};
 
-use crate::Look;
 use crate::entries::name;
+use crate::{Look, Made, Named};
+use Kind::{Arrives, Departs, IsLate};
 use pfair_admission::{Decision, Incarnation, Members, Refusal};
 use pfair_entry::{Announcement, Entry, Said};
 use pfair_weight::Weight;
 use std::alloc::{AllocError, Global};
 
-/// What is said of a task.
+// What is said of a task.
 #[derive(Clone, Copy)]
-pub(crate) enum Kind {
+enum Kind {
     // The cost and the period of its weight.
     Arrives(u64, u64),
     Departs,
@@ -22,81 +23,80 @@ pub(crate) enum Kind {
     IsLate(u64),
 }
 
-/// The letter of a task, what is said of it, and the decision.
-pub(crate) type Heard = (u8, Kind, Decision);
+// The letter of a task, what is said of it, and the decision.
+type Heard = (u8, Kind, Decision);
 
-/// A slot, what is heard at it, and the task that is then given a quantum with the subtask that runs,
-/// if it may have one.
-pub(crate) type Step = (u64, &'static [Heard], (u8, Option<u64>));
+// A slot, what is heard at it, and the task that is then given a quantum with the subtask that runs,
+// if it may have one.
+type Step = (u64, &'static [Heard], (u8, Option<u64>));
+
+// Decisions, by short names.
+const YES: Decision = Decision::Admitted;
 
 const NO_ROOM: Decision = Decision::Refused(Refusal::NoRoom);
 
-const DEPARTING: Decision = Decision::Refused(Refusal::AlreadyDeparting);
+const LEAVING: Decision = Decision::Refused(Refusal::AlreadyDeparting);
 
-/// A task that has run holds its weight until its claim ends, and another one finds no room before.
-pub(crate) const LEAVER: [Step; 4] = [
-    (
-        0,
-        &[(b'a', Kind::Arrives(1, 2), Decision::Admitted)],
-        (b'a', Some(1)),
-    ),
-    (
-        1,
-        &[(b'a', Kind::Departs, Decision::Departing { freed_at: 3 })],
-        (b'a', None),
-    ),
-    (2, &[(b'b', Kind::Arrives(1, 1), NO_ROOM)], (b'b', None)),
-    (
-        3,
-        &[(b'b', Kind::Arrives(1, 1), Decision::Admitted)],
-        (b'b', Some(1)),
-    ),
+const NOBODY: Decision = Decision::Refused(Refusal::NoSuchTask);
+
+const TAKEN: Decision = Decision::Refused(Refusal::NameTaken);
+
+const FREE_AT_3: Decision = Decision::Departing { freed_at: 3 };
+
+// A task that has run holds its weight until its claim ends, and another one finds no room before.
+const LEAVER: [Step; 4] = [
+    (0, &[(b'a', Arrives(1, 2), YES)], (b'a', Some(1))),
+    (1, &[(b'a', Departs, FREE_AT_3)], (b'a', None)),
+    (2, &[(b'b', Arrives(1, 1), NO_ROOM)], (b'b', None)),
+    (3, &[(b'b', Arrives(1, 1), YES)], (b'b', Some(1))),
 ];
 
-/// A task that never ran leaves its room and its name in the slot in which it departs.
-pub(crate) const AT_ONCE: [Step; 1] = [(
+// A task that never ran leaves its room and its name in the slot in which it departs.
+const AT_ONCE: [Step; 1] = [(
     0,
     &[
-        (b'a', Kind::Arrives(1, 1), Decision::Admitted),
-        (b'a', Kind::Departs, Decision::Departing { freed_at: 0 }),
-        (b'a', Kind::Arrives(1, 1), Decision::Admitted),
+        (b'a', Arrives(1, 1), YES),
+        (b'a', Departs, Decision::Departing { freed_at: 0 }),
+        (b'a', Arrives(1, 1), YES),
     ],
     (b'a', Some(1)),
 )];
 
-/// All that is refused of a task that departs, and of one that isn't there.
-pub(crate) const REFUSED_LEAVER: [Step; 4] = [
-    (
-        0,
-        &[(b'a', Kind::Arrives(2, 5), Decision::Admitted)],
-        (b'a', Some(1)),
-    ),
+// All that is refused of a task that departs, and of one that isn't there.
+const NAMED_AGAIN: [Step; 4] = [
+    (0, &[(b'a', Arrives(2, 5), YES)], (b'a', Some(1))),
     (
         1,
         &[
-            (b'a', Kind::Departs, Decision::Departing { freed_at: 4 }),
-            (b'a', Kind::Departs, DEPARTING),
-            (b'x', Kind::Departs, Decision::Refused(Refusal::NoSuchTask)),
-            (b'a', Kind::IsLate(1), DEPARTING),
-            (
-                b'a',
-                Kind::Arrives(1, 5),
-                Decision::Refused(Refusal::NameTaken),
-            ),
+            (b'a', Departs, Decision::Departing { freed_at: 4 }),
+            (b'a', Departs, LEAVING),
+            (b'x', Departs, NOBODY),
+            (b'a', IsLate(1), LEAVING),
+            (b'a', Arrives(1, 5), TAKEN),
         ],
         (b'a', None),
     ),
-    (3, &[(b'b', Kind::Arrives(1, 1), NO_ROOM)], (b'b', None)),
-    (
-        4,
-        &[(b'b', Kind::Arrives(1, 1), Decision::Admitted)],
-        (b'b', Some(1)),
-    ),
+    (3, &[(b'b', Arrives(1, 1), NO_ROOM)], (b'b', None)),
+    (4, &[(b'b', Arrives(1, 1), YES)], (b'b', Some(1))),
 ];
 
-/// The boundaries of some slots on a machine of one processor. After a failed allocation the members have
-/// to be those of a beginning, as their twins were on their way, and then hear the rest.
-pub(crate) fn boundaries(alloc: Global, frame: u64, steps: &[Step]) -> Look {
+pub(crate) fn looks(alloc: Global) -> [Named; 3] {
+    [
+        ("boundaries of a leaver", boundaries(alloc, 2, &LEAVER)),
+        (
+            "boundary of a task that leaves at once",
+            boundaries(alloc, 1, &AT_ONCE),
+        ),
+        (
+            "boundaries of a leaver that is named again",
+            boundaries(alloc, 5, &NAMED_AGAIN),
+        ),
+    ]
+}
+
+// The boundaries of some slots on a machine of one processor. After a failed allocation the members have
+// to be those of a beginning, as their twins were on their way, and then hear the rest.
+fn boundaries(alloc: Global, frame: u64, steps: &[Step]) -> Look {
     if !(1..=1_000_000_000).contains(&frame) {
         return Ok(false);
     }
@@ -108,7 +108,8 @@ pub(crate) fn boundaries(alloc: Global, frame: u64, steps: &[Step]) -> Look {
 fn walk(alloc: Global, members: &mut Members, twins: &mut Members, steps: &[Step]) -> Look {
     for (slot, heard, (letter, index)) in steps {
         let announced = announced(alloc, heard)?;
-        let is_right = hears(members, twins, *slot, &announced, heard)?
+        let answer = hears(members, *slot, &announced, heard);
+        let is_right = is_begun(answer, members, twins, *slot, heard)?
             && runs(members, *letter) == *index
             && runs(twins, *letter) == *index;
         if !is_right {
@@ -124,20 +125,20 @@ fn said(letter: u8, kind: Kind) -> Option<Said>
 {
     let name = name(letter)?;
     let announcement = match kind {
-        Kind::Arrives(cost, period) => Announcement::Arrive {
+        Arrives(cost, period) => Announcement::Arrive {
             name,
             weight: Weight::new(cost, period).ok()?,
             early: false,
         },
-        Kind::Departs => Announcement::Depart { name },
-        Kind::IsLate(by) => Announcement::Late { name, index: 2, by },
+        Departs => Announcement::Depart { name },
+        IsLate(by) => Announcement::Late { name, index: 2, by },
     };
     let entry = Entry::new(0, Some((0, announcement))).ok()?;
     let (_, announcement) = entry.said()?;
     Some((0, 1, announcement))
 }
 
-fn announced(alloc: Global, heard: &[Heard]) -> Result<Vec<Said>, AllocError>
+fn announced(alloc: Global, heard: &[Heard]) -> Made<Vec<Said>>
     ensures { IfOk result (λ all. AllByRecursion (λ a. IsWithinLimits a.2) all.items) }
 {
     let mut all = Vec::new(alloc);
@@ -150,44 +151,62 @@ fn announced(alloc: Global, heard: &[Heard]) -> Result<Vec<Said>, AllocError>
     Ok(all)
 }
 
-// The boundary of a slot, at once and one by one.
-fn hears(
-    members: &mut Members,
-    twins: &mut Members,
-    slot: u64,
-    announced: &[Said],
-    heard: &[Heard],
-) -> Look
-    requires { AllByRecursion (λ a. IsWithinLimits a.2) announced.now }
-{
-    let answer = hear(members, slot, announced);
-    let Some(beginning) = follow(members, twins, slot, heard)? else {
-        return Ok(false);
-    };
-    match answer {
-        Some(Ok(decisions)) => Ok(beginning == heard.len() && are_decided(&decisions, heard)),
-        Some(Err(_)) => catch_up(members, twins, slot, heard, beginning),
-        None => Ok(false),
-    }
-}
-
-// The boundary of a slot, if it counts all that it heard, also after a failed allocation.
-fn hear(
-    members: &mut Members,
-    slot: u64,
-    announced: &[Said],
-) -> Option<Result<Vec<Decision>, AllocError>>
+// Whether the boundary of a slot is decided as it should be, and counts all that it heard, also after a
+// failed allocation.
+fn hears(members: &mut Members, slot: u64, announced: &[Said], heard: &[Heard]) -> Look
     requires { AllByRecursion (λ a. IsWithinLimits a.2) announced.now }
 {
     let before = members.heard();
     let count = announced.len() as u64;
-    let is_late = members.last_slot().is_some_and(|last| last > slot);
-    if slot > 1_000_000 || count > 1000 || before + count > 262_144 || is_late {
-        return None;
+    let last = members.last_slot().unwrap_or(0);
+    if slot > 1_000_000 || count > 1000 || before + count > 262_144 || last > slot {
+        return Ok(false);
     }
     let answer = members.boundary(slot, announced);
-    let is_counted = members.heard() == before + count && members.last_slot() == Some(slot);
-    if is_counted { Some(answer) } else { None }
+    if members.heard() != before + count || members.last_slot() != Some(slot) {
+        return Ok(false);
+    }
+    Ok(are_decided(&answer?, heard))
+}
+
+fn are_decided(decisions: &[Decision], heard: &[Heard]) -> bool {
+    for place in 0..decisions.len() {
+        match (decisions.get(place), heard.get(place)) {
+            (Some(decision), Some((_, _, known))) if decision == known => {}
+            _ => return false,
+        }
+    }
+    decisions.len() == heard.len()
+}
+
+fn hears_one(members: &mut Members, slot: u64, one: &Heard) -> Look {
+    match said(one.0, one.1) {
+        Some(said) => hears(members, slot, [said].as_slice(), [*one].as_slice()),
+        None => Ok(false),
+    }
+}
+
+// Whether the members are like their twins, once these have heard the boundary of a slot one by one. After
+// a failed allocation the members then hear what their beginning lacks.
+fn is_begun(
+    answer: Look,
+    members: &mut Members,
+    twins: &mut Members,
+    slot: u64,
+    heard: &[Heard],
+) -> Look {
+    let Some(beginning) = follow(members, twins, slot, heard)? else {
+        return Ok(false);
+    };
+    if let Ok(is_right) = answer {
+        return Ok(is_right && beginning == heard.len());
+    }
+    for one in heard.iter().skip(beginning) {
+        if !hears_one(members, slot, one)? {
+            return Ok(false);
+        }
+    }
+    Ok(are_same(members, twins))
 }
 
 // The twins hear the announcements one by one. How many they had heard when they were last like the
@@ -197,60 +216,20 @@ fn follow(
     twins: &mut Members,
     slot: u64,
     heard: &[Heard],
-) -> Result<Option<usize>, AllocError> {
+) -> Made<Option<usize>> {
     let nothing: [Said; 0] = [];
-    if hear(twins, slot, nothing.as_slice()).is_none() {
-        return Ok(None);
-    }
+    let mut is_right = hears(twins, slot, nothing.as_slice(), &[])?;
     let mut beginning = None;
-    if are_same(members, twins) {
-        beginning = Some(0);
-    }
     for (place, one) in heard.iter().enumerate() {
-        if !hears_one(twins, slot, one)? {
-            return Ok(None);
-        }
         if are_same(members, twins) {
-            beginning = Some(place + 1);
+            beginning = Some(place);
         }
+        is_right = is_right && hears_one(twins, slot, one)?;
     }
-    Ok(beginning)
-}
-
-// The members hear what their beginning lacks, one by one, and are then like their twins.
-fn catch_up(
-    members: &mut Members,
-    twins: &Members,
-    slot: u64,
-    heard: &[Heard],
-    beginning: usize,
-) -> Look {
-    for one in heard.iter().skip(beginning) {
-        if !hears_one(members, slot, one)? {
-            return Ok(false);
-        }
+    if are_same(members, twins) {
+        beginning = Some(heard.len());
     }
-    Ok(are_same(members, twins))
-}
-
-// Whether one announcement is decided as it should be.
-fn hears_one(members: &mut Members, slot: u64, one: &Heard) -> Look {
-    let Some(said) = said(one.0, one.1) else {
-        return Ok(false);
-    };
-    match hear(members, slot, [said].as_slice()) {
-        Some(answer) => Ok(are_decided(&answer?, [*one].as_slice())),
-        None => Ok(false),
-    }
-}
-
-fn are_decided(decisions: &[Decision], heard: &[Heard]) -> bool {
-    for (decision, one) in decisions.iter().zip(heard.iter()) {
-        if *decision != one.2 {
-            return false;
-        }
-    }
-    decisions.len() == heard.len()
+    Ok(if is_right { beginning } else { None })
 }
 
 // The subtask that a task runs with a quantum, if it has more and may have one.

@@ -4,7 +4,6 @@ use crate::Look;
 use crate::entries::name;
 use pfair_lag::LagBook;
 use pfair_weight::{TaskName, Weight};
-use std::alloc::{AllocError, Global};
 
 // Whether the book has these tasks and no other, in this order.
 fn has_entered(book: &LagBook, names: &[TaskName]) -> bool {
@@ -18,30 +17,19 @@ fn has_entered(book: &LagBook, names: &[TaskName]) -> bool {
 
 // Enters a task after those that are there. After a failed allocation nothing has changed, and it is
 // entered once more.
-fn enters(
-    book: &mut LagBook,
-    before: &[TaskName],
-    name: TaskName,
-    weight: Weight,
-) -> Result<bool, AllocError> {
+fn enters(book: &mut LagBook, before: &[TaskName], name: TaskName, weight: Weight) -> Look {
     match book.enter(name, weight) {
-        Ok(is_new) => Ok(is_new),
         Err(_) if has_entered(book, before) => book.enter(name, weight),
         Err(_) => Ok(false),
+        answer => answer,
     }
 }
 
 /// Two tasks, one after the other, and the first of them again.
-pub(crate) fn enter(alloc: Global) -> Look {
-    enter_two(&mut LagBook::new(alloc))
-}
-
-fn enter_two(book: &mut LagBook) -> Look {
+pub(crate) fn enter_two(book: &mut LagBook) -> Look {
     let (Some(a), Some(b), Ok(half)) = (name(b'a'), name(b'b'), Weight::new(1, 2)) else {
         return Ok(false);
     };
-    let is_first = enters(book, &[], a, half)?;
-    let is_second = enters(book, &[a], b, half)?;
-    let is_known = book.enter(a, half) == Ok(false);
-    Ok(is_first && is_second && is_known && has_entered(book, &[a, b]))
+    let are_new = enters(book, &[], a, half)? && enters(book, &[a], b, half)?;
+    Ok(are_new && book.enter(a, half) == Ok(false) && has_entered(book, &[a, b]))
 }

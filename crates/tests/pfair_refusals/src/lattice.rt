@@ -1,57 +1,99 @@
 //! Joins, puts and copies of maps that nest.
 
-use crate::Look;
+use crate::{Look, Made, Named};
 use pfair_lattice::{Flat, Join, JoinMap};
 use std::alloc::{AllocError, Global};
 
-type Inner = JoinMap<u8, Flat<u8>>;
+type Outer = JoinMap<u8, JoinMap<u8, JoinMap<u8, Flat<u8>>>>;
 
-type Middle = JoinMap<u8, Inner>;
+// What was found at a join, at a put of a key that is missing and of one that is there, and at a copy.
+type Four = (Look, Look, Look, Look);
 
-type Outer = JoinMap<u8, Middle>;
+const NONE: Four = (
+    Err(AllocError),
+    Err(AllocError),
+    Err(AllocError),
+    Err(AllocError),
+);
 
-fn inner(alloc: Global, key: u8, content: u8) -> Result<Inner, AllocError> {
-    let mut inner = Inner::new(alloc);
-    inner.put(key, &Flat::One(content))?;
-    Ok(inner)
+pub(crate) fn looks(alloc: Global) -> [Named; 4] {
+    let looks = looks_at(old(alloc), grown(alloc), whole(alloc));
+    let (join, missing, there, copy) = looks.unwrap_or(NONE);
+    [
+        ("join of maps three deep", join),
+        ("put of a missing key", missing),
+        ("put at a key that is there", there),
+        ("copy of maps three deep", copy),
+    ]
 }
 
-fn middle(alloc: Global, keys: (u8, u8), content: u8) -> Result<Middle, AllocError> {
-    let inner = inner(alloc, keys.1, content)?;
-    let mut middle = Middle::new(alloc);
-    middle.put(keys.0, &inner)?;
-    Ok(middle)
+fn looks_at<V: Join>(
+    old: Made<JoinMap<u8, V>>,
+    other: Made<JoinMap<u8, V>>,
+    whole: Made<JoinMap<u8, V>>,
+) -> Made<Four> {
+    let (old, other, whole) = (old?, other?, whole?);
+    Ok((
+        join(&old, &other, &whole),
+        put(&old, 2, &other),
+        put(&old, 1, &other),
+        copy(&old, &other, &whole),
+    ))
 }
 
-// The map that holds one content under three keys.
-fn outer(alloc: Global, keys: (u8, u8, u8), content: u8) -> Result<Outer, AllocError> {
-    let middle = middle(alloc, (keys.1, keys.2), content)?;
-    let mut outer = Outer::new(alloc);
-    outer.put(keys.0, &middle)?;
-    Ok(outer)
+// The map that holds one value.
+fn single<V: Join>(alloc: Global, key: u8, value: Made<V>) -> Made<JoinMap<u8, V>> {
+    let value = value?;
+    let mut map = JoinMap::new(alloc);
+    map.put(key, &value)?;
+    Ok(map)
 }
 
-// Joins one content under three keys.
-fn join_one(
-    all: &mut Outer,
-    alloc: Global,
-    keys: (u8, u8, u8),
-    content: u8,
-) -> Result<(), AllocError> {
-    let one = outer(alloc, keys, content)?;
-    all.join(&one)
-}
-
-// Contents under new keys at each of the three depths.
-fn grown(alloc: Global) -> Result<Outer, AllocError> {
-    let mut all = outer(alloc, (1, 1, 2), 6)?;
-    join_two(&mut all, alloc)?;
+fn joined<V: Join>(one: Made<V>, other: Made<V>) -> Made<V> {
+    let (mut all, other) = (one?, other?);
+    all.join(&other)?;
     Ok(all)
 }
 
-fn join_two(all: &mut Outer, alloc: Global) -> Result<(), AllocError> {
-    join_one(all, alloc, (1, 2, 1), 7)?;
-    join_one(all, alloc, (2, 1, 1), 8)
+// The map that holds one content under three keys.
+fn outer(alloc: Global, keys: (u8, u8, u8), content: u8) -> Made<Outer> {
+    let inner = single(alloc, keys.2, Ok(Flat::One(content)));
+    single(alloc, keys.0, single(alloc, keys.1, inner))
+}
+
+fn old(alloc: Global) -> Made<Outer> {
+    outer(alloc, (1, 1, 1), 5)
+}
+
+// Contents under new keys at each of the three depths.
+fn grown(alloc: Global) -> Made<Outer> {
+    let two = joined(outer(alloc, (1, 1, 2), 6), outer(alloc, (1, 2, 1), 7));
+    joined(two, outer(alloc, (2, 1, 1), 8))
+}
+
+// The join of both; another map if it lacks one of their contents, so that the looks fail.
+fn whole(alloc: Global) -> Made<Outer> {
+    let whole = joined(old(alloc), grown(alloc))?;
+    if is_whole(&whole) {
+        Ok(whole)
+    } else {
+        old(alloc)
+    }
+}
+
+// Whether the four contents of the join are there, and the size is that of the join.
+fn is_whole(map: &Outer) -> bool {
+    for (keys, content) in [
+        ((1, 1, 1), 5),
+        ((1, 1, 2), 6),
+        ((1, 2, 1), 7),
+        ((2, 1, 1), 8),
+    ] {
+        if content_at(map, keys) != Some(Flat::One(content)) {
+            return false;
+        }
+    }
+    map.len() == 2
 }
 
 fn content_at(map: &Outer, keys: (u8, u8, u8)) -> Option<Flat<u8>> {
@@ -59,71 +101,44 @@ fn content_at(map: &Outer, keys: (u8, u8, u8)) -> Option<Flat<u8>> {
     Some(*found)
 }
 
-// Whether the four contents of the join are there, and the sizes are those of the join.
-fn is_whole(map: &Outer) -> bool {
-    content_at(map, (1, 1, 1)) == Some(Flat::One(5))
-        && content_at(map, (1, 1, 2)) == Some(Flat::One(6))
-        && content_at(map, (1, 2, 1)) == Some(Flat::One(7))
-        && content_at(map, (2, 1, 1)) == Some(Flat::One(8))
-        && map.len() == 2
-}
-
-// Whether the map lies between the two.
-fn is_between(old: &Outer, now: &Outer, whole: &Outer) -> bool {
+// Whether the value lies between the two.
+fn is_between<V: Join>(old: &V, now: &V, whole: &V) -> bool {
     old.le(now) && now.le(whole)
 }
 
-/// A join that adds keys at each of three depths. After a failed allocation it is made once more.
-pub(crate) fn join_three_deep(alloc: Global) -> Look {
-    let other = grown(alloc)?;
-    join_from(alloc, &other)
+// A join. After a failed allocation the value lies between the old one and the join.
+fn join<V: Join>(old: &V, other: &V, whole: &V) -> Look {
+    join_into(&mut old.copy()?, old, other, whole)
 }
 
-fn join_from(alloc: Global, other: &Outer) -> Look {
-    let mut whole = outer(alloc, (1, 1, 1), 5)?;
-    whole.join(other)?;
-    join_up_to(alloc, other, &whole)
-}
-
-fn join_up_to(alloc: Global, other: &Outer, whole: &Outer) -> Look {
-    let old = outer(alloc, (1, 1, 1), 5)?;
-    let mut now = outer(alloc, (1, 1, 1), 5)?;
-    join_into(&mut now, &old, other, whole)
-}
-
-fn join_into(now: &mut Outer, old: &Outer, other: &Outer, whole: &Outer) -> Look {
+fn join_into<V: Join>(now: &mut V, old: &V, other: &V, whole: &V) -> Look {
     if now.join(other).is_err() {
         if !is_between(old, now, whole) {
             return Ok(false);
         }
         now.join(other)?;
     }
-    Ok(is_whole(now) && is_between(whole, now, whole))
+    Ok(is_between(whole, now, whole))
 }
 
-/// A pair at a key that a map has, or lacks. After a failed allocation the map lies between the old one
-/// and the join, and a key that was missing still is.
-pub(crate) fn put(alloc: Global, key: u8) -> Look {
-    let other = grown(alloc)?;
-    match other.get(&key) {
-        Some(value) => put_at(alloc, key, value),
-        None => Ok(false),
-    }
-}
-
-fn put_at(alloc: Global, key: u8, value: &Middle) -> Look {
-    let mut whole = outer(alloc, (1, 1, 1), 5)?;
+// A put. After a failed allocation the map lies between the old one and the join, and a key that was
+// missing still is.
+fn put<V: Join>(old: &JoinMap<u8, V>, key: u8, other: &JoinMap<u8, V>) -> Look {
+    let Some(value) = other.get(&key) else {
+        return Ok(false);
+    };
+    let mut whole = old.copy()?;
     whole.put(key, value)?;
-    put_up_to(alloc, key, value, &whole)
+    put_into(&mut old.copy()?, old, key, value, &whole)
 }
 
-fn put_up_to(alloc: Global, key: u8, value: &Middle, whole: &Outer) -> Look {
-    let old = outer(alloc, (1, 1, 1), 5)?;
-    let mut now = outer(alloc, (1, 1, 1), 5)?;
-    put_into(&mut now, &old, key, value, whole)
-}
-
-fn put_into(now: &mut Outer, old: &Outer, key: u8, value: &Middle, whole: &Outer) -> Look {
+fn put_into<V: Join>(
+    now: &mut JoinMap<u8, V>,
+    old: &JoinMap<u8, V>,
+    key: u8,
+    value: &V,
+    whole: &JoinMap<u8, V>,
+) -> Look {
     if now.put(key, value).is_err() {
         let is_unchanged = now.get(&key).is_none() && is_between(old, now, old);
         if !is_between(old, now, whole) || !is_unchanged && old.get(&key).is_none() {
@@ -134,16 +149,10 @@ fn put_into(now: &mut Outer, old: &Outer, key: u8, value: &Middle, whole: &Outer
     Ok(is_between(whole, now, whole))
 }
 
-/// A copy, which is equal to what was copied.
-pub(crate) fn copy_three_deep(alloc: Global) -> Look {
-    let map = grown(alloc)?;
-    Ok(is_copied(&map))
-}
-
-fn is_copied(map: &Outer) -> bool {
-    match map.copy() {
-        Ok(copy) => is_between(map, &copy, map)
-            && content_at(&copy, (1, 2, 1)) == Some(Flat::One(7)),
-        Err(_) => content_at(map, (2, 1, 1)) == Some(Flat::One(8)),
+// A copy, which is equal to what was copied.
+fn copy<V: Join>(old: &V, other: &V, whole: &V) -> Look {
+    match whole.copy() {
+        Ok(copy) => Ok(is_between(whole, &copy, whole)),
+        Err(_) => Ok(old.le(whole) && other.le(whole)),
     }
 }

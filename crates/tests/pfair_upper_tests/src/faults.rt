@@ -4,11 +4,11 @@ use crate::devices::Sink;
 use pfair_board::{LookFault, PublishFault, RunFault};
 use pfair_entry::{Entry, EntryFault, NoteFault, NoticeFault};
 use pfair_entry_row::RowFault;
-use pfair_feed::{FeedFault, FollowFault, tell_refused};
-use pfair_file::{EntryCause, Field, FileFault, ScheduleFault, write_line};
+use pfair_feed::tell_refused;
+use pfair_file::{EntryCause, Field, FileFault, ProgramFault, write_line};
 use pfair_lag::PickFault;
 use pfair_replica::{MergeFault, TakeFault};
-use pfair_reports::{ProgramFault, write_fault};
+use pfair_reports::write_fault;
 use pfair_table::PlanFault;
 use pfair_weight::{NameFault, WeightFault};
 
@@ -30,11 +30,6 @@ pfair: 80 command line refused
 pfair: 90 out of memory
 ";
 
-// A fault of a file.
-fn of_file(fault: FileFault) -> ProgramFault {
-    ProgramFault::Schedule(ScheduleFault::File(fault))
-}
-
 #[test]
 fn faults_of_the_program_are_lines_of_one_write(rt: HostRuntime) {
     let (place, field) = (u64::MAX, Field::Processors);
@@ -42,16 +37,16 @@ fn faults_of_the_program_are_lines_of_one_write(rt: HostRuntime) {
         ProgramFault::Weight(WeightFault::ZeroCost),
         ProgramFault::Weight(WeightFault::CostOverPeriod),
         ProgramFault::Weight(WeightFault::PeriodTooLong),
-        ProgramFault::Schedule(ScheduleFault::Stalled { slot: u64::MAX }),
+        ProgramFault::Stalled { slot: u64::MAX },
         ProgramFault::GateGaveUp,
         ProgramFault::Astray,
-        of_file(FileFault::NotToml),
-        of_file(FileFault::Missing { place, field }),
-        of_file(FileFault::WrongKind { place, field }),
-        of_file(FileFault::Range { place, field }),
-        of_file(FileFault::Version),
-        ProgramFault::Schedule(ScheduleFault::FileTooLong),
-        ProgramFault::Schedule(ScheduleFault::ReadFailed),
+        ProgramFault::File(FileFault::NotToml),
+        ProgramFault::File(FileFault::Missing { place, field }),
+        ProgramFault::File(FileFault::WrongKind { place, field }),
+        ProgramFault::File(FileFault::Range { place, field }),
+        ProgramFault::File(FileFault::Version),
+        ProgramFault::FileTooLong,
+        ProgramFault::ReadFailed,
         ProgramFault::WriteFailed,
         ProgramFault::CommandLine,
         ProgramFault::Memory,
@@ -104,7 +99,7 @@ fn refused_entries_are_lines_of_one_write(rt: HostRuntime) {
         (EntryCause::LogFull, "12 log full"),
     ] {
         // the greatest processor and number that their types can hold
-        let fault = of_file(FileFault::Entry {
+        let fault = ProgramFault::File(FileFault::Entry {
             proc: u8::MAX,
             number: u32::MAX,
             cause,
@@ -223,19 +218,19 @@ pfair_follow: 70 reading failed: x?
 #[test]
 fn refused_rows_are_reported_in_one_write(rt: HostRuntime) {
     let faults = [
-        FeedFault::Row(RowFault::NoRow),
-        FeedFault::Row(RowFault::Refused(NoticeFault::Name(NameFault::BadByte { at: 1 }))),
-        FeedFault::Row(RowFault::Refused(NoticeFault::Weight(WeightFault::CostOverPeriod))),
-        FeedFault::Row(RowFault::Refused(NoticeFault::Entry(EntryFault::StampBeforeFloor))),
-        FeedFault::Row(RowFault::NoSuchProcessor),
-        FeedFault::Row(RowFault::NumberOutOfRange),
-        FeedFault::Follow(FollowFault::NoSuchProcessor),
-        FeedFault::Follow(FollowFault::NumberOutOfRange),
-        FeedFault::Follow(FollowFault::Torn { proc: 2, number: 7 }),
-        FeedFault::Follow(FollowFault::Spent),
-        FeedFault::Follow(FollowFault::WriteFailed),
-        FeedFault::Follow(FollowFault::Memory),
-        FeedFault::ReadFailed,
+        ProgramFault::Row(RowFault::NoRow),
+        ProgramFault::Row(RowFault::Refused(NoticeFault::Name(NameFault::BadByte { at: 1 }))),
+        ProgramFault::Row(RowFault::Refused(NoticeFault::Weight(WeightFault::CostOverPeriod))),
+        ProgramFault::Row(RowFault::Refused(NoticeFault::Entry(EntryFault::StampBeforeFloor))),
+        ProgramFault::Row(RowFault::NoSuchProcessor),
+        ProgramFault::Row(RowFault::NumberOutOfRange),
+        ProgramFault::NoSuchProcessor,
+        ProgramFault::NumberOutOfRange,
+        ProgramFault::Torn { proc: 2, number: 7 },
+        ProgramFault::Spent,
+        ProgramFault::WriteFailed,
+        ProgramFault::Memory,
+        ProgramFault::ReadFailed,
     ];
     let mut writer = Sink::of(rt.alloc(), usize::MAX);
     for fault in &faults {
@@ -248,7 +243,7 @@ fn refused_rows_are_reported_in_one_write(rt: HostRuntime) {
 #[test]
 fn the_longest_row_that_is_kept_is_reported_in_one_write(rt: HostRuntime) {
     let long = "1".repeat(rt.alloc(), 257).expect(&rt, "memory");
-    let fault = FeedFault::Row(RowFault::NoRow);
+    let fault = ProgramFault::Row(RowFault::NoRow);
     let mut writer = Sink::of(rt.alloc(), usize::MAX);
     tell_refused(&mut writer, &fault, long.as_bytes());
     let line = format!(in rt.alloc(); "pfair_follow: 67 no entry's row: {long}\n");

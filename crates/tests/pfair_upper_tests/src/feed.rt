@@ -6,8 +6,8 @@ use crate::devices::{Sink, Source};
 use crate::reports::EARLY;
 use pfair_entry::Entry;
 use pfair_entry_row::RowFault;
-use pfair_feed::{FeedFault, FollowFault, Follower, Output, entries_of, follow, tell_missing};
-use pfair_file::read_file;
+use pfair_feed::{Follower, Output, entries_of, follow, tell_missing};
+use pfair_file::{ProgramFault, read_file};
 use pfair_ready::{HeapReady, Ready};
 use pfair_table::Settings;
 use std::alloc::{AllocError, Global};
@@ -28,7 +28,7 @@ const MIXED: &str =
 const TORN: &str = "0,1,4,-,-,-,-,-,-,-,-\n0,1,5,-,-,-,-,-,-,-,-\n0,2,6,-,-,-,-,-,-,-,-\n";
 
 // Lines, whether the run is strict, its rows, its complaints, and the fault that ends it.
-const FEEDS: [(&str, bool, &str, &str, Option<FeedFault>); 5] = [
+const FEEDS: [(&str, bool, &str, &str, Option<ProgramFault>); 5] = [
     (ROWS, true, WHOLE, "", None),
     (TURNED, true, WHOLE, "", None),
     (
@@ -43,14 +43,14 @@ const FEEDS: [(&str, bool, &str, &str, Option<FeedFault>); 5] = [
         true,
         "",
         "pfair_follow: 67 no entry's row: x?\n",
-        Some(FeedFault::Row(RowFault::NoRow)),
+        Some(ProgramFault::Row(RowFault::NoRow)),
     ),
     (
         TORN,
         false,
         "",
         "",
-        Some(FeedFault::Follow(FollowFault::Torn { proc: 0, number: 1 })),
+        Some(ProgramFault::Torn { proc: 0, number: 1 }),
     ),
 ];
 
@@ -59,7 +59,7 @@ const FEEDS: [(&str, bool, &str, &str, Option<FeedFault>); 5] = [
 struct End {
     rows: Vec<u8>,
     complaints: Vec<u8>,
-    fault: Option<FeedFault>,
+    fault: Option<ProgramFault>,
 }
 
 // A follower of a run with frame 4.
@@ -154,7 +154,7 @@ fn a_reader_that_fails_at_each_call(rt: HostRuntime) {
         let rows = if reader.left.len() <= 2 { WHOLE } else { "" };
         assert_eq!(&rt; end.rows.as_slice(), rows.as_bytes());
         fault = end.fault;
-        assert!(&rt; fault == None || fault == Some(FeedFault::ReadFailed));
+        assert!(&rt; fault == None || fault == Some(ProgramFault::ReadFailed));
         assert!(&rt; fault.is_some() || reader.left.is_empty());
     }
     assert!(&rt; fault == None);

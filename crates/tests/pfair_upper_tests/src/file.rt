@@ -2,9 +2,7 @@
 
 use crate::devices::Sink;
 use crate::reports::SAMPLE;
-use pfair_file::{
-    EntryCause, FileFault, ScheduleFault, given_words, opened, read_file, write_line,
-};
+use pfair_file::{EntryCause, FileFault, ProgramFault, given_words, opened, read_file, write_line};
 use std::alloc::{AllocError, Global};
 use std::env::FillError;
 use std::process::Abort;
@@ -41,7 +39,7 @@ fn every_beginning_of_the_sample_has_an_answer(rt: HostRuntime) {
 #[test]
 fn files_are_opened(rt: HostRuntime) {
     assert!(rt; opened(&rt, ".").is_ok());
-    assert!(rt; opened(&rt, "no such file").err() == Some(ScheduleFault::ReadFailed));
+    assert!(rt; opened(&rt, "no such file").err() == Some(ProgramFault::ReadFailed));
 }
 
 // A command line.

@@ -2,7 +2,8 @@
 
 use crate::devices::Sink;
 use pfair_entry::{Announcement, Entry};
-use pfair_feed::{FollowFault, Follower, Output};
+use pfair_feed::{Follower, Output};
+use pfair_file::ProgramFault;
 use pfair_ready::{HeapReady, Ready};
 use pfair_replica::Taken;
 use pfair_table::Settings;
@@ -122,7 +123,7 @@ fn is_taken<R: Ready>(
         assert!(rt; follower.told() == 4 && writer.flushed == writer.taken.len());
         return true;
     }
-    assert!(rt; fault == Some(FollowFault::WriteFailed) && follower.told() == 0);
+    assert!(rt; fault == Some(ProgramFault::WriteFailed) && follower.told() == 0);
     assert!(rt; follower.take(anew, 0, 2, closing) == Ok(Taken::Known));
     assert_eq!(rt; anew.len(), whole.len().saturating_sub(header));
     assert!(rt; whole.as_bytes().ends_with(anew.as_slice()));

@@ -6,9 +6,10 @@ pub mod FileOrder
 pub mod FirstFault
 pub mod Fields
 pub mod Headers
+pub mod Input
 pub mod Keys
 pub mod Kinds
+pub mod ProgramFaults
 pub mod Results
-pub mod ScheduleFaults
 pub mod Schedules
 pub mod Tables

@@ -1,17 +1,13 @@
--- What one step of a script's run adds.
-use Rattle.std.proofs.Common.{ℕ, zero, suc, ◌+◌, ◌<◌, ◌≡◌, refl, sym, ap, ◌∙◌, arith, Bool, true, false, cond, List, [], ◌∷◌, ◌++◌, Some, None, length, append_assoc, length-append}
+-- What one slot of a script's run adds.
+use Rattle.std.proofs.Common.{ℕ, zero, suc, ◌+◌, ◌≤◌, ◌≡◌, min, refl, sym, ap, ◌∙◌, arith, List, [], ◌∷◌, ◌++◌, length, append_assoc, length-append}
 use Rattle.std.specs.List.{flat_map}
 use Rattle.std.proofs.lemmas.List.{append-nil, length-map, map-append}
-use Rattle.std.proofs.lemmas.Bool.{ltb-true}
 use Rattle.std.proofs.lemmas.Grind.{flat_map-append}
-use Rattle.std.proofs.lemmas.Option.{none-some, same_Some}
 use Rattle.pfair_text.specs.Rows.{lines_text}
 use Rattle.pfair_text.proofs.RowFacts.{lines_text-append}
 use Rattle.pfair_lag.specs.Book.{Book}
-use Rattle.pfair_replica.specs.HeldRows.{replica_of}
-use Rattle.pfair_replica.specs.Replica.{Replica, numbers_below}
+use Rattle.pfair_replica.specs.Replica.{Replica, frontier, numbers_below}
 use Rattle.pfair_table.specs.declared.pick.Decided.{Decided}
-use Rattle.pfair_table.specs.ScriptRun.{SlotBySlot, IsNextOf, after_next, is_left}
 use Rattle.pfair_table.specs.Table.{Settings, table, decisions}
 use Rattle.pfair_output.specs.Decisions.{decided_rows}
 use Rattle.pfair_output.specs.Lags.{lag_rows}
@@ -20,18 +16,9 @@ use Rattle.pfair_output.specs.Slots.{slots_from}
 use Rattle.pfair_output.specs.Told.{book_rows, slot_told}
 use Rattle.pfair_output.proofs.WorldFacts.{book_after, rows_after}
 
--- ---- a step
-
--- with the next slot planned
-abbrev pub with_next : SlotBySlot → SlotBySlot
-with_next b = record b { planned = b.planned + 1; table = table b.settings (replica_of b.held) b.planned; decided = decisions b.settings (replica_of b.held) b.planned }
-
-pub next_is : (b : SlotBySlot) (slot : ℕ) → IsNextOf b (Some slot) → (slot ≡ b.planned) × (b.planned < b.settings.slots) × (after_next b ≡ with_next b)
-next_is b slot is = by (is_left b) refl
-  where
-    by : (left : Bool) → is_left b ≡ left → (slot ≡ b.planned) × (b.planned < b.settings.slots) × (after_next b ≡ with_next b)
-    by true e = (same_Some slot b.planned (is ∙ ap (λ (l : Bool). cond l (Some b.planned) None) e), ltb-true b.planned b.settings.slots e, ap (λ (l : Bool). cond l (with_next b) b) e)
-    by false e = absurd (none-some slot (sym (is ∙ ap (λ (l : Bool). cond l (Some b.planned) None) e)))
+-- how many slots of a script are planned, where its logs settle all of them
+pub all_slots : (s t : Settings) (x y : Replica) → s ≡ t → x ≡ y → s.slots ≤ frontier x → s.slots ≡ min (frontier y) t.slots
+all_slots s t x y settings held settled = let slots = ap (λ (s : Settings). s.slots) settings in let mark = ap frontier held in omega (arith, slots, mark, settled)
 
 -- ---- the rows of one slot more
 

@@ -1,12 +1,13 @@
 //! The decisions and the lags of a script's run, of which one slot at a time is held.
 
-ghost use Rattle.std.specs.Prelude.{◌≡◌, ◌≤◌, ◌++◌, ◌∷◌, [], IfOk, IfErr, OnOk};
+ghost use Rattle.std.specs.Prelude.{◌≡◌, ◌≤◌, ◌<◌, ◌+◌, ◌++◌, ◌∷◌, [], IfOk, IfErr, OnOk, length};
 ghost use Rattle.std.specs.List.{flat_map};
 ghost use Rattle.pfair_lag.specs.Book.{empty_book};
 ghost use Rattle.pfair_replica.specs.HeldRows.{replica_of};
 ghost use Rattle.pfair_replica.specs.Replica.{frontier, numbers_below};
 ghost use Rattle.pfair_table.specs.Script.{replica_of_logs};
-ghost use Rattle.pfair_table.specs.ScriptRun.{IsNextOf, IsScriptFaultOf, after_next};
+ghost use Rattle.pfair_table.specs.ScriptRun.{IsBySlot, IsScriptFaultOf};
+ghost use Rattle.pfair_table.specs.Table.{decisions, table};
 ghost use Rattle.pfair_text.specs.Rows.{IsOpen, lines_text, text_so_far};
 ghost use Rattle.pfair_output.specs.Decisions.{decided_rows, decisions_text};
 ghost use Rattle.pfair_output.specs.Lags.{lag_rows, lags_header, lags_text};
@@ -18,7 +19,8 @@ use crate::lags::{add_lags, add_lags_header, tell_slot};
 use csv::Writer;
 use pfair_lag::LagBook;
 use pfair_ready::Ready;
-use pfair_table::{Script, ScriptFault, ScriptRun, Settings};
+use pfair_replica::Replica;
+use pfair_table::{Pick, RunFault, Script, Settings, SlotPlan, SlotPlanner};
 use pfair_text::{finish, new_text};
 use std::alloc::{AllocError, Global};
 
@@ -30,13 +32,13 @@ use std::alloc::{AllocError, Global};
 ///
 /// # Errors
 /// As [`run_script`](pfair_table::run_script).
-pub fn decisions_of_script<R: Ready>(alloc: Global, script: &Script) -> Result<Vec<u8>, ScriptFault>
+pub fn decisions_of_script<R: Ready>(alloc: Global, script: &Script) -> Result<Vec<u8>, RunFault>
     ensures text { IfOk result (λ text. text.items ≡ decisions_text (decided_of script.now)) }
     ensures settled { OnOk result (script.now.settings.slots ≤ frontier (replica_of_logs script.now.logs)) }
     ensures fault { IfErr result (IsScriptFaultOf script.now) }
 {
-    let mut run = ScriptRun::<R>::new(alloc, script)?;
-    Ok(decisions_of_run(alloc, &mut run)?)
+    let (replica, mut planner) = SlotPlanner::<R>::of_script(alloc, script)?;
+    Ok(all_decisions(alloc, &replica, &mut planner)?)
 }
 
 /// Returns the lags in all slots of a script's run as rows: a header, and for each slot t a row for
@@ -49,84 +51,115 @@ pub fn decisions_of_script<R: Ready>(alloc: Global, script: &Script) -> Result<V
 ///
 /// # Errors
 /// As [`run_script`](pfair_table::run_script).
-pub fn lags_of_script<R: Ready>(alloc: Global, script: &Script) -> Result<Vec<u8>, ScriptFault>
+pub fn lags_of_script<R: Ready>(alloc: Global, script: &Script) -> Result<Vec<u8>, RunFault>
     ensures text { IfOk result (λ text. text.items ≡ lags_text script.now.settings (replica_of_logs script.now.logs)) }
     ensures settled { OnOk result (script.now.settings.slots ≤ frontier (replica_of_logs script.now.logs)) }
     ensures fault { IfErr result (IsScriptFaultOf script.now) }
 {
-    let mut run = ScriptRun::<R>::new(alloc, script)?;
-    Ok(lags_of_run(alloc, &mut run)?)
+    let (replica, mut planner) = SlotPlanner::<R>::of_script(alloc, script)?;
+    Ok(all_lags(alloc, &replica, &mut planner)?)
 }
 
-// The decisions of all slots of a run of which none is planned.
-fn decisions_of_run<R: Ready>(alloc: Global, run: &mut ScriptRun<R>) -> Result<Vec<u8>, AllocError>
-    requires { run.old.planned ≡ 0 }
-    ensures { IfOk result (λ text. text.items ≡ decisions_text (decided_below run.old.settings (replica_of run.old.held) run.old.settings.slots)) }
+// The decisions of all slots of a replica, none of which is planned.
+fn all_decisions<R: Ready>(
+    alloc: Global,
+    replica: &Replica,
+    planner: &mut SlotPlanner<R>,
+) -> Result<Vec<u8>, AllocError>
+    requires able { IsBySlot replica.now planner.old }
+    requires start { planner.old.tables ≡ [] }
+    ensures { IfOk result (λ text. text.items ≡ decisions_text (decided_below planner.old.settings (replica_of replica.now) planner.old.settings.slots)) }
 {
     let mut writer = new_text(alloc);
     add_decisions_header(&mut writer)?;
-    add_all_decisions(&mut writer, run)?;
+    add_all_decisions(alloc, &mut writer, replica, planner)?;
     finish(writer)
 }
 
-// The lags in all slots of a run of which none is planned.
-fn lags_of_run<R: Ready>(alloc: Global, run: &mut ScriptRun<R>) -> Result<Vec<u8>, AllocError>
-    requires { run.old.planned ≡ 0 }
+// The lags in all slots of a replica, none of which is planned.
+fn all_lags<R: Ready>(
+    alloc: Global,
+    replica: &Replica,
+    planner: &mut SlotPlanner<R>,
+) -> Result<Vec<u8>, AllocError>
+    requires able { IsBySlot replica.now planner.old }
+    requires start { planner.old.tables ≡ [] }
     ensures { IfOk result (λ text. text.items ≡ lines_text (lags_header
-        ∷ flat_map (lag_rows run.old.settings (replica_of run.old.held)) (numbers_below run.old.settings.slots))) }
+        ∷ flat_map (lag_rows planner.old.settings (replica_of replica.now)) (numbers_below planner.old.settings.slots))) }
 {
     let mut writer = new_text(alloc);
     add_lags_header(&mut writer)?;
-    add_all_lags(&mut writer, &mut LagBook::new(alloc), run)?;
+    add_all_lags(alloc, &mut writer, replica, planner)?;
     finish(writer)
 }
 
-// Plans all slots of a run, and adds the rows of what is decided at each.
+// Plans all slots, and adds the rows of what is decided at each.
 fn add_all_decisions<R: Ready>(
+    alloc: Global,
     writer: &mut Writer<Vec<u8>>,
-    run: &mut ScriptRun<R>,
+    replica: &Replica,
+    planner: &mut SlotPlanner<R>,
 ) -> Result<(), AllocError>
     requires open { IsOpen writer.old }
-    requires start { run.old.planned ≡ 0 }
+    requires able { IsBySlot replica.now planner.old }
+    requires start { planner.old.tables ≡ [] }
     ensures open { OnOk result (IsOpen writer.new) }
     ensures text { OnOk result (text_so_far writer.new ≡ text_so_far writer.old
-        ++ lines_text (slots_from decided_rows 0 (decided_below run.old.settings (replica_of run.old.held) run.old.settings.slots))) }
+        ++ lines_text (slots_from decided_rows 0 (decided_below planner.old.settings (replica_of replica.now) planner.old.settings.slots))) }
 {
-    'slots: while let Some(slot) = plan_one(run)? {
-        add_decisions(writer, slot, run.decisions())?;
+    let mut room = Vec::new(alloc);
+    'slots: for slot in 0..planner.settings().slots() {
+        let plan = plan_one(replica, planner, room)?;
+        add_decisions(writer, slot, &plan.decided)?;
+        room = plan.table;
     }
     Ok(())
 }
 
-// Plans all slots of a run, tells a new book of each, and adds the rows after it.
+// Plans all slots, tells a new book of each, and adds the rows after it.
 fn add_all_lags<R: Ready>(
+    alloc: Global,
     writer: &mut Writer<Vec<u8>>,
-    book: &mut LagBook,
-    run: &mut ScriptRun<R>,
+    replica: &Replica,
+    planner: &mut SlotPlanner<R>,
 ) -> Result<(), AllocError>
     requires open { IsOpen writer.old }
-    requires book { book.old ≡ empty_book }
-    requires start { run.old.planned ≡ 0 }
+    requires able { IsBySlot replica.now planner.old }
+    requires start { planner.old.tables ≡ [] }
     ensures open { OnOk result (IsOpen writer.new) }
     ensures text { OnOk result (text_so_far writer.new ≡ text_so_far writer.old
-        ++ lines_text (flat_map (lag_rows run.old.settings (replica_of run.old.held)) (numbers_below run.old.settings.slots))) }
+        ++ lines_text (flat_map (lag_rows planner.old.settings (replica_of replica.now)) (numbers_below planner.old.settings.slots))) }
 {
-    'slots: while let Some(_) = plan_one(run)? {
+    let mut book = LagBook::new(alloc);
+    let mut room = Vec::new(alloc);
+    'slots: for slot in 0..planner.settings().slots() {
+        let plan = plan_one(replica, planner, room)?;
         // a run has at most 1,000,000 slots
-        prove!(run.next_slot() <= Settings::MAX_SLOTS);
-        tell_slot(book, run.decisions(), run.table())?;
-        add_lags(writer, book)?;
+        prove!(slot < Settings::MAX_SLOTS);
+        tell_slot(&mut book, &plan.decided, &plan.table)?;
+        add_lags(writer, &book)?;
+        room = plan.table;
     }
     Ok(())
 }
 
-// Plans the next slot of a run, where one is left.
-fn plan_one<R: Ready>(run: &mut ScriptRun<R>) -> Result<Option<u64>, AllocError>
-    ensures slot { IfOk result (IsNextOf run.old) }
-    ensures next { OnOk result (run.new ≡ after_next run.old) }
+// Plans the next slot, which is one of the run.
+fn plan_one<R: Ready>(
+    replica: &Replica,
+    planner: &mut SlotPlanner<R>,
+    room: Vec<Pick>,
+) -> Result<SlotPlan, AllocError>
+    requires able { IsBySlot replica.now planner.old }
+    requires left { length planner.old.tables < planner.old.settings.slots }
+    ensures table { IfOk result (λ plan. plan.table.items ≡ table planner.old.settings (replica_of replica.now) (length planner.old.tables)) }
+    ensures decided { IfOk result (λ plan. plan.decided.items ≡ decisions planner.old.settings (replica_of replica.now) (length planner.old.tables)) }
+    ensures planned { OnOk result (length planner.new.tables ≡ length planner.old.tables + 1) }
+    ensures able { OnOk result (IsBySlot replica.now planner.new) }
+    ensures settings { OnOk result (planner.new.settings ≡ planner.old.settings) }
 {
-    match run.plan_next() {
-        Ok(slot) => Ok(slot),
+    match planner.plan_next(replica, room) {
+        Ok(Some(plan)) => Ok(plan),
+        Ok(None) => unreachable!(),
         Err(_) => Err(AllocError),
     }
 }

@@ -4,8 +4,8 @@ use Rattle.pfair_replica.specs.HeldRows.{replica_of}
 use Rattle.pfair_replica.specs.Replica.{Below, frontier}
 use Rattle.pfair_table.specs.Table.{Table}
 use Rattle.pfair_table.specs.Script.{LoggedRun, replica_of_logs}
-use Rattle.pfair_board.specs.declared.fault.RunFault.{RunFault}
-use Rattle.pfair_board.specs.declared.fault.RunFault.TheVariants.{Memory, GateGaveUp, Astray, Stalled}
+use Rattle.pfair_table.specs.declared.run_fault.RunFault.{RunFault}
+use Rattle.pfair_table.specs.declared.run_fault.RunFault.TheVariants.{Memory, GateGaveUp, Astray, Stalled}
 use Rattle.pfair_desk.specs.Boards.{BoardFrame}
 use Rattle.pfair_board.specs.declared.threads.Worked.{Worked}
 use Rattle.pfair_board.specs.FirstFault.{SomeEndsIn, AllHold}
@@ -37,10 +37,3 @@ IsRunFaultOf has may_give_up r Memory = Unit {0}
 IsRunFaultOf has may_give_up r GateGaveUp = (may_give_up ≡ true) × WorkersEndIn has may_give_up r GateGaveUp
 IsRunFaultOf has may_give_up r Astray = WorkersEndIn has may_give_up r Astray
 IsRunFaultOf has may_give_up r (Stalled slot) = (slot ≡ frontier (replica_of_logs r.logs)) × (slot < r.settings.slots) × WorkersEndIn has may_give_up r (Stalled slot)
-
--- under which numbers they are reported
-abbrev pub run_fault_number : RunFault → ℕ
-run_fault_number Memory = 90
-run_fault_number GateGaveUp = 53
-run_fault_number Astray = 54
-run_fault_number (Stalled slot) = 52

@@ -8,7 +8,6 @@ ghost use Rattle.pfair_board.specs.RunFaults.{IsRunFaultOf};
 ghost use Rattle.pfair_board.specs.Sinks.{has_built, has_first};
 ghost use Rattle.pfair_board.specs.declared.threads.Worked.{Worked};
 
-use crate::fault::RunFault;
 use crate::first_fault::first_fault;
 use crate::gate::Gate;
 use crate::sink::Sink;
@@ -16,7 +15,7 @@ use crate::threads::{Worked, run_all};
 use pfair_desk::{Board, Desk};
 use pfair_ready::Ready;
 use pfair_replica::laws::least_join;
-use pfair_table::{Run, RunBuilder, Script, take_script};
+use pfair_table::{Run, RunBuilder, RunFault, Script, take_script};
 use std::alloc::{AllocError, Global};
 use std::sync::Wait;
 use std::thread::Threads;

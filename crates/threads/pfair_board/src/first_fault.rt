@@ -3,9 +3,9 @@ ghost use Rattle.std.specs.Prelude.{◌≡◌, ◌↔◌, IsTrue, false};
 ghost use Rattle.pfair_replica.specs.HeldRows.{replica_of};
 ghost use Rattle.pfair_board.specs.FirstFault.{SomeEndsIn, SomeStrays, Holds, AllHold, IsFirstFault};
 
-use crate::fault::RunFault;
 use crate::threads::Worked;
 use pfair_replica::Replica;
+use pfair_table::RunFault;
 
 /// Returns the first fault of these workers, of whom each should hold the whole script.
 pub(crate) fn first_fault<K>(works: &[Worked<K>], whole: &Replica, slots: u64) -> Option<RunFault>

@@ -9,7 +9,6 @@
 #![tactic(auto)]
 
 mod dispatchers;
-mod fault;
 mod first_fault;
 mod gate;
 mod hints;
@@ -19,11 +18,10 @@ mod threads;
 mod worker;
 
 pub use dispatchers::{Finished, run_dispatchers, run_dispatchers_into};
-pub use fault::RunFault;
 pub use gate::{Gate, OpenGate};
 pub use hints::Hints;
 pub use pfair_desk::{Board, Desk, LookFault, PublishFault};
-pub use pfair_table::Run;
+pub use pfair_table::{Run, RunFault};
 pub use sink::Sink;
 pub use worker::run_worker;
 

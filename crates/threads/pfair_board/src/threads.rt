@@ -5,14 +5,13 @@ ghost use Rattle.pfair_table.specs.Script.{capacity_of};
 ghost use Rattle.pfair_desk.specs.Desks.{IsDeskOf};
 ghost use Rattle.pfair_board.specs.Works.{AreWorkplaces, AreWorks, IsWorkOf, IsWorkplaceOf};
 
-use crate::fault::RunFault;
 use crate::gate::Gate;
 use crate::hints::Hints;
 use crate::sink::Sink;
 use crate::worker::Worker;
 use pfair_desk::{Board, Desk};
 use pfair_ready::Ready;
-use pfair_table::Script;
+use pfair_table::{RunFault, Script};
 use std::alloc::{AllocError, Global};
 use std::marker::PhantomData;
 use std::snapshot::Snapshot;

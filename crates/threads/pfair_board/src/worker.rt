@@ -7,16 +7,15 @@ ghost use Rattle.pfair_board.specs.Finish.{IsRunOf};
 ghost use Rattle.pfair_board.specs.Logs.{HasPublished};
 ghost use Rattle.pfair_board.specs.WorkerFaults.{IsWorkerFault, IsPlanningFault};
 ghost use Rattle.pfair_board.specs.Works.{IsAtWork, HasLearned, HasPlanned};
-ghost use Rattle.pfair_board.specs.declared.fault.RunFault.TheVariants.{Memory};
+ghost use Rattle.pfair_table.specs.declared.run_fault.RunFault.TheVariants.{Memory};
 
-use crate::fault::RunFault;
 use crate::gate::Gate;
 use crate::hints::{Hint, Hints};
 use crate::sink::Sink;
 use pfair_desk::{Board, Desk, PublishFault};
 use pfair_entry::Entry;
 use pfair_ready::Ready;
-use pfair_table::{Pick, Run, RunBuilder, Settings, SlotPlanner};
+use pfair_table::{Pick, Run, RunBuilder, RunFault, Settings, SlotPlanner};
 use std::alloc::{AllocError, Global};
 use std::mem;
 use std::sync::Wait;

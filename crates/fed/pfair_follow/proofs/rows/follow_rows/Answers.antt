@@ -1,7 +1,7 @@
 -- The follower is new, and what it comes to is that of what it holds.
 use Rattle.pfair_follow.specs.Runs.{IsFresh}
 use Rattle.pfair_follow.proofs.Ends.{all_settled, ended, err_as, if_err_then, on_both, on_ok_then, taken_all}
-use Rattle.pfair_follow.specs.Faults.{stalled}
+use Rattle.pfair_file.specs.declared.program_fault.ProgramFault.TheVariants.{Stalled}
 use Rattle.pfair_follow.proofs.Scripts.{stalls, writes_its_script}
 use Rattle.pfair_follow.proofs.rows.follow_rows.Goals as goal
 
@@ -42,7 +42,7 @@ pub returns-clause-stalled : goal.returns-clause-stalled
 returns-clause-stalled g c slot same =
     let new = c.in_ok-follower.ensures in
     let fresh : IsFresh c.args.output c.args.run.now c.in_ok-follower.follower = record { output_is = new.output; settings_are = new.settings; course_is = new.course; told_is = new.told } in
-    err_as c.feed_all.result (stalled slot) same c.feed_all.ensures.ended (λ fault end is.
+    err_as c.feed_all.result (Stalled slot) same c.feed_all.ensures.ended (λ fault end is.
     stalls c.entries_give_their_schedule.ensures c.lines_are_one.ensures c.args.output c.args.run.now (g.I.Read.remaining c.args.reader.now) (g.I.Read.remaining c.feed_all.new.reader)
     (g.W.Write.contents c.args.writer.now) (g.W.Write.contents c.feed_all.new.writer) fault
     (ended c.text_is_whole.ensures c.args.output c.args.run.now c.in_ok-follower.follower c.feed_all.new.follower fresh (g.I.Read.remaining c.args.reader.now) (g.I.Read.remaining c.feed_all.new.reader)

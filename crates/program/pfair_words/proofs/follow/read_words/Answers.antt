@@ -10,16 +10,16 @@ use Rattle.pfair_words.specs.declared.parse.Parsed.{Parsed}
 use Rattle.pfair_words.specs.declared.parse.Parsed.TheVariants as parsed
 use Rattle.pfair_words.specs.declared.follow.Asked.{Asked}
 use Rattle.pfair_words.specs.declared.follow.Asked.TheVariants.{Help}
-use Rattle.pfair_words.specs.declared.follow.WordsFault.{WordsFault}
-use Rattle.pfair_words.specs.declared.follow.WordsFault.TheVariants.{Memory, Refused}
+use Rattle.pfair_file.specs.declared.program_fault.ProgramFault.{ProgramFault}
+use Rattle.pfair_file.specs.declared.program_fault.ProgramFault.TheVariants.{CommandLine, Memory}
 use Rattle.pfair_words.proofs.follow.read_words.Goals as goal
 
-answer : (words : List Text) (r : Result Asked WordsFault) → IsAnswerToTaken words r → IsAnswer words r
+answer : (words : List Text) (r : Result Asked ProgramFault) → IsAnswerToTaken words r → IsAnswer words r
 answer words (Ok asked) h = inl h
 answer words (Err Memory) h = tt
-answer words (Err Refused) h = inl h
+answer words (Err fault) h = inl h
 
-taken : (words : List Text) (app : App) (p : Parsed) (m : ArgMatches) (r : Result Asked WordsFault) → app ≡ line → IsParsed app words p → p ≡ parsed.Taken m → IsAnswerToAny (subcommand_rows_of m) r → IsAnswer words r
+taken : (words : List Text) (app : App) (p : Parsed) (m : ArgMatches) (r : Result Asked ProgramFault) → app ≡ line → IsParsed app words p → p ≡ parsed.Taken m → IsAnswerToAny (subcommand_rows_of m) r → IsAnswer words r
 taken words app p m r e is at h =
     let is_taken = subst (λ a. IsParsed a words (parsed.Taken m)) e (subst (IsParsed app words) at is) in
     answer words r (is_taken.0, subst (λ n. IsAnswerToAny n r) is_taken.1 h)
@@ -27,7 +27,7 @@ taken words app p m r e is at h =
 helped : (words : List Text) (app : App) (p : Parsed) (text : String Global) → app ≡ line → IsParsed app words p → p ≡ parsed.Help text → IsAnswer words (Ok (Help text))
 helped words app p text e is at = inr (subst (λ a. IsParsed a words (parsed.Help text)) e (subst (IsParsed app words) at is))
 
-refused : (words : List Text) (app : App) (p : Parsed) → app ≡ line → IsParsed app words p → p ≡ parsed.Refused → IsAnswer words (Err Refused)
+refused : (words : List Text) (app : App) (p : Parsed) → app ≡ line → IsParsed app words p → p ≡ parsed.Refused → IsAnswer words (Err CommandLine)
 refused words app p e is at = inr (subst (λ a. IsParsed a words parsed.Refused) e (subst (IsParsed app words) at is))
 
 pub parse-requires : goal.parse-requires

@@ -11,18 +11,17 @@ use Rattle.pfair_words.specs.declared.parse.Parsed.{Parsed}
 use Rattle.pfair_words.specs.declared.parse.Parsed.TheVariants as parsed
 use Rattle.pfair_words.specs.declared.schedule.Asked.{Asked}
 use Rattle.pfair_words.specs.declared.schedule.Asked.TheVariants.{Help}
-use Rattle.pfair_words.specs.declared.schedule.WordsFault.{WordsFault}
-use Rattle.pfair_words.specs.declared.schedule.WordsFault.TheVariants.{Memory, Refused, Weight}
+use Rattle.pfair_file.specs.declared.program_fault.ProgramFault.{ProgramFault}
+use Rattle.pfair_file.specs.declared.program_fault.ProgramFault.TheVariants.{CommandLine, Memory}
 use Rattle.pfair_words.proofs.PlainFacts.{has_count, plain_answer}
 use Rattle.pfair_words.proofs.schedule.read_words.Goals as goal
 
-answer : (words : List Text) (r : Result Asked WordsFault) → IsAnswerToTaken words r → IsAnswer words r
+answer : (words : List Text) (r : Result Asked ProgramFault) → IsAnswerToTaken words r → IsAnswer words r
 answer words (Ok asked) h = inl h
 answer words (Err Memory) h = tt
-answer words (Err Refused) h = inl h
-answer words (Err (Weight fault)) h = inl h
+answer words (Err fault) h = inl h
 
-taken : (words : List Text) (app : App) (p : Parsed) (m : ArgMatches) (r : Result Asked WordsFault) → app ≡ line → IsParsed app words p → p ≡ parsed.Taken m → IsAnswerToAny (subcommand_rows_of m) r → IsAnswer words r
+taken : (words : List Text) (app : App) (p : Parsed) (m : ArgMatches) (r : Result Asked ProgramFault) → app ≡ line → IsParsed app words p → p ≡ parsed.Taken m → IsAnswerToAny (subcommand_rows_of m) r → IsAnswer words r
 taken words app p m r e is at h =
     let is_taken = subst (λ a. IsParsed a words (parsed.Taken m)) e (subst (IsParsed app words) at is) in
     answer words r (is_taken.0, subst (λ n. IsAnswerToAny n r) is_taken.1 h)
@@ -30,10 +29,10 @@ taken words app p m r e is at h =
 helped : (words : List Text) (app : App) (p : Parsed) (text : String Global) → app ≡ line → IsParsed app words p → p ≡ parsed.Help text → IsAnswer words (Ok (Help text))
 helped words app p text e is at = inr (subst (λ a. IsParsed a words (parsed.Help text)) e (subst (IsParsed app words) at is))
 
-refused : (words : List Text) (app : App) (p : Parsed) → app ≡ line → IsParsed app words p → p ≡ parsed.Refused → IsAnswer words (Err Refused)
+refused : (words : List Text) (app : App) (p : Parsed) → app ≡ line → IsParsed app words p → p ≡ parsed.Refused → IsAnswer words (Err CommandLine)
 refused words app p e is at = inr (subst (λ a. IsParsed a words parsed.Refused) e (subst (IsParsed app words) at is))
 
-together : (words : List Text) (r : Result Asked WordsFault) → IsAnswer words r → record { parsed : IsAnswer words r; plain : IsPlainAnswer words r; count : IfOk r HasCount }
+together : (words : List Text) (r : Result Asked ProgramFault) → IsAnswer words r → record { parsed : IsAnswer words r; plain : IsPlainAnswer words r; count : IfOk r HasCount }
 together words r h = record { parsed = h; plain = plain_answer words r h; count = has_count words r h }
 
 pub parse-requires : goal.parse-requires

@@ -1,6 +1,7 @@
-use Rattle.std.proofs.Common.{◌≡◌, ◌≤◌, ◌++◌, ◌-◌}
+use Rattle.std.proofs.Common.{◌≡◌, ◌++◌, length}
 use Rattle.std.specs.List.{flat_map}
 use Rattle.pfair_replica.specs.HeldRows.{replica_of}
+use Rattle.pfair_table.specs.ScriptRun.{IsBySlot}
 use Rattle.pfair_replica.specs.Replica.{numbers_below}
 use Rattle.pfair_text.specs.Rows.{IsOpen, lines_text, text_so_far}
 use Rattle.pfair_output.specs.Lags.{lag_rows}
@@ -11,12 +12,9 @@ use Rattle.pfair_output.proofs.runs.add_all_lags.Given as goal
 abbrev pub invariant-slots : goal.invariant-slots
 invariant-slots g l = record {
   is_open : IsOpen l.writer;
-  settings : l.run.settings ≡ l.fn.run.settings;
-  held : l.run.held ≡ l.fn.run.held;
-  within : l.run.planned ≤ l.fn.run.settings.slots;
-  book : l.book ≡ book_after l.fn.run.settings (replica_of l.fn.run.held) l.run.planned;
-  text : text_so_far l.writer ≡ text_so_far l.fn.writer ++ lines_text (flat_map (lag_rows l.fn.run.settings (replica_of l.fn.run.held)) (numbers_below l.run.planned));
+  able : IsBySlot l.replica l.planner;
+  settings : l.planner.settings ≡ l.fn.planner.settings;
+  planned : length l.planner.tables ≡ l.slot;
+  book : l.book ≡ book_after l.fn.planner.settings (replica_of l.replica) l.slot;
+  text : text_so_far l.writer ≡ text_so_far l.fn.writer ++ lines_text (flat_map (lag_rows l.fn.planner.settings (replica_of l.replica)) (numbers_below l.slot));
 }
-
-abbrev pub decreases-slots : goal.decreases-slots
-decreases-slots g l = l.fn.run.settings.slots - l.run.planned

@@ -1,6 +1,6 @@
 //! Why a run gave no tables.
 ghost use Rattle.std.specs.Prelude.{◌≡◌};
-ghost use Rattle.pfair_board.specs.RunFaults.{run_fault_number};
+ghost use Rattle.pfair_table.specs.Faults.{run_fault_number};
 
 use std::alloc::AllocError;
 use thiserror::Error;
@@ -41,7 +41,7 @@ impl RunFault {
 }
 
 impl From<AllocError> for RunFault {
-    ghost use Rattle.pfair_board.specs.declared.fault.RunFault.TheVariants.{Memory};
+    ghost use Rattle.pfair_table.specs.declared.run_fault.RunFault.TheVariants.{Memory};
 
     ghost from_gives = { λ _ r. r ≡ Memory };
 

@@ -6,7 +6,7 @@ use Rattle.pfair_table.specs.Refinement.{Dispatch}
 use Rattle.pfair_table.specs.Script.{replica_of_logs}
 use Rattle.pfair_table.specs.Table.{Settings}
 use Rattle.pfair_table.proofs.Scripts.{script_whole, stalls}
-use Rattle.pfair_table.proofs.script_run.ScriptRun.new.Goals as goal
+use Rattle.pfair_table.proofs.slot_planner.SlotPlanner.of_script.Goals as goal
 
 pub returns-in_err-check_settled-clause-fault : goal.returns-in_err-check_settled-clause-fault
 returns-in_err-check_settled-clause-fault g c =
@@ -16,8 +16,8 @@ returns-in_err-check_settled-clause-fault g c =
     let slots_are = c.slots.ensures.value ∙ ap (λ (s : Settings). s.slots) c.settings-settings.ensures.value in
     stalls script c.from_residual-in_err-check_settled.result _ c.frontier.result c.slots.result c.from_residual-in_err-check_settled.ensures.1 mark_is slots_are c.in_err-check_settled.ensures.stalled
 
-pub invariant_of-result : goal.invariant_of-result
-invariant_of-result g c =
+pub returns-clause-able : goal.returns-clause-able
+returns-clause-able g c =
     let script = c.args.script.now in
     let x = c.into_replica-replica.result in
     let held_is = ap replica_of c.into_replica-replica.ensures ∙ c.in_ok-take_script.ensures.held in
@@ -29,11 +29,3 @@ invariant_of-result g c =
       whole = subst (λ r. has_torn r ≡ false) (sym held_is) (test_by_untorn (replica_of_logs script.logs) (script_whole script.logs));
       settled = omega (arith, limit, enough, c.slots.ensures.value, c.frontier.ensures.value);
     }
-
-pub returns-clause-settled : goal.returns-clause-settled
-returns-clause-settled g c =
-    let held_is = ap replica_of c.into_replica-replica.ensures ∙ c.in_ok-take_script.ensures.held in
-    let slots_are = ap (λ (s : Settings). s.slots) c.settings-settings.ensures.value in
-    let mark_is = c.frontier.ensures.value ∙ ap frontier held_is in
-    let enough = c.in_ok-check_settled.ensures.settled in
-    omega (arith, enough, c.slots.ensures.value, slots_are, mark_is)

@@ -1,7 +1,7 @@
 use Rattle.std.proofs.Common.{ℕ, List, Option, None, Some, ◌≡◌, ◌≤◌, ◌-◌, ◌++◌, length, take, arith, rules, ◌∙◌, ap, sym}
 use Rattle.std.proofs.lemmas.List.{append_assoc, length-append}
 use Rattle.std.specs.Io.KnownBytes.{Consumes}
-use Rattle.pfair_text.proofs.input.read_bytes.Goals as goal
+use Rattle.pfair_file.proofs.input.read_bytes.Goals as goal
 
 -- bytes that came, and then more
 consumes-more : (old mid new : Option (List ℕ)) (first more : List ℕ) → Consumes old mid first → Consumes mid new more → Consumes old new (first ++ more)

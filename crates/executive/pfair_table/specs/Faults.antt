@@ -1,0 +1,17 @@
+-- The numbers of the faults of plans and runs.
+use Rattle.std.specs.Prelude.{ℕ}
+use Rattle.pfair_table.specs.declared.answer.PlanFault.{PlanFault}
+use Rattle.pfair_table.specs.declared.answer.PlanFault.TheVariants.{Torn, Spent, Memory}
+use Rattle.pfair_table.specs.declared.run_fault.RunFault.{RunFault}
+use Rattle.pfair_table.specs.declared.run_fault.RunFault.TheVariants as run
+
+abbrev pub plan_fault_number : PlanFault → ℕ
+plan_fault_number (Torn proc number) = 30
+plan_fault_number Spent = 31
+plan_fault_number Memory = 90
+
+abbrev pub run_fault_number : RunFault → ℕ
+run_fault_number run.Memory = 90
+run_fault_number run.GateGaveUp = 53
+run_fault_number run.Astray = 54
+run_fault_number (run.Stalled slot) = 52

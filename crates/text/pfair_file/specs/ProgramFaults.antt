@@ -1,0 +1,90 @@
+-- The numbers and the exit statuses of the programs' faults, and which of them the faults of the crates below are.
+use Rattle.std.specs.Prelude.{ℕ, Bool, true, false}
+use Rattle.pfair_weight.specs.WeightFault.{weight_fault_number}
+use Rattle.pfair_entry_row.specs.Faults.{row_fault_number}
+use Rattle.pfair_replica.specs.declared.answer.TakeFault.{TakeFault}
+use Rattle.pfair_replica.specs.declared.answer.TakeFault.TheVariants as take
+use Rattle.pfair_table.specs.declared.answer.PlanFault.{PlanFault}
+use Rattle.pfair_table.specs.declared.answer.PlanFault.TheVariants as plan
+use Rattle.pfair_table.specs.declared.run_fault.RunFault.{RunFault}
+use Rattle.pfair_table.specs.declared.run_fault.RunFault.TheVariants as run
+use Rattle.pfair_file.specs.Faults.{file_fault_number}
+use Rattle.pfair_file.specs.declared.fault.FileFault.{FileFault}
+use Rattle.pfair_file.specs.declared.fault.FileFault.TheVariants as file
+use Rattle.pfair_file.specs.declared.program_fault.ProgramFault.{ProgramFault}
+use Rattle.pfair_file.specs.declared.program_fault.ProgramFault.TheVariants.{Weight, Row, NoSuchProcessor, NumberOutOfRange, Torn, Spent, Stalled, GateGaveUp, Astray, File, FileTooLong, ReadFailed, WriteFailed, CommandLine, Memory}
+
+abbrev pub fault_number : ProgramFault → ℕ
+fault_number (Weight fault) = weight_fault_number fault
+fault_number (Row fault) = row_fault_number fault
+fault_number NoSuchProcessor = 13
+fault_number NumberOutOfRange = 14
+fault_number (Torn proc number) = 30
+fault_number Spent = 31
+fault_number (Stalled slot) = 52
+fault_number GateGaveUp = 53
+fault_number Astray = 54
+fault_number (File fault) = file_fault_number fault
+fault_number FileTooLong = 66
+fault_number ReadFailed = 70
+fault_number WriteFailed = 71
+fault_number CommandLine = 80
+fault_number Memory = 90
+
+-- 1 a command line or a weight was refused, 2 a task file or a row, 3 the run can't go on, 4 an allocation failed, 5 reading or writing failed
+abbrev pub fault_status : ProgramFault → ℕ
+fault_status (Weight fault) = 1
+fault_status CommandLine = 1
+fault_status (Row fault) = 2
+fault_status NoSuchProcessor = 2
+fault_status NumberOutOfRange = 2
+fault_status (File fault) = 2
+fault_status FileTooLong = 2
+fault_status (Torn proc number) = 3
+fault_status Spent = 3
+fault_status (Stalled slot) = 3
+fault_status GateGaveUp = 3
+fault_status Astray = 3
+fault_status Memory = 4
+fault_status ReadFailed = 5
+fault_status WriteFailed = 5
+
+-- a fault of one line, behind which the input is read on
+abbrev pub is_refusal : ProgramFault → Bool
+is_refusal (Row fault) = true
+is_refusal NoSuchProcessor = true
+is_refusal NumberOutOfRange = true
+is_refusal (Weight fault) = false
+is_refusal (Torn proc number) = false
+is_refusal Spent = false
+is_refusal (Stalled slot) = false
+is_refusal GateGaveUp = false
+is_refusal Astray = false
+is_refusal (File fault) = false
+is_refusal FileTooLong = false
+is_refusal ReadFailed = false
+is_refusal WriteFailed = false
+is_refusal CommandLine = false
+is_refusal Memory = false
+
+-- ---- the faults of the crates below
+
+abbrev pub of_file : FileFault → ProgramFault
+of_file file.Memory = Memory
+of_file fault = File fault
+
+abbrev pub of_take : TakeFault → ProgramFault
+of_take take.NoSuchProcessor = NoSuchProcessor
+of_take take.NumberOutOfRange = NumberOutOfRange
+of_take take.Memory = Memory
+
+abbrev pub of_plan : PlanFault → ProgramFault
+of_plan (plan.Torn proc number) = Torn proc number
+of_plan plan.Spent = Spent
+of_plan plan.Memory = Memory
+
+abbrev pub of_run : RunFault → ProgramFault
+of_run run.Memory = Memory
+of_run run.GateGaveUp = GateGaveUp
+of_run run.Astray = Astray
+of_run (run.Stalled slot) = Stalled slot

@@ -1,0 +1,19 @@
+use Rattle.std.proofs.Common.{◌∙◌, ◌∷◌, ap, arith}
+use Rattle.std.specs.List.{flat_map}
+use Rattle.pfair_replica.specs.Replica.{frontier, numbers_below}
+use Rattle.pfair_table.specs.Table.{Settings}
+use Rattle.pfair_text.specs.Rows.{lines_text}
+use Rattle.pfair_output.specs.Lags.{lag_rows, lags_header}
+use Rattle.pfair_output.proofs.RunFacts.{all_slots}
+use Rattle.pfair_output.proofs.runs.lags_of_script.Goals as goal
+
+pub returns-clause-text : goal.returns-clause-text
+returns-clause-text g c =
+    let of = c.in_ok-replica.ensures in
+    let slots = all_slots _ _ _ _ of.settings of.held of.able.settled in
+    c.in_ok-all_lags.ensures ∙ (λ i. lines_text (lags_header ∷ flat_map (lag_rows (of.settings i) (of.held i)) (numbers_below (slots i))))
+
+pub returns-clause-settled : goal.returns-clause-settled
+returns-clause-settled g c =
+    let of = c.in_ok-replica.ensures in
+    omega (arith, of.able.settled, ap frontier of.held, ap (λ (s : Settings). s.slots) of.settings)
