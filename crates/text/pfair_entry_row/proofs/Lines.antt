@@ -12,7 +12,7 @@ use Rattle.pfair_text.proofs.RowFacts.{is_plain-decimal}
 use Rattle.pfair_entry_row.specs.Laws.{RowsAreLines, TextsAreRows, entries_text}
 use Rattle.pfair_entry.specs.Notice.{IsNamed, IsWellSaid}
 use Rattle.pfair_entry_row.specs.Row.{truth, announced_fields, said_fields, entry_fields, entry_row, IsEntryAt, IsSpelled, IsSpelledOut}
-use Rattle.pfair_entry_row.proofs.Names.{is_plain-name}
+use Rattle.pfair_text.proofs.NameFacts.{is_plain-name}
 use Rattle.pfair_entry_row.proofs.Refused.{sayable}
 
 -- no line ends in these bytes

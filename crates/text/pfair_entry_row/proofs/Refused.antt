@@ -11,7 +11,8 @@ use Rattle.pfair_entry.specs.declared.announcement.Announcement.TheVariants.{Arr
 use Rattle.pfair_entry_row.specs.Faults.{keyed}
 use Rattle.pfair_entry_row.specs.Row.{HasNoComma, IsEntryAt, IsSayable, IsSpelled, IsSpelledOut}
 use Rattle.pfair_entry_row.proofs.RowFields.{Same}
-use Rattle.pfair_entry_row.proofs.Names.{is_plain-name, no_comma-plain}
+use Rattle.pfair_entry_row.proofs.Names.{no_comma-plain}
+use Rattle.pfair_text.proofs.NameFacts.{is_plain-name}
 
 -- ---- a row may say it
 

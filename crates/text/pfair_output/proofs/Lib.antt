@@ -1,4 +1,3 @@
-mod NameFacts
 mod PlacedFacts
 pub mod RunFacts
 mod SignedFacts

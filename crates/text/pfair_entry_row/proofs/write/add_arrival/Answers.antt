@@ -1,7 +1,7 @@
 use Rattle.std.proofs.Common.{◌≡◌, ◌∙◌, ap, refl, rules, true}
 use Rattle.pfair_text.specs.Rows.{is_plain}
 use Rattle.pfair_text.proofs.RowFacts.{is_plain-decimal}
-use Rattle.pfair_entry_row.proofs.Names.{is_plain-name}
+use Rattle.pfair_text.proofs.NameFacts.{is_plain-name}
 use Rattle.pfair_entry_row.proofs.write.add_arrival.Goals as goal
 
 pub add_row-requires-clause-plain : goal.add_row-requires-clause-plain

@@ -3,7 +3,7 @@ use Rattle.std.proofs.Common.{to_z-of_z}
 use Rattle.std.specs.Fmt.{signed_decimal}
 use Rattle.pfair_text.specs.Rows.{is_plain}
 use Rattle.pfair_text.proofs.RowFacts.{is_plain-decimal}
-use Rattle.pfair_output.proofs.NameFacts.{is_plain-name}
+use Rattle.pfair_text.proofs.NameFacts.{is_plain-name}
 use Rattle.pfair_output.proofs.SignedFacts.{is_plain-signed}
 use Rattle.pfair_output.proofs.lags.add_lag.Goals as goal
 
