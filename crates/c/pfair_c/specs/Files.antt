@@ -4,7 +4,8 @@ use Rattle.pfair_replica.specs.HeldRows.{replica_of}
 use Rattle.pfair_table.specs.Script.{LoggedRun, replica_of_logs}
 use Rattle.pfair_table.specs.Refinement.{Dispatch}
 use Rattle.pfair_file.specs.Documents.{script_of_file}
-use Rattle.pfair_file.specs.Faults.{cause_number, file_fault_number}
+use Rattle.pfair_entry.specs.Notice.{notice_fault_number}
+use Rattle.pfair_file.specs.Faults.{file_fault_number}
 use Rattle.pfair_file.specs.declared.field.Field.{Field}
 use Rattle.pfair_file.specs.declared.field.Field.TheVariants as field
 use Rattle.pfair_file.specs.declared.fault.FileFault.{FileFault}
@@ -53,7 +54,7 @@ fault_row (fault.Missing place f) = at_key place f
 fault_row (fault.WrongKind place f) = at_key place f
 fault_row (fault.Range place f) = at_key place f
 fault_row (fault.Entry processor number cause) =
-    record { place = 0; field = 0; processor = processor; number = number; cause = cause_number cause }
+    record { place = 0; field = 0; processor = processor; number = number; cause = notice_fault_number cause }
 fault_row fault.Version = nowhere
 fault_row fault.Memory = nowhere
 

@@ -18,7 +18,7 @@ use Rattle.pfair_entry.specs.declared.notice.Change.{Change}
 use Rattle.pfair_entry.specs.declared.notice.Change.TheVariants.{Arrive, Depart, Late}
 use Rattle.pfair_entry.specs.declared.notice.Notice.{Notice}
 use Rattle.pfair_entry.specs.declared.notice.NoticeFault.{NoticeFault}
-use Rattle.pfair_entry.specs.declared.notice.NoticeFault.TheVariants.{Name, Weight, Entry}
+use Rattle.pfair_entry.specs.declared.notice.NoticeFault.TheVariants.{LogFull, Name, Weight, Entry}
 
 -- ---- an entry before it is checked: with any name and any numbers
 
@@ -91,6 +91,7 @@ checked e = option_map_or Err (refusal e) (Ok e)
 
 -- under which number a refusal is reported
 abbrev pub notice_fault_number : NoticeFault → ℕ
+notice_fault_number LogFull = 12
 notice_fault_number (Name f) = name_fault_number f
 notice_fault_number (Weight f) = weight_fault_number f
 notice_fault_number (Entry f) = entry_fault_number f

@@ -41,9 +41,12 @@ pub struct Notice<'a> {
     pub change: Change,
 }
 
-/// Why a floor and a notice make no entry.
+/// Why a floor and a notice make no entry, or none that a log can have.
 #[derive(Clone, Copy, Debug, PartialEq, Eq, Error)]
 pub enum NoticeFault {
+    /// Number 12: the log has as many entries as there is room for.
+    #[error("log full")]
+    LogFull,
     /// Numbers 1 to 3: the name is no task's name.
     #[error(transparent)]
     Name(NameFault),
@@ -56,11 +59,12 @@ pub enum NoticeFault {
 }
 
 impl NoticeFault {
-    /// Returns the number under which the fault is reported: that of the fault that it has.
+    /// Returns the number under which the fault is reported: 12, or that of the fault that it has.
     pub fn number(&self) -> u8
         ensures { result ≡ notice_fault_number self.now }
     {
         match self {
+            NoticeFault::LogFull => 12,
             NoticeFault::Name(fault) => fault.number(),
             NoticeFault::Weight(fault) => fault.number(),
             NoticeFault::Entry(fault) => fault.number(),

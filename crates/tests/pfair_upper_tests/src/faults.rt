@@ -5,7 +5,7 @@ use pfair_board::{LookFault, PublishFault, RunFault};
 use pfair_entry::{Entry, EntryFault, NoteFault, NoticeFault};
 use pfair_entry_row::RowFault;
 use pfair_feed::tell_refused;
-use pfair_file::{EntryCause, Field, FileFault, ProgramFault, write_line};
+use pfair_file::{Field, FileFault, ProgramFault, write_line};
 use pfair_lag::PickFault;
 use pfair_replica::{MergeFault, TakeFault};
 use pfair_reports::write_fault;
@@ -65,38 +65,38 @@ const REFUSED: &str = "pfair: 64 entry 4294967295 of processor 255 refused: ";
 fn refused_entries_are_lines_of_one_write(rt: HostRuntime) {
     for (cause, text) in [
         (
-            EntryCause::Refused(NoticeFault::Name(NameFault::Empty)),
+            NoticeFault::Name(NameFault::Empty),
             "1 empty name",
         ),
         (
-            EntryCause::Refused(NoticeFault::Name(NameFault::TooLong)),
+            NoticeFault::Name(NameFault::TooLong),
             "2 name too long",
         ),
         (
-            EntryCause::Refused(NoticeFault::Name(NameFault::BadByte { at: usize::MAX })),
+            NoticeFault::Name(NameFault::BadByte { at: usize::MAX }),
             "3 bad byte at 18446744073709551615",
         ),
         (
-            EntryCause::Refused(NoticeFault::Weight(WeightFault::ZeroCost)),
+            NoticeFault::Weight(WeightFault::ZeroCost),
             "4 zero cost",
         ),
         (
-            EntryCause::Refused(NoticeFault::Entry(EntryFault::StampBeforeFloor)),
+            NoticeFault::Entry(EntryFault::StampBeforeFloor),
             "7 stamp before floor",
         ),
         (
-            EntryCause::Refused(NoticeFault::Entry(EntryFault::StampTooFar)),
+            NoticeFault::Entry(EntryFault::StampTooFar),
             "8 slot too far",
         ),
         (
-            EntryCause::Refused(NoticeFault::Entry(EntryFault::BadDelay)),
+            NoticeFault::Entry(EntryFault::BadDelay),
             "9 bad delay",
         ),
         (
-            EntryCause::Refused(NoticeFault::Entry(EntryFault::BadIndex)),
+            NoticeFault::Entry(EntryFault::BadIndex),
             "10 bad index",
         ),
-        (EntryCause::LogFull, "12 log full"),
+        (NoticeFault::LogFull, "12 log full"),
     ] {
         // the greatest processor and number that their types can hold
         let fault = ProgramFault::File(FileFault::Entry {

@@ -2,7 +2,8 @@
 
 use crate::devices::Sink;
 use crate::reports::SAMPLE;
-use pfair_file::{EntryCause, FileFault, ProgramFault, given_words, opened, read_file, write_line};
+use pfair_entry::NoticeFault;
+use pfair_file::{FileFault, ProgramFault, given_words, opened, read_file, write_line};
 use std::alloc::{AllocError, Global};
 use std::env::FillError;
 use std::process::Abort;
@@ -23,7 +24,7 @@ fn a_log_has_at_most_4095_entries_of_a_file(rt: HostRuntime) {
     let full = FileFault::Entry {
         proc: 0,
         number: 4096,
-        cause: EntryCause::LogFull,
+        cause: NoticeFault::LogFull,
     };
     assert!(&rt; fault == Some(full));
 }

@@ -1,14 +1,12 @@
 -- The entries of a file, table by table.
 use Rattle.std.specs.Prelude.{ℕ, ◌+◌, nat_le, if◌then◌else◌, List, [], ◌∷◌, ◌++◌, Option, Some, Result, Ok, Err, length, ok_or, option_map, option_and_then, slice_index_or, slice_set}
-use Rattle.std.specs.Result.{result_map_both}
 use Rattle.toml.specs.Data.{Items, Members, as_table, item, no_items}
 use Rattle.pfair_entry.specs.Entry.{Logged}
 use Rattle.pfair_entry.specs.declared.notice.NoticeFault.{NoticeFault}
+use Rattle.pfair_entry.specs.declared.notice.NoticeFault.TheVariants.{LogFull}
 use Rattle.pfair_file.specs.Results.{and_then}
 use Rattle.pfair_file.specs.Tables.{made_at}
 use Rattle.pfair_file.specs.declared.field.Field.TheVariants as field
-use Rattle.pfair_file.specs.declared.fault.EntryCause.{EntryCause}
-use Rattle.pfair_file.specs.declared.fault.EntryCause.TheVariants.{LogFull, Refused}
 use Rattle.pfair_file.specs.declared.fault.FileFault.{FileFault}
 use Rattle.pfair_file.specs.declared.fault.FileFault.TheVariants as fault
 use Rattle.pfair_file.specs.declared.made.Made.{Made}
@@ -18,11 +16,11 @@ abbrev pub Logs : Type 0
 Logs = List (List Logged)
 
 -- the next entry of a log, of which a file can hold 4,095
-abbrev pub next_entry_of : List Logged → Result Logged NoticeFault → Result Logged EntryCause
-next_entry_of log made = if nat_le 4095 (length log) then Err LogFull else result_map_both (λ e. e) Refused made
+abbrev pub next_entry_of : List Logged → Result Logged NoticeFault → Result Logged NoticeFault
+next_entry_of log made = if nat_le 4095 (length log) then Err LogFull else made
 
 -- the log of a processor with one more entry, or why it has none
-abbrev pub with_next : ℕ → List Logged → Result Logged EntryCause → Result (List Logged) FileFault
+abbrev pub with_next : ℕ → List Logged → Result Logged NoticeFault → Result (List Logged) FileFault
 with_next processor log (Ok entry) = Ok (log ++ entry ∷ [])
 with_next processor log (Err cause) = Err (fault.Entry processor (length log + 1) cause)
 

@@ -1,14 +1,7 @@
 -- The numbers under which faults are reported.
 use Rattle.std.specs.Prelude.{ℕ}
-use Rattle.pfair_entry.specs.Notice.{notice_fault_number}
-use Rattle.pfair_file.specs.declared.fault.EntryCause.{EntryCause}
-use Rattle.pfair_file.specs.declared.fault.EntryCause.TheVariants as because
 use Rattle.pfair_file.specs.declared.fault.FileFault.{FileFault}
 use Rattle.pfair_file.specs.declared.fault.FileFault.TheVariants as fault
-
-abbrev pub cause_number : EntryCause → ℕ
-cause_number because.LogFull = 12
-cause_number (because.Refused f) = notice_fault_number f
 
 abbrev pub file_fault_number : FileFault → ℕ
 file_fault_number fault.NotToml = 60

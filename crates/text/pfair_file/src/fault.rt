@@ -1,35 +1,12 @@
 //! Why a task file is refused.
 ghost use Rattle.std.specs.Prelude.{◌≡◌};
-ghost use Rattle.pfair_file.specs.Faults.{cause_number, file_fault_number};
+ghost use Rattle.pfair_file.specs.Faults.{file_fault_number};
 ghost use Rattle.pfair_file.specs.declared.fault.FileFault.TheVariants.{Memory};
 
 use crate::field::Field;
 use pfair_entry::NoticeFault;
 use std::alloc::AllocError;
 use thiserror::Error;
-
-/// Why a table whose keys are in order makes no entry.
-#[derive(Clone, Copy, Debug, PartialEq, Eq, Error)]
-pub enum EntryCause {
-    /// Number 12: the log has as many entries as a file can hold of one processor, 4,095.
-    #[error("log full")]
-    LogFull,
-    /// Numbers 1 to 10: floor and announcement make no entry.
-    #[error(transparent)]
-    Refused(NoticeFault),
-}
-
-impl EntryCause {
-    /// Returns the number under which the cause is reported: 12, or that of the fault that it has.
-    pub fn number(&self) -> u8
-        ensures { result ≡ cause_number self.now }
-    {
-        match self {
-            EntryCause::LogFull => 12,
-            EntryCause::Refused(fault) => fault.number(),
-        }
-    }
-}
 
 /// The first fault of a task file, or a failed allocation. A place is the number of the entry's table in
 /// the file, counted from 1, and 0 for the file's own keys.
@@ -70,7 +47,7 @@ pub enum FileFault {
         /// The number that the entry would have in the processor's log, counted from 1.
         number: u32,
         /// Why there is no such entry.
-        cause: EntryCause,
+        cause: NoticeFault,
     },
     /// Number 65: the version is none of 1 and 2.
     #[error("unknown version")]

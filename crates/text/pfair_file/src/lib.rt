@@ -25,7 +25,7 @@ mod schedule;
 pub(crate) mod tables;
 
 pub use document::read_file;
-pub use fault::{EntryCause, FileFault};
+pub use fault::FileFault;
 pub use field::Field;
 pub use given::given_words;
 pub use input::LONGEST_FILE;

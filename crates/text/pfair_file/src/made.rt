@@ -5,7 +5,7 @@ ghost use Rattle.pfair_file.specs.Tables.{made_at};
 ghost use Rattle.toml.specs.View.{table_view};
 ghost use Rattle.pfair_file.specs.declared.fault.FileFault.TheVariants.{Memory};
 
-use crate::fault::{EntryCause, FileFault};
+use crate::fault::FileFault;
 use crate::field::Field;
 use crate::lookup::{natural_number, number};
 use crate::notice::read_notice;
@@ -51,13 +51,13 @@ pub fn append(
 }
 
 // The next entry of a log, for which a table makes this entry or none.
-fn next_entry(log: &[Entry], made: Result<Entry, NoticeFault>) -> Result<Entry, EntryCause>
+fn next_entry(log: &[Entry], made: Result<Entry, NoticeFault>) -> Result<Entry, NoticeFault>
     ensures { result ≡ next_entry_of log.now made }
 {
     if log.len() >= MOST_ENTRIES {
-        return Err(EntryCause::LogFull);
+        return Err(NoticeFault::LogFull);
     }
-    made.map_err(EntryCause::Refused)
+    made
 }
 
 /// Reads what a table makes, or the first fault of its keys.

@@ -1,20 +1,11 @@
 -- Why a desk refuses.
-use Rattle.std.specs.Prelude.{◌≡◌, ◌≢◌, ◌⊎◌, ◌<◌, ◌≤◌, ℕ, None, Some}
+use Rattle.std.specs.Prelude.{◌≡◌, ◌≢◌, ◌<◌, ◌≤◌, ℕ, None, Some}
 use Rattle.pfair_lattice.specs.declared.flat.Flat.TheVariants.{One}
 use Rattle.pfair_entry.specs.Entry.{Logged}
-use Rattle.pfair_desk.specs.declared.fault.LookFault.{LookFault}
-use Rattle.pfair_desk.specs.declared.fault.LookFault.TheVariants as look
 use Rattle.pfair_desk.specs.declared.fault.PublishFault.{PublishFault}
 use Rattle.pfair_desk.specs.declared.fault.PublishFault.TheVariants as publish
 use Rattle.pfair_replica.specs.HeldRows.{held}
-use Rattle.pfair_desk.specs.Boards.{IsKey}
 use Rattle.pfair_desk.specs.Desks.{DeskView, state_of, numbered}
-
--- why nothing is learned of the cell (k, n): the first that applies; memory is wanted for a missing key alone
-abbrev pub IsLookFaultOf : DeskView → ℕ → ℕ → LookFault → Type 0
-IsLookFaultOf d k n look.NoSuchProcessor = d.replica.processors ≤ k
-IsLookFaultOf d k n look.NumberOutOfRange = (k < d.replica.processors) × ((n ≡ 0) ⊎ (d.replica.capacity < n))
-IsLookFaultOf d k n look.Memory = IsKey d.replica.processors d.replica.capacity k n × (held d.replica k n ≡ None)
 
 -- why e isn't published, and what the desk is then; memory is wanted for a missing key alone
 abbrev pub IsPublishFaultOf : (old now : DeskView) → Logged → PublishFault → Type 0
@@ -23,11 +14,6 @@ IsPublishFaultOf old now e (publish.Taken standing) = (old.next_number ≤ old.r
 IsPublishFaultOf old now e publish.Memory = (old.next_number ≤ old.replica.capacity) × (held old.replica old.processor old.next_number ≡ None) × (now ≡ old)
 
 -- under which numbers they are reported
-abbrev pub look_fault_number : LookFault → ℕ
-look_fault_number look.NoSuchProcessor = 13
-look_fault_number look.NumberOutOfRange = 14
-look_fault_number look.Memory = 90
-
 abbrev pub publish_fault_number : PublishFault → ℕ
 publish_fault_number publish.RowFull = 50
 publish_fault_number (publish.Taken standing) = 51

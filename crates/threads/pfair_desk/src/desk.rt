@@ -4,20 +4,20 @@ ghost use Rattle.once_cell.specs.Once.{cell_name};
 ghost use Rattle.pfair_lattice.specs.declared.flat.Flat.TheVariants.{One};
 ghost use Rattle.pfair_entry.specs.Entry.{Logged};
 ghost use Rattle.pfair_replica.specs.HeldRows.{IsShape, IsHeldRows, held, replica_of};
-ghost use Rattle.pfair_replica.specs.Faults.{HoldsMore};
+ghost use Rattle.pfair_replica.specs.Faults.{HoldsMore, IsTakeFaultOf};
 ghost use Rattle.pfair_replica.specs.Replica.{Untorn};
 ghost use Rattle.pfair_desk.specs.Boards.{BoardFrame, IsKey, place_of};
 ghost use Rattle.pfair_desk.specs.Desks.{DeskView, state_of, IsDeskOf, OfOneBoard, IsPartlyMet, GrownDesk, Keeps, fresh_desk, learned, numbered, met};
-ghost use Rattle.pfair_desk.specs.Faults.{IsLookFaultOf, IsPublishFaultOf};
+ghost use Rattle.pfair_desk.specs.Faults.{IsPublishFaultOf};
 ghost use Rattle.pfair_desk.specs.Gained.{LacksSome, gained, gained_in_row, NoGapInRow, SameDesk};
 
 use crate::board::Board;
-use crate::fault::{LookFault, PublishFault};
+use crate::fault::PublishFault;
 use crate::notes::Notes;
 use once_cell::race::OnceBox;
 use pfair_entry::Entry;
-use pfair_replica::Replica;
 use pfair_replica::laws::read_by_number;
+use pfair_replica::{Replica, TakeFault as LookFault};
 use std::alloc::{AllocError, Global};
 use std::marker::Model;
 
@@ -111,7 +111,7 @@ impl Desk {
         ensures some { (e : Logged) → result ≡ Ok (Some e) → state_of self.new ≡ learned (state_of self.old) proc number e }
         ensures none { result ≡ Ok None → (held self.old.replica proc number ≡ None) × (self.new ≡ self.old) }
         ensures key { OnOk result (IsKey self.old.replica.processors self.old.replica.capacity proc number) }
-        ensures fault { IfErr result (IsLookFaultOf self.old proc number) }
+        ensures fault { IfErr result (IsTakeFaultOf self.old.replica proc number) }
         ensures unchanged { OnErr result (self.new ≡ self.old) }
         ensures held_now { (e : Logged) → result ≡ Ok (Some e) → held self.new.replica proc number ≡ Some (One e) }
         ensures kept { GrownDesk self.old self.new }
@@ -128,7 +128,7 @@ impl Desk {
             None => Ok(None),
             Some(entry) => match self.replica.take(proc, number, entry) {
                 Ok(_) => Ok(Some(entry)),
-                Err(_) => Err(LookFault::Memory),
+                Err(fault) => Err(fault),
             },
         }
     }

@@ -1,37 +1,9 @@
 //! Why a desk refuses.
 ghost use Rattle.std.specs.Prelude.{◌≡◌};
-ghost use Rattle.pfair_desk.specs.Faults.{look_fault_number, publish_fault_number};
+ghost use Rattle.pfair_desk.specs.Faults.{publish_fault_number};
 
 use pfair_entry::Entry;
 use thiserror::Error;
-
-/// Why nothing was learned of a cell.
-#[derive(Clone, Copy, Debug, PartialEq, Eq, Error)]
-pub enum LookFault {
-    /// The board has no such row.
-    #[error("no such processor")]
-    NoSuchProcessor,
-    /// The number is 0 or past the capacity.
-    #[error("number out of range")]
-    NumberOutOfRange,
-    /// An allocation failed.
-    #[error("out of memory")]
-    Memory,
-}
-
-impl LookFault {
-    /// Returns the number under which the fault is reported: 13, 14 and 90, in the order of the
-    /// variants.
-    pub fn number(&self) -> u8
-        ensures { result ≡ look_fault_number self.now }
-    {
-        match self {
-            LookFault::NoSuchProcessor => 13,
-            LookFault::NumberOutOfRange => 14,
-            LookFault::Memory => 90,
-        }
-    }
-}
 
 /// Why an entry was not published.
 #[derive(Clone, Copy, Debug, PartialEq, Eq, Error)]

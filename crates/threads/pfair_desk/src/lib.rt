@@ -14,4 +14,5 @@ mod notes;
 
 pub use board::Board;
 pub use desk::Desk;
-pub use fault::{LookFault, PublishFault};
+pub use fault::PublishFault;
+pub use pfair_replica::TakeFault as LookFault;
