@@ -6,6 +6,7 @@ use Rattle.pfair_entry.specs.Entry.{Logged}
 use Rattle.pfair_entry.specs.Notice.{IsLoggable}
 use Rattle.pfair_entry.specs.declared.announcement.Announcement.{Announcement}
 use Rattle.pfair_entry.specs.declared.announcement.Announcement.TheVariants.{Arrive, Depart, Late}
+use Rattle.pfair_entry_row.specs.declared.write.Said.{Said}
 
 -- what stands where an entry has nothing
 abbrev pub dash : List ℕ
@@ -25,6 +26,10 @@ announced_fields (Late name index by) = codes "late" ∷ name ∷ dash ∷ dash 
 abbrev pub said_fields : Option (ℕ × Announcement) → List (List ℕ)
 said_fields None = dash ∷ dash ∷ dash ∷ dash ∷ dash ∷ dash ∷ dash ∷ dash ∷ []
 said_fields (Some s) = decimal s.0 ∷ announced_fields s.1
+
+-- what a row has from the stamp on, field by field
+abbrev pub fields_of : Said → List (List ℕ)
+fields_of s = s.at.now ∷ s.kind.now ∷ s.name.now ∷ s.cost.now ∷ s.period.now ∷ s.early.now ∷ s.index.now ∷ s.by.now ∷ []
 
 -- an entry after its processor and its number
 abbrev pub entry_fields : (processor number : ℕ) → Logged → List (List ℕ)

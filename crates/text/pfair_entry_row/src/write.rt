@@ -1,24 +1,27 @@
 //! The row of an entry.
-ghost use Rattle.std.specs.Prelude.{◌≡◌, ◌++◌, IfOk, IsTrue, None, OnOk, Some};
-ghost use Rattle.pfair_weight.specs.Name.{IsTaskName};
-ghost use Rattle.pfair_weight.specs.Share.{IsWeight};
+ghost use Rattle.std.specs.Prelude.{◌≡◌, ◌++◌, ◌∷◌, IsTrue, OnOk};
+ghost use Rattle.std.specs.Fmt.{decimal};
+ghost use Rattle.std.specs.List.{list_all};
 ghost use Rattle.pfair_text.specs.Rows.{IsOpen, is_plain, line, text_so_far};
-ghost use Rattle.pfair_entry.specs.declared.announcement.Announcement.TheVariants.{Arrive, Depart, Late};
-ghost use Rattle.pfair_entry_row.specs.Row.{entry_fields, truth, IsEntryAt};
+ghost use Rattle.pfair_entry_row.specs.Row.{entry_fields, fields_of, truth, IsEntryAt};
 
 use csv::Writer;
 use itoa::Buffer;
 use pfair_entry::{Announcement, Entry};
 use pfair_text::add_row;
-use pfair_weight::{TaskName, Weight};
 use std::alloc::AllocError;
 
-// What each row begins with.
+// What a row has from the stamp on.
 #[derive(Clone, Copy)]
-struct Head {
-    processor: u8,
-    number: u32,
-    floor: u64,
+struct Said<'a> {
+    at: &'a [u8],
+    kind: &'a [u8],
+    name: &'a [u8],
+    cost: &'a [u8],
+    period: &'a [u8],
+    early: &'a [u8],
+    index: &'a [u8],
+    by: &'a [u8],
 }
 
 /// Adds the row of an entry: processor, number, floor, stamp, kind, name, cost, period, early,
@@ -38,140 +41,91 @@ pub fn add_entry(
     ensures text { OnOk result (text_so_far writer.new ≡ text_so_far writer.old ++ line (entry_fields processor number entry.now)) }
     ensures entry { IsEntryAt processor number entry.now }
 {
-    let head = Head {
-        processor,
-        number,
-        floor: entry.floor(),
+    let nothing = Said {
+        at: b"-",
+        kind: b"-",
+        name: b"-",
+        cost: b"-",
+        period: b"-",
+        early: b"-",
+        index: b"-",
+        by: b"-",
     };
+    let floor = entry.floor();
     let Some((at, announcement)) = entry.said() else {
-        return add_silence(writer, head);
+        return add_said(writer, processor, number, floor, nothing);
     };
+    let mut stamp = Buffer::new();
+    let at = stamp.format(at).as_bytes();
     match announcement {
         Announcement::Arrive {
             name,
             weight,
             early,
-        } => add_arrival(writer, head, at, name, weight, early),
-        Announcement::Depart { name } => add_departure(writer, head, at, name),
-        Announcement::Late { name, index, by } => add_delay(writer, head, at, name, index, by),
+        } => {
+            let (mut cost, mut period) = (Buffer::new(), Buffer::new());
+            let said = Said {
+                at,
+                kind: b"arrive",
+                name: name.as_bytes(),
+                cost: cost.format(weight.cost()).as_bytes(),
+                period: period.format(weight.period()).as_bytes(),
+                early: truth_word(early).as_bytes(),
+                ..nothing
+            };
+            add_said(writer, processor, number, floor, said)
+        }
+        Announcement::Depart { name } => {
+            let said = Said {
+                at,
+                kind: b"depart",
+                name: name.as_bytes(),
+                ..nothing
+            };
+            add_said(writer, processor, number, floor, said)
+        }
+        Announcement::Late { name, index, by } => {
+            let (mut subtask, mut delay) = (Buffer::new(), Buffer::new());
+            let said = Said {
+                at,
+                kind: b"late",
+                name: name.as_bytes(),
+                index: subtask.format(index).as_bytes(),
+                by: delay.format(by).as_bytes(),
+                ..nothing
+            };
+            add_said(writer, processor, number, floor, said)
+        }
     }
 }
 
-// Adds the row of an entry that announces nothing.
-fn add_silence(writer: &mut Writer<Vec<u8>>, head: Head) -> Result<(), AllocError>
-    requires { IsOpen writer.old }
-    ensures open { OnOk result (IsOpen writer.new) }
-    ensures text { OnOk result (text_so_far writer.new ≡ text_so_far writer.old ++ line (entry_fields head.processor head.number (record { floor = head.floor; said = None }))) }
-{
-    add_row(
-        writer,
-        &[
-            Buffer::new().format(head.processor).as_bytes(),
-            Buffer::new().format(head.number).as_bytes(),
-            Buffer::new().format(head.floor).as_bytes(),
-            b"-",
-            b"-",
-            b"-",
-            b"-",
-            b"-",
-            b"-",
-            b"-",
-            b"-",
-        ],
-    )
-}
-
-// Adds the row of an entry by which a task arrives.
-fn add_arrival(
+// Adds a row: processor, number, floor, and what it says.
+fn add_said(
     writer: &mut Writer<Vec<u8>>,
-    head: Head,
-    at: u64,
-    name: TaskName,
-    weight: Weight,
-    early: bool,
+    processor: u8,
+    number: u32,
+    floor: u64,
+    said: Said<'_>,
 ) -> Result<(), AllocError>
-    requires { IsOpen writer.old }
+    requires open { IsOpen writer.old }
+    requires plain { IsTrue (list_all is_plain (fields_of said)) }
     ensures open { OnOk result (IsOpen writer.new) }
-    ensures text { OnOk result (text_so_far writer.new ≡ text_so_far writer.old ++ line (entry_fields head.processor head.number (record { floor = head.floor; said = Some (at, Arrive name weight early) }))) }
-    ensures name { IsTaskName name }
-    ensures weight { IsWeight weight.cost weight.period }
+    ensures text { OnOk result (text_so_far writer.new ≡ text_so_far writer.old ++ line (decimal processor ∷ decimal number ∷ decimal floor ∷ fields_of said.entry)) }
 {
     add_row(
         writer,
         &[
-            Buffer::new().format(head.processor).as_bytes(),
-            Buffer::new().format(head.number).as_bytes(),
-            Buffer::new().format(head.floor).as_bytes(),
-            Buffer::new().format(at).as_bytes(),
-            b"arrive",
-            name.as_bytes(),
-            Buffer::new().format(weight.cost()).as_bytes(),
-            Buffer::new().format(weight.period()).as_bytes(),
-            truth_word(early).as_bytes(),
-            b"-",
-            b"-",
-        ],
-    )
-}
-
-// Adds the row of an entry by which a task departs.
-fn add_departure(
-    writer: &mut Writer<Vec<u8>>,
-    head: Head,
-    at: u64,
-    name: TaskName,
-) -> Result<(), AllocError>
-    requires { IsOpen writer.old }
-    ensures open { OnOk result (IsOpen writer.new) }
-    ensures text { OnOk result (text_so_far writer.new ≡ text_so_far writer.old ++ line (entry_fields head.processor head.number (record { floor = head.floor; said = Some (at, Depart name) }))) }
-    ensures name { IsTaskName name }
-{
-    add_row(
-        writer,
-        &[
-            Buffer::new().format(head.processor).as_bytes(),
-            Buffer::new().format(head.number).as_bytes(),
-            Buffer::new().format(head.floor).as_bytes(),
-            Buffer::new().format(at).as_bytes(),
-            b"depart",
-            name.as_bytes(),
-            b"-",
-            b"-",
-            b"-",
-            b"-",
-            b"-",
-        ],
-    )
-}
-
-// Adds the row of an entry by which a task's subtasks come late.
-fn add_delay(
-    writer: &mut Writer<Vec<u8>>,
-    head: Head,
-    at: u64,
-    name: TaskName,
-    index: u64,
-    by: u64,
-) -> Result<(), AllocError>
-    requires { IsOpen writer.old }
-    ensures open { OnOk result (IsOpen writer.new) }
-    ensures text { OnOk result (text_so_far writer.new ≡ text_so_far writer.old ++ line (entry_fields head.processor head.number (record { floor = head.floor; said = Some (at, Late name index by) }))) }
-    ensures name { IsTaskName name }
-{
-    add_row(
-        writer,
-        &[
-            Buffer::new().format(head.processor).as_bytes(),
-            Buffer::new().format(head.number).as_bytes(),
-            Buffer::new().format(head.floor).as_bytes(),
-            Buffer::new().format(at).as_bytes(),
-            b"late",
-            name.as_bytes(),
-            b"-",
-            b"-",
-            b"-",
-            Buffer::new().format(index).as_bytes(),
-            Buffer::new().format(by).as_bytes(),
+            Buffer::new().format(processor).as_bytes(),
+            Buffer::new().format(number).as_bytes(),
+            Buffer::new().format(floor).as_bytes(),
+            said.at,
+            said.kind,
+            said.name,
+            said.cost,
+            said.period,
+            said.early,
+            said.index,
+            said.by,
         ],
     )
 }
