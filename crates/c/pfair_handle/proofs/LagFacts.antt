@@ -49,14 +49,6 @@ book_time ds ts n book enough enough' is =
     let end : 0 + n ≡ n = omega arith in
     ap (λ (b : Book). b.time) is ∙ there ∙ end
 
-pub first_told : (ds : List (List Decided)) (ts : List Table) (from : ℕ) (new book : Book) → new ≡ empty_book
-    → book ≡ all_slots_told new (take (from - new.time) (drop new.time ds)) (take (from - new.time) (drop new.time ts))
-    → book ≡ book_after ds ts from
-first_told ds ts from new book fresh is =
-    let all : from - 0 ≡ from = omega arith in
-    is ∙ ap (λ (b : Book). all_slots_told b (take (from - b.time) (drop b.time ds)) (take (from - b.time) (drop b.time ts))) fresh
-    ∙ ap (λ n. all_slots_told empty_book (take n ds) (take n ts)) all
-
 pub next_told : (ds : List (List Decided)) (ts : List Table) (slot : ℕ) (book next : Book) → slot < length ds → slot < length ts → book ≡ book_after ds ts slot
     → next ≡ all_slots_told book (take (slot + 1 - book.time) (drop book.time ds)) (take (slot + 1 - book.time) (drop book.time ts))
     → next ≡ book_after ds ts (slot + 1)
@@ -73,9 +65,6 @@ pub as-many-lags : (ds : List (List Decided)) (ts : List Table) (slot : ℕ) (bo
 as-many-lags ds ts slot book is =
     let there : Book = book_after ds ts (slot + 1) in
     ap (λ (b : Book). length b.entered) is ∙ sym (length-map there.entered (lag_row there.time))
-
-pub rows-at : (ds : List (List Decided)) (ts : List Table) (slot : ℕ) (book : Book) → book ≡ book_after ds ts (slot + 1) → book_rows book ≡ lags_at ds ts slot
-rows-at ds ts slot book is = ap book_rows is
 
 -- no more than fit are counted
 pub counted-within : (rows more all most counted next : ℕ) → counted ≡ min rows most → next ≡ min (counted + more) most → all ≡ rows + more → next ≡ min all most

@@ -54,12 +54,6 @@ left_at xs n slot e =
       | inr (inr more) ↦ drop_all n xs (omega (arith, e, more)) ∙ sym (drop_all slot xs (omega (arith, more)))
     ]
 
-pub book_fresh : (slot : ℕ) (ts : List Table) (ds : List (List Decided)) → IsBookOf slot ts ds empty_book
-book_fresh slot ts ds = record { early = omega arith; there = omega arith; told_is = refl }
-
-pub book_later : (slot : ℕ) (ts : List Table) (ds : List (List Decided)) (book : Book) → IsBookOf slot ts ds book → IsBookOf (max slot (length ts)) ts ds book
-book_later slot ts ds book b = record { early = (let e = b.early in omega arith); there = b.there; told_is = b.told_is }
-
 pub book_grown : (slot : ℕ) (ts us : List Table) (ds es : List (List Decided)) (book : Book) → length ts ≡ length ds → IsPrefixOf ts us → IsPrefixOf ds es → IsBookOf slot ts ds book → IsBookOf slot us es book
 book_grown slot ts us ds es book same more_ts more_ds b =
     let there : book.time ≤ length ts = b.there in

@@ -1,5 +1,5 @@
 -- Followers that go on, one step after another.
-use Rattle.std.proofs.Common.{ℕ, ◌≡◌, inl, refl, sym, ap, subst, ◌∙◌, arith, List, [], ◌++◌, length, Option, Some, None}
+use Rattle.std.proofs.Common.{ℕ, ◌≡◌, refl, sym, ap, subst, ◌∙◌, arith, List, [], ◌++◌, length, Option, Some, None}
 use Rattle.std.specs.Prelude.{max}
 use Rattle.std.specs.Io.KnownBytes.{Appends, Keeps}
 use Rattle.std.proofs.lemmas.List.{append-nil, length-map}
@@ -16,7 +16,7 @@ use Rattle.pfair_feed.specs.Follow.{Follow, news}
 use Rattle.pfair_feed.specs.Rows.{rows_from}
 use Rattle.pfair_feed.proofs.RowsGoOn.{none_behind, rows_go_on}
 use Rattle.pfair_feed.proofs.Plans.{grown_same, longer, prefix_trans}
-use Rattle.pfair_feed.specs.Feeding.{HasGoneOn, HasStood, IsCaughtUp}
+use Rattle.pfair_feed.specs.Feeding.{HasGoneOn, IsCaughtUp}
 
 pub even : (d : Dispatch) → IsWholePlan d → length d.tables ≡ length d.decided
 even d whole =
@@ -74,7 +74,3 @@ gone_trans f g h u v w a b =
           (news_more f g h a.output_is a.told_is (even g.dispatch a.caught_up.whole) b.grown.tables_go_on b.grown.decided_go_on)
           (appends-more u v w (news f g) (news g h) a.written b.written);
     }
-
--- nothing has changed of a follower at which a fault came
-pub stood_same : (line : List ℕ) (f g : Follow) → g ≡ f → HasStood line f g
-stood_same line f g same = subst (λ (h : Follow). HasStood line f h) (sym same) (record { output_is = refl; told_is = refl; grown = grown_same f.dispatch f.dispatch refl; held_is = inl refl })

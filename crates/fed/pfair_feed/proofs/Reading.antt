@@ -2,11 +2,9 @@
 use Rattle.std.proofs.Common.{ℕ, ◌≡◌, ◌≢◌, refl, sym, ap, subst, ◌∙◌, List, Option, Ok, Err, true, false, inl, inr}
 use Rattle.std.specs.Prelude.{◌⊎◌}
 use Rattle.std.specs.Io.KnownBytes.{Keeps}
-use Rattle.std.proofs.KnownBytes.{Keeps-refl}
 use Rattle.pfair_text.specs.Output.{TakesPrefix}
 use Rattle.pfair_entry.specs.Entry.{Logged}
-use Rattle.pfair_entry_row.specs.declared.fault.RowFault.{RowFault}
-use Rattle.pfair_entry_row.specs.Faults.{Reading, IsRowFaultOf}
+use Rattle.pfair_entry_row.specs.Faults.{Reading}
 use Rattle.pfair_entry_row.specs.Row.{entry_row, IsEntryAt}
 use Rattle.pfair_replica.specs.HeldRows.{replica_of}
 use Rattle.pfair_replica.specs.Offered.{taken}
@@ -16,7 +14,7 @@ use Rattle.pfair_file.specs.declared.program_fault.ProgramFault.{ProgramFault}
 use Rattle.pfair_file.specs.declared.program_fault.ProgramFault.TheVariants.{NoSuchProcessor, NumberOutOfRange, WriteFailed, Memory, Row}
 use Rattle.pfair_file.specs.ProgramFaults.{is_refusal}
 use Rattle.pfair_feed.specs.Feeding.{HasFailed, HasStood, IsCaughtUp, IsFedLine, IsTakenFrom}
-use Rattle.pfair_feed.proofs.Going.{stays, stood_same}
+use Rattle.pfair_feed.proofs.Going.{stays}
 
 -- what is held after a reading
 abbrev after_reading : Replica → Reading → Replica
@@ -29,14 +27,6 @@ pub taken_from_row : (line : List ℕ) (x y : Replica) (p n : ℕ) (e : Logged) 
 taken_from_row line x y p n e r ok back at row held = record {
   row = λ q m d at' row'. held ∙ ap (after_reading x) (sym ok ∙ back q m d at' row');
   other = λ none. absurd (none p n e at row);
-}
-
--- the line is no entry's row
-pub taken_from_none : (line : List ℕ) (x : Replica) (fault : RowFault) (r : Reading) → r ≡ Err fault
-    → ((q m : ℕ) (d : Logged) → IsEntryAt q m d → line ≡ entry_row q m d → r ≡ Ok (q, m, d)) → IsTakenFrom line x x
-taken_from_none line x fault r err back = record {
-  row = λ q m d at' row'. absurd (let e : Err fault ≡ Ok (q, m, d) = sym err ∙ back q m d at' row' in cc e);
-  other = λ none. refl;
 }
 
 -- ---- what a fault leaves
@@ -77,17 +67,6 @@ failed_at line f g v w p n e r fault ok back at row run told stop offered nothin
       nothing = nothing;
       cut = cut;
     }
-
--- the line is no entry's row
-pub failed_row : (line : List ℕ) (f : Follow) (w : Option (List ℕ)) (fault : RowFault) (r : Reading) → r ≡ Err fault
-    → ((q m : ℕ) (d : Logged) → IsEntryAt q m d → line ≡ entry_row q m d → r ≡ Ok (q, m, d)) → IsRowFaultOf line fault → HasFailed line (Row fault) f f w w
-failed_row line f w fault r err back cause = record {
-  cause = inl (fault, refl, cause, refl);
-  taken_is = λ other. taken_from_none line (replica_of f.dispatch.held) fault r err back;
-  stood = stood_same line f f refl;
-  nothing = λ other. Keeps-refl w;
-  cut = λ same. absurd (cc same);
-}
 
 -- nothing changed
 pub fed_none : (line : List ℕ) (f g : Follow) (v w : Option (List ℕ)) → IsCaughtUp f → g ≡ f → Keeps v w → IsTakenFrom line (replica_of f.dispatch.held) (replica_of f.dispatch.held) → IsFedLine line f g v w

@@ -37,9 +37,6 @@ output_shown text given has equal P p = IfSome_then given has (λ bytes (run, re
 abbrev pub HasPlanOf : {K : Type 0} → (has : K → ℕ → List Table → Type 0) → Option (List ℕ) → K → Type 0
 HasPlanOf has given kept = IfSome given (λ bytes. (run : LoggedRun) × (script_of_file bytes ≡ Ok run) × HasPlan has run kept)
 
-pub is_plan : {K : Type 0} (has : K → ℕ → List Table → Type 0) (given : Option (List ℕ)) (script : LoggedRun) (kept : K) → IfSome given (λ bytes. script_of_file bytes ≡ Ok script) → HasPlan has script kept → HasPlanOf has given kept
-is_plan has given script kept read is = IfSome_then given read (λ bytes same. (script, same, is))
-
 -- what is known of the text of such a plan is known of the output of the file
 pub output_of_plan : {K : Type 0} {made shown : List ℕ} (has : K → ℕ → List Table → Type 0) (text : LoggedRun → List ℕ) (given : Option (List ℕ)) (kept : K) → HasPlanOf has given kept
     → ((run : LoggedRun) → HasPlan has run kept → made ≡ text run) → shown ≡ made → (P : List ℕ → Type 0) → P shown → IfSome given (λ bytes. IsOutputOf text bytes P)

@@ -1,5 +1,5 @@
 -- What desks hold while a worker runs.
-use Rattle.std.proofs.Common.{◌≡◌, ◌∙◌, sym, subst, refl, ℕ, ◌+◌, Some, inl, inr, ⊎_elim, List}
+use Rattle.std.proofs.Common.{◌≡◌, ◌∙◌, sym, subst, ℕ, ◌+◌, Some, inl, inr, ⊎_elim, List}
 use Rattle.pfair_lattice.specs.declared.flat.Flat.TheVariants.{One, Torn}
 use Rattle.pfair_entry.specs.Entry.{Logged}
 use Rattle.pfair_replica.specs.HeldRows.{held}
@@ -16,12 +16,6 @@ grown_trans a b c p q = record {
   processors = q.processors ∙ p.processors;
   capacity = q.capacity ∙ p.capacity;
   kept = λ k n f is. q.kept k n f (p.kept k n f is);
-}
-
-pub learned_nothing : (d : DeskView) → HasLearned d d
-learned_nothing d = record {
-  grown = record { processor = refl; cells = refl; processors = refl; capacity = refl; kept = λ k n f is. is };
-  next = refl;
 }
 
 pub learned_trans : (a b c : DeskView) → HasLearned a b → HasLearned b c → HasLearned a c
