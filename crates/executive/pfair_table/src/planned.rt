@@ -2,12 +2,16 @@
 
 ghost use Rattle.std.specs.Prelude.{◌≡◌, ◌<◌, ◌≤◌, ◌++◌, ◌∷◌, [], IfOk, OnOk, OnErr, None, drop, length, map, max, min, slice_get};
 ghost use Rattle.std.specs.Option.{option_map};
+ghost use Rattle.std.specs.List.{AllByRecursion};
 ghost use Rattle.pfair_table.specs.Places.{places_of};
+ghost use Rattle.pfair_table.specs.PlaceLaws.{IsFit};
 ghost use Rattle.pfair_table.specs.Planned.{last_or, as_tables, as_places};
 
 use crate::pick::{Decided, Pick};
 use crate::pieces::Pieces;
+use crate::places::places_beside;
 use crate::room::Room;
+use crate::settings::Settings;
 use crate::slot::SlotPlan;
 use std::alloc::{AllocError, Global};
 use std::marker::Model;
@@ -20,6 +24,39 @@ pub struct Run {
     pub tables: Vec<Vec<Pick>>,
     /// The places of each slot: for each row of its table the processor that runs it.
     pub places: Vec<Vec<u8>>,
+}
+
+impl Run {
+    /// Puts a run together from the tables of its slots, of at most 64 rows with a task of its own
+    /// each, and works out their places. O(rows).
+    ///
+    /// # Errors
+    /// Returns [`AllocError`] if an allocation fails.
+    pub fn of_tables(alloc: Global, tables: Vec<Vec<Pick>>) -> Result<Run, AllocError>
+        requires { AllByRecursion (IsFit Settings.MAX_PROCESSORS) (as_tables tables) }
+        ensures tables { IfOk result (λ run. run.tables ≡ tables) }
+        ensures places { IfOk result (λ run. as_places run.places ≡ places_of (as_tables tables)) }
+    {
+        let mut places = Vec::with_capacity(alloc, tables.len())?;
+        let mut kept = Vec::new(alloc);
+        for slot in 0..tables.len() {
+            let before = last_of(&tables[..slot]);
+            let there = last_of(&places);
+            let next = places_beside(before, there, &tables[slot], &mut kept, Vec::new(alloc))?;
+            places.push(next)?;
+        }
+        Ok(Run { tables, places })
+    }
+}
+
+// The last of some lists, or an empty one.
+fn last_of<T>(lists: &[Vec<T>]) -> &[T]
+    ensures { result.now ≡ last_or [] (map (λ list. list.items) lists.now) }
+{
+    match lists.last() {
+        Some(list) => list,
+        None => &[],
+    }
 }
 
 // The plan of a slot, with the places of its table.

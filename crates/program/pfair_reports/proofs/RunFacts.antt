@@ -18,7 +18,7 @@ use Rattle.pfair_table.specs.Table.{Table}
 use Rattle.pfair_table.specs.Places.{places_of}
 use Rattle.pfair_table.specs.Planned.{as_tables, as_places}
 use Rattle.pfair_board.specs.Finish.{HasPlan}
-use Rattle.pfair_board.specs.Sinks.{has_built}
+use Rattle.pfair_board.specs.Sinks.{has_kept}
 use Rattle.pfair_output.specs.Replay.{placed_replay_text, placed_text}
 use Rattle.pfair_file.specs.Documents.{script_of_file}
 use Rattle.pfair_reports.specs.Runs.{IsFaultOfReplay, IsOutputOf, replica_of_run, placed_replay_of_run}
@@ -42,15 +42,15 @@ pub output_of_plan : {K : Type 0} {made shown : List ℕ} (has : K → ℕ → L
     → ((run : LoggedRun) → HasPlan has run kept → made ≡ text run) → shown ≡ made → (P : List ℕ → Type 0) → P shown → IfSome given (λ bytes. IsOutputOf text bytes P)
 output_of_plan has text given kept known same equal P p = IfSome_then given known (λ bytes (run, read, is). (run, read, is.far_enough, subst P (equal ∙ same run is) p))
 
-pub places_made : (made : Run) (built : List Table) {tables : List (Vec Pick Global)} {places : List (Vec ℕ Global)} → as_tables made.tables ≡ built → as_places made.places ≡ places_of built
-    → tables ≡ made.tables.items → places ≡ made.places.items → (run : LoggedRun) → HasPlan has_built run built
+pub places_made : (made : Run) (kept : Vec (Vec Pick Global) Global) {tables : List (Vec Pick Global)} {places : List (Vec ℕ Global)} → made.tables ≡ kept → as_places made.places ≡ places_of (as_tables kept)
+    → tables ≡ made.tables.items → places ≡ made.places.items → (run : LoggedRun) → HasPlan has_kept run kept
     → placed_text (map (λ t. t.items) tables) (map (λ p. p.items) places) ≡ placed_replay_of_run run
-places_made made built {places = places} tables_are placed are places_are run is =
+places_made made kept {places = places} tables_are placed are places_are run is =
     ap (λ (ts : List (Vec Pick Global)). placed_text (map (λ t. t.items) ts) (map (λ p. p.items) places)) are
     ∙ ap (λ (ps : List (Vec ℕ Global)). placed_text (as_tables made.tables) (map (λ p. p.items) ps)) places_are
     ∙ ap (λ (ps : List (List ℕ)). placed_text (as_tables made.tables) ps) placed
-    ∙ ap (λ (ts : List Table). placed_text ts (places_of built)) tables_are
-    ∙ ap placed_replay_text is.plan
+    ∙ ap (λ (ts : Vec (Vec Pick Global) Global). placed_text (as_tables ts) (places_of (as_tables kept))) tables_are
+    ∙ ap placed_replay_text is.plan.0
 
 -- what refuses a file refuses its replay
 pub refused_by_file : (may_give_up : Bool) (given : Option (List ℕ)) (fault : ProgramFault) → IsRefusalOf given fault → IsFaultOfReplay may_give_up given fault

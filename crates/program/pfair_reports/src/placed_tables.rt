@@ -8,7 +8,7 @@ use crate::dispatchers::first_run;
 use pfair_board::Gate;
 use pfair_file::ProgramFault;
 use pfair_output::placed_replay_of;
-use pfair_table::RunBuilder;
+use pfair_table::Run;
 use pfair_text::send;
 use std::alloc::Global;
 use std::io::{Read, Write};
@@ -36,8 +36,8 @@ pub fn replay_placed<R: Read, W: Write, G: Gate + Sync>(
     ensures { IsCommandOf (IsOutputOf placed_replay_of_run) (IsFaultOfReplay G.may_give_up) result
         (R.remaining reader.old) (R.remaining reader.new) (W.contents writer.old) (W.contents writer.new) }
 {
-    let built = first_run(rt, alloc, reader, gate, RunBuilder::new(alloc))?;
-    let run = built.into_run()?;
+    let tables = first_run(rt, alloc, reader, gate, Vec::new(alloc))?;
+    let run = Run::of_tables(alloc, tables)?;
     let text = placed_replay_of(alloc, run.tables.as_slice(), run.places.as_slice())?;
     Ok(send(writer, text.as_slice())?)
 }

@@ -1,4 +1,4 @@
 mod FirstFaults
 mod Following
-mod Rows
+pub mod Rows
 mod Working

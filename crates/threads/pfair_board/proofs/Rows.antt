@@ -3,6 +3,9 @@ use Rattle.std.proofs.Common.{◌≡◌, ◌<◌, ℕ, List, [], ◌∷◌, leng
 use Rattle.std.proofs.lemmas.Bool.{true≢false}
 use Rattle.pfair_replica.specs.Replica.{Replica, Below}
 use Rattle.pfair_replica.specs.Laws.{IsLeastJoin}
+use Rattle.std.specs.List.{AllByRecursion}
+use Rattle.pfair_table.specs.PlaceLaws.{IsFit}
+use Rattle.pfair_table.specs.Planned.{as_tables}
 use Rattle.pfair_table.specs.Table.{Table, plan}
 use Rattle.pfair_table.specs.Script.{LoggedRun, replica_of_logs}
 use Rattle.pfair_board.specs.declared.threads.Worked.{Worked}
@@ -10,6 +13,7 @@ use Rattle.pfair_table.specs.declared.run_fault.RunFault.{RunFault}
 use Rattle.pfair_desk.specs.Boards.{BoardFrame}
 use Rattle.pfair_board.specs.Works.{IsWorkOf}
 use Rattle.pfair_board.specs.Finish.{IsGood}
+use Rattle.pfair_board.specs.Sinks.{has_kept}
 
 -- the same work of a row that is known by other names
 pub work_moves : {K : Type 0} (has : K → ℕ → List Table → Type 0) (m : _) (b b' : BoardFrame) (r r' : LoggedRun) (k k' : ℕ) (w : Worked K) → b ≡ b' → r ≡ r' → k ≡ k' → IsWorkOf has m b r k w → IsWorkOf has m b' r' k' w
@@ -27,6 +31,10 @@ kept_plan has r b k w kept good is = subst (λ x. IfOk x (λ y. has y k (plan r.
 -- good work has come to its end
 pub not_failed : {K : Type 0} (has : K → ℕ → List Table → Type 0) (r : LoggedRun) (b : BoardFrame) (k : ℕ) (w : Worked K) (f : RunFault) → IsGood has r b k w → w.kept ≡ Err f → ⊥
 not_failed {K} has r b k w f good is = let none : IsOk {T = K} (Err f) = subst IsOk is good.kept in true≢false (sym none)
+
+-- tables that are kept fit a run
+pub kept_fit : (kept : _) (row : ℕ) (tables : List Table) → has_kept kept row tables → AllByRecursion (IsFit 64) (as_tables kept)
+kept_fit kept row tables has = subst (AllByRecursion (IsFit 64)) (sym has.0) has.1
 
 -- the first of a list that isn't empty
 pub first_is : {A : Type 0} (xs : List A) (x : A) → 0 < length xs → x ≡ slice_index_or xs 0 x → slice_get xs 0 ≡ Some x

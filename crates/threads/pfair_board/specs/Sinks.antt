@@ -1,10 +1,16 @@
 -- What the sinks of workers have after some tables.
-use Rattle.std.specs.Prelude.{ℕ, zero, suc, ◌≡◌, List, Option, Some, None}
+use Rattle.std.specs.Prelude.{ℕ, zero, suc, ◌≡◌, List, Option, Some, None, Vec}
+use Rattle.std.specs.List.{AllByRecursion}
+use Rattle.std.specs.declared.alloc.Global.{Global}
+use Rattle.pfair_table.specs.declared.pick.Pick.{Pick}
+use Rattle.pfair_table.specs.declared.settings.TheConstants.Settings.{MAX_PROCESSORS}
+use Rattle.pfair_table.specs.PlaceLaws.{IsFit}
+use Rattle.pfair_table.specs.Planned.{as_tables}
 use Rattle.pfair_table.specs.Table.{Table}
 
--- a run that is built has these tables
-abbrev pub has_built : List Table → ℕ → List Table → Type 0
-has_built built row tables = built ≡ tables
+-- the tables that are kept are these, of at most 64 rows with a task of its own each
+abbrev pub has_kept : Vec (Vec Pick Global) Global → ℕ → List Table → Type 0
+has_kept kept row tables = (as_tables kept ≡ tables) × AllByRecursion (IsFit MAX_PROCESSORS) tables
 
 -- the first row's worker has a sink, and that has what these tables give; nothing is said of the others
 abbrev pub has_first : {K : Type 0} → (has : K → ℕ → List Table → Type 0) → Option K → ℕ → List Table → Type 0

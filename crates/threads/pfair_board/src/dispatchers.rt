@@ -1,11 +1,12 @@
 //! Dispatchers in threads of their own.
-ghost use Rattle.std.specs.Prelude.{◌≡◌, ◌≤◌, ℕ, [], List, IfOk, IfErr, OnOk, Some, slice_get, vec_len};
+ghost use Rattle.std.specs.Prelude.{◌≡◌, ◌≤◌, ℕ, [], IfOk, IfErr, OnOk, Some, Vec, slice_get, vec_len};
+ghost use Rattle.std.specs.declared.alloc.Global.{Global};
 ghost use Rattle.pfair_replica.specs.Replica.{frontier};
 ghost use Rattle.pfair_table.specs.Script.{capacity_of, replica_of_logs};
-ghost use Rattle.pfair_table.specs.Table.{Table};
+ghost use Rattle.pfair_table.specs.declared.pick.Pick.{Pick};
 ghost use Rattle.pfair_board.specs.Finish.{IsFinished, IsGood, HasPlan};
 ghost use Rattle.pfair_board.specs.RunFaults.{IsRunFaultOf};
-ghost use Rattle.pfair_board.specs.Sinks.{has_built, has_first};
+ghost use Rattle.pfair_board.specs.Sinks.{has_first, has_kept};
 ghost use Rattle.pfair_board.specs.declared.threads.Worked.{Worked};
 
 use crate::first_fault::first_fault;
@@ -15,7 +16,7 @@ use crate::threads::{Worked, run_all};
 use pfair_desk::{Board, Desk};
 use pfair_ready::Ready;
 use pfair_replica::laws::least_join;
-use pfair_table::{Run, RunBuilder, RunFault, Script, take_script};
+use pfair_table::{Pick, Run, RunFault, Script, take_script};
 use std::alloc::{AllocError, Global};
 use std::sync::Wait;
 use std::thread::Threads;
@@ -57,15 +58,15 @@ pub fn run_dispatchers<R: Ready + Send, G: Gate + Sync>(
     gate: &G,
 ) -> Result<Finished, RunFault>
     ensures finished { IfOk result (λ f. IsFinished script.now f.board f.desks.items f.runs.items) }
-    ensures fault { IfErr result (IsRunFaultOf has_built G.may_give_up script.now) }
+    ensures fault { IfErr result (IsRunFaultOf has_kept G.may_give_up script.now) }
 {
     let processors = script.settings().processors();
     let board = Board::new(alloc, processors, script.capacity())?;
     let mut sinks = Vec::with_capacity(alloc, processors as usize)?;
     for _ in 0..processors {
-        sinks.push_reserved(RunBuilder::new(alloc));
+        sinks.push_reserved(Vec::new(alloc));
     }
-    let works = run_on::<R, G, RunBuilder>(rt, alloc, script, &board, gate, sinks)?;
+    let works = run_on::<R, G, Vec<Vec<Pick>>>(rt, alloc, script, &board, gate, sinks)?;
     Ok(hand_back(alloc, script, board, works)?)
 }
 
@@ -132,17 +133,17 @@ fn run_on<R: Ready + Send, G: Gate + Sync, K: Sink + Send>(
     }
 }
 
-// Takes the works apart: their desks, and what was built.
+// Takes the works apart: their desks, and the runs of the tables that they kept.
 fn hand_back(
     alloc: Global,
     script: &Script,
     board: Board,
-    works: Vec<Worked<RunBuilder>>,
+    works: Vec<Worked<Vec<Vec<Pick>>>>,
 ) -> Result<Finished, AllocError>
     requires processors { board.processors ≡ script.now.settings.processors }
     requires capacity { board.capacity ≡ capacity_of script.now.logs }
     requires count { vec_len works ≡ script.now.settings.processors }
-    requires good { (k : ℕ) (w : Worked (List Table)) → slice_get works.items k ≡ Some w → IsGood has_built script.now board k w }
+    requires good { (k : ℕ) (w : Worked (Vec (Vec Pick Global) Global)) → slice_get works.items k ≡ Some w → IsGood has_kept script.now board k w }
     requires far_enough { script.now.settings.slots ≤ frontier (replica_of_logs script.now.logs) }
     ensures { IfOk result (λ f. IsFinished script.now f.board f.desks.items f.runs.items) }
 {
@@ -150,8 +151,8 @@ fn hand_back(
     let mut runs = Vec::new(alloc);
     for work in works {
         let Worked { desk, kept } = work;
-        let Ok(built) = kept else { unreachable!() };
-        let made = built.into_run()?;
+        let Ok(tables) = kept else { unreachable!() };
+        let made = Run::of_tables(alloc, tables)?;
         desks.push(desk)?;
         runs.push(made)?;
     }

@@ -3,7 +3,7 @@ ghost use Rattle.std.specs.Prelude.{ℕ, ◌≡◌, ◌++◌, ◌∷◌, [], Lis
 ghost use Rattle.pfair_table.specs.Table.{Table};
 ghost use Rattle.pfair_table.specs.PlaceLaws.{IsFit};
 
-use pfair_table::{Pick, RunBuilder, Settings};
+use pfair_table::{Pick, Settings};
 use std::alloc::AllocError;
 
 /// Takes the tables of a worker's slots, one after another, as they are planned: it may keep them,
@@ -23,11 +23,11 @@ pub trait Sink: Drop {
         ensures { OnOk result ((row : ℕ) (tables : List Table) → length tables ≡ slot → has self.old row tables → has self.new row (tables ++ table.items ∷ [])) };
 }
 
-/// Keeps each table, and works out its places.
-impl Sink for RunBuilder {
-    ghost use Rattle.pfair_board.specs.Sinks.{has_built};
+/// Keeps each table.
+impl Sink for Vec<Vec<Pick>> {
+    ghost use Rattle.pfair_board.specs.Sinks.{has_kept};
 
-    ghost has = { has_built };
+    ghost has = { has_kept };
 
     fn take(&mut self, _slot: u64, table: Vec<Pick>) -> Result<Option<Vec<Pick>>, AllocError> {
         self.push(table)?;

@@ -15,7 +15,7 @@ use crate::sink::Sink;
 use pfair_desk::{Board, Desk, PublishFault};
 use pfair_entry::Entry;
 use pfair_ready::Ready;
-use pfair_table::{Pick, Run, RunBuilder, RunFault, Settings, SlotPlanner};
+use pfair_table::{Pick, Run, RunFault, Settings, SlotPlanner};
 use std::alloc::{AllocError, Global};
 use std::mem;
 use std::sync::Wait;
@@ -31,8 +31,8 @@ use std::sync::Wait;
 /// Beside what [`SlotPlanner::plan_next`](pfair_table::SlotPlanner::plan_next) costs for each slot,
 /// and the places of its table, it costs a publish of each entry of the log, and a hint of it to
 /// each other worker; for each hint that comes a look; a look-up for each processor when no further
-/// hint waits; and a refresh at the end. The desk alone holds the entries, each once. At the end
-/// each table and its places are moved into the answer, and none is copied.
+/// hint waits; and a refresh at the end. The desk alone holds the entries, each once. No table is
+/// copied: at the end all are moved into the answer, and their places are worked out.
 ///
 /// # Errors
 /// `Memory` if an allocation fails. `GateGaveUp` only if the gate's type may give up. `Astray` only
@@ -57,10 +57,10 @@ pub fn run_worker<R: Ready, G: Gate>(
     ensures fault { IfErr result (IsWorkerFault G.may_give_up desk.new desk.old.next_number log.now) }
     ensures own { IsDeskOf desk.new board.now }
 {
-    let sink = RunBuilder::new(alloc);
-    let worker = Worker::<R, RunBuilder>::new(alloc, settings, desk, hints, sink)?;
-    let built = worker.run(rt, desk, board, log, gate)?;
-    Ok(built.into_run()?)
+    let sink = Vec::new(alloc);
+    let worker = Worker::<R, Vec<Vec<Pick>>>::new(alloc, settings, desk, hints, sink)?;
+    let tables = worker.run(rt, desk, board, log, gate)?;
+    Ok(Run::of_tables(alloc, tables)?)
 }
 
 /// What a worker has beside its desk: what plans its slots, what takes their tables, and its end of

@@ -1,9 +1,7 @@
-use Rattle.std.proofs.Common.{◌≡◌, ◌+◌, ℕ, List, slice_get, Some, vec_len}
+use Rattle.std.proofs.Common.{◌≡◌, ◌+◌, ℕ, slice_get, Some, vec_len}
 use Rattle.std.specs.Vec.Iter.{into_iter_items, into_iter_len}
-use Rattle.pfair_table.specs.Table.{Table}
 use Rattle.pfair_table.specs.Script.{replica_of_logs}
-use Rattle.pfair_board.specs.Sinks.{has_built}
-use Rattle.pfair_board.specs.declared.threads.Worked.{Worked}
+use Rattle.pfair_board.specs.Sinks.{has_kept}
 use Rattle.pfair_table.specs.declared.planned.Run.{Run}
 use Rattle.pfair_desk.specs.Desks.{DeskView}
 use Rattle.pfair_board.specs.Finish.{IsGood, IsFullDesk, IsRunOf}
@@ -16,7 +14,7 @@ invariant-loop-work l =
     record {
       count : done + into_iter_len rest ≡ l.fn.script.settings.processors;
       both : vec_len l.runs ≡ done;
-      good : (k : ℕ) (w : Worked (List Table)) → slice_get (into_iter_items rest) k ≡ Some w → IsGood has_built l.fn.script l.fn.board (done + k) w;
+      good : (k : ℕ) (w : _) → slice_get (into_iter_items rest) k ≡ Some w → IsGood has_kept l.fn.script l.fn.board (done + k) w;
       desks : (k : ℕ) (d : DeskView) → slice_get l.desks.items k ≡ Some d → IsFullDesk l.fn.script l.fn.board k d;
       runs : (k : ℕ) (run : Run) → slice_get l.runs.items k ≡ Some run → IsRunOf l.fn.script.settings (replica_of_logs l.fn.script.logs) run;
     }

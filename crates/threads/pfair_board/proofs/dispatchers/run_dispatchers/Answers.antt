@@ -1,10 +1,11 @@
-use Rattle.std.proofs.Common.{◌≡◌, [], arith}
+use Rattle.std.proofs.Common.{◌≡◌, [], ap, arith, map}
 use Rattle.pfair_desk.proofs.Rows.{each_snoc}
+use Rattle.pfair_table.specs.Planned.{as_tables}
 use Rattle.pfair_board.proofs.dispatchers.run_dispatchers.Goals as goal
 
 pub loop-preserved : goal.loop-preserved
 loop-preserved g c = record {
   count = omega (arith, c.push_reserved.ensures.len, c.loop.invariant.count);
   room = rw c.push_reserved.ensures.capacity c.loop.invariant.room;
-  empty = λ k built at. each_snoc (λ j b. b ≡ []) c.loop.sinks.items c.new-in-loop.result c.loop.invariant.empty c.new-in-loop.ensures k built (rw (← c.push_reserved.ensures.items) at);
+  empty = λ k kept at. each_snoc (λ j v. as_tables v ≡ []) c.loop.sinks.items c.new-in-loop.result c.loop.invariant.empty (ap (map (λ t. t.items)) c.new-in-loop.ensures.items) k kept (rw (← c.push_reserved.ensures.items) at);
 }

@@ -1,5 +1,5 @@
-use Rattle.std.proofs.Common.{◌≡◌, ◌≤◌, ℕ, [], List, Some, slice_get, vec_len, vec_capacity}
-use Rattle.pfair_table.specs.Table.{Table}
+use Rattle.std.proofs.Common.{◌≡◌, ◌≤◌, ℕ, [], Some, slice_get, vec_len, vec_capacity}
+use Rattle.pfair_table.specs.Planned.{as_tables}
 use Rattle.pfair_board.proofs.dispatchers.run_dispatchers.Given as goal
 
 -- so many are made, and none has a table
@@ -7,5 +7,5 @@ abbrev pub invariant-loop : goal.invariant-loop
 invariant-loop g l = record {
   count : vec_len l.sinks ≡ l.counter;
   room : l.processors ≤ vec_capacity l.sinks;
-  empty : (k : ℕ) (built : List Table) → slice_get l.sinks.items k ≡ Some built → built ≡ [];
+  empty : (k : ℕ) (kept : _) → slice_get l.sinks.items k ≡ Some kept → as_tables kept ≡ [];
 }

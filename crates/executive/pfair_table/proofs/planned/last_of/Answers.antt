@@ -1,6 +1,6 @@
 use Rattle.std.proofs.Common.{◌∙◌, sym, refl, [], Vec, Global}
 use Rattle.pfair_table.proofs.PlacesOn.{last_is}
-use Rattle.pfair_table.proofs.run_builder.last_of.Goals as goal
+use Rattle.pfair_table.proofs.planned.last_of.Goals as goal
 
 pub returns-in-Some : goal.returns-in-Some
 returns-in-Some g c = c.deref.ensures.value ∙ sym (last_is (λ (list : Vec _ Global). list.items) [] c.args.lists.now _ c.in-Some.list.now refl c.in-Some.ensures.value)
