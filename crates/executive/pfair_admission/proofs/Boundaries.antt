@@ -1,23 +1,24 @@
 -- How far the announcements of a boundary are decided, and how far delays can lead.
-use Rattle.std.proofs.Common.{◌≡◌, ℕ, zero, suc, ◌+◌, ◌-◌, ◌*◌, ◌<◌, ◌≤◌, Bool, true, false, cond, List, [], ◌∷◌, ◌++◌, length, take, get_or, Result, Ok, Err, OnOk, OnErr, refl, sym, ap, subst, ◌∙◌, arith}
+use Rattle.std.proofs.Common.{◌≡◌, ℕ, zero, suc, ◌+◌, ◌-◌, ◌*◌, ◌<◌, ◌≤◌, Bool, true, false, List, [], ◌∷◌, ◌++◌, length, take, get_or, Result, Ok, Err, OnOk, OnErr, refl, sym, ap, subst, ◌∙◌, arith}
 use Rattle.std.specs.Prelude.{not, if◌then◌else◌}
-use Rattle.std.specs.List.{AllByRecursion, filter}
+use Rattle.std.specs.List.{AllByRecursion}
+use Rattle.std.proofs.SliceLists.{all_by_recursion_push}
 use Rattle.std.proofs.lemmas.List.{take_more}
 use Rattle.std.proofs.lemmas.List.Sums.{sum_by_push}
 use Rattle.pfair_entry.specs.Entry.{IsWithinLimits}
 use Rattle.pfair_entry.specs.declared.announcement.Announcement.{Announcement}
-use Rattle.pfair_entry.specs.declared.announcement.Announcement.TheVariants.{Arrive, Depart, Late}
 use Rattle.pfair_entry.specs.Said.{Said}
 use Rattle.pfair_admission.specs.declared.decision.Decision.{Decision}
-use Rattle.pfair_admission.specs.declared.decision.Decision.TheVariants.{Admitted, Departing, Delayed, Refused}
 use Rattle.pfair_admission.specs.declared.delay.Delay.{Delay}
 use Rattle.pfair_entry.specs.declared.entry.TheConstants.Entry.{LAST_SLOT, LONGEST_DELAY}
 use Rattle.pfair_admission.specs.declared.members.TheConstants.Members.{MAX_HEARD}
 use Rattle.pfair_admission.specs.Member.{Member, last_offset}
-use Rattle.pfair_admission.specs.Admission.{Machine, is_named, change, newcomer, with_freeing, with_delay, with_quantum, effect, is_freed, present, decision, decided, all_decided, all_decisions, announcements, ran}
+use Rattle.pfair_admission.specs.Admission.{Machine, change, newcomer, with_freeing, with_delay, with_quantum, effect, is_freed, present, decision, decided, all_decided, all_decisions, announcements, ran}
 use Rattle.pfair_admission.specs.Roster.{EachBounded, EachHasRoom}
 use Rattle.pfair_admission.specs.Ledger.{after_all}
 use Rattle.pfair_admission.specs.Standing.{Standing}
+use Rattle.pfair_admission.proofs.Each.{each_at, each_filter}
+use Rattle.pfair_admission.proofs.Effects.{by_effect, each_change}
 
 -- ---- how far delays lead
 
@@ -25,43 +26,22 @@ pub bounded_later : (n m : ℕ) → n ≤ m → (ms : List Member) → EachBound
 bounded_later n m up [] h = tt
 bounded_later n m up (x ∷ ms) h = (let o = h.0 in omega arith, bounded_later n m up ms h.1)
 
-bounded_filter : (n : ℕ) (p : Member → Bool) (ms : List Member) → EachBounded n ms → EachBounded n (filter p ms)
-bounded_filter n p [] h = tt
-bounded_filter n p (x ∷ ms) h =
-    elim (p x) as (λ b. EachBounded n (cond b (x ∷ filter p ms) (filter p ms))) [
-      | true ↦ (h.0, bounded_filter n p ms h.1)
-      | false ↦ bounded_filter n p ms h.1
-    ]
-
 pub bounded_present : (n t : ℕ) (ms : List Member) → EachBounded n ms → EachBounded n (present t ms)
-bounded_present n t ms h = bounded_filter n (λ (m : Member). not (is_freed t m.freed_at)) ms h
-
-bounded_push : (n : ℕ) (ms : List Member) (m : Member) → EachBounded n ms → last_offset m ≤ LAST_SLOT + LONGEST_DELAY * n → EachBounded n (ms ++ m ∷ [])
-bounded_push n [] m h b = (b, tt)
-bounded_push n (x ∷ ms) m h b = (h.0, bounded_push n ms m h.1 b)
+bounded_present n t ms h = each_filter (λ m. last_offset m ≤ LAST_SLOT + LONGEST_DELAY * n) (λ m. not (is_freed t m.freed_at)) ms h
 
 bounded_change : (n m : ℕ) (name : List ℕ) (f : Member → Member) → n ≤ m → ((x : Member) → last_offset x ≤ LAST_SLOT + LONGEST_DELAY * n → last_offset (f x) ≤ LAST_SLOT + LONGEST_DELAY * m) → (ms : List Member) → EachBounded n ms → EachBounded m (change name f ms)
-bounded_change n m name f up keeps [] h = tt
-bounded_change n m name f up keeps (x ∷ ms) h =
-    (elim (is_named name x) as (λ b. last_offset (cond b (f x) x) ≤ LAST_SLOT + LONGEST_DELAY * m) [ true ↦ keeps x h.0 | false ↦ (let o = h.0 in omega arith) ], bounded_change n m name f up keeps ms h.1)
+bounded_change n m name f up to = each_change (λ x. last_offset x ≤ LAST_SLOT + LONGEST_DELAY * n) (λ x. last_offset x ≤ LAST_SLOT + LONGEST_DELAY * m) name f to (λ x o. omega arith)
 
 bounded_delay : (n index by : ℕ) → by ≤ LONGEST_DELAY → (x : Member) → last_offset x ≤ LAST_SLOT + LONGEST_DELAY * n → last_offset (with_delay index by x) ≤ LAST_SLOT + LONGEST_DELAY * (n + 1)
 bounded_delay n index by small x o = let s = sum_by_push (λ (d : Delay). d.by) x.delays (record { index = index; by = by }) in omega (arith, s)
 
 bounded_effect : (n t : ℕ) (ms : List Member) (a : Announcement) (d : Decision) → t ≤ LAST_SLOT → IsWithinLimits a → EachBounded n ms → EachBounded (n + 1) (effect t ms a d)
-bounded_effect n t ms (Arrive name w early) Admitted in_time limits h =
-    bounded_push (n + 1) ms (newcomer t name w early) (bounded_later n (n + 1) (omega arith) ms h) (omega arith)
-bounded_effect n t ms (Arrive name w early) (Departing slot) in_time limits h = bounded_later n (n + 1) (omega arith) ms h
-bounded_effect n t ms (Arrive name w early) Delayed in_time limits h = bounded_later n (n + 1) (omega arith) ms h
-bounded_effect n t ms (Arrive name w early) (Refused r) in_time limits h = bounded_later n (n + 1) (omega arith) ms h
-bounded_effect n t ms (Depart name) (Departing slot) in_time limits h = bounded_change n (n + 1) name (with_freeing slot) (omega arith) (λ x o. omega arith) ms h
-bounded_effect n t ms (Depart name) Admitted in_time limits h = bounded_later n (n + 1) (omega arith) ms h
-bounded_effect n t ms (Depart name) Delayed in_time limits h = bounded_later n (n + 1) (omega arith) ms h
-bounded_effect n t ms (Depart name) (Refused r) in_time limits h = bounded_later n (n + 1) (omega arith) ms h
-bounded_effect n t ms (Late name index by) Delayed in_time limits h = bounded_change n (n + 1) name (with_delay index by) (omega arith) (bounded_delay n index by limits.1.1) ms h
-bounded_effect n t ms (Late name index by) Admitted in_time limits h = bounded_later n (n + 1) (omega arith) ms h
-bounded_effect n t ms (Late name index by) (Departing slot) in_time limits h = bounded_later n (n + 1) (omega arith) ms h
-bounded_effect n t ms (Late name index by) (Refused r) in_time limits h = bounded_later n (n + 1) (omega arith) ms h
+bounded_effect n t ms a d in_time limits h =
+    let more = bounded_later n (n + 1) (omega arith) ms h in
+    by_effect (EachBounded (n + 1)) t ms more a d
+    (λ name w early is admitted. all_by_recursion_push (λ m. last_offset m ≤ LAST_SLOT + LONGEST_DELAY * (n + 1)) ms (newcomer t name w early) more (omega arith))
+    (λ name slot is. bounded_change n (n + 1) name (with_freeing slot) (omega arith) (λ x o. omega arith) ms h)
+    (λ name index by is. bounded_change n (n + 1) name (with_delay index by) (omega arith) (bounded_delay n index by (subst IsWithinLimits is limits).1.1) ms h)
 
 -- one announcement more
 pub bounded_decided : (machine : Machine) (n t : ℕ) (ms : List Member) (a : Announcement) → t ≤ LAST_SLOT → IsWithinLimits a → EachBounded n ms → EachBounded (n + 1) (decided machine t ms a)
@@ -137,13 +117,8 @@ said_at (y ∷ xs) (suc i) x within = said_at xs i x (omega arith)
 pub said_item : (xs : List Said) (i : ℕ) (x : Said) → i < length xs → x ≡ get_or xs i x → get_or (announcements xs) i x.2 ≡ x.2
 said_item xs i x within is = said_at xs i x within ∙ ap (λ (a : Said). a.2) (sym is)
 
-limits_at : (xs : List Said) (i : ℕ) (x : Said) → AllByRecursion (λ a. IsWithinLimits a.2) xs → i < length xs → IsWithinLimits (get_or xs i x).2
-limits_at [] i x h within = absurd (omega arith)
-limits_at (y ∷ xs) zero x h within = h.0
-limits_at (y ∷ xs) (suc i) x h within = limits_at xs i x h.1 (omega arith)
-
 pub limits_item : (xs : List Said) (i : ℕ) (x : Said) → AllByRecursion (λ a. IsWithinLimits a.2) xs → i < length xs → x ≡ get_or xs i x → IsWithinLimits x.2
-limits_item xs i x h within is = subst (λ (a : Said). IsWithinLimits a.2) (sym is) (limits_at xs i x h within)
+limits_item xs i x h within is = subst (λ (a : Said). IsWithinLimits a.2) (sym is) (each_at (λ (a : Said). IsWithinLimits a.2) xs i x h within)
 
 -- ---- who is left
 

@@ -2,6 +2,8 @@ mod Boundaries
 mod Changes
 mod Deciding
 mod Delays
+pub mod Each
+pub mod Effects
 mod Keeping
 mod Kept
 mod MemberLists

@@ -1,19 +1,16 @@
 -- Boundaries and quanta keep the names of members apart.
-use Rattle.std.proofs.Common.{◌≡◌, ℕ, Bool, true, false, cond, List, [], ◌∷◌, None, Some, refl, ◌∙◌}
+use Rattle.std.proofs.Common.{◌≡◌, ℕ, true, false, cond, List, [], ◌∷◌, None, Some, refl, sym, ap, ◌∙◌}
 use Rattle.std.specs.Prelude.{not, if◌then◌else◌}
 use Rattle.std.specs.List.{AllByRecursion}
 use Rattle.std.specs.Cmp.Lexicographic.{nat_list_eq_equiv}
 use Rattle.pfair_weight.specs.Name.{NamesApart}
-use Rattle.pfair_weight.specs.Share.{Share}
 use Rattle.pfair_weight.proofs.NamesApart.{apart_filter, apart_map, apart_push}
 use Rattle.pfair_entry.specs.Same.{name_eq}
 use Rattle.pfair_entry.specs.declared.announcement.Announcement.{Announcement}
-use Rattle.pfair_entry.specs.declared.announcement.Announcement.TheVariants.{Arrive, Depart, Late}
-use Rattle.pfair_admission.specs.declared.decision.Decision.{Decision}
-use Rattle.pfair_admission.specs.declared.decision.Decision.TheVariants.{Admitted, Departing, Delayed, Refused}
 use Rattle.pfair_admission.specs.Member.{Member}
-use Rattle.pfair_admission.specs.Admission.{Machine, is_named, member_named, arrival, newcomer, change, with_freeing, with_delay, with_quantum, effect, is_freed, present, decision, decided, all_decided, boundary, ran}
+use Rattle.pfair_admission.specs.Admission.{Machine, is_named, member_named, newcomer, change, with_freeing, with_delay, with_quantum, effect, is_freed, present, decision, boundary, ran}
 use Rattle.pfair_admission.proofs.Deciding.{admitted_new}
+use Rattle.pfair_admission.proofs.Effects.{by_boundary, by_effect}
 
 abbrev label : Member → List ℕ
 label m = m.name
@@ -33,41 +30,18 @@ others_named name (x ∷ ms) none =
       | false ↦ λ other e. (nat_list_eq_equiv.symm x.name name ∙ other, others_named name ms e)
     ]) refl none
 
-apart_arrives : (machine : Machine) (t : ℕ) (ms : List Member) (name : List ℕ) (w : Share) (early : Bool) (d : Decision) → d ≡ arrival machine ms name w → NamesApart (λ m. m.name) ms → NamesApart (λ m. m.name) (effect t ms (Arrive name w early) d)
-apart_arrives machine t ms name w early Admitted is h = apart_push label ms (newcomer t name w early) (others_named name ms (admitted_new machine ms name w is)) h
-apart_arrives machine t ms name w early (Departing slot) is h = h
-apart_arrives machine t ms name w early Delayed is h = h
-apart_arrives machine t ms name w early (Refused r) is h = h
-
-apart_departs : (t : ℕ) (ms : List Member) (name : List ℕ) (d : Decision) → NamesApart (λ m. m.name) ms → NamesApart (λ m. m.name) (effect t ms (Depart name) d)
-apart_departs t ms name (Departing slot) h = apart_change name (with_freeing slot) (λ _. refl) ms h
-apart_departs t ms name Admitted h = h
-apart_departs t ms name Delayed h = h
-apart_departs t ms name (Refused r) h = h
-
-apart_late : (t : ℕ) (ms : List Member) (name : List ℕ) (index by : ℕ) (d : Decision) → NamesApart (λ m. m.name) ms → NamesApart (λ m. m.name) (effect t ms (Late name index by) d)
-apart_late t ms name index by Delayed h = apart_change name (with_delay index by) (λ _. refl) ms h
-apart_late t ms name index by Admitted h = h
-apart_late t ms name index by (Departing slot) h = h
-apart_late t ms name index by (Refused r) h = h
-
 pub apart_present : (t : ℕ) (ms : List Member) → NamesApart (λ m. m.name) ms → NamesApart (λ m. m.name) (present t ms)
 apart_present t ms h = apart_filter label (λ (m : Member). not (is_freed t m.freed_at)) ms h
 
 pub apart_effect : (machine : Machine) (t : ℕ) (ms : List Member) (a : Announcement) → NamesApart (λ m. m.name) ms → NamesApart (λ m. m.name) (effect t ms a (decision machine t ms a))
-apart_effect machine t ms (Arrive name w early) h = apart_arrives machine t ms name w early (arrival machine ms name w) refl h
-apart_effect machine t ms (Depart name) h = apart_departs t ms name (decision machine t ms (Depart name)) h
-apart_effect machine t ms (Late name index by) h = apart_late t ms name index by (decision machine t ms (Late name index by)) h
-
-apart_decided : (machine : Machine) (t : ℕ) (ms : List Member) (a : Announcement) → NamesApart (λ m. m.name) ms → NamesApart (λ m. m.name) (decided machine t ms a)
-apart_decided machine t ms a h = apart_present t (effect t ms a (decision machine t ms a)) (apart_effect machine t ms a h)
-
-apart_all : (machine : Machine) (t : ℕ) (ms : List Member) (announced : List Announcement) → NamesApart (λ m. m.name) ms → NamesApart (λ m. m.name) (all_decided machine t ms announced)
-apart_all machine t ms [] h = h
-apart_all machine t ms (a ∷ more) h = apart_all machine t (decided machine t ms a) more (apart_decided machine t ms a h)
+apart_effect machine t ms a h =
+    by_effect (NamesApart label) t ms h a (decision machine t ms a)
+    (λ name w early is admitted. apart_push label ms (newcomer t name w early) (others_named name ms (admitted_new machine ms name w (sym admitted ∙ ap (decision machine t ms) is))) h)
+    (λ name slot is. apart_change name (with_freeing slot) (λ _. refl) ms h)
+    (λ name index by is. apart_change name (with_delay index by) (λ _. refl) ms h)
 
 pub apart_boundary : (machine : Machine) (t : ℕ) (ms : List Member) (announced : List Announcement) → NamesApart (λ m. m.name) ms → NamesApart (λ m. m.name) (boundary machine t ms announced)
-apart_boundary machine t ms announced h = apart_all machine t (present t ms) announced (apart_present t ms h)
+apart_boundary machine t = by_boundary (NamesApart label) machine t (apart_present t) (apart_effect machine t)
 
 pub apart_ran : (name : List ℕ) (ms : List Member) → NamesApart (λ m. m.name) ms → NamesApart (λ m. m.name) (ran name ms)
 apart_ran name ms h = apart_change name with_quantum (λ _. refl) ms h

@@ -4,6 +4,7 @@ use Rattle.std.specs.Prelude.{nat_eq, not, filter, is_some, slice_get, position}
 use Rattle.std.specs.List.{AllByRecursion, IsDistinct}
 use Rattle.std.specs.Map.{keys_of, values_of, lookup}
 use Rattle.std.specs.Cmp.Lexicographic.{bytes_decides}
+use Rattle.std.proofs.SliceLists.{all_by_recursion_push}
 use Rattle.std.proofs.lemmas.Bool.Decides.{nat_tests}
 use Rattle.std.proofs.lemmas.List.Quantifiers.{position-Some}
 use Rattle.std.proofs.lemmas.Option.{same_Some, none-some, slice_get-get_or}
@@ -12,33 +13,11 @@ use Rattle.pfair_weight.specs.Name.{NameValue, name_eq}
 use Rattle.pfair_admission.specs.Member.{Member}
 use Rattle.pfair_admission.specs.Admission.{is_named, member_named}
 use Rattle.pfair_admission.specs.Removal.{NoneFreed}
+use Rattle.pfair_admission.proofs.Each.{each, each_kept, both}
 use Rattle.pfair_admission.specs.Ledger.{has_number, is_there, IsFound, IsNamedIn, IsNumberOf, IsRegister, Numbered}
 
 abbrev pub Names : Type 0
 Names = List (NameValue × ℕ)
-
--- ---- lists
-
-each : {A : Type 0} (P Q : A → Type 0) → ((x : A) → P x → Q x) → (xs : List A) → AllByRecursion P xs → AllByRecursion Q xs
-each P Q to [] h = tt
-each P Q to (x ∷ xs) h = (to x h.0, each P Q to xs h.1)
-
-both : {A : Type 0} (P Q R : A → Type 0) → ((x : A) → P x → Q x → R x) → (xs : List A) → AllByRecursion P xs → AllByRecursion Q xs → AllByRecursion R xs
-both P Q R to [] h g = tt
-both P Q R to (x ∷ xs) h g = (to x h.0 g.0, both P Q R to xs h.1 g.1)
-
--- those that a test keeps pass it
-each_kept : {A : Type 0} (P Q : A → Type 0) (p : A → Bool) → ((x : A) → p x ≡ true → P x → Q x) → (xs : List A) → AllByRecursion P xs → AllByRecursion Q (filter p xs)
-each_kept P Q p to [] h = tt
-each_kept P Q p to (x ∷ xs) h =
-    (elim (p x) as (λ b. p x ≡ b → AllByRecursion Q (cond b (x ∷ filter p xs) (filter p xs))) [
-      | true ↦ λ passes. (to x passes h.0, each_kept P Q p to xs h.1)
-      | false ↦ λ _. each_kept P Q p to xs h.1
-    ]) refl
-
-each_push : {A : Type 0} (P : A → Type 0) (xs : List A) (x : A) → AllByRecursion P xs → P x → AllByRecursion P (xs ++ x ∷ [])
-each_push P [] x h g = (g, tt)
-each_push P (y ∷ xs) x h g = (h.0, each_push P xs x h.1 g)
 
 same_name : (name other : NameValue) → name_eq name other ≡ true → name ≡ other
 same_name name other = (bytes_decides name other).0
@@ -236,13 +215,13 @@ register_more counts admitted es es' names names' m r none made unique entered u
     let own : IsNamedIn counts names' (admitted, m) = λ _. updates m.name ∙ ap (λ b. cond b (Some admitted) (lookup (name_eq m.name) names)) ((bytes_decides m.name m.name).1 refl) in
     record {
       numbered = subst (λ (l : Numbered). AllByRecursion (λ e. e.0 < admitted + 1) l) (sym made)
-          (each_push (λ e. e.0 < admitted + 1) es (admitted, m) (each (λ e. e.0 < admitted) (λ e. e.0 < admitted + 1) (λ e less. omega (arith, less)) es r.numbered) (omega arith));
+          (all_by_recursion_push (λ e. e.0 < admitted + 1) es (admitted, m) (each (λ e. e.0 < admitted) (λ e. e.0 < admitted + 1) (λ e less. omega (arith, less)) es r.numbered) (omega arith));
       unique = unique;
       named = subst (λ (l : Numbered). AllByRecursion (λ e. IsNumberOf l e.0 e.1) names') (sym made)
           (subst (λ (l : Names). AllByRecursion (λ e. IsNumberOf more e.0 e.1) l) (sym entered)
           (renamed m.name admitted es more names new (λ n k is. record { member = is.member; at = lookup_append (nat_eq k) es (admitted, m) is.member is.at; named = is.named }) r.named));
       found = subst (AllByRecursion (IsNamedIn counts names')) (sym made)
-          (each_push (IsNamedIn counts names') es (admitted, m) (still_named counts m.name admitted names names' es updates none r.found) own);
+          (all_by_recursion_push (IsNamedIn counts names') es (admitted, m) (still_named counts m.name admitted names names' es updates none r.found) own);
     }
 
 -- ---- some go
