@@ -40,8 +40,8 @@ bounded_effect n t ms a d in_time limits h =
     let more = bounded_later n (n + 1) (omega arith) ms h in
     by_effect (EachBounded (n + 1)) t ms more a d
     (λ name w early is admitted. all_by_recursion_push (λ m. last_offset m ≤ LAST_SLOT + LONGEST_DELAY * (n + 1)) ms (newcomer t name w early) more (omega arith))
-    (λ name slot is. bounded_change n (n + 1) name (with_freeing slot) (omega arith) (λ x o. omega arith) ms h)
-    (λ name index by is. bounded_change n (n + 1) name (with_delay index by) (omega arith) (bounded_delay n index by (subst IsWithinLimits is limits).1.1) ms h)
+    (λ name slot is _. bounded_change n (n + 1) name (with_freeing slot) (omega arith) (λ x o. omega arith) ms h)
+    (λ name index by is _. bounded_change n (n + 1) name (with_delay index by) (omega arith) (bounded_delay n index by (subst IsWithinLimits is limits).1.1) ms h)
 
 -- one announcement more
 pub bounded_decided : (machine : Machine) (n t : ℕ) (ms : List Member) (a : Announcement) → t ≤ LAST_SLOT → IsWithinLimits a → EachBounded n ms → EachBounded (n + 1) (decided machine t ms a)

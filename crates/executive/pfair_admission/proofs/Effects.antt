@@ -13,18 +13,18 @@ use Rattle.pfair_admission.proofs.Each.{each_map}
 
 module _ (P : List Member → Type 0) (t : ℕ) (ms : List Member) (h : P ms) where
   pub by_effect : (a : Announcement) (d : Decision) → ((name : List ℕ) (w : Share) (early : Bool) → a ≡ Arrive name w early → d ≡ Admitted → P (ms ++ newcomer t name w early ∷ []))
-      → ((name : List ℕ) (slot : ℕ) → a ≡ Depart name → P (change name (with_freeing slot) ms)) → ((name : List ℕ) (index by : ℕ) → a ≡ Late name index by → P (change name (with_delay index by) ms)) → P (effect t ms a d)
+      → ((name : List ℕ) (slot : ℕ) → a ≡ Depart name → d ≡ Departing slot → P (change name (with_freeing slot) ms)) → ((name : List ℕ) (index by : ℕ) → a ≡ Late name index by → d ≡ Delayed → P (change name (with_delay index by) ms)) → P (effect t ms a d)
   by_effect (Arrive name w early) Admitted joins frees delays = joins name w early refl refl
   by_effect (Arrive name w early) (Departing slot) joins frees delays = h
   by_effect (Arrive name w early) Delayed joins frees delays = h
   by_effect (Arrive name w early) (Refused why) joins frees delays = h
   by_effect (Depart name) Admitted joins frees delays = h
-  by_effect (Depart name) (Departing slot) joins frees delays = frees name slot refl
+  by_effect (Depart name) (Departing slot) joins frees delays = frees name slot refl refl
   by_effect (Depart name) Delayed joins frees delays = h
   by_effect (Depart name) (Refused why) joins frees delays = h
   by_effect (Late name index by) Admitted joins frees delays = h
   by_effect (Late name index by) (Departing slot) joins frees delays = h
-  by_effect (Late name index by) Delayed joins frees delays = delays name index by refl
+  by_effect (Late name index by) Delayed joins frees delays = delays name index by refl refl
   by_effect (Late name index by) (Refused why) joins frees delays = h
 
 -- what leavers and each decision keep, a boundary keeps

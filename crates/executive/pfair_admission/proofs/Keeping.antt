@@ -37,8 +37,8 @@ room_effect machine t ms a h =
       (let sum = claimed_arrived machine.frame t ms name w early in
       let room = admitted_room machine ms name w (sym admitted ∙ ap (decision machine t ms) is) in
       omega (arith, sum, room)))
-    (λ name slot is. room_change machine name (with_freeing slot) (λ _. refl) ms h)
-    (λ name index by is. room_change machine name (with_delay index by) (λ _. refl) ms h)
+    (λ name slot is _. room_change machine name (with_freeing slot) (λ _. refl) ms h)
+    (λ name index by is _. room_change machine name (with_delay index by) (λ _. refl) ms h)
 
 pub room_boundary : (machine : Machine) (t : ℕ) (ms : List Member) (announced : List Announcement) → HaveRoom machine ms → HaveRoom machine (boundary machine t ms announced)
 room_boundary machine t = by_boundary (HaveRoom machine) machine t (λ ms h. (let less = claimed_present machine.frame t ms in omega (arith, less, h))) (room_effect machine t)
@@ -91,8 +91,8 @@ order_effect : (t : ℕ) (ms : List Member) (a : Announcement) (d : Decision) �
 order_effect t ms a d h =
     by_effect (JoinedInOrder t) t ms h a d
     (λ name w early is admitted. order_push t ms (newcomer t name w early) refl h)
-    (λ name slot is. order_change t name (with_freeing slot) (λ _. refl) ms h)
-    (λ name index by is. order_change t name (with_delay index by) (λ _. refl) ms h)
+    (λ name slot is _. order_change t name (with_freeing slot) (λ _. refl) ms h)
+    (λ name index by is _. order_change t name (with_delay index by) (λ _. refl) ms h)
 
 pub order_boundary : (machine : Machine) (t : ℕ) (ms : List Member) (announced : List Announcement) → JoinedInOrder t ms → JoinedInOrder t (boundary machine t ms announced)
 order_boundary machine t = by_boundary (JoinedInOrder t) machine t (order_filter t (λ m. not (is_freed t m.freed_at))) (λ ms a h. order_effect t ms a (decision machine t ms a) h)

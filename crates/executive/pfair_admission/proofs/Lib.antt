@@ -1,10 +1,10 @@
 mod Boundaries
 mod Changes
-mod Deciding
-mod Delays
+pub mod Deciding
+pub mod Delays
 pub mod Each
 pub mod Effects
-mod Keeping
+pub mod Keeping
 mod Kept
 mod MemberLists
 pub mod NamesKept

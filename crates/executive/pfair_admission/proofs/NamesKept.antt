@@ -37,8 +37,8 @@ pub apart_effect : (machine : Machine) (t : ℕ) (ms : List Member) (a : Announc
 apart_effect machine t ms a h =
     by_effect (NamesApart label) t ms h a (decision machine t ms a)
     (λ name w early is admitted. apart_push label ms (newcomer t name w early) (others_named name ms (admitted_new machine ms name w (sym admitted ∙ ap (decision machine t ms) is))) h)
-    (λ name slot is. apart_change name (with_freeing slot) (λ _. refl) ms h)
-    (λ name index by is. apart_change name (with_delay index by) (λ _. refl) ms h)
+    (λ name slot is _. apart_change name (with_freeing slot) (λ _. refl) ms h)
+    (λ name index by is _. apart_change name (with_delay index by) (λ _. refl) ms h)
 
 pub apart_boundary : (machine : Machine) (t : ℕ) (ms : List Member) (announced : List Announcement) → NamesApart (λ m. m.name) ms → NamesApart (λ m. m.name) (boundary machine t ms announced)
 apart_boundary machine t = by_boundary (NamesApart label) machine t (apart_present t) (apart_effect machine t)

@@ -44,7 +44,7 @@ found_among (x ∷ members) name m e = by (name_eq name x.name) e (found_among m
     by true e more = inl (sym (same_Some x m e))
     by false e more = inr (more e)
 
-found_own : (members : List Member) → NamesApart (λ (m : Member). m.name) members → (m : Member) → Among members m → member_named members m.name ≡ Some m
+pub found_own : (members : List Member) → NamesApart (λ (m : Member). m.name) members → (m : Member) → Among members m → member_named members m.name ≡ Some m
 found_own [] a m h = absurd h
 found_own (x ∷ members) a m (inl e) = ap (λ b. cond b (Some x) (member_named members m.name)) (ap (λ (y : Member). name_eq m.name y.name) (sym e) ∙ name_itself m.name) ∙ ap Some (sym e)
 found_own (x ∷ members) a m (inr h) =

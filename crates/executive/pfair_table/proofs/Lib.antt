@@ -1,15 +1,15 @@
 mod FirstByRank
-mod Members
+pub mod Members
 mod TableLaws
-mod Runs
-mod NextIndexes
+pub mod Runs
+pub mod NextIndexes
 mod QueueKept
 mod GivingQuanta
-mod FirstSubtasks
+pub mod FirstSubtasks
 mod Slots
 mod Steps
 mod Keeping
-mod Scripts
+pub mod Scripts
 mod Within
 mod FreePlaces
 mod PlacesKept

@@ -1,10 +1,9 @@
 -- The next index of a member is one more than its quanta in the tables; and adding one for each row keeps it so.
 use Rattle.std.proofs.Common.{ℕ, zero, suc, ◌+◌, ◌≤◌, ◌≡◌, refl, sym, ap, ◌∙◌, arith, Bool, true, false, cond, List, [], ◌∷◌, ◌++◌, length, drop}
-use Rattle.std.specs.Prelude.{◌||◌, map, filter, count_by, not, if◌then◌else◌}
+use Rattle.std.specs.Prelude.{◌||◌, map, count_by, not, if◌then◌else◌}
 use Rattle.std.specs.List.{AllByRecursion}
 use Rattle.std.proofs.SliceLists.{all_by_recursion_push}
 use Rattle.std.proofs.lemmas.List.{length-append, drop_all, drop-append-le, map-id}
-use Rattle.std.proofs.lemmas.List.Elements.{All-filter, All-from_recursion, recursion_from_All}
 use Rattle.std.specs.Cmp.Lexicographic.{nat_list_eq_equiv}
 use Rattle.std.proofs.lemmas.List.Sums.{sum_by_push}
 use Rattle.std.proofs.lemmas.Simd.{map-map}
@@ -13,65 +12,32 @@ use Rattle.pfair_ready.specs.Names.{NameValue as Name}
 use Rattle.pfair_weight.specs.Share.{Share}
 use Rattle.pfair_entry.specs.Same.{name_eq}
 use Rattle.pfair_entry.specs.declared.announcement.Announcement.{Announcement}
-use Rattle.pfair_entry.specs.declared.announcement.Announcement.TheVariants.{Arrive, Depart, Late}
 use Rattle.pfair_entry.specs.Exact.{name_exact}
 use Rattle.pfair_replica.specs.Replica.{Replica, said}
 use Rattle.pfair_entry.specs.Said.{Said}
-use Rattle.pfair_admission.specs.Admission.{Machine, is_named, decision, newcomer, change, effect, present, is_freed, decided, all_decided, boundary, with_freeing, with_delay, ran, with_quantum}
+use Rattle.pfair_admission.specs.Admission.{Machine, is_named, decision, newcomer, is_freed, boundary, with_freeing, with_delay, ran, with_quantum}
 use Rattle.pfair_admission.specs.Member.{Member}
-use Rattle.pfair_admission.specs.declared.decision.Decision.{Decision}
-use Rattle.pfair_admission.specs.declared.decision.Decision.TheVariants.{Admitted, Departing, Delayed, Refused}
 use Rattle.pfair_admission.specs.Admission.{announcements}
 use Rattle.pfair_table.specs.Table.{Settings, Table, History, machine, names_task, quanta, next_index, counted, counted_one, members_at, history, world, table, all_ran}
 use Rattle.pfair_table.specs.declared.pick.Pick.{Pick}
 use Rattle.pfair_weight.specs.Name.{NamesApart}
 use Rattle.pfair_weight.proofs.NamesApart.{apart_head, apart_tail}
+use Rattle.pfair_admission.proofs.Each.{each, each_filter, each_map}
+use Rattle.pfair_admission.proofs.Effects.{by_boundary, by_effect, each_change}
 use Rattle.pfair_table.specs.Laws.{RunsAreCounted}
 use Rattle.pfair_table.proofs.TableLaws.{tables_are_ordered}
 
 -- ---- what holds of each member
 
-pub each_filter : {A : Type 0} (P : A → Type 0) (p : A → Bool) (xs : List A) → AllByRecursion P xs → AllByRecursion P (filter p xs)
-each_filter P p xs all = recursion_from_All P (filter p xs) (All-filter p P xs (All-from_recursion P xs all))
-
-pub each : {A : Type 0} (P Q : A → Type 0) → ((x : A) → P x → Q x) → (xs : List A) → AllByRecursion P xs → AllByRecursion Q xs
-each P Q h [] all = tt
-each P Q h (x ∷ xs) all = (h x all.0, each P Q h xs all.1)
-
-pub each_map : {A B : Type 0} (P : A → Type 0) (Q : B → Type 0) (f : A → B) → ((x : A) → P x → Q (f x)) → (xs : List A) → AllByRecursion P xs → AllByRecursion Q (map f xs)
-each_map P Q f h [] all = tt
-each_map P Q f h (x ∷ xs) all = (h x all.0, each_map P Q f h xs all.1)
-
 -- what holds of each newcomer, and still holds where a member is to be freed or is delayed, holds of each after a boundary
 module _ (t : ℕ) (P : Member → Type 0) (joins : (name : Name) (w : Share) (early : Bool) → P (newcomer t name w early)) (freed : (slot : ℕ) (m : Member) → P m → P (with_freeing slot m)) (delayed : (index by : ℕ) (m : Member) → P m → P (with_delay index by m)) where
-  each_change : (name : Name) (f : Member → Member) → ((m : Member) → P m → P (f m)) → (members : List Member) → AllByRecursion P members → AllByRecursion P (change name f members)
-  each_change name f keeps = each_map P P (λ m. if is_named name m then f m else m) (λ m h. by m h (is_named name m))
-    where
-      by : (m : Member) → P m → (b : Bool) → P (if b then f m else m)
-      by m h true = keeps m h
-      by m h false = h
-
-  each_effect : (members : List Member) (a : Announcement) (d : Decision) → AllByRecursion P members → AllByRecursion P (effect t members a d)
-  each_effect members (Arrive name w early) Admitted all = all_by_recursion_push P members (newcomer t name w early) all (joins name w early)
-  each_effect members (Arrive name w early) (Departing slot) all = all
-  each_effect members (Arrive name w early) Delayed all = all
-  each_effect members (Arrive name w early) (Refused why) all = all
-  each_effect members (Depart name) (Departing slot) all = each_change name (with_freeing slot) (freed slot) members all
-  each_effect members (Depart name) Admitted all = all
-  each_effect members (Depart name) Delayed all = all
-  each_effect members (Depart name) (Refused why) all = all
-  each_effect members (Late name index by) Delayed all = each_change name (with_delay index by) (delayed index by) members all
-  each_effect members (Late name index by) Admitted all = all
-  each_effect members (Late name index by) (Departing slot) all = all
-  each_effect members (Late name index by) (Refused why) all = all
-
-  each_decided : (mc : Machine) (announced : List Announcement) (members : List Member) → AllByRecursion P members → AllByRecursion P (all_decided mc t members announced)
-  each_decided mc [] members all = all
-  each_decided mc (a ∷ announced) members all =
-      each_decided mc announced (decided mc t members a) (each_filter P (λ m. not (is_freed t m.freed_at)) (effect t members a (decision mc t members a)) (each_effect members a (decision mc t members a) all))
-
   pub each_boundary : (mc : Machine) (announced : List Announcement) (members : List Member) → AllByRecursion P members → AllByRecursion P (boundary mc t members announced)
-  each_boundary mc announced members all = each_decided mc announced (present t members) (each_filter P (λ m. not (is_freed t m.freed_at)) members all)
+  each_boundary mc announced members all =
+      by_boundary (AllByRecursion P) mc t (each_filter P (λ m. not (is_freed t m.freed_at)))
+      (λ ms a h. by_effect (AllByRecursion P) t ms h a (decision mc t ms a)
+      (λ name w early is admitted. all_by_recursion_push P ms (newcomer t name w early) h (joins name w early))
+      (λ name slot is _. each_change P P name (with_freeing slot) (freed slot) (λ m p. p) ms h)
+      (λ name index by is _. each_change P P name (with_delay index by) (delayed index by) (λ m p. p) ms h)) members announced all
 
 -- it joined by slot t, and its next index is that of the tables
 pub record IsCounted (t : ℕ) (tables : List Table) (m : Member) : Type 0 where
@@ -99,6 +65,9 @@ joined_history s x (suc t) =
 
 pub counted_world : (s : Settings) (x : Replica) (t : ℕ) → AllByRecursion (IsCounted t (history s x t).tables) (world s x t)
 counted_world s x t = counted_at s t (said x t) (history s x t) (long_history s x t) (joined_history s x t)
+
+pub joined_world : (s : Settings) (x : Replica) (t : ℕ) → AllByRecursion (λ m. m.joined ≤ t) (world s x t)
+joined_world s x t = each (IsCounted t (history s x t).tables) (λ m. m.joined ≤ t) (λ m c. c.by_now) (world s x t) (counted_world s x t)
 
 -- ---- a table's rows
 

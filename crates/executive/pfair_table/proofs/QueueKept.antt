@@ -19,15 +19,14 @@ use Rattle.pfair_entry.specs.Same.{name_eq}
 use Rattle.pfair_entry.specs.Names.{name_of}
 use Rattle.pfair_entry.specs.Said.{Said}
 use Rattle.pfair_entry.specs.declared.announcement.Announcement.{Announcement}
-use Rattle.pfair_entry.specs.declared.announcement.Announcement.TheVariants.{Arrive, Depart, Late}
 use Rattle.pfair_entry.specs.Exact.{name_exact, name_itself}
 use Rattle.std.proofs.lemmas.Option.{none-some, same_Some}
 use Rattle.pfair_ready.specs.Queue.{Queue}
-use Rattle.pfair_admission.specs.Admission.{Machine, is_named, member_named, newcomer, change, effect, decision, present, is_freed, all_decided, boundary, announcements}
+use Rattle.pfair_admission.specs.Admission.{Machine, is_named, member_named, newcomer, with_delay, with_freeing, change, effect, decision, present, is_freed, all_decided, boundary, announcements}
 use Rattle.pfair_admission.specs.Member.{Member, is_departing, eligible_from, next_key}
 use Rattle.pfair_admission.specs.declared.decision.Decision.{Decision}
-use Rattle.pfair_admission.specs.declared.decision.Decision.TheVariants.{Admitted, Departing, Delayed, Refused}
 use Rattle.pfair_table.specs.Queue.{queued, IsQueue, IsQueueBut, IsToldOf, is_said}
+use Rattle.pfair_admission.proofs.Effects.{by_effect}
 use Rattle.pfair_admission.proofs.NamesKept.{apart_present, apart_effect}
 
 -- ---- what is found
@@ -82,18 +81,14 @@ quiet_present t name (m ∷ members) a = by (not (is_freed t m.freed_at)) (name_
     by false false p q more = more
 
 quiet_effect : (t : ℕ) (name : Name) (members : List Member) (a : Announcement) (d : Decision) → name_eq name (name_of a) ≡ false → member_named (effect t members a d) name ≡ member_named members name
-quiet_effect t name members (Arrive other w early) Admitted e = find_push (is_named name) members (newcomer t other w early) e
-quiet_effect t name members (Arrive other w early) (Departing slot) e = refl
-quiet_effect t name members (Arrive other w early) Delayed e = refl
-quiet_effect t name members (Arrive other w early) (Refused why) e = refl
-quiet_effect t name members (Depart other) Admitted e = refl
-quiet_effect t name members (Depart other) (Departing slot) e = found_other name other (λ m. record m { freed_at = Some slot }) (λ m. refl) e members
-quiet_effect t name members (Depart other) Delayed e = refl
-quiet_effect t name members (Depart other) (Refused why) e = refl
-quiet_effect t name members (Late other index by) Admitted e = refl
-quiet_effect t name members (Late other index by) (Departing slot) e = refl
-quiet_effect t name members (Late other index by) Delayed e = found_other name other (λ m. record m { delays = m.delays ++ record { index = index; by = by } ∷ [] }) (λ m. refl) e members
-quiet_effect t name members (Late other index by) (Refused why) e = refl
+quiet_effect t name members a d e =
+    by_effect (λ ms. member_named ms name ≡ member_named members name) t members refl a d
+    (λ other w early is admitted. find_push (is_named name) members (newcomer t other w early) (other_name is))
+    (λ other slot is _. found_other name other (with_freeing slot) (λ m. refl) (other_name is) members)
+    (λ other index by is _. found_other name other (with_delay index by) (λ m. refl) (other_name is) members)
+  where
+    other_name : {b : Announcement} → a ≡ b → name_eq name (name_of b) ≡ false
+    other_name is = subst (λ b. name_eq name (name_of b) ≡ false) is e
 
 quiet_decided : (mc : Machine) (t : ℕ) (name : Name) (heard : List Said) (members : List Member) → NamesApart (λ (m : Member). m.name) members → is_said name heard ≡ false → queued (member_named (all_decided mc t members (announcements heard)) name) ≡ queued (member_named members name)
 quiet_decided mc t name [] members a e = refl

@@ -17,7 +17,8 @@ use Rattle.pfair_table.specs.Queue.{IsQueue, IsSteady}
 use Rattle.pfair_admission.proofs.NamesKept.{apart_boundary, apart_ran}
 use Rattle.std.proofs.lemmas.Option.{same_Some}
 use Rattle.pfair_table.proofs.TableLaws.{rows_apart}
-use Rattle.pfair_table.proofs.NextIndexes.{each_map, each_boundary, all_ran_is, after_table}
+use Rattle.pfair_admission.proofs.Each.{each_map}
+use Rattle.pfair_table.proofs.NextIndexes.{each_boundary, all_ran_is, after_table}
 
 -- ---- next indexes
 

@@ -2,11 +2,11 @@ mod Alike
 mod Books
 mod FedEntries
 mod Going
-mod Lines
+pub mod Lines
 mod Numbered
 mod OneWay
 mod Orders
-mod Planned
+pub mod Planned
 mod Plans
 mod Reading
 mod Repeats

@@ -24,7 +24,8 @@ use Rattle.pfair_feed.specs.RoundTrip.{IsNew, IsPlaced, Placed}
 use Rattle.pfair_feed.proofs.Going.{even}
 use Rattle.pfair_feed.proofs.OneWay.{heads}
 use Rattle.pfair_feed.proofs.Orders.{held_after}
-use Rattle.pfair_feed.proofs.Planned.{at_number, so_many}
+use Rattle.pfair_table.proofs.Runs.{get_numbers}
+use Rattle.pfair_feed.proofs.Planned.{so_many}
 
 -- ---- whether one of two texts begins the other can be seen
 
@@ -84,8 +85,8 @@ module _ (d : Dispatch) (whole : IsWholePlan d) (t : ℕ) where
       let n = min (frontier (replica_of d.held)) d.settings.slots in
       let inside = inside_of (table d.settings (replica_of d.held)) n t d.tables whole.tables_are l in (
         omega (arith, inside),
-        ap (λ (ts : List Table). slice_get ts t) whole.tables_are ∙ at_number (table d.settings (replica_of d.held)) n t inside,
-        ap (λ (ds : List (List Decided)). slice_get ds t) whole.decided_are ∙ at_number (decisions d.settings (replica_of d.held)) n t inside,
+        ap (λ (ts : List Table). slice_get ts t) whole.tables_are ∙ get_numbers (table d.settings (replica_of d.held)) n t inside,
+        ap (λ (ds : List (List Decided)). slice_get ds t) whole.decided_are ∙ get_numbers (decisions d.settings (replica_of d.held)) n t inside,
       )
 
 planned_alike : OneTable → (s : Settings) (c d : Dispatch) → c.settings ≡ s → IsWholePlan c → IsWholePlan d → IsOf s (replica_of c.held) → IsOf s (replica_of d.held) → HavePlannedAlike c d

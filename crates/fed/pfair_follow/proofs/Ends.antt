@@ -3,13 +3,12 @@ use Rattle.std.proofs.Common.{ℕ, zero, suc, Bool, false, ◌≡◌, ◌≤◌,
 use Rattle.std.specs.List.{list_any}
 use Rattle.std.specs.Prelude.{map, min, IfErr, IsErrOf, OnOk}
 use Rattle.std.specs.Io.KnownBytes.{Appends, Consumes}
-use Rattle.std.proofs.lemmas.List.{length-append, length-map}
 use Rattle.pfair_text.specs.Rows.{line, lines_text}
 use Rattle.pfair_replica.specs.HeldRows.{replica_of}
 use Rattle.pfair_replica.specs.Replica.{Replica, empty_replica, frontier, has_torn, numbers_below}
 use Rattle.pfair_table.specs.Events.{Course}
-use Rattle.pfair_table.specs.Refinement.{Dispatch, IsWholePlan}
-use Rattle.pfair_table.specs.Table.{Settings, Table, decisions, plan, table}
+use Rattle.pfair_table.specs.Refinement.{IsWholePlan}
+use Rattle.pfair_table.specs.Table.{Settings, decisions, plan}
 use Rattle.pfair_feed.specs.declared.output.Output.{Output}
 use Rattle.pfair_feed.specs.Follow.{Follow, news}
 use Rattle.pfair_feed.specs.RowLaws.{text_of}
@@ -18,6 +17,7 @@ use Rattle.pfair_feed.specs.Feeding.{AreFedBytes, AreTakenFrom, AreWelcome}
 use Rattle.pfair_feed.specs.Laws.{WholeText}
 use Rattle.pfair_words.specs.declared.follow.Run.{Run}
 use Rattle.pfair_file.specs.declared.program_fault.ProgramFault.{ProgramFault}
+use Rattle.pfair_feed.proofs.Planned.{planned}
 use Rattle.pfair_follow.specs.Runs.{AreTakenAll, IsEndOf, IsFed, IsFedEndOf, IsFedShort, IsFollowed, IsFresh, IsSettled, IsSettledBelow, IsShort, IsUnread, head_from, text_from}
 
 -- one text behind another
@@ -26,18 +26,6 @@ appends_more None v w a b p q = tt
 appends_more (Some xs) None w a b p q = absurd p
 appends_more (Some xs) (Some ys) None a b p q = q
 appends_more (Some xs) (Some ys) (Some zs) a b p q = q ∙ ap (λ l. l ++ b) p ∙ append_assoc xs a b
-
--- ---- how many slots are planned
-
-length_numbers : (n : ℕ) → length (numbers_below n) ≡ n
-length_numbers zero = refl
-length_numbers (suc n) = (let e = length_numbers n in let more = length-append (numbers_below n) (n ∷ []) in omega (arith, e, more))
-
-pub slots_planned : (d : Dispatch) → IsWholePlan d → length d.tables ≡ min (frontier (replica_of d.held)) d.settings.slots
-slots_planned d whole =
-    ap (λ (ts : List Table). length ts) whole.tables_are
-    ∙ length-map (numbers_below (min (frontier (replica_of d.held)) d.settings.slots)) (table d.settings (replica_of d.held))
-    ∙ length_numbers (min (frontier (replica_of d.held)) d.settings.slots)
 
 -- ---- what is written
 
@@ -90,8 +78,8 @@ module _ (law : WholeText) (output : Output) (run : Run) (f g : Follow) (fresh :
   -- where all slots are planned
   pub all_settled : IsFed f g given left before after → g.dispatch.settings.slots ≤ length g.dispatch.tables → IsFollowed output run (IsSettled run.settings) given left before after
   all_settled fed many = followed (IsSettled run.settings) fed (λ whole set.
-      (let planned = slots_planned g.dispatch whole in
-      subst (λ (s : Settings). s.slots ≤ frontier (replica_of g.dispatch.held)) set (omega (arith, planned, many))))
+      (let as_many = planned g.dispatch whole in
+      subst (λ (s : Settings). s.slots ≤ frontier (replica_of g.dispatch.held)) set (omega (arith, as_many, many))))
 
   -- where some are not
   short : (fault : ProgramFault) → IsFedShort f g given left before after fault → IsShort output run given left before after fault
@@ -99,8 +87,8 @@ module _ (law : WholeText) (output : Output) (run : Run) (f g : Follow) (fresh :
     length g.dispatch.tables,
     is,
     followed (IsSettledBelow run.settings (length g.dispatch.tables)) fed (λ whole set.
-        (let planned = slots_planned g.dispatch whole in
-        (omega (arith, planned, few), subst (λ (s : Settings). length g.dispatch.tables < s.slots) set few))),
+        (let as_many = planned g.dispatch whole in
+        (omega (arith, as_many, few), subst (λ (s : Settings). length g.dispatch.tables < s.slots) set few))),
   )
 
   pub ended : (fault : ProgramFault) → IsFedEndOf f g given left before after fault → IsEndOf output run given left before after fault

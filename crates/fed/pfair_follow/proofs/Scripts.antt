@@ -1,12 +1,9 @@
 -- What is written of the rows of a script is the script's own text.
-use Rattle.std.proofs.Common.{ℕ, zero, suc, ◌≡◌, ◌≤◌, ◌<◌, inl, inr, sym, ap, subst, ◌∙◌, arith, true, List, [], ◌∷◌, ◌++◌, length, map, min, Option, None, Some, IfSome, append-nil}
-use Rattle.std.specs.List.{list_all}
+use Rattle.std.proofs.Common.{ℕ, zero, suc, ◌≡◌, ◌≤◌, ◌<◌, inl, inr, sym, ap, subst, ◌∙◌, List, [], ◌++◌, map, min, Option, None, Some, IfSome, append-nil}
 use Rattle.std.specs.Io.KnownBytes.{Appends, Consumes, IsAtEnd}
-use Rattle.std.proofs.lemmas.Bool.{and_parts, leb-true}
-use Rattle.pfair_entry.specs.Entry.{Logged}
 use Rattle.pfair_text.specs.Rows.{lines_text}
 use Rattle.pfair_replica.specs.Replica.{Replica, empty_replica, frontier, numbers_below}
-use Rattle.pfair_table.specs.Script.{LoggedRun, capacity_of, is_short, replica_of_logs}
+use Rattle.pfair_table.specs.Script.{LoggedRun, replica_of_logs}
 use Rattle.pfair_table.specs.Table.{Settings}
 use Rattle.pfair_feed.specs.declared.output.Output.{Output}
 use Rattle.pfair_feed.specs.Rows.{rows_from}
@@ -18,17 +15,9 @@ use Rattle.pfair_file.specs.declared.program_fault.ProgramFault.{ProgramFault}
 use Rattle.pfair_file.specs.declared.program_fault.ProgramFault.TheVariants.{Memory, ReadFailed, Row, Stalled, WriteFailed}
 use Rattle.pfair_entry_row.specs.declared.fault.RowFault.TheVariants.{NoRow}
 use Rattle.pfair_feed.specs.Follow.{Follow, IsStopOf}
+use Rattle.pfair_table.proofs.Scripts.{capacity_short}
 use Rattle.pfair_follow.specs.Runs.{IsEndOf, IsFollowed, IsSettled, IsSettledBelow, text_from}
 use Rattle.pfair_follow.specs.Scripts.{HasScript, IsScriptStalled, IsScriptWritten, OfItsScript}
-
--- no log is longer than the program has room for
-room_for : (logs : List (List Logged)) → list_all is_short logs ≡ true → capacity_of logs ≤ 4096
-room_for [] short = omega arith
-room_for (log ∷ logs) short =
-    let parts = and_parts (is_short log) (list_all is_short logs) short in
-    let few = leb-true (length log) 4096 parts.0 in
-    let rest = room_for logs parts.1 in
-    omega (arith, few, rest)
 
 -- all that the reader had to give was read
 all_read : (given left : Option (List ℕ)) (bytes : List ℕ) → Consumes given left bytes → IsAtEnd left → (P : List ℕ → Type 0) → P bytes → IfSome given P
@@ -52,7 +41,7 @@ module _ (gives : EntriesGiveTheirSchedule) (one : LinesAreOne) (output : Output
       → (held : Replica) × P held × HasScheduleOf script held × Appends before after (text_from output run.from script.settings (replica_of_logs script.logs)))
       (λ script has.
       (let same = (one followed.bytes has.lines followed.brought.lines has.rest followed.brought.rest has.are_lines followed.brought.are_lines).0 in
-      let gave = gives script 4096 followed.brought.lines followed.held has.is_script (room_for script.logs has.is_script.logged.short)
+      let gave = gives script 4096 followed.brought.lines followed.held has.is_script (capacity_short script.logs has.is_script.logged.short)
       (subst (λ (s : Settings). HaveTheRows s.processors 4096 (rows_of script.logs) followed.brought.lines) (sym has.settings_are)
       (subst (λ (ls : List (List ℕ)). HaveTheRows run.settings.processors 4096 (rows_of script.logs) ls) same has.have_rows))
       (subst (λ (s : Settings). AreTakenFrom followed.brought.lines (empty_replica s.processors 4096) followed.held) (sym has.settings_are) followed.brought.taken) in (

@@ -1,7 +1,7 @@
 pub mod Marks
 mod Runs
 mod PutEntry
-mod Merging
+pub mod Merging
 mod SameRows
 mod EmptyRows
 mod Comparing

@@ -113,7 +113,7 @@ some_side : (a b : Held Logged) (c : Flat Logged) → held_join entry_eq a b ≡
 some_side None b c e = inr (c, e)
 some_side (Some x) b c e = inl (x, refl)
 
-one_side : (a b : Held Logged) (e : Logged) → held_join entry_eq a b ≡ Some (One e) → (a ≡ Some (One e)) ⊎ (b ≡ Some (One e))
+pub one_side : (a b : Held Logged) (e : Logged) → held_join entry_eq a b ≡ Some (One e) → (a ≡ Some (One e)) ⊎ (b ≡ Some (One e))
 one_side None b e p = inr p
 one_side (Some x) None e p = inl p
 one_side (Some (One x)) (Some (One y)) e p = by (entry_eq x y) p

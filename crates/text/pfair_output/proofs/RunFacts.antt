@@ -1,5 +1,5 @@
 -- What one slot of a script's run adds.
-use Rattle.std.proofs.Common.{ℕ, zero, suc, ◌+◌, ◌≤◌, ◌≡◌, min, refl, sym, ap, ◌∙◌, arith, List, [], ◌∷◌, ◌++◌, length, append_assoc, length-append}
+use Rattle.std.proofs.Common.{ℕ, suc, ◌+◌, ◌≤◌, ◌≡◌, min, sym, ap, ◌∙◌, arith, List, [], ◌∷◌, ◌++◌, length, append_assoc}
 use Rattle.std.specs.List.{flat_map}
 use Rattle.std.proofs.lemmas.List.{append-nil, length-map, map-append}
 use Rattle.std.proofs.lemmas.Grind.{flat_map-append}
@@ -14,6 +14,7 @@ use Rattle.pfair_output.specs.Lags.{lag_rows}
 use Rattle.pfair_output.specs.Runs.{decided_below}
 use Rattle.pfair_output.specs.Slots.{slots_from}
 use Rattle.pfair_output.specs.Told.{book_rows, slot_told}
+use Rattle.pfair_table.proofs.Runs.{length_numbers}
 use Rattle.pfair_output.proofs.WorldFacts.{book_after, rows_after}
 
 -- how many slots of a script are planned, where its logs settle all of them
@@ -35,10 +36,6 @@ text_more start before after rows more had has =
     ∙ ap (λ (text : List ℕ). text ++ lines_text more) had
     ∙ append_assoc start (lines_text rows) (lines_text more)
     ∙ ap (λ (text : List ℕ). start ++ text) (sym (lines_text-append rows more))
-
-length_numbers : (n : ℕ) → length (numbers_below n) ≡ n
-length_numbers zero = refl
-length_numbers (suc n) = (let more = length_numbers n in let sum = length-append (numbers_below n) (n ∷ []) in omega (arith, more, sum))
 
 module _ (s : Settings) (x : Replica) (n : ℕ) (start before after : List ℕ) where
   next_number : n + 1 ≡ suc n

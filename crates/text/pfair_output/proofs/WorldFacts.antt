@@ -1,12 +1,12 @@
 -- A book that is told a whole plan has the members that stay, with their lags.
-use Rattle.std.proofs.Common.{ℕ, zero, suc, ◌+◌, ◌-◌, ◌≤◌, ◌≡◌, refl, sym, ap, subst, ◌∙◌, arith, Bool, true, false, cond, not, ◌||◌, List, [], ◌∷◌, ◌++◌, Option, Some, None, map, length, drop, length-append, append_assoc}
-use Rattle.std.specs.Prelude.{is_some, filter, count_by, min, nat_lt, nat_le, ◌==◌, ◌%◌, ◌*◌}
+use Rattle.std.proofs.Common.{ℕ, zero, suc, ◌+◌, ◌-◌, ◌≤◌, ◌≡◌, refl, sym, ap, ◌∙◌, arith, Bool, true, false, cond, not, ◌||◌, List, [], ◌∷◌, ◌++◌, Option, Some, None, map, length, drop, append_assoc}
+use Rattle.std.specs.Prelude.{is_some, filter, count_by, min, nat_le}
 use Rattle.std.specs.List.{AllByRecursion, flat_map}
 use Rattle.std.specs.Map.{lookup}
 use Rattle.std.proofs.lemmas.List.{map-append, drop-append-le, drop_all, append-nil}
 use Rattle.std.proofs.lemmas.List.Sums.{sum_by-append, sum_by-cons}
 use Rattle.std.proofs.lemmas.Grind.{flat_map-append}
-use Rattle.pfair_weight.specs.Share.{Share, units_of}
+use Rattle.pfair_weight.specs.Share.{Share}
 use Rattle.pfair_entry.specs.declared.announcement.Announcement.{Announcement}
 use Rattle.pfair_entry.specs.declared.announcement.Announcement.TheVariants.{Arrive, Depart, Late}
 use Rattle.pfair_entry.specs.Said.{Said}
@@ -15,10 +15,8 @@ use Rattle.pfair_replica.specs.HeldRows.{replica_of}
 use Rattle.pfair_table.specs.Refinement.{Dispatch, IsWholePlan}
 use Rattle.pfair_admission.specs.declared.decision.Decision.{Decision}
 use Rattle.pfair_admission.specs.declared.decision.Decision.TheVariants.{Admitted, Departing, Delayed, Refused}
-use Rattle.pfair_admission.specs.declared.refusal.Refusal.{Refusal}
-use Rattle.pfair_admission.specs.declared.refusal.Refusal.TheVariants.{NameTaken, PeriodOutsideFrame, NoRoom}
 use Rattle.pfair_admission.specs.Member.{Member}
-use Rattle.pfair_admission.specs.Admission.{Machine, member_named, claimed, arrival, decision, newcomer, with_freeing, with_delay, change, effect, is_freed, present, decided, all_decided, all_decisions, announcements}
+use Rattle.pfair_admission.specs.Admission.{Machine, member_named, decision, newcomer, with_freeing, with_delay, change, effect, is_freed, present, decided, all_decided, all_decisions, announcements}
 use Rattle.pfair_table.specs.declared.pick.Pick.{Pick}
 use Rattle.pfair_table.specs.declared.pick.Decided.{Decided}
 use Rattle.pfair_table.specs.Table.{Settings, Table, machine, names_task, quanta, counted, history, world, table, with_decisions, decisions}
@@ -26,6 +24,9 @@ use Rattle.pfair_weight.specs.Name.{NameValue, name_eq}
 use Rattle.pfair_lag.specs.Book.{Tally, Book, empty_book, tally_of, has_run, entered_with, slot_more}
 use Rattle.pfair_output.specs.Lags.{is_staying, lag_row, lag_rows}
 use Rattle.pfair_output.specs.Told.{told, all_told, slot_told, all_slots_told, tally_row, book_rows, rows_told}
+use Rattle.pfair_admission.proofs.Deciding.{admitted_new}
+use Rattle.pfair_admission.proofs.Each.{each_filter}
+use Rattle.pfair_table.proofs.NextIndexes.{joined_world, long_history}
 use Rattle.pfair_output.proofs.ToldFacts.{time-all_told}
 
 -- what a book has of a member
@@ -72,17 +73,6 @@ no_entry time tables name (m ∷ ms) none =
   where
     some_none : {A : Type 0} (x : A) → Some x ≡ None → ⊥
     some_none x e = cc
-
-refused : (why : Refusal) → Refused why ≡ Admitted → ⊥
-refused why e = cc
-
--- who is admitted is no member
-admitted_new : (machine : Machine) (ms : List Member) (name : NameValue) (w : Share) → arrival machine ms name w ≡ Admitted → member_named ms name ≡ None
-admitted_new machine ms name w e =
-    elim (member_named ms name) as (λ o. cond (is_some o) (Refused NameTaken) (cond (not (machine.frame % w.period == 0)) (Refused PeriodOutsideFrame) (cond (nat_lt (machine.processors * machine.frame) (claimed machine.frame ms + units_of w machine.frame)) (Refused NoRoom) Admitted)) ≡ Admitted → o ≡ None) [
-      | None ↦ λ _. refl
-      | Some m ↦ λ f. absurd (refused NameTaken f)
-    ] e
 
 staying_push : (ms : List Member) (m : Member) → is_staying m ≡ true → filter is_staying (ms ++ m ∷ []) ≡ filter is_staying ms ++ m ∷ []
 staying_push [] m e = ap (λ b. cond b (m ∷ []) []) e
@@ -149,7 +139,7 @@ shown_late t tables name index by (m ∷ ms) =
 one_told : (machine : Machine) (t : ℕ) (tables : List Table) (ms : List Member) (a : Announcement) (d : Decision) (book : Book)
     → length tables ≡ t → d ≡ decision machine t ms a → book.entered ≡ shown_all t tables ms
     → (told a d book).entered ≡ shown_all t tables (effect t ms a d)
-one_told machine t tables ms (Arrive name w early) Admitted book long is at = entered_new t tables ms name w early book long at (admitted_new machine ms name w (sym is))
+one_told machine t tables ms (Arrive name w early) Admitted book long is at = entered_new t tables ms name w early book long at (admitted_new machine ms name w is)
 one_told machine t tables ms (Arrive name w early) (Departing slot) book long is at = at
 one_told machine t tables ms (Arrive name w early) Delayed book long is at = at
 one_told machine t tables ms (Arrive name w early) (Refused why) book long is at = at
@@ -174,53 +164,6 @@ all_of_slot machine t tables (a ∷ more) ms book long at =
     let one : (told a.2 d book).entered ≡ shown_all t tables after = one_told machine t tables ms a.2 d book long refl at in
     all_of_slot machine t tables more (present t after) (told a.2 d book) long (one ∙ ap (map (shown t tables)) (sym (staying_present t after)))
 
--- ---- joining slots
-
-abbrev EachJoined : ℕ → List Member → Type 0
-EachJoined t ms = AllByRecursion (λ m. m.joined ≤ t) ms
-
-joined_later : (t u : ℕ) (ms : List Member) → t ≤ u → EachJoined t ms → EachJoined u ms
-joined_later t u [] h j = tt
-joined_later t u (m ∷ ms) h j = (let at = j.0 in omega (arith, at), joined_later t u ms h j.1)
-
-joined_counted : (t : ℕ) (tables : List Table) (ms : List Member) → EachJoined t ms → EachJoined t (counted tables ms)
-joined_counted t tables [] j = tt
-joined_counted t tables (m ∷ ms) j = (j.0, joined_counted t tables ms j.1)
-
-joined_filter : (t : ℕ) (p : Member → Bool) (ms : List Member) → EachJoined t ms → EachJoined t (filter p ms)
-joined_filter t p [] j = tt
-joined_filter t p (m ∷ ms) j = elim (p m) as (λ b. EachJoined t (cond b (m ∷ filter p ms) (filter p ms))) [ true ↦ (j.0, joined_filter t p ms j.1) | false ↦ joined_filter t p ms j.1 ]
-
-joined_change : (t : ℕ) (name : NameValue) (f : Member → Member) → ((m : Member) → (f m).joined ≡ m.joined) → (ms : List Member) → EachJoined t ms → EachJoined t (change name f ms)
-joined_change t name f keeps [] j = tt
-joined_change t name f keeps (m ∷ ms) j = (
-  elim (name_eq name m.name) as (λ b. (cond b (f m) m).joined ≤ t) [ true ↦ subst (λ n. n ≤ t) (sym (keeps m)) j.0 | false ↦ j.0 ],
-  joined_change t name f keeps ms j.1,
-)
-
-joined_push : (t : ℕ) (ms : List Member) (m : Member) → EachJoined t ms → m.joined ≤ t → EachJoined t (ms ++ m ∷ [])
-joined_push t [] m j h = (h, tt)
-joined_push t (x ∷ ms) m j h = (j.0, joined_push t ms m j.1 h)
-
-joined_effect : (t : ℕ) (ms : List Member) (a : Announcement) (d : Decision) → EachJoined t ms → EachJoined t (effect t ms a d)
-joined_effect t ms (Arrive name w early) Admitted j = joined_push t ms (newcomer t name w early) j (omega arith)
-joined_effect t ms (Arrive name w early) (Departing slot) j = j
-joined_effect t ms (Arrive name w early) Delayed j = j
-joined_effect t ms (Arrive name w early) (Refused why) j = j
-joined_effect t ms (Depart name) Admitted j = j
-joined_effect t ms (Depart name) (Departing slot) j = joined_change t name (with_freeing slot) (λ m. refl) ms j
-joined_effect t ms (Depart name) Delayed j = j
-joined_effect t ms (Depart name) (Refused why) j = j
-joined_effect t ms (Late name index by) Admitted j = j
-joined_effect t ms (Late name index by) (Departing slot) j = j
-joined_effect t ms (Late name index by) Delayed j = joined_change t name (with_delay index by) (λ m. refl) ms j
-joined_effect t ms (Late name index by) (Refused why) j = j
-
-joined_decided : (machine : Machine) (t : ℕ) (ms : List Member) (heard : List Announcement) → EachJoined t ms → EachJoined t (all_decided machine t ms heard)
-joined_decided machine t ms [] j = j
-joined_decided machine t ms (a ∷ more) j =
-    joined_decided machine t (decided machine t ms a) more (joined_filter t (λ m. not (is_freed t m.freed_at)) (effect t ms a (decision machine t ms a)) (joined_effect t ms a (decision machine t ms a) j))
-
 -- ---- the table of a slot
 
 any_of_names : (name : NameValue) (table : Table) → has_run (map (λ (p : Pick). p.name) table) name ≡ names_task name table
@@ -244,7 +187,7 @@ shown_more t tables table m long joined =
     ap (λ b. quanta tables m + cond b 1 0) (any_of_names m.name table) ∙ sym (more_quanta tables table m (omega arith)) in
     λ i. record { weight = m.weight; slots = slots i; ran = ran i }
 
-all_recorded : (t : ℕ) (tables : List Table) (table : Table) (ms : List Member) → length tables ≡ t → EachJoined t ms
+all_recorded : (t : ℕ) (tables : List Table) (table : Table) (ms : List Member) → length tables ≡ t → AllByRecursion (λ m. m.joined ≤ t) ms
     → map (λ (e : NameValue × Tally). (e.0, slot_more (map (λ (p : Pick). p.name) table) e.0 e.1)) (map (shown t tables) ms) ≡ map (shown (t + 1) (tables ++ table ∷ [])) ms
 all_recorded t tables table [] long j = refl
 all_recorded t tables table (m ∷ ms) long j =
@@ -261,8 +204,6 @@ module _ (s : Settings) (x : Replica) where
 
   pub record IsAfter (t : ℕ) (book : Book) : Type 0 where
     pub time_is : book.time ≡ t
-    pub long : length (history s x t).tables ≡ t
-    pub joined : EachJoined t (history s x t).members
     pub entered_is : book.entered ≡ shown_all t (history s x t).tables (history s x t).members
 
   -- a slot more
@@ -271,25 +212,21 @@ module _ (s : Settings) (x : Replica) where
       let tables : List Table = (history s x t).tables in
       let start : List Member = counted tables (history s x t).members in
       let next : suc t ≡ t + 1 = omega arith in
-      let joined : EachJoined t (world s x t) =
-      joined_decided (machine s) t (present t start) (announcements (said x t))
-      (joined_filter t (λ m. not (is_freed t m.freed_at)) start (joined_counted t tables (history s x t).members a.joined)) in
+      let long = long_history s x t in
       let opened : book.entered ≡ shown_all t tables (present t start) =
       a.entered_is ∙ sym (shown_counted t tables (history s x t).members) ∙ ap (map (shown t tables)) (sym (staying_present t start)) in
       let told : (all_told (decisions s x t) book).entered ≡ shown_all t tables (world s x t) =
-      all_of_slot (machine s) t tables (said x t) (present t start) book a.long opened in
+      all_of_slot (machine s) t tables (said x t) (present t start) book long opened in
       let closed : (slot_told (decisions s x t) (table s x t) book).entered ≡ shown_all (t + 1) (tables ++ table s x t ∷ []) (world s x t) =
       ap (map (λ (e : NameValue × Tally). (e.0, slot_more (map (λ (p : Pick). p.name) (table s x t)) e.0 e.1))) told
-      ∙ all_recorded t tables (table s x t) (filter is_staying (world s x t)) a.long (joined_filter t is_staying (world s x t) joined) in
+      ∙ all_recorded t tables (table s x t) (filter is_staying (world s x t)) long (each_filter (λ m. m.joined ≤ t) is_staying (world s x t) (joined_world s x t)) in
       record {
         time_is = ap (λ n. n + 1) (time-all_told (decisions s x t) book ∙ a.time_is) ∙ sym next;
-        long = length-append tables (table s x t ∷ []) ∙ (let l = a.long in omega (arith, l));
-        joined = joined_later t (suc t) (world s x t) (omega arith) joined;
         entered_is = closed ∙ ap (λ n. shown_all n (tables ++ table s x t ∷ []) (world s x t)) (sym next);
       }
 
   pub after_all : (t : ℕ) → IsAfter t (book_after t)
-  after_all zero = record { time_is = refl; long = refl; joined = tt; entered_is = refl }
+  after_all zero = record { time_is = refl; entered_is = refl }
   after_all (suc t) = after_more t (book_after t) (after_all t)
 
   same_rows : (time : ℕ) (tables : List Table) (ms : List Member) → map (tally_row time) (map (shown time tables) ms) ≡ map (lag_row tables time) ms
@@ -332,12 +269,8 @@ module _ (s : Settings) (x : Replica) where
   over_slots : (n : ℕ) → all_slots_told empty_book (map (decisions s x) (numbers_below n)) (map (table s x) (numbers_below n)) ≡ book_after s x n
   over_slots zero = refl
   over_slots (suc n) =
-      let ds : List (List Decided) = map (decisions s x) (numbers_below n) in
-      let ts : List Table = map (table s x) (numbers_below n) in
-      ap (λ l. all_slots_told empty_book l (map (table s x) (numbers_below (suc n)))) (map-append (decisions s x) (numbers_below n) (n ∷ []))
-      ∙ ap (all_slots_told empty_book (ds ++ decisions s x n ∷ [])) (map-append (table s x) (numbers_below n) (n ∷ []))
-      ∙ over_push empty_book ds ts (decisions s x n) (table s x n) (same_length (decisions s x) (table s x) (numbers_below n))
-      ∙ ap (slot_told (decisions s x n) (table s x n)) (over_slots n)
+      let more = over_push empty_book (map (decisions s x) (numbers_below n)) (map (table s x) (numbers_below n)) (decisions s x n) (table s x n) (same_length (decisions s x) (table s x) (numbers_below n)) in
+      rw (map-append (decisions s x) (numbers_below n) (n ∷ []), map-append (table s x) (numbers_below n) (n ∷ []), more, over_slots n) refl
 
   -- the rows of the book that is told the first n slots are those of the members
   pub rows_of_slots : (n : ℕ) → rows_told empty_book (map (decisions s x) (numbers_below n)) (map (table s x) (numbers_below n)) ≡ flat_map (lag_rows s x) (numbers_below n)

@@ -22,7 +22,8 @@ use Rattle.pfair_optimal.proofs.Lists.{among_here, among_more, among_cases}
 use Rattle.pfair_optimal.proofs.Past.{task_exact, subtask_exact, ran_at}
 use Rattle.pfair_in_time.specs.Laws.{AllHaveWeights}
 use Rattle.pfair_in_time.proofs.Boundaries.{named_is}
-use Rattle.pfair_in_time.proofs.Worlds.{runs, on, on_next, keys_at, keys_apart, apart_world, same_member, chosen_member, runs_chosen, chosen_runs, next_new, here, came_from}
+use Rattle.pfair_table.proofs.Members.{named_world}
+use Rattle.pfair_in_time.proofs.Worlds.{runs, on, on_next, keys_at, keys_apart, same_member, chosen_member, runs_chosen, chosen_runs, next_new, here, came_from}
 use Rattle.pfair_in_time.proofs.Lines.{IsLine, line_of}
 
 -- ---- among a list, by a test or not
@@ -106,7 +107,7 @@ as_run s x n = record {
 -- ---- rows
 
 row_is : (s : Settings) (x : Replica) (t : ℕ) (m : Member) → Among (world s x t) m → row_of (world s x t) (next_key m) ≡ subtask_of m
-row_is s x t m h = ap row_in (named_is (world s x t) m.name m (apart_world s x t) h (name_itself m.name))
+row_is s x t m h = ap row_in (named_is (world s x t) m.name m (named_world s x t) h (name_itself m.name))
 
 pub row_member : (s : Settings) (x : Replica) (n t : ℕ) (z : Subtask) → is_row (as_run s x n) t z ≡ true → (m : Member) × Among (world s x t) m × (runs s x t m ≡ true) × (z ≡ subtask_of m)
 row_member s x n t z row =

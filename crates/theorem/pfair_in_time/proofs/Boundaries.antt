@@ -1,26 +1,25 @@
 -- What boundaries make of members.
-use Rattle.std.proofs.Common.{◌≡◌, ℕ, ◌+◌, ◌-◌, ◌*◌, ◌%◌, ◌<◌, ◌≤◌, Bool, true, false, cond, List, [], ◌∷◌, ◌++◌, Option, Some, None, arith, ap, refl, sym, ◌∙◌, subst, inl, inr, ⊎_elim, max}
+use Rattle.std.proofs.Common.{◌≡◌, ℕ, ◌+◌, ◌-◌, ◌*◌, ◌%◌, ◌<◌, ◌≤◌, Bool, true, false, List, [], ◌∷◌, ◌++◌, Option, Some, None, arith, ap, refl, sym, ◌∙◌, subst, inl, inr, ⊎_elim, max}
 use Rattle.std.specs.Prelude.{◌⊎◌, not, nat_lt, ◌==◌, ◌||◌, is_some, if◌then◌else◌}
 use Rattle.std.proofs.lemmas.Bool.{true≢false, false≢true, cases_lt, cases_Bool, or_parts, ltb-false, leb-true, eqb-true, not_from_false}
 use Rattle.std.proofs.lemmas.Option.{same_Some}
 use Rattle.pfair_weight.specs.Name.{NamesApart}
 use Rattle.pfair_weight.specs.Share.{Share, IsWeight, units_of}
 use Rattle.pfair_weight.specs.Window.{release_of}
-use Rattle.pfair_weight.proofs.NamesApart.{apart_head, apart_tail}
-use Rattle.pfair_entry.specs.Same.{name_eq}
 use Rattle.pfair_entry.specs.Exact.{name_exact}
 use Rattle.pfair_entry.specs.declared.announcement.Announcement.{Announcement}
-use Rattle.pfair_entry.specs.declared.announcement.Announcement.TheVariants.{Arrive, Depart, Late}
-use Rattle.pfair_replica.specs.Among.{Among, among_left, among_append, among_filter, filter_among, among_map, map_among, among_all}
-use Rattle.pfair_admission.specs.declared.decision.Decision.{Decision}
+use Rattle.pfair_replica.specs.Among.{Among, among_left, among_append, among_filter, filter_among, among_map, map_among}
 use Rattle.pfair_admission.specs.declared.decision.Decision.TheVariants.{Admitted, Departing, Delayed, Refused}
 use Rattle.pfair_admission.specs.declared.refusal.Refusal.TheVariants.{NameTaken, PeriodOutsideFrame, NoRoom, AlreadyDeparting, AlreadyReleased}
 use Rattle.pfair_admission.specs.Member.{Member, theta, is_departing, busy_until, freeing_slot}
 use Rattle.pfair_admission.specs.Admission.{Machine, is_named, member_named, claimed, arrival, departure, late_release, decision, newcomer, with_freeing, with_delay, change, effect, is_freed, present, decided, all_decided, boundary}
+use Rattle.pfair_admission.proofs.Effects.{by_effect}
 use Rattle.pfair_admission.proofs.NamesKept.{apart_effect, apart_present}
+use Rattle.pfair_table.proofs.FirstSubtasks.{found_own}
 use Rattle.pfair_in_time.specs.Descent.{Descends, IsSound, IsNew, HasWeight}
 use Rattle.pfair_in_time.specs.Laws.{AllSound, AllHaveWeights, IsFreed, BoundariesKeepMembers}
-use Rattle.pfair_in_time.proofs.Offsets.{release_rises, delayed_rises, delayed_before}
+use Rattle.pfair_admission.proofs.Keeping.{theta_earlier}
+use Rattle.pfair_in_time.proofs.Offsets.{release_rises, delayed_rises}
 
 -- ---- one member
 
@@ -68,7 +67,7 @@ delay_descends t index by m some active released to_come = record {
   joined = refl;
   next = refl;
   rises = delayed_rises index by m;
-  stays = λ i h. delayed_before index by m i (below i h);
+  stays = λ i h. theta_earlier m index by i (below i h);
   departing = λ d. absurd (true≢false (sym d ∙ active));
 }
   where
@@ -86,19 +85,7 @@ delay_sound frame index by m active s = record { weight = s.weight; period = s.p
 -- ---- the member of a name
 
 pub named_is : (ms : List Member) (name : List ℕ) (m : Member) → NamesApart (λ (m : Member). m.name) ms → Among ms m → is_named name m ≡ true → member_named ms name ≡ Some m
-named_is [] name m apart h e = absurd h
-named_is (x ∷ ms) name m apart h e = by (is_named name x) refl (λ i. named_is ms name m (apart_tail (λ (m : Member). m.name) x ms apart) i e) h
-  where
-    later : Among ms m → is_named name x ≡ true → ⊥
-    later i t =
-        let other = among_all (λ (y : Member). name_eq x.name y.name ≡ false) ms (apart_head (λ (m : Member). m.name) x ms apart) m i in
-        true≢false (sym (ap (λ n. name_eq n m.name) (sym (name_exact name x.name t)) ∙ e) ∙ other)
-
-    by : (b : Bool) → is_named name x ≡ b → (Among ms m → member_named ms name ≡ Some m) → Among (x ∷ ms) m → cond b (Some x) (member_named ms name) ≡ Some m
-    by true t rest (inl i) = ap Some (sym i)
-    by true t rest (inr i) = absurd (later i t)
-    by false t rest (inl i) = absurd (true≢false (sym e ∙ ap (is_named name) i ∙ t))
-    by false t rest (inr i) = rest i
+named_is ms name m apart h e = subst (λ n. member_named ms n ≡ Some m) (sym (name_exact name m.name e)) (found_own ms apart m h)
 
 -- ---- decisions that change a member
 
@@ -168,37 +155,19 @@ joins machine t ms name w early sound weight period = record {
     new : IsSound machine.frame (newcomer t name w early)
     new = record { weight = weight; period = period; claim = λ slot e. absurd (cc) }
 
-arrive_step : (machine : Machine) (t : ℕ) (ms : List Member) (name : List ℕ) (w : Share) (early : Bool) (d : Decision) → arrival machine ms name w ≡ d → AllSound machine.frame ms → IsWeight w.cost w.period
-    → Step machine t ms (effect t ms (Arrive name w early) d)
-arrive_step machine t ms name w early Admitted is sound weight = joins machine t ms name w early sound weight (fits_frame machine ms name w is)
-arrive_step machine t ms name w early (Departing slot) is sound weight = nothing_changes machine t ms sound
-arrive_step machine t ms name w early Delayed is sound weight = nothing_changes machine t ms sound
-arrive_step machine t ms name w early (Refused r) is sound weight = nothing_changes machine t ms sound
-
-depart_step : (machine : Machine) (t : ℕ) (ms : List Member) (name : List ℕ) (d : Decision) → departure t (member_named ms name) ≡ d → NamesApart (λ (m : Member). m.name) ms → AllSound machine.frame ms → Step machine t ms (effect t ms (Depart name) d)
-depart_step machine t ms name (Departing slot) is apart sound = one_changes machine t ms name (with_freeing slot) sound (λ m h e.
-    (let p = departs t (member_named ms name) slot is in
-    let same : p.0 ≡ m = same_Some p.0 m (sym p.1 ∙ named_is ms name m apart h e) in
-    (freeing_descends t m (sym (ap is_departing same) ∙ p.2) slot, freeing_sound machine.frame t m slot (p.3 ∙ ap (λ (k : Member). freeing_slot k t) same) (sound m h))))
-depart_step machine t ms name Admitted is apart sound = nothing_changes machine t ms sound
-depart_step machine t ms name Delayed is apart sound = nothing_changes machine t ms sound
-depart_step machine t ms name (Refused r) is apart sound = nothing_changes machine t ms sound
-
-late_step : (machine : Machine) (t : ℕ) (ms : List Member) (name : List ℕ) (index by : ℕ) (d : Decision) → late_release t (member_named ms name) index ≡ d → NamesApart (λ (m : Member). m.name) ms → AllSound machine.frame ms
-    → Step machine t ms (effect t ms (Late name index by) d)
-late_step machine t ms name index by Delayed is apart sound = one_changes machine t ms name (with_delay index by) sound (λ m h e.
-    (let p = is_late t (member_named ms name) index is in
-    let same : p.0 ≡ m = same_Some p.0 m (sym p.1 ∙ named_is ms name m apart h e) in
-    let active = sym (ap is_departing same) ∙ p.2 in
-    (delay_descends t index by m ((sound m h).weight.some_cost) active (subst (λ (k : Member). t ≤ release_of k.weight index (theta k index)) same p.3) (subst (λ (k : Member). k.next ≤ index) same p.4), delay_sound machine.frame index by m active (sound m h))))
-late_step machine t ms name index by Admitted is apart sound = nothing_changes machine t ms sound
-late_step machine t ms name index by (Departing slot) is apart sound = nothing_changes machine t ms sound
-late_step machine t ms name index by (Refused r) is apart sound = nothing_changes machine t ms sound
-
 effect_step : (machine : Machine) (t : ℕ) (ms : List Member) (a : Announcement) → NamesApart (λ (m : Member). m.name) ms → AllSound machine.frame ms → HasWeight a → Step machine t ms (effect t ms a (decision machine t ms a))
-effect_step machine t ms (Arrive name w early) apart sound weight = arrive_step machine t ms name w early (arrival machine ms name w) refl sound weight
-effect_step machine t ms (Depart name) apart sound weight = depart_step machine t ms name (departure t (member_named ms name)) refl apart sound
-effect_step machine t ms (Late name index by) apart sound weight = late_step machine t ms name index by (late_release t (member_named ms name) index) refl apart sound
+effect_step machine t ms a apart sound weight =
+    by_effect (Step machine t ms) t ms (nothing_changes machine t ms sound) a (decision machine t ms a)
+    (λ name w early is admitted. joins machine t ms name w early sound (subst HasWeight is weight) (fits_frame machine ms name w (ap (decision machine t ms) (sym is) ∙ admitted)))
+    (λ name slot is leaves. one_changes machine t ms name (with_freeing slot) sound (λ m h e.
+      (let p = departs t (member_named ms name) slot (ap (decision machine t ms) (sym is) ∙ leaves) in
+      let same : p.0 ≡ m = same_Some p.0 m (sym p.1 ∙ named_is ms name m apart h e) in
+      (freeing_descends t m (sym (ap is_departing same) ∙ p.2) slot, freeing_sound machine.frame t m slot (p.3 ∙ ap (λ (k : Member). freeing_slot k t) same) (sound m h)))))
+    (λ name index by is late. one_changes machine t ms name (with_delay index by) sound (λ m h e.
+      (let p = is_late t (member_named ms name) index (ap (decision machine t ms) (sym is) ∙ late) in
+      let same : p.0 ≡ m = same_Some p.0 m (sym p.1 ∙ named_is ms name m apart h e) in
+      let active = sym (ap is_departing same) ∙ p.2 in
+      (delay_descends t index by m ((sound m h).weight.some_cost) active (subst (λ (k : Member). t ≤ release_of k.weight index (theta k index)) same p.3) (subst (λ (k : Member). k.next ≤ index) same p.4), delay_sound machine.frame index by m active (sound m h)))))
 
 -- ---- all decisions
 

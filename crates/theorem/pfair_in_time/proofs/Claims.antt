@@ -1,11 +1,11 @@
 -- How long a claim is held, and who goes before whom.
-use Rattle.std.proofs.Common.{◌≡◌, ℕ, suc, ◌+◌, ◌-◌, ◌*◌, ◌<◌, ◌≤◌, Bool, true, false, List, length, arith, ap, inl, inr, get_or}
-use Rattle.std.specs.Prelude.{not, ◌||◌, if◌then◌else◌}
+use Rattle.std.proofs.Common.{◌≡◌, ℕ, suc, ◌+◌, ◌-◌, ◌*◌, ◌<◌, ◌≤◌, List, length, arith, ap, inl, inr, get_or}
+use Rattle.std.specs.Prelude.{if◌then◌else◌}
 use Rattle.std.specs.List.{Contains}
 use Rattle.std.proofs.lemmas.Bool.{cases_lt, cases_eq, lt-ltb, le-ltb}
 use Rattle.std.proofs.lemmas.Option.{slice_get_within, slice_get-get_or}
 use Rattle.pfair_weight.specs.Share.{Share, IsWeight}
-use Rattle.pfair_weight.specs.Window.{release_of, deadline_of, b_bit_of, group_deadline_of, starts_job_of}
+use Rattle.pfair_weight.specs.Window.{deadline_of, b_bit_of, group_deadline_of}
 use Rattle.pfair_weight.specs.WindowFacts.{deadline_rises_strictly, b_bit_at_most_one}
 use Rattle.pfair_weight.specs.GroupFacts.{group_deadline_light, group_deadline_whole, group_deadline_heavy, group_deadline_not_before, group_deadline_rises}
 use Rattle.pfair_order.specs.declared.Key.{Key}
@@ -15,9 +15,9 @@ use Rattle.pfair_order.proofs.KeyLaws.{keys_total}
 use Rattle.pfair_order.proofs.OrderLemmas.{goes_before}
 use Rattle.pfair_order.proofs.RankLemmas.{place_of, at_place, less_by_rank, first_within}
 use Rattle.pfair_order.proofs.InOrder.{by_rank_first}
-use Rattle.pfair_admission.specs.Member.{Member, theta, busy_until, eligible_from, is_delayed_at}
+use Rattle.pfair_admission.specs.Member.{Member, theta, busy_until}
 use Rattle.pfair_optimal.specs.Fluid.{busy_bound_of}
-use Rattle.pfair_in_time.proofs.Offsets.{theta_rises}
+use Rattle.pfair_admission.proofs.Delays.{theta_rises}
 
 -- a later offset puts the group deadline of a heavy weight off
 group_moves : (w : Share) (i from to : ℕ) → IsWeight w.cost w.period → from ≤ to → group_deadline_of w i from ≤ group_deadline_of w i to
@@ -55,14 +55,6 @@ bound_le_claim m i j h le =
           let late = group_deadline_not_before m.weight i (theta m i) h heavy in
           omega arith
     ]
-
--- no subtask may run later than from its release on
-pub eligible_by_release : (m : Member) (i : ℕ) → eligible_from m i ≤ release_of m.weight i (theta m i)
-eligible_by_release m i = by (not m.early || (starts_job_of m.weight i || is_delayed_at m i))
-  where
-    by : (b : Bool) → (if b then release_of m.weight i (theta m i) else m.joined) ≤ release_of m.weight i (theta m i)
-    by true = omega arith
-    by false = omega arith
 
 -- where a key isn't among the first, these are as many as there may be, and each goes before it
 pub record IsPast (m : ℕ) (first : List Key) (k : Key) : Type 0 where

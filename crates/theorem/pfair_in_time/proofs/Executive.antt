@@ -22,12 +22,13 @@ use Rattle.pfair_optimal.specs.Beginning.{IsRunBelow}
 use Rattle.pfair_optimal.proofs.Past.{task_exact, ran_by, ran_more}
 use Rattle.pfair_in_time.specs.Descent.{IsSound}
 use Rattle.pfair_in_time.specs.Laws.{AllHaveWeights}
-use Rattle.pfair_in_time.proofs.Offsets.{theta_rises}
+use Rattle.pfair_admission.proofs.Delays.{theta_rises}
 use Rattle.pfair_in_time.proofs.Worlds.{any_among, any_from_among, runs, keys_at, keys_apart, runs_chosen, chosen_runs, here}
 use Rattle.pfair_in_time.proofs.Lines.{line_of, back_to, on_to, IsGone}
 use Rattle.pfair_in_time.proofs.AsRun.{test_among, task_of, subtask_of, is_task, last_of, or_else, weight_in, offset_in, is_running, row_of, as_run, row_member, member_row, rows_apart, IsFinal, final, next_counted, all_before_ran, none_after_ran, found_some}
 use Rattle.pfair_in_time.proofs.Room.{room_world}
-use Rattle.pfair_in_time.proofs.Claims.{bound_le_claim, eligible_by_release, IsPast, past_first}
+use Rattle.pfair_admission.proofs.Keeping.{eligible_no_later}
+use Rattle.pfair_in_time.proofs.Claims.{bound_le_claim, IsPast, past_first}
 
 -- ---- who goes before whom
 
@@ -263,7 +264,7 @@ module _ (s : Settings) (x : Replica) (frame : 0 < s.frame) (weights : (t : ℕ)
               omega arith
 
           may_run : is_eligible t m ≡ true
-          may_run = and_from (not (is_departing m)) (nat_le (eligible_from m m.next) t) (not_from_false (is_departing m) d) (le-leb (eligible_from m m.next) t (let by_then = eligible_by_release m m.next in let r = released in omega arith))
+          may_run = and_from (not (is_departing m)) (nat_le (eligible_from m m.next) t) (not_from_false (is_departing m) d) (le-leb (eligible_from m m.next) t (let by_then = eligible_no_later m m.next in let r = released in omega arith))
 
           among : Contains (eligible t (world s x t)) (next_key m)
           among = among_contains (eligible t (world s x t)) (next_key m) (map_among next_key (filter (is_eligible t) (world s x t)) m (filter_among (is_eligible t) (world s x t) m h may_run))

@@ -15,7 +15,8 @@ use Rattle.pfair_optimal.proofs.Beginnings.{beginning_none_misses, beginning_in_
 use Rattle.pfair_optimal.proofs.Past.{task_exact, ran_at, ran_by, ran_more}
 use Rattle.pfair_in_time.specs.InTime.{SaysWeights, index_after, NoneMisses, IsInTime, EachRunsInTime}
 use Rattle.pfair_in_time.proofs.Boundaries.{named_is}
-use Rattle.pfair_in_time.proofs.Worlds.{apart_world, same_member, runs, keys_at, chosen_member, chosen_runs, runs_chosen, on_next, here}
+use Rattle.pfair_table.proofs.Members.{named_world}
+use Rattle.pfair_in_time.proofs.Worlds.{same_member, runs, keys_at, chosen_member, chosen_runs, runs_chosen, on_next, here}
 use Rattle.pfair_in_time.proofs.AsRun.{task_of, subtask_of, is_task, last_of, or_else, offset_in, weight_in, as_run, row_member, member_row, found_some, found_none, next_counted, all_before_ran, none_after_ran}
 use Rattle.pfair_in_time.proofs.Executive.{is_run, member_active}
 
@@ -107,7 +108,7 @@ module _ (s : Settings) (x : Replica) (frame : 0 < s.frame) (weights : SaysWeigh
         k.1,
         record {
           name = ap (λ (r : Pick). r.name) is;
-          index = ap (λ (r : Pick). r.index) is ∙ ap index_of (named_is (world s x t) k.0.name k.0 (apart_world s x t) k.1 (name_itself k.0.name));
+          index = ap (λ (r : Pick). r.index) is ∙ ap index_of (named_is (world s x t) k.0.name k.0 (named_world s x t) k.1 (name_itself k.0.name));
           before_deadline = in_time t k.0 k.1 named;
           released = released t k.0 k.1 named;
         },

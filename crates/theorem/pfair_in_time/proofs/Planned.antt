@@ -3,7 +3,6 @@ use Rattle.std.proofs.Common.{◌≡◌, ℕ, ◌+◌, ◌<◌, Bool, true, fals
 use Rattle.std.specs.Prelude.{◌⊎◌, ◌==◌, IfSome, slice_get, if◌then◌else◌}
 use Rattle.std.specs.List.{AllByRecursion}
 use Rattle.std.proofs.lemmas.Option.{none-some}
-use Rattle.pfair_lattice.specs.Held.{Held, held_join}
 use Rattle.pfair_lattice.specs.declared.flat.Flat.TheVariants.{One, Torn}
 use Rattle.pfair_lattice.specs.HeldLaws.{join_least, below_itself}
 use Rattle.pfair_entry.specs.Entry.{Logged}
@@ -27,24 +26,13 @@ use Rattle.pfair_table.specs.Refinement.{Dispatch, HavePlannedAlike}
 use Rattle.pfair_in_time.specs.Descent.{HasWeight}
 use Rattle.pfair_in_time.specs.InTime.{SaysWeights}
 use Rattle.pfair_in_time.specs.Dispatched.{AnnouncesWeight, BringsWeights, IsServedSlot, DispatchersNeverMiss, RowHasWeights, NeverMisses}
+use Rattle.pfair_replica.proofs.Merging.{one_side}
 use Rattle.pfair_in_time.proofs.InTime.{none_misses, each_runs_in_time}
 
 -- ---- what is held says weights
 
 abbrev HoldsWeights : Contents → Type 0
 HoldsWeights at = (k n : ℕ) (e : Logged) → at k n ≡ Some (One e) → AnnouncesWeight e
-
--- an entry that is held after a join was held on one side
-one_side : (a b : Held Logged) (e : Logged) → held_join entry_eq a b ≡ Some (One e) → (a ≡ Some (One e)) ⊎ (b ≡ Some (One e))
-one_side None b e p = inr p
-one_side (Some x) None e p = inl p
-one_side (Some (One x)) (Some (One y)) e p = by (entry_eq x y) p
-  where
-    by : (t : Bool) → Some (cond t (One x) Torn) ≡ Some (One e) → (Some (One x) ≡ Some (One e)) ⊎ (Some (One y) ≡ Some (One e))
-    by true q = inl q
-    by false q = absurd (cc)
-one_side (Some (One x)) (Some Torn) e p = absurd (cc)
-one_side (Some Torn) (Some y) e p = absurd (cc)
 
 holds_join : (x y : Contents) → HoldsWeights x → HoldsWeights y → HoldsWeights (contents_join x y)
 holds_join x y p q k n e is = ⊎_elim (λ l. p k n e l) (λ r. q k n e r) (one_side (x k n) (y k n) e is)

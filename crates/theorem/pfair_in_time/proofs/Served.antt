@@ -4,7 +4,7 @@ use Rattle.std.specs.Prelude.{◌↔◌, not, nat_lt, ◌==◌, is_some, if◌th
 use Rattle.std.specs.List.{AllByRecursion, find}
 use Rattle.std.proofs.lemmas.Bool.{true≢false, cases_lt, cases_eq, cases_Bool, le-ltb, eq-eqb}
 use Rattle.std.proofs.lemmas.List.{length-map, append-nil, append_assoc}
-use Rattle.std.proofs.lemmas.List.Sums.{sum_by-cons, sum_by_push}
+use Rattle.std.proofs.lemmas.List.Sums.{sum_by-cons}
 use Rattle.pfair_weight.specs.Name.{NamesApart}
 use Rattle.pfair_weight.specs.Share.{Share, IsWeight, units_of}
 use Rattle.pfair_weight.specs.Window.{deadline_of}
@@ -13,7 +13,6 @@ use Rattle.pfair_weight.proofs.NamesApart.{apart_head, apart_tail}
 use Rattle.pfair_entry.specs.Exact.{name_exact, name_itself}
 use Rattle.pfair_entry.specs.Said.{Said}
 use Rattle.pfair_entry.specs.Same.{name_eq}
-use Rattle.pfair_entry.specs.declared.announcement.Announcement.{Announcement}
 use Rattle.pfair_replica.specs.Among.{Among, among_append, among_all, filter_among, among_map, map_among}
 use Rattle.pfair_replica.specs.Replica.{Replica, said}
 use Rattle.pfair_admission.specs.declared.decision.Decision.{Decision}
@@ -26,9 +25,10 @@ use Rattle.pfair_table.specs.Table.{Settings, machine, quanta, counted_one, hist
 use Rattle.pfair_in_time.specs.Descent.{HasWeight}
 use Rattle.pfair_in_time.specs.InTime.{SaysWeights, index_after}
 use Rattle.pfair_in_time.specs.Schedules.{Arrival, announced, AreArrivals, SaysOnly, units_wanted, quanta_before, IsServed, ServedWhereThereIsRoom}
+use Rattle.pfair_admission.proofs.Deciding.{admitted_room, claimed_arrived}
+use Rattle.pfair_admission.proofs.Keeping.{one_each}
 use Rattle.pfair_in_time.proofs.InTime.{none}
 use Rattle.pfair_in_time.proofs.Overload.{quanta_more}
-use Rattle.pfair_in_time.proofs.Room.{admitted_fits}
 use Rattle.pfair_in_time.proofs.Windows.{no_offset}
 use Rattle.pfair_in_time.proofs.Worlds.{tables_before, next_more, next_new}
 
@@ -86,9 +86,6 @@ module _ (k : Machine) where
   admitted_joins : (ms : List Member) (a : Arrival) → NoneLeaves ms → arrival k ms a.name a.weight ≡ Admitted → decided k 0 ms (announced a) ≡ ms ++ joins a ∷ []
   admitted_joins ms a none e = ap (λ (d : Decision). present 0 (effect 0 ms (announced a) d)) e ∙ all_present 0 (ms ++ joins a ∷ []) (with_one ms a none)
 
-  claim_on : (ms : List Member) (a : Arrival) → claimed k.frame (ms ++ joins a ∷ []) ≡ claimed k.frame ms + units_of a.weight k.frame
-  claim_on ms a = sum_by_push (λ (m : Member). units_of m.weight k.frame) ms (joins a)
-
   -- ---- all of them
 
   record AllJoin (ms : List Member) (arrivals : List Arrival) : Type 0 where
@@ -100,7 +97,7 @@ module _ (k : Machine) where
   all_join ms [] none others apart divide room = record { decisions = tt; members = sym (append-nil ms) }
   all_join ms (a ∷ more) none others apart divide room =
       let sum = sum_by-cons (λ (b : Arrival). units_of b.weight k.frame) a more in
-      let claim = claim_on ms a in
+      let claim = claimed_arrived k.frame 0 ms a.name a.weight a.early in
       let one = fits_admitted ms a (unnamed a.name ms (others a (inl refl))) divide.0 (omega arith) in
       let is = admitted_joins ms a none one in
       let rest = all_join (ms ++ joins a ∷ []) more (with_one ms a none) (others_on ms a more apart others) (apart_tail (λ (b : Arrival). b.name) a more apart) divide.1 (omega arith) in
@@ -114,15 +111,11 @@ module _ (k : Machine) where
   all_fit ms [] none room all = omega arith
   all_fit ms (a ∷ more) none room all =
       let sum = sum_by-cons (λ (b : Arrival). units_of b.weight k.frame) a more in
-      let claim = claim_on ms a in
-      let fits = admitted_fits k ms a.name a.weight all.0 in
+      let claim = claimed_arrived k.frame 0 ms a.name a.weight a.early in
+      let fits = admitted_room k ms a.name a.weight (sym all.0) in
       let is = admitted_joins ms a none all.0 in
       let rest = all_fit (ms ++ joins a ∷ []) more (with_one ms a none) (omega arith) (subst (λ l. AllByRecursion (λ d. d ≡ Admitted) (all_decisions k 0 l (map announced more))) is all.1) in
       omega arith
-
-one_each : (k : Machine) (ms : List Member) (said : List Announcement) → length (all_decisions k 0 ms said) ≡ length said
-one_each k ms [] = refl
-one_each k ms (a ∷ more) = let rest = one_each k (decided k 0 ms a) more in omega arith
 
 -- ---- with what was said
 
@@ -161,7 +154,7 @@ module _ (s : Settings) (x : Replica) (arrivals : List Arrival) (frame : 0 < s.f
 
   as_many : length (all_decisions (machine s) 0 [] (map announced arrivals)) ≡ length (said x 0)
   as_many =
-      let one = one_each (machine s) [] (map announced arrivals) in
+      let one = one_each (machine s) 0 [] (map announced arrivals) in
       let same = ap length says.first in
       let long = length-map (said x 0) (λ (q : Said). q.2) in
       omega arith

@@ -1,9 +1,9 @@
 -- The members from one slot to the next.
-use Rattle.std.proofs.Common.{◌≡◌, ℕ, zero, suc, ◌+◌, ◌-◌, ◌≤◌, Bool, true, false, cond, List, [], ◌∷◌, Some, length, drop, arith, ap, refl, sym, ◌∙◌, subst, inl, inr, ⊎_elim}
+use Rattle.std.proofs.Common.{◌≡◌, ℕ, zero, suc, ◌+◌, ◌-◌, ◌≤◌, Bool, true, false, cond, List, [], ◌∷◌, Some, drop, arith, ap, refl, sym, ◌∙◌, subst, inl, inr, ⊎_elim}
 use Rattle.std.specs.Prelude.{◌⊎◌, not, ◌||◌, is_some, filter, nat_le, count_by}
 use Rattle.std.specs.List.{list_any}
 use Rattle.std.proofs.lemmas.Bool.{true≢false, false≢true, cases_Bool, or_cases, and_parts, not-true}
-use Rattle.std.proofs.lemmas.List.{length-append, drop_all, drop-append-le}
+use Rattle.std.proofs.lemmas.List.{drop_all, drop-append-le}
 use Rattle.std.proofs.lemmas.List.Sums.{sum_by_push}
 use Rattle.std.proofs.lemmas.Option.{same_Some}
 use Rattle.pfair_weight.specs.Name.{NamesApart}
@@ -17,15 +17,16 @@ use Rattle.pfair_order.proofs.KeyLaws.{keys_total}
 use Rattle.pfair_order.proofs.InOrder.{by_rank_first}
 use Rattle.pfair_order.proofs.RankLemmas.{place_of}
 use Rattle.pfair_order.proofs.NamesApart.{once_from_names}
-use Rattle.pfair_replica.specs.Among.{Among, among_filter, among_map, map_among, among_contains, contains_among}
+use Rattle.pfair_replica.specs.Among.{Among, among_all, among_filter, among_map, map_among, among_contains, contains_among}
 use Rattle.pfair_replica.specs.Replica.{Replica, said}
 use Rattle.pfair_admission.specs.Member.{Member, is_departing, busy_until, eligible_from, next_key}
 use Rattle.pfair_admission.specs.Admission.{announcements}
-use Rattle.pfair_admission.proofs.NamesKept.{apart_boundary}
 use Rattle.pfair_table.specs.Table.{Settings, Table, machine, names_task, quanta, next_index, counted_one, counted, is_eligible, eligible, pick, chosen, history, world, table}
 use Rattle.pfair_table.specs.declared.pick.Pick.{Pick}
 use Rattle.pfair_in_time.specs.Descent.{Descends, IsSound, IsNew}
 use Rattle.pfair_in_time.specs.Laws.{AllSound, AllHaveWeights, IsFreed}
+use Rattle.pfair_table.proofs.Members.{named_world}
+use Rattle.pfair_table.proofs.NextIndexes.{IsCounted, counted_world, long_history}
 use Rattle.pfair_in_time.proofs.Boundaries.{named_is, boundaries_keep_members}
 
 -- some one passes a test
@@ -37,26 +38,12 @@ any_among p (y ∷ ys) h = ⊎_elim (λ e. (y, inl refl, e)) (λ r. (let t = any
 abbrev pub tables_before : Settings → Replica → ℕ → List Table
 tables_before s x t = (history s x t).tables
 
-pub long_history : (s : Settings) (x : Replica) (t : ℕ) → length (tables_before s x t) ≡ t
-long_history s x zero = refl
-long_history s x (suc t) = (let more = long_history s x t in let sum = length-append (tables_before s x t) (table s x t ∷ []) in omega arith)
-
 -- ---- names
-
-apart_at : (s : Settings) (x : Replica) (t : ℕ) → NamesApart (λ (m : Member). m.name) (history s x t).members → NamesApart (λ (m : Member). m.name) (world s x t)
-apart_at s x t a = apart_boundary (machine s) t (counted (tables_before s x t) (history s x t).members) (announcements (said x t)) (apart_map (λ (m : Member). m.name) (λ (m : Member). m.name) (counted_one (tables_before s x t)) (λ m. refl) (history s x t).members a)
-
-apart_history : (s : Settings) (x : Replica) (t : ℕ) → NamesApart (λ (m : Member). m.name) (history s x t).members
-apart_history s x zero = apart_nil (λ (m : Member). m.name)
-apart_history s x (suc t) = apart_at s x t (apart_history s x t)
-
-pub apart_world : (s : Settings) (x : Replica) (t : ℕ) → NamesApart (λ (m : Member). m.name) (world s x t)
-apart_world s x t = apart_at s x t (apart_history s x t)
 
 pub same_member : (s : Settings) (x : Replica) (t : ℕ) (m n : Member) → Among (world s x t) m → Among (world s x t) n → m.name ≡ n.name → m ≡ n
 same_member s x t m n here there e =
-    let one = named_is (world s x t) m.name m (apart_world s x t) here (name_itself m.name) in
-    let other = named_is (world s x t) m.name n (apart_world s x t) there (subst (λ k. name_eq m.name k ≡ true) e (name_itself m.name)) in
+    let one = named_is (world s x t) m.name m (named_world s x t) here (name_itself m.name) in
+    let other = named_is (world s x t) m.name n (named_world s x t) there (subst (λ k. name_eq m.name k ≡ true) e (name_itself m.name)) in
     same_Some m n (sym one ∙ other)
 
 -- ---- who runs
@@ -65,7 +52,7 @@ abbrev pub keys_at : Settings → Replica → ℕ → List Key
 keys_at s x t = chosen s t (world s x t)
 
 pub keys_apart : (s : Settings) (x : Replica) (t : ℕ) → NamesApart (λ (k : Key). k.name) (eligible t (world s x t))
-keys_apart s x t = apart_map (λ (m : Member). m.name) (λ (k : Key). k.name) next_key (λ m. refl) (filter (is_eligible t) (world s x t)) (apart_filter (λ (m : Member). m.name) (is_eligible t) (world s x t) (apart_world s x t))
+keys_apart s x t = apart_map (λ (m : Member). m.name) (λ (k : Key). k.name) next_key (λ m. refl) (filter (is_eligible t) (world s x t)) (apart_filter (λ (m : Member). m.name) (is_eligible t) (world s x t) (named_world s x t))
 
 pub first_keys : (s : Settings) (x : Replica) (t : ℕ) → AreFirst pd2_cmp s.processors (eligible t (world s x t)) (keys_at s x t)
 first_keys s x t = by_rank_first keys_total s.processors (eligible t (world s x t)) (once_from_names (eligible t (world s x t)) (keys_apart s x t))
@@ -165,33 +152,19 @@ module _ (s : Settings) (x : Replica) (weights : (t : ℕ) → AllHaveWeights (a
       subst (IsSound s.frame) (sym p.2) (on_sound t p.0 p.1 (here p.0 p.1))
 
   apart_on : (t : ℕ) → NamesApart (λ (m : Member). m.name) (counted (tables_before s x (suc t)) (world s x t))
-  apart_on t = apart_map (λ (m : Member). m.name) (λ (m : Member). m.name) (counted_one (tables_before s x (suc t))) (λ m. refl) (world s x t) (apart_world s x t)
+  apart_on t = apart_map (λ (m : Member). m.name) (λ (m : Member). m.name) (counted_one (tables_before s x (suc t))) (λ m. refl) (world s x t) (named_world s x t)
+
+  here_if : (t : ℕ) (m : Member) → Among (world s x t) m → IsSound s.frame m → IsHere s x t m
+  here_if t m h sound =
+      let c = among_all (IsCounted t (tables_before s x t)) (world s x t) (counted_world s x t) m h in
+      record { sound = sound; by_now = c.by_now; next = c.next_is }
+
+  sound_world : (t : ℕ) (m : Member) → Among (world s x t) m → IsSound s.frame m
+  sound_world zero = boundaries_keep_members.sound (machine s) 0 [] (announcements (said x 0)) (apart_nil (λ (m : Member). m.name)) (λ l none. absurd none) (weights 0)
+  sound_world (suc t) = boundaries_keep_members.sound (machine s) (suc t) (counted (tables_before s x (suc t)) (world s x t)) (announcements (said x (suc t))) (apart_on t) (all_on_sound t (λ m h. here_if t m h (sound_world t m h))) (weights (suc t))
 
   pub here : (t : ℕ) (m : Member) → Among (world s x t) m → IsHere s x t m
-  here zero m h = ⊎_elim
-      (λ (p : (l : Member) × Among (counted (tables_before s x 0) []) l × Descends 0 l m). absurd p.1)
-      (λ new. record {
-        sound = boundaries_keep_members.sound (machine s) 0 [] (announcements (said x 0)) (apart_nil (λ (m : Member). m.name)) (λ l none. absurd none) (weights 0) m h;
-        by_now = (let j = new.joined in omega arith);
-        next = new.next ∙ sym (next_new s x 0 m new.joined);
-      })
-      (boundaries_keep_members.from (machine s) 0 [] (announcements (said x 0)) (apart_nil (λ (m : Member). m.name)) (λ l none. absurd none) (weights 0) m h)
-  here (suc t) m h =
-      let sound = all_on_sound t (here t) in
-      let own = boundaries_keep_members.sound (machine s) (suc t) (counted (tables_before s x (suc t)) (world s x t)) (announcements (said x (suc t))) (apart_on t) sound (weights (suc t)) m h in
-      ⊎_elim
-      (λ (p : (l : Member) × Among (counted (tables_before s x (suc t)) (world s x t)) l × Descends (suc t) l m).
-      (let q = among_map (counted_one (tables_before s x (suc t))) (world s x t) p.0 p.1 in
-      let was = here t q.0 q.1 in
-      let d : Descends (suc t) (on s x t q.0) m = subst (λ l. Descends (suc t) l m) q.2 p.2 in
-      let joined = d.joined in
-      let before = was.by_now in
-      record { sound = own; by_now = omega arith; next = d.next ∙ next_of_same m q.0 d.name d.joined }))
-      (λ new. record { sound = own; by_now = (let j = new.joined in omega arith); next = new.next ∙ sym (next_new s x (suc t) m new.joined) })
-      (boundaries_keep_members.from (machine s) (suc t) (counted (tables_before s x (suc t)) (world s x t)) (announcements (said x (suc t))) (apart_on t) sound (weights (suc t)) m h)
-    where
-      next_of_same : (m l : Member) → m.name ≡ l.name → m.joined ≡ l.joined → next_index (tables_before s x (suc t)) l ≡ next_index (tables_before s x (suc t)) m
-      next_of_same m l name joined = ap (λ n. 1 + count_by (names_task n) (drop l.joined (tables_before s x (suc t)))) (sym name) ∙ ap (λ j. 1 + count_by (names_task m.name) (drop j (tables_before s x (suc t)))) (sym joined)
+  here t m h = here_if t m h (sound_world t m h)
 
   -- ---- from one slot to the next
 

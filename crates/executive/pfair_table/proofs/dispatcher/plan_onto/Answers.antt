@@ -4,7 +4,7 @@ use Rattle.pfair_replica.specs.HeldRows.{replica_of}
 use Rattle.pfair_table.specs.PlaceLaws.{IsFit}
 use Rattle.pfair_table.specs.Places.{places_after, places_of}
 use Rattle.pfair_table.specs.Planned.{PlannedSlots}
-use Rattle.pfair_table.proofs.NextIndexes.{each}
+use Rattle.pfair_admission.proofs.Each.{each}
 use Rattle.pfair_table.proofs.PlacesOn.{last_below, last_fit, next_are}
 use Rattle.pfair_table.proofs.TableLaws.{tables_are_ordered}
 use Rattle.pfair_table.proofs.dispatcher.plan_onto.Goals as goal

@@ -8,7 +8,7 @@ use Rattle.pfair_admission.specs.Roster.{Roster}
 use Rattle.pfair_table.specs.Table.{eligible, pick, all_ran}
 use Rattle.pfair_table.specs.Queue.{queued}
 use Rattle.pfair_admission.proofs.NamesKept.{apart_boundary}
-use Rattle.pfair_table.proofs.NextIndexes.{each}
+use Rattle.pfair_admission.proofs.Each.{each}
 use Rattle.pfair_table.proofs.Slots.{steady_next, few_boundary}
 use Rattle.pfair_table.proofs.QueueKept.{queue_after_boundary}
 use Rattle.pfair_table.proofs.slot.plan_slot.Goals as goal

@@ -1,11 +1,7 @@
-use Rattle.std.proofs.Common.{◌≡◌, inl, inr, subst, sym, Ok, Err, Result, IfErr, IsErrAnd}
+use Rattle.std.proofs.Common.{inl, inr}
+use Rattle.pfair_feed.proofs.Lines.{if_err}
 use Rattle.pfair_follow.specs.Runs.{IsFedEndOf}
 use Rattle.pfair_follow.proofs.rows.feed_all.Goals as goal
-
--- what holds of the fault that is answered
-if_err : {T E : Type 0} (P : E → Type 0) (r : Result T E) (own : E) → IsErrAnd r (λ e. e ≡ own) → P own → IfErr r P
-if_err P (Ok x) own is p = absurd is
-if_err P (Err e) own is p = subst P (sym is) p
 
 -- the header was written, and bytes were fed up to the fault
 pub returns-in_err-follow-clause-ended : goal.returns-in_err-follow-clause-ended
