@@ -1,7 +1,7 @@
 -- Texts that grow by the rows of one slot after another.
 use Rattle.std.proofs.Common.{ℕ, zero, suc, ◌+◌, ◌<◌, ◌≤◌, ◌≡◌, refl, sym, ap, ◌∙◌, arith, List, [], ◌∷◌, ◌++◌, Some, length, drop, slice_get, append_assoc}
 use Rattle.std.proofs.lemmas.List.{append-nil, drop_all}
-use Rattle.pfair_text.specs.Rows.{lines_text}
+use Rattle.pfair_text.specs.Rows.{IsOpen, TextWriter, lines_text, text_so_far}
 use Rattle.pfair_text.proofs.RowFacts.{lines_text-append}
 use Rattle.pfair_output.specs.Slots.{slots_from}
 
@@ -31,3 +31,22 @@ module _ {A : Type 0} (rows : ℕ → A → List (List (List ℕ))) where
   -- after the last slot nothing is left
   pub slots_done : (xs : List A) (slot : ℕ) (text : List ℕ) → length xs ≤ slot → text ++ lines_text (slots_from rows slot (drop slot xs)) ≡ text
   slots_done xs slot text past = ap (λ left. text ++ lines_text (slots_from rows slot left)) (drop_all slot xs past) ∙ append-nil text
+
+-- ---- a writer in a loop over slots
+
+module _ {A : Type 0} (rows : ℕ → A → List (List (List ℕ))) (all : List A) (from : ℕ) (start : TextWriter) where
+  -- its text, with the rows of the slots that are left, is the whole
+  pub record IsOnTheWay (slot : ℕ) (now : TextWriter) : Type 0 where
+    pub open_still : IsOpen now
+    pub whole : (text_so_far now ++ lines_text (slots_from rows slot (drop slot all))) ≡ (text_so_far start ++ lines_text (slots_from rows from (drop from all)))
+    pub begun : from ≤ slot
+
+  pub on_the_way : (slot : ℕ) (now next : TextWriter) → IsOnTheWay slot now → slot < length all → IsOpen next → ((x : A) → slice_get all slot ≡ Some x → text_so_far next ≡ text_so_far now ++ lines_text (rows slot x)) → IsOnTheWay (slot + 1) next
+  on_the_way slot now next on inside opened grown = record {
+    open_still = opened;
+    whole = slot_more rows all slot (text_so_far now) (text_so_far next) inside grown ∙ on.whole;
+    begun = (let b = on.begun in omega (arith, b));
+  }
+
+  pub at_the_end : (slot : ℕ) (now : TextWriter) → IsOnTheWay slot now → length all ≤ slot → text_so_far now ≡ text_so_far start ++ lines_text (slots_from rows from (drop from all))
+  at_the_end slot now on past = sym (slots_done rows all slot (text_so_far now) past) ∙ on.whole

@@ -1,18 +1,17 @@
-use Rattle.std.proofs.Common.{◌<◌, ◌≤◌, ◌∙◌, sym, arith, length}
-use Rattle.pfair_text.specs.Rows.{text_so_far}
+use Rattle.std.proofs.Common.{arith, refl}
 use Rattle.pfair_output.specs.Replay.{table_rows}
-use Rattle.pfair_output.proofs.SlotFacts.{slot_more, slots_done}
+use Rattle.pfair_output.proofs.SlotFacts.{at_the_end, on_the_way}
 use Rattle.pfair_output.proofs.replay.add_tables_from.Goals as goal
+
+pub loop-slot-init : goal.loop-slot-init
+loop-slot-init g c = record { open_still = c.requires.open; whole = refl; begun = omega arith }
 
 pub loop-slot-preserved : goal.loop-slot-preserved
 loop-slot-preserved g c =
-    let inside : c.loop-slot.slot < length c.args.dispatcher.now.tables = omega (arith, c.loop-slot-test.true, c.loop-slot.auto.slot-end, c.next_slot-slot-end.ensures.value) in (
-      c.in_ok-add_slot.ensures.open,
-      slot_more table_rows c.args.dispatcher.now.tables c.loop-slot.slot (text_so_far c.loop-slot.writer) (text_so_far c.add_slot.new.writer) inside c.in_ok-add_slot.ensures.text ∙ c.loop-slot.invariant.1,
-      omega (arith, c.loop-slot.invariant.2),
-    )
+    on_the_way table_rows c.args.dispatcher.now.tables c.args.from c.args.writer.now c.loop-slot.slot c.loop-slot.writer c.add_slot.new.writer c.loop-slot.invariant
+    (omega (arith, c.loop-slot-test.true, c.loop-slot.auto.slot-end, c.next_slot-slot-end.ensures.value)) c.in_ok-add_slot.ensures.open c.in_ok-add_slot.ensures.text
 
 pub returns-clause-text : goal.returns-clause-text
 returns-clause-text g c =
-    let past : length c.args.dispatcher.now.tables ≤ c.loop-slot.slot = omega (arith, c.loop-slot-test.false, c.loop-slot.auto.slot-end, c.next_slot-slot-end.ensures.value) in
-    sym (slots_done table_rows c.args.dispatcher.now.tables c.loop-slot.slot (text_so_far c.loop-slot.writer) past) ∙ c.loop-slot.invariant.1
+    at_the_end table_rows c.args.dispatcher.now.tables c.args.from c.args.writer.now c.loop-slot.slot c.loop-slot.writer c.loop-slot.invariant
+    (omega (arith, c.loop-slot-test.false, c.loop-slot.auto.slot-end, c.next_slot-slot-end.ensures.value))
