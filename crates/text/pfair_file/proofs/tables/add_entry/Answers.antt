@@ -11,6 +11,7 @@ use Rattle.pfair_file.specs.Tables.{made_at}
 use Rattle.pfair_file.specs.declared.made.Made.{Made}
 use Rattle.pfair_file.specs.declared.fault.FileFault.{FileFault}
 use Rattle.pfair_file.specs.declared.fault.FileFault.TheVariants.{Memory}
+use Rattle.pfair_file.proofs.tables.add_entry.Goals.{After-append}
 use Rattle.pfair_file.proofs.tables.add_entry.Goals as goal
 
 -- the log of a processor, in the words of the spec
@@ -37,18 +38,20 @@ refused_there logs version place table made log within at read (Ok x) refused = 
 refused_there logs version place table made log within at read (Err e) refused =
     λ other. rw (read, log_there logs made.processor log within at, refused other) refl
 
+within : (c : After-append) → c.in_ok-made.made.processor < length c.args.logs.now.items
+within c = grind (arith, common_steps)
+
+read : (c : After-append) → made_at c.args.version (length (lists_of c.args.logs.now.items)) c.args.place (table_view c.args.table.now) ≡ Ok c.in_ok-made.made
+read c =
+    let size : length (lists_of c.args.logs.now.items) ≡ c.len.result = grind (arith, common_steps, length-map {A = Vec Logged Global} {B = List Logged}) in
+    rw size (search rules)
+
 pub returns-clause-ok : goal.returns-clause-ok
 returns-clause-ok c =
-    let logs = c.args.logs.now in
-    let size : length (lists_of logs.items) ≡ c.len.result = grind (arith, common_steps, length-map {A = Vec Logged Global} {B = List Logged}) in
-    let within : c.in_ok-made.made.processor < length logs.items = grind (arith, common_steps) in
-    let read : made_at c.args.version (length (lists_of logs.items)) c.args.place (table_view c.args.table.now) ≡ Ok c.in_ok-made.made = rw size (search rules) in
-    longer_there logs c.args.version c.args.place (table_view c.args.table.now) c.in_ok-made.made c.index_mut.result.now c.append.new.log within c.index_mut.ensures.value read c.append.result c.append.ensures.ok
+    let at = (goal.at.returns-clause-ok c).After-append in
+    longer_there c.args.logs.now c.args.version c.args.place (table_view c.args.table.now) c.in_ok-made.made c.index_mut.result.now c.append.new.log (within at) c.index_mut.ensures.value (read at) c.append.result c.append.ensures.ok
 
 pub returns-clause-fault : goal.returns-clause-fault
 returns-clause-fault c =
-    let logs = c.args.logs.now in
-    let size : length (lists_of logs.items) ≡ c.len.result = grind (arith, common_steps, length-map {A = Vec Logged Global} {B = List Logged}) in
-    let within : c.in_ok-made.made.processor < length logs.items = grind (arith, common_steps) in
-    let read : made_at c.args.version (length (lists_of logs.items)) c.args.place (table_view c.args.table.now) ≡ Ok c.in_ok-made.made = rw size (search rules) in
-    refused_there logs c.args.version c.args.place (table_view c.args.table.now) c.in_ok-made.made c.index_mut.result.now within c.index_mut.ensures.value read c.append.result c.append.ensures.fault
+    let at = (goal.at.returns-clause-fault c).After-append in
+    refused_there c.args.logs.now c.args.version c.args.place (table_view c.args.table.now) c.in_ok-made.made c.index_mut.result.now (within at) c.index_mut.ensures.value (read at) c.append.result c.append.ensures.fault
