@@ -1,3 +1,4 @@
+mod Answered
 pub mod LineFacts
 pub mod PlainFacts
 pub mod FirstWord

@@ -5,6 +5,7 @@ use Rattle.clap.specs.declared.error.kind.ErrorKind.{ErrorKind}
 use Rattle.clap.specs.Walk.{one_of}
 use Rattle.pfair_table.specs.Limits.{IsSettings}
 use Rattle.pfair_table.specs.Table.{Settings}
+use Rattle.pfair_words.specs.Answers.{ToAny, ToTaken, ToUntaken, ToWords}
 use Rattle.pfair_words.specs.Parse.{AskFile, IsFlag, IsNumber, IsRefusalKind, IsTaken, IsTextKind, IsUntaken, Named}
 use Rattle.pfair_words.specs.FollowLine.{line}
 use Rattle.pfair_words.specs.declared.follow.Run.{Run}
@@ -67,11 +68,6 @@ abbrev pub IsAnswerTo : Named → Result Asked ProgramFault → Type 0
 IsAnswerTo named (Ok asked) = Ask named asked
 IsAnswerTo named (Err fault) = IsRefusedAs named fault
 
--- and to words that may name none
-abbrev pub IsAnswerToAny : Option Named → Result Asked ProgramFault → Type 0
-IsAnswerToAny (Some named) result = IsAnswerTo named result
-IsAnswerToAny None result = result ≡ Err CommandLine
-
 -- what is answered where the parser gives no command but an error of this kind: a text about the program, a refusal, or want of memory
 abbrev pub IsAnswerToKind : ErrorKind → Result Asked ProgramFault → Type 0
 IsAnswerToKind kind (Ok (Help text)) = IsTextKind kind
@@ -80,15 +76,15 @@ IsAnswerToKind kind (Err Memory) = ⊤
 IsAnswerToKind kind (Err CommandLine) = IsRefusalKind kind
 IsAnswerToKind kind (Err _) = ⊥
 
--- the parser takes the words, and the answer is that to the command that they name
+abbrev pub IsAnswerToAny : Option Named → Result Asked ProgramFault → Type 0
+IsAnswerToAny = ToAny line IsAnswerTo IsAnswerToKind
+
 abbrev pub IsAnswerToTaken : List Text → Result Asked ProgramFault → Type 0
-IsAnswerToTaken words result = IsTaken line words (λ named. IsAnswerToAny named result)
+IsAnswerToTaken = ToTaken line IsAnswerTo IsAnswerToKind
 
--- the parser doesn't take them, and the answer is that to one of the kinds of its error
 abbrev pub IsAnswerToUntaken : List Text → Result Asked ProgramFault → Type 0
-IsAnswerToUntaken words result = IsUntaken line words (λ kind. IsAnswerToKind kind result)
+IsAnswerToUntaken = ToUntaken line IsAnswerTo IsAnswerToKind
 
--- what is answered to words; memory may always be wanting
+-- what is answered to words
 abbrev pub IsAnswer : List Text → Result Asked ProgramFault → Type 0
-IsAnswer words (Err Memory) = ⊤
-IsAnswer words result = IsAnswerToTaken words result ⊎ IsAnswerToUntaken words result
+IsAnswer = ToWords line IsAnswerTo IsAnswerToKind
