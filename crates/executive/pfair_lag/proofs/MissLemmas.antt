@@ -109,3 +109,10 @@ late_miss_deadlines w picks horizon (Tardy i slot) a met =
 late_miss_deadlines w picks horizon (Unserved i) a met =
     let first : 1 ≤ i = late_index w picks horizon (Unserved i) a.is_late in
     not_both (length picks) i a.is_late.0 (met.served i first a.is_late.1)
+
+-- none was found exactly where there is none
+pub none_found : (P : Type 0) (Q : Miss → Type 0) (found : Option Miss) (inside : Bool) → ((m : Miss) → Q m → P → ⊥) → is_some found ≡ not inside → MatchOption found P Q → IsTrue inside ↔ P
+none_found P Q None true out e h = (λ _. h, λ _. refl)
+none_found P Q None false out e h = absurd (cc)
+none_found P Q (Some m) true out e h = absurd (cc)
+none_found P Q (Some m) false out e h = (λ t. absurd (cc), λ inside. absurd (out m h inside))

@@ -1,18 +1,19 @@
 -- Keys that stand once can be put in order, so their first by rank are the first.
-use Rattle.std.proofs.Common.{◌≡◌, ℕ, zero, suc, ◌<◌, ◌≤◌, inl, inr, true, false, cond, List, [], ◌∷◌, length, take, drop, refl, sym, ap, subst, ◌∙◌, arith, Some}
+use Rattle.std.proofs.Common.{◌≡◌, ℕ, suc, ◌<◌, ◌≤◌, inl, inr, true, false, cond, List, [], ◌∷◌, ◌++◌, length, take, drop, refl, sym, ap, subst, ◌∙◌, arith}
 use Rattle.std.specs.Prelude.{◌⊎◌}
-use Rattle.std.specs.List.{AllByRecursion, Contains, slice_get}
+use Rattle.std.specs.List.{AllByRecursion, Contains}
 use Rattle.std.specs.declared.cmp.Ordering.{Ordering}
 use Rattle.std.specs.declared.cmp.Ordering.TheVariants.{Less}
 use Rattle.std.specs.Ordering.{is_lt, is_eq}
 use Rattle.std.specs.Cmp.{IsTotalOrder}
 use Rattle.std.specs.List.Sorted.{IsPermutation}
-use Rattle.std.proofs.lemmas.List.{take-append-drop}
-use Rattle.std.proofs.lemmas.List.Elements.{All-contains, All-from_recursion}
-use Rattle.std.proofs.lemmas.List.Sorted.{Contains-permutation, IsPermutation-refl, IsPermutation-sym, IsPermutation-cons, IsPermutation-trans, IsPermutation-middle}
+use Rattle.std.proofs.lemmas.List.{take-append-drop, length-take, drop_all}
+use Rattle.std.proofs.lemmas.Bool.{true≢false}
+use Rattle.std.proofs.lemmas.List.Elements.{All-contains, All-from_recursion, recursion_from_All}
+use Rattle.std.proofs.lemmas.List.Sorted.{All-permutation, Contains-permutation, IsPermutation-refl, IsPermutation-sym, IsPermutation-cons, IsPermutation-trans, IsPermutation-middle}
 use Rattle.std.proofs.lemmas.Option.{same_Some, none-some}
 use Rattle.pfair_order.specs.Rank.{first_by_rank, AreFirst, EachOnce}
-use Rattle.pfair_order.proofs.RankLemmas.{Rising, IsSplit, place_of, at_place, first_of_split, first_unique, first_of_permutation, less_of, is_less, is_eq_back, itself_not_before, apart_from_head, count_of_tail}
+use Rattle.pfair_order.proofs.RankLemmas.{all_map, Rising, IsSplit, place_of, at_place, first_of_split, first_unique, first_of_permutation, less_of, is_less, is_eq_back, itself_not_before, apart_from_head, count_of_tail}
 use Rattle.pfair_order.proofs.ByRank.{by_rank_of_split}
 
 -- a key at its place among keys that rise
@@ -28,11 +29,7 @@ in_empty : {A : Type 0} (x : A) → Contains [] x → ⊥
 in_empty x c = none-some x (place_of [] x c).1
 
 in_cons : {A : Type 0} (y : A) (ys : List A) (x : A) → Contains (y ∷ ys) x → (y ≡ x) ⊎ Contains ys x
-in_cons {A} y ys x c = at (place_of (y ∷ ys) x c).0 (place_of (y ∷ ys) x c).1
-  where
-    at : (i : ℕ) → slice_get (y ∷ ys) i ≡ Some x → (y ≡ x) ⊎ Contains ys x
-    at zero e = inl (same_Some y x e)
-    at (suc i) e = inr (at_place ys i x e)
+in_cons {A} y ys x c = grind (arith, same_Some, at_place)
 
 in_head : {A : Type 0} (y : A) (ys : List A) → Contains (y ∷ ys) y
 in_head y ys = at_place (y ∷ ys) 0 y refl
@@ -51,25 +48,12 @@ pub each_trivial : {A : Type 0} (xs : List A) → AllByRecursion (λ _. Unit {0}
 each_trivial [] = tt
 each_trivial (x ∷ xs) = (tt, each_trivial xs)
 
-all_take : {A : Type 0} (P : A → Type 0) (m : ℕ) (xs : List A) → AllByRecursion P xs → AllByRecursion P (take m xs)
-all_take P zero xs h = tt
-all_take P (suc m) [] h = tt
-all_take P (suc m) (x ∷ xs) h = (h.0, all_take P m xs h.1)
+all_parts : {A : Type 0} (P : A → Type 0) (xs ys : List A) → AllByRecursion P (xs ++ ys) → AllByRecursion P xs × AllByRecursion P ys
+all_parts P [] ys h = (tt, h)
+all_parts P (x ∷ xs) ys h = let rest = all_parts P xs ys h.1 in ((h.0, rest.0), rest.1)
 
-all_drop : {A : Type 0} (P : A → Type 0) (m : ℕ) (xs : List A) → AllByRecursion P xs → AllByRecursion P (drop m xs)
-all_drop P zero xs h = h
-all_drop P (suc m) [] h = tt
-all_drop P (suc m) (x ∷ xs) h = all_drop P m xs h.1
-
-take_within : {A : Type 0} (m : ℕ) (xs : List A) → length (take m xs) ≤ m
-take_within zero xs = omega arith
-take_within (suc m) [] = omega arith
-take_within (suc m) (x ∷ xs) = let rest = take_within m xs in omega (arith, rest)
-
-none_dropped : {A : Type 0} (m : ℕ) (xs : List A) → length (take m xs) < m → drop m xs ≡ []
-none_dropped zero xs h = absurd (omega arith)
-none_dropped (suc m) [] h = refl
-none_dropped (suc m) (x ∷ xs) h = none_dropped m xs (omega arith)
+all_moved : {A : Type 0} (P : A → Type 0) (xs ys : List A) → IsPermutation xs ys → AllByRecursion P xs → AllByRecursion P ys
+all_moved P xs ys moved h = recursion_from_All P ys (All-permutation P xs ys moved (All-from_recursion P xs h))
 
 module _ {K : Type 0} {R : K → K → Ordering} (o : IsTotalOrder R) where
   put_in_moves : (x : K) (ys : List K) → IsPermutation (x ∷ ys) (put_in R x ys)
@@ -89,57 +73,34 @@ module _ {K : Type 0} {R : K → K → Ordering} (o : IsTotalOrder R) where
       IsPermutation-trans (x ∷ xs) (x ∷ in_order R xs) (put_in R x (in_order R xs))
       (IsPermutation-cons x xs (in_order R xs) (in_order_moves xs)) (put_in_moves x (in_order R xs))
 
-  all_put : (P : K → Type 0) (x : K) (ys : List K) → P x → AllByRecursion P ys → AllByRecursion P (put_in R x ys)
-  all_put P x [] p h = (p, tt)
-  all_put P x (y ∷ ys) p h =
-      elim (is_lt (R x y)) as (λ b. AllByRecursion P (cond b (x ∷ y ∷ ys) (y ∷ put_in R x ys))) [
-        | true ↦ (p, h)
-        | false ↦ (h.0, all_put P x ys p h.1)
-      ]
-
-  all_in_order : (P : K → Type 0) (xs : List K) → AllByRecursion P xs → AllByRecursion P (in_order R xs)
-  all_in_order P [] h = tt
-  all_in_order P (x ∷ xs) h = all_put P x (in_order R xs) h.0 (all_in_order P xs h.1)
-
   less_all : (x y : K) (zs : List K) → R x y ≡ Less → AllByRecursion (λ z. R y z ≡ Less) zs → AllByRecursion (λ z. R x z ≡ Less) zs
-  less_all x y [] e h = tt
-  less_all x y (z ∷ zs) e h = (o.trans x y z e h.0, less_all x y zs e h.1)
+  less_all x y zs e h = all_map (λ z. R y z ≡ Less) (λ z. R x z ≡ Less) zs (λ z. o.trans x y z e) h
 
   rising_put : (x : K) (ys : List K) → Rising R ys → AllByRecursion (λ y. is_eq (R y x) ≡ false) ys → Rising R (put_in R x ys)
   rising_put x [] up differ = (tt, tt)
   rising_put x (y ∷ ys) up differ =
-      elim (is_lt (R x y)) as (λ b. is_lt (R x y) ≡ b → Rising R (cond b (x ∷ y ∷ ys) (y ∷ put_in R x ys))) [
-        | true ↦ λ e. let less : R x y ≡ Less = is_less o (R x y) e in ((less, less_all x y ys less up.0), up)
-        | false ↦ λ e.
-            let later : R y x ≡ Less = less_of o (R x y) (R y x) (o.antisymm x y) e (is_eq_back o (R x y) (R y x) (o.antisymm x y) differ.0) in
-            (all_put (λ z. R y z ≡ Less) x ys later up.0, rising_put x ys up.1 differ.1)
-      ] refl
+      grind (arith, is_less, less_all, less_of, is_eq_back, all_moved (λ z. R y z ≡ Less) (x ∷ ys) (put_in R x ys) (put_in_moves x ys), rising_put x ys up.1 differ.1)
 
   rising_in_order : (xs : List K) → EachOnce R xs → Rising R (in_order R xs)
   rising_in_order [] once = tt
   rising_in_order (x ∷ xs) once =
       rising_put x (in_order R xs) (rising_in_order xs (λ k. count_of_tail o (λ z. is_eq (R z k)) x xs (once k)))
-      (all_in_order (λ z. is_eq (R z x) ≡ false) xs (apart_from_head o x xs once))
+      (all_moved (λ z. is_eq (R z x) ≡ false) xs (in_order R xs) (in_order_moves xs) (apart_from_head o x xs once))
 
-  rising_take : (m : ℕ) (xs : List K) → Rising R xs → Rising R (take m xs)
-  rising_take zero xs up = tt
-  rising_take (suc m) [] up = tt
-  rising_take (suc m) (x ∷ xs) up = (all_take (λ z. R x z ≡ Less) m xs up.0, rising_take m xs up.1)
-
-  after_take : (m : ℕ) (xs : List K) → Rising R xs → AllByRecursion (λ z. AllByRecursion (λ k. R k z ≡ Less) (take m xs)) (drop m xs)
-  after_take zero xs up = each_trivial xs
-  after_take (suc m) [] up = tt
-  after_take (suc m) (x ∷ xs) up =
-      both (λ z. R x z ≡ Less) (λ z. AllByRecursion (λ k. R k z ≡ Less) (take m xs)) (drop m xs)
-      (all_drop (λ z. R x z ≡ Less) m xs up.0) (after_take m xs up.1)
+  -- the front of a rising list rises, and goes before the rest
+  rising_parts : (xs ys : List K) → Rising R (xs ++ ys) → Rising R xs × AllByRecursion (λ z. AllByRecursion (λ k. R k z ≡ Less) xs) ys
+  rising_parts [] ys up = (tt, each_trivial ys)
+  rising_parts (x ∷ xs) ys up =
+      let here = all_parts (λ z. R x z ≡ Less) xs ys up.0 in
+      let rest = rising_parts xs ys up.1 in
+      ((here.0, rest.0), both (λ z. R x z ≡ Less) (λ z. AllByRecursion (λ k. R k z ≡ Less) xs) ys here.1 rest.1)
 
   -- the first m in order are a split of keys that stand once
   split_in_order : (m : ℕ) (keys : List K) → EachOnce R keys → IsSplit o keys (take m (in_order R keys)) (drop m (in_order R keys))
-  split_in_order m keys once = record {
-    parts = subst (IsPermutation keys) (sym (take-append-drop m (in_order R keys))) (in_order_moves keys);
-    rising = rising_take m (in_order R keys) (rising_in_order keys once);
-    after = after_take m (in_order R keys) (rising_in_order keys once);
-  }
+  split_in_order m keys once =
+      let whole = sym (take-append-drop m (in_order R keys)) in
+      let rises = rising_parts (take m (in_order R keys)) (drop m (in_order R keys)) (subst (Rising R) whole (rising_in_order keys once)) in
+      record { parts = subst (IsPermutation keys) whole (in_order_moves keys); rising = rises.0; after = rises.1 }
 
   -- the keys of rank below m, rank by rank, are the first m of keys that stand once
   pub by_rank_first : (m : ℕ) (keys : List K) → EachOnce R keys → AreFirst R m keys (first_by_rank R m keys)
@@ -147,17 +108,15 @@ module _ {K : Type 0} {R : K → K → Ordering} (o : IsTotalOrder R) where
       let front : List K = take m (in_order R keys) in
       let rest : List K = drop m (in_order R keys) in
       let split : IsSplit o keys front rest = split_in_order m keys once in
-      subst (AreFirst R m keys) (by_rank_of_split o keys front rest split m (take_within m (in_order R keys)) (none_dropped m (in_order R keys)))
-      (first_of_split o m keys front rest split (take_within m (in_order R keys)) (none_dropped m (in_order R keys)))
+      let within : length front ≤ m = omega (arith, length-take m (in_order R keys)) in
+      let all : length front < m → rest ≡ [] = λ less. drop_all m (in_order R keys) (omega (arith, length-take m (in_order R keys))) in
+      subst (AreFirst R m keys) (by_rank_of_split o keys front rest split m within all) (first_of_split o m keys front rest split within all)
 
   pub first_by_rank_unique : (m : ℕ) (keys first : List K) → EachOnce R keys → AreFirst R m keys first → first ≡ first_by_rank R m keys
   first_by_rank_unique m keys first once a = first_unique o m keys first (first_by_rank R m keys) a (by_rank_first m keys once)
 
   never : (x : K) → R x x ≡ Less → ⊥
-  never x e = let back : true ≡ false = ap is_lt (sym e) ∙ itself_not_before o x in true_false back
-    where
-      true_false : true ≡ false → ⊥
-      true_false h = cc
+  never x e = true≢false (ap is_lt (sym e) ∙ itself_not_before o x)
 
   -- lists that rise and have the same keys are one
   same_rising : (xs ys : List K) → Rising R xs → Rising R ys → ((k : K) → Contains xs k → Contains ys k) → ((k : K) → Contains ys k → Contains xs k) → xs ≡ ys

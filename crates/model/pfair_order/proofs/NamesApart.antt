@@ -1,9 +1,9 @@
 -- Keys of different names stand once, and so do the names of the first.
-use Rattle.std.proofs.Common.{◌≡◌, ◌≢◌, ℕ, ◌+◌, ◌<◌, ◌≤◌, inl, inr, true, false, cond, List, [], ◌∷◌, length, refl, sym, ap, ◌∙◌, arith, get_or, Some}
+use Rattle.std.proofs.Common.{◌≡◌, ◌≢◌, ℕ, ◌+◌, ◌<◌, ◌≤◌, true, false, cond, List, [], ◌∷◌, length, refl, sym, ap, ◌∙◌, arith, get_or, Some}
 use Rattle.std.specs.Prelude.{AllPairs}
 use Rattle.std.specs.List.{count_by, slice_get}
 use Rattle.std.specs.Ordering.{is_eq}
-use Rattle.std.proofs.lemmas.Bool.{cases_lt, true≢false, false_from_ne_true}
+use Rattle.std.proofs.lemmas.Bool.{true≢false, false_from_ne_true}
 use Rattle.std.specs.Cmp.Lexicographic.{bytes_decides}
 use Rattle.std.proofs.lemmas.List.Sums.{sum_by-cons}
 use Rattle.std.proofs.lemmas.Option.{slice_get_within, slice_get-get_or, same_Some}
@@ -26,14 +26,7 @@ apart_at keys names i j k l e f earlier same =
     names i j k earlier within (ap (λ (x : Key). x.name) (sym there) ∙ same ∙ ap (λ (x : Key). x.name) there')
 
 same_place : (keys : List Key) → AllPairs (λ k l. k.name ≢ l.name) keys → (i j : ℕ) (k l : Key) → slice_get keys i ≡ Some k → slice_get keys j ≡ Some l → k.name ≡ l.name → i ≡ j
-same_place keys names i j k l e f same =
-    elim (cases_lt i j) [
-      | inl less ↦ absurd (apart_at keys names i j k l e f less same)
-      | inr more ↦ elim (cases_lt j i) [
-        | inl less ↦ absurd (apart_at keys names j i l k f e less (sym same))
-        | inr less ↦ omega arith
-      ]
-    ]
+same_place keys names i j k l e f same = grind (arith, apart_at)
 
 pub once_from_names : (keys : List Key) → NamesApart (λ (k : Key). k.name) keys → EachOnce pd2_cmp keys
 once_from_names [] apart k = omega arith

@@ -1,6 +1,5 @@
 -- The composed order of keys is the order by what differs first.
-use Rattle.std.proofs.Common.{◌≡◌, ◌≢◌, ℕ, ◌<◌, List, arith, refl, sym, ap, ◌∙◌, inl, inr, ◌⊎◌}
-use Rattle.std.proofs.lemmas.Bool.{cases_eq}
+use Rattle.std.proofs.Common.{◌≡◌, ◌≢◌, ℕ, ◌<◌, List, arith, refl, sym, ◌∙◌, inl, inr, ◌⊎◌}
 use Rattle.std.proofs.lemmas.Bool.Decides.{nat_tests}
 use Rattle.std.specs.declared.cmp.Ordering.{Ordering}
 use Rattle.std.specs.declared.cmp.Ordering.TheVariants.{Less, Equal, Greater}
@@ -56,21 +55,13 @@ tie_other k h = grind (arith, nat_tests)
 
 -- at equal b-bits the tie groups differ as the group deadlines of b-bits of 1 do
 ties : (k l : Key) → k.b ≡ l.b → (k.b ≡ 1 → k.group ≡ l.group) → tie_group_of k ≡ tie_group_of l
-ties k l same groups =
-    elim (cases_eq k.b 1) [
-      | inl one ↦ (let left = tie_one k one in let right = tie_one l (sym same ∙ one) in let middle = groups one in cc)
-      | inr other ↦ (let left = tie_other k other in let right = tie_other l (λ e. other (same ∙ e)) in cc)
-    ]
+ties k l same groups = grind (arith, tie_one, tie_other)
 
 same_groups : (k l : Key) → k.b ≡ l.b → tie_group_of k ≡ tie_group_of l → k.b ≡ 1 → k.group ≡ l.group
 same_groups k l same tied one = let left = tie_one k one in let right = tie_one l (sym same ∙ one) in cc
 
 less_tie : (k l : Key) → k.d ≡ l.d → k.b ≡ l.b → tie_group_of l < tie_group_of k → GoesBefore k l
-less_tie k l d same lower =
-    elim (cases_eq k.b 1) [
-      | inl one ↦ (let left = tie_one k one in let right = tie_one l (sym same ∙ one) in later_group d one (sym same ∙ one) (omega arith))
-      | inr other ↦ absurd (let left = tie_other k other in omega arith)
-    ]
+less_tie k l d same lower = grind (arith, tie_one, later_group, tie_other)
 
 other_b_bit : (k l : Key) → (k.b ≡ 1 → k.group ≡ l.group) → k.group < l.group → k.b ≢ 1
 other_b_bit k l groups lower one = let same : k.group ≡ l.group = groups one in omega arith
@@ -108,11 +99,8 @@ past_name k l n o = equal_first (slice_cmp nat_cmp k.name l.name) o (bytes_same 
 pub compares_less : (k l : Key) → GoesBefore k l → pd2_cmp k l ≡ Less
 compares_less k l (earlier_deadline lower) = less_first (nat_cmp k.d l.d) _ (less_nat k.d l.d lower)
 compares_less k l (greater_b_bit d lower) = past_d k l d _ ∙ less_first (nat_cmp l.b k.b) _ (less_nat l.b k.b lower)
-compares_less k l (later_group d one one' lower) =
-    past_d k l d _ ∙ past_b k l (one ∙ sym one') _
-    ∙ less_first (nat_cmp (tie_group_of l) (tie_group_of k)) _ (less_nat (tie_group_of l) (tie_group_of k) (rw (tie_one l one', tie_one k one) lower))
-compares_less k l (smaller_name d b groups lower) =
-    past_d k l d _ ∙ past_b k l b _ ∙ past_tie k l (ties k l b groups) _ ∙ less_first (slice_cmp nat_cmp k.name l.name) _ lower
+compares_less k l (later_group d one one' lower) = grind (arith, past_d, past_b, less_first, less_nat, tie_one)
+compares_less k l (smaller_name d b groups lower) = grind (arith, past_d, past_b, past_tie, ties, less_first)
 compares_less k l (smaller_group d b other name lower) =
     past_d k l d _ ∙ past_b k l b _ ∙ past_tie k l (ties k l b (λ one. absurd (other one))) _ ∙ past_name k l name _ ∙ less_nat k.group l.group lower
 
@@ -129,6 +117,4 @@ same_key k l h =
     λ i. record { d = d i; b = b i; group = group i; name = name i }
 
 pub compares_equal : (k l : Key) → k ≡ l → pd2_cmp k l ≡ Equal
-compares_equal k l e =
-    past_d k l (ap (λ (x : Key). x.d) e) _ ∙ past_b k l (ap (λ (x : Key). x.b) e) _ ∙ past_tie k l (ap tie_group_of e) _
-    ∙ past_name k l (ap (λ (x : Key). x.name) e) _ ∙ equal_nat k.group l.group (ap (λ (x : Key). x.group) e)
+compares_equal k l e = grind (arith, past_d, past_b, past_tie, past_name, equal_nat)

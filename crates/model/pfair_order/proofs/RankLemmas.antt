@@ -8,10 +8,9 @@ use Rattle.std.specs.Cmp.{IsTotalOrder, tied_itself}
 use Rattle.std.specs.List.Sorted.{IsPermutation, IsSortedBy}
 use Rattle.std.proofs.lemmas.List.Sorted.{sum_by-IsPermutation, Contains-permutation, IsPermutation-sym, IsPermutation-trans, IsPermutation-append_right, All-permutation, sorted_far, ranks_by}
 use Rattle.std.proofs.lemmas.List.Sums.{sum_by-append, sum_by-cons}
-use Rattle.std.proofs.lemmas.List.Elements.{Contains-append_left, Contains-append_cases, recursion_from_All, All-from_recursion, All-from_get_or}
-use Rattle.std.proofs.lemmas.Option.{slice_get_within, slice_get-get_or, same_Some, none-some}
+use Rattle.std.proofs.lemmas.List.Elements.{All-contains, Contains-get_or, Contains-append_left, Contains-append_cases, recursion_from_All, All-from_recursion, All-from_get_or}
+use Rattle.std.proofs.lemmas.Option.{get_or_from_slice_get, slice_get_within, slice_get-get_or, same_Some, none-some}
 use Rattle.std.specs.Prelude.{nat_le}
-use Rattle.std.specs.Cmp.{alike_right}
 use Rattle.std.proofs.lemmas.Bool.{leb-true, leb-false}
 use Rattle.pfair_order.specs.Rank.{rank, AreFirst, EachOnce}
 
@@ -20,25 +19,30 @@ pub place_of : {A : Type 0} (xs : List A) (x : A) → Contains xs x → (i : ℕ
 place_of xs x (i, within, is) = (i, slice_get-get_or xs i x within ∙ ap Some is)
 
 pub at_place : {A : Type 0} (xs : List A) (i : ℕ) (x : A) → slice_get xs i ≡ Some x → Contains xs x
-at_place [] i x e = absurd (none-some x e)
-at_place (y ∷ ys) zero x e = (0, omega arith, same_Some y x e)
-at_place (y ∷ ys) (suc i) x e =
-    let rest = at_place ys i x e in
-    (suc rest.0, omega (arith, rest.1), rest.2)
+at_place xs i x e = subst (Contains xs) (get_or_from_slice_get xs i x x e) (Contains-get_or xs i x (slice_get_within xs i x e))
 
 -- what holds of each element holds at each place
 pub at_each : {A : Type 0} (P : A → Type 0) (xs : List A) (i : ℕ) (x : A) → AllByRecursion P xs → slice_get xs i ≡ Some x → P x
-at_each P [] i x h e = absurd (none-some x e)
-at_each P (y ∷ ys) zero x h e = subst P (same_Some y x e) h.0
-at_each P (y ∷ ys) (suc i) x h e = at_each P ys i x h.1 e
+at_each P xs i x h e = All-contains P xs x (All-from_recursion P xs h) (at_place xs i x e)
 
 -- what holds at each place holds of each element
 pub each_place : {A : Type 0} (P : A → Type 0) (xs : List A) → ((i : ℕ) (x : A) → slice_get xs i ≡ Some x → P x) → AllByRecursion P xs
 each_place P [] f = tt
 each_place P (x ∷ xs) f = (f 0 x refl, each_place P xs (λ i y e. f (suc i) y e))
 
+-- what holds of each element gives what follows of each
+pub all_map : {A : Type 0} (P Q : A → Type 0) (xs : List A) → ((x : A) → P x → Q x) → AllByRecursion P xs → AllByRecursion Q xs
+all_map P Q [] f h = tt
+all_map P Q (x ∷ xs) f h = (f x h.0, all_map P Q xs f h.1)
+
+count_append : {A : Type 0} (p : A → Bool) (xs ys : List A) → count_by p (xs ++ ys) ≡ count_by p xs + count_by p ys
+count_append p xs ys = sum_by-append (λ x. cond (p x) 1 0) xs ys
+
+count_head : {A : Type 0} (p : A → Bool) (x : A) (xs : List A) → count_by p (x ∷ xs) ≡ cond (p x) 1 0 + count_by p xs
+count_head p x xs = sum_by-cons (λ y. cond (p y) 1 0) x xs
+
 count_cons : {A : Type 0} (p : A → Bool) (x : A) (xs : List A) (n : ℕ) → count_by p xs ≡ n → count_by p (x ∷ xs) ≡ cond (p x) 1 0 + n
-count_cons p x xs n e = sum_by-cons (λ y. cond (p y) 1 0) x xs ∙ ap (λ m. cond (p x) 1 0 + m) e
+count_cons p x xs n e = count_head p x xs ∙ ap (λ m. cond (p x) 1 0 + m) e
 
 pub none_counted : {A : Type 0} (p : A → Bool) (xs : List A) → AllByRecursion (λ x. p x ≡ false) xs → count_by p xs ≡ 0
 none_counted p [] h = refl
@@ -68,31 +72,18 @@ module _ {K : Type 0} {R : K → K → Ordering} (o : IsTotalOrder R) where
   pub not_back : (x y : K) → R x y ≡ Less → is_lt (R y x) ≡ false
   not_back x y e = less_not_back (R y x) (R x y) (o.antisymm y x) e
 
-  none_back : (x : K) (ys : List K) → AllByRecursion (λ y. R x y ≡ Less) ys → AllByRecursion (λ y. is_lt (R y x) ≡ false) ys
-  none_back x [] h = tt
-  none_back x (y ∷ ys) h = (not_back x y h.0, none_back x ys h.1)
-
   pub itself_not_before : (x : K) → is_lt (R x x) ≡ false
-  itself_not_before x = elim (R x x) as (λ r. R x x ≡ r → is_lt r ≡ false) [
-    | Less ↦ λ e. rw e at (not_back x x e)
-    | Equal ↦ λ e. refl
-    | Greater ↦ λ e. refl
-  ] refl
+  itself_not_before x = grind (arith, not_back)
 
   -- a key of a rising list has its place as its rank there
   pub rank_rising : (xs : List K) (i : ℕ) (k : K) → Rising R xs → slice_get xs i ≡ Some k → rank R xs k ≡ i
   rank_rising [] i k h e = absurd (none-some k e)
   rank_rising (x ∷ xs) zero k h e =
-      subst (λ v. rank R (x ∷ xs) v ≡ 0) (same_Some x k e) (count_cons (λ y. is_lt (R y x)) x xs 0 (none_counted (λ y. is_lt (R y x)) xs (none_back x xs h.0)) ∙ rw (itself_not_before x) refl)
+      subst (λ v. rank R (x ∷ xs) v ≡ 0) (same_Some x k e) (count_cons (λ y. is_lt (R y x)) x xs 0 (none_counted (λ y. is_lt (R y x)) xs (all_map (λ y. R x y ≡ Less) (λ y. is_lt (R y x) ≡ false) xs (not_back x) h.0)) ∙ rw (itself_not_before x) refl)
   rank_rising (x ∷ xs) (suc i) k h e =
       let before : R x k ≡ Less = at_each (λ y. R x y ≡ Less) xs i k h.0 e in
       let rest : rank R xs k ≡ i = rank_rising xs i k h.1 e in
       count_cons (λ y. is_lt (R y k)) x xs i rest ∙ rw before (omega arith)
-
-  -- keys that no one of the list goes before, and keys that all of the list go before
-  all_before : (ks : List K) (x : K) → AllByRecursion (λ k. R k x ≡ Less) ks → AllByRecursion (λ k. is_lt (R k x) ≡ true) ks
-  all_before [] x h = tt
-  all_before (k ∷ ks) x h = (ap is_lt h.0, all_before ks x h.1)
 
   -- the parts of a list of keys: those that are given, in rising order, and the rest, which all go after these
   pub record IsSplit (keys given rest : List K) : Type 0 where
@@ -103,15 +94,11 @@ module _ {K : Type 0} {R : K → K → Ordering} (o : IsTotalOrder R) where
   rank_parts : (keys given rest : List K) (k : K) → IsPermutation keys (given ++ rest) → rank R keys k ≡ rank R given k + rank R rest k
   rank_parts keys given rest k p = sym (sum_by-IsPermutation (λ y. cond (is_lt (R y k)) 1 0) keys (given ++ rest) p) ∙ sum_by-append (λ y. cond (is_lt (R y k)) 1 0) given rest
 
-  none_of_rest : (given rest : List K) (i : ℕ) (k : K) → slice_get given i ≡ Some k → AllByRecursion (λ z. AllByRecursion (λ k. R k z ≡ Less) given) rest → AllByRecursion (λ z. is_lt (R z k) ≡ false) rest
-  none_of_rest given [] i k e h = tt
-  none_of_rest given (z ∷ rest) i k e h = (not_back k z (at_each (λ k. R k z ≡ Less) given i k h.0 e), none_of_rest given rest i k e h.1)
-
   -- the rank of a given key is its place
   pub rank_given : (keys given rest : List K) → IsSplit keys given rest → (i : ℕ) (k : K) → slice_get given i ≡ Some k → rank R keys k ≡ i
   rank_given keys given rest s i k e =
       let own : rank R given k ≡ i = rank_rising given i k s.rising e in
-      let others : rank R rest k ≡ 0 = none_counted (λ z. is_lt (R z k)) rest (none_of_rest given rest i k e s.after) in
+      let others : rank R rest k ≡ 0 = none_counted (λ z. is_lt (R z k)) rest (all_map (λ z. AllByRecursion (λ k. R k z ≡ Less) given) (λ z. is_lt (R z k) ≡ false) rest (λ z h. not_back k z (at_each (λ k. R k z ≡ Less) given i k h e)) s.after) in
       rank_parts keys given rest k s.parts ∙ rw own (rw others (omega arith))
 
   -- a key of the rest has no less than all the given ones before it
@@ -119,7 +106,7 @@ module _ {K : Type 0} {R : K → K → Ordering} (o : IsTotalOrder R) where
   rank_rest keys given rest s k c =
       let at = place_of rest k c in
       let before : AllByRecursion (λ g. R g k ≡ Less) given = at_each (λ z. AllByRecursion (λ g. R g z ≡ Less) given) rest at.0 k s.after at.1 in
-      let own : rank R given k ≡ length given = all_counted (λ g. is_lt (R g k)) given (all_before given k before) in
+      let own : rank R given k ≡ length given = all_counted (λ g. is_lt (R g k)) given (all_map (λ g. R g k ≡ Less) (λ g. is_lt (R g k) ≡ true) given (λ g. ap is_lt) before) in
       rw (rank_parts keys given rest k s.parts) (rw own (omega arith))
 
   no_rest : (rest : List K) (k : K) → rest ≡ [] → Contains rest k → ⊥
@@ -149,14 +136,12 @@ module _ {K : Type 0} {R : K → K → Ordering} (o : IsTotalOrder R) where
       (elim (p x) as (λ b. cond b 1 0 + count_by p xs ≡ 0 → b ≡ false) [ true ↦ λ h. absurd (omega arith) | false ↦ λ h. refl ] sum, zero_counted p xs (omega arith))
 
   pub count_of_tail : (p : K → Bool) (x : K) (xs : List K) → count_by p (x ∷ xs) ≤ 1 → count_by p xs ≤ 1
-  count_of_tail p x xs h = let e : count_by p (x ∷ xs) ≡ cond (p x) 1 0 + count_by p xs = count_cons p x xs _ refl in omega arith
+  count_of_tail p x xs h = omega (arith, count_head p x xs)
 
   pub less_of : (r s : Ordering) → r ≡ ordering_reverse s → is_lt r ≡ false → is_eq r ≡ false → s ≡ Less
-  less_of Less s e f g = cc
-  less_of Equal s e f g = cc
-  less_of Greater Less e f g = refl
-  less_of Greater Equal e f g = cc
-  less_of Greater Greater e f g = cc
+  less_of r Less e f g = refl
+  less_of r Equal e f g = grind arith
+  less_of r Greater e f g = grind arith
 
   pub is_eq_back : (r s : Ordering) → r ≡ ordering_reverse s → is_eq s ≡ false → is_eq r ≡ false
   is_eq_back r Less e f = ap is_eq e
@@ -181,47 +166,32 @@ module _ {K : Type 0} {R : K → K → Ordering} (o : IsTotalOrder R) where
 
   pub apart_from_head : (x : K) (xs : List K) → EachOnce R (x ∷ xs) → AllByRecursion (λ z. is_eq (R z x) ≡ false) xs
   apart_from_head x xs once =
-      let e : count_by (λ z. is_eq (R z x)) (x ∷ xs) ≡ cond (is_eq (R x x)) 1 0 + count_by (λ z. is_eq (R z x)) xs = count_cons (λ z. is_eq (R z x)) x xs _ refl in
-      let e1 : count_by (λ z. is_eq (R z x)) (x ∷ xs) ≡ 1 + count_by (λ z. is_eq (R z x)) xs = e ∙ ap (λ b. cond b 1 0 + count_by (λ z. is_eq (R z x)) xs) (itself_equal x) in
-      let h : count_by (λ z. is_eq (R z x)) (x ∷ xs) ≤ 1 = once x in
-      zero_counted (λ z. is_eq (R z x)) xs (omega arith)
+      zero_counted (λ z. is_eq (R z x)) xs (omega (arith, count_head (λ z. is_eq (R z x)) x xs, ap {B = ℕ} (λ b. cond b 1 0) (itself_equal x), once x))
 
   rising_from_sorted : (xs : List K) → IsSortedBy (λ a b. is_lt (R a b)) xs → EachOnce R xs → Rising R xs
   rising_from_sorted [] up once = tt
-  rising_from_sorted (x ∷ xs) up once = (
-    all_less x xs (sorted_head x xs up) (apart_from_head x xs once),
-    rising_from_sorted xs (sorted_tail x xs up) (λ k. count_of_tail (λ z. is_eq (R z k)) x xs (once k)),
-  )
+  rising_from_sorted (x ∷ xs) up once =
+      grind (arith, all_less, sorted_head, apart_from_head, sorted_tail, count_of_tail, rising_from_sorted xs (sorted_tail x xs up) (λ k. count_of_tail (λ z. is_eq (R z k)) x xs (once k)))
 
   once_permutation : (xs ys : List K) → IsPermutation xs ys → EachOnce R xs → EachOnce R ys
   once_permutation xs ys p once k = rw (sum_by-IsPermutation (λ x. cond (is_eq (R x k)) 1 0) xs ys p) (once k)
 
   once_front : (xs ys : List K) → EachOnce R (xs ++ ys) → EachOnce R xs
-  once_front xs ys once k =
-      let e : count_by (λ x. is_eq (R x k)) (xs ++ ys) ≡ count_by (λ x. is_eq (R x k)) xs + count_by (λ x. is_eq (R x k)) ys = sum_by-append (λ x. cond (is_eq (R x k)) 1 0) xs ys in
-      let h : count_by (λ x. is_eq (R x k)) (xs ++ ys) ≤ 1 = once k in
-      omega arith
+  once_front xs ys once k = omega (arith, count_append (λ x. is_eq (R x k)) xs ys, once k)
 
   -- a key of the second part ties with none of the first
   apart_parts : (xs ys : List K) (z : K) → EachOnce R (xs ++ z ∷ ys) → AllByRecursion (λ x. is_eq (R x z) ≡ false) xs
   apart_parts xs ys z once =
-      let e : count_by (λ x. is_eq (R x z)) (xs ++ z ∷ ys) ≡ count_by (λ x. is_eq (R x z)) xs + count_by (λ x. is_eq (R x z)) (z ∷ ys) = sum_by-append (λ x. cond (is_eq (R x z)) 1 0) xs (z ∷ ys) in
-      let f : count_by (λ x. is_eq (R x z)) (z ∷ ys) ≡ 1 + count_by (λ x. is_eq (R x z)) ys = count_cons (λ x. is_eq (R x z)) z ys _ refl ∙ ap (λ b. cond b 1 0 + count_by (λ x. is_eq (R x z)) ys) (itself_equal z) in
-      let h : count_by (λ x. is_eq (R x z)) (xs ++ z ∷ ys) ≤ 1 = once z in
-      zero_counted (λ x. is_eq (R x z)) xs (omega arith)
+      zero_counted (λ x. is_eq (R x z)) xs
+      (omega (arith, count_append (λ x. is_eq (R x z)) xs (z ∷ ys), count_head (λ x. is_eq (R x z)) z ys, ap {B = ℕ} (λ b. cond b 1 0) (itself_equal z), once z))
 
   once_without : (xs ys : List K) (z : K) → EachOnce R (xs ++ z ∷ ys) → EachOnce R (xs ++ ys)
   once_without xs ys z once k =
-      let e : count_by (λ x. is_eq (R x k)) (xs ++ z ∷ ys) ≡ count_by (λ x. is_eq (R x k)) xs + count_by (λ x. is_eq (R x k)) (z ∷ ys) = sum_by-append (λ x. cond (is_eq (R x k)) 1 0) xs (z ∷ ys) in
-      let f : count_by (λ x. is_eq (R x k)) (z ∷ ys) ≡ cond (is_eq (R z k)) 1 0 + count_by (λ x. is_eq (R x k)) ys = count_cons (λ x. is_eq (R x k)) z ys _ refl in
-      let g : count_by (λ x. is_eq (R x k)) (xs ++ ys) ≡ count_by (λ x. is_eq (R x k)) xs + count_by (λ x. is_eq (R x k)) ys = sum_by-append (λ x. cond (is_eq (R x k)) 1 0) xs ys in
-      let h : count_by (λ x. is_eq (R x k)) (xs ++ z ∷ ys) ≤ 1 = once k in
-      omega arith
+      omega (arith, count_append (λ x. is_eq (R x k)) xs (z ∷ ys), count_head (λ x. is_eq (R x k)) z ys, count_append (λ x. is_eq (R x k)) xs ys, once k)
 
   all_given_less : (z : K) (ks : List K) → AllByRecursion (λ r. is_lt (R z r) ≡ false) ks → AllByRecursion (λ r. is_eq (R r z) ≡ false) ks → AllByRecursion (λ r. R r z ≡ Less) ks
   all_given_less z [] f g = tt
-  all_given_less z (k ∷ ks) f g =
-      (less_of (R z k) (R k z) (o.antisymm z k) f.0 (is_eq_back (R z k) (R k z) (o.antisymm z k) g.0), all_given_less z ks f.1 g.1)
+  all_given_less z (k ∷ ks) f g = grind (arith, less_of, is_eq_back, all_given_less z ks f.1 g.1)
 
   after_from_all : (given rest : List K) → EachOnce R (given ++ rest) → AllByRecursion (λ z. All (λ r. is_lt (R z r) ≡ false) given) rest → AllByRecursion (λ z. AllByRecursion (λ k. R k z ≡ Less) given) rest
   after_from_all given [] once h = tt
@@ -292,11 +262,7 @@ module _ {K : Type 0} {R : K → K → Ordering} (o : IsTotalOrder R) where
   -- a key that does not go before another has all before it that the other has
   counted_too : (p q : K → Bool) → ((x : K) → p x ≡ true → q x ≡ true) → (xs : List K) → count_by p xs ≤ count_by q xs
   counted_too p q more [] = omega arith
-  counted_too p q more (x ∷ xs) =
-      let rest : count_by p xs ≤ count_by q xs = counted_too p q more xs in
-      let one : cond (p x) 1 0 ≤ cond (q x) 1 0 =
-      elim (p x) as (λ b. p x ≡ b → cond b 1 0 ≤ cond (q x) 1 0) [ true ↦ λ t. rw (more x t) (omega arith) | false ↦ λ _. omega arith ] refl in
-      rw (count_cons p x xs _ refl) (rw (count_cons q x xs _ refl) (omega arith))
+  counted_too p q more (x ∷ xs) = grind (arith, count_cons, counted_too p q more xs)
 
   pub is_less : (r : Ordering) → is_lt r ≡ true → r ≡ Less
   is_less Less e = refl
@@ -305,17 +271,7 @@ module _ {K : Type 0} {R : K → K → Ordering} (o : IsTotalOrder R) where
 
   -- of two keys the one of the less rank goes first
   pub less_by_rank : (keys : List K) (x y : K) → rank R keys x < rank R keys y → R x y ≡ Less
-  less_by_rank keys x y lower =
-      elim (R x y) as (λ r. R x y ≡ r → r ≡ Less) [
-        | Less ↦ λ _. refl
-        | Equal ↦ λ t.
-            let no_more : rank R keys y ≤ rank R keys x = counted_too (λ z. is_lt (R z y)) (λ z. is_lt (R z x)) (λ z h. ap is_lt (alike_right o x y z t) ∙ h) keys in
-            absurd (omega arith)
-        | Greater ↦ λ t.
-            let back : R y x ≡ Less = o.antisymm y x ∙ ap ordering_reverse t in
-            let no_more : rank R keys y ≤ rank R keys x = counted_too (λ z. is_lt (R z y)) (λ z. is_lt (R z x)) (λ z h. ap is_lt (o.trans z y x (is_less (R z y) h) back)) keys in
-            absurd (omega arith)
-      ] refl
+  less_by_rank keys x y lower = grind (arith, counted_too, is_less)
 
   -- the first m keys are not more than m
   pub first_within : (m : ℕ) (keys first : List K) → AreFirst R m keys first → length first ≤ m

@@ -21,21 +21,25 @@ pub fn equality_is_of_all_fields()
 {}
 
 /// No key goes before itself.
+#[tactic(auto, using(crate::proofs::KeyLaws::never_before_itself))]
 pub fn order_is_irreflexive()
     ensures { (k : Key) → ¬ GoesBefore k k }
 {}
 
 /// What goes before a key goes before all that the key goes before.
+#[tactic(auto, using(crate::proofs::KeyLaws::before_through))]
 pub fn order_is_transitive()
     ensures { (k l m : Key) → GoesBefore k l → GoesBefore l m → GoesBefore k m }
 {}
 
 /// Of two keys one goes before the other, or they are equal.
+#[tactic(auto, using(crate::proofs::KeyLaws::one_way))]
 pub fn order_is_total()
     ensures { (k l : Key) → GoesBefore k l ⊎ ((k ≡ l) ⊎ GoesBefore l k) }
 {}
 
 /// One list alone has the first m keys of some keys.
+#[tactic(auto, using(crate::proofs::KeyLaws::keys_total, crate::proofs::RankLemmas::first_unique))]
 pub fn first_keys_are_unique()
     ensures { (m : ℕ) (keys xs ys : List Key) →
         AreFirst pd2_cmp m keys xs → AreFirst pd2_cmp m keys ys → xs ≡ ys }
@@ -43,6 +47,7 @@ pub fn first_keys_are_unique()
 
 /// Of keys that stand once each, the list that has the first m is that of the ranks below m, rank
 /// by rank.
+#[tactic(auto, using(crate::proofs::KeyLaws::keys_total, crate::proofs::InOrder::by_rank_first, crate::proofs::InOrder::first_by_rank_unique))]
 pub fn first_keys_are_by_rank()
     ensures { (m : ℕ) (keys first : List Key) → EachOnce pd2_cmp keys →
         (AreFirst pd2_cmp m keys first ↔ (first ≡ first_by_rank pd2_cmp m keys)) }
@@ -71,6 +76,7 @@ pub fn first_keys_rise()
 {}
 
 /// No two of the first m keys have one name, where no two of the keys have one.
+#[tactic(auto, using(crate::proofs::NamesApart::first_names))]
 pub fn first_keys_have_different_names()
     ensures { (m : ℕ) (keys : List Key) → NamesApart (λ k. k.name) keys →
         NamesApart (λ k. k.name) (first_by_rank pd2_cmp m keys) }

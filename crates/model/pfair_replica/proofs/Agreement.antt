@@ -1,5 +1,5 @@
 -- When replicas agree.
-use Rattle.std.proofs.Common.{◌≡◌, refl, sym, ◌∙◌, ap, true, cond, Some, None}
+use Rattle.std.proofs.Common.{◌≡◌, refl, Some, None, arith}
 use Rattle.std.specs.Prelude.{◌≢◌}
 use Rattle.pfair_lattice.specs.declared.flat.Flat.TheVariants.{One, Torn}
 use Rattle.pfair_lattice.specs.Held.{Held, held_join}
@@ -23,17 +23,7 @@ whole None b p q same = q
 whole (Some c) None p q same = p
 whole (Some Torn) (Some d) p q same = absurd (p refl)
 whole (Some (One e)) (Some Torn) p q same = absurd (q refl)
-whole (Some (One e)) (Some (One f)) p q same = λ torn.
-    let alike : e ≡ f = same e f refl refl in
-    let t : entry_eq e f ≡ true = sym (ap (entry_eq e) alike) ∙ entry_exact.itself e in
-    let own : Some (One e) ≡ Some Torn = sym (ap (λ b. Some (cond b (One e) Torn)) t) ∙ torn in absurd (cc)
+whole (Some (One e)) (Some (One f)) p q same = grind (arith, entry_exact)
 
 pub agreement : IsAgreement
-agreement x y = (
-  λ agree. (
-    λ k n e. agree k n (ap (λ a. held_join entry_eq a (y.at k n)) e ∙ torn_first (y.at k n)),
-    λ k n e. agree k n (ap (held_join entry_eq (x.at k n)) e ∙ torn_second (x.at k n)),
-    λ k n e f p q. same_at x y agree k n e f p q,
-  ),
-  λ h k n. whole (x.at k n) (y.at k n) (h.0 k n) (h.1 k n) (h.2 k n),
-)
+agreement x y = grind (arith, torn_first, torn_second, same_at, whole)

@@ -99,12 +99,7 @@ module _ (old now : ℕ → Held Logged) where
 
   -- a part that ends before that number, or of which none is changed, stays a part
   pub moved_part : (part : Beginning) → ((m : ℕ) → 1 ≤ m → m ≤ part.count → now m ≡ old m) → IsPart old part → IsPart now part
-  moved_part part same p = let count = p.count in record {
-    entries = p.entries;
-    run = moved_run p.entries 1 0 (λ m low high. same m low (omega (arith, count, high))) p.run;
-    count = p.count;
-    mark = p.mark;
-  }
+  moved_part part same p = grind (arith, moved_run)
 
   pub moved_before : (capacity number : ℕ) → 1 ≤ number → number ≤ length (run_from old capacity 1 0) → ((m : ℕ) → 1 ≤ m → m < number → now m ≡ old m) → now 0 ≡ None → IsRunBefore now number
   moved_before capacity number first within same nothing =

@@ -2,7 +2,6 @@
 use Rattle.std.proofs.Common.{ℕ, zero, suc, ◌+◌, ◌-◌, ◌≤◌, ◌≡◌, refl, sym, ap, ◌∙◌, subst, arith, inl, inr, ⊎_elim, true, [], Option, Some, None}
 use Rattle.std.specs.Prelude.{◌⊎◌, find, flat_map, slice_get, IsSomeAnd}
 use Rattle.std.specs.Option.{option_map}
-use Rattle.std.proofs.lemmas.Bool.{cases_eq, cases_lt}
 use Rattle.pfair_lattice.specs.declared.flat.Flat.TheVariants.{Torn}
 use Rattle.pfair_replica.specs.Key.{EntryKey}
 use Rattle.pfair_replica.specs.Replica.{Contents, Replica, IsReplica, is_torn, entry_key, numbers_below, numbers_to, torn_in, torn_keys}
@@ -47,25 +46,10 @@ earlier_first P Q R first other result p q e one two from = by result e.either (
 
 module _ (at : Contents) (k b : ℕ) (untorn : (n : ℕ) → 1 ≤ n → n ≤ b → IsTornAt at k n → ⊥) where
   pub torn_here : ((n : ℕ) → IsTornAt at k n → 1 ≤ n) → IsTornAt at k (b + 1) → IsFirstTornIn at k (Some (entry_key k (b + 1)))
-  torn_here first torn = (
-    (refl, torn),
-    λ j n h. (let row : k ≡ j = sym h.0 in
-        let here : IsTornAt at k n = subst (λ (i : ℕ). IsTornAt at i n) h.0 h.1 in
-        let low = first n here in
-        inr (
-          row,
-          elim (cases_lt b n) [
-            | inl past ↦ omega (arith, past)
-            | inr within ↦ absurd (untorn n low within here)
-          ],
-        )),
-  )
+  torn_here first torn = grind arith
 
   pub torn_not_yet : (IsTornAt at k (b + 1) → ⊥) → (n : ℕ) → 1 ≤ n → n ≤ b + 1 → IsTornAt at k n → ⊥
-  torn_not_yet not_here n low high torn = ⊎_elim
-      (λ same. not_here (subst (IsTornAt at k) same torn))
-      (λ ne. untorn n low (omega (arith, high, ne)) torn)
-      (cases_eq n (b + 1))
+  torn_not_yet not_here n low high torn = grind arith
 
 pub torn_nowhere : (at : Contents) (k capacity : ℕ) → ((n : ℕ) → IsTornAt at k n → (1 ≤ n) × (n ≤ capacity)) → ((n : ℕ) → 1 ≤ n → n ≤ capacity → IsTornAt at k n → ⊥) → IsFirstTornIn at k None
 torn_nowhere at k capacity within untorn = λ j n h. (let here : IsTornAt at k n = subst (λ (i : ℕ). IsTornAt at i n) h.0 h.1 in untorn n (within n here).0 (within n here).1 here)

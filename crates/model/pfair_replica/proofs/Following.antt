@@ -38,10 +38,7 @@ Beginnings capacity at xs = (k : ℕ) (b : Beginning) → slice_get xs k ≡ Som
 
 one_followed : (capacity p : ℕ) (old now : Contents) (xs : List Beginning) (y : Beginning) → p < length xs → y ≡ beginning_in capacity (now p)
     → ((k n : ℕ) → k ≢ p → now k n ≡ old k n) → Beginnings capacity old xs → Beginnings capacity now (set xs p y)
-one_followed capacity p old now xs y room is elsewhere h k b e = ⊎_elim
-    (λ same. same.1 ∙ is ∙ ap (λ j. beginning_in capacity (now j)) (sym same.0))
-    (λ other. h k b other.1 ∙ sym (λ i. beginning_in capacity (λ n. elsewhere k n other.0 i)))
-    (set_at xs p k y b room e)
+one_followed capacity p old now xs y room is elsewhere h k b e = grind (arith, set_at)
 
 still_torn : (a b : Held Logged) → HeldBelow a b → a ≡ Some Torn → b ≡ Some Torn
 still_torn a b below torn = ⊎_elim (λ h. h) (λ h. h) (below Torn torn)
@@ -55,19 +52,10 @@ module _ (capacity p i : ℕ) (now : Contents) (xs : List Beginning) (first : Op
       (left_at capacity i (w.old p) (now p) w.number w.zero (λ m ne. w.elsewhere p m (λ h. ne h.1)) (w.below p i))
 
   pub room_by_entry : (b part : Beginning) → slice_get xs p ≡ Some b → part.count ≤ b.count → part.count ≤ capacity
-  room_by_entry b part e shorter =
-      let count : b.count ≡ length (run_from (w.old p) capacity 1 0) = ap (λ r. r.count) (w.counters.beginnings p b e) in
-      let room = run_room (w.old p) capacity 1 0 in
-      omega (arith, count, room, shorter)
+  room_by_entry b part e shorter = grind (arith, run_room)
 
   elsewhere_torn : (k n : ℕ) → IsTornAt now k n → IsTornAt w.old k n ⊎ ((k ≡ p) × (n ≡ i))
-  elsewhere_torn k n torn = ⊎_elim
-      (λ row. ⊎_elim
-      (λ number. inr (row, number))
-      (λ ne. inl (sym (w.elsewhere k n (λ h. ne h.1)) ∙ torn))
-      (cases_eq n i))
-      (λ ne. inl (sym (w.elsewhere k n (λ h. ne h.0)) ∙ torn))
-      (cases_eq k p)
+  elsewhere_torn k n torn = grind arith
 
   module _ (y : Beginning) (room : p < length xs) (is : y ≡ beginning_in capacity (now p)) where
     beginnings_followed : Beginnings capacity now (set xs p y)
@@ -193,13 +181,7 @@ module _ (x : Replica) (xs : List Beginning) (first : Option EntryKey) (counters
   -- after other rows were joined in, or a part of them
   pub before_join : (other now : Contents) → length xs ≡ x.processors → IsReplica (record { processors = x.processors; capacity = x.capacity; at = now })
       → ((k n : ℕ) → Between (x.at k n) (other k n) (now k n)) → WereApart x.capacity other now xs first
-  before_join other now so_many r between = record {
-    old = x.at;
-    counters = counters;
-    same = λ k nothing n. ⊎_elim (λ e. e) (λ e. e ∙ ap (held_join entry_eq (x.at k n)) (nothing n) ∙ join_none (x.at k n)) (between k n);
-    below = λ k n. between_below (x.at k n) (other k n) (now k n) (between k n);
-    within = λ k n torn. (let range = r.in_range k n Torn torn in (subst (λ (l : ℕ). k < l) (sym so_many) range.0, range.1, range.2));
-  }
+  before_join other now so_many r between = grind (arith, join_none, between_below)
 
 -- where nothing is held
 begins_empty : (row : ℕ → Held Logged) → ((n : ℕ) → row n ≡ None) → (capacity : ℕ) → beginning_in capacity row ≡ record { count = 0; mark = 0 }
@@ -219,8 +201,4 @@ counters_of_nothing m capacity at nothing = record {
 -- how far the sound beginning of a processor goes
 module _ (x : Replica) (r : IsReplica x) (xs : List Beginning) (first : Option EntryKey) (so_many : length xs ≡ x.processors) (counters : AreCounters x.capacity x.at xs first) (k : ℕ) where
   pub counted : (b : Beginning) → slice_get xs k ≡ Some b → (b.count ≡ length (sound_beginning x k)) × (b.count ≤ x.capacity) × (b.mark ≡ mark x k)
-  counted b e =
-      let is = counters.beginnings k b e in
-      let count : b.count ≡ length (sound_beginning x k) = ap (λ b. b.count) is in
-      let room = run_room (x.at k) x.capacity 1 0 in
-      (count, omega (arith, count, room), ap (λ b. b.mark) is)
+  counted b e = grind (arith, run_room)

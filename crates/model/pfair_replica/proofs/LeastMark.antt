@@ -1,5 +1,5 @@
 -- The frontier is the least of the marks.
-use Rattle.std.proofs.Common.{ℕ, zero, suc, ◌+◌, ◌<◌, ◌≤◌, ◌≡◌, refl, sym, ◌∙◌, subst, arith, inl, inr, ⊎_elim, ap, [], ◌∷◌, min}
+use Rattle.std.proofs.Common.{ℕ, zero, suc, ◌+◌, ◌<◌, ◌≤◌, ◌≡◌, refl, sym, ◌∙◌, subst, arith, inl, inr, ⊎_elim, min}
 use Rattle.std.specs.Prelude.{◌⊎◌, map, fold}
 use Rattle.std.proofs.Math.Numerals.{add-one}
 use Rattle.std.proofs.lemmas.Bool.{cases_eq, cases_lt}
@@ -10,10 +10,7 @@ use Rattle.pfair_replica.specs.Laws.{IsLeastMark}
 
 -- one more of the numbers of which the least is sought
 pub least_more : (f : ℕ → ℕ) (a k : ℕ) → fold min a (map f (numbers_below (k + 1))) ≡ min (fold min a (map f (numbers_below k))) (f k)
-least_more f a k =
-    ap (λ q. fold min a (map f (numbers_below q))) (add-one k)
-    ∙ ap (fold min a) (map-append f (numbers_below k) (k ∷ []))
-    ∙ fold-append min a (map f (numbers_below k)) (f k ∷ [])
+least_more f a k = grind (arith, add-one, map-append, fold-append)
 
 module _ (f : ℕ → ℕ) (a : ℕ) where
   least_next : (m : ℕ) → fold min a (map f (numbers_below (suc m))) ≡ min (fold min a (map f (numbers_below m))) (f m)

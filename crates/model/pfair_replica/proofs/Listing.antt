@@ -1,8 +1,8 @@
 -- Numbers gone through one after another.
-use Rattle.std.proofs.Common.{ℕ, zero, suc, ◌+◌, ◌-◌, ◌<◌, ◌≤◌, ◌≡◌, refl, sym, ap, ◌∙◌, subst, arith, ⊎_elim, Bool, true, false, cond, [], ◌∷◌, ◌++◌, Option, Some, None, IsSome}
+use Rattle.std.proofs.Common.{ℕ, zero, suc, ◌+◌, ◌-◌, ◌<◌, ◌≤◌, ◌≡◌, refl, sym, ap, ◌∙◌, subst, arith, Bool, true, false, cond, [], ◌∷◌, ◌++◌, Option, Some, None, IsSome}
 use Rattle.std.specs.Prelude.{find, is_none}
 use Rattle.std.proofs.Math.Numerals.{add-one}
-use Rattle.std.proofs.lemmas.Bool.{true≢false, cases_eq}
+use Rattle.std.proofs.lemmas.Bool.{true≢false}
 use Rattle.std.proofs.lemmas.List.{map-append}
 use Rattle.std.proofs.lemmas.List.Folds.{find-append}
 use Rattle.std.specs.Option.{option_or}
@@ -40,13 +40,7 @@ IsFirst p b (Some n) = (1 ≤ n) × (n ≤ b) × (p n ≡ true) × ((j : ℕ) �
 
 first_found : (p : ℕ → Bool) (b : ℕ) → IsFirst p b (find p (numbers_to b))
 first_found p zero = λ n low high. absurd (omega arith)
-first_found p (suc b) =
-    subst (IsFirst p (suc b)) (sym (ap (find p) (map-append suc (numbers_below b) (b ∷ [])) ∙ find-append p (numbers_to b) (suc b ∷ []))) (by (find p (numbers_to b)) (p (suc b)) refl (first_found p b))
-  where
-    by : (o : Option ℕ) (t : Bool) → p (suc b) ≡ t → IsFirst p b o → IsFirst p (suc b) (option_or o (cond t (Some (suc b)) None))
-    by (Some n) t e h = (h.0, (let high = h.1 in omega arith), h.2, h.3)
-    by None true e h = (omega arith, omega arith, e, λ j low high. h j low (omega arith))
-    by None false e h = λ n low high. ⊎_elim (λ same. ap p same ∙ e) (λ apart. h n low (omega arith)) (cases_eq n (suc b))
+first_found p (suc b) = grind (arith, map-append, find-append, first_found p b)
 
 some_held : {X : Type 0} (o : Option X) → is_none o ≡ false → IsSome o
 some_held None e = absurd (true≢false e)
@@ -57,8 +51,4 @@ none_held None e = refl
 none_held (Some v) e = absurd (true≢false (sym e))
 
 pub missing_is_least : (x : Replica) (k : ℕ) → IsLeastMissing x k (missing x k)
-missing_is_least x k = by (find (λ n. is_none (x.at k n)) (numbers_to x.capacity)) (first_found (λ n. is_none (x.at k n)) x.capacity)
-  where
-    by : (o : Option ℕ) → IsFirst (λ n. is_none (x.at k n)) x.capacity o → IsLeastMissing x k o
-    by None h = λ n low high. some_held (x.at k n) (h n low high)
-    by (Some n) h = (h.0, h.1, none_held (x.at k n) h.2, λ j low high. some_held (x.at k j) (h.3 j low high))
+missing_is_least x k = grind (arith, first_found, some_held, none_held)

@@ -1,11 +1,9 @@
 -- Below both frontiers, replicas that agree say the same; and a replica that holds more has marks that are no lower.
-use Rattle.std.proofs.Common.{ℕ, suc, ◌<◌, ◌≤◌, ◌≡◌, refl, sym, ap, ◌∙◌, subst, arith, inl, inr, Bool, true, false, List, [], ◌∷◌, ◌++◌, Option, Some, None, min}
-use Rattle.std.specs.Prelude.{◌≢◌, map, flat_map, fold, if◌then◌else◌}
+use Rattle.std.proofs.Common.{ℕ, suc, ◌<◌, ◌≤◌, ◌≡◌, refl, sym, ap, ◌∙◌, subst, arith, List, [], ◌∷◌, ◌++◌, Some, min}
+use Rattle.std.specs.Prelude.{◌≢◌, map, flat_map, fold}
 use Rattle.std.proofs.lemmas.Bool.{ne_eqb}
-use Rattle.pfair_lattice.specs.declared.flat.Flat.{Flat}
 use Rattle.pfair_lattice.specs.declared.flat.Flat.TheVariants.{One, Torn}
 use Rattle.pfair_lattice.specs.Held.{Held, held_join}
-use Rattle.pfair_entry.specs.declared.announcement.Announcement.{Announcement}
 use Rattle.pfair_entry.specs.Entry.{Logged, IsStamped}
 use Rattle.pfair_entry.specs.Same.{entry_eq}
 use Rattle.pfair_entry.specs.Exact.{entry_exact}
@@ -19,25 +17,16 @@ use Rattle.pfair_replica.proofs.SoundEntries.{held_within, beginnings_grow}
 
 -- two entries that don't tear each other are one
 untorn_same : (e f : Logged) → held_join entry_eq (Some (One e)) (Some (One f)) ≢ Some Torn → e ≡ f
-untorn_same e f not_torn = by (entry_eq e f) refl
-  where
-    by : (b : Bool) → entry_eq e f ≡ b → e ≡ f
-    by true h = entry_exact.alike e f h
-    by false h = absurd (not_torn (ap (λ b. Some (if b then One e else Torn)) h))
+untorn_same e f not_torn = grind (arith, entry_exact)
 
 pub same_at : (x y : Replica) → Agree x y → (k n : ℕ) (e f : Logged) → x.at k n ≡ Some (One e) → y.at k n ≡ Some (One f) → e ≡ f
-same_at x y agree k n e f p q =
-    untorn_same e f (λ torn. agree k n (ap (λ c. held_join entry_eq c (y.at k n)) p ∙ ap (held_join entry_eq (Some (One e))) q ∙ torn))
+same_at x y agree k n e f p q = grind (arith, untorn_same)
 
 -- ---- runs
 
 -- an entry with a later stamp says nothing at t
 said_late : (t k n : ℕ) (e : Logged) → IsStamped e → t < e.floor → said_by t k n e.said ≡ []
-said_late t k n e stamped late = by e.said stamped
-  where
-    by : (s : Option (ℕ × Announcement)) → IsStamped (record { floor = e.floor; said = s }) → said_by t k n s ≡ []
-    by None h = refl
-    by (Some s) h = ap (λ b. if b then (k, n, s.1) ∷ [] else []) (ne_eqb s.0 t (λ e. omega arith))
+said_late t k n e stamped late = grind (arith, ne_eqb)
 
 -- each entry of a row is stamped at or after its floor
 abbrev Stamped : (ℕ → Held Logged) → Type 0
@@ -69,10 +58,7 @@ same_run r q sr sq alike t k (e ∷ es) (f ∷ fs) n floor re rf h g =
 -- the least of some numbers is at most each
 below_least : (t a : ℕ) (xs : List ℕ) → t < fold min a xs → (t < a) × ((x : ℕ) → Among xs x → t < x)
 below_least t a [] h = (h, λ x i. absurd i)
-below_least t a (x ∷ xs) h =
-    let more = below_least t (min a x) xs h in
-    let first = more.0 in
-    (omega (arith, first), λ y i. elim i [ inl e ↦ omega (arith, first, e) | inr j ↦ more.1 y j ])
+below_least t a (x ∷ xs) h = grind (arith, below_least t (min a x) xs h)
 
 least_le : {A : Type 0} (f g : A → ℕ) (a b : ℕ) (xs : List A) → a ≤ b → ((x : A) → f x ≤ g x) → fold min a (map f xs) ≤ fold min b (map g xs)
 least_le f g a b [] le h = le
@@ -97,16 +83,8 @@ mark_le x y ry below untorn k =
     (longer_rises (y.at k) (sound_beginning x k) grown.0 1 0 (subst (IsRun (y.at k) 1 0) (sym grown.1) (run_is_run (y.at k) y.capacity 1 0)))
 
 pub frontier_le : (x y : Replica) → IsReplica y → x.processors ≡ y.processors → Below x y → Untorn y → frontier x ≤ frontier y
-frontier_le x y ry same below untorn =
-    subst (λ m. frontier x ≤ fold min (mark y 0) (map (mark y) (numbers_below m))) same
-    (least_le (mark x) (mark y) (mark x 0) (mark y 0) (numbers_below x.processors) (mark_le x y ry below untorn 0) (mark_le x y ry below untorn))
+frontier_le x y ry same below untorn = grind (arith, least_le, mark_le)
 
 -- where one is below the other, and that has nothing torn, they agree
 pub below_agree : (x y : Replica) → Below x y → Untorn y → Agree x y
-below_agree x y below untorn k n = by (x.at k n) (λ c e. held_within x y below untorn k n c e)
-  where
-    by : (c : Held Logged) → ((d : Flat Logged) → c ≡ Some d → y.at k n ≡ Some d) → held_join entry_eq c (y.at k n) ≢ Some Torn
-    by None h torn = untorn k n torn
-    by (Some Torn) h torn = untorn k n (h Torn refl)
-    by (Some (One e)) h torn =
-        (let own : Some (One e) ≡ Some Torn = ap (λ b. Some (if b then One e else Torn)) (sym (entry_exact.itself e)) ∙ ap (held_join entry_eq (Some (One e))) (sym (h (One e) refl)) ∙ torn in absurd (cc))
+below_agree x y below untorn k n = grind (arith, held_within, entry_exact)

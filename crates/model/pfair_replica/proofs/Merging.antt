@@ -89,18 +89,10 @@ none_between None b c p q (inr (inr h)) = absurd h
 none_between (Some v) b c p q (inr (inr h)) = absurd (cc)
 
 pub full_joined : (m : ℕ) (a b c : List (ℕ × Row)) → IsFull m a → IsFull m b → MapJoins nat_cmp (MapJoins nat_cmp FlatJoins) a b c → IsFull m c
-full_joined m a b c f g j = record {
-  ordered = j.ordered;
-  there = λ k h. there_joined (get nat_cmp a k) (get nat_cmp b k) (get nat_cmp c k) (f.there k h) (j.each k);
-  beyond = λ k h. none_joined (get nat_cmp a k) (get nat_cmp b k) (get nat_cmp c k) (f.beyond k h) (g.beyond k h) (j.each k);
-}
+full_joined m a b c f g j = grind (arith, there_joined, none_joined)
 
 pub full_between : (m : ℕ) (a b c : List (ℕ × Row)) → IsFull m a → IsFull m b → PartlyJoins a b c → IsFull m c
-full_between m a b c f g j = record {
-  ordered = j.ordered;
-  there = λ k h. there_between (get nat_cmp a k) (get nat_cmp b k) (get nat_cmp c k) (f.there k h) (j.each k);
-  beyond = λ k h. none_between (get nat_cmp a k) (get nat_cmp b k) (get nat_cmp c k) (f.beyond k h) (g.beyond k h) (j.each k);
-}
+full_between m a b c f g j = grind (arith, there_between, none_between)
 
 -- ---- keys stay in range, and entries stamped
 
@@ -116,11 +108,7 @@ some_side (Some x) b c e = inl (x, refl)
 pub one_side : (a b : Held Logged) (e : Logged) → held_join entry_eq a b ≡ Some (One e) → (a ≡ Some (One e)) ⊎ (b ≡ Some (One e))
 one_side None b e p = inr p
 one_side (Some x) None e p = inl p
-one_side (Some (One x)) (Some (One y)) e p = by (entry_eq x y) p
-  where
-    by : (t : Bool) → Some (cond t (One x) Torn) ≡ Some (One e) → (Some (One x) ≡ Some (One e)) ⊎ (Some (One y) ≡ Some (One e))
-    by true q = inl q
-    by false q = absurd (cc)
+one_side (Some (One x)) (Some (One y)) e p = grind arith
 one_side (Some (One x)) (Some Torn) e p = absurd (cc)
 one_side (Some Torn) (Some y) e p = absurd (cc)
 
@@ -193,9 +181,7 @@ partly_merged m c m' c' x y z h = record {
 -- ---- the rows of a replica after a merge
 
 same_shape : (m c m' c' : ℕ) (b : List (ℕ × Row)) → m ≡ m' → c ≡ c' → IsHeldRows (record { processors = m'; capacity = c'; rows = b }) → IsHeldRows (record { processors = m; capacity = c; rows = b })
-same_shape m c m' c' b em ec h =
-    subst (λ (q : ℕ). IsHeldRows (record { processors = q; capacity = c; rows = b })) (sym em)
-    (subst (λ (q : ℕ). IsHeldRows (record { processors = m'; capacity = q; rows = b })) (sym ec) h)
+same_shape m c m' c' b em ec h = grind arith
 
 module _ (m c m' c' : ℕ) (a b z : List (ℕ × Row)) (em : m ≡ m') (ec : c ≡ c') (h : IsHeldRows (record { processors = m; capacity = c; rows = a })) (h' : IsHeldRows (record { processors = m'; capacity = c'; rows = b })) where
   pub between_rows : ((k n : ℕ) → Between (held_in a k n) (held_in b k n) (held_in z k n)) → IsReplica (record { processors = m; capacity = c; at = held_in z })

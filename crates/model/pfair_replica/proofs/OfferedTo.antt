@@ -1,10 +1,9 @@
 -- What is held after an entry or a replica was offered.
-use Rattle.std.proofs.Common.{ℕ, ◌≡◌, refl, ap, subst, sym, inr, Bool, true, false, cond}
+use Rattle.std.proofs.Common.{ℕ, ◌≡◌, refl, ap, subst, sym, inr, Bool, true, false, cond, arith}
 use Rattle.std.specs.Prelude.{◌&&◌, nat_lt, nat_le, ◌==◌}
 use Rattle.std.proofs.lemmas.Bool.{eq-eqb, eqb-true, ltb-true, leb-true, and_from, and_parts}
 use Rattle.pfair_lattice.specs.HeldLaws.{join_first, below_itself}
 use Rattle.pfair_entry.specs.Entry.{Logged, IsEntry}
-use Rattle.pfair_entry.specs.Same.{entry_eq}
 use Rattle.pfair_entry.specs.Exact.{entry_exact}
 use Rattle.pfair_replica.specs.Replica.{Replica, IsReplica, Below, contents_join, only, join, with_entry}
 use Rattle.pfair_replica.specs.Offered.{has_key, has_shape, taken, absorbed}
@@ -47,11 +46,4 @@ absorbed_replica x y r s = by (has_shape x y) refl
     by false p = r
 
 pub offered_stays : OfferedStays
-offered_stays = record {
-  taken_above = λ x k n e. above x (with_entry x k n e) (λ k' n'. join_first entry_eq entry_exact (x.at k' n') (only k n e k' n')) (has_key x k n);
-  taken_shape = λ x k n e. shape x (with_entry x k n e) refl refl (has_key x k n);
-  taken_replica = taken_replica;
-  absorbed_above = λ x y. above x (join x y) (λ k n. join_first entry_eq entry_exact (x.at k n) (y.at k n)) (has_shape x y);
-  absorbed_shape = λ x y. shape x (join x y) refl refl (has_shape x y);
-  absorbed_replica = absorbed_replica;
-}
+offered_stays = grind (arith, above, join_first, entry_exact, shape, taken_replica, absorbed_replica)

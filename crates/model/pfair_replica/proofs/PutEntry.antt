@@ -1,12 +1,11 @@
 -- Rows of entries, one of them changed.
-use Rattle.std.proofs.Common.{◌≡◌, refl, sym, ◌∙◌, ap, subst, ⊎_elim, Bool, true, false, cond}
+use Rattle.std.proofs.Common.{◌≡◌, refl, sym, ◌∙◌, ap, subst, ⊎_elim, Bool, true, false, cond, arith}
 use Rattle.std.specs.Prelude.{◌≢◌, ◌==◌, ℕ, Option, None, Some, List, [], ◌∷◌, IsSome, IsSomeAnd, Result, Ok, Err, OnErr, if◌then◌else◌}
-use Rattle.std.specs.List.Sorted.{IsStrictlySortedBy}
-use Rattle.std.specs.Ordering.{nat_cmp, eq_by_cmp, is_eq}
+use Rattle.std.specs.Ordering.{nat_cmp, eq_by_cmp}
 use Rattle.std.specs.Option.{option_and_then}
 use Rattle.std.specs.Map.{set_value}
 use Rattle.std.specs.BTreeMap.{is_at}
-use Rattle.std.specs.Cmp.{nat_cmp_total, Equal-is, eq_by_cmp_equiv, tied_itself}
+use Rattle.std.specs.Cmp.{nat_cmp_total, Equal-is, eq_by_cmp_equiv}
 use Rattle.std.proofs.lemmas.Bool.{cases_Bool, cases_eq, eq-eqb, ne_eqb}
 use Rattle.std.proofs.lemmas.Map.{lookup-set_value, keys-set_value}
 use Rattle.std.proofs.lemmas.Map.Steps.{set_value_same}
@@ -32,10 +31,7 @@ pub apart : (p q : ℕ) → q ≢ p → eq_by_cmp nat_cmp p q ≡ false
 apart p q ne = ⊎_elim (λ e. absurd (ne (sym (exact_unsigned p q ((Equal-is (nat_cmp p q)).0 e))))) (λ f. f) (cases_Bool (eq_by_cmp nat_cmp p q))
 
 pub same_test : (n m : ℕ) → eq_by_cmp nat_cmp n m ≡ (n == m)
-same_test n m = ⊎_elim
-    (λ e. subst (λ (k : ℕ). eq_by_cmp nat_cmp n k ≡ (n == k)) e (ap is_eq (tied_itself nat_cmp_total n) ∙ sym (eq-eqb n n refl)))
-    (λ ne. apart n m (λ e. ne (sym e)) ∙ sym (ne_eqb n m ne))
-    (cases_eq n m)
+same_test n m = grind (arith, eq-eqb, apart, ne_eqb)
 
 module _ {X : Type 0} where
   at_set : (es : List (ℕ × X)) (p q : ℕ) (w : X) → IsSome (get nat_cmp es p) → get nat_cmp (set_value (is_at (nat_cmp p)) es w) q ≡ cond (eq_by_cmp nat_cmp p q) (Some w) (get nat_cmp es q)
@@ -93,13 +89,4 @@ module _ (rows : List (ℕ × Row)) (p : ℕ) (row after : Row) (was : get nat_c
 -- rows that are all there stay so
 pub full_set : (m p : ℕ) (rows : List (ℕ × Row)) (row after : Row) → get nat_cmp rows p ≡ Some row → IsOrdered nat_cmp after → IsFull m rows → IsFull m (set_value (is_at (nat_cmp p)) rows after)
 full_set m p rows row after was s f =
-    let here : IsSome (get nat_cmp rows p) = subst IsSome (sym was) refl in
-    let at = λ (q : ℕ). at_set rows p q after here in
-    record {
-      ordered = subst (IsStrictlySortedBy nat_cmp) (sym (keys-set_value (is_at (nat_cmp p)) rows after)) f.ordered;
-      there = λ q h. subst (λ (r : Option Row). IsSomeAnd r (IsOrdered nat_cmp)) (sym (at q)) (either_there (eq_by_cmp nat_cmp p q) (get nat_cmp rows q) after s (f.there q h));
-      beyond = λ q h. ⊎_elim
-          (λ e. absurd (none-some row (sym (f.beyond q h) ∙ sym (ap (get nat_cmp rows) (exact_unsigned p q ((Equal-is (nat_cmp p q)).0 e))) ∙ was)))
-          (λ e. at q ∙ ap (λ b. cond b (Some after) (get nat_cmp rows q)) e ∙ f.beyond q h)
-          (cases_Bool (eq_by_cmp nat_cmp p q));
-    }
+    grind (arith, at_set, keys-set_value, there, either_there, none-some, exact_unsigned)

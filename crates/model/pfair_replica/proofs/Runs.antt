@@ -1,6 +1,5 @@
 -- The laws of the join; and runs: that a sound beginning is the longest one, and how runs go on.
-use Rattle.std.proofs.Common.{ℕ, zero, suc, ◌+◌, ◌-◌, ◌≤◌, ◌≡◌, refl, sym, ap, ◌∙◌, subst, arith, cond, List, [], ◌∷◌, ◌++◌, length, Option, Some, None}
-use Rattle.std.specs.Prelude.{nat_le}
+use Rattle.std.proofs.Common.{ℕ, zero, suc, ◌+◌, ◌-◌, ◌≤◌, ◌≡◌, refl, ap, ◌∙◌, arith, List, [], ◌∷◌, ◌++◌, length, Option, Some, None}
 use Rattle.std.proofs.lemmas.Bool.{leb-true, le-leb}
 use Rattle.std.proofs.lemmas.Option.{none-some, cond_some}
 use Rattle.pfair_lattice.specs.declared.flat.Flat.TheVariants.{One, Torn}
@@ -29,9 +28,7 @@ least_join = record {
 going : (c : Held Logged) (floor : ℕ) (e : Logged) → goes_on c floor ≡ Some e → (c ≡ Some (One e)) × (floor ≤ e.floor)
 going None floor e on = absurd (none-some e on)
 going (Some Torn) floor e on = absurd (none-some e on)
-going (Some (One d)) floor e on =
-    let is = cond_some (nat_le floor d.floor) d e on in
-    (ap (λ (v : Logged). Some (One v)) is.1, subst (λ (v : Logged). floor ≤ v.floor) is.1 (leb-true floor d.floor is.0))
+going (Some (One d)) floor e on = grind (arith, cond_some, leb-true)
 
 module _ (row : ℕ → Held Logged) where
   pub run_is_run : (left n floor : ℕ) → IsRun row n floor (run_from row left n floor)
@@ -63,14 +60,10 @@ module _ (row : ℕ → Held Logged) where
 
   -- a run that has room begins the longest one, which goes on from where it ends
   pub run_begins : (es : List Logged) (n floor left total m : ℕ) → IsRun row n floor es → total ≡ length es + left → m ≡ n + length es → es ++ run_from row left m (last_floor floor es) ≡ run_from row total n floor
-  run_begins [] n floor left total m run sum at =
-      let same : left ≡ total = omega arith in
-      let here : m ≡ n = omega arith in
-      λ i. run_from row (same i) (here i) floor
+  run_begins [] n floor left total m run sum at = grind arith
   run_begins (e ∷ es) n floor left zero m run sum at = absurd (omega arith)
   run_begins (e ∷ es) n floor left (suc total) m run sum at =
-      ap (λ xs. e ∷ xs) (run_begins es (suc n) e.floor left total m run.2 (omega arith) (omega arith))
-      ∙ sym (ap (λ c. run_on (goes_on c floor) (run_from row total (suc n))) run.0 ∙ ap (λ b. run_on (cond b (Some e) None) (run_from row total (suc n))) (le-leb floor e.floor run.1))
+      grind (arith, le-leb, run_begins es (suc n) e.floor left total m run.2 (omega arith) (omega arith))
 
   -- it has room where the row holds no later number
   run_short : (last : ℕ) → ((n : ℕ) (e : Logged) → row n ≡ Some (One e) → n ≤ last) → (es : List Logged) (n floor : ℕ) → n ≤ suc last → IsRun row n floor es → n + length es ≤ suc last

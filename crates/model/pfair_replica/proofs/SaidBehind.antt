@@ -29,9 +29,7 @@ module _ (x : Replica) (k place : ℕ) where
 
   -- behind the last entry nothing is left
   pub all_noted : (t : ℕ) (came all : List Said) → length (sound_beginning x k) ≤ place → came ++ said_behind x t k place ≡ all → came ≡ all
-  all_noted t came all past so_far =
-      let none : said_behind x t k place ≡ [] = ap (said_in t k (place + 1)) (drop_all place (sound_beginning x k) past) in
-      sym (append-nil came) ∙ ap (λ xs. came ++ xs) (sym none) ∙ so_far
+  all_noted t came all past so_far = grind (arith, drop_all, append-nil)
 
 still_said : (k n from place : ℕ) (es : List Logged) (e : Logged) (s : ℕ × Announcement) → from ≤ place → slice_get es place ≡ Some e → e.said ≡ Some s → said_in s.0 k n (drop from es) ≢ []
 still_said k n zero place es e s le is says none = subst (λ (l : List Said). Among l (k, n + place, s.1)) none (said_to s.0 k n es place e s.1 is says)

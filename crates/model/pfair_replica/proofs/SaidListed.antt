@@ -1,6 +1,6 @@
 -- What the lists of what is said contain, and in which order the lists stand.
-use Rattle.std.proofs.Common.{ℕ, zero, suc, ◌+◌, ◌≡◌, refl, sym, ap, ◌∙◌, subst, arith, inl, inr, ⊎_elim, Bool, true, false, cond, List, [], ◌∷◌, ◌++◌, length, get_or, Some, None}
-use Rattle.std.specs.Prelude.{◌==◌, map, filter, flat_map, slice_get, Option, AllPairs, nat_lt}
+use Rattle.std.proofs.Common.{ℕ, zero, suc, ◌+◌, ◌≡◌, refl, sym, ap, ◌∙◌, subst, arith, inl, inr, ⊎_elim, Bool, List, [], ◌∷◌, ◌++◌, length, get_or, Some, None}
+use Rattle.std.specs.Prelude.{map, filter, flat_map, slice_get, Option, AllPairs}
 use Rattle.std.specs.List.{Contains}
 use Rattle.std.proofs.lemmas.Bool.{eqb-true, eq-eqb}
 use Rattle.std.proofs.lemmas.List.{map-append}
@@ -20,20 +20,10 @@ use Rattle.pfair_replica.proofs.Listed.{fallen_one}
 
 said_one : (t k n : ℕ) (o : Option (ℕ × Announcement)) (s : Said) → Among (said_by t k n o) s → (s ≡ (k, n, s.2)) × (o ≡ Some (t, s.2))
 said_one t k n None s h = absurd h
-said_one t k n (Some p) s h = by (p.0 == t) refl h
-  where
-    by : (b : Bool) → (p.0 == t) ≡ b → Among (cond b ((k, n, p.1) ∷ []) []) s
-        → (s ≡ (k, n, s.2)) × (Some p ≡ Some (t, s.2))
-    by true e (inl is) =
-        (let stamp : p.0 ≡ t = eqb-true p.0 t e in
-        let same : p.1 ≡ s.2 = sym (ap (λ (a : Said). a.2) is) in
-        (is ∙ (λ i. (k, n, same i)), λ i. Some (stamp i, same i)))
-    by true e (inr none) = absurd none
-    by false e none = absurd none
+said_one t k n (Some p) s h = grind (arith, eqb-true)
 
 said_here : (t k n : ℕ) (o : Option (ℕ × Announcement)) (a : Announcement) → o ≡ Some (t, a) → Among (said_by t k n o) (k, n, a)
-said_here t k n o a e = subst (λ (o : Option (ℕ × Announcement)). Among (said_by t k n o) (k, n, a)) (sym e)
-    (subst (λ b. Among {A = Said} (cond b ((k, n, a) ∷ []) []) (k, n, a)) (sym (eq-eqb t t refl)) (inl refl))
+said_here t k n o a e = grind (arith, eq-eqb)
 
 said_from : (t k n : ℕ) (es : List Logged) (s : Said) → Among (said_in t k n es) s → (s.0 ≡ k) × ((i : ℕ) × (e : Logged) × (s.1 ≡ n + i) × (slice_get es i ≡ Some e) × (e.said ≡ Some (t, s.2)))
 said_from t k n [] s h = absurd h
@@ -46,15 +36,8 @@ said_from t k n (e ∷ es) s h = ⊎_elim
 
 pub said_to : (t k n : ℕ) (es : List Logged) (i : ℕ) (e : Logged) (a : Announcement) → slice_get es i ≡ Some e → e.said ≡ Some (t, a) → Among (said_in t k n es) (k, n + i, a)
 said_to t k n [] i e a at says = absurd (cc)
-said_to t k n (d ∷ es) zero e a at says =
-    (let same : d ≡ e = cc in
-    among_left (said_by t k n d.said) (said_in t k (suc n) es) _
-    (subst (λ (m : ℕ). Among (said_by t k n d.said) (k, m, a)) (let here : n ≡ n + 0 = omega arith in here)
-    (said_here t k n d.said a (ap (λ (l : Logged). l.said) same ∙ says))))
-said_to t k n (d ∷ es) (suc i) e a at says =
-    among_right (said_by t k n d.said) (said_in t k (suc n) es) _
-    (subst (λ (m : ℕ). Among (said_in t k (suc n) es) (k, m, a)) (let next : suc n + i ≡ n + suc i = omega arith in next)
-    (said_to t k (suc n) es i e a at says))
+said_to t k n (d ∷ es) zero e a at says = grind (arith, among_left, said_here)
+said_to t k n (d ∷ es) (suc i) e a at says = grind (arith, among_right, said_to t k (suc n) es i e a at says)
 
 module _ (x : Replica) (t : ℕ) where
   members_from : (s : Said) → Contains (said x t) s → IsSaidAt x t s
@@ -86,10 +69,7 @@ module _ {A : Type 0} (key : A → EntryKey) where
 
   joined : (xs ys : List A) → InOrder xs → InOrder ys → ((a b : A) → Among xs a → Among ys b → ComesBefore (key a) (key b)) → InOrder (xs ++ ys)
   joined [] ys p q h = q
-  joined (x ∷ xs) ys p q h = (
-    λ b m. ⊎_elim (λ l. p.0 b l) (λ r. h x b (inl refl) r) (among_append xs ys b m),
-    joined xs ys p.1 q (λ a b m n. h a b (inr m) n),
-  )
+  joined (x ∷ xs) ys p q h = grind (arith, among_append, joined xs ys p.1 q (λ a b m n. h a b (inr m) n))
 
   pairs : (xs : List A) → InOrder xs → AllPairs (λ a b. ComesBefore (key a) (key b)) xs
   pairs [] p i j d earlier within = absurd (omega arith)
@@ -110,25 +90,7 @@ module _ {A : Type 0} (key : A → EntryKey) where
 
 said_order : (t k n : ℕ) (es : List Logged) → InOrder key_of (said_in t k n es)
 said_order t k n [] = tt
-said_order t k n (e ∷ es) = joined key_of (said_by t k n e.said) (said_in t k (suc n) es) (one e.said) (said_order t k (suc n) es)
-    (λ a b p q. (let first = said_one t k n e.said a p in
-    let second = said_from t k (suc n) es b q in
-    let at = second.1 in
-    let number = at.2 in
-    let here : a.1 ≡ n = ap (λ (s : Said). s.1) first.0 in
-    let row : a.0 ≡ k = ap (λ (s : Said). s.0) first.0 in
-    inr (row ∙ sym second.0, omega (arith, number, here))))
-  where
-    none_after : (s : Said) → AllAfter key_of s []
-    none_after s b h = absurd h
-
-    one : (o : Option (ℕ × Announcement)) → InOrder key_of (said_by t k n o)
-    one None = tt
-    one (Some p) = by (p.0 == t)
-      where
-        by : (b : Bool) → InOrder key_of (cond b ((k, n, p.1) ∷ []) [])
-        by true = (none_after (k, n, p.1), tt)
-        by false = tt
+said_order t k n (e ∷ es) = grind (arith, said_one, said_from, said_order t k (suc n) es)
 
 -- ---- the order of keys
 
@@ -144,15 +106,7 @@ numbers_rise k (suc m) = subst (InOrder (entry_key k)) (sym (map-append suc (num
 
 kept_order : (k : ℕ) (p : ℕ → Bool) (xs : List ℕ) → InOrder (entry_key k) xs → InOrder (λ e. e) (map (entry_key k) (filter p xs))
 kept_order k p [] h = tt
-kept_order k p (x ∷ xs) h = by (p x) (kept_order k p xs h.1)
-  where
-    by : (b : Bool) → InOrder (λ e. e) (map (entry_key k) (filter p xs)) → InOrder (λ e. e) (map (entry_key k) (cond b (x ∷ filter p xs) (filter p xs)))
-    by true rest = (
-      λ b among. (let from = among_map (entry_key k) (filter p xs) b among in
-          subst (λ (e : EntryKey). ComesBefore (entry_key k x) e) (sym from.2) (h.0 from.0 (among_filter p xs from.0 from.1).0)),
-      rest,
-    )
-    by false rest = rest
+kept_order k p (x ∷ xs) h = grind (arith, among_map, among_filter, kept_order k p xs h.1)
 
 torn_own : (x : Replica) (k : ℕ) (e : EntryKey) → Among (torn_in x k) e → e.0 ≡ k
 torn_own x k e h = ap (λ (e : EntryKey). e.0) (among_map (entry_key k) (filter (λ n. is_torn (x.at k n)) (numbers_to x.capacity)) e h).2
@@ -163,11 +117,7 @@ fallen_own x k e h = ap (λ (e : EntryKey). e.0) (fallen_one k (length (sound_be
 fallen_alone : (k n mark : ℕ) (c : Held Logged) → InOrder (λ e. e) (fallen_at k n mark c)
 fallen_alone k n mark None = tt
 fallen_alone k n mark (Some Torn) = tt
-fallen_alone k n mark (Some (One e)) = by (nat_lt e.floor mark)
-  where
-    by : (b : Bool) → InOrder (λ e. e) (cond b (entry_key k n ∷ []) [])
-    by true = ((λ b h. absurd h), tt)
-    by false = tt
+fallen_alone k n mark (Some (One e)) = grind arith
 
 pub is_said : IsSaid
 is_said = record {

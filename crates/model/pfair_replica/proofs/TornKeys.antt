@@ -1,5 +1,5 @@
 -- The torn keys, the first of them, and the test that there is one.
-use Rattle.std.proofs.Common.{ℕ, zero, suc, ◌+◌, ◌<◌, ◌≤◌, ◌≡◌, refl, sym, ap, ◌∙◌, subst, arith, inl, inr, Bool, true, false, cond, List, [], ◌∷◌, ◌++◌, Some, None}
+use Rattle.std.proofs.Common.{ℕ, zero, suc, ◌+◌, ◌<◌, ◌≤◌, ◌≡◌, refl, sym, ap, ◌∙◌, subst, arith, inl, inr, Bool, true, false, List, [], ◌∷◌, ◌++◌, Some, None}
 use Rattle.std.specs.Prelude.{◌≢◌, ◌||◌, ◌↔◌, map, filter, find, flat_map, slice_get, is_some}
 use Rattle.std.specs.List.{list_any}
 use Rattle.std.specs.Option.{option_map}
@@ -16,11 +16,7 @@ use Rattle.pfair_replica.specs.Replica.{Replica, IsReplica, Untorn, is_torn, has
 
 first_filter : (p : ℕ → Bool) (xs : List ℕ) → slice_get (filter p xs) 0 ≡ find p xs
 first_filter p [] = refl
-first_filter p (x ∷ xs) = by (p x) (first_filter p xs)
-  where
-    by : (b : Bool) → slice_get (filter p xs) 0 ≡ find p xs → slice_get (cond b (x ∷ filter p xs) (filter p xs)) 0 ≡ cond b (Some x) (find p xs)
-    by true more = refl
-    by false more = more
+first_filter p (x ∷ xs) = grind (arith, first_filter p xs)
 
 first_map : {A B : Type 0} (f : A → B) (xs : List A) → slice_get (map f xs) 0 ≡ option_map f (slice_get xs 0)
 first_map f [] = refl
@@ -28,8 +24,7 @@ first_map f (x ∷ xs) = refl
 
 -- the first torn key of one processor
 pub torn_first : (x : Replica) (k : ℕ) → slice_get (torn_in x k) 0 ≡ option_map (entry_key k) (find (λ n. is_torn (x.at k n)) (numbers_to x.capacity))
-torn_first x k =
-    first_map (entry_key k) (filter (λ n. is_torn (x.at k n)) (numbers_to x.capacity)) ∙ ap (option_map (entry_key k)) (first_filter (λ n. is_torn (x.at k n)) (numbers_to x.capacity))
+torn_first x k = grind (arith, first_map, first_filter)
 
 module _ {A : Type 0} (f : ℕ → List A) where
   pub flat_more : (p : ℕ) → flat_map f (numbers_below (suc p)) ≡ flat_map f (numbers_below p) ++ f p
@@ -62,8 +57,7 @@ module _ {A : Type 0} (f : ℕ → List A) where
 
   -- one more number that gives nothing
   pub flat_none : (p : ℕ) → flat_map f (numbers_below p) ≡ [] → slice_get (f p) 0 ≡ None → flat_map f (numbers_below (p + 1)) ≡ []
-  flat_none p none here =
-      flat_next p ∙ ap (λ xs. xs ++ f p) none ∙ empty (f p) here
+  flat_none p none here = grind (arith, flat_next, empty)
 
   kept : (xs ys : List A) (a : A) → slice_get xs 0 ≡ Some a → slice_get (xs ++ ys) 0 ≡ Some a
   kept [] ys a e = absurd (cc)
@@ -98,11 +92,7 @@ more_flat f (x ∷ xs) = more_append (f x) (flat_map f xs) ∙ ap (λ b. is_more
 
 more_filter : {A : Type 0} (g : ℕ → A) (p : ℕ → Bool) (xs : List ℕ) → is_more (map g (filter p (map suc xs))) ≡ list_any (λ n. p (suc n)) xs
 more_filter g p [] = refl
-more_filter g p (x ∷ xs) = by (p (suc x)) (more_filter g p xs)
-  where
-    by : (b : Bool) → is_more (map g (filter p (map suc xs))) ≡ list_any (λ n. p (suc n)) xs → is_more (map g (cond b (suc x ∷ filter p (map suc xs)) (filter p (map suc xs)))) ≡ (b || list_any (λ n. p (suc n)) xs)
-    by true more = refl
-    by false more = more
+more_filter g p (x ∷ xs) = grind (arith, more_filter g p xs)
 
 torn_more : (x : Replica) → is_more (torn_keys x) ≡ has_torn x
 torn_more x = more_flat (torn_in x) (numbers_below x.processors) ∙ (λ i. list_any (λ k. more_filter (entry_key k) (λ n. is_torn (x.at k n)) (numbers_below x.capacity) i) (numbers_below x.processors))
@@ -112,11 +102,7 @@ pub torn_test : (x : Replica) → is_some (slice_get (torn_keys x) 0) ≡ has_to
 torn_test x = some_more (torn_keys x) ∙ torn_more x
 
 pub no_key_no_torn : (x : Replica) → torn_keys x ≡ [] ↔ (has_torn x ≡ false)
-no_key_no_torn x = (λ e. sym (torn_more x) ∙ ap is_more e, λ e. none (torn_keys x) (torn_more x ∙ e))
-  where
-    none : {A : Type 0} (xs : List A) → is_more xs ≡ false → xs ≡ []
-    none [] e = refl
-    none (y ∷ ys) e = absurd (true≢false e)
+no_key_no_torn x = grind (arith, torn_more)
 
 -- ---- the test, and what is held
 
@@ -154,7 +140,4 @@ torn_listed x k b low torn none =
     true≢false (sym (ap is_torn at) ∙ here)
 
 pub test_by_untorn : (x : Replica) → Untorn x → has_torn x ≡ false
-test_by_untorn x untorn =
-    none_any (λ k. list_any (λ n. is_torn (x.at k (suc n))) (numbers_below x.capacity))
-    (λ k. none_any (λ n. is_torn (x.at k (suc n))) (λ n. not_torn (x.at k (suc n)) (untorn k (suc n))) (numbers_below x.capacity))
-    (numbers_below x.processors)
+test_by_untorn x untorn = grind (arith, none_any, not_torn)

@@ -8,23 +8,27 @@ ghost use Rattle.pfair_replica.specs.SaidAt.{IsSaid};
 
 /// The order of replicas is an order, and a merge is the least that holds both; so it is
 /// commutative, associative and idempotent.
+#[tactic(auto, using(crate::proofs::Runs::least_join))]
 pub fn least_join()
     ensures { IsLeastJoin }
 {}
 
 /// Replicas of one shape that hold the same at every key are one.
+#[tactic(auto, using(crate::proofs::SameRows::known_by_held))]
 pub fn known_by_held()
     ensures { IsKnownByHeld }
 {}
 
 /// What is held at each key after an entry was joined in, which changes nothing where the entry was
 /// held already, and after a merge.
+#[tactic(auto, using(crate::specs::HeldAfter::held_after))]
 pub fn held_after()
     ensures { IsHeldAfter }
 {}
 
 /// What is offered, refused or not, takes nothing away, changes no shape and leaves a replica a
 /// replica.
+#[tactic(auto, using(crate::proofs::OfferedTo::offered_stays))]
 pub fn offered_stays()
     ensures { OfferedStays }
 {}
@@ -35,6 +39,7 @@ pub fn agreement()
 {}
 
 /// A replica that is below one with nothing torn agrees with it.
+#[tactic(auto, using(crate::proofs::Marks::below_agree))]
 pub fn below_agrees()
     ensures { BelowAgrees }
 {}
@@ -45,38 +50,45 @@ pub fn longest_run()
 {}
 
 /// What a sound beginning has at a place is held at the number of that place.
+#[tactic(auto, using(crate::proofs::SoundEntries::read_by_number))]
 pub fn read_by_number()
     ensures { IsReadByNumber }
 {}
 
 /// A replica that holds more, with nothing torn, has sound beginnings that go on those of the
 /// other.
+#[tactic(auto, using(crate::proofs::SoundEntries::beginnings_grow))]
 pub fn beginnings_grow()
     ensures { BeginningsGrow }
 {}
 
 /// The frontier is no greater than any mark, and it is one of them.
+#[tactic(auto, using(crate::proofs::LeastMark::least_mark))]
 pub fn least_mark()
     ensures { IsLeastMark }
 {}
 
 /// A replica that holds more, with nothing torn, has no lower mark and no lower frontier.
+#[tactic(auto, using(crate::proofs::Marks::mark_le, crate::proofs::Marks::frontier_le))]
 pub fn marks_never_fall()
     ensures { MarksNeverFall }
 {}
 
 /// Replicas that agree say the same at every slot below both frontiers.
+#[tactic(auto, using(crate::proofs::Marks::same_said))]
 pub fn say_the_same()
     ensures { SayTheSame }
 {}
 
 /// No key is listed as torn exactly where nothing is torn.
+#[tactic(auto, using(crate::proofs::TornKeys::no_key_no_torn, crate::proofs::TornKeys::untorn_by_test, crate::proofs::TornKeys::test_by_untorn))]
 pub fn torn_test()
     ensures { IsTornTest }
 {}
 
 /// The torn keys are those of which the content is torn, and the fallen ones those of an entry
 /// right after a sound beginning with a floor below the mark.
+#[tactic(auto, using(crate::proofs::Listed::listed))]
 pub fn listed()
     ensures { IsListed }
 {}
@@ -84,6 +96,7 @@ pub fn listed()
 /// What is said at a slot is what the entries of sound beginnings announce with that stamp. It
 /// stands in order of processors, and of numbers for each processor, and so do torn and fallen
 /// keys.
+#[tactic(auto, using(crate::proofs::SaidListed::is_said))]
 pub fn said_in_order()
     ensures { IsSaid }
 {}

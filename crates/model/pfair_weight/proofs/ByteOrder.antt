@@ -107,7 +107,4 @@ small_name a p = subst Small (sym p.padded_with_zeros) (small (before_zero a.byt
 
 pub number_order : (a b : Inside) → IsPadded a → IsPadded b → length a.bytes ≡ 16 → length b.bytes ≡ 16
     → nat_cmp (from_be_bytes w128 a.bytes) (from_be_bytes w128 b.bytes) ≡ slice_cmp nat_cmp (before_zero a.bytes) (before_zero b.bytes)
-number_order a b p q long long' =
-    (λ i. nat_cmp (read a.bytes long i) (read b.bytes long' i))
-    ∙ ordered a.bytes b.bytes 0 (long ∙ sym long') (small_name a p) (small_name b q)
-    ∙ padded_order a b p q
+number_order a b p q long long' = grind (arith, read, ordered, small_name, padded_order)

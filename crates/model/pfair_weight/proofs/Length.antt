@@ -1,5 +1,5 @@
 -- The length of a name, by the number that its bytes spell, the first of them the lowest, with the zeros after it.
-use Rattle.std.proofs.Common.{ℕ, zero, suc, ◌≡◌, ◌+◌, ◌-◌, ◌*◌, ◌/◌, ◌^◌, ◌<◌, ◌≤◌, List, [], ◌∷◌, ◌++◌, length, take, refl, sym, ap, ◌∙◌, ⊎_elim, arith}
+use Rattle.std.proofs.Common.{ℕ, zero, suc, ◌≡◌, ◌+◌, ◌-◌, ◌*◌, ◌/◌, ◌^◌, ◌<◌, ◌≤◌, List, [], ◌∷◌, ◌++◌, length, take, refl, ap, ◌∙◌, ⊎_elim, arith}
 use Rattle.std.specs.Prelude.{replicate, slice_index}
 use Rattle.std.specs.Int.{w128, byte_worth, from_le_bytes, leading_zeros, sum_through}
 use Rattle.std.proofs.lemmas.Bool.{cases_lt}
@@ -31,10 +31,7 @@ raised byte (suc i) =
 
 all_raised : (bytes : List ℕ) (k : ℕ) → sum_through (λ i. byte_worth (suc i) (slice_index bytes i)) k ≡ 256 * sum_through (λ i. byte_worth i (slice_index bytes i)) k
 all_raised bytes zero = raised (slice_index bytes 0) 0
-all_raised bytes (suc k) =
-    let before = all_raised bytes k in
-    let last = raised (slice_index bytes (suc k)) (suc k) in
-    omega (arith, before, last)
+all_raised bytes (suc k) = grind (arith, raised, all_raised bytes k)
 
 read_as : (bytes : List ℕ) (k : ℕ) → length bytes ≡ suc k → sum_through (λ i. byte_worth i (slice_index bytes i)) k ≡ spelled bytes
 read_as [] k fits = absurd (omega (arith, fits))
@@ -60,17 +57,12 @@ zeros_spell (suc m) = let before = zeros_spell m in omega (arith, before)
 -- with as many zeros as one likes after the bytes, it is below 256 to their number
 above : (bytes : List ℕ) (m : ℕ) → AreBytes bytes → spelled (bytes ++ replicate m 0) < powers (length bytes)
 above [] m h = omega (arith, zeros_spell m)
-above (byte ∷ bytes) m h =
-    let rest = above bytes m h.2 in
-    let small = h.1 in
-    omega (arith, rest, small, next_power (length bytes))
+above (byte ∷ bytes) m h = grind (arith, next_power, above bytes m h.2)
 
 -- and not below 256 to one less
 below : (byte : ℕ) (bytes : List ℕ) (m : ℕ) → AreBytes (byte ∷ bytes) → powers (length bytes) ≤ spelled ((byte ∷ bytes) ++ replicate m 0)
 below byte [] m h = let some = h.0 in omega (arith, some)
-below byte (next ∷ bytes) m h =
-    let rest = below next bytes m h.2 in
-    omega (arith, rest, next_power (length bytes))
+below byte (next ∷ bytes) m h = grind (arith, next_power, below next bytes m h.2)
 
 -- ---- the length
 
@@ -101,10 +93,7 @@ length_by_zeros (byte ∷ bytes) m named long =
     ∙ zeros_before (spelled ((byte ∷ bytes) ++ replicate m 0)) (length bytes) (omega (arith, few)) (fits (suc (length bytes)) _ (omega (arith, few)) (omega (arith, to))) (below byte bytes m are) (omega (arith, to))
 
 pub name_length : (a : Inside) → IsPadded a → length a.bytes ≡ 16 → 16 - leading_zeros w128 (from_le_bytes w128 a.bytes) / 8 ≡ length (before_zero a.bytes)
-name_length a p long =
-    let same = p.padded_with_zeros in
-    (λ i. 16 - leading_zeros w128 (from_le_bytes w128 (same i)) / 8)
-    ∙ length_by_zeros (before_zero a.bytes) (16 - length (before_zero a.bytes)) p.named (ap length (sym same) ∙ long)
+name_length a p long = grind (arith, length_by_zeros)
 
 -- ---- the bytes of a name
 

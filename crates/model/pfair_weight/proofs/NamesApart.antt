@@ -19,11 +19,7 @@ module _ {A : Type 0} (name : A → NameValue) where
 
   others_filter : (P : NameValue → Type 0) (p : A → Bool) (xs : List A) → AllByRecursion P (map name xs) → AllByRecursion P (map name (filter p xs))
   others_filter P p [] h = tt
-  others_filter P p (x ∷ xs) h =
-      elim (p x) as (λ b. AllByRecursion P (map name (cond b (x ∷ filter p xs) (filter p xs)))) [
-        | true ↦ (h.0, others_filter P p xs h.1)
-        | false ↦ others_filter P p xs h.1
-      ]
+  others_filter P p (x ∷ xs) h = grind (arith, others_filter P p xs h.1)
 
   pub apart_nil : NamesApart name []
   unfolding IsDistinct
@@ -55,9 +51,7 @@ module _ {A : Type 0} (name : A → NameValue) where
   pub apart_push : (xs : List A) (y : A) → AllByRecursion (λ x. name_eq (name x) (name y) ≡ false) xs → NamesApart name xs → NamesApart name (xs ++ y ∷ [])
   unfolding IsDistinct
   apart_push [] y h a = (tt, tt)
-  apart_push (x ∷ xs) y h a =
-      let Other : NameValue → Type 0 = λ n. name_eq (name x) n ≡ false in
-      (subst (AllByRecursion Other) (sym (map_push name xs y)) (all_by_recursion_push Other (map name xs) (name y) a.0 h.0), apart_push xs y h.1 a.1)
+  apart_push (x ∷ xs) y h a = grind (arith, map_push, all_by_recursion_push, apart_push xs y h.1 a.1)
 
   pub pairs_from_apart : (xs : List A) → NamesApart name xs → AllPairs (λ x y. name x ≢ name y) xs
   pairs_from_apart xs a i j d earlier within same =

@@ -1,9 +1,9 @@
 -- Names, and the bytes that store them.
-use Rattle.std.proofs.Common.{ℕ, zero, suc, ◌≡◌, ◌+◌, ◌-◌, ◌<◌, ◌≤◌, ◌==◌, true, false, cond, List, [], ◌∷◌, ◌++◌, length, get_or, drop, refl, sym, ap, ◌∙◌, subst, arith}
+use Rattle.std.proofs.Common.{ℕ, zero, suc, ◌≡◌, ◌+◌, ◌-◌, ◌<◌, ◌≤◌, ◌==◌, true, false, List, [], ◌∷◌, ◌++◌, length, get_or, drop, refl, sym, ap, ◌∙◌, subst, arith}
 use Rattle.std.specs.Prelude.{replicate, slice_index}
 use Rattle.std.specs.Cmp.Lexicographic.{slice_cmp}
 use Rattle.std.specs.Ordering.{nat_cmp, ordering_then}
-use Rattle.std.specs.declared.cmp.Ordering.TheVariants.{Less, Equal, Greater}
+use Rattle.std.specs.declared.cmp.Ordering.TheVariants.{Equal}
 use Rattle.std.proofs.lemmas.Bool.{ne_eqb}
 use Rattle.std.proofs.lemmas.Bool.Decides.{nat_tests}
 use Rattle.std.proofs.lemmas.Cmp.{nat_list_cmp_total, tied_itself}
@@ -37,11 +37,7 @@ name_bytes name h = bytes_from name 0 (λ place within. subst (λ (at : ℕ). ma
 
 -- bytes that were looked at one by one
 pub is_name : (bytes : List ℕ) (place : ℕ) → (length bytes == 0) ≡ false → length bytes ≤ 16 → ((k : ℕ) → k < place → may_stand k (get_or bytes k 0) ≡ true) → length bytes ≤ place → IsTaskName bytes
-is_name bytes place some short each all = record {
-  not_empty = grind (arith, nat_tests);
-  not_too_long = short;
-  each_may_stand = λ k within. each k (omega (arith, within, all));
-}
+is_name bytes place some short each all = grind (arith, nat_tests)
 
 -- ---- the name in the bytes
 
@@ -51,8 +47,7 @@ zeros_alone (suc n) = refl
 
 read_back : (name : List ℕ) (n : ℕ) → AreBytes name → before_zero (name ++ replicate n 0) ≡ name
 read_back [] n h = zeros_alone n
-read_back (byte ∷ name) n h =
-    ap (λ t. cond t [] (byte ∷ before_zero (name ++ replicate n 0))) (ne_eqb byte 0 (λ e. (let some = h.0 in omega (arith, e, some)))) ∙ ap (λ l. byte ∷ l) (read_back name n h.2)
+read_back (byte ∷ name) n h = grind (arith, ne_eqb, read_back name n h.2)
 
 module _ (name after : List ℕ) (named : IsTaskName name) (same : after ≡ name) where
   stored : after ++ drop (length name) (replicate 16 0) ≡ with_zeros name
@@ -69,18 +64,10 @@ module _ (name after : List ℕ) (named : IsTaskName name) (same : after ≡ nam
 ordered : (a b : List ℕ) (m n : ℕ) → AreBytes a → AreBytes b → length a + m ≡ length b + n → slice_cmp nat_cmp (a ++ replicate m 0) (b ++ replicate n 0) ≡ slice_cmp nat_cmp a b
 ordered [] [] m n h k fits = subst (λ (j : ℕ). slice_cmp nat_cmp (replicate m 0) (replicate j 0) ≡ Equal) (let same : m ≡ n = omega arith in same) (tied_itself nat_list_cmp_total (replicate m 0))
 ordered [] (y ∷ b) zero n h k fits = absurd (omega arith)
-ordered [] (y ∷ b) (suc m) n h k fits =
-    let less : nat_cmp 0 y ≡ Less = (let some = k.0 in grind (arith, nat_tests, some)) in
-    rw less refl
+ordered [] (y ∷ b) (suc m) n h k fits = grind (arith, nat_tests)
 ordered (x ∷ a) [] m zero h k fits = absurd (omega arith)
-ordered (x ∷ a) [] m (suc n) h k fits =
-    let greater : nat_cmp x 0 ≡ Greater = (let some = h.0 in grind (arith, nat_tests, some)) in
-    rw greater refl
+ordered (x ∷ a) [] m (suc n) h k fits = grind (arith, nat_tests)
 ordered (x ∷ a) (y ∷ b) m n h k fits = ap (ordering_then (nat_cmp x y)) (ordered a b m n h.2 k.2 (omega arith))
 
 pub padded_order : (a b : Inside) → IsPadded a → IsPadded b → slice_cmp nat_cmp a.bytes b.bytes ≡ slice_cmp nat_cmp (before_zero a.bytes) (before_zero b.bytes)
-padded_order a b p q =
-    let short = p.named.not_too_long in
-    let short' = q.named.not_too_long in
-    (λ i. slice_cmp nat_cmp (p.padded_with_zeros i) (q.padded_with_zeros i))
-    ∙ ordered (before_zero a.bytes) (before_zero b.bytes) (16 - length (before_zero a.bytes)) (16 - length (before_zero b.bytes)) (name_bytes _ p.named) (name_bytes _ q.named) (omega (arith, short, short'))
+padded_order a b p q = grind (arith, ordered, name_bytes)

@@ -1,5 +1,5 @@
 -- A stepper's next subtask.
-use Rattle.std.proofs.Common.{◌≡◌, ℕ, ◌+◌, ◌-◌, ◌*◌, ◌/◌, ◌<◌, ◌≤◌, arith, ap, refl, ◌∙◌}
+use Rattle.std.proofs.Common.{◌≡◌, ℕ, ◌+◌, ◌-◌, ◌*◌, ◌/◌, ◌<◌, ◌≤◌, arith, refl}
 use Rattle.std.specs.Int.{div_ceil}
 use Rattle.pfair_weight.specs.Share.{Share}
 use Rattle.pfair_weight.specs.Ratio.{Ratio}
@@ -19,25 +19,11 @@ group_kept w from to (Heavy x) n h = absurd (n x refl)
 -- a cascade goes on by as many slots as the window's end moves
 pub group_moves : (w : Share) (from to : ℕ) (group : Group) (x y : Close) → from ≤ to → group ≡ Heavy x →
     y ≡ record x { close = x.close + (to - from) } → IsGroupOf w from group → IsGroupOf w to (Heavy y)
-group_moves w from to group x y h is e g =
-    let old : IsGroupOf w from (Heavy x) = rw is at g in
-    let of : ℕ → Close = λ n. record { weight = w; close = n } in
-    let sum : from + (to - from) ≡ to = omega arith in
-    (old.0, old.1, e ∙ rw old.2 (ap of sum))
+group_moves w from to group x y h is e g = grind arith
 
 pub next_stepped : (a : Inside) (opened : ℕ) (served : Ratio) (group : Group) → IsStepped a → a.index < MAX_INDEX →
     opened ≡ a.served.numerator / a.served.denominator →
     served ≡ record a.served { numerator = a.served.numerator + a.served_step.numerator } →
     IsGroupOf a.weight (div_ceil ((a.index + 1) * a.weight.period) a.weight.cost) group →
     IsStepped record { weight = a.weight; index = a.index + 1; theta = a.theta; opened = opened; served = served; served_step = a.served_step; group = group }
-next_stepped a opened served group p h o s g =
-    let at : a.index + 1 - 1 ≡ a.index = omega arith in
-    let of : ℕ → Ratio = λ n. record { numerator = n; denominator = a.weight.cost } in
-    let more : a.index * a.weight.period + a.weight.period ≡ (a.index + 1) * a.weight.period = omega arith in
-    record {
-      position = record { weight = p.position.weight; first = omega arith; last = omega arith; offset = p.position.offset };
-      opened = o ∙ rw (p.served, at) refl;
-      served = s ∙ rw (p.served, p.served_step) (ap of more);
-      served_step = p.served_step;
-      group = g;
-    }
+next_stepped a opened served group p h o s g = grind arith

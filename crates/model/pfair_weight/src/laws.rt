@@ -17,6 +17,7 @@ pub fn limits()
 {}
 
 /// Each window opens before it closes.
+#[tactic(auto, using(crate::specs::WindowFacts::window_not_empty))]
 pub fn no_window_is_empty()
     ensures { NoWindowIsEmpty }
 {}
@@ -28,6 +29,7 @@ pub fn windows_rise()
 
 /// The next window opens where this one closes, or with a b-bit of 1 one slot before: two windows
 /// in a row share at most one slot, and no slot lies between them.
+#[tactic(auto, using(crate::specs::WindowFacts::windows_overlap, crate::specs::WindowFacts::b_bit_at_most_one))]
 pub fn windows_meet()
     ensures { WindowsMeet }
 {}
@@ -42,6 +44,7 @@ pub fn windows_by_share()
 
 /// A group deadline is 0 for a light weight and the deadline for a weight of 1. For a heavy weight
 /// it is never before the deadline, at most a period after it, and no earlier for a later subtask.
+#[tactic(auto, using(crate::specs::GroupFacts::group_deadline_light, crate::specs::GroupFacts::group_deadline_whole, crate::specs::GroupFacts::group_deadline_not_before, crate::specs::GroupFacts::group_deadline_near, crate::specs::GroupFacts::group_deadline_rises))]
 pub fn group_deadlines()
     ensures { GroupDeadlines }
 {}
@@ -59,6 +62,7 @@ pub fn jobs_fill_periods()
 
 /// `==` of names is true where their bytes are identical and nowhere else. By `cmp` a proper prefix
 /// of a name goes before it, and else the first byte that differs decides.
+#[tactic(auto, using(crate::specs::NameFacts::identical_names, crate::specs::NameFacts::tied_names, crate::specs::NameFacts::prefix_goes_first, crate::specs::NameFacts::first_byte_decides))]
 pub fn names_in_byte_order()
     ensures { NamesInByteOrder ⟦<TaskName as PartialEq>⟧.eq ⟦<TaskName as Ord>⟧.cmp }
 {}

@@ -1,7 +1,8 @@
 -- A run whose beginning alone is known goes on as one in which nothing runs any more.
-use Rattle.std.proofs.Common.{◌≡◌, ℕ, zero, suc, ◌<◌, ◌≤◌, min, Bool, true, false, cond, ◌&&◌, [], length, arith, ap, refl, sym, ◌∙◌, subst, inl, inr, ⊎_elim}
+use Rattle.std.proofs.Common.{◌≡◌, ℕ, zero, suc, ◌<◌, ◌≤◌, min, true, false, cond, ◌&&◌, [], length, arith, ap, sym, ◌∙◌, subst, inl, inr}
 use Rattle.std.specs.Prelude.{◌⊎◌, nat_lt}
-use Rattle.std.proofs.lemmas.Bool.{true≢false, false≢true, cases_lt, cases_Bool, and_parts, and_from, ltb-true, lt-ltb, le-ltb}
+use Rattle.std.proofs.Math.Logic.{⊎_map}
+use Rattle.std.proofs.lemmas.Bool.{cases_lt, and_parts, and_from, ltb-true, lt-ltb, le-ltb}
 use Rattle.pfair_optimal.specs.Run.{Task, Subtask, is_among, NoneTwice, same_task, same_subtask, previous_of, Run, deadline, busy_bound, is_row, has_run, IsRun, IsNext}
 use Rattle.pfair_optimal.specs.Beginning.{IsRunBelow}
 use Rattle.pfair_optimal.proofs.Past.{ran_at, ran_by}
@@ -27,29 +28,25 @@ module _ (x : Run) (n : ℕ) where
   row_cut t z less row = subst (λ l. is_among same_subtask l z ≡ true) (sym (cut_table t less)) row
 
   cut_row : (t : ℕ) (z : Subtask) → is_row (cut x n) t z ≡ true → (t < suc n) × (is_row x t z ≡ true)
-  cut_row t z row = by (nat_lt t (suc n)) refl row
-    where
-      by : (b : Bool) → nat_lt t (suc n) ≡ b → is_among same_subtask (cond b (x.table t) []) z ≡ true → (t < suc n) × (is_row x t z ≡ true)
-      by true e r = (ltb-true t (suc n) e, r)
-      by false e r = absurd (false≢true r)
+  cut_row t z row = grind (arith, ltb-true)
 
   ran_cut : (z : Subtask) (t : ℕ) → t ≤ suc n → has_run x z t ≡ true → has_run (cut x n) z t ≡ true
-  ran_cut z t le ran = let p = ran_at x z t ran in let less = p.1 in ran_by (cut x n) z p.0 t p.1 (row_cut p.0 z (omega arith) p.2)
+  ran_cut z t le ran = let p = ran_at x z t ran in ran_by (cut x n) z p.0 t p.1 (row_cut p.0 z (omega arith) p.2)
 
   cut_ran : (z : Subtask) (t : ℕ) → has_run (cut x n) z t ≡ true → has_run x z t ≡ true
   cut_ran z t ran = let p = ran_at (cut x n) z t ran in ran_by x z p.0 t p.1 (cut_row p.0 z p.2).1
 
   cut_not_ran : (z : Subtask) (t : ℕ) → t ≤ suc n → has_run (cut x n) z t ≡ false → has_run x z t ≡ false
-  cut_not_ran z t le not_run = ⊎_elim (λ ran. absurd (true≢false (sym (ran_cut z t le ran) ∙ not_run))) (λ e. e) (cases_Bool (has_run x z t))
+  cut_not_ran z t le not_run = grind (arith, ran_cut)
 
   not_ran_cut : (z : Subtask) (t : ℕ) → has_run x z t ≡ false → has_run (cut x n) z t ≡ false
-  not_ran_cut z t not_run = ⊎_elim (λ ran. absurd (true≢false (sym (cut_ran z t ran) ∙ not_run))) (λ e. e) (cases_Bool (has_run (cut x n) z t))
+  not_ran_cut z t not_run = grind (arith, cut_ran)
 
   next_cut : (z : Subtask) (t : ℕ) → t ≤ suc n → IsNext x z t → IsNext (cut x n) z t
-  next_cut z t le next = record { counted = next.counted; follows = ⊎_elim (λ e. inl e) (λ ran. inr (ran_cut (previous_of z) t le ran)) next.follows }
+  next_cut z t le next = record { counted = next.counted; follows = ⊎_map (λ e. e) (ran_cut (previous_of z) t le) next.follows }
 
   cut_next : (z : Subtask) (t : ℕ) → IsNext (cut x n) z t → IsNext x z t
-  cut_next z t next = record { counted = next.counted; follows = ⊎_elim (λ e. inl e) (λ ran. inr (cut_ran (previous_of z) t ran)) next.follows }
+  cut_next z t next = record { counted = next.counted; follows = ⊎_map (λ e. e) (cut_ran (previous_of z) t) next.follows }
 
   cut_active : (a : Task) (t : ℕ) → (cut x n).is_active a t ≡ true → (t < suc n) × (x.is_active a t ≡ true)
   cut_active a t h = let p = and_parts (nat_lt t (suc n)) (x.is_active a t) h in (ltb-true t (suc n) p.0, p.1)
@@ -69,9 +66,9 @@ module _ (x : Run) (n : ℕ) where
     offsets_rise = is.offsets_rise;
     rows_apart = λ t. apart t (cases_lt t (suc n));
     rows_once = λ s t z here there. (let a = cut_row s z here in let b = cut_row t z there in is.rows_once s t z a.0 b.0 a.1 b.1);
-    rows_follow = λ t z row. (let a = cut_row t z row in let less = a.0 in next_cut z t (omega arith) (is.rows_follow t z a.0 a.1));
+    rows_follow = λ t z row. (let a = cut_row t z row in next_cut z t (omega arith) (is.rows_follow t z a.0 a.1));
     rows_active = λ t z row. (let a = cut_row t z row in active_cut z.task t a.0 (is.rows_active t z a.0 a.1));
-    active_since = λ a s t joined le h. (let p = cut_active a t h in let less = p.0 in active_cut a s (omega arith) (is.active_since a s t joined le p.0 p.1));
+    active_since = λ a s t joined le h. (let p = cut_active a t h in active_cut a s (omega arith) (is.active_since a s t joined le p.0 p.1));
     active_members = λ a t h. (let p = cut_active a t h in subst (λ l. is_among same_task l a ≡ true) (sym (cut_members t p.0)) (is.active_members a t p.0 p.1));
     held = λ z s t ran joined before. held z s t (ran_at (cut x n) z s ran) joined before;
     room = λ t. is.room (min t n) (omega arith);
@@ -87,11 +84,7 @@ module _ (x : Run) (n : ℕ) where
       apart t (inr after) = subst (λ b. NoneTwice same_subtask (cond b (x.table t) [])) (sym (le-ltb t (suc n) after)) tt
 
       held : (z : Subtask) (s t : ℕ) → (u : ℕ) × (u < s) × (is_row (cut x n) u z ≡ true) → z.task.joined ≤ t → t < busy_bound x z → is_among same_task (x.members (min t n)) z.task ≡ true
-      held z s t p joined before =
-          let a = cut_row p.0 z p.2 in
-          let less = a.0 in
-          let since = is.rows_joined p.0 z a.0 a.1 in
-          is.held z p.0 (min t n) a.0 (omega arith) a.1 (omega arith) (omega arith)
+      held z s t p joined before = grind (arith, cut_row)
 
 -- so none misses in the beginning
 pub beginning_none_misses : (x : Run) (n t : ℕ) (z : Subtask) → IsRunBelow x n → t < n → x.is_active z.task t ≡ true → IsNext x z (suc t) → has_run x z (suc t) ≡ false → suc t < deadline x z

@@ -21,29 +21,13 @@ pub record Wrapped (w : Share) (i a q : ℕ) : Type 0 where
 
 -- where the b-bit is 1 the weight is below 1
 below_one : (w : Share) (i : ℕ) → IsWeight w.cost w.period → b_bit_of w i ≡ 1 → w.cost < w.period
-below_one w i h bit =
-    elim (cases_lt w.cost w.period) [
-      | inl below ↦ below
-      | inr whole ↦ absurd (
-          let ends = pinned w i h.some_cost in
-          let near = b_bit_between w i h.some_cost in
-          let at_most = h.at_most_one in
-          let same : i * w.period ≡ i * w.cost = let e : w.period ≡ w.cost = omega arith in ap (λ (n : ℕ). i * n) e in
-          let close : (next_opening w i + 1) * w.cost ≡ closing w i * w.cost = let e : next_opening w i + 1 ≡ closing w i = omega arith in ap (λ (n : ℕ). n * w.cost) e in
-          let more = ends.next_high in
-          let less = ends.closes_low in
-          let after : i < closing w i = lt_of_mul i (closing w i) w.cost (omega arith) in
-          let before : closing w i < i + 1 = lt_of_mul (closing w i) (i + 1) w.cost (omega arith) in
-          omega arith)
-    ]
+below_one w i h bit = grind (arith, pinned, b_bit_between, lt_of_mul)
 
 -- no subtask closes before its index
 index_le_closing : (w : Share) (i : ℕ) → IsWeight w.cost w.period → i ≤ closing w i
 index_le_closing w i h =
     let ends = pinned w i h.some_cost in
-    let high = ends.closes_high in
     let wide = grow w.cost w.period i h.at_most_one in
-    let some = h.some_cost in
     let below : i < closing w i + 1 = lt_of_mul i (closing w i + 1) w.cost (omega arith) in
     omega arith
 
@@ -56,7 +40,6 @@ wrapped w i h bit =
     let close : (next_opening w i + 1) * w.cost ≡ closing w i * w.cost = let e : next_opening w i + 1 ≡ closing w i = omega arith in ap (λ (n : ℕ). n * w.cost) e in
     let whole : (closing w i - i + i) * w.cost ≡ closing w i * w.cost = let e : closing w i - i + i ≡ closing w i = omega arith in ap (λ (n : ℕ). n * w.cost) e in
     let parts : i * (w.period - w.cost + w.cost) ≡ i * w.period = let e : w.period - w.cost + w.cost ≡ w.period = omega arith in ap (λ (n : ℕ). i * n) e in
-    let more = ends.next_high in
     let less = ends.closes_low in
     record {
       closes = omega arith;
@@ -91,10 +74,10 @@ cascade_ends : (w : Share) (i a q n : ℕ) → IsWeight w.cost w.period → Wrap
 cascade_ends w i a q n h at = (from, to)
   where
     some : 0 < w.period
-    some = let s = h.some_cost in let m = h.at_most_one in omega arith
+    some = omega arith
 
     idle_is : w.period - w.cost ≡ q
-    idle_is = let e = at.idle in omega arith
+    idle_is = omega arith
 
     slots : div_ceil (closing w i * (w.period - w.cost)) w.period ≡ a
     slots = ap (λ (n : ℕ). div_ceil (closing w i * n) w.period) idle_is ∙ inner a i q w.cost (closing w i) w.period at.closes at.idle some at.low at.high
@@ -126,15 +109,7 @@ cascade_after w i k h bit tight last =
     let q = w.period - w.cost in
     let here = wrapped w i h bit in
     let there = wrapped w (i + k) h last in
-    let closes = here.closes in
-    elim (cases_lt (closing w i + k) (cascade_end w (closing w i))) [
-      | inl past ↦ past
-      | inr ended ↦ absurd (
-          let same : (closing w (i + k) - (i + k)) * w.cost ≡ (closing w i - i) * w.cost = let e : closing w (i + k) - (i + k) ≡ closing w i - i = omega arith in ap (λ (n : ℕ). n * w.cost) e in
-          let enough = (cascade_ends w i a q (i + k) h here).0 (omega arith) in
-          let high = there.high in
-          omega arith)
-    ]
+    grind (arith, cascade_ends)
 
 -- and up to its end all slots are tight
 pub cascade_tight : (w : Share) (i k : ℕ) → IsWeight w.cost w.period → b_bit_of w i ≡ 1 → closing w i + k < cascade_end w (closing w i) → (closing w (i + k) ≡ closing w i + k) × (b_bit_of w (i + k) ≡ 1)
@@ -142,8 +117,6 @@ cascade_tight w i k h bit before =
     let a = closing w i - i in
     let q = w.period - w.cost in
     let here = wrapped w i h bit in
-    let closes = here.closes in
-    let low = here.low in
     let ends = pinned w (i + k) h.some_cost in
     let near = next_near w (i + k) h.some_cost in
     let between = b_bit_between w (i + k) h.some_cost in
@@ -152,10 +125,6 @@ cascade_tight w i k h bit before =
     elim (cases_lt ((i + k) * q) (a * w.cost)) [
       | inr enough ↦ absurd (let ended = (cascade_ends w i a q (i + k) h here).1 enough in omega arith)
       | inl less ↦
-          let c_low = ends.closes_low in
-          let c_high = ends.closes_high in
-          let n_low = ends.next_low in
-          let n_high = ends.next_high in
           let not_before : i + k + a < closing w (i + k) + 1 = lt_of_mul (i + k + a) (closing w (i + k) + 1) w.cost (omega arith) in
           let not_after : closing w (i + k) < i + k + a + 1 = lt_of_mul (closing w (i + k)) (i + k + a + 1) w.cost (omega arith) in
           let opens : next_opening w (i + k) < i + k + a = lt_of_mul (next_opening w (i + k)) (i + k + a) w.cost (omega arith) in
@@ -169,11 +138,7 @@ opens_less w i k h bit later before =
     let q = w.period - w.cost in
     let m = k - 1 in
     let here = wrapped w i h bit in
-    let closes = here.closes in
-    let low = here.low in
     let ends = pinned w k h.some_cost in
-    let o_low = ends.opens_low in
-    let o_high = ends.opens_high in
     let grown = grow i m q (omega arith) in
     let parts : m * (q + w.cost) ≡ m * w.period = ap (λ (n : ℕ). m * n) here.idle in
     let own : i * (q + w.cost) ≡ i * w.period = ap (λ (n : ℕ). i * n) here.idle in
@@ -194,45 +159,22 @@ light_closes : (w : Share) (i k : ℕ) → IsWeight w.cost w.period → 2 * w.co
 light_closes w i k h light some =
     let here = pinned w i h.some_cost in
     let there = pinned w (i + k) h.some_cost in
-    let low = here.closes_low in
-    let high = there.closes_high in
     let wide = grow (2 * w.cost + 1) w.period k (omega arith) in
     let more = grow 1 k w.cost some in
     let up : closing w i + k < closing w (i + k) = lt_of_mul (closing w i + k) (closing w (i + k)) w.cost (omega arith) in
     up
 
 light_opens : (w : Share) (i k : ℕ) → IsWeight w.cost w.period → 2 * w.cost < w.period → i + 1 < k → next_opening w i + 1 < opening w k
-light_opens w i k h light later =
-    let here = pinned w i h.some_cost in
-    let there = pinned w k h.some_cost in
-    let low = here.next_low in
-    let high = there.opens_high in
-    let wide = grow (i + 1) (k - 1) w.period (omega arith) in
-    let up : next_opening w i + 2 < opening w k + 1 = lt_of_mul (next_opening w i + 2) (opening w k + 1) w.cost (omega arith) in
-    omega arith
+light_opens w i k h light later = grind (arith, pinned, grow, lt_of_mul)
 
 -- k tight slots more push the busy bound past them
 pub busy_after : (w : Share) (i k theta : ℕ) → IsWeight w.cost w.period → b_bit_of w i ≡ 1 → deadline_of w (i + k) theta ≡ deadline_of w i theta + k → b_bit_of w (i + k) ≡ 1 →
     deadline_of w i theta + k < busy_bound_of w i theta
-busy_after w i k theta h bit tight last =
-    elim (cases_lt (2 * w.cost) w.period) [
-      | inl light ↦ elim (cases_lt 0 k) [
-        | inl some ↦ absurd (let apart = light_closes w i k h light some in omega arith)
-        | inr none ↦ omega arith
-      ]
-      | inr heavy ↦
-          let below = below_one w i h bit in
-          let after = cascade_after w i k h bit (omega arith) last in
-          let group = group_deadline_heavy w i theta heavy below in
-          omega arith
-    ]
+busy_after w i k theta h bit tight last = grind (arith, light_closes, below_one, cascade_after, group_deadline_heavy)
 
 -- the share of the slot of the release is one number at any offset
 first_same : (w : Share) (i theta later v u : ℕ) → IsWeight w.cost w.period → v ≡ release_of w i theta → u ≡ release_of w i later → share_of w i theta v ≡ share_of w i later u
-first_same w i theta later v u h one other =
-    let a = first_share w i theta v h one in
-    let b = first_share w i later u h other in
-    omega arith
+first_same w i theta later v u h one other = grind (arith, first_share)
 
 -- what opens before the busy bound opens with no greater share than the next subtask
 pub busy_opens : (w : Share) (i k theta later : ℕ) → IsWeight w.cost w.period → b_bit_of w i ≡ 1 → i < k → theta ≤ later → release_of w k later < busy_bound_of w i theta →
@@ -269,18 +211,9 @@ busy_opens w i k theta later h bit after offsets before =
 -- the group deadline of a heavy subtask with b-bit 1: up to there each slot is the last one of a next subtask with b-bit 1
 pub group_deadline_tight : (w : Share) (i k theta : ℕ) → IsWeight w.cost w.period → IsHeavy w → b_bit_of w i ≡ 1 → deadline_of w i theta + k < group_deadline_of w i theta →
     (deadline_of w (i + k) theta ≡ deadline_of w i theta + k) × (b_bit_of w (i + k) ≡ 1)
-group_deadline_tight w i k theta h heavy bit before =
-    let below = below_one w i h bit in
-    let group = group_deadline_heavy w i theta heavy below in
-    let tight = cascade_tight w i k h bit (omega arith) in
-    let close = tight.0 in
-    (omega arith, tight.1)
+group_deadline_tight w i k theta h heavy bit before = grind (arith, below_one, group_deadline_heavy, cascade_tight)
 
 -- and the slot after it isn't
 pub group_deadline_ends : (w : Share) (i k theta : ℕ) → IsWeight w.cost w.period → IsHeavy w → b_bit_of w i ≡ 1 → deadline_of w (i + k) theta ≡ deadline_of w i theta + k → b_bit_of w (i + k) ≡ 1 →
     deadline_of w i theta + k < group_deadline_of w i theta
-group_deadline_ends w i k theta h heavy bit tight last =
-    let below = below_one w i h bit in
-    let group = group_deadline_heavy w i theta heavy below in
-    let after = cascade_after w i k h bit (omega arith) last in
-    omega arith
+group_deadline_ends w i k theta h heavy bit tight last = grind (arith, below_one, group_deadline_heavy, cascade_after)

@@ -1,10 +1,10 @@
 -- The count: all that the set needed, in units, against the rows that it had. There is no first miss.
 use Rattle.std.proofs.Common.{◌≡◌, ℕ, zero, suc, ◌+◌, ◌-◌, ◌*◌, ◌/◌, ◌<◌, ◌≤◌, Bool, true, false, cond, List, [], ◌∷◌, length, arith, ap, refl, sym, ◌∙◌, subst, inl, inr}
 use Rattle.std.specs.Prelude.{◌⊎◌}
-use Rattle.std.proofs.lemmas.Bool.{false≢true, cases_lt, cases_Bool}
+use Rattle.std.proofs.lemmas.Bool.{false≢true}
 use Rattle.std.proofs.lemmas.List.{length-append}
 use Rattle.std.proofs.lemmas.Nat.{mul-le, div-add-mod'}
-use Rattle.std.proofs.Math.Nat.{le_refl}
+use Rattle.std.proofs.Math.Nat.{le_refl, lt_of_not-le}
 use Rattle.pfair_weight.specs.Share.{units_of}
 use Rattle.pfair_optimal.specs.Fluid.{fluid_of}
 use Rattle.pfair_optimal.specs.Run.{Task, Subtask, is_among, NoneTwice, same_task, same_subtask, Run, deadline, is_row, has_run, IsRun, IsNext, IsMiss, IsFirstMiss}
@@ -23,11 +23,7 @@ tasks_of (z ∷ zs) = cond (is_among same_task (tasks_of zs) z.task) (tasks_of z
 
 pub tasks_twice : (zs : List Subtask) → NoneTwice same_task (tasks_of zs)
 tasks_twice [] = tt
-tasks_twice (z ∷ zs) = by (is_among same_task (tasks_of zs) z.task) refl (tasks_twice zs)
-  where
-    by : (b : Bool) → is_among same_task (tasks_of zs) z.task ≡ b → NoneTwice same_task (tasks_of zs) → NoneTwice same_task (cond b (tasks_of zs) (z.task ∷ tasks_of zs))
-    by true e rest = rest
-    by false e rest = (e, rest)
+tasks_twice (z ∷ zs) = grind (arith, tasks_twice zs)
 
 pub tasks_among : (zs : List Subtask) (z : Subtask) → In zs z → is_among same_task (tasks_of zs) z.task ≡ true
 tasks_among [] z h = absurd (false≢true h)
@@ -107,11 +103,7 @@ module _ (x : Run) (is : IsRun x) (td : ℕ) (missed : Subtask) (m : IsFirstMiss
           spread u a b = omega arith
 
       mine : (a : Task) (z : Subtask) → cond (same_task z.task a) (unit x z.task * share x z t) 0 ≡ unit x a * own_share x a t z
-      mine a z = by (same_task z.task a) refl
-        where
-          by : (b : Bool) → same_task z.task a ≡ b → cond b (unit x z.task * share x z t) 0 ≡ unit x a * cond b (share x z t) 0
-          by true e = ap (λ (c : Task). unit x c * share x z t) ((task_exact z.task a).0 e)
-          by false e = omega arith
+      mine a z = grind (arith, task_exact)
 
   -- a slot's picks, task by task
   picks_by_task : (t : ℕ) → t < td → total (λ a. unit x a * ((x.weight a).period * picked x td missed a t)) (tasks x td missed) ≡ length (picks x td missed t) * x.frame
@@ -189,21 +181,16 @@ module _ (x : Run) (is : IsRun x) (td : ℕ) (missed : Subtask) (m : IsFirstMiss
       let step = fluid_step n in
       let lengths : length (later x td missed n) ≡ length (picks x td missed n) + length (later x td missed (suc n)) = ap length (later_step x is td missed m n le) ∙ length-append (picks x td missed n) (later x td missed (suc n)) in
       let scaled : length (later x td missed n) * x.frame ≡ (length (picks x td missed n) + length (later x td missed (suc n))) * x.frame = ap (λ (k : ℕ). k * x.frame) lengths in
-      elim (cases_Bool (is_full x td missed n)) [
-        | inl full ↦ (let pays = full_sum n le full in let none = none_left n full in omega arith)
-        | inr hole ↦ (let pays = hole_sum n le hole in omega arith)
-      ]
+      grind (arith, full_sum, none_left, hole_sum)
 
   -- there is no first miss
   pub overload : ⊥
   overload =
-      let some = m.miss.some_time in
       let all = paid td (omega arith) in
       let ended = fluid_end in
       let one : length (later x td missed td) * x.frame ≡ 1 * x.frame = ap (λ (q : List Subtask). length q * x.frame) (later_last x is td missed m) in
       let last : suc (td - 1) ≡ td = omega arith in
       let none : left_over_of_all x td missed td ≡ 0 = sym (ap (left_over_of_all x td missed) last) ∙ none_left (td - 1) (full_last x is td missed m (td - 1) last) in
-      let frame = is.frame in
       omega arith
 
 -- no time has a miss: else the least one
@@ -216,18 +203,10 @@ no_miss x is td z miss = no_miss_below x is (suc td) td z (omega arith) miss
 
 -- the next subtask of an active member has its deadline after the slot
 pub none_misses : (x : Run) (t : ℕ) (z : Subtask) → IsRun x → x.is_active z.task t ≡ true → IsNext x z (suc t) → has_run x z (suc t) ≡ false → suc t < deadline x z
-none_misses x t z is active next not_run =
-    elim (cases_lt (suc t) (deadline x z)) [
-      | inl after ↦ after
-      | inr late ↦ absurd (
-          let same : t ≡ suc t - 1 = omega arith in
-          no_miss x is (suc t) z (record { some_time = omega arith; active = subst (λ n. x.is_active z.task n ≡ true) same active; next = next; not_run = not_run; late = late }))
-    ]
+none_misses x t z is active next not_run = lt_of_not-le (λ late.
+    let same : t ≡ suc t - 1 = omega arith in
+    no_miss x is (suc t) z (record { some_time = omega arith; active = subst (λ n. x.is_active z.task n ≡ true) same active; next = next; not_run = not_run; late = late }))
 
 -- each row's slot is before its deadline
 pub each_in_time : (x : Run) (t : ℕ) (z : Subtask) → IsRun x → is_row x t z ≡ true → t < deadline x z
-each_in_time x t z is row =
-    elim (cases_lt t (deadline x z)) [
-      | inl early ↦ early
-      | inr late ↦ absurd (no_miss x is t z (late_row x is z t row late))
-    ]
+each_in_time x t z is row = lt_of_not-le (λ late. no_miss x is t z (late_row x is z t row late))

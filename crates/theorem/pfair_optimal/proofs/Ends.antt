@@ -1,5 +1,5 @@
 -- The ends of windows, by products.
-use Rattle.std.proofs.Common.{◌≡◌, ℕ, ◌+◌, ◌-◌, ◌*◌, ◌/◌, ◌<◌, ◌≤◌, arith, ap}
+use Rattle.std.proofs.Common.{◌≡◌, ℕ, ◌+◌, ◌-◌, ◌*◌, ◌/◌, ◌<◌, ◌≤◌, arith}
 use Rattle.std.specs.Int.{div_ceil}
 use Rattle.std.proofs.lemmas.Grind.{div_ceil_times}
 use Rattle.std.proofs.lemmas.Nat.{mul-le}
@@ -49,17 +49,11 @@ pinned w i p = record {
 
 -- the next subtask's window opens there
 pub opening_next : (w : Share) (i : ℕ) → opening w (i + 1) ≡ next_opening w i
-opening_next w i =
-    let back : i + 1 - 1 ≡ i = omega arith in
-    ap (λ (n : ℕ). (n * w.period) / w.cost) back
+opening_next w i = grind arith
 
 -- the next window opens where this one closes, or one slot before
 pub next_near : (w : Share) (i : ℕ) → 0 < w.cost → (next_opening w i ≤ closing w i) × (closing w i ≤ next_opening w i + 1)
-next_near w i p =
-    let h = pinned w i p in
-    let low : next_opening w i < closing w i + 1 = lt_of_mul (next_opening w i) (closing w i + 1) w.cost (omega (arith, h)) in
-    let high : closing w i < next_opening w i + 1 + 1 = lt_of_mul (closing w i) (next_opening w i + 1 + 1) w.cost (omega (arith, h)) in
-    (omega arith, omega arith)
+next_near w i p = grind (arith, pinned, lt_of_mul)
 
 -- so its b-bit is what lies between them
 pub b_bit_between : (w : Share) (i : ℕ) → 0 < w.cost → next_opening w i + b_bit_of w i ≡ closing w i

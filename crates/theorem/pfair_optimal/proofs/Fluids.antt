@@ -7,15 +7,11 @@ use Rattle.pfair_weight.specs.Rounding.{one_less}
 use Rattle.pfair_weight.specs.Window.{release_of, deadline_of, b_bit_of}
 use Rattle.pfair_optimal.specs.Fluid.{fluid_of, share_of, total_before}
 use Rattle.pfair_weight.specs.WindowFacts.{release_rises}
-use Rattle.pfair_optimal.proofs.Ends.{grow, opening, closing, next_opening, pinned, opening_next, next_near, b_bit_between}
+use Rattle.pfair_optimal.proofs.Ends.{grow, opening, closing, pinned, opening_next, next_near, b_bit_between}
 
 -- nothing before the release
 pub fluid_none : (w : Share) (i theta t : ℕ) → IsWeight w.cost w.period → t ≤ release_of w i theta → fluid_of w i theta t ≡ 0
-fluid_none w i theta t h before =
-    let ends = pinned w i h.some_cost in
-    let less = grow (t - theta) (opening w i) w.cost (omega arith) in
-    let low = ends.opens_low in
-    omega arith
+fluid_none w i theta t h before = grind (arith, pinned, grow)
 
 -- a whole quantum from the deadline on
 pub fluid_whole : (w : Share) (i theta t : ℕ) → IsWeight w.cost w.period → 1 ≤ i → deadline_of w i theta ≤ t → fluid_of w i theta t ≡ w.period
@@ -23,7 +19,6 @@ fluid_whole w i theta t h first after =
     let ends = pinned w i h.some_cost in
     let more = grow (closing w i) (t - theta) w.cost (omega arith) in
     let step = one_less i w.period first in
-    let high = ends.closes_high in
     omega arith
 
 -- a slot gives the cost at most
@@ -41,17 +36,7 @@ pub share_in_window : (w : Share) (i theta v : ℕ) → IsWeight w.cost w.period
 share_in_window w i theta v h first = (inside, some)
   where
     inside : 0 < share_of w i theta v → (release_of w i theta ≤ v) × (v < deadline_of w i theta)
-    inside some =
-        elim (cases_lt v (release_of w i theta)) [
-          | inl before ↦ absurd (let none = fluid_none w i theta (v + 1) h (omega arith) in omega arith)
-          | inr opened ↦ elim (cases_lt v (deadline_of w i theta)) [
-            | inl still ↦ (opened, still)
-            | inr after ↦ absurd (
-                let now = fluid_whole w i theta v h first after in
-                let next = fluid_whole w i theta (v + 1) h first (omega arith) in
-                omega arith)
-          ]
-        ]
+    inside some = grind (arith, fluid_none, fluid_whole)
 
     some : (release_of w i theta ≤ v) × (v < deadline_of w i theta) → 0 < share_of w i theta v
     some (opened, still) =
@@ -60,26 +45,16 @@ share_in_window w i theta v h first = (inside, some)
         let high = grow (v - theta + 1) (closing w i) w.cost (omega arith) in
         let same : (v + 1 - theta) * w.cost ≡ (v - theta + 1) * w.cost = let e : v + 1 - theta ≡ v - theta + 1 = omega arith in ap (λ (n : ℕ). n * w.cost) e in
         let step = one_less i w.period first in
-        let more = ends.opens_high in
-        let less = ends.closes_low in
-        let some_period = h.at_most_one in
-        let some_cost = h.some_cost in
         part_rises w.period w.cost ((v - theta) * w.cost) ((i - 1) * w.period) _ (omega arith) (omega arith) (omega arith) (omega arith) (omega arith)
 
 -- fluid never falls
 pub fluid_rises : (w : Share) (i theta v : ℕ) → fluid_of w i theta v ≤ fluid_of w i theta (v + 1)
-fluid_rises w i theta v =
-    let more = grow (v - theta) (v + 1 - theta) w.cost (omega arith) in
-    omega arith
+fluid_rises w i theta v = grind (arith, grow)
 
 -- the shares before a time are the fluid
 pub total_is_fluid : (w : Share) (i theta t : ℕ) → IsWeight w.cost w.period → total_before (share_of w i theta) t ≡ fluid_of w i theta t
 total_is_fluid w i theta zero h = let none = fluid_none w i theta 0 h (omega arith) in sym none
-total_is_fluid w i theta (suc t) h =
-    let before = total_is_fluid w i theta t h in
-    let more = fluid_rises w i theta t in
-    let next : fluid_of w i theta (suc t) ≡ fluid_of w i theta (t + 1) = let e : suc t ≡ t + 1 = omega arith in ap (fluid_of w i theta) e in
-    omega (arith, before, more, next)
+total_is_fluid w i theta (suc t) h = grind (arith, fluid_rises, total_is_fluid w i theta t h)
 
 -- at a time after the offset
 part_at : (w : Share) (i theta t s : ℕ) → t ≡ theta + s → fluid_of w i theta t ≡ min w.period (s * w.cost - (i - 1) * w.period)
@@ -87,49 +62,22 @@ part_at w i theta t s is = let e : t - theta ≡ s = omega arith in ap (λ (n : 
 
 -- the share of the slot of the release
 pub first_share : (w : Share) (i theta v : ℕ) → IsWeight w.cost w.period → v ≡ release_of w i theta → share_of w i theta v + (i - 1) * w.period ≡ opening w i * w.cost + w.cost
-first_share w i theta v h is =
-    let ends = pinned w i h.some_cost in
-    let none = fluid_none w i theta v h (omega arith) in
-    let next = part_at w i theta (v + 1) (opening w i + 1) (omega arith) in
-    let low = ends.opens_low in
-    let high = ends.opens_high in
-    let at_most = h.at_most_one in
-    omega arith
+first_share w i theta v h is = grind (arith, pinned, fluid_none, part_at)
 
 -- with b-bit 1 the share of the last slot
 pub last_share : (w : Share) (i theta v : ℕ) → IsWeight w.cost w.period → 1 ≤ i → b_bit_of w i ≡ 1 → v + 1 ≡ deadline_of w i theta → share_of w i theta v + closing w i * w.cost ≡ i * w.period + w.cost
 last_share w i theta v h first bit is =
-    let ends = pinned w i h.some_cost in
-    let whole = fluid_whole w i theta (v + 1) h first (omega arith) in
-    let now = part_at w i theta v (next_opening w i) (omega (arith, b_bit_between w i h.some_cost)) in
-    let step = one_less i w.period first in
-    let close : (next_opening w i + 1) * w.cost ≡ closing w i * w.cost = let e : next_opening w i + 1 ≡ closing w i = omega (arith, b_bit_between w i h.some_cost) in ap (λ (n : ℕ). n * w.cost) e in
-    let wide = release_rises w i (i + 1) 0 h first (omega arith) in
-    let opens = opening_next w i in
-    let more = grow (opening w i + 1) (next_opening w i) w.cost (omega arith) in
-    let high = ends.opens_high in
-    let low = ends.next_low in
-    let less = ends.closes_low in
-    omega arith
+    grind (arith, pinned, fluid_whole, part_at, b_bit_between, one_less, release_rises, opening_next, grow)
 
 -- with b-bit 1 the share of the last slot and that of the next subtask's first slot are the cost together
 pub shares_meet : (w : Share) (i theta v later u : ℕ) → IsWeight w.cost w.period → 1 ≤ i → b_bit_of w i ≡ 1 → v + 1 ≡ deadline_of w i theta → u ≡ release_of w (i + 1) later →
     share_of w i theta v + share_of w (i + 1) later u ≡ w.cost
 shares_meet w i theta v later u h first bit close opens_at =
-    let last = last_share w i theta v h first bit close in
-    let next = first_share w (i + 1) later u h opens_at in
-    let opens : opening w (i + 1) * w.cost ≡ next_opening w i * w.cost = ap (λ (n : ℕ). n * w.cost) (opening_next w i) in
-    let near : (next_opening w i + 1) * w.cost ≡ closing w i * w.cost = let e : next_opening w i + 1 ≡ closing w i = omega (arith, b_bit_between w i h.some_cost) in ap (λ (n : ℕ). n * w.cost) e in
-    let back : (i + 1 - 1) * w.period ≡ i * w.period = let e : i + 1 - 1 ≡ i = omega arith in ap (λ (n : ℕ). n * w.period) e in
-    omega arith
+    grind (arith, last_share, first_share, opening_next, b_bit_between)
 
 -- windows of subtasks that aren't neighbours don't meet
 pub not_neighbours : (w : Share) (i j theta later : ℕ) → IsWeight w.cost w.period → 1 ≤ i → i + 1 < j → theta ≤ later → deadline_of w i theta ≤ release_of w j later
-not_neighbours w i j theta later h first less after =
-    let rises = release_rises w (i + 1) j 0 h (omega arith) less in
-    let opens = opening_next w i in
-    let near = next_near w i h.some_cost in
-    omega arith
+not_neighbours w i j theta later h first less after = grind (arith, release_rises, opening_next, next_near)
 
 -- two subtasks of one task get at most the cost of a slot
 pub shares_fit : (w : Share) (i j theta later v : ℕ) → IsWeight w.cost w.period → 1 ≤ i → i < j → theta ≤ later → share_of w i theta v + share_of w j later v ≤ w.cost

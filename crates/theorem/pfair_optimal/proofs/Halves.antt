@@ -1,8 +1,8 @@
 -- A run that fills its processor: two tasks of weight 1/2 that run by turns.
-use Rattle.std.proofs.Common.{◌≡◌, ℕ, suc, ◌+◌, ◌-◌, ◌*◌, ◌/◌, ◌%◌, ◌<◌, ◌≤◌, true, false, List, [], ◌∷◌, arith, ap, refl, sym, ◌∙◌, subst, inl, inr, ⊎_elim}
-use Rattle.std.proofs.lemmas.Bool.{true≢false, false≢true, cases_lt, cases_eq}
-use Rattle.pfair_optimal.specs.Run.{Task, Subtask, is_among, same_task, same_subtask, Run, release, deadline, b_bit, is_row, has_run, IsRun, IsNext, GoesFirst}
-use Rattle.pfair_optimal.proofs.Lists.{among_here, among_more, among_cases}
+use Rattle.std.proofs.Common.{◌≡◌, ℕ, zero, suc, get_or, ◌+◌, ◌-◌, ◌*◌, ◌/◌, ◌%◌, ◌<◌, ◌≤◌, true, false, [], ◌∷◌, arith, ap, refl, sym, ◌∙◌, subst, ⊎_elim}
+use Rattle.std.proofs.lemmas.Bool.{false≢true}
+use Rattle.pfair_optimal.specs.Run.{Task, Subtask, is_among, same_task, same_subtask, Run, release, deadline, is_row, has_run, IsRun, IsNext, GoesFirst}
+use Rattle.pfair_optimal.proofs.Lists.{among_here, among_cases}
 use Rattle.pfair_optimal.proofs.Past.{task_exact, subtask_exact, ran_at, ran_by}
 
 -- task k, and its subtask i
@@ -41,15 +41,9 @@ row_is t z row = ⊎_elim (λ e. e) (λ none. absurd (false≢true none)) (among
 is_turn : (t : ℕ) (z : Subtask) → z ≡ turn t → is_row halves t z ≡ true
 is_turn t z e = subst (λ w. is_row halves t w ≡ true) (sym e) (among_here same_subtask subtask_exact [] (turn t))
 
--- which task a name is of
-first_byte : List ℕ → ℕ
-first_byte [] = 0
-first_byte (n ∷ _) = n
-
 same_turn : (s t : ℕ) → turn s ≡ turn t → s ≡ t
-unfolding first_byte
 same_turn s t e =
-    let names : s % 2 ≡ t % 2 = ap (λ (z : Subtask). first_byte z.task.name) e in
+    let names : s % 2 ≡ t % 2 = ap (λ (z : Subtask). get_or z.task.name 0 0) e in
     let indexes : s / 2 + 1 ≡ t / 2 + 1 = ap (λ (z : Subtask). z.index) e in
     omega arith
 
@@ -64,13 +58,9 @@ half_ran : (k i t : ℕ) → k < 2 → 1 ≤ i → 2 * (i - 1) + k < t → has_r
 half_ran k i t two first before = ran_by halves (half_at k i) (2 * (i - 1) + k) t before (is_turn (2 * (i - 1) + k) (half_at k i) (turn_of k i two first))
 
 among_halves : (k : ℕ) → k < 2 → is_among same_task (half 0 ∷ half 1 ∷ []) (half k) ≡ true
-among_halves k two =
-    elim (cases_eq k 0) [
-      | inl zero_it ↦ subst (λ n. is_among same_task (half 0 ∷ half 1 ∷ []) (half n) ≡ true) (sym zero_it) (among_here same_task task_exact (half 1 ∷ []) (half 0))
-      | inr other ↦
-          let one : k ≡ 1 = omega (arith, other) in
-          subst (λ n. is_among same_task (half 0 ∷ half 1 ∷ []) (half n) ≡ true) (sym one) (among_more same_task task_exact (half 0) (half 1 ∷ []) (half 1) (among_here same_task task_exact [] (half 1)))
-    ]
+among_halves zero two = refl
+among_halves (suc zero) two = refl
+among_halves (suc (suc k)) two = absurd (omega arith)
 
 is_half : (a : Task) → is_among same_task (half 0 ∷ half 1 ∷ []) a ≡ true → (k : ℕ) × (k < 2) × (a ≡ half k)
 is_half a h = ⊎_elim
@@ -81,21 +71,13 @@ is_half a h = ⊎_elim
 turn_follows : (t : ℕ) → IsNext halves (turn t) t
 turn_follows t = record {
   counted = omega arith;
-  follows = elim (cases_lt t 2) [
-    | inl begins ↦ inl (omega arith)
-    | inr later ↦ inr (half_ran (t % 2) (t / 2 + 1 - 1) t (omega arith) (omega arith) (omega arith))
-  ];
+  follows = grind (arith, half_ran);
 }
 
 -- who waits sees the one before it run
 before_wait : (t k i : ℕ) → k < 2 → 1 ≤ i → release halves (half_at k i) ≤ t → has_run halves (half_at k i) (suc t) ≡ false → GoesFirst halves (turn t) (half_at k i)
 before_wait t k i two first opened not_run =
-    elim (cases_lt (2 * (i - 1) + k) (suc t)) [
-      | inl ran ↦ absurd (true≢false (sym (half_ran k i (suc t) two first ran) ∙ not_run))
-      | inr wait ↦
-          let at = opens (half_at k i) first in
-          inr (omega arith, inr (omega arith, inl (omega arith)))
-    ]
+    grind (arith, half_ran, opens)
 
 pub halves_are_a_run : IsRun halves
 halves_are_a_run = record {

@@ -2,7 +2,8 @@
 use Rattle.std.proofs.Common.{◌≡◌, ℕ, zero, suc, ◌+◌, ◌-◌, ◌<◌, ◌≤◌, Bool, true, false, arith, ap, refl, sym, ◌∙◌, subst, inl, inr, ⊎_elim}
 use Rattle.std.specs.Prelude.{◌⊎◌}
 use Rattle.std.specs.List.{list_any}
-use Rattle.std.proofs.lemmas.Bool.{true≢false, cases_lt, cases_eq, cases_Bool}
+use Rattle.std.proofs.Math.Logic.{⊎_map}
+use Rattle.std.proofs.lemmas.Bool.{false_from_ne_true, true_from_ne_false, true≢false, cases_lt, cases_eq, cases_Bool}
 use Rattle.pfair_optimal.specs.Run.{Task, Subtask, same_task, same_subtask, next_of, previous_of, Run, release, deadline, b_bit, busy_bound, is_row, has_run, IsRun, IsFirstMiss}
 use Rattle.pfair_optimal.proofs.BusyBounds.{busy_after}
 use Rattle.pfair_optimal.proofs.Lists.{any_from, any_some}
@@ -34,10 +35,7 @@ module _ (x : Run) (is : IsRun x) (td : ℕ) (missed : Subtask) (m : IsFirstMiss
 
   -- in a hole nothing is left that was ready for it
   pub hole_ran : (z : Subtask) (t : ℕ) → is_full x td missed t ≡ false → In (reasons x td missed) z → release x z ≤ t → (z.index ≡ 1) ⊎ (has_run x (previous_of z) t ≡ true) → has_run x z (suc t) ≡ true
-  hole_ran z t hole h released follows = ⊎_elim
-      (λ ran. ran)
-      (λ not_run. absurd (true≢false (sym (full_from x is td missed m t z h (record { released = released; not_run = not_run; follows = follows })) ∙ hole)))
-      (cases_Bool (has_run x z (suc t)))
+  hole_ran z t hole h released follows = grind (arith, full_from)
 
   pub tight : (w : Subtask) (t : ℕ) → t < td → is_full x td missed t ≡ false → In (picks x td missed t) w → IsTight x w t
   tight w t less hole h =
@@ -55,11 +53,9 @@ module _ (x : Run) (is : IsRun x) (td : ℕ) (missed : Subtask) (m : IsFirstMiss
   cascade w t less hole next_hole h =
       let row = picks_rows x is td missed m t w h in
       let next = hole_pick x is td missed m t w (omega arith) hole h in
-      let released = next.1 in
       let before : has_run x (previous_of (next_of w)) (suc t) ≡ true = subst (λ z. has_run x z (suc t) ≡ true) (sym (previous_next w)) (ran_by x w t (suc t) (omega arith) row) in
       let ran = hole_ran (next_of w) (suc t) next_hole next.0 (omega arith) (inr before) in
       let p = reason_ran x is td missed m (next_of w) (suc (suc t)) less next.0 ran in
-      let within = p.1 in
       let after = next_after x is w t p.0 row (picks_rows x is td missed m p.0 (next_of w) p.2) in
       let at : p.0 ≡ suc t = omega arith in
       subst (λ n. In (picks x td missed n) (next_of w)) at p.2
@@ -88,9 +84,6 @@ module _ (x : Run) (is : IsRun x) (td : ℕ) (missed : Subtask) (m : IsFirstMiss
       let here = tight w t (omega arith) (holes t (omega arith) from) h in
       let more = cascades w t (v - suc t) (omega arith) (λ u a b. holes u a (omega arith)) h in
       let last = tight (record { task = w.task; index = w.index + (v - suc t) }) (t + (v - suc t)) (omega arith) (holes (t + (v - suc t)) (omega arith) (omega arith)) more.0 in
-      let due = here.due in
-      let last_due = last.due in
-      let same = more.1 in
       let past = busy_after (x.weight w.task) w.index (v - suc t) (x.offset w.task w.index) (is.weights w.task) here.bit (omega arith) last.bit in
       omega arith
 
@@ -110,7 +103,6 @@ module _ (x : Run) (is : IsRun x) (td : ℕ) (missed : Subtask) (m : IsFirstMiss
       at_hole : In (picks x td missed t) z → IsReached x t v z
       at_hole i =
           let here = tight z t (omega arith) hole i in
-          let due = here.due in
           record { due = omega arith; bit = λ _. here.bit; bound = λ _. cascade_bound z t v from to holes i }
 
       -- it came in by a full slot, for one that waits there, or by a hole, for its next subtask
@@ -120,17 +112,13 @@ module _ (x : Run) (is : IsRun x) (td : ℕ) (missed : Subtask) (m : IsFirstMiss
           let w = full_some x is td missed m s full in
           let first = (full_rows x is td missed m w.0 s (omega arith) w.1 w.2).1 z (picks_rows x is td missed m s z i) in
           let bounds = first_bound x is z w.0 first in
-          let released = w.2.released in
           let follows : (w.0.index ≡ 1) ⊎ (has_run x (previous_of w.0) t ≡ true) = ⊎_elim (λ one. inl one) (λ r. inr (ran_more x (previous_of w.0) s t (omega arith) r)) w.2.follows in
           let ran = hole_ran w.0 t hole w.1 (omega arith) follows in
           let p = reason_ran x is td missed m w.0 (suc t) (omega arith) w.1 ran in
-          let within = p.1 in
           elim (cases_lt s p.0) [
             | inr earlier ↦ absurd (true≢false (sym (ran_by x w.0 p.0 (suc s) (omega arith) (picks_rows x is td missed m p.0 w.0 p.2)) ∙ w.2.not_run))
             | inl after ↦
                 let that = rest p.0 w.0 after (omega arith) p.2 in
-                let due = that.due in
-                let le = bounds.0 in
                 record {
                   due = omega arith;
                   bit = λ e. (bounds.1 (omega arith) (that.bit (omega arith))).0;
@@ -140,21 +128,17 @@ module _ (x : Run) (is : IsRun x) (td : ℕ) (missed : Subtask) (m : IsFirstMiss
       before_hole s z less i rest (inr empty) =
           let row = picks_rows x is td missed m s z i in
           let next = hole_pick x is td missed m s z (omega arith) empty i in
-          let released = next.1 in
           let before : has_run x (previous_of (next_of z)) t ≡ true = subst (λ y. has_run x y t ≡ true) (sym (previous_next z)) (ran_by x z s t less row) in
           let ran = hole_ran (next_of z) t hole next.0 (omega arith) (inr before) in
           let p = reason_ran x is td missed m (next_of z) (suc t) (omega arith) next.0 ran in
-          let within = p.1 in
           let after = next_after x is z s p.0 row (picks_rows x is td missed m p.0 (next_of z) p.2) in
           let that = rest p.0 (next_of z) after (omega arith) p.2 in
-          let due = that.due in
           let up = next_deadline x is z (is.rows_follow s z row).counted in
           record { due = omega arith; bit = λ e. absurd (omega arith); bound = λ e. absurd (omega arith) }
 
   pub reached : (z : Subtask) (t v : ℕ) → t < v → v ≤ td → AreHoles t v → In (reasons x td missed) z → has_run x z (suc t) ≡ true → IsReached x t v z
   reached z t v from to holes h ran =
       let p = reason_ran x is td missed m z (suc t) (omega arith) h ran in
-      let within = p.1 in
       reached_from t v from to holes (suc t) p.0 z (omega arith) (omega arith) p.2
 
   -- ---- who has a window on a hole, but no row that is picked there
@@ -174,32 +158,28 @@ module _ (x : Run) (is : IsRun x) (td : ℕ) (missed : Subtask) (m : IsFirstMiss
 
   pub unserved : (z : Subtask) (t : ℕ) → t < td → is_full x td missed t ≡ false → In (reasons x td missed) z → release x z ≤ t → t < deadline x z → is_served x td missed z.task t ≡ false → IsUnserved z t
   unserved z t less hole h opened closes alone =
-      let ran = hole_ran z t hole h opened (ready (reason_follows x is td missed m z h) (cases_eq z.index 1)) in
+      let ran = hole_ran z t hole h opened (⊎_map (λ one. one) ready (reason_follows x is td missed m z h)) in
       let p = reason_ran x is td missed m z (suc t) less h ran in
-      let within = p.1 in
       elim (cases_eq p.0 t) [
         | inl now ↦ absurd (true≢false (sym (served_from z.task t z (subst (λ n. In (picks x td missed n) z) now p.2) refl) ∙ alone))
         | inr other ↦
             let before = ran_by x z p.0 t (omega (arith, other)) (picks_rows x is td missed m p.0 z p.2) in
             let one : AreHoles t (suc t) = λ u a b. (let e : t ≡ u = omega (arith, a, b) in subst (λ n. is_full x td missed n ≡ false) e hole) in
             let that = reached z t (suc t) (omega arith) less one h ran in
-            let by = that.due in
             let due : deadline x z ≡ suc t = omega arith in
             record { ran = before; due = due; bit = that.bit due; first = λ s e. first_of s e before }
       ]
     where
-      ready : (z.index ≡ 1) ⊎ (has_run x (previous_of z) td ≡ true) → (z.index ≡ 1) ⊎ (z.index ≡ 1 → ⊥) → (z.index ≡ 1) ⊎ (has_run x (previous_of z) t ≡ true)
-      ready f (inl one) = inl one
-      ready (inl one) (inr other) = inl one
-      ready (inr ran) (inr other) =
+      ready : has_run x (previous_of z) td ≡ true → has_run x (previous_of z) t ≡ true
+      ready ran =
           let counted = reason_index x is td missed m z h in
           let p = ran_at x (previous_of z) td ran in
           let early = in_time x is td missed m (previous_of z) p.0 p.1 p.2 in
           let small = b_bit_small x is (previous_of z) in
-          let late = next_release_late x is (previous_of z) (omega (arith, other)) in
+          let late = next_release_late x is (previous_of z) (is.rows_follow p.0 (previous_of z) p.2).counted in
           let same : release x (next_of (previous_of z)) ≡ release x z = ap (release x) (next_previous z counted) in
           elim (cases_lt p.0 t) [
-            | inl before ↦ inr (ran_by x (previous_of z) p.0 t before p.2)
+            | inl before ↦ ran_by x (previous_of z) p.0 t before p.2
             | inr after ↦ absurd (
                 let now : p.0 ≡ t = omega arith in
                 let row : is_row x t (previous_of z) ≡ true = subst (λ n. is_row x n (previous_of z) ≡ true) now p.2 in
@@ -209,30 +189,21 @@ module _ (x : Run) (is : IsRun x) (td : ℕ) (missed : Subtask) (m : IsFirstMiss
           ]
 
       first_of : (s : ℕ) → suc s ≡ t → has_run x z t ≡ true → is_full x td missed s ≡ true
-      first_of s e before = ⊎_elim
-          (λ full. full)
-          (λ empty. absurd (
+      first_of s e before = true_from_ne_false (is_full x td missed s) (λ empty.
           let one : AreHoles s (suc s) = λ u a b. (let i : s ≡ u = omega (arith, a, b) in subst (λ n. is_full x td missed n ≡ false) i empty) in
           let that = reached z s (suc s) (omega arith) (omega arith) one h (ap (has_run x z) e ∙ before) in
-          let by = that.due in
-          omega arith))
-          (cases_Bool (is_full x td missed s))
+          omega arith)
 
   -- within a block who is unserved stays unserved
   pub unserved_next : (a : Task) (t : ℕ) → suc t < td → is_full x td missed t ≡ false → is_full x td missed (suc t) ≡ false → is_served x td missed a t ≡ false → is_served x td missed a (suc t) ≡ false
-  unserved_next a t less hole next_hole alone = ⊎_elim
-      (λ served. absurd (
+  unserved_next a t less hole next_hole alone = false_from_ne_true (is_served x td missed a (suc t)) (λ served.
       let p = served_some a (suc t) served in
       let here = tight p.0 (suc t) less next_hole p.1 in
       let first = (is.rows_follow (suc t) p.0 (picks_rows x is td missed m (suc t) p.0 p.1)).counted in
       let two = release_two_before x is p.0 first here.bit in
-      let due = here.due in
       let q = reason_pick x is td missed m (suc t) p.0 less p.1 in
       let left = unserved p.0 t (omega arith) hole q (omega arith) (omega arith) (ap (λ b. is_served x td missed b t) p.2 ∙ alone) in
-      let now = left.due in
-      omega arith))
-      (λ e. e)
-      (cases_Bool (is_served x td missed a (suc t)))
+      omega arith)
 
   pub unserved_on : (a : Task) (u s v : ℕ) → u ≤ s → s < v → v ≤ td → AreHoles u v → is_served x td missed a u ≡ false → is_served x td missed a s ≡ false
   unserved_on a u zero v from to le holes alone = let e : u ≡ 0 = omega arith in subst (λ n. is_served x td missed a n ≡ false) e alone

@@ -1,8 +1,10 @@
 -- What is among lists, by a test of being the same.
-use Rattle.std.proofs.Common.{◌≡◌, Bool, true, false, cond, List, [], ◌∷◌, ◌++◌, ap, refl, sym, ◌∙◌, subst, inl, inr, ⊎_elim}
-use Rattle.std.specs.Prelude.{◌↔◌, ◌⊎◌, filter}
+use Rattle.std.proofs.Common.{◌≡◌, Bool, true, List, [], ◌∷◌, ◌++◌, ap, refl, sym, ◌∙◌, inl, inr, ⊎_elim, arith}
+use Rattle.std.specs.Prelude.{◌↔◌, ◌⊎◌, ◌&&◌, filter}
 use Rattle.std.specs.List.{list_any}
-use Rattle.std.proofs.lemmas.Bool.{true≢false, false≢true, or_cases, or_left, or_right, cases_Bool}
+use Rattle.std.proofs.lemmas.List.Folds.{list_any-append}
+use Rattle.std.proofs.lemmas.Map.Views.{any-filter_same}
+use Rattle.std.proofs.lemmas.Bool.{and_parts, and_from, false_from_ne_true, false≢true, or_cases, or_left, or_right}
 use Rattle.pfair_optimal.specs.Run.{is_among, NoneTwice}
 
 module _ {A : Type 0} (same : A → A → Bool) (exact : (a b : A) → (same a b ≡ true) ↔ (a ≡ b)) where
@@ -16,41 +18,23 @@ module _ {A : Type 0} (same : A → A → Bool) (exact : (a b : A) → (same a b
   among_cases y ys x h = ⊎_elim (λ e. inl ((exact x y).0 e)) (λ m. inr m) (or_cases (same x y) (list_any (same x) ys) h)
 
   pub among_left : (xs ys : List A) (x : A) → is_among same xs x ≡ true → is_among same (xs ++ ys) x ≡ true
-  among_left [] ys x h = absurd (false≢true h)
-  among_left (y ∷ xs) ys x h = ⊎_elim (λ e. or_left (same x y) (list_any (same x) (xs ++ ys)) e) (λ m. among_more y (xs ++ ys) x (among_left xs ys x m)) (or_cases (same x y) (list_any (same x) xs) h)
+  among_left xs ys x h = list_any-append (same x) xs ys ∙ or_left (is_among same xs x) (is_among same ys x) h
 
   pub among_right : (xs ys : List A) (x : A) → is_among same ys x ≡ true → is_among same (xs ++ ys) x ≡ true
-  among_right [] ys x h = h
-  among_right (y ∷ xs) ys x h = among_more y (xs ++ ys) x (among_right xs ys x h)
+  among_right xs ys x h = list_any-append (same x) xs ys ∙ or_right (is_among same xs x) (is_among same ys x) h
 
   pub among_append : (xs ys : List A) (x : A) → is_among same (xs ++ ys) x ≡ true → (is_among same xs x ≡ true) ⊎ (is_among same ys x ≡ true)
-  among_append [] ys x h = inr h
-  among_append (y ∷ xs) ys x h = ⊎_elim
-      (λ e. inl (or_left (same x y) (list_any (same x) xs) e))
-      (λ m. ⊎_elim (λ l. inl (among_more y xs x l)) (λ r. inr r) (among_append xs ys x m))
-      (or_cases (same x y) (list_any (same x) (xs ++ ys)) h)
+  among_append xs ys x h = or_cases (is_among same xs x) (is_among same ys x) (sym (list_any-append (same x) xs ys) ∙ h)
 
   -- what passes a test
+  filter_is : (p : A → Bool) (xs : List A) (x : A) → is_among same (filter p xs) x ≡ (p x && is_among same xs x)
+  filter_is p xs x = any-filter_same (same x) p (p x) (λ y e. ap p (sym ((exact x y).0 e))) xs
+
   pub among_filter : (p : A → Bool) (xs : List A) (x : A) → is_among same (filter p xs) x ≡ true → (is_among same xs x ≡ true) × (p x ≡ true)
-  among_filter p [] x h = absurd (false≢true h)
-  among_filter p (y ∷ ys) x h = by (p y) refl (λ m. among_filter p ys x m) h
-    where
-      by : (b : Bool) → p y ≡ b → (is_among same (filter p ys) x ≡ true → (is_among same ys x ≡ true) × (p x ≡ true)) → is_among same (cond b (y ∷ filter p ys) (filter p ys)) x ≡ true → (is_among same (y ∷ ys) x ≡ true) × (p x ≡ true)
-      by true e rest m = ⊎_elim
-          (λ i. (subst (λ (q : A). is_among same (y ∷ ys) q ≡ true) (sym i) (among_here ys y), ap p i ∙ e))
-          (λ k. (let t = rest k in (among_more y ys x t.0, t.1)))
-          (among_cases y (filter p ys) x m)
-      by false e rest m = (let t = rest m in (among_more y ys x t.0, t.1))
+  among_filter p xs x h = let t = and_parts (p x) (is_among same xs x) (sym (filter_is p xs x) ∙ h) in (t.1, t.0)
 
   pub filter_among : (p : A → Bool) (xs : List A) (x : A) → is_among same xs x ≡ true → p x ≡ true → is_among same (filter p xs) x ≡ true
-  filter_among p [] x h e = absurd (false≢true h)
-  filter_among p (y ∷ ys) x h e = by (p y) refl (λ m. filter_among p ys x m e) (among_cases y ys x h)
-    where
-      by : (b : Bool) → p y ≡ b → (is_among same ys x ≡ true → is_among same (filter p ys) x ≡ true) → (x ≡ y) ⊎ (is_among same ys x ≡ true) → is_among same (cond b (y ∷ filter p ys) (filter p ys)) x ≡ true
-      by true q rest (inl i) = subst (λ (n : A). is_among same (y ∷ filter p ys) n ≡ true) (sym i) (among_here (filter p ys) y)
-      by true q rest (inr m) = among_more y (filter p ys) x (rest m)
-      by false q rest (inl i) = absurd (true≢false (sym e ∙ ap p i ∙ q))
-      by false q rest (inr m) = rest m
+  filter_among p xs x h e = filter_is p xs x ∙ and_from (p x) (is_among same xs x) e h
 
   -- some one passes a test
   pub any_from : (p : A → Bool) (xs : List A) (x : A) → is_among same xs x ≡ true → p x ≡ true → list_any p xs ≡ true
@@ -68,20 +52,11 @@ module _ {A : Type 0} (same : A → A → Bool) (exact : (a b : A) → (same a b
       (or_cases (p y) (list_any p ys) h)
 
   -- none twice
-  not_among : (xs : List A) (x : A) → (is_among same xs x ≡ true → ⊥) → is_among same xs x ≡ false
-  not_among xs x absent = ⊎_elim (λ here. absurd (absent here)) (λ e. e) (cases_Bool (is_among same xs x))
-
   pub twice_filter : (p : A → Bool) (xs : List A) → NoneTwice same xs → NoneTwice same (filter p xs)
   twice_filter p [] h = tt
-  twice_filter p (y ∷ ys) h = by (p y) (twice_filter p ys h.1)
-    where
-      by : (b : Bool) → NoneTwice same (filter p ys) → NoneTwice same (cond b (y ∷ filter p ys) (filter p ys))
-      by true rest = (not_among (filter p ys) y (λ here. true≢false (sym (among_filter p ys y here).0 ∙ h.0)), rest)
-      by false rest = rest
+  twice_filter p (y ∷ ys) h = grind (arith, false_from_ne_true, among_filter, twice_filter p ys h.1)
 
   pub twice_append : (xs ys : List A) → NoneTwice same xs → NoneTwice same ys → ((x : A) → is_among same xs x ≡ true → is_among same ys x ≡ true → ⊥) → NoneTwice same (xs ++ ys)
   twice_append [] ys a b apart = b
-  twice_append (x ∷ xs) ys a b apart = (
-    not_among (xs ++ ys) x (λ here. ⊎_elim (λ l. true≢false (sym l ∙ a.0)) (λ r. apart x (among_here xs x) r) (among_append xs ys x here)),
-    twice_append xs ys a.1 b (λ z l r. apart z (among_more x xs z l) r),
-  )
+  twice_append (x ∷ xs) ys a b apart =
+      grind (arith, false_from_ne_true, among_here, among_append, among_more, twice_append xs ys a.1 b (λ z l r. apart z (among_more x xs z l) r))

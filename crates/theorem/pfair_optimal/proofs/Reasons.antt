@@ -3,10 +3,11 @@
 use Rattle.std.proofs.Common.{◌≡◌, ℕ, zero, suc, ◌+◌, ◌-◌, ◌<◌, ◌≤◌, Bool, true, false, cond, not, ◌&&◌, ◌||◌, List, [], ◌∷◌, ◌++◌, length, arith, ap, refl, sym, ◌∙◌, subst, inl, inr, ⊎_elim}
 use Rattle.std.specs.Prelude.{◌⊎◌, ◌==◌, nat_le, filter}
 use Rattle.std.specs.List.{list_any}
-use Rattle.std.proofs.lemmas.Bool.{true≢false, false≢true, or_cases, or_left, or_right, and_parts, and_from, eqb-true, eq-eqb, leb-true, le-leb, cases_lt, cases_eq, cases_Bool, not-true, not_from_false}
+use Rattle.std.proofs.Math.Logic.{⊎_map}
+use Rattle.std.proofs.lemmas.Bool.{false_from_ne_true, true≢false, false≢true, or_cases, or_left, or_right, and_parts, and_from, eqb-true, eq-eqb, leb-true, le-leb, cases_lt, cases_Bool, not-true, not_from_false}
 use Rattle.pfair_optimal.specs.Run.{Subtask, is_among, NoneTwice, same_subtask, next_of, previous_of, Run, release, deadline, is_row, has_run, IsRun, IsMiss, IsFirstMiss, GoesFirst}
 use Rattle.pfair_optimal.proofs.Lists.{among_here, among_cases, among_left, among_right, among_append, among_filter, filter_among, any_from, any_some, twice_filter, twice_append}
-use Rattle.pfair_optimal.proofs.Past.{subtask_exact, next_previous, ran_at, ran_by, ran_more, not_ran_less, row_not_before, next_after}
+use Rattle.pfair_optimal.proofs.Past.{subtask_exact, next_previous, ran_at, ran_by, ran_more, not_ran_less, row_not_before, next_not_run}
 use Rattle.pfair_optimal.proofs.RunWindows.{release_joined, release_before, next_deadline, first_bound}
 
 -- it is released by slot v, the one before it ran before v, and it has not run by the end of v
@@ -88,11 +89,7 @@ late_row x is z s row late =
 module _ (x : Run) (is : IsRun x) (td : ℕ) (missed : Subtask) (m : IsFirstMiss x td missed) where
   -- what ran before the first miss ran before its deadline
   pub in_time : (z : Subtask) (s : ℕ) → s < td → is_row x s z ≡ true → s < deadline x z
-  in_time z s before row =
-      elim (cases_lt s (deadline x z)) [
-        | inl early ↦ early
-        | inr late ↦ absurd (m.first s z before (late_row x is z s row late))
-      ]
+  in_time z s before row = grind (arith, late_row)
 
   -- ---- who came in, and when
 
@@ -121,7 +118,7 @@ module _ (x : Run) (is : IsRun x) (td : ℕ) (missed : Subtask) (m : IsFirstMiss
       (λ z h. ⊎_elim (λ e. inl e) (λ none. absurd (false≢true none)) (among_cases same_subtask subtask_exact missed [] z (subst (λ q. In q z) later_last h)))
       (λ t less rest z h. ⊎_elim
       (λ here. inr (t, omega arith, less, here))
-      (λ after. ⊎_elim (λ e. inl e) (λ p. inr (p.0, (let l = p.1 in omega arith), p.2, p.3)) (rest z after))
+      (λ after. ⊎_elim (λ e. inl e) (λ p. inr (p.0, omega arith, p.2, p.3)) (rest z after))
       (among_append same_subtask subtask_exact (picks x td missed t) (later x td missed (suc t)) z (subst (λ q. In q z) (later_step t less) h)))
 
   pub later_missed : (t : ℕ) → t ≤ td → In (later x td missed t) missed
@@ -139,16 +136,13 @@ module _ (x : Run) (is : IsRun x) (td : ℕ) (missed : Subtask) (m : IsFirstMiss
       ]))
 
   pub reason_cases : (z : Subtask) → In (reasons x td missed) z → (z ≡ missed) ⊎ ((v : ℕ) × (v < td) × In (picks x td missed v) z)
-  reason_cases z h = ⊎_elim (λ e. inl e) (λ p. inr (p.0, p.2, p.3)) (later_cases 0 (omega arith) z h)
+  reason_cases z h = ⊎_map (λ e. e) (λ p. (p.0, p.2, p.3)) (later_cases 0 (omega arith) z h)
 
   pub reason_pick : (v : ℕ) (z : Subtask) → v < td → In (picks x td missed v) z → In (reasons x td missed) z
   reason_pick v z before h = later_pick 0 (omega arith) v z (omega arith) before h
 
   pub later_reason : (v : ℕ) (z : Subtask) → v ≤ td → In (later x td missed v) z → In (reasons x td missed) z
-  later_reason v z le h = ⊎_elim
-      (λ e. subst (λ w. In (reasons x td missed) w) (sym e) (later_missed 0 (omega arith)))
-      (λ p. reason_pick p.0 z p.2 p.3)
-      (later_cases v le z h)
+  later_reason v z le h = grind (arith, later_missed, reason_pick, later_cases)
 
   -- what has not run by the end of v came in later
   pub reason_later : (z : Subtask) (v : ℕ) → v < td → In (reasons x td missed) z → has_run x z (suc v) ≡ false → In (later x td missed (suc v)) z
@@ -182,12 +176,9 @@ module _ (x : Run) (is : IsRun x) (td : ℕ) (missed : Subtask) (m : IsFirstMiss
       any_from same_subtask subtask_exact (waits x v) (later x td missed (suc v)) t.0 (reason_later t.0 v before t.1 t.2.not_run) (waits_from x v t.0 t.2)
 
   hole_later : (v : ℕ) → v < td → is_full x td missed v ≡ false → list_any (waits x v) (later x td missed (suc v)) ≡ false
-  hole_later v before h = ⊎_elim
-      (λ some. absurd (
+  hole_later v before h = false_from_ne_true (list_any (waits x v) (later x td missed (suc v))) (λ some.
       let t = any_some same_subtask subtask_exact (waits x v) (later x td missed (suc v)) some in
-      true≢false (sym (full_from v t.0 (later_reason (suc v) t.0 before t.1) (waits_true x v t.0 t.2)) ∙ h)))
-      (λ e. e)
-      (cases_Bool (list_any (waits x v) (later x td missed (suc v))))
+      true≢false (sym (full_from v t.0 (later_reason (suc v) t.0 before t.1) (waits_true x v t.0 t.2)) ∙ h))
 
   -- the picks of a full slot are all its rows
   pub picks_full : (v : ℕ) → v < td → is_full x td missed v ≡ true → picks x td missed v ≡ x.table v
@@ -205,14 +196,9 @@ module _ (x : Run) (is : IsRun x) (td : ℕ) (missed : Subtask) (m : IsFirstMiss
 
   pub pick_hole : (v : ℕ) (w : Subtask) → v < td → is_full x td missed v ≡ false → is_row x v w ≡ true → In (reasons x td missed) (next_of w) → release x (next_of w) ≤ v → In (picks x td missed v) w
   pick_hole v w before h row next released =
-      let not_run = next_not_run (cases_Bool (has_run x (next_of w) (suc v))) in
       subst (λ q. In q w) (sym (picks_hole v before h))
       (filter_among same_subtask subtask_exact (is_wanted x (later x td missed (suc v)) v) (x.table v) w row
-      (and_from (is_among same_subtask (later x td missed (suc v)) (next_of w)) (nat_le (release x (next_of w)) v) (reason_later (next_of w) v before next not_run) (le-leb (release x (next_of w)) v released)))
-    where
-      next_not_run : (has_run x (next_of w) (suc v) ≡ true) ⊎ (has_run x (next_of w) (suc v) ≡ false) → has_run x (next_of w) (suc v) ≡ false
-      next_not_run (inr e) = e
-      next_not_run (inl ran) = absurd (let p = ran_at x (next_of w) (suc v) ran in let l = p.1 in let after = next_after x is w v p.0 row p.2 in omega arith)
+      (and_from (is_among same_subtask (later x td missed (suc v)) (next_of w)) (nat_le (release x (next_of w)) v) (reason_later (next_of w) v before next (next_not_run x is w v row)) (le-leb (release x (next_of w)) v released)))
 
   -- ---- what each of them is
 
@@ -225,7 +211,7 @@ module _ (x : Run) (is : IsRun x) (td : ℕ) (missed : Subtask) (m : IsFirstMiss
   pub reason_follows : (z : Subtask) → In (reasons x td missed) z → (z.index ≡ 1) ⊎ (has_run x (previous_of z) td ≡ true)
   reason_follows z h = ⊎_elim
       (λ e. subst (λ (w : Subtask). (w.index ≡ 1) ⊎ (has_run x (previous_of w) td ≡ true)) (sym e) m.miss.next.follows)
-      (λ p. ⊎_elim (λ f. inl f) (λ r. inr (ran_more x (previous_of z) p.0 td (let l = p.1 in omega arith) r)) (is.rows_follow p.0 z (picks_rows p.0 z p.2)).follows)
+      (λ p. ⊎_elim (λ f. inl f) (λ r. inr (ran_more x (previous_of z) p.0 td (omega arith) r)) (is.rows_follow p.0 z (picks_rows p.0 z p.2)).follows)
       (reason_cases z h)
 
   -- what ran before t is a pick of a slot before t
@@ -256,18 +242,13 @@ module _ (x : Run) (is : IsRun x) (td : ℕ) (missed : Subtask) (m : IsFirstMiss
       (λ z here after. true≢false (sym (ran_by x z t (suc t) (omega arith) (picks_rows t z here)) ∙ later_not_run z (suc t) less after))))
     where
       picks_twice : (t : ℕ) → NoneTwice same_subtask (picks x td missed t)
-      picks_twice t = by (list_any (waits x t) (later x td missed (suc t)))
-        where
-          by : (b : Bool) → NoneTwice same_subtask (cond b (x.table t) (filter (is_wanted x (later x td missed (suc t)) t) (x.table t)))
-          by true = is.rows_apart t
-          by false = twice_filter same_subtask subtask_exact (is_wanted x (later x td missed (suc t)) t) (x.table t) (is.rows_apart t)
+      picks_twice t = grind (arith, twice_filter, subtask_exact)
 
   -- a full slot has a row on each processor, and each goes before each that waits
   pub full_rows : (z : Subtask) (v : ℕ) → v < td → In (reasons x td missed) z → Waits x z v → (length (x.table v) ≡ x.processors) × ((w : Subtask) → is_row x v w ≡ true → GoesFirst x w z)
   full_rows z v before h w =
       let first = reason_index z h in
       let joined = release_joined x is z first in
-      let released = w.released in
       is.chosen v z (record { counted = first; follows = w.follows }) (reason_active z v before h w.not_run (omega arith)) w.released w.not_run
 
   -- no deadline of them is after the miss
@@ -286,19 +267,13 @@ module _ (x : Run) (is : IsRun x) (td : ℕ) (missed : Subtask) (m : IsFirstMiss
           let first = (full_rows w.0 t less w.1 w.2).1 z (picks_rows t z here) in
           let bound = first_bound x is z w.0 first in
           let due = rest w.0 (reason_later w.0 t less w.1 w.2.not_run) in
-          let le = bound.0 in
           omega arith
       by_slot t less rest z here (inr hole) =
           let row = picks_rows t z here in
           let p = hole_pick t z less hole here in
           let up = next_deadline x is z (is.rows_follow t z row).counted in
-          let not_run = row_or_not t z row (cases_Bool (has_run x (next_of z) (suc t))) in
-          let due = rest (next_of z) (reason_later (next_of z) t less p.0 not_run) in
+          let due = rest (next_of z) (reason_later (next_of z) t less p.0 (next_not_run x is z t row)) in
           omega arith
-        where
-          row_or_not : (t : ℕ) (z : Subtask) → is_row x t z ≡ true → (has_run x (next_of z) (suc t) ≡ true) ⊎ (has_run x (next_of z) (suc t) ≡ false) → has_run x (next_of z) (suc t) ≡ false
-          row_or_not t z row (inr e) = e
-          row_or_not t z row (inl ran) = absurd (let p = ran_at x (next_of z) (suc t) ran in let l = p.1 in let after = next_after x is z t p.0 row p.2 in omega arith)
 
   pub reason_due : (z : Subtask) → In (reasons x td missed) z → deadline x z ≤ td
   reason_due z h = due_by_miss 0 (omega arith) z h
@@ -307,22 +282,16 @@ module _ (x : Run) (is : IsRun x) (td : ℕ) (missed : Subtask) (m : IsFirstMiss
   pub full_last : (last : ℕ) → suc last ≡ td → is_full x td missed last ≡ true
   full_last last e =
       let opens = release_before x is missed m.miss.next.counted in
-      let late = m.miss.late in
       full_from last missed (later_missed 0 (omega arith)) (record {
         released = omega arith;
         not_run = ap (has_run x missed) e ∙ m.miss.not_run;
-        follows = before_last m.miss.next.follows (cases_eq missed.index 1);
+        follows = ⊎_map (λ one. one) before_last m.miss.next.follows;
       })
     where
-      before_last : (missed.index ≡ 1) ⊎ (has_run x (previous_of missed) td ≡ true) → (missed.index ≡ 1) ⊎ (missed.index ≡ 1 → ⊥) → (missed.index ≡ 1) ⊎ (has_run x (previous_of missed) last ≡ true)
-      before_last f (inl one) = inl one
-      before_last (inl one) (inr other) = inl one
-      before_last (inr ran) (inr other) =
-          let counted = m.miss.next.counted in
+      before_last : has_run x (previous_of missed) td ≡ true → has_run x (previous_of missed) last ≡ true
+      before_last ran =
           let p = ran_at x (previous_of missed) td ran in
-          let less = p.1 in
           let early = in_time (previous_of missed) p.0 p.1 p.2 in
-          let up : deadline x (previous_of missed) < deadline x (next_of (previous_of missed)) = next_deadline x is (previous_of missed) (omega arith) in
-          let same : deadline x (next_of (previous_of missed)) ≡ deadline x missed = ap (deadline x) (next_previous missed counted) in
-          let late = m.miss.late in
-          inr (ran_by x (previous_of missed) p.0 last (omega arith) p.2)
+          let up = next_deadline x is (previous_of missed) (is.rows_follow p.0 (previous_of missed) p.2).counted in
+          let same : deadline x (next_of (previous_of missed)) ≡ deadline x missed = ap (deadline x) (next_previous missed m.miss.next.counted) in
+          ran_by x (previous_of missed) p.0 last (omega arith) p.2

@@ -2,7 +2,7 @@
 use Rattle.std.proofs.Common.{◌≡◌, ℕ, zero, suc, ◌+◌, ◌<◌, ◌≤◌, arith, ap, inl, inr}
 use Rattle.std.proofs.lemmas.Bool.{cases_lt}
 use Rattle.pfair_weight.specs.WindowFacts.{window_not_empty, release_rises, deadline_rises_strictly, windows_overlap, b_bit_at_most_one}
-use Rattle.pfair_optimal.specs.Run.{Task, Subtask, next_of, Run, release, deadline, b_bit, group_deadline, busy_bound, IsRun, GoesFirst}
+use Rattle.pfair_optimal.specs.Run.{Task, Subtask, next_of, Run, release, deadline, b_bit, busy_bound, IsRun, GoesFirst}
 
 module _ (x : Run) (is : IsRun x) where
   -- offsets never fall
@@ -20,15 +20,10 @@ module _ (x : Run) (is : IsRun x) where
 
   -- the next window opens where this one closes less the b-bit, and the delay between them
   pub next_release : (z : Subtask) → 1 ≤ z.index → release x (next_of z) + b_bit x z + x.offset z.task z.index ≡ deadline x z + x.offset z.task (z.index + 1)
-  next_release z first =
-      let meet = windows_overlap (x.weight z.task) z.index 0 in
-      omega arith
+  next_release z first = grind (arith, windows_overlap)
 
   pub next_release_late : (z : Subtask) → 1 ≤ z.index → deadline x z ≤ release x (next_of z) + b_bit x z
-  next_release_late z first =
-      let e = next_release z first in
-      let rise = is.offsets_rise z.task z.index first in
-      omega arith
+  next_release_late z first = grind (arith, next_release)
 
   pub b_bit_small : (z : Subtask) → b_bit x z ≤ 1
   b_bit_small z = b_bit_at_most_one (x.weight z.task) z.index
@@ -38,11 +33,7 @@ module _ (x : Run) (is : IsRun x) where
 
   -- a window with b-bit 1 has two slots at least
   pub release_two_before : (z : Subtask) → 1 ≤ z.index → b_bit x z ≡ 1 → release x z + 1 < deadline x z
-  release_two_before z first bit =
-      let w = x.weight z.task in
-      let rises = release_rises w z.index (z.index + 1) 0 (is.weights z.task) first (omega arith) in
-      let meet = windows_overlap w z.index 0 in
-      omega arith
+  release_two_before z first bit = grind (arith, release_rises, windows_overlap)
 
   pub release_joined : (z : Subtask) → 1 ≤ z.index → z.task.joined ≤ release x z
   release_joined z first = let start = is.offsets_start z.task z.index first in omega arith
@@ -69,19 +60,4 @@ module _ (x : Run) (is : IsRun x) where
 
   -- of two with one deadline and b-bit 1 the one that goes first is bound no earlier
   pub first_bound : (w z : Subtask) → GoesFirst x w z → (deadline x w ≤ deadline x z) × (deadline x w ≡ deadline x z → b_bit x z ≡ 1 → (b_bit x w ≡ 1) × (busy_bound x z ≤ busy_bound x w))
-  first_bound w z before =
-      let one = b_bit_small w in
-      let other = b_bit_small z in
-      elim before [
-        | inl earlier ↦ (omega arith, λ same bit. absurd (omega arith))
-        | inr (same, tie) ↦ elim tie [
-          | inl greater ↦ (omega arith, λ _ bit. absurd (omega arith))
-          | inr (bits, groups) ↦ elim groups [
-            | inl none ↦ (omega arith, λ _ bit. absurd (omega arith))
-            | inr later ↦ (omega arith, λ _ bit. (omega arith, bound_le w z same bits later))
-          ]
-        ]
-      ]
-    where
-      bound_le : (w z : Subtask) → deadline x w ≡ deadline x z → b_bit x w ≡ b_bit x z → group_deadline x z ≤ group_deadline x w → busy_bound x z ≤ busy_bound x w
-      bound_le w z same bits later = omega arith
+  first_bound w z before = grind (arith, b_bit_small)

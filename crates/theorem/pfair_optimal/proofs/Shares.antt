@@ -1,7 +1,8 @@
 -- The shares that one task's subtasks have of a slot.
-use Rattle.std.proofs.Common.{◌≡◌, ℕ, suc, ◌+◌, ◌-◌, ◌<◌, ◌≤◌, Bool, true, false, cond, [], ◌∷◌, arith, ap, refl, sym, ◌∙◌, subst, inl, inr, ⊎_elim}
+use Rattle.std.proofs.Common.{◌≡◌, ℕ, suc, ◌+◌, ◌-◌, ◌<◌, ◌≤◌, true, false, cond, [], ◌∷◌, arith, ap, refl, sym, ◌∙◌, subst, inl, inr, ⊎_elim}
 use Rattle.std.specs.Prelude.{◌⊎◌}
 use Rattle.std.proofs.lemmas.Bool.{true≢false, cases_lt, cases_eq, cases_order}
+use Rattle.std.proofs.Math.Nat.{lt_of_not-le}
 use Rattle.pfair_weight.specs.Window.{release_of}
 use Rattle.pfair_optimal.specs.Fluid.{share_of}
 use Rattle.pfair_optimal.specs.Run.{Task, Subtask, is_among, NoneTwice, same_task, same_subtask, Run, release, deadline, busy_bound, IsRun, IsFirstMiss}
@@ -28,20 +29,20 @@ shares x td missed a v = total (own_share x a v) (reasons x td missed)
 abbrev pub subtask_of : Task → ℕ → Subtask
 subtask_of a i = record { task = a; index = i }
 
+-- what rises with the index is met at one index alone
+rising_once : (f : ℕ → ℕ) → ((i j : ℕ) → 1 ≤ i → i < j → f i < f j) → (i j : ℕ) → 1 ≤ i → 1 ≤ j → f i ≡ f j → i ≡ j
+rising_once f up i j first first' e = elim (cases_order i j) [
+  | inl same ↦ same
+  | inr (inl less) ↦ absurd (let higher = up i j first less in omega arith)
+  | inr (inr more) ↦ absurd (let lower = up j i first' more in omega arith)
+]
+
 -- what is above 0 is the task's own
 pub own : (x : Run) (a : Task) (v : ℕ) (z : Subtask) → 0 < own_share x a v z → (z.task ≡ a) × (0 < share x z v)
-own x a v z some = by (same_task z.task a) refl some
-  where
-    by : (b : Bool) → same_task z.task a ≡ b → 0 < cond b (share x z v) 0 → (z.task ≡ a) × (0 < share x z v)
-    by true e s = ((task_exact z.task a).0 e, s)
-    by false e s = absurd (omega arith)
+own x a v z some = grind (arith, task_exact)
 
 own_le : (x : Run) (a : Task) (v : ℕ) (z : Subtask) → own_share x a v z ≤ share x z v
-own_le x a v z = by (same_task z.task a)
-  where
-    by : (b : Bool) → cond b (share x z v) 0 ≤ share x z v
-    by true = omega arith
-    by false = omega arith
+own_le x a v z = grind arith
 
 module _ (x : Run) (is : IsRun x) (td : ℕ) (missed : Subtask) (m : IsFirstMiss x td missed) where
   reasons_twice : NoneTwice same_subtask (reasons x td missed)
@@ -156,8 +157,6 @@ module _ (x : Run) (is : IsRun x) (td : ℕ) (missed : Subtask) (m : IsFirstMiss
       let p = shares_some a t some in
       let first = reason_index x is td missed m (subtask_of a p.0) p.1 in
       let inside = share_inside (subtask_of a p.0) t first p.2 in
-      let opened = inside.0 in
-      let closes = inside.1 in
       let joined = release_joined x is (subtask_of a p.0) first in
       let bound = busy_late x is (subtask_of a p.0) in
       ⊎_elim
@@ -184,21 +183,17 @@ module _ (x : Run) (is : IsRun x) (td : ℕ) (missed : Subtask) (m : IsFirstMiss
           let that = reached x is td missed m (subtask_of a i) u v from (omega arith) holes h (ran_more x (subtask_of a i) u (suc u) (omega arith) here.ran) in
           let bound = that.bound here.due in
           let joined = release_joined x is (subtask_of a i) first in
-          let opened = inside.0 in
           record { member = is.held (subtask_of a i) u v here.ran (omega arith) bound; fits = fits i h first here bound }
         where
           -- who has a share in v is released there
           released : (j : ℕ) → In (reasons x td missed) (subtask_of a j) → 0 < share x (subtask_of a j) v → release x (subtask_of a j) ≡ v
           released j k s =
               let inside = share_inside (subtask_of a j) v (reason_index x is td missed m (subtask_of a j) k) s in
-              let opened = inside.0 in
-              let closes = inside.1 in
               elim (cases_lt (release x (subtask_of a j)) v) [
                 | inr now ↦ omega arith
                 | inl before ↦ absurd (
                     let still = unserved_on x is td missed m a u (v - 1) v (omega arith) (omega arith) (omega arith) holes alone in
                     let left = unserved x is td missed m (subtask_of a j) (v - 1) (omega arith) (holes (v - 1) (omega arith) (omega arith)) k (omega arith) (omega arith) still in
-                    let due = left.due in
                     omega arith)
               ]
 
@@ -209,12 +204,7 @@ module _ (x : Run) (is : IsRun x) (td : ℕ) (missed : Subtask) (m : IsFirstMiss
               (let low = reason_index x is td missed m (subtask_of a j) k in
               let inside = share_inside (subtask_of a j) u low s in
               let other = unserved x is td missed m (subtask_of a j) u (omega arith) (holes u (omega arith) from) k inside.0 inside.1 alone in
-              let also = other.due in
-              elim (cases_order j i) [
-                | inl e ↦ e
-                | inr (inl less) ↦ absurd (let up = deadlines x is a j i low less in omega (arith, up, also, due))
-                | inr (inr more) ↦ absurd (let up = deadlines x is a i j first more in omega (arith, up, also, due))
-              ])) in
+              rising_once (λ n. deadline x (subtask_of a n)) (deadlines x is a) j i low first (other.due ∙ sym due))) in
               elim (cases_lt 0 (shares x td missed a v)) [
                 | inr none ↦ (let le = shares_le_cost a u in omega arith)
                 | inl some_v ↦
@@ -223,19 +213,12 @@ module _ (x : Run) (is : IsRun x) (td : ℕ) (missed : Subtask) (m : IsFirstMiss
                     let first_p = reason_index x is td missed m (subtask_of a p.0) p.1 in
                     let inside = share_inside (subtask_of a p.0) v first_p p.2 in
                     let closes = inside.1 in
-                    let one = shares_one a v p.0 (λ j k s.
-                    (let low = reason_index x is td missed m (subtask_of a j) k in
-                    let also = released j k s in
-                    elim (cases_order j p.0) [
-                      | inl e ↦ e
-                      | inr (inl less) ↦ absurd (let up = releases x is a j p.0 low less in omega (arith, up, also, at))
-                      | inr (inr more) ↦ absurd (let up = releases x is a p.0 j first_p more in omega (arith, up, also, at))
-                    ])) in
-                    let after : i < p.0 = elim (cases_order i p.0) [
-                      | inl e ↦ absurd (let same : deadline x (subtask_of a i) ≡ deadline x (subtask_of a p.0) = ap (λ (n : ℕ). deadline x (subtask_of a n)) e in omega (arith, closes, due, same))
-                      | inr (inl less) ↦ less
-                      | inr (inr more) ↦ absurd (let up = deadlines x is a p.0 i first_p more in omega (arith, up, closes, due))
-                    ] in
+                    let one = shares_one a v p.0 (λ j k s. rising_once (λ n. release x (subtask_of a n)) (releases x is a) j p.0 (reason_index x is td missed m (subtask_of a j) k) first_p (released j k s ∙ sym at)) in
+                    let after : i < p.0 = lt_of_not-le (λ le.
+                    elim (cases_eq i p.0) [
+                      | inl e ↦ (let same : deadline x (subtask_of a i) ≡ deadline x (subtask_of a p.0) = ap (λ (n : ℕ). deadline x (subtask_of a n)) e in omega arith)
+                      | inr other ↦ (let up = deadlines x is a p.0 i first_p (omega (arith, le, other)) in omega arith)
+                    ]) in
                     let le = busy_opens (x.weight a) i p.0 (x.offset a i) (x.offset a p.0) (is.weights a) here.bit after (offsets x is a i p.0 first (omega arith)) (omega arith) in
                     let meet = shares_meet (x.weight a) i (x.offset a i) u (x.offset a i) (release_of (x.weight a) (i + 1) (x.offset a i)) (is.weights a) first here.bit (omega arith) refl in
                     let moved : share x (subtask_of a p.0) (release x (subtask_of a p.0)) ≡ share x (subtask_of a p.0) v = ap (share x (subtask_of a p.0)) at in

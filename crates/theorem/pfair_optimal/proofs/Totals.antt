@@ -65,11 +65,7 @@ module _ {A : Type 0} (same : A → A → Bool) (exact : (a b : A) → (same a b
   -- the others of a list
   total_others_le : (f : A → ℕ) (a : A) (xs : List A) → total f (filter (λ b. not (same a b)) xs) ≤ total f xs
   total_others_le f a [] = omega arith
-  total_others_le f a (x ∷ xs) = by (not (same a x)) (total_others_le f a xs)
-    where
-      by : (b : Bool) → total f (filter (λ b. not (same a b)) xs) ≤ total f xs → total f (cond b (x ∷ filter (λ b. not (same a b)) xs) (filter (λ b. not (same a b)) xs)) ≤ f x + total f xs
-      by true rest = omega arith
-      by false rest = omega arith
+  total_others_le f a (x ∷ xs) = grind (arith, total_others_le f a xs)
 
   total_without : (f : A → ℕ) (a : A) (xs : List A) → is_among same xs a ≡ true → f a + total f (filter (λ b. not (same a b)) xs) ≤ total f xs
   total_without f a [] h = absurd (false≢true h)
@@ -101,16 +97,7 @@ module _ {A : Type 0} (same : A → A → Bool) (exact : (a b : A) → (same a b
 
   -- one term stands for itself
   pub total_zero : (k : ℕ) (b : A) (xs : List A) → is_among same xs b ≡ false → total (λ a. cond (same b a) k 0) xs ≡ 0
-  total_zero k b xs h = elim (cases_lt 0 (total (λ a. cond (same b a) k 0) xs)) [
-    | inr none ↦ omega arith
-    | inl some ↦ absurd (
-        let t = total_some (λ a. cond (same b a) k 0) xs some in
-        here t.0 t.1 t.2 (cases_Bool (same b t.0)))
-  ]
-    where
-      here : (a : A) → is_among same xs a ≡ true → 0 < cond (same b a) k 0 → (same b a ≡ true) ⊎ (same b a ≡ false) → ⊥
-      here a i s (inl e) = true≢false (sym (subst (λ (c : A). is_among same xs c ≡ true) (sym ((exact b a).0 e)) i) ∙ h)
-      here a i s (inr e) = let z : cond (same b a) k 0 ≡ 0 = ap (λ t. cond t k 0) e in omega arith
+  total_zero k b xs h = grind (arith, total_some)
 
   pub total_one : (k : ℕ) (b : A) (xs : List A) → NoneTwice same xs → is_among same xs b ≡ true → total (λ a. cond (same b a) k 0) xs ≡ k
   total_one k b [] apart h = absurd (false≢true h)

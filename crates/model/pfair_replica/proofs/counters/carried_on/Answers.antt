@@ -14,7 +14,6 @@ loop-count-preserved c =
 
 pub returns : goal.returns
 returns c =
-    let room = c.requires.room in
     let full : c.args.capacity ≡ c.loop-count.count = omega arith in
     ap (λ (n : ℕ). let b : Beginning = record { count = n; mark = c.loop-count.mark } in b) full
     ∙ part_whole (held_in c.args.rows.now c.args.processor) c.args.capacity (record { count = c.loop-count.count; mark = c.loop-count.mark }) c.loop-count.invariant (omega arith) (inl (omega arith))

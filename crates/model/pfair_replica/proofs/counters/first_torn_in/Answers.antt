@@ -1,3 +1,4 @@
+use Rattle.std.proofs.lemmas.Grind.{common_steps}
 use Rattle.std.proofs.Common.{sym, ◌∙◌, arith}
 use Rattle.std.proofs.lemmas.Bool.{false≢true}
 use Rattle.pfair_replica.specs.HeldRows.{held_in}
@@ -5,8 +6,7 @@ use Rattle.pfair_replica.proofs.FirstTorn.{torn_here, torn_not_yet, torn_nowhere
 use Rattle.pfair_replica.proofs.counters.first_torn_in.Goals as goal
 
 pub returns-then-is_torn : goal.returns-then-is_torn
-returns-then-is_torn c =
-    torn_here (held_in c.args.rows.now) c.args.processor c.loop-before.before c.loop-before.invariant (λ n torn. (c.requires n torn).0) (c.is_torn.ensures.0 c.if-is_torn.true)
+returns-then-is_torn c = grind (arith, common_steps, torn_here)
 
 pub loop-before-preserved : goal.loop-before-preserved
 loop-before-preserved c = torn_not_yet (held_in c.args.rows.now) c.args.processor c.loop-before.before c.loop-before.invariant (λ torn. false≢true (sym c.if-is_torn.false ∙ c.is_torn.ensures.1 torn))

@@ -1,14 +1,12 @@
-use Rattle.std.proofs.Common.{◌<◌, ◌≤◌, refl, ◌∙◌, length, arith}
+use Rattle.std.proofs.lemmas.Grind.{common_steps}
+use Rattle.std.proofs.Common.{◌<◌, ◌≤◌, ◌∙◌, length, arith}
 use Rattle.std.proofs.lemmas.List.{length-set}
 use Rattle.pfair_replica.specs.HeldRows.{held_in}
 use Rattle.pfair_replica.proofs.Following.{midway_start, midway_end, midway_as_it_was, midway_next}
 use Rattle.pfair_replica.proofs.counters.Counters.follow_join.Goals as goal
 
 pub loop-processor-init : goal.loop-processor-init
-loop-processor-init c = record {
-  so_many = refl;
-  midway = midway_start c.args.capacity (held_in c.args.other.now) (held_in c.args.rows.now) c.args.self.now.beginnings.items c.args.self.now.torn c.requires.before;
-}
+loop-processor-init c = grind (arith, common_steps, midway_start)
 
 pub loop-processor-preserved-then-holds_nothing : goal.loop-processor-preserved-then-holds_nothing
 loop-processor-preserved-then-holds_nothing c = record {
@@ -20,7 +18,6 @@ loop-processor-preserved-then-holds_nothing c = record {
 pub loop-processor-preserved : goal.loop-processor-preserved
 loop-processor-preserved c =
     let same = c.loop-processor.invariant.so_many in
-    let rows = c.requires.rows in
     let row : c.loop-processor.processor < length c.loop-processor.self.beginnings.items = omega arith in
     record {
       so_many = length-set c.loop-processor.self.beginnings.items c.loop-processor.processor c.carried_on.result ∙ same;
@@ -31,6 +28,5 @@ loop-processor-preserved c =
 pub returns-clause-counters : goal.returns-clause-counters
 returns-clause-counters c =
     let same = c.loop-processor.invariant.so_many in
-    let rows = c.requires.rows in
     let whole : length c.loop-processor.self.beginnings.items ≤ c.loop-processor.processor = omega arith in
     midway_end c.args.capacity (held_in c.args.other.now) (held_in c.args.rows.now) c.loop-processor.self.beginnings.items c.loop-processor.self.torn c.loop-processor.processor whole c.loop-processor.invariant.midway

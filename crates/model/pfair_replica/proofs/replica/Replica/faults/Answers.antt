@@ -1,4 +1,5 @@
-use Rattle.std.proofs.Common.{arith, inl, inr, ◌<◌, ◌++◌, ap, sym, ◌∙◌}
+use Rattle.std.proofs.lemmas.Grind.{common_steps}
+use Rattle.std.proofs.Common.{arith, inl, inr, ◌<◌, ap}
 use Rattle.pfair_replica.proofs.TornKeys.{flat_next, flat_some}
 use Rattle.pfair_replica.specs.HeldRows.{replica_of}
 use Rattle.pfair_replica.specs.Replica.{torn_in, fallen_in}
@@ -6,10 +7,7 @@ use Rattle.pfair_replica.proofs.Merging.{on_err_here}
 use Rattle.pfair_replica.proofs.replica.Replica.faults.Goals as goal
 
 pub loop-processor-preserved : goal.loop-processor-preserved
-loop-processor-preserved c = record {
-  torn = c.in_ok-push_torn.ensures.torn ∙ ap (λ keys. keys ++ torn_in (replica_of c.args.self.now) c.loop-processor.processor) c.loop-processor.invariant.torn ∙ sym (flat_next (torn_in (replica_of c.args.self.now)) c.loop-processor.processor);
-  fallen = c.in_ok-push_fallen.ensures.fallen ∙ ap (λ keys. keys ++ fallen_in (replica_of c.args.self.now) c.loop-processor.processor) c.loop-processor.invariant.fallen ∙ sym (flat_next (fallen_in (replica_of c.args.self.now)) c.loop-processor.processor);
-}
+loop-processor-preserved c = grind (arith, common_steps, flat_next)
 
 pub returns-in_err-push_torn-clause-wanted : goal.returns-in_err-push_torn-clause-wanted
 returns-in_err-push_torn-clause-wanted c =

@@ -1,4 +1,5 @@
-use Rattle.std.proofs.Common.{rules, inr, sym, ◌∙◌}
+use Rattle.std.proofs.lemmas.Grind.{common_steps}
+use Rattle.std.proofs.Common.{rules, inr, arith}
 use Rattle.pfair_replica.specs.Faults.{HoldsMore}
 use Rattle.pfair_replica.specs.HeldRows.{held_in, replica_of}
 use Rattle.pfair_replica.proofs.Comparing.{rows_outgrown}
@@ -16,20 +17,10 @@ follow_join-requires-clause-before c =
     c.if-self-other.false c.if-self-other-2.false c.self.invariant.rows c.other.invariant.rows between) between
 
 pub invariant_of-self : goal.invariant_of-self
-invariant_of-self c = record {
-  rows = partly_rows c.self.inside.processors c.self.inside.capacity c.other.inside.processors c.other.inside.capacity c.self.inside.rows c.other.inside.rows c.join-joined.new.self
-      c.if-self-other.false c.if-self-other-2.false c.self.invariant.rows c.other.invariant.rows c.in_err-joined.ensures.partly;
-  so_many = c.follow_join.ensures.so_many ∙ c.self.invariant.so_many;
-  counters = c.follow_join.ensures.counters;
-}
+invariant_of-self c = grind (arith, common_steps, partly_rows)
 
 pub invariant_of-self-2 : goal.invariant_of-self-2
-invariant_of-self-2 c = record {
-  rows = merged_rows c.self.inside.processors c.self.inside.capacity c.other.inside.processors c.other.inside.capacity c.self.inside.rows c.other.inside.rows c.join-joined.new.self
-      c.if-self-other.false c.if-self-other-2.false c.self.invariant.rows c.other.invariant.rows c.in_ok-joined.ensures.joined;
-  so_many = c.follow_join.ensures.so_many ∙ c.self.invariant.so_many;
-  counters = c.follow_join.ensures.counters;
-}
+invariant_of-self-2 c = grind (arith, common_steps, merged_rows)
 
 pub returns-in_err-joined-clause-partly : goal.returns-in_err-joined-clause-partly
 returns-in_err-joined-clause-partly c = rw (← c.self.view_is, ← c.other.view_is) (on_err_here c.from_residual.result
@@ -37,11 +28,7 @@ returns-in_err-joined-clause-partly c = rw (← c.self.view_is, ← c.other.view
     (between_held c.self.inside.rows c.other.inside.rows c.join-joined.new.self c.in_err-joined.ensures.partly)))
 
 pub returns-clause-merged : goal.returns-clause-merged
-returns-clause-merged c = rw (← c.self.view_is, ← c.other.view_is) (λ i. record {
-  processors = c.self.inside.processors;
-  capacity = c.self.inside.capacity;
-  at = λ k n. joined_held c.self.inside.rows c.other.inside.rows c.join-joined.new.self c.in_ok-joined.ensures.joined k n i;
-})
+returns-clause-merged c = grind (arith, common_steps, joined_held)
 
 pub returns-in_err-joined-clause-fault : goal.returns-in_err-joined-clause-fault
 returns-in_err-joined-clause-fault c =
@@ -58,14 +45,7 @@ returns-clause-grows c = rw (← c.self.view_is) (λ k n. between_below (held_in
     (inr (joined_held c.self.inside.rows c.other.inside.rows c.join-joined.new.self c.in_ok-joined.ensures.joined k n)))
 
 pub returns-clause-offered : goal.returns-clause-offered
-returns-clause-offered c = rw (← c.self.view_is, ← c.other.view_is) (λ _.
-    let x = replica_of (record { processors = c.self.inside.processors; capacity = c.self.inside.capacity; rows = c.self.inside.rows }) in
-    let y = replica_of (record { processors = c.other.inside.processors; capacity = c.other.inside.capacity; rows = c.other.inside.rows }) in
-    (λ i. record {
-      processors = c.self.inside.processors;
-      capacity = c.self.inside.capacity;
-      at = λ k n. joined_held c.self.inside.rows c.other.inside.rows c.join-joined.new.self c.in_ok-joined.ensures.joined k n i;
-    }) ∙ sym (absorbed_alike x y c.if-self-other.false c.if-self-other-2.false))
+returns-clause-offered c = grind (arith, common_steps, joined_held, absorbed_alike)
 
 pub returns-in_err-joined-clause-within : goal.returns-in_err-joined-clause-within
 returns-in_err-joined-clause-within c = rw (← c.self.view_is, ← c.other.view_is) (λ k n. between_within (held_in c.self.inside.rows k n) (held_in c.other.inside.rows k n) (held_in c.join-joined.new.self k n)

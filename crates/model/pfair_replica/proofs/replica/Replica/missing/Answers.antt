@@ -1,4 +1,5 @@
-use Rattle.std.proofs.Common.{◌≡◌, ◌<◌, ◌+◌, sym, ap, subst, arith, true, false, None, rules}
+use Rattle.std.proofs.lemmas.Grind.{common_steps}
+use Rattle.std.proofs.Common.{◌≡◌, ◌<◌, ◌+◌, sym, ap, subst, arith, true, None, rules}
 use Rattle.std.specs.Prelude.{is_none, find}
 use Rattle.pfair_replica.specs.HeldRows.{held, replica_of}
 use Rattle.pfair_replica.specs.Replica.{IsLeastMissing, missing, numbers_to}
@@ -13,9 +14,7 @@ returns-then-is_none-clause-value c =
     sym (find_first (λ n. is_none (held c.args.self.now c.args.proc n)) c.loop-before.before c.args.self.now.capacity room c.loop-before.invariant h)
 
 pub loop-before-preserved : goal.loop-before-preserved
-loop-before-preserved c =
-    let h : is_none (held c.args.self.now c.args.proc (c.loop-before.before + 1)) ≡ false = rw (← c.get.ensures.value) (search rules) in
-    find_none (λ n. is_none (held c.args.self.now c.args.proc n)) c.loop-before.before c.loop-before.invariant h
+loop-before-preserved c = grind (arith, common_steps, find_none)
 
 pub returns-then-is_none-clause-least : goal.returns-then-is_none-clause-least
 returns-then-is_none-clause-least c = subst (IsLeastMissing (replica_of c.args.self.now) c.args.proc) (sym (returns-then-is_none-clause-value c)) (missing_is_least (replica_of c.args.self.now) c.args.proc)

@@ -13,8 +13,7 @@ unreachable-requires c =
     let x : Replica = replica_of c.args.self.now in
     let room : c.loop-place.place < length (sound_beginning x c.args.proc) = omega arith in
     let held = (entry_there x c.args.proc c.loop-place.place room).2 in
-    let got = c.get.ensures.value in
-    elim c.in_default.branch [ in_default-via-in-Some+in_default w ↦ (let is = w.in_default.is in cc) | in_default-via-in_default w ↦ (let is = w.in_default.is in cc) ]
+    elim c.in_default.branch [ in_default-via-in-Some+in_default w ↦ (cc) | in_default-via-in_default w ↦ (cc) ]
 
 pub loop-place-preserved : goal.loop-place-preserved
 loop-place-preserved c = λ t.

@@ -1,3 +1,4 @@
+use Rattle.std.proofs.lemmas.Grind.{common_steps}
 use Rattle.std.proofs.Common.{arith, ◌≡◌, ◌+◌, ◌-◌, ◌*◌, ◌<◌, ◌≤◌, ap}
 use Rattle.std.specs.Int.{div_ceil}
 use Rattle.pfair_weight.specs.Rounding.{div_ceil_rises}
@@ -22,9 +23,7 @@ range : (c : After-ceiling) → c.self.inside.close + c.args.slots ≤ 100000100
 range c = let same = ap (λ (x : Close). x.close) c.self.view_is in omega (arith, c.requires)
 
 rises : (c : After-ceiling) → c.ceiling-before.result ≤ c.ceiling.result
-rises c =
-    let some : 0 < c.self.inside.weight.period = omega (arith, c.self.invariant.below_one) in
-    rw (ceiling_next c, ceiling_before c) (div_ceil_rises _ _ _ some (mul-le _ _ _ _ (omega arith) (le_refl _)))
+rises c = grind (arith, common_steps, ceiling_next, ceiling_before, div_ceil_rises, mul-le, le_refl)
 
 end_at : (c : After-ceiling) → c.self.inside.end ≡ record { numerator = c.ceiling-before.result * c.self.inside.weight.period; denominator = c.self.inside.weight.period - c.self.inside.weight.cost }
 end_at c = rw (ceiling_before c) c.self.invariant.end
