@@ -34,9 +34,9 @@ room_effect : (machine : Machine) (t : ℕ) (ms : List Member) (a : Announcement
 room_effect machine t ms a h =
     by_effect (HaveRoom machine) t ms h a (decision machine t ms a)
     (λ name w early is admitted.
-      (let sum = claimed_arrived machine.frame t ms name w early in
-      let room = admitted_room machine ms name w (sym admitted ∙ ap (decision machine t ms) is) in
-      omega (arith, sum, room)))
+    (let sum = claimed_arrived machine.frame t ms name w early in
+    let room = admitted_room machine ms name w (sym admitted ∙ ap (decision machine t ms) is) in
+    omega (arith, sum, room)))
     (λ name slot is _. room_change machine name (with_freeing slot) (λ _. refl) ms h)
     (λ name index by is _. room_change machine name (with_delay index by) (λ _. refl) ms h)
 

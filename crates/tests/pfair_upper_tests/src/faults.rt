@@ -64,22 +64,13 @@ const REFUSED: &str = "pfair: 64 entry 4294967295 of processor 255 refused: ";
 #[test]
 fn refused_entries_are_lines_of_one_write(rt: HostRuntime) {
     for (cause, text) in [
-        (
-            NoticeFault::Name(NameFault::Empty),
-            "1 empty name",
-        ),
-        (
-            NoticeFault::Name(NameFault::TooLong),
-            "2 name too long",
-        ),
+        (NoticeFault::Name(NameFault::Empty), "1 empty name"),
+        (NoticeFault::Name(NameFault::TooLong), "2 name too long"),
         (
             NoticeFault::Name(NameFault::BadByte { at: usize::MAX }),
             "3 bad byte at 18446744073709551615",
         ),
-        (
-            NoticeFault::Weight(WeightFault::ZeroCost),
-            "4 zero cost",
-        ),
+        (NoticeFault::Weight(WeightFault::ZeroCost), "4 zero cost"),
         (
             NoticeFault::Entry(EntryFault::StampBeforeFloor),
             "7 stamp before floor",
@@ -88,14 +79,8 @@ fn refused_entries_are_lines_of_one_write(rt: HostRuntime) {
             NoticeFault::Entry(EntryFault::StampTooFar),
             "8 slot too far",
         ),
-        (
-            NoticeFault::Entry(EntryFault::BadDelay),
-            "9 bad delay",
-        ),
-        (
-            NoticeFault::Entry(EntryFault::BadIndex),
-            "10 bad index",
-        ),
+        (NoticeFault::Entry(EntryFault::BadDelay), "9 bad delay"),
+        (NoticeFault::Entry(EntryFault::BadIndex), "10 bad index"),
         (NoticeFault::LogFull, "12 log full"),
     ] {
         // the greatest processor and number that their types can hold

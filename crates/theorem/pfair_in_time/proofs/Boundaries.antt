@@ -160,14 +160,14 @@ effect_step machine t ms a apart sound weight =
     by_effect (Step machine t ms) t ms (nothing_changes machine t ms sound) a (decision machine t ms a)
     (λ name w early is admitted. joins machine t ms name w early sound (subst HasWeight is weight) (fits_frame machine ms name w (ap (decision machine t ms) (sym is) ∙ admitted)))
     (λ name slot is leaves. one_changes machine t ms name (with_freeing slot) sound (λ m h e.
-      (let p = departs t (member_named ms name) slot (ap (decision machine t ms) (sym is) ∙ leaves) in
-      let same : p.0 ≡ m = same_Some p.0 m (sym p.1 ∙ named_is ms name m apart h e) in
-      (freeing_descends t m (sym (ap is_departing same) ∙ p.2) slot, freeing_sound machine.frame t m slot (p.3 ∙ ap (λ (k : Member). freeing_slot k t) same) (sound m h)))))
+    (let p = departs t (member_named ms name) slot (ap (decision machine t ms) (sym is) ∙ leaves) in
+    let same : p.0 ≡ m = same_Some p.0 m (sym p.1 ∙ named_is ms name m apart h e) in
+    (freeing_descends t m (sym (ap is_departing same) ∙ p.2) slot, freeing_sound machine.frame t m slot (p.3 ∙ ap (λ (k : Member). freeing_slot k t) same) (sound m h)))))
     (λ name index by is late. one_changes machine t ms name (with_delay index by) sound (λ m h e.
-      (let p = is_late t (member_named ms name) index (ap (decision machine t ms) (sym is) ∙ late) in
-      let same : p.0 ≡ m = same_Some p.0 m (sym p.1 ∙ named_is ms name m apart h e) in
-      let active = sym (ap is_departing same) ∙ p.2 in
-      (delay_descends t index by m ((sound m h).weight.some_cost) active (subst (λ (k : Member). t ≤ release_of k.weight index (theta k index)) same p.3) (subst (λ (k : Member). k.next ≤ index) same p.4), delay_sound machine.frame index by m active (sound m h)))))
+    (let p = is_late t (member_named ms name) index (ap (decision machine t ms) (sym is) ∙ late) in
+    let same : p.0 ≡ m = same_Some p.0 m (sym p.1 ∙ named_is ms name m apart h e) in
+    let active = sym (ap is_departing same) ∙ p.2 in
+    (delay_descends t index by m ((sound m h).weight.some_cost) active (subst (λ (k : Member). t ≤ release_of k.weight index (theta k index)) same p.3) (subst (λ (k : Member). k.next ≤ index) same p.4), delay_sound machine.frame index by m active (sound m h)))))
 
 -- ---- all decisions
 
