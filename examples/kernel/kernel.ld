@@ -1,0 +1,19 @@
+/* kernel.ld: the kernel is loaded from 1 MB on, and runs at these addresses. */
+ENTRY(start32)
+PHDRS {
+    code PT_LOAD FLAGS(5);
+    data PT_LOAD FLAGS(6);
+    note PT_NOTE FLAGS(4);
+}
+SECTIONS {
+    . = 0x100000;
+    .note.pvh : { KEEP(*(.note.pvh)) } :code :note
+    .text : { *(.text .text.*) } :code
+    .rodata : { *(.rodata .rodata.*) } :code
+    . = ALIGN(4096);
+    .data : { *(.data .data.* .got .got.*) } :data
+    .bss : { *(.bss .bss.* COMMON) } :data
+    . = ALIGN(4096);
+    kernel_end = .;
+    /DISCARD/ : { *(.comment) *(.eh_frame) *(.note.GNU-stack) *(.note.gnu.property) }
+}
