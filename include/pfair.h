@@ -17,21 +17,47 @@
  *     pfair_table(&d, 0, &count, rows, room);     reads its table
  *     pfair_close(&d);
  *
+ * FLOORS. A slot is planned once each log has a floor above it, and each floor takes an entry of a log that has at most
+ * 4,096. If each slot had its floor, a log would be full after 4,096 slots. So know some slots ahead what you announce,
+ * and raise the floor as seldom as that lead allows: no more often than every slots/4,000 slots, or with an
+ * announcement.
+ *
  * UNITS. Slot t is the time from t to t + 1. A quantum is one slot of one processor. Releases, deadlines, floors and
  * stamps are slots; periods, delays and offsets count slots, and costs quanta. Processors, slots and rows are numbered
  * from 0; the entries of a log and the subtasks of a task from 1.
  *
  * LINKING. After scripts/install, build with the flags of `pkg-config --cflags --libs pfair`. They link the shared
  * library, libpfair.so, which a program finds where it was installed; with -static or -Wl,-Bstatic before them, the
- * static one, libpfair.a. The code needs x86-64-v2, with the SSE registers enabled.
+ * static one, libpfair.a.
  *
  * WITHOUT A C LIBRARY. This header includes only <stdbool.h>, <stddef.h> and <stdint.h>, which every compiler brings.
  * libpfair.a needs malloc, realloc, free, memcpy, memmove, memset, and __udivti3 of libgcc. The archive that rt builds,
  * libpfair_c.a, needs rattle_alloc, rattle_realloc and rattle_dealloc in place of the first three; those of the kit's
- * c/liblibc_c.a call them.
+ * c/liblibc_c.a call them. Each function has a section of its own, so -Wl,--gc-sections drops what isn't called.
  *
- * STACK. A call takes at most 5 KB (measured: a plan with 64 processors and 800 tasks). pfair_read_file takes 11 KB for
- * a common file, and 110 KB for keys that are nested 79 deep, the most that is read.
+ * X86-64. The code needs x86-64-v2, with the SSE registers enabled. No call asks for it: an older processor meets an
+ * invalid instruction. A program for Linux asks __builtin_cpu_supports("x86-64-v2"). A kernel asks CPUID: leaf 1 has to
+ * set bits 0, 9, 13, 19, 20 and 23 of ECX (SSE3, SSSE3, CMPXCHG16B, SSE4.1, SSE4.2, POPCNT), and leaf 0x80000001 bit 0
+ * of ECX (LAHF). It enables the registers in CR0 (EM and TS are 0) and CR4 (OSFXSR and OSXMMEXCPT are 1).
+ *
+ * REGISTERS. Calls follow the System V ABI for x86-64: the stack pointer is a multiple of 16 before a call, and the
+ * direction flag is clear. They change xmm0 to xmm15 and no other vector or x87 state, so FXSAVE and FXRSTOR suffice
+ * around calls in an interrupt. They use neither %fs nor %gs.
+ *
+ * STACK. A call takes at most so many bytes of stack, from its return address on, for every input (computed from the
+ * archive). What malloc, realloc, free, memcpy, memmove, memset, __udivti3 and a dynamic linker take comes on top.
+ *
+ *      4,100  pfair_open
+ *     10,000  pfair_read_file, and 4,000 for each level of nested keys; it reads at most 80 levels
+ *      2,300  pfair_plan_next, pfair_plan_to, pfair_reopen
+ *      1,800  pfair_take, pfair_take_log, pfair_absorb
+ *      1,500  pfair_close
+ *      1,000  pfair_lags
+ *        450  all others
+ *
+ * INTERRUPTS. The code has a red zone: it writes up to 128 bytes below its stack pointer. So an interrupt during a call
+ * takes a stack of its own (IST), or is off. One that pushes onto the stack that it finds corrupts the call without a
+ * trace. Linux leaves room for the red zone of a program when it calls a signal handler.
  *
  * MEMORY. These calls allocate, and answer 90 if an allocation fails; all others allocate nothing:
  *
@@ -41,6 +67,10 @@
  * pfair_faults and pfair_lags free all that they allocate. A dispatcher owns all other memory until pfair_close;
  * pfair_forget frees some of it earlier. The caller owns what its pointers lead to: the library copies what it needs,
  * and keeps no pointer of the caller's after a call.
+ *
+ * pfair_reserve allocates ahead for plans, and not for takes. An entry takes up to 190 bytes on average. One in 8 takes
+ * of new entries allocates, or fewer if they come out of order: in at most 3 calls of malloc, for blocks of at most
+ * 1,392 bytes (measured, in logs of 4,096 entries). So if malloc may be slow, takes belong before a tick, not in it.
  *
  * THREADS. The library has no state of its own, neither global nor of a thread.
  *  - Calls on different handles may run at the same time, as far as malloc, realloc and free may.
@@ -74,7 +104,9 @@
  *  - A handle begins as PFAIR_NONE. Only the calls below change it, and no copy of it is used.
  *  - malloc, realloc and free belong to one allocator. It aligns a block to the greatest power of two that divides its
  *    size, up to 16.
- *  - No call comes from a signal handler, or from the child of a fork of a process with threads.
+ *  - A call in an interrupt or in a signal handler interrupts no call with the same handle; and if it allocates or
+ *    frees, neither malloc, realloc nor free. So a handler of a timer's tick may plan.
+ *  - No call comes from the child of a fork of a process with threads.
  */
 #ifndef PFAIR_H
 #define PFAIR_H

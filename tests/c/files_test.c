@@ -176,10 +176,23 @@ static void want_of_memory(void) {
         }
 }
 
+/* A document has keys of at most 80 levels: each level takes stack. */
+static void nested_keys(void) {
+    for (int levels = 79; levels <= 82; levels++) {
+        struct pfair_dispatcher d = PFAIR_NONE;
+        struct pfair_file_fault fault;
+        char text[512] = "version = 2\na";
+        for (int k = 1; k < levels; k++) strcat(text, ".a");
+        strcat(text, " = 1\n");
+        ANSWERS(levels <= 80 ? PFAIR_FILE_MISSING : PFAIR_FILE_NOT_TOML, read_text(&d, &fault, text));
+    }
+}
+
 int main(void) {
     long at_first = blocks;
     read_and_planned();
     refused_files();
+    nested_keys();
     want_of_memory();
     CHECK(blocks == at_first, "%ld blocks not freed", blocks - at_first);
     return told();

@@ -193,6 +193,30 @@ static void with_guests(uint64_t slots) {
     ANSWERS(0, pfair_close(&d));
 }
 
+/* Takes allocate all the same, in the order of the numbers and out of it: no more than the header says. */
+static void of_takes(uint32_t step) {
+    enum { ENTRIES = 4096 };
+    struct pfair_dispatcher d = PFAIR_NONE;
+    long asking = 0, most = 0, before = bytes;
+    uint64_t taken;
+    ANSWERS(0, pfair_open(&d, 1, FRAME, 1000000, ENTRIES));
+    ANSWERS(0, pfair_reserve(&d, 1000, TASKS));
+    before = bytes;
+    largest = 0;
+    for (uint32_t k = 0; k < ENTRIES; k++) {
+        uint32_t number = k * step % ENTRIES + 1;
+        refuse(0, 0);
+        ANSWERS(0, take(&d, 0, number, nothing(200 * number), &taken));
+        asking += calls > 0;
+        if (calls > most) most = calls;
+    }
+    printf("of %d takes %ld allocated, in at most %ld calls and blocks of %zu bytes, and %ld bytes an entry\n", ENTRIES,
+           asking, most, largest, (bytes - before) / ENTRIES);
+    CHECK(asking > 0 && asking <= ENTRIES / 8 && most <= 3 && largest <= 1392, "%ld, %ld, %zu", asking, most, largest);
+    CHECK(bytes - before <= 190 * ENTRIES, "%ld bytes", bytes - before);
+    ANSWERS(0, pfair_close(&d));
+}
+
 int main(int count, char **words) {
     int quick = count > 1 && !strcmp(words[1], "quick");
     uint64_t slots = quick ? 3000 : 150000, late_at = slots / 2;
@@ -205,6 +229,8 @@ int main(int count, char **words) {
     refused_ahead(40, 20, rows);
     __real_free(rows);
     of_any_dispatcher();
+    of_takes(1);
+    of_takes(1365);
     reserved_first();
     reserved_after_forgetting();
     reserved_for_all_rows();
