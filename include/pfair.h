@@ -78,7 +78,7 @@
  *    pfair_absorb and pfair_below use both of their handles.
  *  - Any thread may use a handle, if its call begins after the one before has ended, in the sense of the memory model:
  *    a lock, a join or a message orders the two threads.
- *  - pfair_version, pfair_window, pfair_windows and pfair_name_of use no handle.
+ *  - pfair_version, pfair_window, pfair_windows, pfair_first_miss, pfair_first_late and pfair_name_of use no handle.
  *
  * ANSWERS. Each call but pfair_version answers with a number of enum pfair_answer: 0 if it did what it says, else why
  * not.
@@ -99,8 +99,8 @@
  *
  * WHAT THE CALLER OWES, since no call can check it:
  *  - Each pointer points to a live, aligned object of its type that no other argument points into. `rows` points to
- *    `room` such objects, and `entries` and `bytes` to `length`. `rows` may be NULL if `room` is 0, and `entries` if
- *    `length` is 0.
+ *    `room` such objects, and `entries`, `picks` and `bytes` to `length`. `rows` may be NULL if `room` is 0, and
+ *    `entries` and `picks` if `length` is 0.
  *  - A handle begins as PFAIR_NONE. Only the calls below change it, and no copy of it is used.
  *  - malloc, realloc and free belong to one allocator. It aligns a block to the greatest power of two that divides its
  *    size, up to 16.
@@ -140,6 +140,8 @@ enum pfair_answer {
     PFAIR_OTHER_SHAPE = 15,       /* two dispatchers with different numbers of processors, or different capacities */
     PFAIR_TORN = 30,              /* two different entries were taken for one number */
     PFAIR_SPENT = 31,             /* the dispatcher is spent: an allocation failed in a plan, and pfair_reopen helps */
+    PFAIR_PICKS_NOT_RISING = 40,  /* a slot of a list isn't after the one before it */
+    PFAIR_PICK_PAST_HORIZON = 41, /* a slot of a list isn't before the horizon */
     PFAIR_FILE_NOT_TOML = 60,     /* a task file is no TOML document */
     PFAIR_FILE_MISSING = 61,      /* a key is missing */
     PFAIR_FILE_WRONG_KIND = 62,   /* the value of a key is of the wrong type */
@@ -189,6 +191,41 @@ uint32_t pfair_window(uint64_t cost, uint64_t period, uint64_t index, uint64_t t
  * O(count).
  */
 uint32_t pfair_windows(uint64_t cost, uint64_t period, uint64_t first, uint64_t count, uint64_t theta, struct pfair_window *rows, size_t room);
+
+/* ---- whether the slots in which a task ran are right */
+
+/* How a subtask is out of its window. */
+enum pfair_miss_kind {
+    PFAIR_NO_MISS = 0, /* none is */
+    PFAIR_EARLY = 1,   /* it ran before its release */
+    PFAIR_TARDY = 2,   /* it ran at its deadline or later */
+    PFAIR_UNSERVED = 3 /* its deadline is at most the horizon, and it did not run */
+};
+
+/* A subtask that is out of its window, or none. */
+struct pfair_miss {
+    uint64_t kind;  /* one of enum pfair_miss_kind */
+    uint64_t index; /* the subtask; 0 if there is none */
+    uint64_t slot;  /* the slot in which it ran; 0 if it did not, or if there is none */
+};
+
+/*
+ * Writes the first subtask of a task of weight cost/period that is out of its window. `picks` are the slots in which
+ * the task ran, whatever planned them, counted from the slot in which it joined: the first of them is that of subtask
+ * 1, and so on. They are looked at up to the `horizon`, the number of slots that have passed (0 to 1,000,000). There
+ * is no such subtask exactly if the lag of the task, from the joining slot to the horizon, is above -1 and below 1.
+ *   4 to 6  as pfair_window
+ *   100     the horizon is out of its range
+ *   40, 41  a slot isn't after the one before it; isn't before the horizon; `place` is the first one at fault, from 0
+ * O(length).
+ */
+uint32_t pfair_first_miss(uint64_t cost, uint64_t period, uint64_t horizon, struct pfair_miss *miss, uint64_t *place, const uint64_t *picks, size_t length);
+
+/*
+ * Writes the first subtask that is late, PFAIR_TARDY or PFAIR_UNSERVED: a task may run ahead of its windows here, as
+ * with early release. There is none exactly if the lag stays below 1. All else is as with pfair_first_miss.
+ */
+uint32_t pfair_first_late(uint64_t cost, uint64_t period, uint64_t horizon, struct pfair_miss *miss, uint64_t *place, const uint64_t *picks, size_t length);
 
 /* ---- entries of logs */
 

@@ -53,6 +53,75 @@ static void windows(void) {
                 }
 }
 
+/* ---- the slots in which a task ran */
+
+typedef uint32_t look(uint64_t, uint64_t, uint64_t, struct pfair_miss *, uint64_t *, const uint64_t *, size_t);
+
+/* A call's answer, and what it wrote over 7, 8, 9 and 6, as kind, index, slot and place. */
+static void looked(int line, look *call, uint32_t wanted, uint64_t kind, uint64_t index, uint64_t slot, uint64_t at,
+                   uint64_t cost, uint64_t period, uint64_t horizon, const uint64_t *picks, size_t length) {
+    struct pfair_miss m = {7, 8, 9};
+    uint64_t place = 6;
+    ANSWERS(wanted, call(cost, period, horizon, &m, &place, picks, length));
+    CHECK(m.kind == kind && m.index == index && m.slot == slot && place == at,
+          "of line %d: %" PRIu64 " %" PRIu64 " %" PRIu64 " at %" PRIu64, line, m.kind, m.index, m.slot, place);
+}
+#define REFUSED(wanted, at, ...)                                              \
+    do {                                                                      \
+        looked(__LINE__, pfair_first_miss, wanted, 7, 8, 9, at, __VA_ARGS__); \
+        looked(__LINE__, pfair_first_late, wanted, 7, 8, 9, at, __VA_ARGS__); \
+    } while (0)
+#define FOUND(call, kind, index, slot, ...) looked(__LINE__, call, 0, kind, index, slot, 6, __VA_ARGS__)
+
+static void misses(void) {
+    static const uint64_t picks[] = {0, 2, 4}, twice[] = {0, 2, 2}, falling[] = {0, 2, 1, 0}, far[] = {0, 2, 1000000};
+    REFUSED(4, 6, 0, 2, 1000001, falling, 4);
+    REFUSED(4, 6, 0, 0, 4, NULL, 0);
+    REFUSED(5, 6, 3, 2, 1000001, falling, 4);
+    REFUSED(5, 6, UINT64_MAX, 1000000001, 4, picks, 3);
+    REFUSED(6, 6, 1, 1000000001, UINT64_MAX, falling, 4);
+    REFUSED(100, 6, 1, 2, 1000001, falling, 4);
+    REFUSED(100, 6, 1, 2, UINT64_MAX, NULL, 0);
+    REFUSED(40, 2, 1, 2, 6, twice, 3);
+    REFUSED(40, 2, 1, 2, 6, falling, 4);
+    REFUSED(41, 2, 1, 2, 4, picks, 3);
+    REFUSED(41, 1, 1, 2, 1, falling, 4);
+    REFUSED(41, 0, 1, 2, 0, picks, 1);
+    REFUSED(41, 2, 1, 2, 1000000, far, 3);
+    FOUND(pfair_first_miss, PFAIR_NO_MISS, 0, 0, 1, 2, 6, picks, 3);
+    FOUND(pfair_first_miss, PFAIR_NO_MISS, 0, 0, 1, 2, 0, NULL, 0);
+    FOUND(pfair_first_miss, PFAIR_EARLY, 2, 2, 1, 3, 6, picks, 3);
+    FOUND(pfair_first_miss, PFAIR_TARDY, 2, 2, 1, 1, 6, picks, 3);
+    FOUND(pfair_first_miss, PFAIR_UNSERVED, 4, 0, 1, 2, 8, picks, 3);
+    FOUND(pfair_first_miss, PFAIR_UNSERVED, 1, 0, 1, 1, 1000000, NULL, 0);
+    FOUND(pfair_first_miss, PFAIR_EARLY, 2, 2, 1, 1000000000, 1000000, far, 2);
+    FOUND(pfair_first_late, PFAIR_NO_MISS, 0, 0, 1, 3, 6, picks, 3);
+    FOUND(pfair_first_late, PFAIR_TARDY, 2, 2, 1, 1, 6, picks, 3);
+    FOUND(pfair_first_late, PFAIR_UNSERVED, 4, 0, 1, 2, 8, picks, 3);
+    FOUND(pfair_first_late, PFAIR_NO_MISS, 0, 0, 1, 1000000000, 1000000, far, 2);
+}
+
+/* Every set of slots below 10, for every weight up to period 6, beside the windows. */
+static void all_misses(void) {
+    for (uint64_t period = 1; period <= 6; period++)
+        for (uint64_t cost = 1; cost <= period; cost++)
+            for (unsigned set = 0; set < 1024; set++) {
+                uint64_t picks[10], n = 0, kind = 0, index = 0, slot = 0, late_kind = 0, late_index = 0, late_slot = 0;
+                for (uint64_t t = 0; t < 10; t++)
+                    if (set >> t & 1) picks[n++] = t;
+                for (uint64_t i = 1; i <= n + 1; i++) {
+                    struct pfair_window w;
+                    ANSWERS(0, pfair_window(cost, period, i, 0, &w));
+                    uint64_t at = i <= n ? picks[i - 1] : 0;
+                    uint64_t is = i > n ? (w.deadline <= 10 ? 3 : 0) : at < w.release ? 1 : at >= w.deadline ? 2 : 0;
+                    if (!kind && is) kind = is, index = i, slot = at;
+                    if (!late_kind && is > 1) late_kind = is, late_index = i, late_slot = at;
+                }
+                FOUND(pfair_first_miss, kind, index, slot, cost, period, 10, picks, n);
+                FOUND(pfair_first_late, late_kind, late_index, late_slot, cost, period, 10, picks, n);
+            }
+}
+
 /* ---- handles */
 
 static void same_handle(struct pfair_dispatcher a, struct pfair_dispatcher b, int line) {
@@ -688,6 +757,8 @@ static void several_slots(void) {
 int main(void) {
     long at_first = blocks;
     windows();
+    misses();
+    all_misses();
     openings();
     not_open();
     fault_pairs();

@@ -10,6 +10,7 @@ mod file;
 mod held;
 mod lags;
 mod members;
+mod misses;
 mod open;
 mod plan;
 mod rows;
@@ -24,6 +25,7 @@ pub use held::{
 };
 pub use lags::pfair_lags;
 pub use members::pfair_members;
+pub use misses::{pfair_first_late, pfair_first_miss};
 pub use plan::{
     PfairStep, pfair_forget, pfair_frontier, pfair_next_slot, pfair_plan_next, pfair_plan_to,
     pfair_reopen, pfair_reserve,

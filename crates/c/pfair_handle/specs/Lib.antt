@@ -4,6 +4,7 @@ pub mod EntryRows
 pub mod Kept
 pub mod Lags
 pub mod Members
+pub mod Misses
 pub mod Planning
 pub mod Rows
 pub mod TakenLog

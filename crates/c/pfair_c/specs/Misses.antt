@@ -1,0 +1,30 @@
+-- What the calls answer that look for the first subtask out of its window.
+use Rattle.std.specs.Prelude.{ℕ, ◌≡◌, List, Option, MatchOption, nat_eq, nat_lt, nat_le, if◌then◌else◌}
+use Rattle.pfair_lag.specs.PickFault.{IsFaultOf, pick_fault_number}
+use Rattle.pfair_lag.specs.declared.fault.PickFault.{PickFault}
+use Rattle.pfair_lag.specs.declared.fault.PickFault.TheVariants.{PicksNotRising, PickPastHorizon}
+use Rattle.pfair_lag.specs.declared.windows.Miss.{Miss}
+use Rattle.pfair_handle.specs.Misses.{miss_row}
+use Rattle.pfair_handle.specs.declared.misses.PfairMiss.{PfairMiss}
+
+-- the answer before the picks are read: 4 to 6 if there is no such weight, 100 if the horizon is too far, else 0
+abbrev pub asked_answer : (cost period horizon : ℕ) → ℕ
+asked_answer cost period horizon =
+    if nat_eq cost 0 then 4
+    else (if nat_lt period cost then 5
+    else (if nat_lt 1000000000 period then 6
+    else (if nat_le horizon 1000000 then 0 else 100)))
+
+-- the row of a first miss, or of none, and then all is well
+abbrev pub IsFoundAs : PfairMiss → (AllIsWell : Type 0) → (IsFirst : Miss → Type 0) → Type 0
+IsFoundAs row AllIsWell IsFirst = (found : Option Miss) × (row ≡ miss_row found) × MatchOption found AllIsWell IsFirst
+
+-- the place at which a list of picks is at fault
+abbrev pub fault_place : PickFault → ℕ
+fault_place (PicksNotRising at) = at
+fault_place (PickPastHorizon at) = at
+
+-- the answer and the place are those of the first fault of the picks
+abbrev pub IsPickFaultAs : (picks : List ℕ) → (horizon answer place : ℕ) → Type 0
+IsPickFaultAs picks horizon answer place =
+    (f : PickFault) × (answer ≡ pick_fault_number f) × (place ≡ fault_place f) × IsFaultOf picks horizon f

@@ -1,0 +1,106 @@
+//! Whether the slots in which a task ran are right: its first subtask that is out of its window, or
+//! late.
+ghost use Rattle.std.specs.Prelude.{◌≡◌, ◌≤◌, IfOk, IfErr, OnOk};
+ghost use Rattle.pfair_lag.specs.Picks.{InWindows, MeetsDeadlines};
+ghost use Rattle.pfair_lag.specs.Miss.{IsFirstMiss, IsFirstLate};
+ghost use Rattle.pfair_lag.specs.PickFault.{pick_fault_number};
+ghost use Rattle.pfair_handle.specs.Misses.{miss_row};
+ghost use Rattle.pfair_c.specs.Misses.{IsFoundAs, IsPickFaultAs, asked_answer, fault_place};
+
+use pfair_handle::answer::{DONE, OUT_OF_RANGE};
+use pfair_handle::{PfairMiss, miss_row};
+use pfair_lag::{MAX_HORIZON, Miss, PickFault, first_late, first_miss};
+use pfair_weight::Weight;
+
+/// Writes the first subtask of the weight cost/period that is out of its window, or that there is
+/// none, as [`first_miss`]: `picks` are the slots in which the task ran. O(picks); allocates nothing.
+///
+/// Answers 0 with the miss; 4 to 6 for what is wrong with the weight; 100 if the horizon is past
+/// [`MAX_HORIZON`]; or 40 or 41 with the first place, from 0, at which the picks don't rise or reach
+/// the horizon. Nothing else is written.
+#[unsafe(no_mangle)]
+pub extern "C" fn pfair_first_miss(
+    cost: u64,
+    period: u64,
+    horizon: u64,
+    miss: &mut PfairMiss,
+    place: &mut u64,
+    picks: &[u64],
+) -> u32
+    ensures asked { (asked_answer cost period horizon ≡ 0 → ⊥) → result ≡ asked_answer cost period horizon }
+    ensures found { result ≡ 0 → IsFoundAs miss.new
+        (InWindows record { cost = cost; period = period } picks.now horizon) (IsFirstMiss record { cost = cost; period = period } picks.now horizon) }
+    ensures fault { asked_answer cost period horizon ≡ 0 → (result ≡ 0 → ⊥) → IsPickFaultAs picks.now horizon result place.new }
+    ensures unchanged { (result ≡ 0 → ⊥) → miss.new ≡ miss.old }
+    ensures untold { (result ≡ 40 → ⊥) → (result ≡ 41 → ⊥) → place.new ≡ place.old }
+{
+    match asked_weight(cost, period, horizon) {
+        Ok(weight) => write_miss(first_miss(weight, picks, horizon), miss, place),
+        Err(answer) => answer,
+    }
+}
+
+/// Writes the first subtask of the weight cost/period that is late, or that there is none, as
+/// [`first_late`]: `picks` are the slots in which the task ran. O(picks); allocates nothing.
+///
+/// Its answers are those of [`pfair_first_miss`].
+#[unsafe(no_mangle)]
+pub extern "C" fn pfair_first_late(
+    cost: u64,
+    period: u64,
+    horizon: u64,
+    miss: &mut PfairMiss,
+    place: &mut u64,
+    picks: &[u64],
+) -> u32
+    ensures asked { (asked_answer cost period horizon ≡ 0 → ⊥) → result ≡ asked_answer cost period horizon }
+    ensures found { result ≡ 0 → IsFoundAs miss.new
+        (MeetsDeadlines record { cost = cost; period = period } picks.now horizon) (IsFirstLate record { cost = cost; period = period } picks.now horizon) }
+    ensures fault { asked_answer cost period horizon ≡ 0 → (result ≡ 0 → ⊥) → IsPickFaultAs picks.now horizon result place.new }
+    ensures unchanged { (result ≡ 0 → ⊥) → miss.new ≡ miss.old }
+    ensures untold { (result ≡ 40 → ⊥) → (result ≡ 41 → ⊥) → place.new ≡ place.old }
+{
+    match asked_weight(cost, period, horizon) {
+        Ok(weight) => write_miss(first_late(weight, picks, horizon), miss, place),
+        Err(answer) => answer,
+    }
+}
+
+// The weight, or the answer if there is no such weight or the horizon is too far.
+fn asked_weight(cost: u64, period: u64, horizon: u64) -> Result<Weight, u32>
+    ensures weight { IfOk result (λ weight. weight ≡ record { cost = cost; period = period }) }
+    ensures near { OnOk result (horizon ≤ MAX_HORIZON) }
+    ensures asked { OnOk result (asked_answer cost period horizon ≡ 0) }
+    ensures refused { IfErr result (λ answer. (answer ≡ asked_answer cost period horizon) × (answer ≡ 0 → ⊥) × (answer ≡ 40 → ⊥) × (answer ≡ 41 → ⊥)) }
+{
+    let weight = match Weight::new(cost, period) {
+        Ok(weight) => weight,
+        Err(fault) => return Err(fault.number() as u32),
+    };
+    if horizon > MAX_HORIZON {
+        return Err(OUT_OF_RANGE);
+    }
+    Ok(weight)
+}
+
+// Writes what was found, or the place at fault, and returns the answer.
+fn write_miss(
+    found: Result<Option<Miss>, PickFault>,
+    miss: &mut PfairMiss,
+    place: &mut u64,
+) -> u32
+    ensures ok { IfOk found (λ one. (result ≡ 0) × (miss.new ≡ miss_row one) × (place.new ≡ place.old)) }
+    ensures err { IfErr found (λ fault. (result ≡ pick_fault_number fault) × (place.new ≡ fault_place fault) × (miss.new ≡ miss.old)) }
+{
+    match found {
+        Ok(one) => {
+            *miss = miss_row(one);
+            DONE
+        }
+        Err(fault) => {
+            let (PickFault::PicksNotRising { at } | PickFault::PickPastHorizon { at }) = fault;
+            *place = at as u64;
+            fault.number() as u32
+        }
+    }
+}
