@@ -29,7 +29,8 @@ pub extern "C" fn pfair_first_miss(
 ) -> u32
     ensures asked { (asked_answer cost period horizon ≡ 0 → ⊥) → result ≡ asked_answer cost period horizon }
     ensures found { result ≡ 0 → IsFoundAs miss.new
-        (InWindows record { cost = cost; period = period } picks.now horizon) (IsFirstMiss record { cost = cost; period = period } picks.now horizon) }
+        (InWindows record { cost = cost; period = period } picks.now horizon)
+        (IsFirstMiss record { cost = cost; period = period } picks.now horizon) }
     ensures fault { asked_answer cost period horizon ≡ 0 → (result ≡ 0 → ⊥) → IsPickFaultAs picks.now horizon result place.new }
     ensures unchanged { (result ≡ 0 → ⊥) → miss.new ≡ miss.old }
     ensures untold { (result ≡ 40 → ⊥) → (result ≡ 41 → ⊥) → place.new ≡ place.old }
@@ -55,7 +56,8 @@ pub extern "C" fn pfair_first_late(
 ) -> u32
     ensures asked { (asked_answer cost period horizon ≡ 0 → ⊥) → result ≡ asked_answer cost period horizon }
     ensures found { result ≡ 0 → IsFoundAs miss.new
-        (MeetsDeadlines record { cost = cost; period = period } picks.now horizon) (IsFirstLate record { cost = cost; period = period } picks.now horizon) }
+        (MeetsDeadlines record { cost = cost; period = period } picks.now horizon)
+        (IsFirstLate record { cost = cost; period = period } picks.now horizon) }
     ensures fault { asked_answer cost period horizon ≡ 0 → (result ≡ 0 → ⊥) → IsPickFaultAs picks.now horizon result place.new }
     ensures unchanged { (result ≡ 0 → ⊥) → miss.new ≡ miss.old }
     ensures untold { (result ≡ 40 → ⊥) → (result ≡ 41 → ⊥) → place.new ≡ place.old }
@@ -84,11 +86,7 @@ fn asked_weight(cost: u64, period: u64, horizon: u64) -> Result<Weight, u32>
 }
 
 // Writes what was found, or the place at fault, and returns the answer.
-fn write_miss(
-    found: Result<Option<Miss>, PickFault>,
-    miss: &mut PfairMiss,
-    place: &mut u64,
-) -> u32
+fn write_miss(found: Result<Option<Miss>, PickFault>, miss: &mut PfairMiss, place: &mut u64) -> u32
     ensures ok { IfOk found (λ one. (result ≡ 0) × (miss.new ≡ miss_row one) × (place.new ≡ place.old)) }
     ensures err { IfErr found (λ fault. (result ≡ pick_fault_number fault) × (place.new ≡ fault_place fault) × (miss.new ≡ miss.old)) }
 {
