@@ -22,6 +22,8 @@ VALUES = {
     "NoSuchProcessor": (13, "the dispatcher has no such processor"),
     "NoSuchNumber": (14, "an entry's number is 0 or past the capacity"),
     "OtherShape": (15, "two dispatchers with different numbers of processors, or different capacities"),
+    "PicksNotRising": (40, "a slot isn't after the one before it"),
+    "PickPastHorizon": (41, "a slot isn't before the horizon"),
     "OutOfRange": (100, "a number is out of its range"),
 }
 STATES = {
@@ -44,6 +46,8 @@ MEMORY = {"OutOfMemory": (90, "memory was wanted and refused")}
 ALL = {**VALUES, **STATES, **FILES, **MEMORY}
 # what a text goes on with, which says where to look
 FOUND = {
+    "PicksNotRising": ': found["place"] is its place, from 0',
+    "PickPastHorizon": ': found["place"] is its place, from 0',
     "Stalled": ': found["frontier"] is the first that isn\'t settled',
     "KeyMissing": ": found[\"place\"] is its table's number in the file, from 1, or 0 for the file's own keys",
     "KeyWrongKind": ': found["place"] as for KeyMissing',

@@ -4,15 +4,15 @@ import types
 
 import pfair
 
-TYPES = "Counts Dispatcher Entry Faults Planned Schedule Script TakenCounts"
-CALLS = "arrive depart late promise read_task_file rows_of schedule windows"
+TYPES = "Counts Dispatcher Entry Faults Miss Planned Schedule Script TakenCounts Violation"
+CALLS = "arrive check depart first_late first_miss late promise read_task_file rows_of schedule windows"
 TABLES = "BY_NUMBER DECISION ENTRY LAG MEMBER OUTCOMES QUANTUM WINDOW study"
 
 
 def test_public_names():
     errors = {name for name, kind in vars(pfair).items() if isinstance(kind, type) and issubclass(kind, Exception)}
     wanted = {*TYPES.split(), *CALLS.split(), *TABLES.split(), *errors}
-    assert set(pfair.__all__) >= wanted and len(pfair.__all__) == len(set(pfair.__all__)) and len(errors) == 29
+    assert set(pfair.__all__) >= wanted and len(pfair.__all__) == len(set(pfair.__all__)) and len(errors) == 31
     assert all(hasattr(pfair, name) for name in pfair.__all__) and isinstance(pfair.study, types.ModuleType)
     names = {}
     exec("from pfair import *", names)

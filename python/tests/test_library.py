@@ -53,6 +53,7 @@ STRUCTS = {
     "Step": (["kind", "slot", "processor", "number"], 32),
     "Settings": (["processors", "frame", "slots", "capacity"], 32),
     "TakenLog": (["taken", "fresh", "known", "torn"], 32),
+    "Miss": (["kind", "index", "slot"], 24),
     "FileFault": (["place", "field", "processor", "number", "cause"], 40),
 }
 
@@ -137,6 +138,8 @@ def test_types_of_calls(monkeypatch):
     wanted = {
         "version": [],
         "windows": [LONG, LONG, LONG, LONG, LONG, ROW, SIZE],
+        "first_miss": [LONG, LONG, LONG, ctypes.POINTER(module.Miss), number, ROW, SIZE],
+        "first_late": [LONG, LONG, LONG, ctypes.POINTER(module.Miss), number, ROW, SIZE],
         "open": [handle, BYTE, LONG, LONG, SHORT],
         "read_file": [handle, ctypes.POINTER(module.FileFault), ctypes.c_char_p, SIZE],
         "close": [handle],

@@ -8,22 +8,27 @@ Slots and counts are whole numbers, as `operator.index` takes them: any other ty
 library are exceptions below `PfairError`: `number` is the library's answer, and `found` says where, by names.
 """
 from . import study as study
+from ._check import Violation, check
 from ._dispatcher import OUTCOMES, Dispatcher, Faults, Planned, TakenCounts, windows
 from ._entries import Entry, Script, arrive, depart, late, promise, rows_of
 from ._errors import (
-    BY_NUMBER, BadDelay, BadIndex, CostOverPeriod, EntryRefused, FileTooLong, KeyMissing, KeyOutOfRange, KeyWrongKind, NameBadByte, NameEmpty,
-    NameTooLong, NoSuchNumber, NoSuchProcessor, NotOpen, NotPlanned, NotToml, OtherShape, OutOfMemory, OutOfRange, PeriodTooLong, PfairError,
-    SlotTooFar, Spent, Stalled, StampBeforeFloor, TaskFileError, Torn, UnknownVersion, ZeroCost,
+    BY_NUMBER, BadDelay, BadIndex, CostOverPeriod, EntryRefused, FileTooLong, KeyMissing, KeyOutOfRange, KeyWrongKind,
+    NameBadByte, NameEmpty, NameTooLong, NoSuchNumber, NoSuchProcessor, NotOpen, NotPlanned, NotToml, OtherShape,
+    OutOfMemory, OutOfRange, PeriodTooLong, PfairError, PickPastHorizon, PicksNotRising, SlotTooFar, Spent, Stalled,
+    StampBeforeFloor, TaskFileError, Torn, UnknownVersion, ZeroCost,
 )
+from ._first_miss import Miss, first_late, first_miss
 from ._library import DECISION, ENTRY, LAG, MEMBER, QUANTUM, VERSION, WINDOW
 from ._schedule import Counts, Schedule, read_task_file, schedule
 
 __all__ = [
-    "BY_NUMBER", "DECISION", "ENTRY", "LAG", "MEMBER", "OUTCOMES", "QUANTUM", "WINDOW", "Counts", "Dispatcher", "Entry", "Faults", "Planned",
-    "Schedule", "Script", "TakenCounts", "arrive", "depart", "late", "promise", "read_task_file", "rows_of", "schedule", "study", "windows",
-    "BadDelay", "BadIndex", "CostOverPeriod", "EntryRefused", "FileTooLong", "KeyMissing", "KeyOutOfRange", "KeyWrongKind", "NameBadByte",
-    "NameEmpty", "NameTooLong", "NoSuchNumber", "NoSuchProcessor", "NotOpen", "NotPlanned", "NotToml", "OtherShape", "OutOfMemory",
-    "OutOfRange", "PeriodTooLong", "PfairError", "SlotTooFar", "Spent", "Stalled", "StampBeforeFloor", "TaskFileError", "Torn",
+    "BY_NUMBER", "DECISION", "ENTRY", "LAG", "MEMBER", "OUTCOMES", "QUANTUM", "WINDOW", "Counts", "Dispatcher", "Entry",
+    "Faults", "Miss", "Planned", "Schedule", "Script", "TakenCounts", "Violation", "arrive", "check", "depart",
+    "first_late", "first_miss", "late", "promise", "read_task_file", "rows_of", "schedule", "study", "windows",
+    "BadDelay", "BadIndex", "CostOverPeriod", "EntryRefused", "FileTooLong", "KeyMissing", "KeyOutOfRange",
+    "KeyWrongKind", "NameBadByte", "NameEmpty", "NameTooLong", "NoSuchNumber", "NoSuchProcessor", "NotOpen",
+    "NotPlanned", "NotToml", "OtherShape", "OutOfMemory", "OutOfRange", "PeriodTooLong", "PfairError",
+    "PickPastHorizon", "PicksNotRising", "SlotTooFar", "Spent", "Stalled", "StampBeforeFloor", "TaskFileError", "Torn",
     "UnknownVersion", "ZeroCost",
 ]
 __version__ = VERSION

@@ -102,6 +102,18 @@ class Spent(PfairError):
     number = 31
 
 
+class PicksNotRising(PfairError, ValueError):
+    """a slot isn't after the one before it: found["place"] is its place, from 0"""
+
+    number = 40
+
+
+class PickPastHorizon(PfairError, ValueError):
+    """a slot isn't before the horizon: found["place"] is its place, from 0"""
+
+    number = 41
+
+
 class Stalled(PfairError):
     """the logs settle fewer slots than are wanted: found["frontier"] is the first that isn't settled"""
 
@@ -184,7 +196,7 @@ BY_NUMBER: dict[int, type[PfairError]] = {
     kind.number: kind
     for kind in (
         NameEmpty, NameTooLong, NameBadByte, ZeroCost, CostOverPeriod, PeriodTooLong, StampBeforeFloor, SlotTooFar,
-        BadDelay, BadIndex, NoSuchProcessor, NoSuchNumber, OtherShape, Torn, Spent, Stalled, NotToml, KeyMissing, KeyWrongKind,
+        BadDelay, BadIndex, NoSuchProcessor, NoSuchNumber, OtherShape, Torn, Spent, PicksNotRising, PickPastHorizon, Stalled, NotToml, KeyMissing, KeyWrongKind,
         KeyOutOfRange, EntryRefused, UnknownVersion, FileTooLong, OutOfMemory, OutOfRange, NotOpen, NotPlanned,
     )
 }

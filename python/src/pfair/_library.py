@@ -27,6 +27,10 @@ class TakenLog(c.Structure):
     _fields_ = [("taken", c.c_uint64), ("fresh", c.c_uint64), ("known", c.c_uint64), ("torn", c.c_uint64)]
 
 
+class Miss(c.Structure):
+    _fields_ = [("kind", c.c_uint64), ("index", c.c_uint64), ("slot", c.c_uint64)]
+
+
 class FileFault(c.Structure):
     _fields_ = [("place", c.c_uint64), ("field", c.c_uint64), ("processor", c.c_uint64), ("number", c.c_uint64), ("cause", c.c_uint64)]
 
@@ -76,6 +80,8 @@ _number, _step = c.POINTER(c.c_uint64), c.POINTER(Step)
 _CALLS: dict[str, list[Any]] = {
     "pfair_version": [],
     "pfair_windows": [_u64, _u64, _u64, _u64, _u64, _array, _size],
+    "pfair_first_miss": [_u64, _u64, _u64, c.POINTER(Miss), _number, _array, _size],
+    "pfair_first_late": [_u64, _u64, _u64, c.POINTER(Miss), _number, _array, _size],
     "pfair_open": [_handle, _u8, _u64, _u64, _u32],
     "pfair_read_file": [_handle, c.POINTER(FileFault), c.c_char_p, _size],
     "pfair_close": [_handle],

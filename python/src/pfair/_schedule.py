@@ -89,13 +89,8 @@ class Schedule:
 
     def __init__(self, script: Script) -> None:
         self.script = script
-        logs = [script.closed(processor) for processor in range(script.processors)]
-        self._dispatcher = Dispatcher(script.processors, script.frame, script.slots, max(map(len, logs), default=1))
-        for processor, log in enumerate(logs):
-            self._dispatcher.take_log(processor, log)
-        planned = self._dispatcher.plan()
-        if planned.kind == "waiting":
-            raise Stalled(f"{Stalled.__doc__}: {planned.slot}", frontier=planned.slot)
+        self._dispatcher = opened(script)
+        plan_to(self._dispatcher, script.slots)
         self.quanta: Rows = self._dispatcher.quanta()
         self.decisions: Rows = self._dispatcher.decisions()
 
@@ -294,6 +289,22 @@ class Schedule:
             return made
 
         return frame(self.quanta), frame(self.decisions)
+
+
+def opened(script: Script) -> Dispatcher:
+    """Returns a dispatcher that has taken the closed logs of a script, and planned nothing."""
+    logs = [script.closed(processor) for processor in range(script.processors)]
+    dispatcher = Dispatcher(script.processors, script.frame, script.slots, max(map(len, logs), default=1))
+    for processor, log in enumerate(logs):
+        dispatcher.take_log(processor, log)
+    return dispatcher
+
+
+def plan_to(dispatcher: Dispatcher, slots: int) -> None:
+    """Plans so many slots, all of which are to be settled."""
+    planned = dispatcher.plan(slots)
+    if planned.kind == "waiting":
+        raise Stalled(f"{Stalled.__doc__}: {planned.slot}", frontier=planned.slot)
 
 
 class _Source(PictureRows):

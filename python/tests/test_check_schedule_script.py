@@ -1,0 +1,119 @@
+"""scripts/check_schedule: its lines and statuses, and what can't be read."""
+import io
+import os
+import subprocess
+import sys
+
+from conftest import EXAMPLES, SCRIPTS, module_of
+
+import pfair
+
+CHECK = module_of("check_schedule")
+TASKS, ROWS = EXAMPLES / "full_load.toml", EXAMPLES / "full_load.replay"
+
+
+def run(*words, rows=b""):
+    done = subprocess.run(
+        [sys.executable, SCRIPTS / "check_schedule", *map(str, words)], input=rows, capture_output=True
+    )
+    return done.returncode, done.stdout.decode(), done.stderr.decode()
+
+
+def test_right(call):
+    for words in ((), ("--order",)):
+        assert call(CHECK, *words, TASKS, ROWS) == (0, "nothing is wrong\n", "")
+
+
+def test_wrong(call, tmp_path):
+    script = pfair.Script(1, 6, 6, [[pfair.arrive("a", 1, 3), pfair.arrive("b", 1, 2)]])
+    tasks, rows = tmp_path / "tasks.toml", tmp_path / "rows.csv"
+    tasks.write_text(script.text())
+    rows.write_text("slot,task,index\n0,b,1\n0,a,1\n2,b,2\n3,a,2\n3,b,9\n5,b,4\n")
+    lines = [
+        "slot 0: crowded: 2 quanta on 1 processors",
+        "slot 3: crowded: 2 quanta on 1 processors",
+        "slot 3, b 9: index: subtask 3 is the next",
+    ]
+    lines += ["slot 3, b 3: early: its release is 4"]
+    wanted = "\n".join([*lines, "4 wrong: 2 crowded, 1 early, 1 index", ""])
+    assert call(CHECK, tasks, rows) == (1, wanted, "")
+    done = call(CHECK, "--order", tasks, rows)
+    order = "slot 0, a 1: order: it isn't among the first 1\n"
+    assert done == (
+        1,
+        lines[0] + "\n" + order + "\n".join([*lines[1:], "5 wrong: 2 crowded, 1 early, 1 index, 1 order", ""]),
+        "",
+    )
+
+
+def test_refused(call, tmp_path):
+    """What can't be read is named, in one line."""
+    bad, none = tmp_path / "bad.toml", tmp_path / "none"
+    bad.write_text("version = 3\n")
+    stalled = tmp_path / "stalled.toml"
+    stalled.write_text(
+        "version = 1\nprocessors = 1\nframe = 1\nslots = 8\n"
+        "entry = [{processor = 0, floor = 5}, {processor = 0, floor = 4}]\n"
+    )
+    rows = tmp_path / "rows"
+    rows.write_text("slot,task\n0,a\n1,?\n")
+    for words, said in (
+        ((bad, ROWS), f"{bad}: the file's version is none of 1 and 2"),
+        ((none, ROWS), f"{none}: [Errno 2] No such file or directory: '{none}'"),
+        ((TASKS, none), f"{none}: [Errno 2] No such file or directory: '{none}'"),
+        ((TASKS, tmp_path), f"{tmp_path}: [Errno 21] Is a directory: '{tmp_path}'"),
+        ((TASKS, rows), f"{rows}: line 3: '?' is no task's name"),
+        (
+            (stalled, ROWS),
+            f"{stalled}: {pfair.Stalled.__doc__}: 5",
+        ),
+    ):
+        assert call(CHECK, *words) == (2, "", f"scripts/check_schedule: {said}\n")
+
+
+def test_as_a_program():
+    text = ROWS.read_bytes()
+    assert run(TASKS, "-", rows=text) == (0, "nothing is wrong\n", "")
+    assert run("--order", TASKS, "-", rows=text.replace(b"\n0,0,", b"\n0,0,x"))[0] == 1
+    status, out, said = run(TASKS, "-", rows=b"")
+    assert (status, out, said) == (2, "", "scripts/check_schedule: -: line 1: the header has no column 'slot': ''\n")
+    assert run(TASKS)[0] == 2 and "usage: " in run(TASKS)[2]
+    status, out, said = run("--help")
+    assert status == 0 and "[--order] TASKS ROWS" in out and CHECK.__doc__.strip() in out
+
+
+def test_package(monkeypatch, tmp_path):
+    """The package as it is installed; else the one beside, with the library that is named, or is made."""
+    assert CHECK.package() is pfair
+    made = []
+    monkeypatch.setattr(CHECK.importlib.util, "find_spec", lambda name: None if name == "pfair" else 1 / 0)
+    monkeypatch.setattr(CHECK.subprocess, "run", lambda words, **how: made.append(([*map(str, words)], how)))
+    monkeypatch.setattr(sys, "path", [*sys.path])
+    monkeypatch.setattr(CHECK, "TOP", tmp_path)
+    monkeypatch.setenv("PFAIR_LIBRARY", "some.so")
+    assert CHECK.package() is pfair and sys.path[0] == str(tmp_path / "python" / "src") and not made
+    for unset in ("", None):
+        monkeypatch.delenv("PFAIR_LIBRARY") if unset is None else monkeypatch.setenv("PFAIR_LIBRARY", unset)
+        assert CHECK.package() is pfair and os.environ["PFAIR_LIBRARY"] == str(tmp_path / "build" / "libpfair.so")
+    words = [str(tmp_path / "tools" / "make_library"), str(tmp_path / "build")]
+    assert made == [(words, {"stdout": subprocess.DEVNULL, "check": True})] * 2
+
+
+def test_package_that_cant_be_made(call, monkeypatch):
+    def fails(*words, **how):
+        raise subprocess.CalledProcessError(1, "make_library")
+
+    monkeypatch.setattr(CHECK, "package", fails)
+    done = call(CHECK, TASKS, ROWS)
+    assert done == (2, "", "scripts/check_schedule: pfair: Command 'make_library' returned non-zero exit status 1.\n")
+
+
+def test_a_reader_that_ends(call, monkeypatch):
+    class Closed(io.StringIO):
+        def writelines(self, lines):
+            raise BrokenPipeError
+
+    monkeypatch.setattr(sys, "argv", ["check_schedule", str(TASKS), str(ROWS)])
+    monkeypatch.setattr(sys, "stdout", Closed())
+    monkeypatch.setattr(sys, "stderr", io.StringIO())
+    assert CHECK.main() == 0 and sys.stderr.closed

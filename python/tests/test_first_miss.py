@@ -1,0 +1,78 @@
+"""first_miss() and first_late() beside the windows, and each refusal."""
+import itertools
+from fractions import Fraction
+
+import numpy as np
+import pytest
+from conftest import refusal
+from recorded import Stay
+
+import pfair
+from pfair import Miss
+
+
+def wanted(cost, period, picks, horizon, may_be_early):
+    miss = Stay("", 0, horizon, cost, period, False, []).miss(picks)
+    if may_be_early and miss and miss[1] == "early":
+        stay = Stay("", 0, horizon, cost, period, True, [])
+        late = [(slot, index) for index, slot in enumerate(picks, 1) if slot >= stay.deadline(index)]
+        behind = stay.deadline(len(picks) + 1)
+        return (
+            Miss("tardy", late[0][1], late[0][0])
+            if late
+            else Miss("unserved", len(picks) + 1, None)
+            if behind <= horizon
+            else None
+        )
+    return miss and Miss(miss[1], miss[3], None if miss[1] == "unserved" else miss[0])
+
+
+def test_all_of_eight_slots():
+    """Each set of slots below 8, for each weight up to period 5."""
+    for period in range(1, 6):
+        for cost in range(1, period + 1):
+            for count in range(9):
+                for picks in itertools.combinations(range(8), count):
+                    assert pfair.first_miss(cost, period, picks, 8) == wanted(cost, period, picks, 8, False)
+                    assert pfair.first_late(cost, period, picks, 8) == wanted(cost, period, picks, 8, True)
+
+
+def test_lags_say_the_same():
+    """No subtask is out of its window exactly if the lag stays within one quantum."""
+    for picks in itertools.combinations(range(9), 4):
+        lags = [Fraction(3 * time, 7) - sum(slot < time for slot in picks) for time in range(10)]
+        assert (pfair.first_miss(3, 7, picks, 9) is None) == all(-1 < lag < 1 for lag in lags)
+        assert (pfair.first_late(3, 7, picks, 9) is None) == all(lag < 1 for lag in lags)
+
+
+@pytest.mark.parametrize(
+    "kind", [list, tuple, lambda p: np.array(p, "u8"), lambda p: np.array(p, "i4"), lambda p: np.array([p, p]).T[:, 0]]
+)
+def test_forms(kind):
+    assert pfair.first_miss(1, 2, kind([0, 2, 4]), 6) is None
+    assert pfair.first_miss(1, 2, kind([0, 3, 7]), 9) == ("tardy", 3, 7)
+    assert pfair.first_late(1, 2, kind([0, 1, 2]), 9) == ("unserved", 4, None)
+
+
+def test_refusals():
+    for call in (pfair.first_miss, pfair.first_late):
+        refusal(pfair.ZeroCost, "a weight of cost 0: 0/2", call, 0, 2, [], 9)
+        refusal(pfair.CostOverPeriod, "a weight of more than a whole processor: 3/2", call, 3, 2, [], 9)
+        refusal(
+            pfair.PeriodTooLong, "a period of more than 1,000,000,000 slots: 1/1000000001", call, 1, 10**9 + 1, [], 9
+        )
+        refusal(pfair.OutOfRange, "a number is out of its range: 1/2", call, 1, 2, [], 1_000_001)
+        refusal(pfair.OutOfRange, "a number is out of its range: horizon = -1", call, 1, 2, [], -1)
+        refusal(pfair.OutOfRange, "a number is out of its range: cost = -1", call, -1, 2, [], 1)
+        refusal(pfair.OutOfRange, "a number is out of its range: period = -2", call, 1, -2, [], 1)
+        refusal(pfair.OutOfRange, "a number is out of its range: pick = -3", call, 1, 2, [0, -3], 9)
+        for place, name in ((0, "cost"), (1, "period"), (3, "horizon")):
+            words = [1, 2, [], 9]
+            words[place] = 2**64
+            refusal(pfair.OutOfRange, f"a number is out of its range: {name} = {2**64}", call, *words)
+        said = "a slot isn't after the one before it: 4 at 2"
+        assert refusal(pfair.PicksNotRising, said, call, 1, 2, [0, 4, 4], 9) == {"place": 2}
+        said = "a slot isn't before the horizon: 9 at 1"
+        assert refusal(pfair.PickPastHorizon, said, call, 1, 2, [0, 9, 4], 9) == {"place": 1}
+        for picks in ([0.0], [[0]], ["a"]):
+            refusal(TypeError, "picks are a list of whole numbers", call, 1, 2, picks, 9)
