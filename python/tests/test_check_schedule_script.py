@@ -32,9 +32,9 @@ def test_wrong(call, tmp_path):
     lines = [
         "slot 0: crowded: 2 quanta on 1 processors",
         "slot 3: crowded: 2 quanta on 1 processors",
+        "slot 3, b 3: early: its release is 4",
         "slot 3, b 9: index: subtask 3 is the next",
     ]
-    lines += ["slot 3, b 3: early: its release is 4"]
     wanted = "\n".join([*lines, "4 wrong: 2 crowded, 1 early, 1 index", ""])
     assert call(CHECK, tasks, rows) == (1, wanted, "")
     done = call(CHECK, "--order", tasks, rows)

@@ -158,10 +158,11 @@ class _Header:
     def __init__(self, line: bytes) -> None:
         text = line.decode("utf-8-sig", errors="replace").rstrip("\r\n")
         self.separator = next((one for one in ",;\t" if one in text), ",")
-        columns = [
-            column.strip().lower()
-            for column in next(csv.reader([text], delimiter=self.separator, skipinitialspace=True), [])
-        ]
+        try:
+            words = next(csv.reader([text], delimiter=self.separator, skipinitialspace=True), [])
+        except csv.Error as refused:
+            raise ValueError(f"line 1: {refused}") from None
+        columns = [word.strip().lower() for word in words]
         self.width = len(columns)
         if missing := [name for name in _COLUMNS[:2] if name not in columns]:
             raise ValueError(f"line 1: the header has no column {missing[0]!r}: {text[:80]!r}")
