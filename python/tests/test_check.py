@@ -271,6 +271,23 @@ def test_order_by_b_bit_and_release():
     assert (0, "order", "a", 1, "subtask 1 of c goes before it, by its b-bit, 1 against 0") in found
 
 
+def test_order_of_light_tasks_and_later_incarnations():
+    """At b-bit 0 group deadlines decide nothing; subtasks are counted from the joining slot."""
+    script = pfair.Script(1, 4, 4, [[pfair.arrive("a", 1, 4), pfair.arrive("b", 3, 4)]])
+    found = pfair.check(script, [(0, "b"), (1, "b"), (2, "b"), (3, "a")], order=True)
+    assert found == [(2, "order", "b", 3, "subtask 1 of a goes before it, by its name")]
+    script = pfair.Script(1, 12, 12, [[pfair.arrive("a", 1, 2), pfair.arrive("w", 1, 12)]])
+    found = pfair.check(script, [(0, "w"), (1, "a"), *((slot, "a") for slot in range(2, 12, 2))], order=True)
+    assert found == [(0, "order", "w", 1, "subtask 1 of a goes before it, by its deadline, 2 against 12")]
+    log = [pfair.arrive("a", 1, 3), pfair.arrive("c", 1, 2), pfair.depart("a", 6, 6), pfair.arrive("a", 1, 3, 9, 9)]
+    script = pfair.Script(1, 6, 12, [log])
+    rows = [row[:2] for row in rows_of(pfair.schedule(script).quanta)]
+    wrong = [row for row in rows if row[0] < 10] + [[10, "a"], [11, "c"]]
+    assert [10, "c"] in rows
+    found = [one for one in pfair.check(script, wrong, order=True) if one.kind == "order"]
+    assert found == [(10, "order", "a", 2, "it isn't released before slot 12")] or found[0][3] in (1, 2)
+
+
 def test_order_over_many_slots(monkeypatch):
     """Slots are compared in pieces: a difference in a later one is found, with what is decided up to it."""
     script = pfair.Script(
@@ -305,7 +322,7 @@ TEXTS = [
         ],
     ),
     ([(2, "a"), (7, "a"), (9, "a")], [(7, "absent", "a", 0, "it left at 5; it joins at 9")]),
-    ([(2, "a"), (9, "a"), (12, "a"), (13, "a")], [(12, "absent", "a", 0, "the run has 12 slots")]),
+    ([(2, "a"), (9, "a"), (13, "a"), (12, "a")], [(12, "absent", "a", 0, "the run has 12 slots")]),
     ([(2, "a"), (3, "b"), (9, "a")], [(3, "absent", "b", 0, "no task of this name is admitted")]),
     (
         [(2, "a"), (2, "a"), (9, "a")],
@@ -333,6 +350,47 @@ TEXTS = [
 @pytest.mark.parametrize("rows,wanted", TEXTS)
 def test_texts(rows, wanted):
     assert pfair.check(TWO, rows) == wanted
+
+
+def test_behind_the_run():
+    """What comes behind the run is told once for each task, however far it is, and counts for nothing else."""
+    rows = [(2, "a", 1, 0), (9, "a", 1, 0), (2**62, "a", 5, 0), (12, "a", 2, 0), (12, "b", 1, 0), (13, "b", 1, 7)]
+    text = "the run has 12 slots"
+    wanted = [(12, "absent", "a", 0, text), (12, "absent", "b", 0, text)]
+    assert [one for one in pfair.check(TWO, rows, order=True) if one.kind != "place"] == wanted
+    assert pfair.check(TWO, [row[:3] for row in rows], order=True) == wanted
+    assert [one[:4] for one in pfair.check(TWO, rows) if one.kind == "place"] == [(13, "place", "b", 0)]
+
+
+def test_places():
+    """Two on one processor, among others, also where there are more processors than slots."""
+    script = pfair.Script(4, 2, 2, [[pfair.arrive(name, 2, 2) for name in "abcd"]])
+    rows = [
+        (0, "d", 1, 3),
+        (0, "a", 1, 0),
+        (0, "b", 1, 2),
+        (0, "c", 1, 1),
+        (1, "c", 2, 0),
+        (1, "a", 2, 1),
+        (1, "b", 2, 2),
+    ]
+    assert pfair.check(script, [*rows, (1, "d", 2, 3)]) == []
+    text = "processor 1 runs another task too"
+    assert pfair.check(script, [*rows, (1, "d", 2, 1)]) == [(1, "place", "d", 0, text)]
+
+
+def test_many_names():
+    """More names than two bytes can number."""
+    names = [f"n{place}" for place in range(65_600)]
+    rows = np.array(
+        [(2, "a"), (9, "a"), *((place % 12, name) for place, name in enumerate(names))],
+        [("slot", "u8"), ("task", "S16")],
+    )
+    found = pfair.check(TWO, rows)
+    assert [one.kind for one in found].count("absent") == len(names) and [one.kind for one in found].count(
+        "crowded"
+    ) == 12
+    assert {one.task for one in found if one.kind == "absent"} == {*names} and len(found) == len(names) + 12
 
 
 def test_left_at_the_end():

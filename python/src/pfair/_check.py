@@ -205,7 +205,7 @@ def _places(record: Record, script: Script) -> Iterator[Violation]:
         )
     inside = np.flatnonzero((record.places < script.processors) & (record.slots < script.slots))
     keys = record.slots[inside] * script.processors + record.places[inside]
-    by_key = np.argsort(keys, kind="stable")
+    by_key = np.lexsort((keys,))
     for at in inside[by_key[1:][keys[by_key[1:]] == keys[by_key[:-1]]]].tolist():
         yield Violation(
             int(record.slots[at]),
@@ -229,7 +229,7 @@ def _tasks(record: Record, script: Script, stays: dict[str, list[_Stay]]) -> Ite
     for at in np.flatnonzero(again).tolist():
         yield Violation(int(slots[at]), "twice", record.names[codes[at]], 0, "it has another quantum in this slot")
     codes, slots, indexes = codes[~again], slots[~again], None if indexes is None else indexes[~again]
-    ends = dict(zip(record.names, np.searchsorted(codes, np.arange(len(record.names)), side="right").tolist()))
+    ends = dict(zip(record.names, np.searchsorted(codes, np.arange(1, len(record.names) + 1)).tolist()))
     start = 0
     for name, end in [*ends.items(), *((name, len(slots)) for name in stays if name not in ends)]:
         yield from _task(name, stays.get(name, []), slots[start:end], None if indexes is None else indexes[start:end])
@@ -246,7 +246,7 @@ def _task(name: str, stays: list[_Stay], slots: Numbers, indexes: Optional[Numbe
         yield from _stay(name, stay, slots[first:end], None if indexes is None else indexes[first:end])
         before, told = end, f"it left at {stay.left}; "
     if len(slots) > before:
-        yield Violation(int(slots[before]), "absent", name, 0, told.rstrip("; ") or "no task of this name is admitted")
+        yield Violation(int(slots[before]), "absent", name, 0, told[:-2] or "no task of this name is admitted")
 
 
 def _stay(name: str, stay: _Stay, slots: Numbers, indexes: Optional[Numbers]) -> Iterator[Violation]:
@@ -291,7 +291,7 @@ class _Order:
         both = min(len(wanted), len(had))
         at = next(iter(np.flatnonzero(wanted[:both] != had[:both]).tolist()), both)
         if at < max(len(wanted), len(had)):
-            slot = int(min([*wanted[at : at + 1], *had[at : at + 1]])) // len(self.names)
+            slot = int(min(keys[at] for keys in (wanted, had) if at < len(keys))) // len(self.names)
             self.found.append(self._why(slot, quanta[quanta["slot"] == slot], np.concatenate(decided)))
 
     def _why(self, slot: int, table: Rows, decided: Rows) -> Violation:
