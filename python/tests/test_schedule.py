@@ -176,14 +176,29 @@ MIXED = some.lists(
 )
 
 
+@pytest.mark.parametrize("boxes", [1 << 16, 1])
 @settings(max_examples=100)
 @given(some.one_of(NAMES, MIXED))
-def test_numbers_of_names(names):
+def test_numbers_of_names(boxes, names):
     """Names of more than 8 bytes with one beginning are apart, also where they end alike behind another beginning."""
+    with pytest.MonkeyPatch.context() as patch:
+        if boxes == 1:  # all names are in one box
+            patch.setattr(_schedule, "_MIXED", np.array([0, 0, 0], np.uint64))
+        check_numbers(names)
+
+
+def check_numbers(names):
     rows = np.zeros(len(names), pfair.QUANTUM)
     rows["task"] = names
     codes, known = _schedule.numbered(rows["task"])
     assert [known[code] for code in codes] == names and len(known) == len(set(names)) and set(known) == set(names)
+
+
+def test_numbers_of_many_names():
+    """Some of many names share a box."""
+    check_numbers([b"n%d" % (place * place) for place in [*range(3000)] * 2])
+    check_numbers([b"%c%c%s" % (one, other, b"a" * 14) for one in b"abc" for other in range(97, 123)])
+    check_numbers([b"a" * 14 + b"%c%c" % (one, other) for one in b"abc" for other in range(97, 123)])
 
 
 def test_long_names_with_one_beginning():
