@@ -79,7 +79,7 @@ def test_as_a_program():
     assert (status, out, said) == (2, "", "scripts/check_schedule: -: line 1: the header has no column 'slot': ''\n")
     assert run(TASKS)[0] == 2 and "usage: " in run(TASKS)[2]
     status, out, said = run("--help")
-    assert status == 0 and "[--order] TASKS ROWS" in out and CHECK.__doc__.strip() in out
+    assert status == 0 and "[--order] TASKS ROWS\n" in out and CHECK.__doc__.strip() in out
 
 
 def test_package(monkeypatch, tmp_path):
