@@ -61,11 +61,12 @@ def test_quick():
         _record._Header(b"slot,task\n"),
         b"".join(b"%d,%s\n" % (10**k - 1, b"a" * k) for k in range(1, 9)) * 2,
     )
-    quick, slow = _record._quick(text, 16, header, _record.Names()), _record._slow(text, 2, header, _record.Names())
-    assert list(quick) == list(slow) == ["slot", "task"] and all((quick[key] == slow[key]).all() for key in slow)
-    assert (
-        quick["slot"].tolist() == [10**k - 1 for k in range(1, 9)] * 2 and quick["task"].tolist() == [*range(8)] * 2
-    )
+    for read in (_record._quick, lambda piece, _, *more: _record._slow(piece, 2, *more)):
+        names = _record.Names()
+        columns_read = read(text, 16, header, names)
+        assert list(columns_read) == ["slot", "task"]
+        assert columns_read["slot"].tolist() == [10**k - 1 for k in range(1, 9)] * 2
+        assert [names.all()[code] for code in columns_read["task"]] == ["a" * k for k in range(1, 9)] * 2
     long = b"".join(b"1,%s%c%s\n" % (b"a" * k, letter, b"z" * (15 - k)) for k in (0, 7, 8, 9, 15) for letter in b"bcb")
     names = _record.Names()
     codes = _record._quick(long, 15, header, names)["task"]
