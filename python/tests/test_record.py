@@ -72,7 +72,7 @@ def test_quick():
     codes = _record._quick(long, 15, header, names)["task"]
     assert b"".join(b"1,%s\n" % names.all()[code].encode() for code in codes) == long and len(names.all()) == 10
     for other in (
-        b"1\n2,a,b\n",
+        b"1\na,3,b\n",
         b"1,a\n2\n",
         b"1,a,2\n2\n",
         b",a\n",
