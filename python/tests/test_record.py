@@ -12,6 +12,7 @@ from pfair._record import read_record
 
 NAMES = some.from_regex(r"[a-z][a-z0-9_]{0,15}", fullmatch=True)
 NUMBERS = some.one_of(some.integers(0, 12), some.integers(0, 10**8), some.integers(0, 2**63 - 1))
+FIELDS = ("slot", "task", "index", "place")
 ROWS = some.lists(some.tuples(NUMBERS, some.one_of(some.sampled_from("abc"), NAMES), NUMBERS, NUMBERS), max_size=12)
 
 
@@ -50,6 +51,7 @@ def test_arrays_and_rows(rows):
     assert (
         columns(read_record(array.astype([("slot", "u8"), ("task", "U16"), ("index", "u8"), ("place", "i8")]))) == rows
     )
+    assert columns(read_record(array.astype([(name, "O" if name == "task" else "u8") for name in FIELDS]))) == rows
     assert columns(read_record([(str(a), b.encode(), np.uint64(c)) for a, b, c, _ in rows])) == [
         row[:3] for row in rows
     ]

@@ -38,7 +38,7 @@ class Record(NamedTuple):
     slots : ndarray of int64
         The slot of each row.
     tasks : ndarray of int64
-        The place of each row's task in `names`.
+        Which of `names` each row's task is, from 0.
     names : list of str
         The tasks, each once.
     indexes, places : ndarray of int64, or None
@@ -53,7 +53,7 @@ class Record(NamedTuple):
 
 
 class Names:
-    """Numbers names, each by its place in the order in which they come."""
+    """Numbers names from 0, in the order in which they come."""
 
     def __init__(self) -> None:
         self.codes: dict[bytes, int] = {}
@@ -109,7 +109,7 @@ def _of_array(rows: Rows) -> Record:
     known, codes = np.unique(rows["task"], return_inverse=True)
     names = Names()
     for name in known:
-        names.code(str(name).encode() if known.dtype.kind == "U" else bytes(name))
+        names.code(bytes(name) if isinstance(name, bytes) else str(name).encode())
     slots, *more = (_whole(rows[name], name) if name in fields else None for name in ("slot", "index", "place"))
     assert slots is not None
     return Record(slots, codes.ravel().astype(np.int64), names.all(), *more)
