@@ -79,7 +79,8 @@ def check(tasks: Union[Script, str, "os.PathLike[str]", bytes], rows: Given, ord
     Notes
     -----
     O(r log r) for r rows, and the cost of planning the tasks, by whose decisions it goes who is a member when, and
-    which late releases are accepted. The k-th quantum of an incarnation is taken for its subtask k.
+    which late releases are accepted. The k-th quantum of an incarnation is taken for its subtask k, and the rows for
+    all quanta of the run: a record that ends earlier leaves subtasks unserved.
     """
     script = tasks if isinstance(tasks, Script) else read_task_file(tasks)
     record = read_record(rows)
