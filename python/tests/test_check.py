@@ -201,7 +201,7 @@ def test_other_policies(policy):
 
 
 def test_without_group_deadlines():
-    """The set of docs/STUDY.md that misses at 60 without group deadlines, and where that order first differs."""
+    """The set of examples/python/README.md that misses at 60 without group deadlines, and where that order first differs."""
     tasks = [("a", 37, 60), ("b", 2, 3), ("c", 5, 6), ("d", 54, 60), ("e", 59, 60)]
     script, rows = set_of(tasks, 4, 60), schedule_by(without_groups, tasks, 4, 60)
     missed = (60, "unserved", "e", 59, "its deadline is 60")
