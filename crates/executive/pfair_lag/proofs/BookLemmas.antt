@@ -1,6 +1,6 @@
 -- The accounts of a book, and the book that they show.
 use Rattle.std.proofs.Common.{◌≡◌, ℕ, zero, suc, ◌+◌, ◌-◌, ◌<◌, ◌≤◌, Bool, true, false, cond, not, ◌||◌, List, [], ◌∷◌, ◌++◌, map, length, take, get_or, Option, Some, None, refl, sym, ap, subst, ◌∙◌, arith}
-use Rattle.std.specs.Prelude.{nat_lt, slice_get, position, filter, is_some}
+use Rattle.std.specs.Prelude.{slice_get, position, filter, is_some}
 use Rattle.std.specs.List.{AllByRecursion, IsDistinct}
 use Rattle.std.specs.Option.{option_map}
 use Rattle.std.specs.Map.{keys_of, values_of, lookup, remove_entry}
@@ -16,7 +16,7 @@ use Rattle.pfair_weight.specs.Share.{Share}
 use Rattle.pfair_lag.specs.declared.book.Account.{Account}
 use Rattle.pfair_weight.specs.Name.{NameValue, name_eq, NamesApart}
 use Rattle.pfair_weight.specs.NameFacts.{name_at}
-use Rattle.pfair_lag.specs.Book.{Tally, Book, tally_of, has_run, entered_with, left, slot_more, recorded}
+use Rattle.pfair_lag.specs.Book.{Tally, Book, tally_of, entered_with, left, slot_more, recorded}
 use Rattle.pfair_lag.specs.Accounts.{tally_shown, entered_shown, IsSound, IsKept, EachFits, counted_at, with_quantum, with_quanta}
 
 abbrev pub Accounts : Type 0
@@ -34,11 +34,7 @@ is_some-map f (Some x) = refl
 
 found_shown : (time : ℕ) (name : NameValue) (es : Accounts) → lookup (name_eq name) (entered_shown time es) ≡ option_map (tally_shown time) (lookup (name_eq name) es)
 found_shown time name [] = refl
-found_shown time name (e ∷ es) =
-    elim (name_eq name e.0) as (λ b. cond b (Some (tally_shown time e.1)) (lookup (name_eq name) (entered_shown time es)) ≡ option_map (tally_shown time) (cond b (Some e.1) (lookup (name_eq name) es))) [
-      | true ↦ refl
-      | false ↦ found_shown time name es
-    ]
+found_shown time name (e ∷ es) = grind (arith, found_shown time name es)
 
 pub tally_kept : (time : ℕ) (es : Accounts) (name : NameValue) (book : Book) → book_shown time es ≡ book → tally_of name book ≡ option_map (tally_shown time) (lookup (name_eq name) es)
 tally_kept time es name book is = ap (tally_of name) (sym is) ∙ found_shown time name es
@@ -61,8 +57,7 @@ sound_found time name es a kept e = sound_at time name es a kept.each e
 -- ---- entering
 
 pub entered_there : (name : NameValue) (weight : Share) (book : Book) → is_some (tally_of name book) ≡ true → book ≡ entered_with name weight book
-entered_there name weight book e =
-    sym (ap (λ b. cond b book (record book { entered = book.entered ++ (name, record { weight = weight; slots = 0; ran = 0 }) ∷ [] })) e)
+entered_there name weight book e = grind arith
 
 abbrev pub account_new : ℕ → Share → Account
 account_new time weight = record { weight = weight; since = time; last = time; ran = 0 }
@@ -70,24 +65,10 @@ account_new time weight = record { weight = weight; since = time; last = time; r
 pub entered_new : (time : ℕ) (es es' : Accounts) (name : NameValue) (weight : Share) (book : Book)
     → book_shown time es ≡ book → is_some (tally_of name book) ≡ false → es' ≡ es ++ (name, account_new time weight) ∷ []
     → book_shown time es' ≡ entered_with name weight book
-entered_new time es es' name weight book is none added =
-    let fresh : time - time ≡ 0 = omega arith in
-    let tally : tally_shown time (account_new time weight) ≡ record { weight = weight; slots = 0; ran = 0 } = λ i. record { weight = weight; slots = fresh i; ran = 0 } in
-    let shown : entered_shown time es' ≡ entered_shown time es ++ (name, record { weight = weight; slots = 0; ran = 0 }) ∷ [] =
-    ap (entered_shown time) added ∙ map_push (λ (e : NameValue × Account). (e.0, tally_shown time e.1)) es (name, account_new time weight)
-    ∙ ap (λ (t : Tally). entered_shown time es ++ (name, t) ∷ []) tally in
-    let more : book_shown time es' ≡ record (book_shown time es) { entered = entered_shown time es ++ (name, record { weight = weight; slots = 0; ran = 0 }) ∷ [] } =
-    λ i. record { time = time; entered = shown i } in
-    more ∙ ap (λ (b : Book). record b { entered = b.entered ++ (name, record { weight = weight; slots = 0; ran = 0 }) ∷ [] }) is
-    ∙ sym (ap (λ b. cond b book (record book { entered = book.entered ++ (name, record { weight = weight; slots = 0; ran = 0 }) ∷ [] })) none)
+entered_new time es es' name weight book is none added = grind (arith, map_push)
 
 pub kept_new : (time : ℕ) (es es' : Accounts) (name : NameValue) (weight : Share) → IsKept time es → IsDistinct name_eq (keys_of es') → es' ≡ es ++ (name, account_new time weight) ∷ [] → IsKept time es'
-kept_new time es es' name weight kept unique added = record {
-  short = kept.short;
-  unique = unique;
-  each = subst (AllByRecursion (λ (e : NameValue × Account). IsSound time e.1)) (sym added)
-      (all_by_recursion_push (λ (e : NameValue × Account). IsSound time e.1) es (name, account_new time weight) kept.each (record { counted = omega arith; past = omega arith }));
-}
+kept_new time es es' name weight kept unique added = grind (arith, all_by_recursion_push)
 
 -- ---- leaving
 
@@ -110,11 +91,7 @@ removed {X} name (e ∷ es) unique =
 
 shown_filter : (time : ℕ) (p : NameValue → Bool) (es : Accounts) → entered_shown time (filter (λ (e : NameValue × Account). p e.0) es) ≡ filter (λ (e : NameValue × Tally). p e.0) (entered_shown time es)
 shown_filter time p [] = refl
-shown_filter time p (e ∷ es) =
-    elim (p e.0) as (λ b. entered_shown time (cond b (e ∷ filter (λ (e : NameValue × Account). p e.0) es) (filter (λ (e : NameValue × Account). p e.0) es)) ≡ cond b ((e.0, tally_shown time e.1) ∷ filter (λ (e : NameValue × Tally). p e.0) (entered_shown time es)) (filter (λ (e : NameValue × Tally). p e.0) (entered_shown time es))) [
-      | true ↦ ap (λ l. (e.0, tally_shown time e.1) ∷ l) (shown_filter time p es)
-      | false ↦ shown_filter time p es
-    ]
+shown_filter time p (e ∷ es) = grind (arith, shown_filter time p es)
 
 pub left_shown : (time : ℕ) (es es' : Accounts) (name : NameValue) (book : Book) → book_shown time es ≡ book → IsKept time es → es' ≡ remove_entry (name_eq name) es → book_shown time es' ≡ left name book
 left_shown time es es' name book is kept gone =
@@ -125,18 +102,10 @@ left_shown time es es' name book is kept gone =
 
 all_removed : (P : NameValue × Account → Type 0) (name : NameValue) (es : Accounts) → AllByRecursion P es → AllByRecursion P (remove_entry (name_eq name) es)
 all_removed P name [] h = tt
-all_removed P name (e ∷ es) h =
-    elim (name_eq name e.0) as (λ b. AllByRecursion P (cond b es (e ∷ remove_entry (name_eq name) es))) [
-      | true ↦ h.1
-      | false ↦ (h.0, all_removed P name es h.1)
-    ]
+all_removed P name (e ∷ es) h = grind (arith, all_removed P name es h.1)
 
 pub kept_left : (time : ℕ) (es es' : Accounts) (name : NameValue) → IsKept time es → IsDistinct name_eq (keys_of es') → es' ≡ remove_entry (name_eq name) es → IsKept time es'
-kept_left time es es' name kept unique gone = record {
-  short = kept.short;
-  unique = unique;
-  each = subst (AllByRecursion (λ (e : NameValue × Account). IsSound time e.1)) (sym gone) (all_removed (λ e. IsSound time e.1) name es kept.each);
-}
+kept_left time es es' name kept unique gone = grind (arith, all_removed)
 
 -- ---- a quantum
 
@@ -202,13 +171,7 @@ no_quanta time [] = refl
 no_quanta time (e ∷ es) = ap (λ (l : Accounts). e ∷ l) (no_quanta time es)
 
 once_again : (time : ℕ) (a : Account) → counted_at time (counted_at time a) ≡ counted_at time a
-once_again time a =
-    elim (nat_lt a.last time) as (λ b. nat_lt a.last time ≡ b → counted_at time (cond b (record a { last = time; ran = a.ran + 1 }) a) ≡ cond b (record a { last = time; ran = a.ran + 1 }) a) [
-      | true ↦ λ _.
-          let same : nat_lt time time ≡ false = grind (arith, nat_tests) in
-          ap (λ b. cond b (record a { last = time; ran = a.ran + 1 + 1 }) (record a { last = time; ran = a.ran + 1 })) same
-      | false ↦ λ e. ap (λ b. cond b (record a { last = time; ran = a.ran + 1 }) a) e
-    ] refl
+once_again time a = grind (arith, nat_tests)
 
 one_more : (time : ℕ) (a : Account) (b c d : Bool) → d ≡ (b || (c || false)) → cond c (counted_at time (cond b (counted_at time a) a)) (cond b (counted_at time a) a) ≡ cond d (counted_at time a) a
 one_more time a true true d e = once_again time a ∙ ap (λ v. cond v (counted_at time a) a) (sym e)
@@ -222,25 +185,14 @@ swapped a b = nat_list_eq_equiv.symm a b
 -- one quantum after others
 pub quanta_push : (time : ℕ) (names : List NameValue) (name : NameValue) (es : Accounts) → with_quantum time name (with_quanta time names es) ≡ with_quanta time (names ++ name ∷ []) es
 quanta_push time names name [] = refl
-quanta_push time names name (e ∷ es) =
-    let any : has_run (names ++ name ∷ []) e.0 ≡ (has_run names e.0 || (name_eq name e.0 || false)) =
-    list_any-append (name_eq e.0) names (name ∷ []) ∙ ap (λ b. has_run names e.0 || (b || false)) (swapped e.0 name) in
-    ap (λ (a : Account). (e.0, a) ∷ with_quantum time name (with_quanta time names es)) (one_more time e.1 (has_run names e.0) (name_eq name e.0) (has_run (names ++ name ∷ []) e.0) any)
-    ∙ ap (λ (l : Accounts). (e.0, cond (has_run (names ++ name ∷ []) e.0) (counted_at time e.1) e.1) ∷ l) (quanta_push time names name es)
+quanta_push time names name (e ∷ es) = grind (arith, list_any-append, swapped, quanta_push time names name es)
 
 fits_counted : (time : ℕ) (a : Account) → a.ran ≤ a.last → (counted_at time a).ran ≤ (counted_at time a).last
-fits_counted time a h =
-    elim (nat_lt a.last time) as (λ b. nat_lt a.last time ≡ b → (cond b (record a { last = time; ran = a.ran + 1 }) a).ran ≤ (cond b (record a { last = time; ran = a.ran + 1 }) a).last) [
-      | true ↦ λ e. let less : a.last < time = grind (arith, nat_tests) in omega arith
-      | false ↦ λ _. h
-    ] refl
+fits_counted time a h = grind (arith, nat_tests)
 
 pub fits_quanta : (time : ℕ) (names : List NameValue) (es : Accounts) → EachFits es → EachFits (with_quanta time names es)
 fits_quanta time names [] h = tt
-fits_quanta time names (e ∷ es) h = (
-  elim (has_run names e.0) as (λ b. (cond b (counted_at time e.1) e.1).ran ≤ (cond b (counted_at time e.1) e.1).last) [ true ↦ fits_counted time e.1 h.0 | false ↦ h.0 ],
-  fits_quanta time names es h.1,
-)
+fits_quanta time names (e ∷ es) h = grind (arith, fits_counted, fits_quanta time names es h.1)
 
 pub each_fits : (time : ℕ) (es : Accounts) → AllByRecursion (λ e. IsSound time e.1) es → EachFits es
 each_fits time [] h = tt
@@ -251,36 +203,18 @@ pub names_more : {P : Type 0} (f : P → NameValue) (ps : List P) (i : ℕ) (p :
 names_more f ps i p within is = ap (map f) (take_more ps i p within) ∙ map_push f (take i ps) (get_or ps i p) ∙ ap (λ x. map f (take i ps) ++ f x ∷ []) is
 
 counted_new : (time : ℕ) (a : Account) → IsSound time a → counted_at (time + 1) a ≡ record a { last = time + 1; ran = a.ran + 1 }
-counted_new time a s =
-    let past : a.last ≤ time = s.past in
-    let less : nat_lt a.last (time + 1) ≡ true = grind (arith, nat_tests) in
-    ap (λ b. cond b (record a { last = time + 1; ran = a.ran + 1 }) a) less
+counted_new time a s = grind (arith, nat_tests)
 
 slot_shown : (time : ℕ) (a : Account) (b : Bool) → IsSound time a → tally_shown (time + 1) (cond b (counted_at (time + 1) a) a) ≡ record (tally_shown time a) { slots = time - a.since + 1; ran = a.ran + cond b 1 0 }
-slot_shown time a true s =
-    let counted : a.since + a.ran ≤ a.last = s.counted in
-    let past : a.last ≤ time = s.past in
-    let slots : time + 1 - a.since ≡ time - a.since + 1 = omega arith in
-    ap (tally_shown (time + 1)) (counted_new time a s) ∙ (λ i. record { weight = a.weight; slots = slots i; ran = a.ran + 1 })
-slot_shown time a false s =
-    let counted : a.since + a.ran ≤ a.last = s.counted in
-    let past : a.last ≤ time = s.past in
-    let slots : time + 1 - a.since ≡ time - a.since + 1 = omega arith in
-    let ran : a.ran ≡ a.ran + 0 = omega arith in
-    λ i. record { weight = a.weight; slots = slots i; ran = ran i }
+slot_shown time a true s = grind (arith, counted_new)
+slot_shown time a false s = grind arith
 
 recorded_entries : (time : ℕ) (names : List NameValue) (es : Accounts) → AllByRecursion (λ e. IsSound time e.1) es → entered_shown (time + 1) (with_quanta (time + 1) names es) ≡ map (λ (e : NameValue × Tally). (e.0, slot_more names e.0 e.1)) (entered_shown time es)
 recorded_entries time names [] h = refl
-recorded_entries time names (e ∷ es) h =
-    ap (λ (t : Tally). (e.0, t) ∷ entered_shown (time + 1) (with_quanta (time + 1) names es)) (slot_shown time e.1 (has_run names e.0) h.0)
-    ∙ ap (λ l. (e.0, slot_more names e.0 (tally_shown time e.1)) ∷ l) (recorded_entries time names es h.1)
+recorded_entries time names (e ∷ es) h = grind (arith, slot_shown, recorded_entries time names es h.1)
 
 pub recorded_shown : (time : ℕ) (es es' : Accounts) (names : List NameValue) (book : Book) → book_shown time es ≡ book → IsKept time es → es' ≡ with_quanta (time + 1) names es → book_shown (time + 1) es' ≡ recorded names book
-recorded_shown time es es' names book is kept made =
-    let shown : entered_shown (time + 1) es' ≡ map (λ (e : NameValue × Tally). (e.0, slot_more names e.0 e.1)) (entered_shown time es) =
-    ap (entered_shown (time + 1)) made ∙ recorded_entries time names es kept.each in
-    let more : book_shown (time + 1) es' ≡ recorded names (book_shown time es) = λ i. record { time = time + 1; entered = shown i } in
-    more ∙ ap (recorded names) is
+recorded_shown time es es' names book is kept made = grind (arith, recorded_entries)
 
 keys_quanta : (time : ℕ) (names : List NameValue) (es : Accounts) → keys_of (with_quanta time names es) ≡ keys_of es
 keys_quanta time names [] = refl
@@ -288,19 +222,7 @@ keys_quanta time names (e ∷ es) = ap (λ (l : List NameValue). e.0 ∷ l) (key
 
 sound_quanta : (time : ℕ) (names : List NameValue) (es : Accounts) → AllByRecursion (λ e. IsSound time e.1) es → AllByRecursion (λ e. IsSound (time + 1) e.1) (with_quanta (time + 1) names es)
 sound_quanta time names [] h = tt
-sound_quanta time names (e ∷ es) h = (
-  elim (has_run names e.0) as (λ b. IsSound (time + 1) (cond b (counted_at (time + 1) e.1) e.1)) [
-    | true ↦ (
-        let counted : e.1.since + e.1.ran ≤ e.1.last = h.0.counted in
-        let past : e.1.last ≤ time = h.0.past in
-        subst (IsSound (time + 1)) (sym (counted_new time e.1 h.0)) (record { counted = omega arith; past = omega arith }))
-    | false ↦ (
-        let counted : e.1.since + e.1.ran ≤ e.1.last = h.0.counted in
-        let past : e.1.last ≤ time = h.0.past in
-        record { counted = counted; past = omega arith })
-  ],
-  sound_quanta time names es h.1,
-)
+sound_quanta time names (e ∷ es) h = grind (arith, counted_new, sound_quanta time names es h.1)
 
 pub kept_recorded : (time : ℕ) (es es' : Accounts) (names : List NameValue) → IsKept time es → time < 1000000 → es' ≡ with_quanta (time + 1) names es → IsKept (time + 1) es'
 kept_recorded time es es' names kept room made = subst (IsKept (time + 1)) (sym made) (record {

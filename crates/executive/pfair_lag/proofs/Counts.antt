@@ -64,10 +64,7 @@ quanta_le xs t = count_by-le-length (λ s. ltb s t) xs
 -- the number at a place is at least the place
 pub place_le : (xs : List ℕ) → Rises xs → (k : ℕ) → k < length xs → k ≤ get_or xs k 0
 place_le xs r zero inside = omega arith
-place_le xs r (suc k) inside =
-    let before = place_le xs r k (omega arith) in
-    let step : get_or xs k 0 < get_or xs (suc k) 0 = r k (suc k) (omega arith) inside in
-    omega arith
+place_le xs r (suc k) inside = grind (arith, place_le xs r k (omega arith))
 
 -- no more picks than slots
 pub length_le : (xs : List ℕ) (h : ℕ) → ArePicks xs h → length xs ≤ h

@@ -1,5 +1,6 @@
 -- One subtask alone is the first that is out of its window.
-use Rattle.std.proofs.Common.{◌≡◌, ℕ, ◌<◌, ◌≤◌, List, length, sym, ap, subst, ◌∙◌, arith, inl, inr}
+use Rattle.std.proofs.Common.{◌≡◌, ℕ, ◌<◌, ◌≤◌, Bool, true, false, Option, Some, None, List, length, refl, sym, ap, subst, ◌∙◌, arith, inl, inr}
+use Rattle.std.specs.Prelude.{IsTrue, ◌↔◌, MatchOption, is_some, not}
 use Rattle.std.proofs.lemmas.Bool.{cases_lt}
 use Rattle.pfair_weight.specs.Share.{Share, IsWeight}
 use Rattle.pfair_weight.specs.Window.{release_of, deadline_of}
@@ -28,17 +29,11 @@ counted w picks horizon (Tardy i slot) (first, ran, is, late) = first
 counted w picks horizon (Unserved i) (none, due) = omega arith
 
 not_earlier : (w : Share) (picks : List ℕ) (horizon : ℕ) (m n : Miss) → IsFirstMiss w picks horizon m → IsFirstMiss w picks horizon n → miss_index m < miss_index n → ⊥
-not_earlier w picks horizon m n a b less =
-    let first : 1 ≤ miss_index m = counted w picks horizon m a.is_miss in
-    in_window w picks horizon m a.is_miss (b.ran_before (miss_index m) first less) (b.released_before (miss_index m) first less) (b.in_time_before (miss_index m) first less)
+not_earlier w picks horizon m n a b less = grind (arith, in_window)
 
 early_or_tardy : (w : Share) (picks : List ℕ) (i slot j slot' : ℕ) → IsWeight w.cost w.period → i ≡ j → 1 ≤ i → slot ≡ pick_of picks i → slot < release_of w i 0 → slot' ≡ pick_of picks j → deadline_of w j 0 ≤ slot' → ⊥
 early_or_tardy w picks i slot j slot' weight e first is early is' late =
-    let late_here : deadline_of w i 0 ≤ slot = subst (λ s. deadline_of w i 0 ≤ s) (is' ∙ ap (pick_of picks) (sym e) ∙ sym is) (subst (λ k. deadline_of w k 0 ≤ slot') (sym e) late) in
-    not_both slot (deadline_of w i 0) (lower slot (release_of w i 0) (deadline_of w i 0) early (opens (window_not_empty w i 0 weight first))) late_here
-  where
-    opens : {a b : ℕ} → a < b → a ≤ b
-    opens l = omega (arith, l)
+    grind (arith, not_both, lower, window_not_empty)
 
 same_miss : (w : Share) (picks : List ℕ) (horizon : ℕ) → IsWeight w.cost w.period → (m n : Miss) → miss_index m ≡ miss_index n → IsMiss w picks horizon m → IsMiss w picks horizon n → m ≡ n
 same_miss w picks horizon weight (Early i s) (Early j t) e (first, ran, is, early) (first', ran', is', early') =
@@ -57,18 +52,14 @@ same_index : (i j : ℕ) → (i < j → ⊥) → (j < i → ⊥) → i ≡ j
 same_index i j f g = elim (cases_lt i j) [ inl l ↦ absurd (f l) | inr m ↦ elim (cases_lt j i) [ inl l ↦ absurd (g l) | inr n ↦ omega arith ] ]
 
 pub one_first_miss : OneFirstMiss
-one_first_miss w picks horizon m n weight a b =
-    same_miss w picks horizon weight m n
-    (same_index (miss_index m) (miss_index n) (not_earlier w picks horizon m n a b) (not_earlier w picks horizon n m b a)) a.is_miss b.is_miss
+one_first_miss w picks horizon m n weight a b = grind (arith, same_miss, same_index, not_earlier)
 
 pub misses_are_out : MissesAreOut
 misses_are_out w picks horizon (Early i slot) a inside =
     in_window w picks horizon (Early i slot) a.is_miss a.is_miss.1 (inside.releases i a.is_miss.0 a.is_miss.1) (inside.deadlines.in_time i a.is_miss.0 a.is_miss.1)
 misses_are_out w picks horizon (Tardy i slot) a inside =
     in_window w picks horizon (Tardy i slot) a.is_miss a.is_miss.1 (inside.releases i a.is_miss.0 a.is_miss.1) (inside.deadlines.in_time i a.is_miss.0 a.is_miss.1)
-misses_are_out w picks horizon (Unserved i) a inside =
-    let first : 1 ≤ i = counted w picks horizon (Unserved i) a.is_miss in
-    not_both (length picks) i a.is_miss.0 (inside.deadlines.served i first a.is_miss.1)
+misses_are_out w picks horizon (Unserved i) a inside = grind (arith, not_both)
 
 -- ---- late ones
 
@@ -83,32 +74,24 @@ in_time w picks horizon (Tardy i slot) (first, ran, is, late) within before = no
 in_time w picks horizon (Unserved i) (none, due) within before = not_both (length picks) i none within
 
 late_not_earlier : (w : Share) (picks : List ℕ) (horizon : ℕ) (m n : Miss) → IsFirstLate w picks horizon m → IsFirstLate w picks horizon n → miss_index m < miss_index n → ⊥
-late_not_earlier w picks horizon m n a b less =
-    let first : 1 ≤ miss_index m = late_index w picks horizon m a.is_late in
-    in_time w picks horizon m a.is_late (b.ran_before (miss_index m) first less) (b.in_time_before (miss_index m) first less)
+late_not_earlier w picks horizon m n a b less = grind (arith, late_index, in_time)
 
 same_late : (w : Share) (picks : List ℕ) (horizon : ℕ) → (m n : Miss) → miss_index m ≡ miss_index n → IsLate w picks horizon m → IsLate w picks horizon n → m ≡ n
 same_late w picks horizon (Early i s) n e h k = absurd h
 same_late w picks horizon (Tardy i s) (Early j t) e h k = absurd k
-same_late w picks horizon (Tardy i s) (Tardy j t) e (first, ran, is, late) (first', ran', is', late') =
-    let slots : s ≡ t = is ∙ ap (pick_of picks) e ∙ sym is' in λ k. Tardy (e k) (slots k)
+same_late w picks horizon (Tardy i s) (Tardy j t) e (first, ran, is, late) (first', ran', is', late') = grind arith
 same_late w picks horizon (Tardy i s) (Unserved j) e (first, ran, is, late) (none, due) = absurd (not_both (length picks) j none (subst (λ k. k ≤ length picks) e ran))
 same_late w picks horizon (Unserved i) (Early j t) e h k = absurd k
 same_late w picks horizon (Unserved i) (Tardy j t) e (none, due) (first, ran, is, late) = absurd (not_both (length picks) i none (subst (λ k. k ≤ length picks) (sym e) ran))
 same_late w picks horizon (Unserved i) (Unserved j) e h k = ap Unserved e
 
 pub one_first_late : OneFirstLate
-one_first_late w picks horizon m n a b =
-    same_late w picks horizon m n
-    (same_index (miss_index m) (miss_index n) (late_not_earlier w picks horizon m n a b) (late_not_earlier w picks horizon n m b a)) a.is_late b.is_late
+one_first_late w picks horizon m n a b = grind (arith, same_late, same_index, late_not_earlier)
 
 pub late_miss_deadlines : LateMissDeadlines
 late_miss_deadlines w picks horizon (Early i slot) a met = a.is_late
-late_miss_deadlines w picks horizon (Tardy i slot) a met =
-    in_time w picks horizon (Tardy i slot) a.is_late a.is_late.1 (met.in_time i a.is_late.0 a.is_late.1)
-late_miss_deadlines w picks horizon (Unserved i) a met =
-    let first : 1 ≤ i = late_index w picks horizon (Unserved i) a.is_late in
-    not_both (length picks) i a.is_late.0 (met.served i first a.is_late.1)
+late_miss_deadlines w picks horizon (Tardy i slot) a met = grind (arith, in_time)
+late_miss_deadlines w picks horizon (Unserved i) a met = grind (arith, late_index, not_both)
 
 -- none was found exactly where there is none
 pub none_found : (P : Type 0) (Q : Miss → Type 0) (found : Option Miss) (inside : Bool) → ((m : Miss) → Q m → P → ⊥) → is_some found ≡ not inside → MatchOption found P Q → IsTrue inside ↔ P

@@ -9,7 +9,7 @@ use Rattle.std.proofs.lemmas.List.Sums.{sum_by-cons}
 use Rattle.pfair_weight.specs.Share.{Share}
 use Rattle.pfair_weight.specs.Name.{NameValue, name_eq}
 use Rattle.pfair_lag.specs.Book.{Tally, Book, tally_of, has_run, entered_with, slot_more}
-use Rattle.pfair_lag.specs.Runs.{Enter, Leave, Record, book_after, Stay, slot_passed, stay_after, tally_in, CountsSinceEntering}
+use Rattle.pfair_lag.specs.Runs.{Enter, Leave, Record, Stay, slot_passed, tally_in, CountsSinceEntering}
 use Rattle.pfair_lag.proofs.BookLemmas.{is_some-map}
 
 abbrev Entries : Type 0
@@ -19,11 +19,7 @@ Entries = List (NameValue × Tally)
 
 found_push : (name other : NameValue) (t : Tally) (es : Entries) → lookup (name_eq name) (es ++ (other, t) ∷ []) ≡ cond (is_some (lookup (name_eq name) es)) (lookup (name_eq name) es) (cond (name_eq name other) (Some t) None)
 found_push name other t [] = refl
-found_push name other t (e ∷ es) =
-    elim (name_eq name e.0) as (λ b. cond b (Some e.1) (lookup (name_eq name) (es ++ (other, t) ∷ [])) ≡ cond (is_some (cond b (Some e.1) (lookup (name_eq name) es))) (cond b (Some e.1) (lookup (name_eq name) es)) (cond (name_eq name other) (Some t) None)) [
-      | true ↦ refl
-      | false ↦ found_push name other t es
-    ]
+found_push name other t (e ∷ es) = grind (arith, found_push name other t es)
 
 abbrev fresh : Share → Tally
 fresh weight = record { weight = weight; slots = 0; ran = 0 }
@@ -45,11 +41,7 @@ there_already name other book t there =
     ] refl
 
 found_entered : (name other : NameValue) (weight : Share) (book : Book) → tally_of name (entered_with other weight book) ≡ cond (name_eq name other && not (is_some (tally_of name book))) (Some (fresh weight)) (tally_of name book)
-found_entered name other weight book =
-    elim (is_some (tally_of other book)) as (λ b. is_some (tally_of other book) ≡ b → tally_of name (cond b book (record book { entered = book.entered ++ (other, fresh weight) ∷ [] })) ≡ cond (name_eq name other && not (is_some (tally_of name book))) (Some (fresh weight)) (tally_of name book)) [
-      | true ↦ λ e. there_already name other book (fresh weight) e
-      | false ↦ λ _. found_push name other (fresh weight) book.entered ∙ found_or_new (tally_of name book) (name_eq name other) (fresh weight)
-    ] refl
+found_entered name other weight book = grind (arith, there_already, found_push, found_or_new)
 
 -- ---- leaving
 
@@ -110,17 +102,8 @@ no_stay name false o = refl
 pub counts_since_entering : CountsSinceEntering
 counts_since_entering name [] = refl
 counts_since_entering name (Enter other weight ∷ before) =
-    let so_far : tally_of name (book_after before) ≡ option_map (tally_in name) (stay_after name before) = counts_since_entering name before in
-    let there : is_some (tally_of name (book_after before)) ≡ is_some (stay_after name before) = ap is_some so_far ∙ is_some-map (tally_in name) (stay_after name before) in
-    found_entered name other weight (book_after before)
-    ∙ ap (λ b. cond (name_eq name other && not b) (Some (fresh weight)) (tally_of name (book_after before))) there
-    ∙ ap (λ o. cond (name_eq name other && not (is_some (stay_after name before))) (Some (fresh weight)) o) so_far
-    ∙ new_stay name (name_eq name other && not (is_some (stay_after name before))) weight (stay_after name before)
+    grind (arith, is_some-map, found_entered, new_stay, counts_since_entering name before)
 counts_since_entering name (Leave other ∷ before) =
-    found_left name other (book_after before).entered
-    ∙ ap (λ o. cond (name_eq name other) None o) (counts_since_entering name before)
-    ∙ no_stay name (name_eq name other) (stay_after name before)
+    grind (arith, found_left, no_stay, counts_since_entering name before)
 counts_since_entering name (Record names ∷ before) =
-    found_recorded names name (book_after before).entered
-    ∙ ap (option_map (slot_more names name)) (counts_since_entering name before)
-    ∙ counted_slot names name (stay_after name before)
+    grind (arith, found_recorded, counted_slot, counts_since_entering name before)

@@ -47,7 +47,6 @@ pub fn first_keys_are_unique()
 
 /// Of keys that stand once each, the list that has the first m is that of the ranks below m, rank
 /// by rank.
-#[tactic(auto, using(crate::proofs::KeyLaws::keys_total, crate::proofs::InOrder::by_rank_first, crate::proofs::InOrder::first_by_rank_unique))]
 pub fn first_keys_are_by_rank()
     ensures { (m : ℕ) (keys first : List Key) → EachOnce pd2_cmp keys →
         (AreFirst pd2_cmp m keys first ↔ (first ≡ first_by_rank pd2_cmp m keys)) }

@@ -81,7 +81,6 @@ pub fn say_the_same()
 {}
 
 /// No key is listed as torn exactly where nothing is torn.
-#[tactic(auto, using(crate::proofs::TornKeys::no_key_no_torn, crate::proofs::TornKeys::untorn_by_test, crate::proofs::TornKeys::test_by_untorn))]
 pub fn torn_test()
     ensures { IsTornTest }
 {}

@@ -44,7 +44,6 @@ pub fn windows_by_share()
 
 /// A group deadline is 0 for a light weight and the deadline for a weight of 1. For a heavy weight
 /// it is never before the deadline, at most a period after it, and no earlier for a later subtask.
-#[tactic(auto, using(crate::specs::GroupFacts::group_deadline_light, crate::specs::GroupFacts::group_deadline_whole, crate::specs::GroupFacts::group_deadline_not_before, crate::specs::GroupFacts::group_deadline_near, crate::specs::GroupFacts::group_deadline_rises))]
 pub fn group_deadlines()
     ensures { GroupDeadlines }
 {}
@@ -62,7 +61,6 @@ pub fn jobs_fill_periods()
 
 /// `==` of names is true where their bytes are identical and nowhere else. By `cmp` a proper prefix
 /// of a name goes before it, and else the first byte that differs decides.
-#[tactic(auto, using(crate::specs::NameFacts::identical_names, crate::specs::NameFacts::tied_names, crate::specs::NameFacts::prefix_goes_first, crate::specs::NameFacts::first_byte_decides))]
 pub fn names_in_byte_order()
     ensures { NamesInByteOrder ⟦<TaskName as PartialEq>⟧.eq ⟦<TaskName as Ord>⟧.cmp }
 {}

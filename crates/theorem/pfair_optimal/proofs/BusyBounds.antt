@@ -21,7 +21,18 @@ pub record Wrapped (w : Share) (i a q : ℕ) : Type 0 where
 
 -- where the b-bit is 1 the weight is below 1
 below_one : (w : Share) (i : ℕ) → IsWeight w.cost w.period → b_bit_of w i ≡ 1 → w.cost < w.period
-below_one w i h bit = grind (arith, pinned, b_bit_between, lt_of_mul)
+below_one w i h bit =
+    elim (cases_lt w.cost w.period) [
+      | inl below ↦ below
+      | inr whole ↦ absurd (
+          let ends = pinned w i h.some_cost in
+          let near = b_bit_between w i h.some_cost in
+          let same : i * w.period ≡ i * w.cost = let e : w.period ≡ w.cost = omega arith in ap (λ (n : ℕ). i * n) e in
+          let close : (next_opening w i + 1) * w.cost ≡ closing w i * w.cost = let e : next_opening w i + 1 ≡ closing w i = omega arith in ap (λ (n : ℕ). n * w.cost) e in
+          let after : i < closing w i = lt_of_mul i (closing w i) w.cost (omega arith) in
+          let before : closing w i < i + 1 = lt_of_mul (closing w i) (i + 1) w.cost (omega arith) in
+          omega arith)
+    ]
 
 -- no subtask closes before its index
 index_le_closing : (w : Share) (i : ℕ) → IsWeight w.cost w.period → i ≤ closing w i
@@ -170,7 +181,18 @@ light_opens w i k h light later = grind (arith, pinned, grow, lt_of_mul)
 -- k tight slots more push the busy bound past them
 pub busy_after : (w : Share) (i k theta : ℕ) → IsWeight w.cost w.period → b_bit_of w i ≡ 1 → deadline_of w (i + k) theta ≡ deadline_of w i theta + k → b_bit_of w (i + k) ≡ 1 →
     deadline_of w i theta + k < busy_bound_of w i theta
-busy_after w i k theta h bit tight last = grind (arith, light_closes, below_one, cascade_after, group_deadline_heavy)
+busy_after w i k theta h bit tight last =
+    elim (cases_lt (2 * w.cost) w.period) [
+      | inl light ↦ elim (cases_lt 0 k) [
+        | inl some ↦ absurd (let apart = light_closes w i k h light some in omega arith)
+        | inr none ↦ omega arith
+      ]
+      | inr heavy ↦
+          let below = below_one w i h bit in
+          let after = cascade_after w i k h bit (omega arith) last in
+          let group = group_deadline_heavy w i theta heavy below in
+          omega arith
+    ]
 
 -- the share of the slot of the release is one number at any offset
 first_same : (w : Share) (i theta later v u : ℕ) → IsWeight w.cost w.period → v ≡ release_of w i theta → u ≡ release_of w i later → share_of w i theta v ≡ share_of w i later u

@@ -6,7 +6,6 @@ ghost use Rattle.pfair_optimal.specs.Laws.{SharesFillWindows, SharesFitSlots, Gr
 
 /// In the fluid schedule each subtask gets a quantum in its window and nothing outside of it: its
 /// shares of slots are above 0 just in the window, at most the cost, and add up to the period.
-#[tactic(auto, using(crate::proofs::Fluids::share_le_cost, crate::proofs::Fluids::share_in_window, crate::proofs::Fluids::fluid_whole, crate::proofs::Fluids::total_is_fluid))]
 pub fn shares_fill_windows()
     ensures { SharesFillWindows }
 {}
@@ -21,7 +20,6 @@ pub fn shares_fit_slots()
 /// The group deadline of a heavy subtask with b-bit 1 is where its cascade ends: the first time from
 /// its deadline on, k slots after it, at which the k-th subtask after it isn't due, or is due with
 /// b-bit 0 (Anderson and Srinivasan).
-#[tactic(auto, using(crate::proofs::BusyBounds::group_deadline_tight, crate::proofs::BusyBounds::group_deadline_ends))]
 pub fn group_deadlines_end_cascades()
     ensures { GroupDeadlinesEndCascades }
 {}
@@ -29,7 +27,6 @@ pub fn group_deadlines_end_cascades()
 /// The busy bound, which is the group deadline of a heavy subtask and the deadline and b-bit of a
 /// light one, is past each such cascade; and what is released before it has no greater share of its
 /// first slot than the next subtask.
-#[tactic(auto, using(crate::proofs::BusyBounds::busy_after, crate::proofs::BusyBounds::busy_opens))]
 pub fn busy_bounds_last()
     ensures { BusyBoundsLast }
 {}
@@ -38,7 +35,6 @@ pub fn busy_bounds_last()
 /// offsets. It is wanted that a table has the first of the eligible subtasks in PD2 order, that a
 /// task holds its weight up to the busy bound of what it ran, and that the weights held in a slot
 /// have room on the machine.
-#[tactic(auto, using(crate::proofs::Counting::none_misses, crate::proofs::Counting::each_in_time))]
 pub fn runs_never_miss()
     ensures { RunsNeverMiss }
 {}

@@ -1,4 +1,5 @@
-use Rattle.std.proofs.Common.{◌≡◌, ◌+◌, ◌*◌, ◌<◌, ℕ, arith, ap, sym, refl, below_more}
+use Rattle.std.proofs.lemmas.Grind.{common_steps}
+use Rattle.std.proofs.Common.{◌≡◌, ◌+◌, ◌*◌, ◌<◌, ℕ, arith, ap, sym, refl}
 use Rattle.pfair_lag.specs.Lag.{LagBelowOne, quanta_before}
 use Rattle.pfair_lag.proofs.Counts.{quanta_zero}
 use Rattle.pfair_lag.proofs.Agree.{lag_below_one, of_lag_below_one, lag_from_deadlines, deadlines_from_lag}
@@ -24,12 +25,7 @@ returns-then-period-given-clause-deadlines c =
     (λ h. absurd (cc), λ met. absurd (too_late c (lag_from_deadlines c.args.weight c.args.picks.now c.args.horizon c.cost-cost.ensures.weight c.in_ok-check_picks.ensures.ok met)))
 
 pub loop-time-preserved : goal.loop-time-preserved
-loop-time-preserved c =
-    let given : quanta_before c.args.picks.now c.loop-time.time * c.period-period.result ≡ c.loop-time.given * c.period-period.result = ap (λ (n : ℕ). n * c.period-period.result) (sym c.loop-time.invariant.0) in
-    let here : c.loop-time.time * c.cost-cost.result < (quanta_before c.args.picks.now c.loop-time.time + 1) * c.period-period.result = omega arith in (
-      c.given_after-given.ensures,
-      below_more (λ t. t * c.cost-cost.result < (quanta_before c.args.picks.now t + 1) * c.period-period.result) c.loop-time.time c.loop-time.invariant.1 here,
-    )
+loop-time-preserved c = grind (arith, common_steps)
 
 -- where the walk ends, it has seen each time
 walked : (c : After-loop-time) → LagBelowOne c.args.weight c.args.picks.now c.args.horizon

@@ -1,11 +1,11 @@
-use Rattle.std.proofs.Common.{◌≡◌, not, sym, ap, ◌∙◌}
+use Rattle.std.proofs.lemmas.Grind.{common_steps}
+use Rattle.std.proofs.Common.{◌≡◌, not, sym, ap, ◌∙◌, arith}
 use Rattle.std.specs.Prelude.{is_some}
 use Rattle.std.proofs.lemmas.Bool.{true≢false}
 use Rattle.pfair_weight.specs.Options.{nothing}
 use Rattle.indexmap.proofs.CallerLemmas.{insert_entry-new}
-use Rattle.pfair_weight.specs.Name.{name_eq}
 use Rattle.pfair_lag.specs.Book.{tally_of}
-use Rattle.pfair_lag.proofs.BookLemmas.{contained, account_new, entered_there, entered_new, kept_new}
+use Rattle.pfair_lag.proofs.BookLemmas.{contained, entered_there, entered_new, kept_new}
 use Rattle.pfair_lag.proofs.book.LagBook.enter.Goals as goal
 use Rattle.pfair_lag.proofs.book.LagBook.enter.Goals.{After-contains_key}
 
@@ -28,14 +28,7 @@ pub returns-clause-there : goal.returns-clause-there
 returns-clause-there c known = absurd (true≢false (sym known ∙ there ((goal.at.returns-clause-there c).After-contains_key) ∙ c.if-contains_key.false))
 
 pub invariant_of-self-2 : goal.invariant_of-self-2
-invariant_of-self-2 c =
-    let none = nothing _ (sym c.contains_key.ensures ∙ c.if-contains_key.false) in
-    kept_new c.self.inside.time c.self.inside.accounts.entries c.insert.new.self.entries c.args.name c.args.weight c.self.invariant c.insert.ensures.unique
-    (c.in_ok-insert.ensures.entries ∙ insert_entry-new name_eq c.self.inside.accounts c.args.name (account_new c.self.inside.time c.args.weight) none)
+invariant_of-self-2 c = grind (arith, common_steps, nothing, kept_new, insert_entry-new)
 
 pub returns-clause-book : goal.returns-clause-book
-returns-clause-book c =
-    let none = nothing _ (sym c.contains_key.ensures ∙ c.if-contains_key.false) in
-    entered_new c.self.inside.time c.self.inside.accounts.entries c.insert.new.self.entries c.args.name c.args.weight c.args.self.now c.self.view_is
-    (there ((goal.at.returns-clause-book c).After-contains_key) ∙ c.if-contains_key.false)
-    (c.in_ok-insert.ensures.entries ∙ insert_entry-new name_eq c.self.inside.accounts c.args.name (account_new c.self.inside.time c.args.weight) none)
+returns-clause-book c = grind (arith, common_steps, nothing, entered_new, there, insert_entry-new)
