@@ -14,15 +14,15 @@ pub(crate) const SLOTS_HELP: &str = "How many slots are planned: 1 to 1000000";
 
 pub(crate) const FROM_HELP: &str = "First slot with rows; no header unless it is 0: 0 to 1000000";
 
-pub(crate) const STRICT_HELP: &str = "End with status 2 at the first row that is refused";
+pub(crate) const STRICT_HELP: &str = "End with status 2 at the first refused row";
 
 pub(crate) const AFTER: &str = "Examples:
   pfair_follow entries examples/two_processors.toml
   pfair_follow entries examples/two_processors.toml |
     pfair_follow replay --processors 2 --frame 6 --slots 6
 
-What `replay`, `decisions` and `lags` have printed when their input ends is what `pfair` prints of a
-task file with the same entries. Each command has help of its own.
+When their input ends, `replay`, `decisions` and `lags` have printed what `pfair` prints of a task
+file with the same entries. Each command has its own help.
 
 A fault is one line on standard error, `pfair_follow: NUMBER TEXT`.
 
@@ -44,8 +44,7 @@ pub(crate) const ENTRIES_TEXTS: Texts = Texts {
     after: "Columns, of which no header is printed:
   processor,number,floor,at,kind,name,cost,period,early,index,by
 The logs come in order of processors, and each is closed by an entry with floor `slots`, as the
-reader of task files closes it. `pfair replay --help` shows a task file. Where an entry has nothing
-stands a dash.
+reader of task files closes it. `pfair replay --help` shows a task file. A dash stands for nothing.
 
 Example: pfair_follow entries examples/two_processors.toml",
 };
@@ -57,22 +56,22 @@ macro_rules! with_rows {
             $columns,
             "
 
-Input: rows of entries, in any order and as often as they like, as `pfair_follow entries` prints
-them; a row ends with its newline.
-  0,1,0,0,arrive,video,2,3,false,-,-   of processor 0 entry 1, from floor 0: at 0 video arrives,
+Input: rows of entries as `pfair_follow entries` prints them, in any order, repeated or not. A row
+ends with its newline.
+  0,1,0,0,arrive,video,2,3,false,-,-   entry 1 of processor 0, of floor 0: video arrives at 0,
                                        2 quanta in each 3 slots, not early
-  1,3,3,4,late,video,-,-,-,4,2         at 4 its subtasks from 4 on are put off by 2 slots
-  0,2,2,2,depart,video,-,-,-,-,-       at 2 it departs
-  0,3,6,-,-,-,-,-,-,-,-                a floor alone: nothing more comes before slot 6
+  1,3,3,4,late,video,-,-,-,4,2         at 4: its subtasks from 4 on are released 2 slots later
+  0,2,2,2,depart,video,-,-,-,-,-       at 2: it departs
+  0,3,6,-,-,-,-,-,-,-,-                only a floor: no more stamps before slot 6
   ?                                    asks which entries would settle more
 
-The rows of a slot are printed as soon as what was read settles it, and flushed before more is read.
-A row that is refused costs a line on standard error, `pfair_follow: NUMBER TEXT: ROW`, and is
-skipped, unless --strict is set. For `?`, and where the input ends too early, the lines
-`missing PROCESSOR,NUMBER` on standard error name the entries that would settle more.
-Where two contents of one entry meet, the run ends at once (30).
+The rows of a slot are printed as soon as it is settled, and flushed before more is read.
+A refused row is reported on standard error, `pfair_follow: NUMBER TEXT: ROW`, and skipped, unless
+--strict is set. For `?`, and if the input ends too early, lines `missing PROCESSOR,NUMBER` on
+standard error name the entries that would settle more.
+If two contents of one entry meet, the run ends at once (30).
 
-Restart: a reader that has the rows of all slots below S asks with `--from S` for the rest."
+Restart: a reader that has the rows of all slots below S asks for the rest with `--from S`."
         )
     };
 }
@@ -82,8 +81,8 @@ pub(crate) const REPLAY_TEXTS: Texts = Texts {
     usage: "pfair_follow replay --processors <M> --frame <F> --slots <S> [OPTIONS]",
     after: with_rows!(
         "Columns:
-  slot       the slot, from 0; a slot in which nobody runs has no row
-  processor  the row of the slot's table, from 0, in the PD2 order: not a log, nor where it runs
+  slot       the slot, from 0; a slot in which no task runs has no row
+  processor  the row in the slot's table, from 0, in PD2 order: neither a log nor where it runs
   task       the task that has the quantum
   index      the index of its subtask, from 1
   place      (--affinity) the processor that runs it"
@@ -95,8 +94,8 @@ pub(crate) const DECISIONS_TEXTS: Texts = Texts {
     usage: "pfair_follow decisions --processors <M> --frame <F> --slots <S> [OPTIONS]",
     after: with_rows!(
         "Columns:
-  slot       the slot of the stamp, at whose beginning it is decided
-  processor  the processor whose log says it
+  slot       the slot of the stamp, at the beginning of which it is decided
+  processor  the processor whose log announces it
   number     the number of the entry in that log, from 1
   task       the task that it names
   outcome    `admitted`, `departing`, `delayed`, or `refused`
@@ -110,9 +109,9 @@ pub(crate) const LAGS_TEXTS: Texts = Texts {
     usage: "pfair_follow lags --processors <M> --frame <F> --slots <S> [OPTIONS]",
     after: with_rows!(
         "Columns:
-  time       the end of a slot: the slot, and 1
-  task       a task that is there and doesn't depart
+  time       the end of a slot: its number plus 1
+  task       a task that was admitted and isn't leaving
   numerator  cost * (time since it joined) - period * (quanta that it had)
-  period     its period: the lag is the numerator over the period, positive where it is behind"
+  period     its period: the lag is the numerator over the period, positive if it is behind"
     ),
 };

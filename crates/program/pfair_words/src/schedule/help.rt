@@ -16,11 +16,11 @@ pub(crate) const AFTER: &str = "Examples:
   pfair replay examples/two_processors.toml
   pfair decisions examples/two_processors.toml
 
-Each command has help of its own. `pfair replay --help` shows a task file, and says what the
-columns, the refusals and the faults mean.
+Each command has its own help. `pfair replay --help` shows a task file, and explains columns,
+refusals and faults.
 
-A fault is one line on standard error, `pfair: NUMBER TEXT`. Standard output is then empty; only a
-writer that fails (71) may have taken the beginning of the text.
+A fault is one line on standard error, `pfair: NUMBER TEXT`. Standard output is then empty, or has
+the beginning of the text if writing failed (71).
 
 Exit status, by the numbers of the faults:
   0  done
@@ -31,7 +31,7 @@ Exit status, by the numbers of the faults:
   5  a file can't be opened or read (70), or writing failed (71)
 
 Documents of the repository:
-  docs/TUTORIAL.md       from one task to a study, by examples
+  docs/GUIDE.md          how to plan, check, draw and run schedules, by examples
   docs/SPECIFICATION.md  the model, the rules, the task file, the outputs, each fault
   docs/PROOFS.md         what is proved, and what isn't";
 
@@ -42,8 +42,8 @@ pub(crate) const WINDOWS_TEXTS: Texts = Texts {
   i  index of the subtask, from 1
   r  release: the slot in which its window opens
   d  deadline: the slot before which its window closes
-  b  b-bit: 1 where the window reaches into that of the next subtask, else 0
-  D  group deadline, and 0 for a weight below a half
+  b  b-bit: 1 if the window overlaps that of the next subtask, else 0
+  D  group deadline; 0 for a weight below 1/2
 
 Faults: 4 zero cost, 5 cost over period, 6 period too long, 80 command line refused (status 1).
 
@@ -58,39 +58,38 @@ macro_rules! with_task_file {
             "
 
 A task file:
-  version = 1       # 2, where a task has `early = true`
+  version = 1       # 2 if a task has `early = true`
   processors = 1    # 1 to 64
-  frame = 2         # each period has to divide it
+  frame = 2         # a multiple of each period
   slots = 4         # how many slots are planned
-  [[entry]]         # what a processor's log says, entry after entry
+  [[entry]]         # an entry of a processor's log; those of one log are in order
   processor = 0     # whose log it is, from 0
-  floor = 0         # from this entry on, nothing of this log is stamped before this slot
-  kind = \"arrive\"   # \"depart\" has no cost and period; \"late\" has `index` and `by` in their place
-  at = 0            # the stamp: the slot at whose beginning it counts, the floor or later
+  floor = 0         # from this entry on, no stamp of this log is before this slot
+  kind = \"arrive\"   # \"depart\" has no cost and period; \"late\" has `index` and `by` instead
+  at = 0            # the stamp: the slot in which it takes effect, not before the floor
   name = \"a\"        # a letter a-z, then letters a-z, digits and _: at most 16
   cost = 1          # quanta in each period
   period = 2        # in slots
-An entry without `kind` has a floor alone. Keys that aren't known are ignored: an entry in which
-the key `kind` is misspelt says nothing, and no fault tells.
+An entry without `kind` has only a floor. Unknown keys are ignored: if the key `kind` is misspelt,
+the entry announces nothing, and no fault says so.
 
 Refusals, by the number that `decisions` prints:
-  20 name taken            a task of this name is there, or it departs and isn't free yet
+  20 name taken            the name is in use, or its task is still leaving
   21 period outside frame  the period doesn't divide the frame
-  22 no room               with it the weights would be more than the processors
-  23 no such task          nobody of this name is there
-  24 already departing     the task departs already
+  22 no room               the total weight would exceed the number of processors
+  23 no such task          no task has this name
+  24 already departing     the task is already leaving
   25 already released      the stamp is past the subtask's release, or the subtask has run
-A refused task isn't in `replay` or `lags`, and the run goes on: look for it by `decisions`.
+The run goes on without a refused task: `decisions` shows it, `replay` and `lags` don't.
 
-Faults of the file: the place at the end, as in `62 floor of wrong kind at 7`, is 0 for the head
+Faults of the file: the number at the end, as in `62 floor of wrong kind at 7`, is 0 for the head
 of the file, and n for its n-th [[entry]]. The number in `entry 2 of processor 0 refused` counts
-the entries of that processor alone, from 1.
+the entries of that processor's log, from 1.
 
-Stalled: `52 stalled at slot S` says that the logs settle only the slots below S. In some log a
-floor fell: it is below the floor of the entry before, and from there on the log isn't believed.
-Every log's floors have to rise, or stay, until they come to `slots`. The reader adds the last
-entry, with floor `slots`, by itself, so no more is needed than floors that don't fall: put the
-entries of a log in the order of their floors, or ask for at most S slots."
+Stalled: `52 stalled at slot S` says that the logs settle only the slots below S. In some log an
+entry has a lower floor than the entry before it, and the rest of that log is ignored. The reader
+closes each log with an entry of floor `slots`, so floors only must not fall: put the entries of a
+log in the order of their floors, or plan at most S slots."
         )
     };
 }
@@ -100,13 +99,13 @@ pub(crate) const REPLAY_TEXTS: Texts = Texts {
     usage: "pfair replay [--affinity] <FILE>",
     after: with_task_file!(
         "Columns:
-  slot       the slot, from 0; a slot in which nobody runs has no row
-  processor  the row of the slot's table, from 0, in the PD2 order: not a log, nor where it runs
+  slot       the slot, from 0; a slot in which no task runs has no row
+  processor  the row in the slot's table, from 0, in PD2 order: neither a log nor where it runs
   task       the task that has the quantum
   index      the index of its subtask, from 1
   place      (--affinity) the processor that runs it. A task that ran in the slot before stays on
-             its processor; each other row, in order, takes the least one left. That a task
-             seldom changes processors isn't promised"
+             its processor; each other row, in order, takes the least one left. After a gap
+             a task may move"
     ),
 };
 
@@ -115,8 +114,8 @@ pub(crate) const DECISIONS_TEXTS: Texts = Texts {
     usage: "pfair decisions <FILE>",
     after: with_task_file!(
         "Columns:
-  slot       the slot of the stamp, at whose beginning it is decided
-  processor  the processor whose log says it, as in the file
+  slot       the slot of the stamp, at the beginning of which it is decided
+  processor  the processor whose log announces it, as in the file
   number     the number of the entry in that log, from 1
   task       the task that it names
   outcome    `admitted`, `departing`, `delayed`, or `refused`
@@ -130,11 +129,11 @@ pub(crate) const LAGS_TEXTS: Texts = Texts {
     usage: "pfair lags <FILE>",
     after: with_task_file!(
         "Columns:
-  time       the end of a slot: the slot, and 1
-  task       a task that is there and doesn't depart
+  time       the end of a slot: its number plus 1
+  task       a task that was admitted and isn't leaving
   numerator  cost * (time since it joined) - period * (quanta that it had)
-  period     its period: the lag is the numerator over the period, positive where it is behind
-A schedule is Pfair where each lag stays between -1 and 1, and meets deadlines where it stays below
-1. Late releases are left out of account."
+  period     its period: the lag is the numerator over the period, positive if it is behind
+A schedule is Pfair if each lag stays between -1 and 1, and meets all deadlines if each stays below
+1. Late releases aren't counted."
     ),
 };
