@@ -25,13 +25,12 @@ void put_out(uint16_t port, const char *format, ...) {
 
 /* Ends QEMU by its device isa-debug-exit, with status 2 * status + 1. */
 _Noreturn void power_off(uint8_t status) {
-    for (;;) {
-        out8(0xf4, status);
-        __asm__ volatile("cli; hlt");
-    }
+    for (;; relax()) out8(0xf4, status);
 }
 
 _Noreturn void stop(const char *what, uint64_t number) {
+    static atomic_flag is_told = ATOMIC_FLAG_INIT;
+    while (atomic_flag_test_and_set(&is_told)) relax(); /* the first processor tells, and switches off */
     put_out(NOTES, "processor %u stopped: %s: %u\n", (uint64_t)this_processor(), what, number);
     power_off(1);
 }
