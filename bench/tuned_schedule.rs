@@ -176,7 +176,7 @@ impl Plan {
         }
     }
 
-    // A task whose window moved waits again. Its older key in the heaps is told by its stamp.
+    // A task whose window moved waits again. Its older key in the heaps is known by its stamp.
     fn wait_again(&mut self, number: u32, slot: u64) {
         for list in 0..RING {
             let (mut before, mut at) = (NONE, self.ring[list]);

@@ -389,7 +389,7 @@ static inline uint32_t pfair_absorb_another(struct pfair_dispatcher *d, struct p
 }
 #define pfair_absorb pfair_absorb_another
 
-/* ---- what is held: to send logs on, to ask for what was lost, to write a dispatcher down */
+/* ---- contents: to send logs on, to ask for what was lost, to write a dispatcher down */
 
 /* What a dispatcher has under a number of a log. */
 enum pfair_held_kind {

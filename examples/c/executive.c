@@ -50,7 +50,7 @@ static struct task {
     atomic_bool may_run;
     bool is_told, is_over;
     atomic_uint_fast64_t had;         /* quanta, over all its incarnations */
-    uint64_t slot, row, index, place; /* of the quantum that it is told of */
+    uint64_t slot, row, index, place; /* of the quantum that it is notified of */
     uint64_t of_incarnation, work;
 } tasks[] = {{.name = "control"}, {.name = "vision"}, {.name = "logger"}, {.name = "radio"}, {.name = "burst"}, {.name = "extra"}};
 enum { TASKS = sizeof tasks / sizeof tasks[0] };

@@ -4,8 +4,8 @@
  *   ten_entries tables|decisions
  *
  * Each dispatcher takes the log of one processor, in any order; then they absorb one another, and plan the same slots.
- * The output is the rows of examples/two_processors.replay or examples/two_processors.decisions. Exit status: 0; 1 where
- * a call answers otherwise; 2 for other words on the command line; 4 for want of memory.
+ * The output is the rows of examples/two_processors.replay or examples/two_processors.decisions. Exit status: 0; 1 if
+ * a call answers otherwise; 2 for other words on the command line; 4 if an allocation fails.
  */
 #include "pfair.h"
 #include <inttypes.h>

@@ -30,7 +30,7 @@ def summary(script):
 
 
 if __name__ == "__main__":
-    print("| processors | load | sets | arrivals | refused for want of room | sets with a lag of 1 or more | greatest lag |\n|---|---|---|---|---|---|---|")
+    print("| processors | load | sets | arrivals | refused, no room | sets with a lag of 1 or more | greatest lag |\n|---|---|---|---|---|---|---|")
     groups = [(processors, load) for processors in PROCESSORS for load in LOADS]
     rows = study.run((drawn(*group, seed) for group in groups for seed in range(SETS)), summary)
     for place, (processors, load) in enumerate(groups):

@@ -353,7 +353,7 @@ def test_texts(rows, wanted):
 
 
 def test_behind_the_run():
-    """What comes behind the run is told once for each task, however far it is, and counts for nothing else."""
+    """What comes behind the run is reported once for each task, however far it is, and counts for nothing else."""
     rows = [(2, "a", 1, 0), (9, "a", 1, 0), (2**62, "a", 5, 0), (12, "a", 2, 0), (12, "b", 1, 0), (13, "b", 1, 7)]
     text = "the run has 12 slots"
     wanted = [(12, "absent", "a", 0, text), (12, "absent", "b", 0, text)]

@@ -42,7 +42,7 @@ FILES = {
     "UnknownVersion": (65, "the file's version is none of 1 and 2"),
     "FileTooLong": (66, "a task file of more than 67,108,864 bytes"),
 }
-MEMORY = {"OutOfMemory": (90, "memory was wanted and refused")}
+MEMORY = {"OutOfMemory": (90, "an allocation failed")}
 ALL = {**VALUES, **STATES, **FILES, **MEMORY}
 # what a text goes on with, which says where to look
 FOUND = {

@@ -180,7 +180,7 @@ WARNED = [
     # who leaves before it comes is there
     ("a,1,2,3\nb,2,3,3\n", (*ONE, "--leave", "a=1"), OVER % ("7/6", 1)),
     ("a,1,2,3\nb,2,3,4\n", (*ONE, "--leave", "a=3"), ""),
-    # the first slot with too much is told, once
+    # the first slot with too much is reported, once
     ("a,1,1\nb,1,2,5\nc,1,2,9\n", ONE, OVER % ("3/2", 1)),
     ("a,1,4\na,1,2,3\n", ONE, ""),
     ("a,1,4,3\nb,1,4,3\na,1,2,3\n", ONE, f"{WARNING}a arrives twice at slot 3, and the second is refused\n"),

@@ -1,6 +1,6 @@
 /*
  * Each answer that the header names, at its bounds, and in the stated order where several apply; what must not be
- * written or changed; torn logs, fallen floors, and what is held. It counts what holds and prints what doesn't.
+ * written or changed; torn logs, fallen floors, and the contents. It counts what holds and prints what doesn't.
  */
 #include "checks.h"
 
@@ -452,7 +452,7 @@ static void shapes(void) {
     pfair_close(&b);
 }
 
-/* ---- what is held */
+/* ---- the contents */
 
 static void same_entry(struct pfair_entry a, struct pfair_entry b, int line) {
     CHECK(!memcmp(&a, &b, sizeof a), "another entry, line %d", line);
@@ -657,7 +657,7 @@ static void planned_to(void) {
     ANSWERS(0, pfair_close(&d));
 }
 
-/* Neither the one nor the other is told as waiting or as done. */
+/* Neither of them counts as waiting or as done. */
 static void refused_to(struct pfair_dispatcher *d, uint32_t answer, uint64_t number, int line) {
     for (int next = 0; next < 2; next++) {
         struct pfair_step s = {7, 7, 7, 7};

@@ -19,7 +19,7 @@ static uint64_t *all_told(uint64_t slots, uint64_t late_at) {
     return rows;
 }
 
-/* Nothing is told of a slot. */
+/* A slot has no rows. */
 static void told_nothing(struct pfair_dispatcher *d, uint64_t slot) {
     struct pfair_pick picks[PROCESSORS];
     struct pfair_decided decided[TASKS];
@@ -31,7 +31,7 @@ static void told_nothing(struct pfair_dispatcher *d, uint64_t slot) {
     CHECK(count == 77, "%" PRIu64 " rows counted", count);
 }
 
-/* The slots from `first` on are told, and none below it; what counts from slot 0 on isn't told at all. */
+/* The slots from `first` on have rows, and none below it; what counts from slot 0 on is not given at all. */
 static void told_from(struct pfair_dispatcher *d, uint64_t first, uint64_t planned, const uint64_t *rows) {
     static struct pfair_quantum quanta[PROCESSORS * 4];
     static struct pfair_decision decisions[TASKS + 1];

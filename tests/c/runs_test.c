@@ -189,7 +189,7 @@ static void random_run(int M, uint64_t slots, int tasks) {
             if (floor > slots) floor = slots;
         }
     }
-    /* each is told every entry in its own order, the second only half of them, and absorbs the rest while they plan */
+    /* each takes every entry in its own order, the second only half of them, and absorbs the rest while they plan */
     for (int k = 0; k < 2; k++)
         for (int round = 0; round < M * ENTRIES; round++) {
             int at = (int)((uint64_t)round * 7919 % (uint64_t)(M * ENTRIES)), p = at % M, n = at / M;

@@ -1,7 +1,7 @@
 /* A library to be preloaded. It refuses the Nth allocation of a program, or the Nth thread, and writes to a file how
    many allocations there were and how many blocks were never freed. It reads these variables of the environment:
      REFUSE_AT=N      refuse the Nth call of malloc or realloc (0 or not given: none)
-     REFUSE_RUN=M     refuse M calls from there on (not given: 1; 0: all later ones)
+     REFUSE_RUN=M     refuse M calls from that one on (not given: 1; 0: all later ones)
      REFUSE_THREAD=N  refuse the Nth thread
      REFUSE_COUNT=F   write the number of calls, and of blocks that aren't freed, to the file F at the end */
 #define _GNU_SOURCE

@@ -167,7 +167,7 @@ class FileTooLong(TaskFileError):
 
 
 class OutOfMemory(PfairError, MemoryError):
-    """memory was wanted and refused"""
+    """an allocation failed"""
 
     number = 90
 

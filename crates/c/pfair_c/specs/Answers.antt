@@ -54,7 +54,7 @@ IsStarted s capacity None = ⊥
 IsStarted s capacity (Some x) =
     (course_of x.dispatcher ≡ start s capacity) × (x.dispatcher.spent ≡ false) × (x.dispatcher.settings ≡ s)
 
--- ---- what is held
+-- ---- the contents
 
 -- how an entry was taken at a key that held this, as C has it
 abbrev pub IsTakenHow : (how : ℕ) → Held Logged → Logged → Type 0

@@ -22,7 +22,7 @@ IsStartedWith script d =
 abbrev pub IsReadFrom : List ℕ → Dispatch → Type 0
 IsReadFrom bytes d = (script : LoggedRun) × (script_of_file bytes ≡ Ok script) × IsStartedWith script d
 
--- under which number a key is told: in the order of the fields
+-- the number of a key: in the order of the fields
 abbrev pub field_number : Field → ℕ
 field_number field.Version = 1
 field_number field.Processors = 2

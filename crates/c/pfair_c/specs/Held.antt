@@ -31,7 +31,7 @@ IsRefusedAfter taken k n entries answer x = key_answer x k n ≡ 0 → IsRefused
 
 -- ---- entries
 
--- what is held at a key: 0 nothing, 1 an entry, 2 torn
+-- the contents at a key: 0 nothing, 1 an entry, 2 torn
 abbrev pub held_kind : Held Logged → ℕ
 held_kind None = 0
 held_kind (Some (One e)) = 1

@@ -16,7 +16,7 @@ use Rattle.pfair_table.specs.Refinement.{Dispatch}
 use Rattle.pfair_handle.specs.declared.members.PfairMember.{PfairMember}
 use Rattle.pfair_handle.specs.Members.{member_row, AreMembersNow}
 
--- what is told of a planned slot: nothing if it is forgotten
+-- the rows of a planned slot: none if it is forgotten
 abbrev pub told_at : {A : Type 0} → (forgotten : ℕ) → List A → ℕ → Option A
 told_at forgotten slots slot = if nat_lt slot forgotten then None else slice_get slots slot
 
@@ -28,12 +28,12 @@ are_told forgotten planned from to = nat_le to planned && (nat_le to from || nat
 abbrev pub are_counted : (forgotten planned from to : ℕ) → Bool
 are_counted forgotten planned from to = nat_le to planned && (nat_le to from || nat_eq forgotten 0)
 
--- 104 if nothing is told, 103 if there are fewer rows than are told
+-- 104 if nothing is given, 103 if there is room for fewer rows
 abbrev pub rows_answer : {A : Type 0} → Option (List A) → ℕ → ℕ
 rows_answer None room = 104
 rows_answer (Some planned) room = if nat_le (length planned) room then 0 else 103
 
--- how many rows are told
+-- how many rows are given
 abbrev pub rows_count : {A : Type 0} → Option (List A) → ℕ → ℕ
 rows_count None count = count
 rows_count (Some planned) count = length planned
@@ -85,7 +85,7 @@ abbrev pub IsLaidInPart : (from to : ℕ) → (old new : List PfairLag) → Disp
 IsLaidInPart from to old new d =
     (from < to) × (to ≤ length d.tables) × (d.forgotten ≡ 0) × IsPartlyLaid d.decided d.tables from to old new
 
--- the members after the planned slots are told
+-- the members after the planned slots are given
 pub record AreMembersTold (d : Dispatch) (answer count : ℕ) (old new : List PfairMember) : Type 0 where
   pub members : List Member
   pub are_members : AreMembersNow d members

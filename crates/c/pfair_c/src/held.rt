@@ -60,7 +60,7 @@ pub extern "C" fn pfair_settings(
     )
 }
 
-/// Writes what is held at number `number` (from 1) of the log of `processor` (from 0): 0 nothing, 1
+/// Writes the contents at number `number` (from 1) of the log of `processor` (from 0): 0 nothing, 1
 /// an entry, which is written too, or 2 if the number is torn. Costs a look-up.
 ///
 /// Answers 0; 102 if the handle has no dispatcher; 13 or 14 if there is no such processor or number:

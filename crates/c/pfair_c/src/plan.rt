@@ -27,7 +27,7 @@ pub struct PfairStep {
     pub number: u64,
 }
 
-/// Plans the next slot, if what is held settles it.
+/// Plans the next slot, if the contents settle it.
 ///
 /// Answers 0 with the step; 102 if the handle has no dispatcher; 30 with the least torn entry, or 31
 /// if the dispatcher is spent, and nothing changes; 90 if an allocation fails: the slot isn't planned,
@@ -113,8 +113,8 @@ fn step_row(step: Step) -> PfairStep
 /// Allocates for the next `slots` slots and for `tasks` members at once, as
 /// [`Dispatcher::reserve`](pfair_table::Dispatcher::reserve), and at its cost.
 ///
-/// Answers 0; 102 if the handle has no dispatcher; 90 if an allocation fails. What is held and planned
-/// is as before in each case.
+/// Answers 0; 102 if the handle has no dispatcher; 90 if an allocation fails. Entries
+/// and tables are as before in each case.
 #[unsafe(no_mangle)]
 pub extern "C" fn pfair_reserve(alloc: Global, handle: &mut Handle, slots: u64, tasks: u64) -> u32
     ensures closed { handle.old.owner.kept ≡ None → result ≡ 102 }
@@ -146,7 +146,7 @@ pub extern "C" fn pfair_forget(alloc: Global, handle: &mut Handle, slots: u64) -
     })
 }
 
-/// Rebuilds everything except what is held and what was planned, after which plans go on. Forgotten
+/// Rebuilds everything except the entries and the tables, after which plans go on. Forgotten
 /// slots are planned once more, and stay forgotten. Costs what the plans of all slots so far cost.
 ///
 /// Answers 0; 102 if the handle has no dispatcher; 30 if something held is torn, and nothing changes;

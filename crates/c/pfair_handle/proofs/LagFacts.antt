@@ -1,4 +1,4 @@
--- A book of lags that is told slot by slot, and its rows.
+-- A book of lags that is notified slot by slot, and its rows.
 use Rattle.std.proofs.Common.{◌≡◌, ◌∙◌, ◌+◌, ◌-◌, ℕ, zero, suc, ◌<◌, ◌≤◌, ◌++◌, ◌∷◌, [], List, length, min, take, drop, ap, sym, refl, arith}
 use Rattle.std.proofs.lemmas.List.{length-map}
 use Rattle.pfair_lag.specs.Book.{Book, empty_book}
@@ -11,7 +11,7 @@ use Rattle.pfair_handle.specs.declared.lags.PfairLag.{PfairLag}
 use Rattle.pfair_handle.specs.Lags.{book_after, book_rows, lag_row, lags_at}
 use Rattle.pfair_handle.proofs.SlotRows.{room-for, slot-written}
 
--- ---- what the book is told
+-- ---- what the book is notified of
 
 no_decisions : (b : Book) (n : ℕ) (ts : List Table) → all_slots_told b (take n []) ts ≡ b
 no_decisions b zero ts = refl

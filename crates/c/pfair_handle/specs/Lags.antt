@@ -16,7 +16,7 @@ lag_row time e = record { time = time; name = name_row e.0; numerator = (lag_of 
 abbrev pub book_rows : Book → List PfairLag
 book_rows book = map (lag_row book.time) book.entered
 
--- a book that was told the first t slots, and no others
+-- a book that was notified of the first t slots, and of no others
 abbrev pub book_after : List (List Decided) → List Table → ℕ → Book
 book_after decided tables t = all_slots_told empty_book (take t decided) (take t tables)
 

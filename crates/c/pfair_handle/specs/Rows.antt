@@ -27,7 +27,7 @@ name_row name = record { bytes = name ++ replicate (16 - length name) 0; length 
 abbrev pub pick_row : Pick → PfairPick
 pick_row p = record { name = name_row p.name; index = p.index }
 
--- under which number an outcome is told
+-- the number of an outcome
 abbrev pub outcome_of : Decision → ℕ
 outcome_of Admitted = 0
 outcome_of (Departing freed_at) = 1

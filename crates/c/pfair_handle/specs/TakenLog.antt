@@ -29,7 +29,7 @@ one_more New t = record t { taken = suc t.taken; fresh = suc t.fresh }
 one_more Known t = record t { taken = suc t.taken; known = suc t.known }
 one_more Torn t = record t { taken = suc t.taken; torn = suc t.torn }
 
--- what is held, and what was counted
+-- the contents, and what was counted
 pub record Taking : Type 0 where
   pub held : Replica
   pub counted : PfairTakenLog

@@ -5,7 +5,7 @@ use Rattle.pfair_weight.specs.Share.{Share}
 use Rattle.pfair_weight.specs.Name.{NameValue, name_eq}
 use Rattle.pfair_lag.specs.Book.{Tally, Book, empty_book, tally_of, has_run, entered_with, left, recorded}
 
--- what is told to a book: that a task enters or leaves, or that a slot has passed in which these tasks ran
+-- what a book is notified of: that a task enters or leaves, or that a slot has passed in which these tasks ran
 pub data Call : Type 0 where
   Enter : NameValue → Share → Call
   Leave : NameValue → Call

@@ -49,7 +49,7 @@ impl Account {
 
 /// The lags of some tasks, each counted from when the task was entered.
 ///
-/// A book is told each slot that passes, with the quanta of that slot. Up to [`MAX_HORIZON`] slots
+/// A book is notified of each slot that passes, with its quanta. Up to [`MAX_HORIZON`] slots
 /// can be recorded.
 #[derive(Drop)]
 pub struct LagBook {

@@ -75,7 +75,7 @@ find_entry (w ∷ ws) q =
       | false ↦ find_entry ws q
     ]
 
--- what is held under a name
+-- the contents under a name
 pub get_held : (ws : List Waiting) (q : NameValue) → finmap.get (queue_of ws) q ≡ first_named q ws
 get_held ws q = get-from_entries names_total (map entry ws) q ∙ find_entry ws q
 

@@ -29,6 +29,6 @@ queue_in es = finmap.from_entries (live es)
 abbrev pub IsEntryOf : Entries → NameValue → ℕ → Type 0
 IsEntryOf es name i = (held : Option (ℕ × Key)) × (slice_get es i ≡ Some (name, held))
 
--- whether what is held is the key, and released by the slot
+-- whether the contents are the key, and released by the slot
 abbrev pub is_due : Key → ℕ → Option (ℕ × Key) → Bool
 is_due key slot held = option_map_or (λ e. nat_le e.0 slot && eq_by_cmp pd2_cmp e.1 key) held false

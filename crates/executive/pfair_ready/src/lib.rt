@@ -63,7 +63,7 @@ pub trait Ready: Drop {
             (if new then finmap.insert (held self.old) key.name (release, key) else held self.old)) }
         ensures err { OnErr result (held self.new ≡ held self.old) };
 
-    /// Drops what is held under a name, and returns whether there was something.
+    /// Drops what is waiting under a name, and returns whether there was something.
     fn remove(&mut self, name: &TaskName) -> bool
         ensures time { now self.new ≡ now self.old }
         ensures answer { result ≡ finmap.contains_key (held self.old) name.now }

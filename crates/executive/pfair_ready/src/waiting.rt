@@ -188,7 +188,7 @@ fn put_at(
     }
 }
 
-// Whether what is held is the key, and released by the slot.
+// Whether the contents are the key, and released by the slot.
 fn is_held_due(held: Option<(u64, Key)>, slot: u64, key: &Key) -> bool
     ensures { result ≡ is_due key.now slot held }
 {

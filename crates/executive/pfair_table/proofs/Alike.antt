@@ -23,7 +23,7 @@ use Rattle.pfair_table.proofs.PlacesKept.{places_follow_tables}
 pub untorn_right : (x y : Replica) → Agree x y → Untorn y
 untorn_right x y agree k n torn = elim (join_second entry_eq entry_exact (x.at k n) (y.at k n) Torn torn) [ inl h ↦ agree k n h | inr h ↦ agree k n h ]
 
--- what a slot so far has been planned of what is held
+-- what a slot so far has been planned of the contents
 table_there : {s : Settings} {x : Replica} {tables : List Table} {decided : List (List Decided)} → IsPlanOf s x x tables decided → (t : ℕ) → t < length tables → slice_get tables t ≡ Some (table s x t)
 table_there {s} {x} {tables} plan t l = ap (λ (ts : List Table). slice_get ts t) (plan.tables_are ∙ tables_listed s x (length tables)) ∙ get_numbers (table s x) (length tables) t l
 

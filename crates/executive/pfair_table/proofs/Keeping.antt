@@ -37,7 +37,7 @@ module _ {s : Settings} {held : Replica} {tables : List Table} {decided : List (
     pub plan_now : IsPlanOf s held held tables decided
     plan_now = plan_of_held kept.plan is_of_held (untorn_by_test held sound test)
 
-    -- nothing is spent: members and ready structure are in step with what is held now
+    -- nothing is spent: members and ready structure are in step with the present contents
     pub step_now : spent ≡ false → IsInStep s held (length tables) roster now waiting
     step_now e = step_of_held kept.plan is_of_held (untorn_by_test held sound test) (kept.step e)
 

@@ -175,7 +175,7 @@ told_next told members m before middle after new from key found stays from_is ke
         ap (λ h. finmap.get h key.name) out ∙ get-remove nat_list_cmp_total before told key.name
         ∙ ap (λ b. cond b None (finmap.get before key.name)) (tied_names key.name told ∙ ap (λ n. name_eq n told) named ∙ name_itself told)
 
--- what was told of one name was one less to tell
+-- one name that the ready structure was notified of is one less to notify of
 pub told_one : (said : Said) (heard : List Said) (members : List Member) (before after : Queue) → IsQueueBut (said ∷ heard) members before → IsToldOf (name_of said.2) members before after → IsQueueBut heard members after
 told_one said heard members before after queue told name e = by (name_eq name (name_of said.2)) refl (told name)
   where

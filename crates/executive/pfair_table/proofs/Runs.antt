@@ -61,7 +61,7 @@ get_numbers f (suc n) t h =
           ap (slice_get (map f (numbers_below n) ++ f n ∷ [])) e ∙ get_last (map f (numbers_below n)) (f n) ∙ ap (λ k. Some (f k)) (let e' : n ≡ t = omega (arith, h, g) in e'))
     ]
 
--- ---- what is held stays held
+-- ---- entries that are held stay held
 
 pub taken_of : (s : Settings) (x : Replica) (k n : ℕ) (e : Logged) → IsOf s x → IsEntry e → IsOf s (taken x k n e)
 taken_of s x k n e o stamped = record {

@@ -127,7 +127,7 @@ plan_next_slot {s} {x} {tables} {decided} plan early wanted =
       decided_are = ap (λ (ds : List (List Decided)). ds ++ decisions s x n ∷ []) plan.decided_are ∙ sym (map-append (decisions s x) (numbers_below n) (n ∷ [])) ∙ ap (λ k. map (decisions s x) (numbers_below k)) (sym long);
     }
 
--- ---- what is held grows
+-- ---- the contents grow
 
 pub kept_above : {s : Settings} {held more : Replica} {tables : List Table} {decided : List (List Decided)} {spent : Bool} {roster : Roster} {now : ℕ} {waiting : Queue}
     → IsKept s held tables decided spent roster now waiting → Below held more → more.processors ≡ held.processors → more.capacity ≡ held.capacity → IsKept s more tables decided spent roster now waiting

@@ -17,7 +17,7 @@ IsEvent Plan = ⊤
 
 -- ---- what is planned
 
--- what is held, and what was planned: the table and the decisions of each slot so far
+-- the contents, and what was planned: the table and the decisions of each slot so far
 pub record Course : Type 0 where
   pub held : Replica
   pub tables : List Table
@@ -30,7 +30,7 @@ start s capacity = record { held = empty_replica s.processors capacity; tables =
 abbrev pub is_plannable : Settings → Replica → ℕ → Bool
 is_plannable s x n = not (has_torn x) && (nat_lt n (frontier x) && nat_lt n s.slots)
 
--- with the next slot planned of what is held
+-- with the next slot planned of the contents
 abbrev pub with_next_slot : Settings → Course → Course
 with_next_slot s c =
     let t = length c.tables in

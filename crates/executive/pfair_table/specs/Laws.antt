@@ -58,7 +58,7 @@ OneSchedule =
     → (slice_get c.tables t ≡ Some (table s c.held t)) × (slice_get d.tables t ≡ Some (table s c.held t))
     × (slice_get c.decided t ≡ Some (decisions s c.held t)) × (slice_get d.decided t ≡ Some (decisions s c.held t))
 
--- While nothing is torn, what was planned is the beginning of the plan of what is held.
+-- While nothing is torn, what was planned is the beginning of the plan of the contents.
 abbrev pub PlanSoFar : Type 0
 PlanSoFar =
     (s : Settings) (m : ℕ) (events : List Event) → AllByRecursion IsEvent events

@@ -48,7 +48,7 @@ OnePlacing =
     → let c = run_of s m es in let d = run_of s n fs in
     Agree c.held d.held → (t : ℕ) → t < length c.tables → t < length d.tables → slice_get (places_of c.tables) t ≡ slice_get (places_of d.tables) t
 
--- Where settings are equal and what is held agrees, a slot that both dispatchers have planned has the same places.
+-- If settings and contents agree, a slot that both dispatchers have planned has the same places.
 abbrev pub HavePlacedAlike : Dispatch → Dispatch → Type 0
 HavePlacedAlike c d =
     c.settings ≡ d.settings → Agree (replica_of c.held) (replica_of d.held) → (t : ℕ) → t < length c.tables → t < length d.tables

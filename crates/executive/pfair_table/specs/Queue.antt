@@ -40,7 +40,7 @@ is_said name announced = list_any (λ a. name_eq name (name_of a.2)) announced
 abbrev pub has_key_of : Name → List Key → Bool
 has_key_of name keys = list_any (λ k. name_eq name k.name) keys
 
--- what is held of every name that nothing was said about
+-- the contents of every name that nothing was said about
 abbrev pub IsQueueBut : List Said → List Member → Queue → Type 0
 IsQueueBut announced members waiting =
     (name : Name) → is_said name announced ≡ false → finmap.get waiting name ≡ queued (member_named members name)

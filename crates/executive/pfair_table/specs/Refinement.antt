@@ -55,13 +55,13 @@ IsReopenFault d Memory = has_torn (replica_of d.held) ≡ false
 
 -- ---- where plans have come as far as they can
 
--- nothing more can be planned of what is held
+-- nothing more can be planned of the contents
 abbrev pub IsLast : Step → Type 0
 IsLast (Planned slot) = ⊥
 IsLast (Waiting from) = Unit {0}
 IsLast Done = Unit {0}
 
--- the tables are the whole plan of what is held, and the decisions are those of its slots
+-- the tables are the whole plan of the contents, and the decisions are those of its slots
 pub record IsWholePlan (d : Dispatch) : Type 0 where
   pub tables_are : d.tables ≡ plan d.settings (replica_of d.held)
   pub decided_are : d.decided ≡ map (decisions d.settings (replica_of d.held)) (numbers_below (min (frontier (replica_of d.held)) d.settings.slots))
@@ -100,7 +100,7 @@ pub record IsInStep (s : Settings) (of : Replica) (n : ℕ) (roster : Roster) (n
   pub heard_is : roster.heard ≡ heard_before of n
   pub steady : IsSteady n roster now waiting
 
--- All of this for one replica; where memory was wanting, members and ready structure say nothing.
+-- All of this for one replica; if an allocation failed, members and ready structure say nothing.
 pub record IsKept (s : Settings) (held : Replica) (tables : List Table) (decided : List (List Decided)) (spent : Bool) (roster : Roster) (now : ℕ) (waiting : Queue) : Type 0 where
   pub processors : held.processors ≡ s.processors
   pub capacity : held.capacity ≤ 4096
@@ -111,7 +111,7 @@ pub record IsKept (s : Settings) (held : Replica) (tables : List Table) (decided
 
 -- ---- two dispatchers
 
--- Where settings are equal and what is held agrees, a slot that both have planned has one table and one list of decisions: those of what
+-- If settings and contents agree, a slot that both have planned has one table and one list of decisions: those of what
 -- either holds.
 abbrev pub HavePlannedAlike : Dispatch → Dispatch → Type 0
 HavePlannedAlike c d =

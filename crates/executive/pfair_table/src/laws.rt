@@ -46,7 +46,7 @@ pub fn events_leave_the_least()
     ensures { EventsLeaveTheLeast }
 {}
 
-/// While nothing is torn, the tables so far begin the plan of what is held.
+/// While nothing is torn, the tables so far begin the plan of the contents.
 pub fn plan_so_far()
     ensures { PlanSoFar }
 {}

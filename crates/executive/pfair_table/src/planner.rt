@@ -101,7 +101,7 @@ impl<R: Ready> Planner<R> {
         )
     }
 
-    /// Plans so many slots of the replica anew, of which the tables aren't wanted.
+    /// Plans so many slots of the replica anew, without keeping the tables.
     pub(crate) fn plan_again(
         &mut self,
         settings: Settings,

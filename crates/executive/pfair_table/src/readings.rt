@@ -31,8 +31,8 @@ impl Reading {
         }
     }
 
-    // Reads on in the sound beginning of a processor, from where it stood. Where memory was refused
-    // nothing counts as read.
+    // Reads on in the sound beginning of a processor, from where it stood. If an allocation
+    // failed, nothing counts as read.
     fn read_on(&mut self, alloc: Global, replica: &Replica, processor: u8) -> Result<(), AllocError>
         requires { IsReadingOf processor (sound_beginning (replica_of replica.now) processor) self.old }
         ensures reading { IsReadingOf processor (sound_beginning (replica_of replica.now) processor) self.new }

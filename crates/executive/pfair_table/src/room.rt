@@ -33,7 +33,7 @@ impl Room {
     }
 }
 
-/// A list without what it has, with room for so many elements. It takes memory where it has less.
+/// A list without what it has, with room for so many elements. It allocates if it has less.
 ///
 /// # Errors
 /// Returns [`AllocError`] if an allocation fails; the list is then gone.

@@ -85,7 +85,7 @@ fn take_log<R: Ready>(
     Ok(())
 }
 
-// Plans as many slots as what is held settles.
+// Plans as many slots as the contents settle.
 fn plan_all<R: Ready>(dispatcher: &mut Dispatcher<R>) -> Result<(), PlanFault>
     ensures settings { OnOk result (dispatcher.new.settings ≡ dispatcher.old.settings) }
     ensures held { OnOk result (dispatcher.new.held ≡ dispatcher.old.held) }

@@ -58,7 +58,7 @@ pub(crate) fn decide_all(
         .collect(alloc)
 }
 
-/// The ready structure hears of one task.
+/// Notifies the ready structure of one task.
 pub(crate) fn tell_of<R: Ready>(
     ready: &mut R,
     members: &Members,
@@ -79,7 +79,7 @@ pub(crate) fn tell_of<R: Ready>(
     Ok(())
 }
 
-/// The ready structure hears of all tasks that something was said about.
+/// Notifies the ready structure of all tasks that something was said about.
 pub(crate) fn tell_ready<R: Ready>(
     ready: &mut R,
     members: &Members,
@@ -152,7 +152,7 @@ pub(crate) fn give_quanta<R: Ready>(
     table
 }
 
-/// One slot, by what is said at it.
+/// One slot, by the announcements at it.
 pub(crate) fn plan_slot<R: Ready>(
     announced: &[Said],
     members: &mut Members,

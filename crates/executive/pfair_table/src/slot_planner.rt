@@ -33,7 +33,7 @@ pub struct SlotPlanner<R: Ready> {
     planner: Planner<R>,
     planned: u64,
     spent: bool,
-    // what was handed in last, and that of which the last slot was planned
+    // the replica handed in last, and the one from which the last slot was planned
     seen: Snapshot<Replica>,
     of: Snapshot<Replica>,
 }

@@ -1,4 +1,4 @@
--- Books of lags that are told some slots, and then more.
+-- Books of lags that are notified of some slots, and then of more.
 use Rattle.std.proofs.Common.{ℕ, ◌+◌, ◌-◌, ◌≤◌, ◌≡◌, refl, sym, ap, subst, ◌∙◌, arith, inl, inr, List, [], ◌∷◌, ◌++◌, length, min, take, drop, append_assoc}
 use Rattle.std.specs.Prelude.{max}
 use Rattle.std.proofs.Math.Seq.{take-add}

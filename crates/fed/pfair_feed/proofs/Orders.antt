@@ -20,7 +20,7 @@ use Rattle.pfair_feed.specs.Feeding.{AreTakenFrom}
 use Rattle.pfair_feed.specs.Laws.{OrderIsNothing, WholeText}
 use Rattle.pfair_feed.specs.RoundTrip.{AreAmong, IsOneOf, IsPlaced, Placed, row_of}
 
--- what is held after some entries
+-- the contents after some entries
 abbrev pub held_after : Replica → List Placed → Replica
 held_after x [] = x
 held_after x (e ∷ es) = held_after (taken x e.0 e.1 e.2) es

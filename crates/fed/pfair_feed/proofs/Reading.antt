@@ -16,7 +16,7 @@ use Rattle.pfair_file.specs.ProgramFaults.{is_refusal}
 use Rattle.pfair_feed.specs.Feeding.{HasFailed, HasStood, IsCaughtUp, IsFedLine, IsTakenFrom}
 use Rattle.pfair_feed.proofs.Going.{stays}
 
--- what is held after a reading
+-- the contents after a reading
 abbrev after_reading : Replica → Reading → Replica
 after_reading x (Ok t) = taken x t.0 t.1 t.2
 after_reading x (Err fault) = x
@@ -31,7 +31,7 @@ taken_from_row line x y p n e r ok back at row held = record {
 
 -- ---- what a fault leaves
 
--- where memory was wanting the entry may be taken or not, and else it is
+-- if an allocation fails, the entry may be taken or not; otherwise it is
 held_left : (line : List ℕ) (x y z : Replica) (e : ProgramFault) → (z ≡ y → IsTakenFrom line x z) → (e ≢ Memory → z ≡ y) → (e ≡ Memory → (z ≡ x) ⊎ (z ≡ y)) → (z ≡ x) ⊎ IsTakenFrom line x z
 held_left line x y z Memory t offered wanted = elim (wanted refl) [
   | inl same ↦ inl same

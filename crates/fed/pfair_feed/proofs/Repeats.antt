@@ -21,7 +21,7 @@ use Rattle.pfair_feed.specs.Feeding.{IsCaughtUp}
 use Rattle.pfair_feed.proofs.Plans.{longer}
 use Rattle.pfair_feed.proofs.Planned.{planned}
 
--- what is held already changes nothing
+-- an entry that is held already changes nothing
 taken_known : (x : Replica) (k n : ℕ) (e : Logged) → x.at k n ≡ Some (One e) → taken x k n e ≡ x
 taken_known x k n e here = by (has_key x k n)
   where
@@ -39,7 +39,7 @@ taken_known x k n e here = by (has_key x k n)
     by false = refl
     by true = λ i. record { processors = x.processors; capacity = x.capacity; at = λ j m. each j m i }
 
--- as many slots are planned as what is held settles, and no fewer afterwards
+-- as many slots are planned as the contents settle, and no fewer afterwards
 as_before : (f g : Follow) (p n : ℕ) (e : Logged) → IsCaughtUp f → held f.dispatch.held p n ≡ Some (One e) → replica_of g.dispatch.held ≡ taken (replica_of f.dispatch.held) p n e
     → IsGrown (record f.dispatch { held = g.dispatch.held }) g.dispatch
     → (length f.dispatch.tables ≡ min (frontier (replica_of g.dispatch.held)) g.dispatch.settings.slots) × (length f.dispatch.tables ≤ length g.dispatch.tables)

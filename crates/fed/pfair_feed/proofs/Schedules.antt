@@ -1,4 +1,4 @@
--- More room in the logs doesn't change the schedule of what is held.
+-- More room in the logs doesn't change the schedule of the contents.
 use Rattle.std.proofs.Common.{ℕ, zero, suc, ◌+◌, ◌<◌, ◌≤◌, ◌≡◌, inl, inr, refl, ap, arith, [], ◌∷◌, map, min, None, flat_map, filter}
 use Rattle.std.specs.Prelude.{fold}
 use Rattle.pfair_lattice.specs.Held.{Held}

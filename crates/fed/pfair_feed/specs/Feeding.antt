@@ -32,7 +32,7 @@ pub record AreLines (bytes : List ℕ) (lines : List (List ℕ)) (rest : List �
   pub whole : AllByRecursion IsOneLine lines
   pub open_end : IsOneLine rest
 
--- ---- what is held
+-- ---- the contents
 
 -- the entry whose row a line is, is taken; any other line brings nothing
 pub record IsTakenFrom (line : List ℕ) (before after : Replica) : Type 0 where
@@ -46,7 +46,7 @@ AreTakenFrom (line ∷ lines) before after = (mid : Replica) × IsTakenFrom line
 
 -- ---- what is planned and written
 
--- the plan is whole, and all of it is told
+-- the plan is whole, and the book was notified of all of it
 pub record IsCaughtUp (f : Follow) : Type 0 where
   pub whole : IsWholePlan f.dispatch
   pub all_told : length f.dispatch.tables ≤ f.told
@@ -100,7 +100,7 @@ pub record AreWelcome (processors capacity : ℕ) (bytes rest : List ℕ) : Type
 
 -- ---- faults
 
--- What stands of a follower after a fault at a line: more may be planned, no row counts as told, and what is held is as before, or with the
+-- What stands of a follower after a fault at a line: more may be planned, no row counts as told, and the contents are as before, or with the
 -- entry whose row the line is.
 pub record HasStood (line : List ℕ) (before after : Follow) : Type 0 where
   pub output_is : after.output ≡ before.output

@@ -69,7 +69,7 @@ pub record HasFollowed (before after : Follow) (k n : ℕ) (old new : Option (Li
 
 -- ---- faults at an entry
 
--- nothing has changed but what is held
+-- nothing has changed but the contents
 abbrev pub IsOnlyTaken : (before after : Follow) → Type 0
 IsOnlyTaken before after = after ≡ record before { dispatch = record before.dispatch { held = after.dispatch.held } }
 
@@ -77,7 +77,7 @@ IsOnlyTaken before after = after ≡ record before { dispatch = record before.di
 abbrev pub IsStuck : Dispatch → Type 0
 IsStuck d = (d.spent ≡ true) × IsTrue (is_plannable d.settings (replica_of d.held) (length d.tables))
 
--- all that is settled is planned, and not all of it is told
+-- all that is settled is planned, and the book was not notified of all of it
 abbrev pub AreDue : (before after : Follow) → Type 0
 AreDue before after = (after.dispatch.spent ≡ false) × IsWholePlan after.dispatch × (before.told < length after.dispatch.tables)
 
@@ -105,7 +105,7 @@ missing_of s x k =
 
 -- ---- two followers
 
--- Where settings and outputs are equal and what is held agrees, the rows of what one has planned, from any slot on, begin those of the other.
+-- If settings, outputs and contents agree, the rows of what one has planned, from any slot on, begin those of the other.
 abbrev pub HaveToldAlike : Follow → Follow → Type 0
 HaveToldAlike f g =
     f.output ≡ g.output → f.dispatch.settings ≡ g.dispatch.settings → Agree (replica_of f.dispatch.held) (replica_of g.dispatch.held) → (slot : ℕ)

@@ -1,4 +1,4 @@
--- What is told of logs that are short.
+-- The complaints about logs that are short.
 use Rattle.std.specs.Prelude.{ℕ, List, [], ◌∷◌, ◌++◌, Option, None, Some, codes}
 use Rattle.std.specs.Fmt.{decimal}
 use Rattle.std.specs.List.{flat_map}

@@ -82,7 +82,7 @@ pub record HaveTheRows (processors capacity : ℕ) (rows lines : List (List ℕ)
 abbrev pub replica_with_room : ℕ → LoggedRun → Replica
 replica_with_room capacity run = record (replica_of_logs run.logs) { capacity = capacity }
 
--- what is held settles as many slots as the script's own replica, and has its tables, its decisions and each of its texts
+-- the contents settle as many slots as the script's own replica, and have its tables, its decisions and each of its texts
 pub record HasScheduleOf (run : LoggedRun) (held : Replica) : Type 0 where
   pub frontier_is : frontier held ≡ frontier (replica_of_logs run.logs)
   pub plan_is : plan run.settings held ≡ plan run.settings (replica_of_logs run.logs)

@@ -20,7 +20,7 @@ RowsGoOn =
     → rows_from output slot (tables ++ more) (decided ++ rest)
     ≡ rows_from output slot tables decided ++ rows_from output (max slot (length tables)) (tables ++ more) (decided ++ rest)
 
--- the text that is written at once of what is held
+-- the text that is written at once of the contents
 abbrev pub text_of : Output → Settings → Replica → List ℕ
 text_of Tables s x = replay_text (plan s x)
 text_of PlacedTables s x = placed_replay_text (plan s x)

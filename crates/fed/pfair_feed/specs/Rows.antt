@@ -33,7 +33,7 @@ rows_from Lags slot tables decided = rows_told (book_before slot tables decided)
 abbrev pub IsTold : Output → (forgotten told : ℕ) → Type 0
 IsTold output forgotten told = (forgotten ≤ told) × (output ≡ Lags → forgotten ≡ 0)
 
--- a book that was told some of the slots before one
+-- a book that was notified of some of the slots before one
 pub record IsBookOf (slot : ℕ) (tables : List Table) (decided : List (List Decided)) (book : Book) : Type 0 where
   pub early : book.time ≤ slot
   pub there : book.time ≤ length tables

@@ -1,4 +1,4 @@
-//! What is told of lines that are refused, and of logs that are short.
+//! The complaints about refused lines, and about logs that are short.
 
 ghost use Rattle.std.specs.Prelude.{◌≡◌, ◌≢◌, IfErr, OnErr, OnOk, true};
 ghost use Rattle.std.specs.Io.KnownBytes.{Appends};

@@ -169,7 +169,7 @@ impl<R: Ready> Follower<R> {
                 Ok(())
             }
             Err(fault) => {
-                // the book was told some of the slots: it is told all of them anew when it is wanted
+                // the book was notified of some slots: it is notified of all of them anew when it is needed
                 self.book = LagBook::new(self.alloc);
                 Err(fault)
             }

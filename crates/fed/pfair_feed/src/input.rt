@@ -22,15 +22,15 @@ const PIECE: usize = 4096;
 /// Feeds the lines of a reader to its end, each to the next newline, as [`feed`] does one; a line
 /// of more than 256 bytes is refused, and only its first bytes are kept.
 ///
-/// A line that is refused is told in a line to `complaints`, as far as that takes it, and skipped
-/// unless `is_strict`; the line `?` asks for the keys that [`tell_missing`] tells, and is always
+/// A refused line is reported in a line to `complaints`, as far as that takes it, and skipped
+/// unless `is_strict`; the line `?` asks for the keys that [`tell_missing`] reports, and is always
 /// skipped. What stands behind the last newline is no row, since it may be the beginning of one. It
 /// costs what [`feed`] costs for each line.
 ///
 /// # Errors
 /// - [`ProgramFault::ReadFailed`] if the reader answers an error, at once and whatever its kind.
 /// - the fault of [`Follower::take`] if the follower stops at the entry of a line.
-/// - [`ProgramFault::Memory`] also if an allocation for a line fails, of which nothing is then taken.
+/// - [`ProgramFault::Memory`] also if an allocation for a line fails; nothing of the line is then taken.
 /// - the fault of the first line that is refused, if `is_strict`.
 pub fn follow<R: Ready, I: Read, W: Write, E: Write>(
     alloc: Global,

@@ -8,7 +8,7 @@ use pfair_entry_row::laws::{each_entry_has_its_row, rows_are_lines};
 use pfair_table::laws::{events_leave_the_least, one_table};
 
 /// The rows of what was planned, and of more behind it, are those of what was planned, and then
-/// those of the rest from there on.
+/// those of the rest.
 pub fn rows_go_on()
     ensures { RowsGoOn }
 {}

@@ -64,9 +64,9 @@ fn add_header(text: &mut Writer<Vec<u8>>, output: Output) -> Result<(), AllocErr
     }
 }
 
-/// Writes the rows of the slots that are planned, from a slot on, and flushes them, where there are
-/// some. The book of lags, which was told slots before that one, is then told all that are planned;
-/// after a fault it is told some.
+/// Writes the rows of the slots that are planned, from a slot on, and flushes them if there are some.
+/// The book of lags, which knows slots before that one, then knows all that are planned; after a
+/// fault it knows some.
 pub(crate) fn write_rows<R: Ready, W: Write>(
     alloc: Global,
     output: Output,

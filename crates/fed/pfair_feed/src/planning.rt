@@ -1,4 +1,4 @@
-//! Planning as far as what is held settles it.
+//! Planning as far as the contents settle it.
 
 ghost use Rattle.std.specs.Prelude.{◌≡◌, false, IfErr, IsErrOf, OnOk};
 ghost use Rattle.pfair_replica.specs.Replica.{has_torn};
@@ -9,7 +9,7 @@ ghost use Rattle.pfair_feed.specs.Follow.{IsGrown, IsEndOfPlans};
 use pfair_ready::Ready;
 use pfair_table::{Dispatcher, PlanFault, Step};
 
-/// Plans as many slots as what is held settles.
+/// Plans as many slots as the contents settle.
 ///
 /// # Errors
 /// Those of [`Dispatcher::plan_next`]; the slots that were planned before stand.

@@ -32,7 +32,7 @@ same_text output (suc slot) script held has =
     λ i. lines_text (rows_from output (suc slot) (has.plan_is i) (map (λ t. has.decisions_are t i) (numbers_below (min (has.frontier_is i) script.settings.slots))))
 
 module _ (gives : EntriesGiveTheirSchedule) (one : LinesAreOne) (output : Output) (run : Run) (given left before after : Option (List ℕ)) where
-  -- what is held has the schedule of the script, whose text was written
+  -- the contents have the schedule of the script, whose text was written
   of_script : (P : Replica → Type 0) → IsFollowed output run P given left before after
       → OfItsScript run given (λ script. (held : Replica) × P held × HasScheduleOf script held × Appends before after (text_from output run.from script.settings (replica_of_logs script.logs)))
   of_script P followed =

@@ -23,12 +23,12 @@ abbrev pub head_from : Output → ℕ → List ℕ
 head_from output zero = line (header_of output)
 head_from output (suc slot) = []
 
--- what is written of what is held: all that is written at once of it, or the rows from a later slot on
+-- what is written of the contents: all that is written at once of it, or the rows from a later slot on
 abbrev pub text_from : Output → ℕ → Settings → Replica → List ℕ
 text_from output zero s x = text_of output s x
 text_from output (suc slot) s x = lines_text (rows_from output (suc slot) (plan s x) (map (decisions s x) (numbers_below (min (frontier x) s.slots))))
 
--- ---- what is held
+-- ---- the contents
 
 -- what the lines of some bytes bring to logs that hold nothing; what stands behind the last newline brings nothing
 pub record AreBrought (s : Settings) (bytes : List ℕ) (held : Replica) : Type 0 where

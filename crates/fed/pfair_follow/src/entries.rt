@@ -15,7 +15,7 @@ use std::io::{Read, Write};
 /// stands before them.
 ///
 /// The whole text is made before the first byte goes out. No more than 67,108,864 bytes are taken
-/// from the reader, but where the file is too long or memory was wanting: one more may then be.
+/// from the reader, or one more if the file is too long or an allocation fails.
 ///
 /// # Errors
 /// Those of [`read_script`], and [`ProgramFault::Memory`] if an allocation fails: nothing has then

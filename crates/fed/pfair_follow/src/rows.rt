@@ -108,7 +108,7 @@ fn begin<R: Ready, W: Write>(follower: &Follower<R>, writer: &mut W) -> Result<(
     }
 }
 
-// Whether all slots are settled; the keys that are missing are told where they aren't.
+// Whether all slots are settled; if they aren't, the missing keys are reported.
 fn end<R: Ready, E: Write>(follower: &Follower<R>, complaints: &mut E) -> Result<(), ProgramFault>
     ensures settled { OnOk result (follower.now.dispatch.settings.slots ≤ length follower.now.dispatch.tables) }
     ensures short { IfErr result (λ e. (e ≡ Stalled (length follower.now.dispatch.tables)) × (length follower.now.dispatch.tables < follower.now.dispatch.settings.slots)) }

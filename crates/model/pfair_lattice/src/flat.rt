@@ -10,7 +10,7 @@ use std::alloc::AllocError;
 /// A content, or `Torn` where two different contents met.
 ///
 /// Contents that are equal join to themselves, contents that differ to `Torn`, and whatever joins
-/// with `Torn` is `Torn`. Neither a join nor a copy takes memory.
+/// with `Torn` is `Torn`. Neither a join nor a copy allocates.
 #[derive(Clone, Copy, Debug, PartialEq, Eq)]
 pub enum Flat<T: Exact> {
     /// One content.

@@ -22,7 +22,7 @@ pub trait Join: Drop {
     /// The third is the first with a part of the second joined in.
     ghost partly: { Self → Self → Self → Type 0 };
 
-    /// Holds where a join or a copy may want memory.
+    /// Holds if a join or a copy may allocate.
     ghost takes_memory: { Type 0 };
 
     /// The second has something for which the first has no place: only then may joining it in want

@@ -44,7 +44,7 @@ late_run row stamped t k (e ∷ es) n floor run late =
 abbrev Alike : (ℕ → Held Logged) → (ℕ → Held Logged) → Type 0
 Alike r q = (n : ℕ) (e f : Logged) → r n ≡ Some (One e) → q n ≡ Some (One f) → e ≡ f
 
--- what is said at t, below the ends of both runs
+-- the announcements at t, below the ends of both runs
 same_run : (r q : ℕ → Held Logged) → Stamped r → Stamped q → Alike r q → (t k : ℕ) (es fs : List Logged) (n floor : ℕ) → IsRun r n floor es → IsRun q n floor fs → t < last_floor floor es → t < last_floor floor fs → said_in t k n es ≡ said_in t k n fs
 same_run r q sr sq alike t k [] fs n floor re rf h g = sym (late_run q sq t k fs n floor rf h)
 same_run r q sr sq alike t k (e ∷ es) [] n floor re rf h g = late_run r sr t k (e ∷ es) n floor re g

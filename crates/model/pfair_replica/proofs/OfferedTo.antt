@@ -1,4 +1,4 @@
--- What is held after an entry or a replica was offered.
+-- The contents after an entry or a replica was offered.
 use Rattle.std.proofs.Common.{ℕ, ◌≡◌, refl, ap, subst, sym, inr, Bool, true, false, cond, arith}
 use Rattle.std.specs.Prelude.{◌&&◌, nat_lt, nat_le, ◌==◌}
 use Rattle.std.proofs.lemmas.Bool.{eq-eqb, eqb-true, ltb-true, leb-true, and_from, and_parts}

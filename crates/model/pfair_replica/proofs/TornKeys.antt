@@ -104,7 +104,7 @@ torn_test x = some_more (torn_keys x) ∙ torn_more x
 pub no_key_no_torn : (x : Replica) → torn_keys x ≡ [] ↔ (has_torn x ≡ false)
 no_key_no_torn x = grind (arith, torn_more)
 
--- ---- the test, and what is held
+-- ---- the test, and the contents
 
 any_false : (p : ℕ → Bool) (xs : List ℕ) → list_any p xs ≡ false → (x : ℕ) → Among xs x → p x ≡ false
 any_false p [] e x h = absurd h

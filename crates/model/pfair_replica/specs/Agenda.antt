@@ -1,10 +1,10 @@
--- What is said at each slot.
+-- The announcements at each slot.
 use Rattle.std.specs.Prelude.{ℕ, ◌≡◌, List, ◌++◌}
 use Rattle.pfair_entry.specs.Said.{Said}
 use Rattle.pfair_replica.specs.BySlot.{listed_at}
 use Rattle.pfair_replica.specs.declared.agenda.Agenda.{Agenda}
 
--- what is said at slot t
+-- the announcements at slot t
 abbrev pub said_at : Agenda → ℕ → List Said
 said_at agenda t = listed_at agenda.by_slot.lists t
 

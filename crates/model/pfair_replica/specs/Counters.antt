@@ -54,7 +54,7 @@ pub record IsEarlier (first other result : Option EntryKey) : Type 0 where
   pub before_first : (f : EntryKey) → first ≡ Some f → IsSomeAnd result (λ key. ComesFirst key f.0 f.1)
   pub before_other : (f : EntryKey) → other ≡ Some f → IsSomeAnd result (λ key. ComesFirst key f.0 f.1)
 
--- the counters of what is held
+-- the counters of the contents
 pub record AreCounters (capacity : ℕ) (at : Contents) (sound : List Beginning) (first : Option EntryKey) : Type 0 where
   pub beginnings : (k : ℕ) (b : Beginning) → slice_get sound k ≡ Some b → b ≡ beginning_in capacity (at k)
   pub torn : IsFirst (IsTornAt at) first

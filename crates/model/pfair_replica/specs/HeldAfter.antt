@@ -1,4 +1,4 @@
--- What is held after an entry was joined in, and after a merge.
+-- The contents after an entry was joined in, and after a merge.
 use Rattle.std.specs.Prelude.{◌≡◌, refl, ◌==◌, ℕ, Some, None}
 use Rattle.std.proofs.Common.{◌∙◌, ap, sym, subst, ⊎_elim, cond}
 use Rattle.std.proofs.lemmas.Bool.{eq-eqb, ne_eqb, cases_eq}

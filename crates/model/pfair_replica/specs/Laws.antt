@@ -45,7 +45,7 @@ pub record IsLeastMark : Type 0 where
   pub below : (x : Replica) (k : ℕ) → k < x.processors → frontier x ≤ mark x k
   pub reached : (x : Replica) → 1 ≤ x.processors → (k : ℕ) × (k < x.processors) × (frontier x ≡ mark x k)
 
--- What is held after an entry was joined in, which changes nothing where the entry was held already, and after a merge.
+-- The contents after an entry was joined in, which changes nothing where the entry was held already, and after a merge.
 pub record IsHeldAfter : Type 0 where
   pub same : (x : Replica) (k n : ℕ) (e : Logged) → (with_entry x k n e).at k n ≡ held_join entry_eq (x.at k n) (Some (One e))
   pub other : (x : Replica) (k n : ℕ) (e : Logged) (k' n' : ℕ) → ((k' ≡ k) × (n' ≡ n) → ⊥) → (with_entry x k n e).at k' n' ≡ x.at k' n'

@@ -1,4 +1,4 @@
--- What is held after an entry or a replica was offered, taken or not.
+-- The contents after an entry or a replica was offered, taken or not.
 use Rattle.std.specs.Prelude.{ℕ, Bool, ◌&&◌, nat_lt, nat_le, ◌==◌, if◌then◌else◌}
 use Rattle.pfair_entry.specs.Entry.{Logged}
 use Rattle.pfair_replica.specs.Replica.{Replica, join, with_entry}

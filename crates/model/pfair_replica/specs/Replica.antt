@@ -10,7 +10,7 @@ use Rattle.pfair_entry.specs.Entry.{Logged, IsEntry}
 use Rattle.pfair_entry.specs.Same.{entry_eq}
 use Rattle.pfair_replica.specs.Key.{EntryKey}
 
--- what is held, by processor and number
+-- the contents, by processor and number
 abbrev pub Contents : Type 0
 Contents = ℕ → ℕ → Held Logged
 
@@ -97,7 +97,7 @@ numbers_below (suc n) = numbers_below n ++ n ∷ []
 abbrev pub frontier : Replica → ℕ
 frontier x = fold min (mark x 0) (map (mark x) (numbers_below x.processors))
 
--- ---- what is said at a slot
+-- ---- the announcements at a slot
 
 -- entry n of processor k, where it is stamped t
 abbrev pub said_by : (t k n : ℕ) → Option (ℕ × Announcement) → List Said

@@ -1,4 +1,4 @@
--- What is said at a slot, and in which order the lists of a replica stand.
+-- The announcements at a slot, and in which order the lists of a replica stand.
 use Rattle.std.specs.Prelude.{ℕ, ◌≡◌, ◌<◌, ◌+◌, ◌⊎◌, ◌↔◌, slice_get, Some, AllPairs}
 use Rattle.std.specs.List.{Contains}
 use Rattle.pfair_entry.specs.Said.{Said}
@@ -17,7 +17,7 @@ ComesBefore a b = (a.0 < b.0) ⊎ ((a.0 ≡ b.0) × (a.1 < b.1))
 abbrev pub key_of : Said → EntryKey
 key_of s = (s.0, s.1)
 
--- what is said at a slot is what the sound beginnings announce with that stamp, and it stands by processors and numbers, as torn and fallen keys do
+-- the announcements at a slot are those of the sound beginnings with that stamp, by processors and numbers, as torn and fallen keys are
 pub record IsSaid : Type 0 where
   pub members : (x : Replica) (t : ℕ) (s : Said) → Contains (said x t) s ↔ IsSaidAt x t s
   pub order : (x : Replica) (t : ℕ) → AllPairs (λ a b. ComesBefore (key_of a) (key_of b)) (said x t)

@@ -19,7 +19,7 @@ pub fn known_by_held()
     ensures { IsKnownByHeld }
 {}
 
-/// What is held at each key after an entry was joined in, which changes nothing where the entry was
+/// The contents at each key after an entry was joined in, which changes nothing where the entry was
 /// held already, and after a merge.
 #[tactic(auto, using(crate::specs::HeldAfter::held_after))]
 pub fn held_after()
@@ -92,9 +92,8 @@ pub fn listed()
     ensures { IsListed }
 {}
 
-/// What is said at a slot is what the entries of sound beginnings announce with that stamp. It
-/// stands in order of processors, and of numbers for each processor, and so do torn and fallen
-/// keys.
+/// The announcements at a slot are those of sound beginnings with that stamp, in order of processors,
+/// and of numbers for each processor. Torn and fallen keys stand in the same order.
 #[tactic(auto, using(crate::proofs::SaidListed::is_said))]
 pub fn said_in_order()
     ensures { IsSaid }

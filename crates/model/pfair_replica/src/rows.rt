@@ -13,7 +13,7 @@ use pfair_entry::Entry;
 use pfair_lattice::{Flat, Join, JoinMap};
 use std::alloc::{AllocError, Global};
 
-/// What is held of each processor's log.
+/// The contents of each processor's log.
 pub(crate) type Rows = JoinMap<u8, JoinMap<u32, Flat<Entry>>>;
 
 /// Joins one entry in, in a row that is there.
@@ -35,7 +35,7 @@ pub(crate) fn put_entry(
     }
 }
 
-/// What is held at a key.
+/// The contents at a key.
 pub(crate) fn held_at(rows: &Rows, processor: u8, number: u32) -> Option<Flat<Entry>>
     ensures value { result ≡ held_in rows.now processor number }
     ensures entry { (e : Logged) → result ≡ Some (One e) → IsEntry e }

@@ -88,7 +88,7 @@ fn is_empty(replica: &Replica) -> bool {
     true
 }
 
-// The merge of two halves of ten entries. After a failed allocation what is held lies between, and it
+// The merge of two halves of ten entries. After a failed allocation the contents lie between, and it
 // is merged once more.
 fn merges(alloc: Global, whole: &Replica) -> Look {
     let old = holding(alloc, true, false)?;

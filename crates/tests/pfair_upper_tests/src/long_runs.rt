@@ -39,7 +39,7 @@ fn plans<R: Ready>(rt: &impl Abort, dispatcher: &mut Dispatcher<R>, slots: u64) 
     }
 }
 
-// After 1,000 slots the dispatcher is made anew, takes memory ahead, and goes on.
+// After 1,000 slots the dispatcher is made anew, reserves, and goes on.
 fn goes_on<R: Ready>(rt: &impl Abort, dispatcher: &mut Dispatcher<R>, name: TaskName) {
     takes_the_log(rt, dispatcher, name);
     plans(rt, dispatcher, 1000);

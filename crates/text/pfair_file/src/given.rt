@@ -9,8 +9,8 @@ use std::rt::Env;
 /// Returns the words after the program's name.
 ///
 /// # Errors
-/// `no_text` where a word is no text, and what a failed allocation makes of the fault's type where
-/// memory was wanting.
+/// `no_text` if a word is no text, and what a failed allocation makes of the fault's type if an
+/// allocation fails.
 pub fn given_words<P: Env + AllocGlobal, F: From<AllocError> + Drop>(
     rt: &P,
     no_text: F,

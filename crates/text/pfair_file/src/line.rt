@@ -11,8 +11,8 @@ const LINE_ROOM: usize = 128;
 /// Writes the line of a fault, `PROGRAM: NUMBER TEXT`, as far as the writer takes it.
 ///
 /// The line goes out in one write, so that the lines of two processes that write to one terminal or
-/// file don't mix; one that is longer than 128 bytes goes out in pieces, and is not cut. It takes
-/// no memory, for want of which may be the fault.
+/// file don't mix; one that is longer than 128 bytes goes out in pieces, and is not cut. It allocates
+/// nothing: a failed allocation may be the fault.
 pub fn write_line<F: Display, W: Write>(program: &str, number: u8, fault: &F, writer: &mut W) {
     let mut line = [0; LINE_ROOM];
     let mut room = &mut line[..];

@@ -19,7 +19,7 @@ use std::io::Read;
 /// Opens a task file for reading.
 ///
 /// # Errors
-/// [`ProgramFault::Memory`] where memory was wanting, and else [`ProgramFault::ReadFailed`].
+/// [`ProgramFault::Memory`] if an allocation fails, else [`ProgramFault::ReadFailed`].
 pub fn opened<P: Files>(rt: &P, file: &str) -> Result<P::File, ProgramFault>
     ensures { IfErr result (λ e. (e ≡ ReadFailed) ⊎ (e ≡ Memory)) }
 {
@@ -32,8 +32,8 @@ pub fn opened<P: Files>(rt: &P, file: &str) -> Result<P::File, ProgramFault>
 
 /// Returns the dispatcher that has planned all slots of the script that a reader's bytes hold.
 ///
-/// No more than 67,108,864 bytes are taken from the reader, but where the file is too long or
-/// memory was wanting: one more may then be.
+/// No more than 67,108,864 bytes are taken from the reader, or one more if the file is too
+/// long or an allocation fails.
 /// The cost is that of [`read_script`], and of [`Dispatcher::plan_next`] for each slot.
 ///
 /// # Errors

@@ -51,7 +51,7 @@ module _ (s : Settings) (x : Replica) (n : ℕ) (start before after : List ℕ) 
       ∙ ap (λ rows. start ++ lines_text rows) (sym (slots_more decided_rows 0 n so_far (decisions s x n) (omega (arith, long))))
       ∙ ap (λ ds. start ++ lines_text (slots_from decided_rows 0 ds)) (sym (map-append (decisions s x) (numbers_below n) (n ∷ [])) ∙ ap (decided_below s x) (sym next_number))
 
-  -- a book that was told the slots so far, and then the next one
+  -- a book that was notified of the slots so far, and then of the next one
   pub book_more : (old new : Book) → old ≡ book_after s x n → new ≡ slot_told (decisions s x n) (table s x n) old → new ≡ book_after s x (n + 1)
   book_more old new had has = has ∙ ap (slot_told (decisions s x n) (table s x n)) had ∙ ap (book_after s x) (sym next_number)
 

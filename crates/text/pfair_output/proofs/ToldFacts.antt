@@ -1,4 +1,4 @@
--- The rows of a book that is told one slot after another.
+-- The rows of a book that is notified of one slot after another.
 use Rattle.std.proofs.Common.{ℕ, suc, ◌+◌, ◌-◌, ◌<◌, ◌≤◌, ◌≡◌, refl, sym, ap, ◌∙◌, arith, true, false, cond, List, [], ◌∷◌, ◌++◌, Some, map, length, min, take, drop, append_assoc}
 use Rattle.std.specs.Prelude.{slice_get, is_some, ℤ}
 use Rattle.std.specs.Option.{option_map}

@@ -1,4 +1,4 @@
--- A book that is told a whole plan has the members that stay, with their lags.
+-- A book that is notified of a whole plan has the members that stay, with their lags.
 use Rattle.std.proofs.Common.{ℕ, zero, suc, ◌+◌, ◌-◌, ◌≤◌, ◌≡◌, refl, sym, ap, ◌∙◌, arith, Bool, true, false, cond, not, ◌||◌, List, [], ◌∷◌, ◌++◌, Option, Some, None, map, length, drop, append_assoc}
 use Rattle.std.specs.Prelude.{is_some, filter, count_by, min, nat_le}
 use Rattle.std.specs.List.{AllByRecursion, flat_map}
@@ -272,7 +272,7 @@ module _ (s : Settings) (x : Replica) where
       let more = over_push empty_book (map (decisions s x) (numbers_below n)) (map (table s x) (numbers_below n)) (decisions s x n) (table s x n) (same_length (decisions s x) (table s x) (numbers_below n)) in
       rw (map-append (decisions s x) (numbers_below n) (n ∷ []), map-append (table s x) (numbers_below n) (n ∷ []), more, over_slots n) refl
 
-  -- the rows of the book that is told the first n slots are those of the members
+  -- the rows of the book that is notified of the first n slots are those of the members
   pub rows_of_slots : (n : ℕ) → rows_told empty_book (map (decisions s x) (numbers_below n)) (map (table s x) (numbers_below n)) ≡ flat_map (lag_rows s x) (numbers_below n)
   rows_of_slots zero = refl
   rows_of_slots (suc n) =

@@ -24,6 +24,6 @@ is_staying m = not (is_departing m)
 abbrev pub lag_rows : Settings → Replica → ℕ → List (List (List ℕ))
 lag_rows s x t = map (lag_row (history s x (suc t)).tables (t + 1)) (filter is_staying (world s x t))
 
--- a header, and these rows for each slot that is planned of what is held
+-- a header, and these rows for each slot that is planned of the contents
 abbrev pub lags_text : Settings → Replica → List ℕ
 lags_text s x = lines_text (lags_header ∷ flat_map (lag_rows s x) (numbers_below (min (frontier x) s.slots)))

@@ -1,4 +1,4 @@
--- A book of lags that is told what was planned, slot by slot, and the rows that it gives.
+-- A book of lags that is notified of what was planned, slot by slot, and its rows.
 use Rattle.std.specs.Prelude.{ℕ, Bool, true, false, if◌then◌else◌, List, [], ◌∷◌, ◌++◌, map}
 use Rattle.std.specs.Fmt.{decimal, signed_decimal}
 use Rattle.pfair_entry.specs.declared.announcement.Announcement.{Announcement}

@@ -29,7 +29,7 @@ use Rattle.pfair_in_time.specs.Dispatched.{AnnouncesWeight, BringsWeights, IsSer
 use Rattle.pfair_replica.proofs.Merging.{one_side}
 use Rattle.pfair_in_time.proofs.InTime.{none_misses, each_runs_in_time}
 
--- ---- what is held says weights
+-- ---- the contents state weights
 
 abbrev HoldsWeights : Contents → Type 0
 HoldsWeights at = (k n : ℕ) (e : Logged) → at k n ≡ Some (One e) → AnnouncesWeight e

@@ -27,7 +27,7 @@ BringsWeights (Take k n e) = AnnouncesWeight e
 BringsWeights (Absorb x) = (k n : ℕ) (e : Logged) → held x k n ≡ Some (One e) → AnnouncesWeight e
 BringsWeights Plan = ⊤
 
--- slot t was planned by what is held, each of its rows is in time, and after it no member that isn't departing has missed
+-- slot t was planned by the contents, each of its rows is in time, and after it no member that isn't departing has missed
 pub record IsServedSlot (s : Settings) (x : Replica) (tables : List Table) (t : ℕ) : Type 0 where
   pub table_is : slice_get tables t ≡ Some (table s x t)
   pub rows_in_time : (p : Pick) → Among (table s x t) p → (m : Member) × Among (world s x t) m × IsInTime t p m

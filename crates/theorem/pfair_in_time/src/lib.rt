@@ -17,7 +17,7 @@
 //!   table of rows that go before it (`is_run`).
 //! - **In time** (`proofs/InTime.antt`). The theorem in the executive's own words.
 //! - **By dispatchers** (`proofs/Planned.antt`, `src/dispatched.rt`). Arrivals with weights are all that
-//!   any events bring, and what was planned has the tables of what is held (`served_slot`).
+//!   any events bring, and what was planned has the tables of the contents (`served_slot`).
 //! - **In windows** (`proofs/Passing.antt`, `proofs/Windows.antt`). The slots in which a member without
 //!   delays runs, counted from its joining, are in its windows, and none that was due is missing.
 //! - **In the rows of lags** (`proofs/Lags.antt`). The lag that is reported is that of these slots

@@ -125,7 +125,7 @@ steps_good : (processors capacity : ℕ) (steps : List Step) (b : State) → All
 steps_good processors capacity [] b all good = good
 steps_good processors capacity (step ∷ steps) b all good = steps_good processors capacity steps (after_step b step) all.1 (step_good processors capacity b step all.0 good)
 
--- what is held is the entry of the cell
+-- the contents are the entry of the cell
 held_cell : (c : Flat Logged) (o : Option Logged) → (one_of o ≡ Some c) ⊎ (one_of o ≡ Some Torn) → (e : Logged) × (o ≡ Some e) × (c ≡ One e)
 held_cell c None (inl h) = absurd (cc)
 held_cell c None (inr h) = absurd (cc)

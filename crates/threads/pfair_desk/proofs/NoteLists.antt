@@ -69,7 +69,7 @@ known_at ns p n e is known =
     (λ past. let none : slice_index_or (says ns).known p None ≡ None = get_or_past (says ns).known p None (omega (arith, length-map ns (λ (x : Note Logged). x.known))) in absurd (cc (none, known)))
     (cases_lt p (length ns))
 
--- a note list after one note was told what another of its cell knows: it knows no less
+-- a note list after one note learned what another of its cell knows: it knows no less
 pub more_told : (ns : List (Note Logged)) (p : ℕ) (n m : Note Logged) (theirs : Option Logged) → p < length ns → n ≡ slice_index_or ns p n → m.cell ≡ n.cell → m.known ≡ told n.known theirs
     → IfSome theirs (Agrees n.known) → KnowMore (says ns) (says (slice_set ns p m))
 more_told ns p n m None within is cell known agrees = rw (view_same ns p n m is cell known) (more_refl (says ns))

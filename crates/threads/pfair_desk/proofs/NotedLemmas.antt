@@ -1,4 +1,4 @@
--- What the notes know of what is held.
+-- What the notes know of the contents.
 use Rattle.std.proofs.Common.{◌≡◌, ⊎_elim, ℕ, ◌+◌, ◌-◌, ◌*◌, ◌<◌, ◌≤◌, List, length, Option, Some, None, slice_index_or, slice_set, replicate, refl, sym, ap, ◌∙◌, subst, arith, IfSome}
 use Rattle.std.proofs.lemmas.List.{get_or_past, length-set, get_or-set_same, get_or-set_other, length-replicate}
 use Rattle.std.proofs.lemmas.Grind.{get_or-set_at}
@@ -143,7 +143,7 @@ in_order_fresh m c processor x w shape is cells known row = rw is (record {
   noted = λ k n. tt;
 })
 
--- a merge of equal shapes wants memory only for a key at which nothing is held
+-- a merge of equal shapes allocates only for a key at which nothing is held
 pub holds_more : (x y : HeldRows) (f : MergeFault) → SameShape x y → IsMergeFaultOf x y f → HoldsMore x y
 holds_more x y OtherShape same is = absurd (is same)
 holds_more x y Memory same is = is.1

@@ -8,7 +8,7 @@ use Rattle.pfair_replica.specs.HeldRows.{IsShape}
 use Rattle.pfair_desk.specs.Boards.{place_of}
 use Rattle.pfair_desk.specs.Knowledge.{Knowledge}
 
--- what is held at a key is one entry, and the key's note knows it
+-- one entry is held at a key, and the key's note knows it
 abbrev pub IsNoted : Held Logged → Option Logged → Type 0
 IsNoted None known = Unit {0}
 IsNoted (Some (One e)) known = known ≡ Some e
@@ -18,7 +18,7 @@ IsNoted (Some Torn) known = ⊥
 abbrev pub RowNoted : Replica → List (Option Logged) → ℕ → Type 0
 RowNoted x known k = (n : ℕ) → IsNoted (x.at k n) (slice_index_or known (place_of x.capacity k n) None)
 
--- what is held is noted
+-- the contents are noted
 abbrev pub AllNoted : Replica → List (Option Logged) → Type 0
 AllNoted x known = (k : ℕ) → RowNoted x known k
 

@@ -14,7 +14,7 @@ pub enum PublishFault {
     /// Another entry stands at the desk's next number.
     #[error("number taken")]
     Taken {
-        /// The entry that stands there.
+        /// The existing entry.
         standing: Entry,
     },
     /// An allocation failed.

@@ -8,7 +8,7 @@ use Rattle.pfair_output.specs.Lags.{lag_rows}
 use Rattle.pfair_output.proofs.WorldFacts.{book_after}
 use Rattle.pfair_output.proofs.runs.add_all_lags.Given as goal
 
--- the book was told the slots so far, and the text has the rows after each
+-- the book was notified of the slots so far, and the text has the rows after each
 abbrev pub invariant-slots : goal.invariant-slots
 invariant-slots g l = record {
   is_open : IsOpen l.writer;
