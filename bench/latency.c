@@ -2,7 +2,7 @@
  * The time of each slot that a dispatcher plans, through the C library: latency PROCESSORS TASKS SLOTS|joins [RUNS]
  *
  * Tasks of load 0.94 that all arrive at slot 0 are planned from a fresh dispatcher, RUNS times (9 unless it says else), on one
- * processor of the machine where that can be had. The time of a slot is the least that it took in any run, in nanoseconds.
+ * processor of the machine if that can be had. The time of a slot is the least that it took in any run, in nanoseconds.
  * Writes the median, the times that 99 and 99.9 % of the slots after slot 0 don't pass, the greatest and its slot, and
  * the time of slot 0, which decides all arrivals.
  *

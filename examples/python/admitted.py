@@ -1,4 +1,4 @@
-"""Which share of random sets is schedulable, by what? Beside PD2, which admits a set exactly where its weights add to at most M: first-fit
+"""Which share of random sets is schedulable, by what? Beside PD2, which admits a set exactly if its weights add to at most M: first-fit
 partitioned EDF, and the test of Goossens, Funk and Baruah for global EDF. Draws the shares over the load into the file that is named."""
 import sys
 

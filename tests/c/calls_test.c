@@ -1,5 +1,5 @@
 /*
- * Each answer that the header names, at its bounds, and in the stated order where several apply; what must not be
+ * Each answer that the header names, at its bounds, and in the stated order if several apply; what must not be
  * written or changed; torn logs, fallen floors, and the contents. It counts what holds and prints what doesn't.
  */
 #include "checks.h"

@@ -1,5 +1,5 @@
 /*
- * What the tests of the C library share: checks that are counted, memory that is refused where a test wants it, and
+ * What the tests of the C library share: checks that are counted, allocations that fail if a test asks for it, and
  * entries. Link with -Wl,--wrap=malloc,--wrap=realloc,--wrap=free.
  */
 #ifndef CHECKS_H
@@ -29,7 +29,7 @@ static _Atomic long held, differ;
         CHECK(got_ == (wanted), "answered %" PRIu32, got_); \
     } while (0)
 
-/* ---- memory, refused where wanted */
+/* ---- allocations that fail on request */
 
 void *__real_malloc(size_t);
 void *__real_realloc(void *, size_t);

@@ -8,7 +8,7 @@
 
 enum { KEPT = 1000 };
 
-/* What all slots are where none is forgotten. */
+/* What all slots are if none is forgotten. */
 static uint64_t *all_told(uint64_t slots, uint64_t late_at) {
     struct pfair_dispatcher d = PFAIR_NONE;
     uint64_t *rows = __real_malloc(slots * sizeof *rows);

@@ -7,7 +7,7 @@
  */
 #include "full_set.h"
 
-/* What all slots are where no memory is taken ahead. Says how often the slots behind the first asked for some. */
+/* What all slots are without a reserve. Says how often the slots behind the first asked for some. */
 static uint64_t *without(uint64_t slots, uint64_t late_at) {
     struct pfair_dispatcher d = PFAIR_NONE;
     uint64_t *rows = __real_malloc(slots * sizeof *rows);
