@@ -17,7 +17,7 @@ pub struct PfairDecision {
 }
 
 /// Returns how many decisions the boundaries of the slots `from` to `to` - 1, none of which is
-/// forgotten, have, where they are planned; no more than fit into 64 bits. O(slots).
+/// forgotten, have, if they are planned; no more than fit into 64 bits. O(slots).
 pub fn count_decisions<R: Ready>(dispatcher: &Dispatcher<R>, from: u64, to: u64) -> u64
     requires { dispatcher.now.forgotten ≤ from }
     ensures { result ≡ min (length (decisions_of dispatcher.now.decided from to)) 18446744073709551615 }

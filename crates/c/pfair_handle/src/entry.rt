@@ -16,15 +16,15 @@ pub struct PfairEntry {
     pub floor: u64,
     /// What is announced: 0 nothing, 1 an arrival, 2 a departure, 3 a late release.
     pub kind: u64,
-    /// The stamp, where something is announced.
+    /// The stamp, if something is announced.
     pub at: u64,
-    /// The task, where something is announced.
+    /// The task, if something is announced.
     pub name: PfairName,
     /// Of an arrival: the quanta of each period.
     pub cost: u64,
     /// Of an arrival: the slots of a period.
     pub period: u64,
-    /// Of an arrival: 1 where subtasks may run early, else 0.
+    /// Of an arrival: 1 if subtasks may run early, else 0.
     pub early: u64,
     /// Of a late release: the first subtask that comes late.
     pub index: u64,

@@ -26,7 +26,7 @@ pub struct PfairLag {
     pub period: u64,
 }
 
-/// Returns how many lags the slots `from` to `to` - 1 have, where no slot is forgotten; no more
+/// Returns how many lags the slots `from` to `to` - 1 have, if no slot is forgotten; no more
 /// than fit into 64 bits. The cost is that of
 /// recording the slots 0 to `to` - 1 in a book.
 ///
@@ -55,7 +55,7 @@ pub fn count_lags<R: Ready>(
     Ok(count)
 }
 
-/// Writes the lags in the slots `from` to `to` - 1 over the first rows, where no slot is forgotten:
+/// Writes the lags in the slots `from` to `to` - 1 over the first rows, if no slot is forgotten:
 /// after each slot those of the tasks that stay, in the order of admission. O(rows), and the cost of
 /// recording the slots 0 to `to` - 1 in a book.
 ///

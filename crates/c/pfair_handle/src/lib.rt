@@ -51,7 +51,7 @@ pub use windows::{PfairWindow, window_row, write_windows};
 #[repr(C)]
 pub struct Handle {
     is_open: bool,
-    /// The dispatcher, where there is one.
+    /// The dispatcher, if there is one.
     pub owner: Owner,
     ghost open: { is_kept owner.kept ≡ is_open },
 }

@@ -17,7 +17,7 @@ pub struct PfairMember {
     pub cost: u64,
     /// The slots of a period.
     pub period: u64,
-    /// 1 where its subtasks may run early, else 0.
+    /// 1 if its subtasks may run early, else 0.
     pub early: u64,
     /// The slot in which it joined.
     pub joined: u64,
@@ -25,9 +25,9 @@ pub struct PfairMember {
     pub next: u64,
     /// The offset of that subtask's window: the joining slot, and the late releases up to it.
     pub theta: u64,
-    /// 1 where it is departing, else 0.
+    /// 1 if it is departing, else 0.
     pub is_departing: u64,
-    /// The slot from which its weight and its name are free, where it is departing, else 0.
+    /// The slot from which its weight and its name are free, if it is departing, else 0.
     pub freed_at: u64,
 }
 

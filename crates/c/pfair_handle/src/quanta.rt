@@ -22,7 +22,7 @@ pub struct PfairQuantum {
     pub index: u64,
 }
 
-/// Returns how many quanta the slots `from` to `to` - 1, none of which is forgotten, have, where
+/// Returns how many quanta the slots `from` to `to` - 1, none of which is forgotten, have, if
 /// they are planned. O(slots).
 pub fn count_quanta<R: Ready>(dispatcher: &Dispatcher<R>, from: u64, to: u64) -> u64
     requires standing { dispatcher.now.forgotten ≤ from }
@@ -97,7 +97,7 @@ fn write_rows(slot: u64, table: &[Pick], places: &[u8], rows: &mut [PfairQuantum
     }
 }
 
-// The place of a table's row, where it has one.
+// The place of a table's row, if it has one.
 fn row_place(places: &[u8], row: usize) -> Option<u8>
     ensures { result ≡ slice_get places.now row }
 {

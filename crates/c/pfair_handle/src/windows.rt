@@ -12,7 +12,7 @@ pub struct PfairWindow {
     pub release: u64,
     /// The slot before which it closes.
     pub deadline: u64,
-    /// 1 where it reaches into the window of the next subtask, else 0.
+    /// 1 if it reaches into the window of the next subtask, else 0.
     pub b_bit: u64,
     /// The group deadline, 0 for a light weight.
     pub group_deadline: u64,

@@ -110,7 +110,7 @@ impl Incarnation {
         self.stepper.index()
     }
 
-    /// Returns the slot from which its weight and its name are free, where it is departing.
+    /// Returns the slot from which its weight and its name are free, if it is departing.
     pub fn freed_at(&self) -> Option<u64>
         ensures value { result ≡ self.now.freed_at }
         ensures member { IsMember self.now }
@@ -137,7 +137,7 @@ impl Incarnation {
     }
 
     /// Returns the slot from which subtask `index` may run, once the one before it has run: its
-    /// release, or, for an early task, the joining slot where the subtask doesn't start a job and
+    /// release, or, for an early task, the joining slot if the subtask doesn't start a job and
     /// no accepted delay has exactly its index. It goes through the accepted delays, twice at most.
     pub fn eligible(&self, index: u64) -> u64
         requires first { 1 ≤ index }
@@ -176,7 +176,7 @@ impl Incarnation {
     }
 
     /// It departs at `slot`, unless that is refused. Its weight and its name are free from that
-    /// slot on where it never ran, and else from the later of that slot and the one in which the
+    /// slot on if it never ran, else from the later of that slot and the one in which the
     /// claim of its last subtask ends.
     pub(crate) fn depart(&mut self, slot: u64) -> Decision
         ensures decision { result ≡ departure slot (Some self.old) }
@@ -211,7 +211,7 @@ impl Incarnation {
     }
 
     // Whether subtask `index`, which is the next one or a later one, is released before `slot`. Its
-    // offset is at least that of the next one; only where the next one's would not do are the
+    // offset is at least that of the next one; only if the next one's would not do are the
     // accepted delays gone through.
     fn is_released_before(&self, slot: u64, index: u64) -> bool
         requires later { self.now.next ≤ index }

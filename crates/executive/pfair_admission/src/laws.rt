@@ -6,12 +6,12 @@ ghost use Rattle.pfair_admission.specs.Laws.{NamesStayApart, MembersKeepRoom, Re
 
 use crate::members::Members;
 
-/// Where a name stands once among the members, it does so after each boundary and each quantum.
+/// If a name stands once among the members, it does so after each boundary and each quantum.
 pub fn names_stay_apart()
     ensures { NamesStayApart }
 {}
 
-/// Where the members' weights add to no more than the processors, they do so after each boundary
+/// If the members' weights add to no more than the processors, they do so after each boundary
 /// and each quantum.
 pub fn members_keep_room()
     ensures { MembersKeepRoom }
@@ -44,7 +44,7 @@ pub fn leavers_hold_their_claim()
     ensures { LeaversHoldTheirClaim }
 {}
 
-/// A subtask may run before its release only where the task is early, the subtask doesn't start a
+/// A subtask may run before its release only if the task is early, the subtask doesn't start a
 /// job, and no accepted delay has exactly its index. No subtask may run before its task has joined.
 pub fn early_release_keeps_borders()
     ensures { EarlyReleaseKeepsBorders }

@@ -81,11 +81,11 @@ impl LagBook {
     }
 
     /// Enters a task, after all others, and answers true. Its lag is counted from the slots that
-    /// are recorded from now on. Where a task of that name is there, the answer is false, nothing
+    /// are recorded from now on. If the name is in use, the answer is false, nothing
     /// changes and no memory is taken.
     ///
     /// # Errors
-    /// `AllocError` where a growth was refused. Nothing has changed then.
+    /// `AllocError` if an allocation fails. Nothing has changed then.
     pub fn enter(&mut self, name: TaskName, weight: Weight) -> Result<bool, AllocError>
         ensures answer { IfOk result (λ new. new ≡ not (is_some (tally_of name self.old))) }
         ensures there { IsTrue (is_some (tally_of name self.old)) → result ≡ Ok false }
@@ -136,7 +136,7 @@ impl LagBook {
 
     /// Returns the lag of a task, as a numerator over its period p: `e * t - p * A`, where e is its
     /// cost, t the number of slots recorded since it was entered, and A the number of those of them
-    /// in which it ran. `None` where it isn't there.
+    /// in which it ran. `None` if it isn't there.
     pub fn lag(&self, name: &TaskName) -> Option<(i64, u64)>
         ensures { result ≡ option_map lag_of (tally_of name.now self.now) }
     {
@@ -145,7 +145,7 @@ impl LagBook {
     }
 
     /// Returns the name at a place, counted from 0, in order of entering, and that task's lag, as
-    /// [`LagBook::lag`]. `None` exactly where there are no more than `place` tasks. It costs the
+    /// [`LagBook::lag`]. `None` exactly if there are no more than `place` tasks. It costs the
     /// same whatever is entered: no name is looked up.
     pub fn row_at(&self, place: usize) -> Option<(&TaskName, (i64, u64))>
         ensures name { option_map (λ row. row.0.now) result ≡ option_map (λ e. e.0) (slice_get self.now.entered place) }

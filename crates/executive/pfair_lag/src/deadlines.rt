@@ -14,7 +14,7 @@ use crate::windows::Miss;
 use pfair_weight::{Weight, deadline};
 
 /// Returns the first subtask that is late: ran at its deadline or later, or did not run though its
-/// deadline is at most the horizon. `None` exactly where none is late. It is never [`Miss::Early`].
+/// deadline is at most the horizon. `None` exactly if none is late. It is never [`Miss::Early`].
 ///
 /// `picks` are the slots in which the task ran, the i-th of them that of subtask i. The horizon is
 /// at most [`MAX_HORIZON`]. It allocates nothing.
@@ -44,7 +44,7 @@ pub fn first_late(weight: Weight, picks: &[u64], horizon: u64) -> Result<Option<
 }
 
 /// Returns whether each subtask that ran did so before its deadline, and each whose deadline is at
-/// most the horizon ran. This is so exactly where the lag stays below 1 up to the horizon (ERfair,
+/// most the horizon ran. This is so exactly if the lag stays below 1 up to the horizon (ERfair,
 /// Anderson and Srinivasan).
 ///
 /// `picks` are the slots in which the task ran, the i-th of them that of subtask i. The horizon is

@@ -10,7 +10,7 @@ use crate::fault::{PickFault, check_picks};
 use pfair_weight::Weight;
 
 /// Returns whether the lag stays strictly between -1 and 1 at each time from 0 to the horizon. This
-/// is so exactly where each subtask runs in its window (Baruah, Cohen, Plaxton and Varvel 1996).
+/// is so exactly if each subtask runs in its window (Baruah, Cohen, Plaxton and Varvel 1996).
 ///
 /// `picks` are the slots in which the task ran, the i-th of them that of subtask i. The horizon is
 /// at most [`MAX_HORIZON`]. O(horizon); it allocates nothing.
@@ -39,7 +39,7 @@ pub fn lag_within(weight: Weight, picks: &[u64], horizon: u64) -> Result<bool, P
 }
 
 /// Returns whether the lag stays below 1 at each time from 0 to the horizon. This is so exactly
-/// where each subtask runs before its deadline (ERfair, Anderson and Srinivasan).
+/// if each subtask runs before its deadline (ERfair, Anderson and Srinivasan).
 ///
 /// `picks` are the slots in which the task ran, the i-th of them that of subtask i. The horizon is
 /// at most [`MAX_HORIZON`]. O(horizon); it allocates nothing.

@@ -8,14 +8,14 @@ ghost use Rattle.pfair_lag.specs.Runs.{CountsSinceEntering};
 
 use crate::MAX_HORIZON;
 
-/// The lag stays strictly between -1 and 1 up to a horizon exactly where each subtask that ran did
+/// The lag stays strictly between -1 and 1 up to a horizon exactly if each subtask that ran did
 /// so in its window, and each whose deadline is at most the horizon ran (Baruah, Cohen, Plaxton and
 /// Varvel 1996).
 pub fn lags_keep_windows()
     ensures { LagsKeepWindows }
 {}
 
-/// The lag stays below 1 up to a horizon exactly where each subtask that ran did so before its
+/// The lag stays below 1 up to a horizon exactly if each subtask that ran did so before its
 /// deadline, and each whose deadline is at most the horizon ran (ERfair, Anderson and Srinivasan).
 pub fn lags_keep_deadlines()
     ensures { LagsKeepDeadlines }
@@ -38,7 +38,7 @@ pub fn first_late_are_one()
 {}
 
 /// After any calls the lag of a task goes by the slots recorded since it was last entered, and by
-/// those of them whose list names it. It goes by no earlier slot, also where the task was there
+/// those of them whose list names it. It goes by no earlier slot, also if the task was there
 /// before and left.
 #[tactic(auto, using(crate::proofs::RunLemmas::counts_since_entering))]
 pub fn lags_count_since_entering()

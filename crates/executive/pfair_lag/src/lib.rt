@@ -3,10 +3,10 @@
 //! The lag of a task at time t is what its weight's share of the t slots before exceeds the quanta
 //! that it got in them: `(e/p) * t - A(t)` for a weight of cost e and period p. It is kept as the
 //! numerator `e * t - p * A(t)` over p. A schedule is proportionate-fair (Pfair) for a task if its
-//! lag stays strictly between -1 and 1 at all times, and it is so exactly where each subtask runs
-//! in its window (Baruah, Cohen, Plaxton and Varvel 1996). Where tasks may run ahead of their
+//! lag stays strictly between -1 and 1 at all times, and it is so exactly if each subtask runs
+//! in its window (Baruah, Cohen, Plaxton and Varvel 1996). If tasks may run ahead of their
 //! windows (early release, ERfair; Anderson and Srinivasan) the lag need only stay below 1, which
-//! it does exactly where each subtask runs before its deadline. Both are tested here in both forms,
+//! it does exactly if each subtask runs before its deadline. Both are tested here in both forms,
 //! for any schedule.
 #![tactic(auto)]
 

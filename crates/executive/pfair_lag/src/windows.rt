@@ -37,7 +37,7 @@ pub enum Miss {
 }
 
 /// Returns the first subtask that is out of its window: ran early or late, or did not run though its
-/// deadline is at most the horizon. `None` exactly where all are in their windows.
+/// deadline is at most the horizon. `None` exactly if all are in their windows.
 ///
 /// `picks` are the slots in which the task ran, the i-th of them that of subtask i. The horizon is
 /// at most [`MAX_HORIZON`]. It allocates nothing.
@@ -70,7 +70,7 @@ pub fn first_miss(weight: Weight, picks: &[u64], horizon: u64) -> Result<Option<
 }
 
 /// Returns whether each subtask that ran did so in its window, and each whose deadline is at most the
-/// horizon ran. This is so exactly where the lag stays strictly between -1 and 1 up to the horizon
+/// horizon ran. This is so exactly if the lag stays strictly between -1 and 1 up to the horizon
 /// (Baruah, Cohen, Plaxton and Varvel 1996).
 ///
 /// `picks` are the slots in which the task ran, the i-th of them that of subtask i. The horizon is

@@ -29,7 +29,7 @@ impl Buckets {
         Buckets { ends }
     }
 
-    /// The place of a task in the table, whose rows have these places. It costs the rows only where
+    /// The place of a task in the table, whose rows have these places. It costs the rows only if
     /// two tasks of the table fall into its bucket.
     pub(crate) fn place(&self, table: &[Pick], places: &[u8], name: &TaskName) -> Option<u8>
         requires of { AreBucketsOf table.now self.now.ends }

@@ -33,7 +33,7 @@ pub fn tables_are_ordered()
     ensures { TablesAreOrdered }
 {}
 
-/// The headline: two dispatchers of equal settings, after any events, where what they hold agrees:
+/// The headline: two dispatchers of equal settings, after any events, if what they hold agrees:
 /// a slot that both have planned has one table and the same decisions.
 pub fn one_schedule()
     ensures { OneSchedule }
@@ -69,7 +69,7 @@ pub fn places_follow_tables()
     ensures { PlacesFollowTables }
 {}
 
-/// The headline, of places: two dispatchers of equal settings, after any events, where what they
+/// The headline, of places: two dispatchers of equal settings, after any events, if what they
 /// hold agrees: a slot that both have planned has the same places.
 pub fn one_placing()
     ensures { OnePlacing }

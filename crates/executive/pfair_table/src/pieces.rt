@@ -29,7 +29,7 @@ struct GivenBack<T: Drop> {
 }
 
 /// A list that is kept in pieces of 1,024 elements. An element stays where it was put: a push copies
-/// nothing of what stands, but now and then the list of pieces, where these are more than 1,024.
+/// nothing of what stands, but now and then the list of pieces, if these are more than 1,024.
 ///
 /// The elements below an index can be forgotten. The memory of a full piece is given back as soon as
 /// all its elements are; each of the others keeps its index.
@@ -42,7 +42,7 @@ pub(crate) struct Pieces<T: Drop> {
     gone: Vec<GivenBack<T>>,
     full: VecDeque<Vec<T>>,
     current: Vec<T>,
-    // pieces that are taken where one is full, each with room
+    // pieces that are taken when one is full, each with room
     spare: Vec<Vec<T>>,
 }
 
@@ -87,7 +87,7 @@ impl<T: Drop> Pieces<T> {
         self.forgotten
     }
 
-    /// The element at an index, or none where that is forgotten.
+    /// The element at an index, or none if that is forgotten.
     pub(crate) fn get(&self, index: usize) -> Option<&T>
         ensures value { self.now.forgotten ≤ index → option_copied result ≡ slice_get self.now.items index }
         ensures forgotten { index < self.now.forgotten → result ≡ None }
@@ -103,7 +103,7 @@ impl<T: Drop> Pieces<T> {
         }
     }
 
-    /// The last element, also where it is forgotten.
+    /// The last element, also if it is forgotten.
     pub(crate) fn last(&self) -> Option<&T>
         ensures { option_copied result ≡ slice_get self.now.items (length self.now.items - 1) }
     {
@@ -137,7 +137,7 @@ impl<T: Drop> Pieces<T> {
         }
     }
 
-    /// Takes room for so many further elements, so that pushing them takes no memory where they are
+    /// Takes room for so many further elements, so that pushing them allocates nothing if they are
     /// no more than a list of 1,024 pieces has.
     ///
     /// # Errors
@@ -150,7 +150,7 @@ impl<T: Drop> Pieces<T> {
         add_pieces(self.alloc, &mut self.spare, more / PIECE + 1)
     }
 
-    /// Forgets the elements below an index, or all where there are fewer. What was forgotten stays
+    /// Forgets the elements below an index, or all if there are fewer. What was forgotten stays
     /// forgotten.
     pub(crate) fn forget(&mut self, below: usize)
         ensures items { self.new.items ≡ self.old.items }

@@ -16,7 +16,7 @@ use std::alloc::AllocError;
 // The most rows of a table that are gone through for each task: with more, buckets cost less.
 const FEW_ROWS: usize = 4;
 
-/// The places of a table, where the one before it has those places. They use the room of a list, and
+/// The places of a table, if the one before it has those places. They use the room of a list, and
 /// what the rows keep that of another one, which is kept.
 pub(crate) fn places_beside(
     before: &[Pick],
@@ -53,7 +53,7 @@ fn keep_places(
     }
 }
 
-// The same, where each task is looked for in all rows of a short table.
+// The same, by a search through all rows of a short table.
 fn keep_by_rows(
     before: &[Pick],
     places: &[u8],
@@ -69,7 +69,7 @@ fn keep_by_rows(
     Ok(())
 }
 
-// The same, where the rows of a table are found by their buckets.
+// The same, by the buckets of a table's rows.
 fn keep_by_buckets(
     before: &[Pick],
     places: &[u8],

@@ -116,14 +116,14 @@ impl Planned {
         self.slots.forgotten()
     }
 
-    /// Forgets the slots below one, or all where there are fewer.
+    /// Forgets the slots below one, or all if there are fewer.
     pub(crate) fn forget(&mut self, below: usize)
         ensures { self.new ≡ record self.old { forgotten = max self.old.forgotten (min below (length self.old.tables)) } }
     {
         self.slots.forget(below);
     }
 
-    /// The table of a slot, or none where that is forgotten.
+    /// The table of a slot, or none if that is forgotten.
     pub(crate) fn table(&self, slot: usize) -> Option<&[Pick]>
         ensures value { self.now.forgotten ≤ slot → option_map (λ rows. rows.now) result ≡ slice_get self.now.tables slot }
         ensures forgotten { slot < self.now.forgotten → result ≡ None }
@@ -132,7 +132,7 @@ impl Planned {
         Some(&planned.plan.table)
     }
 
-    /// The places of a slot, or none where that is forgotten.
+    /// The places of a slot, or none if that is forgotten.
     pub(crate) fn places(&self, slot: usize) -> Option<&[u8]>
         ensures value { self.now.forgotten ≤ slot → option_map (λ places. places.now) result ≡ slice_get (places_of self.now.tables) slot }
         ensures forgotten { slot < self.now.forgotten → result ≡ None }
@@ -141,7 +141,7 @@ impl Planned {
         Some(&planned.places)
     }
 
-    /// The decisions at the boundary of a slot, or none where that is forgotten.
+    /// The decisions at the boundary of a slot, or none if that is forgotten.
     pub(crate) fn decided(&self, slot: usize) -> Option<&[Decided]>
         ensures value { self.now.forgotten ≤ slot → option_map (λ rows. rows.now) result ≡ slice_get self.now.decided slot }
         ensures forgotten { slot < self.now.forgotten → result ≡ None }
@@ -150,7 +150,7 @@ impl Planned {
         Some(&planned.plan.decided)
     }
 
-    /// The table of the last slot and its places, also where it is forgotten, or no rows where nothing
+    /// The table of the last slot and its places, also if it is forgotten, or no rows if nothing
     /// is planned.
     pub(crate) fn last(&self) -> (&[Pick], &[u8])
         ensures table { result.0.now ≡ last_or [] self.now.tables }

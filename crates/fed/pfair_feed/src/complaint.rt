@@ -39,7 +39,7 @@ pub fn tell_refused<E: Write>(complaints: &mut E, fault: &ProgramFault, line: &[
 /// entry that would settle more, in order of processors. It allocates nothing.
 ///
 /// # Errors
-/// [`WriteFailed`] where the writer answered an error, or took nothing; it has then a prefix of the
+/// [`WriteFailed`] if the writer answered an error, or took nothing; it has then a prefix of the
 /// lines.
 pub fn tell_missing<R: Ready, E: Write>(
     follower: &Follower<R>,

@@ -27,7 +27,7 @@ use std::io::Write;
 use std::marker::Model;
 
 /// A dispatcher that is fed one entry after another, and writes the rows of each slot as soon as
-/// what it holds settles it. What was written is forgotten, but where the rows are lags.
+/// what it holds settles it. What was written is forgotten, unless the rows are lags.
 #[derive(Drop)]
 pub struct Follower<R: Ready> {
     alloc: Global,
@@ -84,7 +84,7 @@ impl<R: Ready> Follower<R> {
     ///
     /// # Errors
     /// [`ProgramFault::Memory`] if an allocation fails, and nothing is then written;
-    /// [`ProgramFault::WriteFailed`] where the writer failed, and has then a part of the line.
+    /// [`ProgramFault::WriteFailed`] if the writer failed, and has then a part of the line.
     pub fn write_header<W: Write>(&self, writer: &mut W) -> Result<(), ProgramFault>
         ensures written { OnOk result (Appends (W.contents writer.old) (W.contents writer.new) (line (header_of self.now.output))) }
         ensures cut { IsErrOf result WriteFailed → TakesPrefix (W.contents writer.old) (W.contents writer.new) (line (header_of self.now.output)) }
@@ -192,7 +192,7 @@ impl<R: Ready> Follower<R> {
         }
     }
 
-    /// Returns the dispatcher: what it holds and has planned. Where the rows aren't lags it tells
+    /// Returns the dispatcher: what it holds and has planned. If the rows aren't lags it tells
     /// nothing of slots whose rows are written.
     pub fn dispatcher(&self) -> &Dispatcher<R>
         ensures { result.now ≡ self.now.dispatch }
@@ -208,9 +208,9 @@ impl<R: Ready> Follower<R> {
     }
 
     /// Returns the number of the entry that would settle more of the log of a processor: the one
-    /// right behind the log's sound beginning, where its last floor is below the number of slots
-    /// and nothing is held there. `None` where the log settles all slots, where the entry behind
-    /// its beginning is held but its floor fell, where the log has no room for one more, and where
+    /// right behind the log's sound beginning, if its last floor is below the number of slots
+    /// and nothing is held there. `None` if the log settles all slots, if the entry behind
+    /// its beginning is held but its floor fell, if the log has no room for one more, and if
     /// there is no such processor. One look-up.
     pub fn missing(&self, proc: u8) -> Option<u32>
         ensures value { result ≡ missing_of self.now.dispatch.settings (replica_of self.now.dispatch.held) proc }
@@ -226,7 +226,7 @@ impl<R: Ready> Follower<R> {
         if is_wanted { Some(number) } else { None }
     }
 
-    /// States the law of two followers, whatever was called on either: where their settings and
+    /// States the law of two followers, whatever was called on either: if their settings and
     /// outputs are equal and what they hold agrees, what one has planned has rows that begin those
     /// of the other, from any slot on. It does nothing.
     pub fn tells_alike<Q: Ready>(&self, other: &Follower<Q>)

@@ -71,7 +71,7 @@ pub fn fed_entries_give_their_text()
 }
 
 /// Of what two followers have written that were new, of equal settings and outputs, and that tell
-/// slots from the same one on, one begins the other, where what they were fed agrees: whatever was
+/// slots from the same one on, one begins the other, if what they were fed agrees: whatever was
 /// lost, repeated or out of order.
 pub fn runs_write_alike()
     ensures { RunsWriteAlike }

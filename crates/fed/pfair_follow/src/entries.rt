@@ -19,7 +19,7 @@ use std::io::{Read, Write};
 ///
 /// # Errors
 /// Those of [`read_script`], and [`ProgramFault::Memory`] if an allocation fails: nothing has then
-/// been written. [`ProgramFault::WriteFailed`] where the writer
+/// been written. [`ProgramFault::WriteFailed`] if the writer
 /// answered an error, or took nothing; a prefix of the text has then gone out.
 pub fn entries<R: Read, W: Write>(
     alloc: Global,

@@ -7,7 +7,7 @@ use crate::exact::Exact;
 use crate::join::Join;
 use std::alloc::AllocError;
 
-/// A content, or `Torn` where two different contents met.
+/// A content, or `Torn` if two different contents met.
 ///
 /// Contents that are equal join to themselves, contents that differ to `Torn`, and whatever joins
 /// with `Torn` is `Torn`. Neither a join nor a copy allocates.

@@ -18,8 +18,8 @@ use std::marker::Model;
 /// depth.
 ///
 /// A key is in the map or isn't, whatever its value: a key with an empty inner map is a key. One
-/// map is below another where each of its keys is a key of the other, with a value below the one
-/// there. A join has the keys of both sides: where one side has the key, its value, and where both
+/// map is below another if each of its keys is a key of the other, with a value below the one
+/// there. A join has the keys of both sides: if one side has the key, its value, and if both
 /// have it, the join of their values.
 #[derive(Drop)]
 pub struct JoinMap<K: Exact + Ord, V: Join> {
@@ -54,14 +54,14 @@ impl<K: Exact + Ord, V: Join> JoinMap<K, V> {
         self.map.len()
     }
 
-    /// Returns the value at `key`, or `None` where the map lacks the key.
+    /// Returns the value at `key`, or `None` if the map lacks the key.
     pub fn get(&self, key: &K) -> Option<&V>
         ensures { option_copied result ≡ get K.cmp self.now key.now }
     {
         self.map.get(key)
     }
 
-    /// Returns the value at `key`, to be changed in place, or `None` where the map lacks the key.
+    /// Returns the value at `key`, to be changed in place, or `None` if the map lacks the key.
     ///
     /// When the borrow ends the map holds at `key` what was left there last, and all else as
     /// before.
@@ -73,12 +73,12 @@ impl<K: Exact + Ord, V: Join> JoinMap<K, V> {
         self.map.get_mut(key)
     }
 
-    /// Joins `value` in at `key`: a copy of it where the map lacks the key, else the join of what
+    /// Joins `value` in at `key`: a copy of it if the map lacks the key, else the join of what
     /// stands there with it.
     ///
     /// # Errors
     /// Returns [`AllocError`] if an allocation fails: never if the map has the key and its
-    /// values take no memory, and never where what stands there is above `value` already, or has a
+    /// values allocate nothing, and never if what stands there is above `value` already, or has a
     /// place for all of it. Then a missing key is still missing, at a key that is there a part of
     /// `value` may be joined in, and every other key holds what it held. The same call again gives
     /// the same join.

@@ -43,7 +43,7 @@ pub fn join_again_changes_nothing<J: Join>()
     ensures { IsAbsorbing J.joins }
 {}
 
-/// One value is below another exactly where their join is the other.
+/// One value is below another exactly if their join is the other.
 pub fn le_is_the_order_of_join<J: Join>()
     ensures { IsOrderOfJoin J.below J.joins }
 {}
@@ -59,7 +59,7 @@ pub fn map_is_known_by_its_keys<K: Exact + Ord, V: Join>()
     ensures { IsKnownByKeys K.cmp V }
 {}
 
-/// One map is below another exactly where at every key what it holds is below what the other holds
+/// One map is below another exactly if at every key what it holds is below what the other holds
 /// there.
 pub fn maps_compare_key_by_key<K: Exact + Ord, V: Join>()
     ensures { IsComparedByKeys K.cmp V.below }

@@ -15,7 +15,7 @@ pub fn comparison_is_the_order()
     ensures equal { (k l : Key) → (⟦<crate::Key as Ord>⟧.cmp k l ≡ Equal) ↔ (k ≡ l) }
 {}
 
-/// What `==` computes of two keys is true exactly where all four fields are equal.
+/// What `==` computes of two keys is true exactly if all four fields are equal.
 pub fn equality_is_of_all_fields()
     ensures { (k l : Key) → (⟦<crate::Key as PartialEq>⟧.eq k l ≡ true) ↔ (k ≡ l) }
 {}
@@ -74,7 +74,7 @@ pub fn first_keys_rise()
         EachOnce pd2_cmp keys → AllPairs GoesBefore (first_by_rank pd2_cmp m keys) }
 {}
 
-/// No two of the first m keys have one name, where no two of the keys have one.
+/// No two of the first m keys have one name, if no two of the keys have one.
 #[tactic(auto, using(crate::proofs::NamesApart::first_names))]
 pub fn first_keys_have_different_names()
     ensures { (m : ℕ) (keys : List Key) → NamesApart (λ k. k.name) keys →

@@ -24,14 +24,14 @@ use std::cmp::Ordering;
 
 /// What the PD2 order looks at in a subtask. The lesser key goes first.
 ///
-/// Two keys are equal where all four fields are. The comparison is a strict total order on all
+/// Two keys are equal if all four fields are. The comparison is a strict total order on all
 /// values of the fields, also on those that no subtask has.
 #[derive(Clone, Copy, PartialEq, Eq, Debug)]
 pub struct Key {
     /// The deadline: the slot before which the window of the subtask closes. The smaller one goes
     /// first.
     pub d: u64,
-    /// The b-bit: 1 where the window reaches into that of the next subtask, else 0. At equal
+    /// The b-bit: 1 if the window reaches into that of the next subtask, else 0. At equal
     /// deadlines the greater one goes first.
     pub b: u64,
     /// The group deadline: the slot at which a cascade ends, a run of windows in which a quantum in
@@ -71,7 +71,7 @@ impl Key {
         }
     }
 
-    // The group deadline where the order looks at it, and 0 elsewhere.
+    // The group deadline if the order looks at it, else 0.
     fn tie_group(&self) -> u64
         ensures { result ≡ tie_group_of self.now }
     {
@@ -88,7 +88,7 @@ impl Ord for Key {
 
     ghost matches_eq = { Prim.search (comparing, rules) depth 9 };
 
-    /// `Less` exactly where this key goes before the other in the PD2 order, and `Equal` exactly
+    /// `Less` exactly if this key goes before the other in the PD2 order, and `Equal` exactly
     /// for equal keys.
     fn cmp(&self, other: &Key) -> Ordering
         ensures value { result ≡ pd2_cmp self.now other.now }

@@ -16,7 +16,7 @@ use std::alloc::{AllocError, Global};
 pub(crate) struct Beginning {
     /// How many entries it has.
     pub count: u32,
-    /// Its last floor, or 0 where it is empty.
+    /// Its last floor, or 0 if it is empty.
     pub mark: u64,
 }
 
@@ -30,7 +30,7 @@ impl Beginning {
 pub(crate) struct Counters {
     /// By processors.
     pub beginnings: Vec<Beginning>,
-    /// `None` where nothing is torn.
+    /// `None` if nothing is torn.
     pub torn: Option<EntryKey>,
 }
 
@@ -58,7 +58,7 @@ impl Counters {
     }
 
     /// Follows the rows after something came at one key: carries the sound beginning on over all
-    /// that is held behind it, or takes it back to before the key where that is torn in it.
+    /// that is held behind it, or takes it back to before the key if that is torn in it.
     pub fn follow_entry(&mut self, rows: &Rows, capacity: u32, processor: u8, number: u32)
         requires row { processor < length self.old.beginnings.items }
         requires before { WereBefore capacity processor number (held_in rows.now) self.old.beginnings.items self.old.torn }
@@ -81,7 +81,7 @@ impl Counters {
         ensures so_many { length self.new.beginnings.items ≡ length self.old.beginnings.items }
     {
         for processor in 0..processors {
-            // where the other holds nothing the row is as it was
+            // if the other holds nothing, the row is as it was
             if holds_nothing(other, processor) {
                 continue;
             }

@@ -10,7 +10,7 @@ pub type EntryKey = (u8, u32);
 pub struct Faults {
     /// The keys at which two contents met.
     pub torn: Vec<EntryKey>,
-    /// For each processor the entry right after its sound beginning, where that is one entry with a
+    /// For each processor the entry right after its sound beginning, if that is one entry with a
     /// lower floor.
     pub fallen: Vec<EntryKey>,
 }

@@ -19,7 +19,7 @@ pub fn known_by_held()
     ensures { IsKnownByHeld }
 {}
 
-/// The contents at each key after an entry was joined in, which changes nothing where the entry was
+/// The contents at each key after an entry was joined in, which changes nothing if the entry was
 /// held already, and after a merge.
 #[tactic(auto, using(crate::specs::HeldAfter::held_after))]
 pub fn held_after()
@@ -33,7 +33,7 @@ pub fn offered_stays()
     ensures { OfferedStays }
 {}
 
-/// Replicas agree exactly where neither has anything torn and no key has two entries.
+/// Replicas agree exactly if neither has anything torn and no key has two entries.
 pub fn agreement()
     ensures { IsAgreement }
 {}
@@ -80,7 +80,7 @@ pub fn say_the_same()
     ensures { SayTheSame }
 {}
 
-/// No key is listed as torn exactly where nothing is torn.
+/// No key is listed as torn exactly if nothing is torn.
 pub fn torn_test()
     ensures { IsTornTest }
 {}

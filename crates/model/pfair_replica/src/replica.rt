@@ -300,7 +300,7 @@ impl Replica {
         Ok(())
     }
 
-    // Adds the entry right after the sound beginning of a processor, where it has a lower floor.
+    // Adds the entry right after the sound beginning of a processor, if it has a lower floor.
     fn push_fallen(&self, processor: u8, fallen: &mut Vec<EntryKey>) -> Result<(), AllocError>
         ensures fallen { OnOk result (fallen.new.items ≡ fallen.old.items ++ fallen_in (replica_of self.now) processor) }
         ensures wanted { OnErr result (fallen_in (replica_of self.now) processor ≢ []) }

@@ -34,7 +34,7 @@ pub fn windows_meet()
     ensures { WindowsMeet }
 {}
 
-/// Slot s after the offset lies in the window of subtask i exactly where the weight's share of the
+/// Slot s after the offset lies in the window of subtask i exactly if the weight's share of the
 /// s + 1 slots up to its end is more than i - 1 quanta, and that of the s slots before it less
 /// than i quanta. This is what keeps a task's lag between -1 and 1 (Baruah, Cohen, Plaxton and
 /// Varvel, 1996).
@@ -59,7 +59,7 @@ pub fn jobs_fill_periods()
     ensures { JobsFillPeriods }
 {}
 
-/// `==` of names is true where their bytes are identical and nowhere else. By `cmp` a proper prefix
+/// `==` of names is true exactly if their bytes are identical. By `cmp` a proper prefix
 /// of a name goes before it, and else the first byte that differs decides.
 pub fn names_in_byte_order()
     ensures { NamesInByteOrder ⟦<TaskName as PartialEq>⟧.eq ⟦<TaskName as Ord>⟧.cmp }

@@ -47,7 +47,7 @@ impl NameFault {
 /// A task's name: 1 to [`TaskName::MAX_LEN`] bytes, a letter a-z and then letters a-z, digits and
 /// underscores.
 ///
-/// Names are equal exactly where their bytes are, and ordered by bytes, a proper prefix first.
+/// Names are equal exactly if their bytes are, and ordered by bytes, a proper prefix first.
 #[derive(Clone, Copy, Debug)]
 pub struct TaskName {
     // Zeros after the name, which has none.

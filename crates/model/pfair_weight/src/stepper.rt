@@ -23,7 +23,7 @@ pub(crate) enum Group {
 /// Stands at one subtask of a weight, at an offset, and goes from it to the next.
 ///
 /// Its readers give what the calls of [`crate::window`] give for the subtask and the offset where
-/// it stands. It divides only where it is made.
+/// it stands. It divides only when it is made.
 #[derive(Debug, Drop)]
 pub struct Stepper {
     weight: Weight,

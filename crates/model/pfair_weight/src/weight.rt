@@ -106,7 +106,7 @@ impl Weight {
     }
 
     /// Returns the weight in units of one quantum for each frame of `frame` slots, that is the
-    /// quanta of one frame. `None` exactly where the period doesn't divide the frame.
+    /// quanta of one frame. `None` exactly if the period doesn't divide the frame.
     pub fn units(self, frame: u64) -> Option<u64>
         ensures exact { SomeIff result (frame % self.period ≡ 0) (units_of self frame) }
         ensures within { IfSome result (λ units. units ≤ frame) }

@@ -41,7 +41,7 @@ pub fn deadline(weight: Weight, index: u64, theta: u64) -> u64
     theta + (index * weight.period()).div_ceil(weight.cost())
 }
 
-/// Returns the b-bit of subtask `index`: 1 where its window reaches into that of the next subtask,
+/// Returns the b-bit of subtask `index`: 1 if its window reaches into that of the next subtask,
 /// by one slot, else 0 (Anderson and Srinivasan). It is the same at each offset.
 pub fn b_bit(weight: Weight, index: u64) -> u64
     requires first { 1 ≤ index }

@@ -16,8 +16,8 @@ use std::io::{Read, Write};
 /// refusal. They stand in the order in which they are decided.
 ///
 /// The whole text is made before the first byte goes out; of the slots one at a time is held. No more
-/// than 67,108,864 bytes are taken from the reader, but where the file is too long or memory was
-/// wanting: one more may then be. The cost is that of reading the file, of running its script, and O(rows).
+/// than 67,108,864 bytes are taken from the reader, or one more if the file is too long or an
+/// allocation fails. The cost is that of reading the file, of running its script, and O(rows).
 ///
 /// # Errors
 /// Those of [`scheduled`](pfair_file::scheduled) if the file has no schedule, and

@@ -22,8 +22,8 @@ use std::thread::Threads;
 /// the entries that all publish on one board; each comes to the gate before each slot. The tables
 /// are the first one's, and their rows are made as they are planned, so that no table is kept. The
 /// whole run is made before the first byte goes out. No more than
-/// 67,108,864 bytes are taken from the reader, but where the file is too long or memory was
-/// wanting: one more may then be.
+/// 67,108,864 bytes are taken from the reader, or one more if the file is too long or an
+/// allocation fails.
 ///
 /// # Errors
 /// Those of [`scheduled`](pfair_file::scheduled) if the file has no schedule,

@@ -24,7 +24,7 @@ use std::io::Write;
 /// write. O(rows).
 ///
 /// # Errors
-/// [`ProgramFault::WriteFailed`] where the writer answered an error or took nothing; a prefix of
+/// [`ProgramFault::WriteFailed`] if the writer answered an error or took nothing; a prefix of
 /// the text has then gone out. [`ProgramFault::Memory`] if an allocation fails; nothing
 /// has then gone out.
 pub fn windows<W: Write>(

@@ -24,7 +24,7 @@ fn floor(rt: &impl Abort, floor: u64) -> Entry {
     Entry::new(floor, None).expect(rt, "an entry")
 }
 
-// The contents of these logs, where the last entry of the last one is torn.
+// The contents of these logs, with the last entry of the last one torn.
 fn assert_full(rt: &impl Abort, replica: &Replica) {
     for ninth in 0..7u8 {
         assert!(rt; replica.mark(ninth * 9) == 4095 && replica.missing(ninth * 9).is_none());

@@ -83,7 +83,7 @@ fn other_keys_and_shapes_are_refused(rt: HostRuntime) {
     refuses(&rt, &mut x, &mut y, &mut larger);
 }
 
-// Whether a replica holds an entry that the other one holds, and where they differ a torn one.
+// Whether a replica holds an entry that the other one holds, and if they differ a torn one.
 fn is_torn(rt: &impl Abort, x: &Replica) -> bool {
     let held = Some(Flat::One(floor(rt, 1)));
     x.get(0, 1) == held

@@ -18,7 +18,7 @@ pub(crate) struct Line<'a> {
     pub(crate) notice: Option<Notice<'a>>,
 }
 
-/// What a row says, where it says something.
+/// What a row says, if it says something.
 pub(crate) fn read_line(row: &[u8]) -> Option<Line<'_>>
     ensures { MatchOption result (SaysNothing row.now) (λ l. IsSayable l.processor l.number (logged l) × (row.now ≡ entry_row l.processor l.number (logged l))) }
 {
@@ -35,7 +35,7 @@ pub(crate) fn read_line(row: &[u8]) -> Option<Line<'_>>
     })
 }
 
-// What is announced, where something is.
+// What is announced, if something is.
 fn read_notice<'a>(fields: &Fields<'a>) -> Option<Option<Notice<'a>>>
     requires { HasNoComma fields.now.name.now }
     ensures { MatchOption result (NotesNothing fields.now) (λ n. Notes fields.now (option_map noticed n)) }

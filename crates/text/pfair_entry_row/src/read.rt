@@ -18,10 +18,10 @@ pub const LONGEST_ROW: usize = 256;
 /// The row is gone through a few times; no memory is taken.
 ///
 /// # Errors
-/// The first that applies: [`RowFault::NoRow`] where the fields can't be those of any entry,
-/// [`RowFault::Refused`] where a rule of entries refuses what they say,
-/// [`RowFault::NoSuchProcessor`] where the processor is past 255, and
-/// [`RowFault::NumberOutOfRange`] where the number doesn't fit into 32 bits.
+/// The first that applies: [`RowFault::NoRow`] if the fields can't be those of any entry,
+/// [`RowFault::Refused`] if a rule of entries refuses what they say,
+/// [`RowFault::NoSuchProcessor`] if the processor is past 255, and
+/// [`RowFault::NumberOutOfRange`] if the number doesn't fit into 32 bits.
 pub fn read_row(row: &[u8]) -> Result<(u8, u32, Entry), RowFault>
     ensures reading { IsReadingOf row.now result }
     ensures back { (processor number : ℕ) (e : Logged) → IsEntryAt processor number e → row.now ≡ entry_row processor number e → result ≡ Ok (processor, number, e) }

@@ -19,7 +19,7 @@ use std::alloc::{AllocError, Global};
 use toml::Table;
 
 /// Reads a task file: the settings and the logs of a run, each log closed by an entry whose floor
-/// is the number of slots, where its last floor is below that.
+/// is the number of slots, if its last floor is below that.
 ///
 /// # Errors
 /// The file's first fault: [`FileFault::NotToml`]; then, key by key in the order of [`Field`],
@@ -120,7 +120,7 @@ fn close_logs(logs: &mut Vec<Vec<Entry>>, slots: u64) -> Result<(), AllocError>
     Ok(())
 }
 
-// Adds the entry that closes a log, where its last floor is below the number of slots.
+// Adds the entry that closes a log, if its last floor is below the number of slots.
 fn close_log(log: &mut Vec<Entry>, slots: u64) -> Result<(), AllocError>
     requires { slots ≤ Settings.MAX_SLOTS }
     ensures { OnOk result (log.new.items ≡ closed slots log.old.items) }

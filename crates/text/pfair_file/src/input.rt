@@ -21,8 +21,8 @@ const PIECE: usize = 8192;
 /// whatever the reader gives. Takes time and memory in proportion to the bytes that come.
 ///
 /// # Errors
-/// [`ProgramFault::FileTooLong`] only where more than [`LONGEST_FILE`] bytes came,
-/// [`ProgramFault::ReadFailed`] where the reader answered an error, at once and whatever its kind, and
+/// [`ProgramFault::FileTooLong`] only if more than [`LONGEST_FILE`] bytes came,
+/// [`ProgramFault::ReadFailed`] if the reader answered an error, at once and whatever its kind, and
 /// [`ProgramFault::Memory`] if an allocation fails.
 pub(crate) fn read_bytes<R: Read>(alloc: Global, reader: &mut R) -> Result<Vec<u8>, ProgramFault>
     ensures short { IfOk result (λ bytes. length bytes.items ≤ 67108864) }

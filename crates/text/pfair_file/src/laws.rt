@@ -8,7 +8,7 @@ pub fn logs_are_in_file_order()
     ensures { LogsAreInFileOrder }
 {}
 
-/// The tables of a file have a fault exactly where one of them has it, after tables without one:
+/// The tables of a file have a fault exactly if one of them has it, after tables without one:
 /// what is reported is the fault of the first table that has one.
 pub fn first_table_is_at_fault()
     ensures { FirstTableIsAtFault }

@@ -26,7 +26,7 @@ pub struct Made {
     pub entry: Result<Entry, NoticeFault>,
 }
 
-/// Appends to the log of a processor the entry that a table makes, where it makes one.
+/// Appends to the log of a processor the entry that a table makes, if it makes one.
 pub fn append(
     log: &mut Vec<Entry>,
     processor: u8,

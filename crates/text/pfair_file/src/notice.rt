@@ -12,7 +12,7 @@ use crate::lookup::{find, natural_number, text};
 use pfair_entry::{Change, Notice};
 use toml::Table;
 
-/// Reads the announcement of a table, where it has a kind, or the first fault of its keys.
+/// Reads the announcement of a table, if it has a kind, or the first fault of its keys.
 pub fn read_notice(table: &Table, place: u64, version: u64) -> Result<Option<Notice<'_>>, FileFault>
     ensures { result_map_both (option_map noticed) (λ e. e) result ≡ notice_at version place (table_view table.now) }
 {

@@ -37,7 +37,7 @@ pub fn opened<P: Files>(rt: &P, file: &str) -> Result<P::File, ProgramFault>
 /// The cost is that of [`read_script`], and of [`Dispatcher::plan_next`] for each slot.
 ///
 /// # Errors
-/// As [`read_script`], and [`ProgramFault::Stalled`] with the frontier of the logs where it is
+/// As [`read_script`], and [`ProgramFault::Stalled`] with the frontier of the logs if it is
 /// below the number of slots.
 pub fn scheduled<R: Read>(
     alloc: Global,
@@ -56,8 +56,8 @@ pub fn scheduled<R: Read>(
 /// [`read_file`] costs for them.
 ///
 /// # Errors
-/// [`ProgramFault::ReadFailed`] where the reader answers an error, [`ProgramFault::FileTooLong`]
-/// where more than 67,108,864 bytes come, [`ProgramFault::File`] with the first fault of the file,
+/// [`ProgramFault::ReadFailed`] if the reader answers an error, [`ProgramFault::FileTooLong`]
+/// if more than 67,108,864 bytes come, [`ProgramFault::File`] with the first fault of the file,
 /// and [`ProgramFault::Memory`] if an allocation fails.
 pub fn read_script<R: Read>(alloc: Global, reader: &mut R) -> Result<Script, ProgramFault>
     ensures ok { IfOk result (λ s. IfSome (R.remaining reader.old) (λ bytes. script_of_file bytes ≡ Ok s)) }

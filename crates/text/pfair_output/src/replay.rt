@@ -159,7 +159,7 @@ fn add_placed_slot<R: Ready>(
     }
 }
 
-// The places of a slot, where it is planned.
+// The places of a slot, if it is planned.
 fn planned_places<R: Ready>(dispatcher: &Dispatcher<R>, slot: u64) -> &[u8]
     requires { dispatcher.now.forgotten ≤ slot }
     ensures { result.now ≡ places_at (places_of dispatcher.now.tables) slot }
@@ -171,7 +171,7 @@ fn planned_places<R: Ready>(dispatcher: &Dispatcher<R>, slot: u64) -> &[u8]
 }
 
 // Adds a row for each quantum of the tables, that of slot k at place k, which ends with its place
-// where it has one.
+// if it has one.
 fn add_all(
     writer: &mut Writer<Vec<u8>>,
     tables: &[Vec<Pick>],
@@ -188,7 +188,7 @@ fn add_all(
     Ok(())
 }
 
-// The places of a slot, where it has some.
+// The places of a slot, if it has some.
 fn slot_places(places: &[Vec<u8>], slot: usize) -> &[u8]
     ensures { result.now ≡ places_at (map (λ p. p.items) places.now) slot }
 {
@@ -199,7 +199,7 @@ fn slot_places(places: &[Vec<u8>], slot: usize) -> &[u8]
 }
 
 // Adds a row for each quantum of a slot's table: the slot, the number of the table's row, the task
-// and the index, and the row's place where it has one.
+// and the index, and the row's place if it has one.
 fn add_table(
     writer: &mut Writer<Vec<u8>>,
     slot: u64,
@@ -216,7 +216,7 @@ fn add_table(
     Ok(())
 }
 
-// The place of a table's row, where it has one.
+// The place of a table's row, if it has one.
 fn row_place(places: &[u8], row: usize) -> Option<u8>
     ensures { result ≡ slice_get places.now row }
 {

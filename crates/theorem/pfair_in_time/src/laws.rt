@@ -13,7 +13,7 @@ use pfair_table::laws::one_schedule;
 
 /// No admitted task misses. Whatever a replica holds, by the tables that follow from it the next
 /// subtask of each member that isn't departing is due after the end of each slot: in a frame of at
-/// least one slot, where each arrival that is said has a weight.
+/// least one slot, if each arrival that is said has a weight.
 pub fn none_misses()
     ensures { NoneMisses }
 {}
@@ -60,14 +60,14 @@ pub fn lags_stay_within_one()
     lags_keep_deadlines();
 }
 
-/// Where nothing is said but arrivals at slot 0, under names that differ and with periods that divide
-/// the frame: all are admitted exactly where in a frame they want no more quanta than its slots have on
+/// If nothing is said but arrivals at slot 0, under names that differ and with periods that divide
+/// the frame: all are admitted exactly if in a frame they want no more quanta than its slots have on
 /// all processors, and then each has by each of its deadlines the quanta that are due.
 pub fn served_where_there_is_room()
     ensures { ServedWhereThereIsRoom }
 {}
 
-/// And where they want more, no one serves them: by whatever tables, with no more rows in a slot than
+/// And if they need more, no one serves them: by whatever tables, with no more rows in a slot than
 /// there are processors, some task is late at one of its deadlines up to the end of the frame.
 pub fn none_serves_more()
     ensures { NoneServesMore }

@@ -7,7 +7,7 @@
 //!   is gone was freed, and no sooner than its claim allows. An accepted delay moves no subtask that
 //!   ran or is released.
 //! - **Slot by slot** (`proofs/Worlds.antt`, `proofs/Lines.antt`). The next index of a member rises
-//!   by one where a table names it. An incarnation goes back to each slot since it joined
+//!   by one if a table names it. An incarnation goes back to each slot since it joined
 //!   (`back_to`), and on to each later one unless it is freed by then (`on_to`).
 //! - **As a run** (`proofs/AsRun.antt`). A task is a name with its joining slot; its offsets are those
 //!   of the last slot that has it, and for what ran or is released they are what the planner saw

@@ -11,7 +11,7 @@ pub fn shares_fill_windows()
 {}
 
 /// The shares that two subtasks of one task have of a slot are the cost at most, and no three have
-/// a share of one slot. Where a b-bit is 1, the last share of that window and the first one of the
+/// a share of one slot. If a b-bit is 1, the last share of that window and the first one of the
 /// next are the cost together.
 pub fn shares_fit_slots()
     ensures { SharesFitSlots }
@@ -39,7 +39,7 @@ pub fn runs_never_miss()
     ensures { RunsNeverMiss }
 {}
 
-/// The same of the beginning of a run: where the slots below a number keep the premises, none
+/// The same of the beginning of a run: if the slots below a number keep the premises, none
 /// misses in them, whatever comes later. Offsets are those that stand at the end of the beginning.
 pub fn beginnings_never_miss()
     ensures { BeginningsNeverMiss }

@@ -7,7 +7,7 @@
 //!
 //! The proof counts. No counterexample is made smaller, and no subtask is displaced.
 //! - **The set** (`proofs/Reasons.antt`). Take the first subtask that misses, and go back slot by
-//!   slot. Where one of the set waits, the slot is full: all its rows come in (`full_rows` says that
+//!   slot. If one of the set waits, the slot is full: all its rows come in (`full_rows` says that
 //!   there is one on each processor, each before the one that waits). Else it is a hole: those rows
 //!   come in whose next subtask is in the set and is released by then (`hole_pick`). All ran in time
 //!   (`in_time`), none is due after the miss (`reason_due`), and the last slot is full (`full_last`).

@@ -162,7 +162,7 @@ impl Desk {
         }
     }
 
-    // Sets the cell of the next number where it is empty, takes what stands there then, and goes
+    // Sets the cell of the next number if it is empty, takes what stands there then, and goes
     // on to the number after it.
     fn put(&mut self, board: &Board, entry: Entry) -> Result<Entry, AllocError>
         requires own { IsDeskOf self.old board.now }
