@@ -23,7 +23,7 @@ change_as (suc (suc (suc n))) e = Some (Late e.index e.by)
 abbrev pub change_of : PfairEntry → Option Change
 change_of e = change_as e.kind e
 
--- the entry that C means, where it means one
+-- the entry that C means, if it means one
 abbrev pub logged_of : PfairEntry → Logged
 logged_of e = record { floor = e.floor; said = option_map (λ c. (e.at, announced (spelled e.name) c)) (change_of e) }
 
@@ -33,7 +33,7 @@ logged_of e = record { floor = e.floor; said = option_map (λ c. (e.at, announce
 abbrev pub IsInRange : PfairEntry → Type 0
 IsInRange e = (e.kind ≤ 3) × (e.kind ≡ 1 → e.early ≤ 1)
 
--- all bytes of the name are there, where the kind has one
+-- all bytes of the name are there, if the kind has one
 abbrev pub IsWhole : PfairEntry → Type 0
 IsWhole e = 1 ≤ e.kind → e.name.length ≤ 16
 

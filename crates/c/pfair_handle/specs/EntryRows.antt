@@ -7,7 +7,7 @@ use Rattle.pfair_entry.specs.declared.announcement.Announcement.TheVariants.{Arr
 use Rattle.pfair_handle.specs.Rows.{name_row}
 use Rattle.pfair_handle.specs.declared.entry.PfairEntry.{PfairEntry}
 
--- an entry that announces nothing, or this, with zeros where its kind has no such field
+-- an entry that announces nothing, or this, with zeros if its kind has no such field
 abbrev pub silent_row : ℕ → PfairEntry
 silent_row floor = record { floor = floor; kind = 0; at = 0; name = name_row []; cost = 0; period = 0; early = 0; index = 0; by = 0 }
 

@@ -7,7 +7,7 @@ use Rattle.pfair_table.specs.Refinement.{Dispatch, AreMembersOf, members_after}
 use Rattle.pfair_handle.specs.Rows.{name_row}
 use Rattle.pfair_handle.specs.declared.members.PfairMember.{PfairMember}
 
--- a member, with the offset of its next subtask; the slot that its departure frees, or 0 where it isn't departing
+-- a member, with the offset of its next subtask; the slot that its departure frees, or 0 if it isn't departing
 abbrev pub member_row : Member → PfairMember
 member_row m = record {
   name = name_row m.name;

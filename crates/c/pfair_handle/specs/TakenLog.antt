@@ -17,7 +17,7 @@ use Rattle.pfair_handle.specs.Entries.{logged_of, IsMeant, IsEntryFault}
 use Rattle.pfair_handle.specs.declared.entry.PfairEntry.{PfairEntry}
 use Rattle.pfair_handle.specs.declared.taking.PfairTakenLog.{PfairTakenLog}
 
--- what an entry meets where this is held
+-- what an entry meets if this is held
 abbrev pub met : Held Logged → Logged → Taken
 met None e = New
 met (Some (One f)) e = if entry_eq f e then Known else Torn

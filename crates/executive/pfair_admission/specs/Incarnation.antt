@@ -12,7 +12,7 @@ use Rattle.pfair_admission.specs.declared.incarnation.Incarnation.TheInside.{Ins
 abbrev pub member_of : Inside → Member
 member_of a = record { name = a.name; weight = a.weight; early = a.early; joined = a.joined; delays = a.delays.items; next = a.stepper.index; freed_at = a.freed_at }
 
--- by how many slots the delays with exactly this index put the subtask off, where there are any
+-- by how many slots the delays with exactly this index put the subtask off, if there are any
 abbrev pub own_delay : List Delay → ℕ → Option ℕ
 own_delay delays i =
     if list_any (λ d. d.index == i) delays

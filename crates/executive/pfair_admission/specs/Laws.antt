@@ -44,13 +44,13 @@ pub record DelaysMoveLaterSubtasks : Type 0 where
   pub later : (m : Member) (index by i : ℕ) → index ≤ i → theta (with_delay index by m) i ≡ theta m i + by
   pub earlier : (m : Member) (index by i : ℕ) → i < index → theta (with_delay index by m) i ≡ theta m i
 
--- a leaver is freed at its stamp where it never ran, and else neither before it nor before the claim of its last subtask ends
+-- a leaver is freed at its stamp if it never ran, and else neither before it nor before the claim of its last subtask ends
 pub record LeaversHoldTheirClaim : Type 0 where
   pub never_ran : (m : Member) (t : ℕ) → m.next ≡ 1 → freeing_slot m t ≡ t
   pub stamp : (m : Member) (t : ℕ) → t ≤ freeing_slot m t
   pub claim : (m : Member) (t : ℕ) → m.next ≢ 1 → busy_until m (m.next - 1) ≤ freeing_slot m t
 
--- a subtask may run before its release only where the task is early, the subtask doesn't start a job, and no accepted delay has
+-- a subtask may run before its release only if the task is early, the subtask doesn't start a job, and no accepted delay has
 -- exactly its index, and never before the task has joined
 pub record EarlyReleaseKeepsBorders : Type 0 where
   pub not_early : (m : Member) (i : ℕ) → m.early ≡ false → eligible_from m i ≡ release_of m.weight i (theta m i)

@@ -43,7 +43,7 @@ busy_until m i =
     then deadline_of m.weight i (theta m i) + b_bit_of m.weight i
     else group_deadline_of m.weight i (theta m i) + 1
 
--- the freeing slot of a member that departs at t: t itself, where it never ran
+-- the freeing slot of a member that departs at t: t itself, if it never ran
 abbrev pub freeing_slot : Member → ℕ → ℕ
 freeing_slot m t = if m.next == 1 then t else max t (busy_until m (m.next - 1))
 

@@ -4,7 +4,7 @@ use Rattle.std.specs.List.{AllByRecursion}
 use Rattle.pfair_admission.specs.Member.{Member}
 use Rattle.pfair_admission.specs.Admission.{is_freed}
 
--- the earlier of two slots, where there are any
+-- the earlier of two slots, if there are any
 abbrev pub earlier_of : Option ℕ → Option ℕ → Option ℕ
 earlier_of None right = right
 earlier_of (Some a) None = Some a
@@ -16,7 +16,7 @@ IsNotBefore first None = ⊤
 IsNotBefore None (Some slot) = ⊥
 IsNotBefore (Some first) (Some slot) = first ≤ slot
 
--- no member is freed before the first freeing slot, and none at all where there is none
+-- no member is freed before the first freeing slot, and none at all if there is none
 abbrev pub NoneFreedBefore : Option ℕ → List Member → Type 0
 NoneFreedBefore first members = AllByRecursion (λ m. IsNotBefore first m.freed_at) members
 

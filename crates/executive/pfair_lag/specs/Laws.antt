@@ -6,13 +6,13 @@ use Rattle.pfair_lag.specs.Picks.{ArePicks, InWindows, MeetsDeadlines}
 use Rattle.pfair_lag.specs.Lag.{LagWithin, LagBelowOne}
 use Rattle.pfair_lag.specs.Miss.{IsFirstMiss, IsFirstLate}
 
--- The lag stays strictly between -1 and 1 exactly where each subtask runs in its window.
+-- The lag stays strictly between -1 and 1 exactly if each subtask runs in its window.
 abbrev pub LagsKeepWindows : Type 0
 LagsKeepWindows =
     (w : Share) (picks : List ℕ) (horizon : ℕ) → IsWeight w.cost w.period → ArePicks picks horizon
     → (InWindows w picks horizon ↔ LagWithin w picks horizon)
 
--- The lag stays below 1 exactly where each subtask runs before its deadline.
+-- The lag stays below 1 exactly if each subtask runs before its deadline.
 abbrev pub LagsKeepDeadlines : Type 0
 LagsKeepDeadlines =
     (w : Share) (picks : List ℕ) (horizon : ℕ) → IsWeight w.cost w.period → ArePicks picks horizon
@@ -29,7 +29,7 @@ OneFirstLate =
     (w : Share) (picks : List ℕ) (horizon : ℕ) (m n : Miss)
     → IsFirstLate w picks horizon m → IsFirstLate w picks horizon n → m ≡ n
 
--- Where one is out of its window, or late, not all are in their windows, or in time.
+-- If one is out of its window, or late, not all are in their windows, or in time.
 abbrev pub MissesAreOut : Type 0
 MissesAreOut = (w : Share) (picks : List ℕ) (horizon : ℕ) (m : Miss) → IsFirstMiss w picks horizon m → ¬ InWindows w picks horizon
 

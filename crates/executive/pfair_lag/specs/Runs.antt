@@ -18,7 +18,7 @@ book_after (Enter name weight ∷ before) = entered_with name weight (book_after
 book_after (Leave name ∷ before) = left name (book_after before)
 book_after (Record names ∷ before) = recorded names (book_after before)
 
--- a task's weight, and the lists of those that ran in each slot since it was entered, where it has not left since; the
+-- a task's weight, and the lists of those that ran in each slot since it was entered, if it has not left since; the
 -- last call stands first, and so does the last list
 pub record Stay : Type 0 where
   pub weight : Share

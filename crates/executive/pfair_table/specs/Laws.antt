@@ -48,7 +48,7 @@ RunsAreCounted =
     (s : Settings) (x : Replica) (t : ℕ)
     → all_ran (table s x t) (world s x t) ≡ counted (history s x (suc t)).tables (world s x t)
 
--- Two dispatchers of equal settings, after any events, where what they hold agrees: a slot that both have planned has one
+-- Two dispatchers of equal settings, after any events, if what they hold agrees: a slot that both have planned has one
 -- table and the same decisions, which are those of what either holds.
 abbrev pub OneSchedule : Type 0
 OneSchedule =

@@ -41,7 +41,7 @@ abbrev pub PlacesFollowTables : Type 0
 PlacesFollowTables =
     (xs ys : List Table) (t : ℕ) → ((u : ℕ) → u ≤ t → slice_get xs u ≡ slice_get ys u) → slice_get (places_of xs) t ≡ slice_get (places_of ys) t
 
--- Two dispatchers of equal settings, after any events, where what they hold agrees: a slot that both have planned has the same places.
+-- Two dispatchers of equal settings, after any events, if what they hold agrees: a slot that both have planned has the same places.
 abbrev pub OnePlacing : Type 0
 OnePlacing =
     (s : Settings) (m n : ℕ) (es fs : List Event) → AllByRecursion IsEvent es → AllByRecursion IsEvent fs

@@ -34,7 +34,7 @@ filled used [] = []
 filled used (Some k ∷ kept) = k ∷ filled used kept
 filled used (None ∷ kept) = let k = free_place used in k ∷ filled (k ∷ used) kept
 
--- the places of a table, where the table before it has those places: all that its rows keep is in use from the first row on
+-- the places of a table, if the table before it has those places: all that its rows keep is in use from the first row on
 abbrev pub places_after : Table → List ℕ → Table → List ℕ
 places_after before places now = let kept = kept_places before places now in filled (all_kept kept) kept
 

@@ -19,7 +19,7 @@ as_tables tables = map (λ (t : Vec Pick Global). t.items) tables.items
 abbrev pub as_places : Vec (Vec ℕ Global) Global → List (List ℕ)
 as_places places = map (λ (p : Vec ℕ Global). p.items) places.items
 
--- the last of a list, or d where it is empty
+-- the last of a list, or d if it is empty
 abbrev pub last_or : {A : Type 0} → A → List A → A
 last_or d [] = d
 last_or d (x ∷ xs) = last_or x xs

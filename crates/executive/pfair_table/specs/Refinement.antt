@@ -30,7 +30,7 @@ course_of d = record { held = replica_of d.held; tables = d.tables; decided = d.
 
 -- ---- answers
 
--- what a plan answers where nothing is torn or spent
+-- what a plan answers if nothing is torn or spent
 abbrev pub IsStepOf : Dispatch → Step → Type 0
 IsStepOf d (Planned slot) = (slot ≡ length d.tables) × IsTrue (is_plannable d.settings (replica_of d.held) slot)
 IsStepOf d (Waiting from) = (length d.tables < d.settings.slots) × (from ≡ frontier (replica_of d.held)) × (from ≤ length d.tables)

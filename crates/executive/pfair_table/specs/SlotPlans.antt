@@ -22,7 +22,7 @@ decided_to s x n = map (decisions s (replica_of x)) (numbers_below n)
 abbrev pub seeing : Dispatch → HeldRows → Dispatch
 seeing d x = record d { held = x }
 
--- the next slot of the contents, whose table has no more rows than there may be processors, or none where it can't be planned
+-- the next slot of the contents, whose table has no more rows than there may be processors, or none if it can't be planned
 abbrev pub IsNextPlan : Dispatch → Option SlotPlan → Type 0
 IsNextPlan d (Some next) =
     IsTrue (is_plannable d.settings (replica_of d.held) (length d.tables))

@@ -66,7 +66,7 @@ pub record History : Type 0 where
   pub members : List Member
   pub tables : List Table
 
--- the members after the boundary of slot t, where this was said
+-- the members after the boundary of slot t, if this was said
 abbrev pub members_at : Settings → ℕ → List Said → History → List Member
 members_at s t announced h = boundary (machine s) t (counted h.tables h.members) (announcements announced)
 

@@ -116,7 +116,7 @@ pub record HasFailed (line : List ℕ) (e : ProgramFault) (before after : Follow
   pub nothing : e ≢ WriteFailed → Keeps old new
   pub cut : e ≡ WriteFailed → TakesPrefix old new (news before after)
 
--- The next byte, where there is one, shows that no line was fed: the reader failed, or an allocation for a byte inside a line, or the line that
+-- The next byte, if there is one, shows that no line was fed: the reader failed, or an allocation for a byte inside a line, or the line that
 -- ends is longer than any row.
 abbrev pub IsUnfed : (kept : List ℕ) → (next : Option ℕ) → ProgramFault → Type 0
 IsUnfed kept next e =
@@ -129,7 +129,7 @@ abbrev pub IsLeft : (kept : List ℕ) → (next : Option ℕ) → ProgramFault �
 IsLeft kept next e before after old new =
     (IsUnfed kept next e × (after ≡ before) × Keeps old new) ⊎ ((next ≡ Some 10) × (length kept ≤ 256) × HasFailed kept e before after old new)
 
--- What had been fed of some bytes when a fault came: all of them where the reader failed, else all but a part of what one read gave. The
+-- What had been fed of some bytes when a fault came: all of them if the reader failed, else all but a part of what one read gave. The
 -- question is never refused.
 pub record IsStopped (bytes : List ℕ) (e : ProgramFault) (before after : Follow) (old new : Option (List ℕ)) : Type 0 where
   pub fed : List ℕ

@@ -97,7 +97,7 @@ IsStopOf f g k n e fault = ⊥
 
 -- ---- what would settle more
 
--- the number right behind the sound beginning of one of the logs, where it doesn't settle all slots, nothing is held there and there is room
+-- the number right behind the sound beginning of one of the logs, if it doesn't settle all slots, nothing is held there and there is room
 abbrev pub missing_of : Settings → Replica → ℕ → Option ℕ
 missing_of s x k =
     let number = length (sound_beginning x k) + 1 in

@@ -58,7 +58,7 @@ FedEntriesGiveTheirText =
     → HaveTheRows run.settings.processors capacity (rows_of run.logs) lines → Appends before begun (line (header_of f.output)) → AreFedBytes bytes f g begun after rest
     → Appends before after (text_of f.output run.settings (replica_of_logs run.logs)) × HasScheduleOf run (replica_of g.dispatch.held)
 
--- Of two followers that were new, of equal settings and outputs, and that tell slots from the same one on: where what they were fed agrees,
+-- Of two followers that were new, of equal settings and outputs, and that tell slots from the same one on: if what they were fed agrees,
 -- what one has written begins with what the other has, or the other way round.
 abbrev pub RunsWriteAlike : Type 0
 RunsWriteAlike =

@@ -44,7 +44,7 @@ IsWeighed (said.Arrive name share early) = IsWeight share.cost share.period
 IsWeighed (said.Depart name) = ⊤
 IsWeighed (said.Late name index by) = ⊤
 
--- a task's name and a weight, where something is announced
+-- a task's name and a weight, if something is announced
 abbrev pub IsWellSaid : Option (ℕ × Announcement) → Type 0
 IsWellSaid said = IfSome said (λ s. IsNamed s.1 × IsWeighed s.1)
 

@@ -5,7 +5,7 @@ use Rattle.pfair_entry.specs.declared.writer.NoteFault.TheVariants.{LogFull, Flo
 use Rattle.pfair_entry.specs.Entry.{Logged, IsEntry}
 use Rattle.pfair_entry.specs.EntryFault.{entry_fault, entry_fault_number}
 
--- a log with room for so many entries, of which so many are written, the last with that floor (0 where there is none)
+-- a log with room for so many entries, of which so many are written, the last with that floor (0 if there is none)
 pub record Written : Type 0 where
   pub capacity : ℕ
   pub written : ℕ

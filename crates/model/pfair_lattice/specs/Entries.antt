@@ -39,7 +39,7 @@ module _ {K X : Type 0} (cmp : K → K → Ordering) where
   abbrev pub IsComparedByKeys : (X → X → Type 0) → Type 0
   IsComparedByKeys below = (es fs : List (K × X)) → IsOrdered cmp es → IsOrdered cmp fs → (MapBelow below es fs ↔ ((k : K) → OptionBelow below (get cmp es k) (get cmp fs k)))
 
-  -- gs has the keys of both, with what either side holds, and the join where both hold something
+  -- gs has the keys of both, with what either side holds, and the join if both hold something
   pub record MapJoins (joins : X → X → X → Type 0) (es fs gs : List (K × X)) : Type 0 where
     pub ordered_first : IsOrdered cmp es
     pub ordered_second : IsOrdered cmp fs

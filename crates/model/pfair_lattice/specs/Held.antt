@@ -6,7 +6,7 @@ use Rattle.pfair_lattice.specs.Order.{IsOrder, IsLeastUpperBound}
 use Rattle.pfair_lattice.specs.Flat.{FlatBelow, FlatJoins}
 use Rattle.pfair_lattice.specs.Option.{OptionBelow, OptionJoins}
 
--- what a key holds, where it is held at all
+-- what a key holds, if it is held at all
 abbrev pub Held : Type 0 → Type 0
 Held T = Option (Flat T)
 
@@ -16,7 +16,7 @@ flat_join same (One a) (One b) = if same a b then One a else Torn
 flat_join same (One a) Torn = Torn
 flat_join same Torn y = Torn
 
--- where one side holds the key, its content
+-- if one side holds the key, its content
 abbrev pub held_join : {T : Type 0} → (T → T → Bool) → Held T → Held T → Held T
 held_join same None y = y
 held_join same (Some x) None = Some x

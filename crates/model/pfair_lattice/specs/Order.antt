@@ -45,7 +45,7 @@ IsSingle {X} joins = (x y a b : X) → joins x y a → joins x y b → a ≡ b
 abbrev pub IsAbsorbing : {X : Type 0} → (X → X → X → Type 0) → Type 0
 IsAbsorbing {X} joins = (x y z w : X) → joins x y z → joins z y w → w ≡ z
 
--- x is below y exactly where their join is y
+-- x is below y exactly if their join is y
 abbrev pub IsOrderOfJoin : {X : Type 0} → (X → X → Type 0) → (X → X → X → Type 0) → Type 0
 IsOrderOfJoin {X} below joins = (x y z : X) → joins x y z → (below x y ↔ (z ≡ y))
 

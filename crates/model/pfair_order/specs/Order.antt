@@ -6,7 +6,7 @@ use Rattle.std.specs.Ordering.{nat_cmp, on, flip_args, then_cmp}
 use Rattle.std.specs.Cmp.Lexicographic.{slice_cmp}
 use Rattle.pfair_order.specs.declared.Key.{Key}
 
--- the group deadline where it counts, that is, where the b-bit is 1
+-- the group deadline if it counts, that is, if the b-bit is 1
 abbrev pub tie_group_of : Key → ℕ
 tie_group_of k = if k.b == 1 then k.group else 0
 
@@ -19,9 +19,9 @@ pd2_cmp =
     (then_cmp (on (λ k. k.name) (slice_cmp nat_cmp))
     (on (λ k. k.group) nat_cmp))))
 
--- one key goes before another, by the first of these that differs: the earlier deadline; the greater b-bit; where
+-- one key goes before another, by the first of these that differs: the earlier deadline; the greater b-bit; if
 -- both b-bits are 1 the later group deadline; the smaller name in bytes, a proper prefix first; the smaller group
--- deadline, which is left only where the b-bits are not 1
+-- deadline, which is left only if the b-bits are not 1
 pub data GoesBefore (k l : Key) : Type 0 where
   earlier_deadline : k.d < l.d → GoesBefore k l
   greater_b_bit : k.d ≡ l.d → l.b < k.b → GoesBefore k l

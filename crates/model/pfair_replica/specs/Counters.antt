@@ -36,7 +36,7 @@ pub record IsLeftAt (row : ℕ → Held Logged) (number : ℕ) (part : Beginning
 abbrev pub ComesFirst : EntryKey → ℕ → ℕ → Type 0
 ComesFirst key k n = (key.0 < k) ⊎ ((key.0 ≡ k) × (key.1 ≤ n))
 
--- the first of the keys of which P holds, or None where it holds of none
+-- the first of the keys of which P holds, or None if it holds of none
 abbrev pub IsFirst : (ℕ → ℕ → Type 0) → Option EntryKey → Type 0
 IsFirst P None = (k n : ℕ) → P k n → ⊥
 IsFirst P (Some key) = P key.0 key.1 × ((k n : ℕ) → P k n → ComesFirst key k n)
@@ -48,7 +48,7 @@ IsTornAt at k n = at k n ≡ Some Torn
 abbrev pub IsFirstTornIn : Contents → ℕ → Option EntryKey → Type 0
 IsFirstTornIn at k = IsFirst (λ j n. (j ≡ k) × IsTornAt at j n)
 
--- of two keys, where there are so many, that which comes first
+-- of two keys, if there are so many, that which comes first
 pub record IsEarlier (first other result : Option EntryKey) : Type 0 where
   pub either : (result ≡ first) ⊎ (result ≡ other)
   pub before_first : (f : EntryKey) → first ≡ Some f → IsSomeAnd result (λ key. ComesFirst key f.0 f.1)

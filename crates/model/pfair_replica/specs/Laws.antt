@@ -45,14 +45,14 @@ pub record IsLeastMark : Type 0 where
   pub below : (x : Replica) (k : ℕ) → k < x.processors → frontier x ≤ mark x k
   pub reached : (x : Replica) → 1 ≤ x.processors → (k : ℕ) × (k < x.processors) × (frontier x ≡ mark x k)
 
--- The contents after an entry was joined in, which changes nothing where the entry was held already, and after a merge.
+-- The contents after an entry was joined in, which changes nothing if the entry was held already, and after a merge.
 pub record IsHeldAfter : Type 0 where
   pub same : (x : Replica) (k n : ℕ) (e : Logged) → (with_entry x k n e).at k n ≡ held_join entry_eq (x.at k n) (Some (One e))
   pub other : (x : Replica) (k n : ℕ) (e : Logged) (k' n' : ℕ) → ((k' ≡ k) × (n' ≡ n) → ⊥) → (with_entry x k n e).at k' n' ≡ x.at k' n'
   pub known : (x : Replica) (k n : ℕ) (e : Logged) → x.at k n ≡ Some (One e) → with_entry x k n e ≡ x
   pub joined : (x y : Replica) (k n : ℕ) → (join x y).at k n ≡ held_join entry_eq (x.at k n) (y.at k n)
 
--- Replicas agree exactly where neither has anything torn and no key has two entries.
+-- Replicas agree exactly if neither has anything torn and no key has two entries.
 abbrev pub IsAgreement : Type 0
 IsAgreement =
     (x y : Replica)
@@ -68,12 +68,12 @@ SayTheSame =
     (x y : Replica) → IsReplica x → IsReplica y → x.processors ≡ y.processors → Agree x y
     → (slot : ℕ) → slot < frontier x → slot < frontier y → said x slot ≡ said y slot
 
--- A replica that holds more, with nothing torn, has no lower mark, and no lower frontier where it has as many processors.
+-- A replica that holds more, with nothing torn, has no lower mark, and no lower frontier if it has as many processors.
 pub record MarksNeverFall : Type 0 where
   pub mark : (x y : Replica) → IsReplica y → Below x y → Untorn y → (k : ℕ) → mark x k ≤ mark y k
   pub frontier : (x y : Replica) → IsReplica y → x.processors ≡ y.processors → Below x y → Untorn y → frontier x ≤ frontier y
 
--- No key is listed as torn exactly where the test finds none, and exactly where nothing is torn.
+-- No key is listed as torn exactly if the test finds none, and exactly if nothing is torn.
 pub record IsTornTest : Type 0 where
   pub listed : (x : Replica) → (torn_keys x ≡ []) ↔ (has_torn x ≡ false)
   pub held : (x : Replica) → IsReplica x → ((has_torn x ≡ false) ↔ Untorn x)

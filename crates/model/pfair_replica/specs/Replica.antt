@@ -99,7 +99,7 @@ frontier x = fold min (mark x 0) (map (mark x) (numbers_below x.processors))
 
 -- ---- the announcements at a slot
 
--- entry n of processor k, where it is stamped t
+-- entry n of processor k, if it is stamped t
 abbrev pub said_by : (t k n : ℕ) → Option (ℕ × Announcement) → List Said
 said_by t k n None = []
 said_by t k n (Some s) = if s.0 == t then (k, n, s.1) ∷ [] else []
@@ -146,12 +146,12 @@ torn_in x k = torn_to x k x.capacity
 abbrev pub torn_keys : Replica → List EntryKey
 torn_keys x = flat_map (torn_in x) (numbers_below x.processors)
 
--- entry n of processor k, where it is one entry whose floor is lower than the mark
+-- entry n of processor k, if it is one entry whose floor is lower than the mark
 abbrev pub fallen_at : (k n mark : ℕ) → Held Logged → List EntryKey
 fallen_at k n mark (Some (One e)) = if nat_lt e.floor mark then entry_key k n ∷ [] else []
 fallen_at k n mark _ = []
 
--- the entry right after the sound beginning of processor k, where it is one entry with a lower floor
+-- the entry right after the sound beginning of processor k, if it is one entry with a lower floor
 abbrev pub fallen_in : Replica → ℕ → List EntryKey
 fallen_in x k = fallen_at k (length (sound_beginning x k) + 1) (mark x k) (x.at k (length (sound_beginning x k) + 1))
 

@@ -49,7 +49,7 @@ pub record JobsFillPeriods : Type 0 where
   pub due : (w : Share) (k theta : ℕ) → IsWeight w.cost w.period → deadline_of w (k * w.cost) theta ≡ theta + k * w.period
   pub apart : (w : Share) (k : ℕ) → IsWeight w.cost w.period → b_bit_of w (k * w.cost) ≡ 0
 
--- names are equal where their bytes are identical and nowhere else, a proper prefix goes first, and else the first byte that
+-- names are equal exactly if their bytes are identical, a proper prefix goes first, and else the first byte that
 -- differs decides
 pub record NamesInByteOrder (eq : List ℕ → List ℕ → Bool) (cmp : List ℕ → List ℕ → Ordering) : Type 0 where
   pub identical : (a b : List ℕ) → (eq a b ≡ true) ↔ (a ≡ b)

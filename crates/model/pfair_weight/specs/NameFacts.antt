@@ -9,7 +9,7 @@ use Rattle.std.proofs.lemmas.Option.{slice_get-get_or}
 use Rattle.std.proofs.lemmas.Cmp.{nat_list_cmp_total, tied_itself, nat_cmp_total}
 use Rattle.std.proofs.lemmas.Bool.Decides.{nat_tests}
 
--- names are equal exactly where their bytes are identical
+-- names are equal exactly if their bytes are identical
 pub identical_names : (a b : List ℕ) → (pointwise nat_eq a b ≡ true) ↔ (a ≡ b)
 identical_names a b = bytes_decides a b
 

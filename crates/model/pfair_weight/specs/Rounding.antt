@@ -12,7 +12,7 @@ use Rattle.std.proofs.Math.Nat.{le-div_iff_mul-le}
 pub lt_of_mul : (a b d : ℕ) → a * d < b * d → a < b
 lt_of_mul a b d h = elim (cases_lt a b) [ inl p ↦ p | inr q ↦ absurd (let m : b * d ≤ a * d = mul-le b d a d q (le_refl d) in omega arith) ]
 
--- rounded up, a quotient is at most m exactly where m divisors reach the dividend
+-- rounded up, a quotient is at most m exactly if m divisors reach the dividend
 pub div_ceil_le : (n d m : ℕ) → 0 < d → n ≤ m * d → div_ceil n d ≤ m
 div_ceil_le n d m p h =
     let up : div_ceil n d * d < n + d = (div_ceil_times n d p).1 in

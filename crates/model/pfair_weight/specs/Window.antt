@@ -11,7 +11,7 @@ release_of w i theta = theta + ((i - 1) * w.period) / w.cost
 abbrev pub deadline_of : Share → ℕ → ℕ → ℕ
 deadline_of w i theta = theta + div_ceil (i * w.period) w.cost
 
--- 1 where the window of subtask i reaches into that of the next one, else 0
+-- 1 if the window of subtask i reaches into that of the next one, else 0
 abbrev pub b_bit_of : Share → ℕ → ℕ
 b_bit_of w i = div_ceil (i * w.period) w.cost - (i * w.period) / w.cost
 

@@ -78,10 +78,10 @@ windows_overlap w i theta =
 pub b_bit_at_most_one : (w : Share) (i : ℕ) → b_bit_of w i ≤ 1
 b_bit_at_most_one w i = omega arith
 
--- slot s after the offset has seen the window open exactly where the share of s + 1 slots is more than i - 1 quanta
+-- slot s after the offset has seen the window open exactly if the share of s + 1 slots is more than i - 1 quanta
 pub opened_by_share : (w : Share) (i theta s : ℕ) → 0 < w.cost → (release_of w i theta ≤ theta + s) ↔ ((i - 1) * w.period < (s + 1) * w.cost)
 opened_by_share w i theta s p = (λ open_by. of_released w i s p (omega arith), λ share. let by : release_of w i 0 ≤ s = released w i s p share in omega arith)
 
--- slot s after the offset has not seen the window close exactly where the share of s slots is less than i quanta
+-- slot s after the offset has not seen the window close exactly if the share of s slots is less than i quanta
 pub not_closed_by_share : (w : Share) (i theta s : ℕ) → 0 < w.cost → (theta + s < deadline_of w i theta) ↔ (s * w.cost < i * w.period)
 not_closed_by_share w i theta s p = (λ before. of_before_deadline w i s p (omega arith), λ share. let by : s < deadline_of w i 0 = before_deadline w i s p share in omega arith)

@@ -68,7 +68,7 @@ abbrev pub IsAnswerTo : Named → Result Asked ProgramFault → Type 0
 IsAnswerTo named (Ok asked) = Ask named asked
 IsAnswerTo named (Err fault) = IsRefusedAs named fault
 
--- what is answered where the parser gives no command but an error of this kind: a text about the program, a refusal, or want of memory
+-- what is answered if the parser gives no command but an error of this kind: a text about the program, a refusal, or a failed allocation
 abbrev pub IsAnswerToKind : ErrorKind → Result Asked ProgramFault → Type 0
 IsAnswerToKind kind (Ok (Help text)) = IsTextKind kind
 IsAnswerToKind kind (Ok _) = ⊥

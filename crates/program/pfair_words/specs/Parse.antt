@@ -30,7 +30,7 @@ SpellsIfAny (Some word) n = Spells word n
 abbrev pub IsNumber : List Row → Text → ℕ → Type 0
 IsNumber rows name n = SpellsIfAny (one_of name rows) n
 
--- set where the flag's value is `true`, and not where it is `false` or there is none
+-- set if the flag's value is `true`, and not if it is `false` or there is none
 pub record IsFlag (value : Option Text) (set : _) : Type 0 where
   pub on : value ≡ Some (codes "true") → set ≡ true
   pub off : value ≡ Some (codes "false") → set ≡ false

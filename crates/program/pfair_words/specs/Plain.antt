@@ -1,4 +1,4 @@
--- What is answered to the forms of the commands of `pfair`, where none of their words begins as a flag does.
+-- What is answered to the forms of the commands of `pfair`, if none of their words begins as a flag does.
 use Rattle.std.specs.Prelude.{ℕ, ◌≡◌, ◌≢◌, ◌≤◌, ⊤, Bool, true, false, List, [], ◌∷◌, Result, Ok, Err, codes, string_bytes}
 use Rattle.clap.specs.Words.{Text}
 use Rattle.pfair_weight.specs.WeightFault.{IsFaultOf}

@@ -42,7 +42,7 @@ abbrev pub with_entries : ℕ → ℕ → Logs → List Members → Result Logs 
 with_entries version place logs [] = Ok logs
 with_entries version place logs (table ∷ tables) = and_then (λ more. with_entries version (place + 1) more tables) (with_entry version place logs table)
 
--- the members of an array, where all are tables
+-- the members of an array, if all are tables
 abbrev pub tables_of : Items → Option (List Members)
 tables_of no_items = Some []
 tables_of (item d ds) = option_and_then (λ t. option_map (λ ts. t ∷ ts) (tables_of ds)) (as_table d)

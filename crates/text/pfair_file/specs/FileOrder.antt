@@ -13,7 +13,7 @@ abbrev pub entry_list : Result Logged NoticeFault → List Logged
 entry_list (Ok entry) = entry ∷ []
 entry_list (Err fault) = []
 
--- the entry of a table, where the table names this processor
+-- the entry of a table, if the table names this processor
 abbrev pub entry_for : ℕ → Result Made FileFault → List Logged
 entry_for processor (Ok made) = if made.processor == processor then entry_list made.entry else []
 entry_for processor (Err fault) = []
@@ -24,7 +24,7 @@ entries_for version processors processor place [] = []
 entries_for version processors processor place (table ∷ tables) =
     entry_for processor (made_at version processors place table) ++ entries_for version processors processor (place + 1) tables
 
--- where no table has a fault, each log has the entries of the tables that name its processor, in file order, and nothing else
+-- if no table has a fault, each log has the entries of the tables that name its processor, in file order, and nothing else
 abbrev pub LogsAreInFileOrder : Type 0
 LogsAreInFileOrder =
     (version processors : ℕ) (tables : List Members) (logs : Logs) → with_entries version 1 (empty_logs processors) tables ≡ Ok logs

@@ -14,7 +14,7 @@ pub record IsOfFirstTable (version place : ℕ) (logs : Logs) (tables : List Mem
   pub no_fault_before : with_entries version place logs before ≡ Ok more
   pub fault : with_entry version (place + length before) more table ≡ Err f
 
--- the tables have a fault exactly where one of them has it after tables without one
+-- the tables have a fault exactly if one of them has it after tables without one
 abbrev pub FirstTableIsAtFault : Type 0
 FirstTableIsAtFault =
     (version place : ℕ) (logs : Logs) (tables : List Members) (f : FileFault)

@@ -1,4 +1,4 @@
--- What a key of a table is asked to hold, and the first fault where it doesn't: it is missing, of wrong kind, out of range.
+-- What a key of a table is asked to hold, and the first fault if it doesn't: it is missing, of wrong kind, out of range.
 use Rattle.std.specs.Prelude.{ℕ, ℤ, pos, negsuc, List, Result, Ok, Err, ok_or, nat_le, ◌&&◌, if◌then◌else◌}
 use Rattle.toml.specs.Data.{Data, Members, as_integer, as_str, get_member}
 use Rattle.pfair_file.specs.Fields.{key_of}

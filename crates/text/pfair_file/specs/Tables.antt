@@ -26,7 +26,7 @@ kind_in place (Some d) =
 abbrev pub kind_at : ℕ → Members → Result (Option Kind) FileFault
 kind_at place table = kind_in place (get_member (key_of field.Kind) table)
 
--- whether a task may run early: false where nothing says so, and in version 1
+-- whether a task may run early: false if nothing says so, and in version 1
 abbrev pub early_in : ℕ → Option Data → Result Bool FileFault
 early_in place None = Ok false
 early_in place (Some d) = ok_or (as_bool d) (WrongKind place field.Early)
@@ -60,7 +60,7 @@ notice_of version place kind table =
     (text_at table place field.Name))
     (natural_at table place field.At)
 
--- the announcement, where there is a kind
+-- the announcement, if there is a kind
 abbrev pub notice_in : ℕ → ℕ → Members → Option Kind → Result (Option (ℕ × Announcement)) FileFault
 notice_in version place table None = Ok None
 notice_in version place table (Some kind) = and_then (λ notice. Ok (Some notice)) (notice_of version place kind table)

@@ -32,7 +32,7 @@ replay_text tables = lines_text (replay_header ∷ slots_from table_rows 0 table
 abbrev pub placed_header : List (List ℕ)
 placed_header = replay_header ++ codes "place" ∷ []
 
--- the place at the end of a row, where the row has one
+-- the place at the end of a row, if the row has one
 abbrev pub place_field : Option ℕ → List (List ℕ)
 place_field None = []
 place_field (Some place) = decimal place ∷ []
@@ -46,7 +46,7 @@ abbrev pub placed_rows_from : (places : List ℕ) → (slot k : ℕ) → Table �
 placed_rows_from places slot k [] = []
 placed_rows_from places slot k (p ∷ more) = placed_row slot k p (slice_get places k) ∷ placed_rows_from places slot (suc k) more
 
--- the places of a slot, where it has some
+-- the places of a slot, if it has some
 abbrev pub places_at : List (List ℕ) → ℕ → List ℕ
 places_at places slot = unwrap_or (slice_get places slot) []
 

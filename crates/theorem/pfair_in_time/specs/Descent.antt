@@ -18,7 +18,7 @@ pub record Descends (t : ℕ) (m n : Member) : Type 0 where
   pub stays : (i : ℕ) → (i < m.next) ⊎ (release_of m.weight i (theta m i) < t) → theta n i ≡ theta m i
   pub departing : is_departing m ≡ true → n ≡ m
 
--- it has a weight whose period divides the frame, and where it is departing its claim is held until it is freed
+-- it has a weight whose period divides the frame, and if it is departing its claim is held until it is freed
 pub record IsSound (frame : ℕ) (m : Member) : Type 0 where
   pub weight : IsWeight m.weight.cost m.weight.period
   pub period : frame % m.weight.period ≡ 0

@@ -52,7 +52,7 @@ IsServed tables t a = (i : ℕ) → deadline_of a.weight i 0 ≤ t → i ≤ qua
 abbrev pub IsLate : (ℕ → Table) → ℕ → Arrival → Type 0
 IsLate tables t a = (i : ℕ) × (deadline_of a.weight i 0 ≤ t) × (quanta_before tables a.name (deadline_of a.weight i 0) < i)
 
--- Served where there is room: where nothing is said but arrivals at slot 0, all are admitted exactly where they want no more than there
+-- Served if there is room: if nothing is said but arrivals at slot 0, all are admitted exactly if they want no more than there
 -- is, and then all are served for ever.
 abbrev pub ServedWhereThereIsRoom : Type 0
 ServedWhereThereIsRoom =
@@ -60,7 +60,7 @@ ServedWhereThereIsRoom =
     → (AllByRecursion (λ (d : Decided). d.decision ≡ Admitted) (decisions s x 0) ↔ (units_wanted s.frame arrivals ≤ s.processors * s.frame))
     × (units_wanted s.frame arrivals ≤ s.processors * s.frame → (a : Arrival) → Among arrivals a → (t : ℕ) → IsServed (table s x) t a)
 
--- No one serves more: where arrivals want more than there is, by any tables with no more rows in a slot than there are processors some
+-- No one serves more: if arrivals want more than there is, by any tables with no more rows in a slot than there are processors some
 -- task is late by the end of the frame.
 abbrev pub NoneServesMore : Type 0
 NoneServesMore =

@@ -12,7 +12,7 @@ pub record SharesFillWindows : Type 0 where
   pub in_window : (w : Share) (i theta v : ℕ) → IsWeight w.cost w.period → 1 ≤ i → (0 < share_of w i theta v) ↔ ((release_of w i theta ≤ v) × (v < deadline_of w i theta))
   pub whole : (w : Share) (i theta t : ℕ) → IsWeight w.cost w.period → 1 ≤ i → deadline_of w i theta ≤ t → total_before (share_of w i theta) t ≡ w.period
 
--- where offsets never fall, two subtasks of one task get at most the cost of a slot; where a window reaches into the next one, its
+-- if offsets never fall, two subtasks of one task get at most the cost of a slot; if a window reaches into the next one, its
 -- last share and the next one's first share are the cost together; and of two that aren't neighbours at most one gets any of a slot
 pub record SharesFitSlots : Type 0 where
   pub two : (w : Share) (i j theta later v : ℕ) → IsWeight w.cost w.period → 1 ≤ i → i < j → theta ≤ later → share_of w i theta v + share_of w j later v ≤ w.cost
@@ -21,7 +21,7 @@ pub record SharesFitSlots : Type 0 where
   pub no_three : (w : Share) (i j theta later v : ℕ) → IsWeight w.cost w.period → 1 ≤ i → i + 1 < j → theta ≤ later → 0 < share_of w i theta v → share_of w j later v ≡ 0
 
 -- the group deadline is where the cascade ends: k slots after the deadline of a heavy subtask with b-bit 1 lie before its group
--- deadline exactly where the k-th subtask after it is due right then, and has b-bit 1 too
+-- deadline exactly if the k-th subtask after it is due right then, and has b-bit 1 too
 abbrev pub GroupDeadlinesEndCascades : Type 0
 GroupDeadlinesEndCascades =
     (w : Share) (i k theta : ℕ) → IsWeight w.cost w.period → IsHeavy w → b_bit_of w i ≡ 1
@@ -46,6 +46,6 @@ pub record BeginningsNeverMiss : Type 0 where
   pub none_misses : (x : Run) (n t : ℕ) (z : Subtask) → IsRunBelow x n → t < n → x.is_active z.task t ≡ true → IsNext x z (suc t) → has_run x z (suc t) ≡ false → suc t < deadline x z
   pub each_in_time : (x : Run) (n t : ℕ) (z : Subtask) → IsRunBelow x n → t < n → is_row x t z ≡ true → t < deadline x z
 
--- the premises can be met, also where the weights fill the machine
+-- the premises can be met, also if the weights fill the machine
 abbrev pub SomeRunIsFull : Type 0
 SomeRunIsFull = (x : Run) × IsRun x × ((t : ℕ) → sum_by (λ a. units_of (x.weight a) x.frame) (x.members t) ≡ x.processors * x.frame)

@@ -111,7 +111,7 @@ pub record IsRun (x : Run) : Type 0 where
   pub held : (z : Subtask) (s t : ℕ) → has_run x z s ≡ true → z.task.joined ≤ t → t < busy_bound x z → is_among same_task (x.members t) z.task ≡ true
   -- the weights that are held have room
   pub room : (t : ℕ) → sum_by (λ a. units_of (x.weight a) x.frame) (x.members t) ≤ x.processors * x.frame
-  -- where the next subtask of an active member is released and doesn't run, all processors run what goes before it
+  -- if the next subtask of an active member is released and doesn't run, all processors run what goes before it
   pub chosen : (t : ℕ) (z : Subtask) → IsNext x z t → x.is_active z.task t ≡ true → release x z ≤ t → has_run x z (suc t) ≡ false
       → (length (x.table t) ≡ x.processors) × ((w : Subtask) → is_row x t w ≡ true → GoesFirst x w z)
 

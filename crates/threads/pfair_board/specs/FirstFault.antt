@@ -1,4 +1,4 @@
--- With which fault workers end, where several apply.
+-- With which fault workers end, if several apply.
 use Rattle.std.specs.Prelude.{ℕ, ◌≡◌, ◌<◌, ◌≤◌, List, Option, Some, None, Err, IsOk, slice_get}
 use Rattle.pfair_replica.specs.HeldRows.{replica_of}
 use Rattle.pfair_replica.specs.Replica.{Replica, Below, frontier}

@@ -20,7 +20,7 @@ HoldsScript r w = Below (replica_of w.desk.replica) (replica_of_logs r.logs) × 
 abbrev pub SomeAstray : {K : Type 0} → LoggedRun → List (Worked K) → Type 0
 SomeAstray {K} r ws = (k : ℕ) × (w : Worked K) × (slice_get ws k ≡ Some w) × (IsTaken w.desk 1 (log_of r k) ⊎ ¬ (HoldsScript r w))
 
--- the first fault of these workers, where several apply: a failed allocation, a gate that gave up, a worker astray, and logs that end too early
+-- the first fault of these workers, if several apply: a failed allocation, a gate that gave up, a worker astray, and logs that end too early
 abbrev pub EndsIn : {K : Type 0} → LoggedRun → List (Worked K) → RunFault → Type 0
 EndsIn r ws Memory = SomeEndsIn ws Memory
 EndsIn r ws GateGaveUp = ¬ (SomeEndsIn ws Memory) × SomeEndsIn ws GateGaveUp

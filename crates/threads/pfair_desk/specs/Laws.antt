@@ -14,7 +14,7 @@ DesksAgree =
     (steps : List Step) (c d processors capacity : ℕ)
     → let b = after_steps steps empty_board in Agree (desk_replica processors capacity b c) (desk_replica processors capacity b d)
 
--- and where entries are set at keys of the board, each desk holds a replica.
+-- and if entries are set at keys of the board, each desk holds a replica.
 abbrev pub DesksHoldReplicas : Type 0
 DesksHoldReplicas =
     (processors capacity : ℕ) (steps : List Step) → AllByRecursion (IsStep processors capacity) steps
