@@ -70,7 +70,7 @@ as-many-lags ds ts slot book is =
 pub counted-within : (rows more all most counted next : ℕ) → counted ≡ min rows most → next ≡ min (counted + more) most → all ≡ rows + more → next ≡ min all most
 counted-within rows more all most counted next before is whole = omega arith
 
--- ---- the lags of one slot more, where rows are written over others
+-- ---- the lags of one slot more, when rows are written over others
 
 pub room-for-lags : (ds : List (List Decided)) (ts : List Table) (from to slot at : ℕ) (book : Book) (old : List PfairLag) → from ≤ slot → slot < to
     → book ≡ book_after ds ts (slot + 1) → at ≡ length (rows_of (lags_at ds ts) from (slot - from))

@@ -93,7 +93,7 @@ behind written more old room =
     ∙ ap (λ zs. written ++ (more ++ zs)) far
     ∙ sym (append_assoc written more (drop (length (written ++ more)) old))
 
--- ---- one slot more, where rows are written over others
+-- ---- one slot more, when rows are written over others
 
 pub room-for : {B : Type 0} (rows_at : ℕ → List B) (from to slot : ℕ) (old : List B) → from ≤ slot → slot < to
     → length (rows_of rows_at from (to - from)) ≤ length old → length (rows_of rows_at from (slot - from)) + length (rows_at slot) ≤ length old

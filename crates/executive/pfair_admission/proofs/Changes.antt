@@ -37,7 +37,7 @@ departed t name m n old new Admitted w is = w.stays is ∙ sym w.still
 departed t name m n old new Delayed w is = w.stays is ∙ sym w.still
 departed t name m n old new (Refused r) w is = w.stays is ∙ sym w.still
 
--- where it doesn't depart nothing changes
+-- if it doesn't depart nothing changes
 pub not_departed : (d : Decision) (m n : Member) → ((slot : ℕ) → d ≡ Departing slot → ⊥) → n ≡ after_departure d m → n ≡ m
 not_departed (Departing slot) m n other is = absurd (other slot refl)
 not_departed Admitted m n other is = is

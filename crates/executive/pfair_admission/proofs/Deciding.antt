@@ -29,7 +29,7 @@ product_fits p f a b = grind arith
 
 -- ---- arrivals
 
--- where a task is admitted no member has its name
+-- if a task is admitted no member has its name
 pub admitted_new : (machine : Machine) (ms : List Member) (name : List ℕ) (w : Share) → Admitted ≡ arrival machine ms name w → member_named ms name ≡ None
 admitted_new machine ms name w is =
     nothing (member_named ms name)
@@ -90,7 +90,7 @@ room_of_named (x ∷ ms) name m h found =
 pub stood : (machine : Machine) {ms ns : List Member} → ms ≡ ns → ◌≡◌ {A = Standing} (record { machine = machine; members = ms }) (record { machine = machine; members = ns })
 stood machine e = ap (λ (l : List Member). record { machine = machine; members = l }) e
 
--- where nobody has the name nothing changes
+-- if nobody has the name nothing changes
 pub none_departs : (t : ℕ) (ms : List Member) (name : List ℕ) → member_named (present t ms) name ≡ None → present t ms ≡ present t (effect t (present t ms) (Depart name) (departure t (member_named (present t ms) name)))
 none_departs t ms name none = sym (filter_again (is_there t) ms) ∙ ap (λ (o : Option Member). present t (effect t (present t ms) (Depart name) (departure t o))) (sym none)
 

@@ -120,7 +120,7 @@ theta_rises m i j rise =
 pub theta_fits : (m : Member) (i : ℕ) → theta m i ≤ last_offset m
 theta_fits m i = let part = sum_filter (λ (d : Delay). d.by) (up_to i) m.delays in omega (arith, part)
 
--- a delay more, where there is room for it
+-- a delay more, if there is room for it
 pub member_put_off : (m : Member) (index by : ℕ) → IsMember m → last_offset m + by ≤ MAX_OFFSET → IsMember (with_delay index by m)
 member_put_off m index by h room =
     let sum = sum_by_push (λ (d : Delay). d.by) m.delays (record { index = index; by = by }) in

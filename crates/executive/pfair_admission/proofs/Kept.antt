@@ -36,7 +36,7 @@ ledger_written counts a place m n k at there still like =
           (first_written a.first_freeing (listed a) place n k.first (subst (IsNotBefore a.first_freeing) (sym like.freed_at) (first_at a.first_freeing (listed a) place m k.first at)));
     }
 
--- a member that departs, whose units are free where it is gone at once
+-- a member that departs, whose units are free if it is gone at once
 pub ledger_left : (t : ℕ) (a : Ledger) (place slot claim : ℕ) (m n : Member) → IsLedger (is_there t) a → slice_get (listed a) place ≡ Some m → is_there t m ≡ true → n.name ≡ m.name → n.weight ≡ m.weight → n.freed_at ≡ Some slot
     → claim + cond (is_there t n) 0 (units_of m.weight a.frame) ≡ a.claim → IsLedger (is_there t) (record a { members = with_value_at a.members place n; claim = claim; first_freeing = earlier_of a.first_freeing (Some slot) })
 ledger_left t a place slot claim m n k at there name weight freed sum =
@@ -95,7 +95,7 @@ ledger_more t a b name w early k is made unique entered updates =
 
 -- ---- before and after a boundary
 
--- where nobody is freed all count
+-- if nobody is freed all count
 pub kept_less : (t : ℕ) (a : Ledger) → NoneFreed t (listed a) → IsLedger (λ _. true) a → IsLedger (is_there t) a
 kept_less t a none k = record {
   register = register_less (is_there t) a.admitted a.members.entries a.names.entries k.register;

@@ -12,7 +12,7 @@ use Rattle.pfair_admission.proofs.Sums.{sum_filter}
 
 -- ---- who is freed
 
--- none goes where none is freed
+-- none goes if none is freed
 pub present_all : (t : ℕ) (ms : List Member) → NoneFreed t ms → present t ms ≡ ms
 present_all t [] h = refl
 present_all t (m ∷ ms) h = ap (λ b. cond (not b) (m ∷ present t ms) (present t ms)) h.0 ∙ ap (λ (l : List Member). m ∷ l) (present_all t ms h.1)

@@ -91,7 +91,7 @@ lookup_filtered k q (e ∷ es) m unique h =
 
 -- ---- who is found
 
--- where the name leads nowhere nobody has it
+-- if the name leads nowhere nobody has it
 none_named : (counts : Member → Bool) (name : NameValue) (names : Names) (es : Numbered) → AllByRecursion (IsNamedIn counts names) es → lookup (name_eq name) names ≡ None → member_named (filter counts (values_of es)) name ≡ None
 none_named counts name names [] h none = refl
 none_named counts name names (e ∷ es) h none =
@@ -269,7 +269,7 @@ values_kept counts (e ∷ es) =
       | false ↦ values_kept counts es
     ]
 
--- where nobody is gone all are named
+-- if nobody is gone all are named
 all_named : (t : ℕ) (names : Names) (es : Numbered) → NoneFreed t (values_of es) → AllByRecursion (IsNamedIn (is_there t) names) es → AllByRecursion (IsNamedIn (λ _. true) names) es
 all_named t names [] none h = tt
 all_named t names (e ∷ es) none h = (λ _. h.0 (ap not none.0), all_named t names es none.1 h.1)
@@ -277,7 +277,7 @@ all_named t names (e ∷ es) none h = (λ _. h.0 (ap not none.0), all_named t na
 pub register_all : (t admitted : ℕ) (es : Numbered) (names : Names) → NoneFreed t (values_of es) → IsRegister (is_there t) admitted es names → IsRegister (λ _. true) admitted es names
 register_all t admitted es names none r = record { numbered = r.numbered; unique = r.unique; named = r.named; found = all_named t names es none r.found }
 
--- where all are named, those that count are
+-- if all are named, those that count are
 pub register_less : (counts : Member → Bool) (admitted : ℕ) (es : Numbered) (names : Names) → IsRegister (λ _. true) admitted es names → IsRegister counts admitted es names
 register_less counts admitted es names r = record { numbered = r.numbered; unique = r.unique; named = r.named; found = each (IsNamedIn (λ _. true) names) (IsNamedIn counts names) (λ e leads _. leads refl) es r.found }
 

@@ -93,7 +93,7 @@ late_miss_deadlines w picks horizon (Early i slot) a met = a.is_late
 late_miss_deadlines w picks horizon (Tardy i slot) a met = grind (arith, in_time)
 late_miss_deadlines w picks horizon (Unserved i) a met = grind (arith, late_index, not_both)
 
--- none was found exactly where there is none
+-- none was found exactly if there is none
 pub none_found : (P : Type 0) (Q : Miss → Type 0) (found : Option Miss) (inside : Bool) → ((m : Miss) → Q m → P → ⊥) → is_some found ≡ not inside → MatchOption found P Q → IsTrue inside ↔ P
 none_found P Q None true out e h = (λ _. h, λ _. refl)
 none_found P Q None false out e h = absurd (cc)

@@ -30,7 +30,7 @@ at_set [] i b h = absurd (omega (arith, h))
 at_set (x ∷ near) zero b h = refl
 at_set (x ∷ near) (suc i) b h = at_set near i b (omega (arith, h))
 
--- an empty one stays empty where another is emptied
+-- an empty one stays empty if another is emptied
 none_set : (near : Buckets) (i j : ℕ) (b : Vec Date Global) → b.items ≡ [] → in_bucket (slice_get near j) ≡ [] → in_bucket (slice_get (slice_set near i b) j) ≡ []
 none_set [] i j b empty h = h
 none_set (x ∷ near) zero zero b empty h = empty
@@ -45,7 +45,7 @@ empty_has_none xs d empty c = let within = c.1 in let long = ap (λ (l : List Da
 same_slot : (from r s : ℕ) → from < r → r ≤ from + 64 → from < s → s ≤ from + 64 → r % 64 ≡ s % 64 → r ≡ s
 same_slot from r s a b c d e = let x = div-add-mod r 64 in let y = div-add-mod s 64 in omega (arith, a, b, c, d, e, x, y)
 
--- a near date stays one where the list of its slot still has it
+-- a near date stays one if the list of its slot still has it
 still_near : (turned turned' : ℕ) (near near' : Buckets) (d : Date) → turned' ≡ turned → Contains (under near' d.release) d → IsNear turned near d → IsNear turned' near' d
 still_near turned turned' near near' d same there n = let after = n.after in let within = n.within in record { after = omega (arith, same, after); within = omega (arith, same, within); there = there }
 
@@ -67,7 +67,7 @@ noted_far c c' more turned near d noted =
       | inr f ↦ inr (more d f)
     ]
 
--- nothing is noted where there is neither
+-- nothing is noted if there is neither
 pub none_noted : (c : Calendar) → c.near.items ≡ [] → c.far ≡ [] → (d : Date) → IsNoted c d → ⊥
 none_noted c near far d noted =
     elim noted [
@@ -118,7 +118,7 @@ moves_far slot Was c c' turns0 turns turns' m f turned near =
       ];
     }
 
--- the near slots are those after a later one, where the lists up to that are empty
+-- the near slots are those after a later one, if the lists up to that are empty
 pub moves_turned : (slot : ℕ) (Was : Date → Type 0) (c c' : Calendar) (turns turns' : Turned) → Moves slot Was (IsNoted c) turns turns' → c.turned ≤ slot → ((s : ℕ) → c.turned < s → s ≤ c.turned + 64 → s ≤ slot → under c.near.items s ≡ [])
     → c'.turned ≡ slot → c'.near.items ≡ c.near.items → c'.far ≡ c.far → Moves slot Was (IsNoted c') turns turns'
 moves_turned slot Was c c' turns turns' m later empty turned near far =

@@ -90,7 +90,7 @@ module _ (slot m room : ℕ) (start held : Queue) (dates : Calendar) (turns : Li
   no_released : length turns ≡ 0 → (k : Key) → IsReleased slot held k → ⊥
   no_released empty k w = let turn = has_turn w.name w.release k w.at w.due in none_in_empty turns (k, turn.0) empty turn.1
 
-  -- where m are given, or there is no turn left, what is given is the first m
+  -- if m are given, or there is no turn left, what is given is the first m
   pub first_taken : (length first < m → length turns ≡ 0) → first ≡ first_by_rank pd2_cmp m (released slot start)
   first_taken empty =
       by_rank_of_split keys_total (released slot start) first (released slot held) t.split m t.few

@@ -93,7 +93,7 @@ not_tied a b h = ap is_eq (nat_list_cmp_total.antisymm b a) ∙ less (name_cmp a
     less Equal e = absurd (true≢false (sym e))
     less Greater e = absurd (true≢false (sym e))
 
--- where each entry's key has the entry's name, no two keys have one name
+-- if each entry's key has the entry's name, no two keys have one name
 entries_apart : (es : List Named_entry) → IsTrue (listed.is_sorted name_cmp es) → ((e : Named_entry) → Among es e → e.1.1.name ≡ e.0) → NamesApart (λ (e : Named_entry). e.1.1.name) es
 entries_apart [] s own = apart_nil (λ (e : Named_entry). e.1.1.name)
 entries_apart (d ∷ es) s own =

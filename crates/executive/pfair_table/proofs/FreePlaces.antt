@@ -22,7 +22,7 @@ find_right : {A : Type 0} (p : A → Bool) (xs ys : List A) → ((x : A) → Amo
 find_right p [] ys none = refl
 find_right p (x ∷ xs) ys none = ap (λ b. cond b (Some x) (find p (xs ++ ys))) (none x (inl refl)) ∙ find_right p xs ys (λ y h. none y (inr h))
 
--- where a number passes and none below it does
+-- if a number passes and none below it does
 find_number : (p : ℕ → Bool) (n k : ℕ) → k < n → p k ≡ true → ((i : ℕ) → i < k → p i ≡ false) → find p (numbers_below n) ≡ Some k
 find_number p zero k l e least = absurd (omega (arith, l))
 find_number p (suc n) k l e least =

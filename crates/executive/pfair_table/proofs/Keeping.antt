@@ -41,7 +41,7 @@ module _ {s : Settings} {held : Replica} {tables : List Table} {decided : List (
     pub step_now : spent ≡ false → IsInStep s held (length tables) roster now waiting
     step_now e = step_of_held kept.plan is_of_held (untorn_by_test held sound test) (kept.step e)
 
-    -- where as many slots are planned as can be, the tables and decisions are the whole plan
+    -- if as many slots are planned as can be, the tables and decisions are the whole plan
     as_many : min (frontier held) s.slots ≤ length tables → length tables ≡ min (frontier held) s.slots
     as_many le = omega (arith, le, plan_now.early, plan_now.wanted)
 

@@ -29,7 +29,7 @@ use Rattle.pfair_table.proofs.TableLaws.{tables_are_ordered}
 
 -- ---- what holds of each member
 
--- what holds of each newcomer, and still holds where a member is to be freed or is delayed, holds of each after a boundary
+-- what holds of each newcomer, and still holds if a member is to be freed or is delayed, holds of each after a boundary
 module _ (t : ℕ) (P : Member → Type 0) (joins : (name : Name) (w : Share) (early : Bool) → P (newcomer t name w early)) (freed : (slot : ℕ) (m : Member) → P m → P (with_freeing slot m)) (delayed : (index by : ℕ) (m : Member) → P m → P (with_delay index by m)) where
   pub each_boundary : (mc : Machine) (announced : List Announcement) (members : List Member) → AllByRecursion P members → AllByRecursion P (boundary mc t members announced)
   each_boundary mc announced members all =

@@ -116,7 +116,7 @@ pub one_gone_more : {A : Type 0} (gone : List (GivenBack A)) (back : GivenBack A
 one_gone_more [] back piece full same = ap (λ (p : Vec _ Global). p ∷ full) same
 one_gone_more (x ∷ gone) back piece full same = ap (λ (ps : List (Vec _ Global)). x.was.value ∷ ps) (one_gone_more gone back piece full same)
 
--- the memory of at most 1,024 forgotten elements stands, where so many pieces are gone as can be, and in the piece that is filled are at most 1,024
+-- the memory of at most 1,024 forgotten elements stands, if so many pieces are gone as can be, and in the piece that is filled are at most 1,024
 pub given_back : (before after left long current forgotten : ℕ) → HaveGivenBack before after left (forgotten / 1024) → forgotten ≤ long → long ≡ (after + left) * 1024 + current → current ≤ 1024
     → forgotten ≤ after * 1024 + 1024
 given_back before after zero long current forgotten have within all few = omega (arith, within, all, few)

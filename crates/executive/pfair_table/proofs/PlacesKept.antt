@@ -38,7 +38,7 @@ kept_place used before old (p ∷ picks) name k e h =
         ap (λ b. if b then Some j else place_of picks (filled used (kept_places before old picks)) name) i
         ∙ more used h
 
--- a task of a table has a place, where each row has one
+-- a task of a table has a place, if each row has one
 has_place : (rows : Table) (places : List ℕ) → length places ≡ length rows → (name : Name) → names_task name rows ≡ true → (k : ℕ) × (place_of rows places name ≡ Some k)
 has_place [] places long name h = absurd (true≢false (sym h))
 has_place (p ∷ picks) [] long name h = absurd (omega (arith, long))

@@ -44,7 +44,7 @@ places_more before old (x ∷ tables) now = ap (λ (ps : List (List ℕ)). place
 pub next_are : (tables : List Table) (now : Table) → places_of (tables ++ now ∷ []) ≡ places_of tables ++ places_after (last_or [] tables) (last_or [] (places_of tables)) now ∷ []
 next_are tables now = places_more [] [] tables now
 
--- ---- places are processors, where tables have no more rows
+-- ---- places are processors, if tables have no more rows
 
 few_below : (m : ℕ) (before : Table) (old : List ℕ) → ((k : ℕ) → Among old k → k < m) → (tables : List Table) → AllByRecursion (IsFit m) tables
     → AllByRecursion (λ (ps : List ℕ). AllByRecursion (λ k. k < m) ps) (places_from before old tables)

@@ -147,7 +147,7 @@ absent_removed held name none =
     at q true e = ap (finmap.get held) (name_exact q name (sym (tied_names q name) ∙ e)) ∙ none
     at q false e = refl
 
--- where there is no such member, or it is departing
+-- if there is no such member, or it is departing
 pub told_gone : (told : Name) (members : List Member) (before after : Queue) → queued (member_named members told) ≡ None → after ≡ finmap.remove before told → IsToldOf told members before after
 told_gone told members before after none is = subst (IsToldOf told members before) (sym is) (told_out told members before none)
 
@@ -157,7 +157,7 @@ queued_running o m found stays = ap queued found ∙ ap (λ d. if d then None el
 pub queued_departing : (o : Option Member) (m : Member) → o ≡ Some m → is_departing m ≡ true → queued o ≡ None
 queued_departing o m found goes = ap queued found ∙ ap (λ d. if d then None else Some (eligible_from m m.next, next_key m)) goes
 
--- where there is one, its next subtask is put in
+-- if there is one, its next subtask is put in
 pub told_next : (told : Name) (members : List Member) (m : Member) (before middle after : Queue) (new : Bool) (from : ℕ) (key : Key)
     → member_named members told ≡ Some m → is_departing m ≡ false → from ≡ eligible_from m m.next → key ≡ next_key m
     → middle ≡ finmap.remove before told → new ≡ not (finmap.contains_key middle key.name)

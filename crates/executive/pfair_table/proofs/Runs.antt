@@ -178,7 +178,7 @@ agree_down x a y b f g agree k n torn =
 pub untorn_left : (x y : Replica) → Agree x y → Untorn x
 untorn_left x y agree k n torn = elim (join_first entry_eq entry_exact (x.at k n) (y.at k n) Torn torn) [ inl h ↦ agree k n h | inr h ↦ agree k n h ]
 
--- where nothing that is held is torn, what was planned is planned of that
+-- if nothing that is held is torn, what was planned is planned of that
 planned_now : (s : Settings) (c : Course) → IsSound s c → Untorn c.held → (t : ℕ) → t < length c.tables → WasPlanned s c.held c.tables c.decided t
 planned_now s c sound whole t l =
     let p = sound.planned t l in

@@ -141,7 +141,7 @@ script_whole logs k n h = row_whole (slice_get logs k) n h
 
 -- ---- why a script isn't run
 
--- a script stalls where its frontier is too low
+-- a script stalls if its frontier is too low
 pub stalls : {T : Type 0} (run : LoggedRun) (r : Result T RunFault) (fault : RunFault) (mark slots : ℕ) → IsErrAnd r (λ e. e ≡ fault) → mark ≡ frontier (replica_of_logs run.logs) → slots ≡ run.settings.slots
     → (fault ≡ Stalled mark) × (mark < slots) → IfErr r (IsScriptFaultOf run)
 stalls run (Ok x) fault mark slots own mark_is slots_are stalled = absurd own

@@ -48,7 +48,7 @@ tables_long s x n = ap length (tables_listed s (replica_of x) n) ∙ (length-map
 one_more : (n : ℕ) → n + 1 ≡ suc n
 one_more n = omega arith
 
--- what is seen of a replica, where n slots are planned of what was held before
+-- what is seen of a replica, if n slots are planned of what was held before
 abbrev at_slot : Settings → HeldRows → HeldRows → ℕ → Bool → Dispatch
 at_slot s x of n spent = record { settings = s; held = x; tables = tables_to s of n; decided = decided_to s of n; forgotten = n; spent = spent }
 

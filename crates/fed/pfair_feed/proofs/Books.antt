@@ -45,7 +45,7 @@ time-told book (d ∷ ds) (t ∷ ts) e =
 joined : {A : Type 0} (xs : List A) (early late : ℕ) → early ≤ late → take early xs ++ take (late - early) (drop early xs) ≡ take late xs
 joined xs early late h = sym (take-add early (late - early) xs) ∙ ap (λ n. take n xs) (let e : early + (late - early) ≡ late = omega arith in e)
 
--- where no slot is behind a place, the place doesn't matter
+-- if no slot is behind a place, the place doesn't matter
 left_at : {A : Type 0} (xs : List A) (n slot : ℕ) → n ≡ min slot (length xs) → drop n xs ≡ drop slot xs
 left_at xs n slot e =
     elim (cases_order slot (length xs)) [

@@ -102,7 +102,7 @@ taken_more : (lines : List (List ℕ)) (line : List ℕ) (x y z : Replica) → A
 taken_more [] line x y z a t = (z, subst (λ (r : Replica). IsTakenFrom line r z) a t, refl)
 taken_more (l ∷ lines) line x y z a t = (a.0, a.1, taken_more lines line a.0 y z a.2 t)
 
--- where a byte was read
+-- if a byte was read
 not_reading : (kept : List ℕ) (byte : ℕ) (e : ProgramFault) (f g : Follow) (v w : Option (List ℕ)) → IsLeft kept (Some byte) e f g v w → e ≢ ReadFailed
 not_reading kept byte e f g v w (inl (inl (is, none), unchanged, keeps)) same = absurd (cc none)
 not_reading kept byte e f g v w (inl (inr (inl (is, other, at, inside)), unchanged, keeps)) same = absurd (let h : Memory ≡ ReadFailed = sym is ∙ same in cc h)

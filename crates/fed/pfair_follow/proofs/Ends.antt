@@ -75,13 +75,13 @@ module _ (law : WholeText) (output : Output) (run : Run) (f g : Follow) (fresh :
             (subst (λ (text : List ℕ). Appends before fed.begun text) (λ i. head_from (fresh.output_is i) (fresh.told_is i)) fed.head) fed.fed.fed.gone_on.written);
       }
 
-  -- where all slots are planned
+  -- if all slots are planned
   pub all_settled : IsFed f g given left before after → g.dispatch.settings.slots ≤ length g.dispatch.tables → IsFollowed output run (IsSettled run.settings) given left before after
   all_settled fed many = followed (IsSettled run.settings) fed (λ whole set.
       (let as_many = planned g.dispatch whole in
       subst (λ (s : Settings). s.slots ≤ frontier (replica_of g.dispatch.held)) set (omega (arith, as_many, many))))
 
-  -- where some are not
+  -- if some are not
   short : (fault : ProgramFault) → IsFedShort f g given left before after fault → IsShort output run given left before after fault
   short fault (is, few, fed) = (
     length g.dispatch.tables,

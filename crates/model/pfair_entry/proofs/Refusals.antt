@@ -23,7 +23,7 @@ use Rattle.pfair_entry.specs.declared.notice.NoticeFault.TheVariants.{Entry}
 next : (i place : ℕ) → suc i + place ≡ i + suc place
 next i place = omega arith
 
--- where each item passes, none fails
+-- if each item passes, none fails
 none_fails : (test : ℕ → ℕ → Bool) (place : ℕ) (items : List ℕ) → ((i : ℕ) → i < length items → test (i + place) (slice_index items i) ≡ true) → first_failing test place items ≡ None
 none_fails test place [] h = refl
 none_fails test place (x ∷ items) h =

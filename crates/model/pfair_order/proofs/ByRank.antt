@@ -94,6 +94,6 @@ module _ {K : Type 0} {R : K → K → Ordering} (o : IsTotalOrder R) where
               ∙ append-nil (take r given) ∙ take_all r given past ∙ sym (take_all (suc r) given (omega arith))
         ]
 
-    -- the front is the first m by rank, where it is not more than m, and less than m only where nothing is left
+    -- the front is the first m by rank, if it is not more than m, and less than m only if nothing is left
     pub by_rank_of_split : (m : ℕ) → length given ≤ m → (length given < m → rest ≡ []) → given ≡ first_by_rank R m keys
     by_rank_of_split m within all = sym (front_by_rank m all m (omega arith) ∙ take_all m given within)

@@ -112,7 +112,7 @@ module _ {K : Type 0} {R : K → K → Ordering} (o : IsTotalOrder R) where
   no_rest : (rest : List K) (k : K) → rest ≡ [] → Contains rest k → ⊥
   no_rest rest k e c = subst (λ l. Contains l k → ⊥) (sym e) (λ (d : Contains [] k). none-some k (place_of [] k d).1) c
 
-  -- what is given is the first m, where it is not more than m, and less than m only where nothing is left
+  -- what is given is the first m, if it is not more than m, and less than m only if nothing is left
   pub first_of_split : (m : ℕ) (keys given rest : List K) → IsSplit keys given rest → length given ≤ m → (length given < m → rest ≡ []) → AreFirst R m keys given
   first_of_split m keys given rest s within all = record {
     at_rank = λ i k e. (

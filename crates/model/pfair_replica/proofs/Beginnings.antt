@@ -59,7 +59,7 @@ module _ (row : ℕ → Held Logged) where
       (λ ne. run_entry es (suc n) e.floor m run.2 (omega (arith, low, ne)) (omega (arith, high)))
       (cases_eq m n)
 
-  -- the last entry of a run, where it has any
+  -- the last entry of a run, if it has any
   last_of : (es : List Logged) (n floor m : ℕ) → IsRun row n floor es → m + 1 ≡ n + length es → (length es ≡ 0) ⊎ ((e : Logged) × (row m ≡ Some (One e)) × (last_floor floor es ≡ e.floor))
   last_of [] n floor m run at = inl refl
   last_of (e ∷ []) n floor m run at = inr (e, ap row (let here : m ≡ n = omega arith in here) ∙ run.0, refl)

@@ -65,7 +65,7 @@ module _ (a b : List (ℕ × Row)) (p : ℕ) (v : Row) (ea : get nat_cmp a p ≡
 
 -- ---- all rows of two replicas of one shape
 
--- where the second row has something for which the first has no place, it holds a key at which the first holds nothing
+-- if the second row has something for which the first has no place, it holds a key at which the first holds nothing
 cell_outgrown : (a b : Held Logged) → OptionOutgrows (λ _ _. ⊥) a b → (a ≡ None) × (b ≢ None)
 cell_outgrown None None h = absurd h
 cell_outgrown (Some c) None h = absurd h

@@ -183,7 +183,7 @@ module _ (x : Replica) (xs : List Beginning) (first : Option EntryKey) (counters
       → ((k n : ℕ) → Between (x.at k n) (other k n) (now k n)) → WereApart x.capacity other now xs first
   before_join other now so_many r between = grind (arith, join_none, between_below)
 
--- where nothing is held
+-- if nothing is held
 begins_empty : (row : ℕ → Held Logged) → ((n : ℕ) → row n ≡ None) → (capacity : ℕ) → beginning_in capacity row ≡ record { count = 0; mark = 0 }
 begins_empty row nothing zero = refl
 begins_empty row nothing (suc left) = ap (λ c. record { count = length (run_on (goes_on c 0) (run_from row left 2)); mark = last_floor 0 (run_on (goes_on c 0) (run_from row left 2)) }) (nothing 1)

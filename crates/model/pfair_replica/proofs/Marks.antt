@@ -40,7 +40,7 @@ late_run row stamped t k (e ∷ es) n floor run late =
     let later : t < e.floor = omega (arith, low, late) in
     ap (λ s. s ++ said_in t k (suc n) es) (said_late t k n e (stamped n e run.0) later) ∙ late_run row stamped t k es (suc n) e.floor run.2 later
 
--- two rows whose entries are the same, where both hold one
+-- two rows whose entries are the same, if both hold one
 abbrev Alike : (ℕ → Held Logged) → (ℕ → Held Logged) → Type 0
 Alike r q = (n : ℕ) (e f : Logged) → r n ≡ Some (One e) → q n ≡ Some (One f) → e ≡ f
 
@@ -85,6 +85,6 @@ mark_le x y ry below untorn k =
 pub frontier_le : (x y : Replica) → IsReplica y → x.processors ≡ y.processors → Below x y → Untorn y → frontier x ≤ frontier y
 frontier_le x y ry same below untorn = grind (arith, least_le, mark_le)
 
--- where one is below the other, and that has nothing torn, they agree
+-- if one is below the other, and that has nothing torn, they agree
 pub below_agree : (x y : Replica) → Below x y → Untorn y → Agree x y
 below_agree x y below untorn k n = grind (arith, held_within, entry_exact)

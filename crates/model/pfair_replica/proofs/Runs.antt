@@ -48,7 +48,7 @@ module _ (row : ℕ → Held Logged) where
       by None more = omega arith
       by (Some e) more = let le = more e.floor in omega (arith, le)
 
-  -- where no entry goes on, the run ends
+  -- if no entry goes on, the run ends
   pub run_ends : (left n floor : ℕ) → goes_on (row n) floor ≡ None → run_from row left n floor ≡ []
   run_ends zero n floor none = refl
   run_ends (suc left) n floor none = ap (λ o. run_on o (run_from row left (suc n))) none
@@ -65,7 +65,7 @@ module _ (row : ℕ → Held Logged) where
   run_begins (e ∷ es) n floor left (suc total) m run sum at =
       grind (arith, le-leb, run_begins es (suc n) e.floor left total m run.2 (omega arith) (omega arith))
 
-  -- it has room where the row holds no later number
+  -- it has room if the row holds no later number
   run_short : (last : ℕ) → ((n : ℕ) (e : Logged) → row n ≡ Some (One e) → n ≤ last) → (es : List Logged) (n floor : ℕ) → n ≤ suc last → IsRun row n floor es → n + length es ≤ suc last
   run_short last within [] n floor room run = omega arith
   run_short last within (e ∷ es) n floor room run =

@@ -19,7 +19,7 @@ module _ (x : Replica) (k place : ℕ) where
       ap (said_in t k (place + 1)) (drop_more es place e (slice_get_within es place e is))
       ∙ (λ i. said_by t k (place + 1) (get_or_from_slice_get es place e e is i).said ++ said_in t k (next i) (drop (place + 1) es))
 
-  -- so where that is noted the rest is what is behind it
+  -- so if that is noted the rest is what is behind it
   pub noted_next : (t : ℕ) (e : Logged) (all now then_now : List Said) → slice_get (sound_beginning x k) place ≡ Some e → then_now ≡ now ++ said_by t k (place + 1) e.said → now ++ said_behind x t k place ≡ all → then_now ++ said_behind x t k (place + 1) ≡ all
   noted_next t e all now then_now is noted so_far =
       ap (λ xs. xs ++ said_behind x t k (place + 1)) noted

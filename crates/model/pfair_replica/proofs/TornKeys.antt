@@ -97,7 +97,7 @@ more_filter g p (x ∷ xs) = grind (arith, more_filter g p xs)
 torn_more : (x : Replica) → is_more (torn_keys x) ≡ has_torn x
 torn_more x = more_flat (torn_in x) (numbers_below x.processors) ∙ (λ i. list_any (λ k. more_filter (entry_key k) (λ n. is_torn (x.at k n)) (numbers_below x.capacity) i) (numbers_below x.processors))
 
--- there is a first torn key exactly where the test finds one
+-- there is a first torn key exactly if the test finds one
 pub torn_test : (x : Replica) → is_some (slice_get (torn_keys x) 0) ≡ has_torn x
 torn_test x = some_more (torn_keys x) ∙ torn_more x
 

@@ -104,7 +104,7 @@ word_fails word e d h = by (long_of word) refl (short_of word) refl
     by None f (Some flags) g = bundle_fails (length flags) word flags (rw (e, d, f, g) at h)
     by None f None g = some (rw (e, d, f, g) at h)
 
--- where the faults of the words are none, so are those of the first
+-- if the faults of the words are none, so are those of the first
 first_turn : (word : Text) (rest : List Text) → fault_of line (word ∷ rest) ≡ [] → turn_fault top names (walk_from nothing_held) word ≡ []
 unfolding walk_fault
 first_turn word rest h = no_more _ _ (no_more _ _ h)
@@ -116,7 +116,7 @@ abbrev name_in : Named → Option Named → Text
 name_in other None = other.0
 name_in other (Some n) = n.0
 
--- where the first word is this command's name, it is the one that is answered
+-- if the first word is this command's name, it is the one that is answered
 is_first : (name word : Text) (rest : List Text) (n : Named) (rows : List Row) → bytes_eq name word ≡ true → subcommand_of line (name ∷ rest) ≡ Some (name, rows) → subcommand_of line (word ∷ rest) ≡ Some n → Begins n.0 (word ∷ rest)
 is_first name word rest n rows same first is =
     let word_is : name ≡ word = (bytes_eq-Decides name word).0 same in

@@ -39,7 +39,7 @@ no_long word h = ap (λ o. option_and_then long_of_rest (option_and_then (strip_
 no_short : (word : Text) → IsPlain word → short_of word ≡ None
 no_short word h = ap (option_and_then short_of_rest) (no_dash word h)
 
--- where no option waits for a value and no `--` stood before
+-- if no option waits for a value and no `--` stood before
 abbrev idle_at : Walk → Walk
 idle_at w = record w { waiting = idle; is_trailing = false; stopped = None }
 

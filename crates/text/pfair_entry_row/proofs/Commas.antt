@@ -13,7 +13,7 @@ use Rattle.pfair_entry_row.specs.Row.{HasNoComma}
 abbrev pub first_comma : List ℕ → ℕ
 first_comma row = position_or_len (λ b. b == 44) row
 
--- where no comma comes, a row is one part
+-- if no comma comes, a row is one part
 pub one_part : (row : List ℕ) → length row ≤ first_comma row → parts row ≡ row ∷ []
 one_part row past = slice_split_none (λ b. b == 44) row (λ k d inside. fails_before_first (λ b. b == 44) row k d (omega arith))
 
@@ -37,7 +37,7 @@ parts-join first [] h more = slice_split_none (λ b. b == 44) first h
 parts-join first (next ∷ rest) h more =
     slice_split_at (λ b. b == 44) first 44 (join_with_byte 44 (next ∷ rest)) h refl ∙ ap (λ fs. first ∷ fs) (parts-join next rest more.0 more.1)
 
--- where a place is found, it is that of the first comma
+-- if a place is found, it is that of the first comma
 pub place_is : (row : List ℕ) (at : ℕ) (r : Option ℕ) → r ≡ cond (ltb (first_comma row) (length row)) (Some (first_comma row)) None → r ≡ Some at → (first_comma row ≡ at) × (first_comma row < length row)
 place_is row at r found is = (grind (arith, nat_tests), grind (arith, nat_tests))
 

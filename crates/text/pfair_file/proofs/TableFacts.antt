@@ -7,7 +7,7 @@ use Rattle.toml.proofs.Views.{items_view-drop}
 use Rattle.pfair_file.specs.Entries.{Logs, tables_of, with_entries, with_entry, with_items}
 use Rattle.pfair_file.specs.declared.fault.FileFault.{FileFault}
 
--- what is left to do at the i-th value, where all are tables
+-- what is left to do at the i-th value, if all are tables
 pub record IsLeft (version : ℕ) (start now : Logs) (items : List Value) (i : ℕ) : Type 0 where
   pub tables : List Members
   pub are_tables : tables_of (items_view (drop i items)) ≡ Some tables

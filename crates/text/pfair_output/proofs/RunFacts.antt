@@ -17,7 +17,7 @@ use Rattle.pfair_output.specs.Told.{book_rows, slot_told}
 use Rattle.pfair_table.proofs.Runs.{length_numbers}
 use Rattle.pfair_output.proofs.WorldFacts.{book_after, rows_after}
 
--- how many slots of a script are planned, where its logs settle all of them
+-- how many slots of a script are planned, if its logs settle all of them
 pub all_slots : (s t : Settings) (x y : Replica) → s ≡ t → x ≡ y → s.slots ≤ frontier x → s.slots ≡ min (frontier y) t.slots
 all_slots s t x y settings held settled = let slots = ap (λ (s : Settings). s.slots) settings in let mark = ap frontier held in omega (arith, slots, mark, settled)
 

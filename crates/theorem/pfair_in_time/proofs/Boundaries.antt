@@ -171,7 +171,7 @@ effect_step machine t ms a apart sound weight =
 
 -- ---- all decisions
 
--- the same, where some may be freed
+-- the same, if some may be freed
 record Steps (machine : Machine) (t : ℕ) (old new : List Member) : Type 0 where
   sound : AllSound machine.frame new
   from : (n : Member) → Among new n → ((m : Member) × Among old m × Descends t m n) ⊎ IsNew t n

@@ -56,7 +56,7 @@ bound_le_claim m i j h le =
           omega arith
     ]
 
--- where a key isn't among the first, these are as many as there may be, and each goes before it
+-- if a key isn't among the first, these are as many as there may be, and each goes before it
 pub record IsPast (m : ℕ) (first : List Key) (k : Key) : Type 0 where
   pub full : length first ≡ m
   pub before : (g : Key) → Contains first g → GoesBefore g k

@@ -97,7 +97,7 @@ module _ (s : Settings) (x : Replica) (frame : 0 < s.frame) (weights : (t : ℕ)
           let joined : m.joined ≡ a.joined = ap (λ (b : Task). b.joined) p.1 in
           record { weight = p.0.weight; period = p.0.period; starts = λ i. omega arith; rises = λ i. theta_rises m i (i + 1) (omega arith) }
 
-  -- a member's next subtask, where its offset doesn't change any more
+  -- a member's next subtask, if its offset doesn't change any more
   key_is : (t : ℕ) (m : Member) → IsFinal s x weights n t m → (as_run s x n).offset (task_of m) m.next ≡ theta m m.next → KeyIs (as_run s x n) (subtask_of m) (next_key m)
   key_is t m f offset = record {
     due = ap (λ (w : Share). deadline_of w m.next ((as_run s x n).offset (task_of m) m.next)) f.weight ∙ ap (λ (o : ℕ). deadline_of m.weight m.next o) offset;

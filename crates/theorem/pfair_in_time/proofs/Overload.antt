@@ -20,7 +20,7 @@ use Rattle.pfair_in_time.specs.Schedules.{Arrival, quanta_before, NoneServesMore
 
 -- ---- sums
 
--- where one sum is below another, so is one of its parts
+-- if one sum is below another, so is one of its parts
 lesser_part : {A : Type 0} (f g : A → ℕ) (xs : List A) → sum_by f xs < sum_by g xs → (x : A) × Among xs x × (f x < g x)
 lesser_part f g [] less = absurd (omega arith)
 lesser_part f g (x ∷ xs) less =

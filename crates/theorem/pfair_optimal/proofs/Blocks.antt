@@ -13,7 +13,7 @@ use Rattle.pfair_optimal.proofs.Holes.{is_served, AreHoles, served_some}
 use Rattle.pfair_optimal.proofs.Shares.{shares, shares_le_cost, unserved_none, shares_member, left_over}
 use Rattle.pfair_optimal.proofs.Totals.{total, total_among}
 
--- the first slot of the block that slot n is in, which is n itself where the slot before it is full
+-- the first slot of the block that slot n is in, which is n itself if the slot before it is full
 abbrev pub start : Run → ℕ → Subtask → ℕ → ℕ
 start x td missed zero = 0
 start x td missed (suc n) = cond (is_full x td missed n) (suc n) (start x td missed n)

@@ -19,7 +19,7 @@ pub record Wrapped (w : Share) (i a q : ℕ) : Type 0 where
   pub low : a * w.cost < i * q + w.cost
   pub high : i * q < a * w.cost
 
--- where the b-bit is 1 the weight is below 1
+-- if the b-bit is 1 the weight is below 1
 below_one : (w : Share) (i : ℕ) → IsWeight w.cost w.period → b_bit_of w i ≡ 1 → w.cost < w.period
 below_one w i h bit =
     elim (cases_lt w.cost w.period) [
@@ -80,7 +80,7 @@ inner a i q e c p closes idle some low high =
           omega arith)
     ]
 
--- the cascade has ended by n - i slots after the deadline just where n idle slots are a whole number of costs more
+-- the cascade has ended by n - i slots after the deadline exactly if n idle slots are a whole number of costs more
 cascade_ends : (w : Share) (i a q n : ℕ) → IsWeight w.cost w.period → Wrapped w i a q → (cascade_end w (closing w i) ≤ a + n) ↔ (a * w.cost ≤ n * q)
 cascade_ends w i a q n h at = (from, to)
   where

@@ -31,7 +31,7 @@ share_le_cost w i theta v =
 part_rises : (p e x low y : ℕ) → 0 < e → 0 < p → y ≡ x + e → low < x + e → x < low + p → 0 < min p (y - low) - min p (x - low)
 part_rises p e x low y some_e some_p is above below = omega arith
 
--- a slot gives something just where it lies in the window
+-- a slot gives something exactly if it lies in the window
 pub share_in_window : (w : Share) (i theta v : ℕ) → IsWeight w.cost w.period → 1 ≤ i → (0 < share_of w i theta v) ↔ ((release_of w i theta ≤ v) × (v < deadline_of w i theta))
 share_in_window w i theta v h first = (inside, some)
   where

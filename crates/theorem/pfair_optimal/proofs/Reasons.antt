@@ -1,5 +1,5 @@
--- The subtasks that a missed one hangs on. Back from the miss, slot by slot: where one of them waits, all rows of the slot come in;
--- where none does, those rows come in whose next subtask is one of them and is released by the slot.
+-- The subtasks that a missed one hangs on. Back from the miss, slot by slot: if one of them waits, all rows of the slot come in;
+-- if none does, those rows come in whose next subtask is one of them and is released by the slot.
 use Rattle.std.proofs.Common.{◌≡◌, ℕ, zero, suc, ◌+◌, ◌-◌, ◌<◌, ◌≤◌, Bool, true, false, cond, not, ◌&&◌, ◌||◌, List, [], ◌∷◌, ◌++◌, length, arith, ap, refl, sym, ◌∙◌, subst, inl, inr, ⊎_elim}
 use Rattle.std.specs.Prelude.{◌⊎◌, ◌==◌, nat_le, filter}
 use Rattle.std.specs.List.{list_any}
@@ -57,7 +57,7 @@ picks x td missed v = picks_from x (later x td missed (suc v)) v
 abbrev pub reasons : Run → ℕ → Subtask → List Subtask
 reasons x td missed = later x td missed 0
 
--- a slot is full where one of them waits, and else a hole
+-- a slot is full if one of them waits, and else a hole
 abbrev pub is_full : Run → ℕ → Subtask → ℕ → Bool
 is_full x td missed v = list_any (waits x v) (reasons x td missed)
 

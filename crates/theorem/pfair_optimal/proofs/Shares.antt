@@ -15,7 +15,7 @@ use Rattle.pfair_optimal.proofs.Reasons.{picks, reasons, is_full, In, picks_rows
 use Rattle.pfair_optimal.proofs.Holes.{is_served, AreHoles, IsUnserved, unserved, unserved_on, reached}
 use Rattle.pfair_optimal.proofs.Totals.{total, total_some, total_among}
 
--- a subtask's share of a slot, and the same where it is of the task
+-- a subtask's share of a slot, and the same if it is of the task
 abbrev pub share : Run → Subtask → ℕ → ℕ
 share x z v = share_of (x.weight z.task) z.index (x.offset z.task z.index) v
 
@@ -52,7 +52,7 @@ module _ (x : Run) (is : IsRun x) (td : ℕ) (missed : Subtask) (m : IsFirstMiss
   pub share_inside : (z : Subtask) (v : ℕ) → 1 ≤ z.index → 0 < share x z v → (release x z ≤ v) × (v < deadline x z)
   share_inside z v first some = (share_in_window (x.weight z.task) z.index (x.offset z.task z.index) v (is.weights z.task) first).0 some
 
-  -- where a task has a share, one of its subtasks has
+  -- if a task has a share, one of its subtasks has
   pub shares_some : (a : Task) (v : ℕ) → 0 < shares x td missed a v → (i : ℕ) × In (reasons x td missed) (subtask_of a i) × (0 < share x (subtask_of a i) v)
   shares_some a v some =
       let t = total_some same_subtask subtask_exact (own_share x a v) (reasons x td missed) some in

@@ -53,7 +53,7 @@ module _ {A : Type 0} (same : A → A → Bool) (exact : (a b : A) → (same a b
   total_same f g [] h = refl
   total_same f g (x ∷ xs) h = let here = h x (among_here same exact xs x) in let rest = total_same f g xs (λ a i. h a (among_more same exact x xs a i)) in omega arith
 
-  -- where a sum is above 0, one of its terms is
+  -- if a sum is above 0, one of its terms is
   pub total_some : (f : A → ℕ) (xs : List A) → 0 < total f xs → (a : A) × (is_among same xs a ≡ true) × (0 < f a)
   total_some f [] h = absurd (omega arith)
   total_some f (x ∷ xs) h =
@@ -77,7 +77,7 @@ module _ {A : Type 0} (same : A → A → Bool) (exact : (a b : A) → (same a b
       by false e rest more (inl i) = absurd (true≢false (sym ((exact a x).1 i) ∙ e))
       by false e rest more (inr i) = let r = more i in omega arith
 
-  -- where all terms above 0 stand in another list, the sum is at most the sum over that list
+  -- if all terms above 0 stand in another list, the sum is at most the sum over that list
   pub total_among : (f : A → ℕ) (xs ys : List A) → NoneTwice same xs → ((a : A) → is_among same xs a ≡ true → 0 < f a → is_among same ys a ≡ true) → total f xs ≤ total f ys
   total_among f [] ys apart h = omega arith
   total_among f (x ∷ xs) ys apart h =

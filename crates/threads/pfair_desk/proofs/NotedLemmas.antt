@@ -158,7 +158,7 @@ more_refl w = record { cells = refl; long = refl; grows = λ p e is. is }
 pub more_trans : (u v w : Knowledge) → KnowMore u v → KnowMore v w → KnowMore u w
 more_trans u v w a b = record { cells = b.cells ∙ a.cells; long = b.long ∙ a.long; grows = λ p e is. b.grows p e (a.grows p e is) }
 
--- a note that comes to know e, where it knew nothing else
+-- a note that comes to know e, if it knew nothing else
 more_knowing : (w : Knowledge) (p : ℕ) (e : Logged) → IfSome (slice_index_or w.known p None) (λ y. y ≡ e) → KnowMore w (knowing w p e)
 more_knowing w p e agrees = record {
   cells = refl;

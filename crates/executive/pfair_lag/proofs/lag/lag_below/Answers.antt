@@ -9,7 +9,7 @@ use Rattle.pfair_lag.proofs.lag.lag_below.Goals.{Then-period-given, After-loop-t
 pub loop-time-init : goal.loop-time-init
 loop-time-init c = (sym (quanta_zero c.args.picks.now c.in_ok-check_picks.ensures.rising), λ t h. absurd (omega arith))
 
--- where the walk stops, the lag is 1 or more
+-- when the walk stops, the lag is 1 or more
 too_late : (c : Then-period-given) → LagBelowOne c.args.weight c.args.picks.now c.args.horizon → ⊥
 too_late c lag =
     let at = of_lag_below_one c.args.weight c.args.picks.now c.args.horizon lag c.loop-time.time (omega arith) in
@@ -27,7 +27,7 @@ returns-then-period-given-clause-deadlines c =
 pub loop-time-preserved : goal.loop-time-preserved
 loop-time-preserved c = grind (arith, common_steps)
 
--- where the walk ends, it has seen each time
+-- when the walk ends, it has seen each time
 walked : (c : After-loop-time) → LagBelowOne c.args.weight c.args.picks.now c.args.horizon
 walked c = lag_below_one c.args.weight c.args.picks.now c.args.horizon (λ t within.
     let here : t * c.cost-cost.result < (quanta_before c.args.picks.now t + 1) * c.period-period.result = c.loop-time.invariant.1 t (omega arith) in

@@ -8,7 +8,7 @@ use Rattle.pfair_lag.proofs.lag.lag_within.Goals.{Joined-then-due-period, After-
 pub loop-time-init : goal.loop-time-init
 loop-time-init c = (sym (quanta_zero c.args.picks.now c.in_ok-check_picks.ensures.rising), λ t h. absurd (omega arith))
 
--- where the walk stops, the lag is out of its bounds
+-- when the walk stops, the lag is out of its bounds
 out_of_bounds : (c : Joined-then-due-period) → LagWithin c.args.weight c.args.picks.now c.args.horizon → ⊥
 out_of_bounds c lag =
     let at = lag_at c.args.weight c.args.picks.now c.args.horizon c.loop-time.time lag (omega arith) in
@@ -32,7 +32,7 @@ loop-time-preserved c =
       below_more (λ t. LagAt c.cost-cost.result c.period-period.result c.args.picks.now t) c.loop-time.time c.loop-time.invariant.1 here,
     )
 
--- where the walk ends, it has seen each time
+-- when the walk ends, it has seen each time
 walked : (c : After-loop-time) → LagWithin c.args.weight c.args.picks.now c.args.horizon
 walked c = from_lag_at c.args.weight c.args.picks.now c.args.horizon (λ t within.
     let here : LagAt c.cost-cost.result c.period-period.result c.args.picks.now t = c.loop-time.invariant.1 t (omega arith) in

@@ -4,7 +4,7 @@ use Rattle.pfair_replica.specs.Replica.{has_torn}
 use Rattle.pfair_feed.specs.Follow.{IsGrown}
 use Rattle.pfair_feed.proofs.planning.plan_all.Given as goal
 
--- more is planned, but where something is torn or the dispatcher is spent
+-- more is planned, unless something is torn or the dispatcher is spent
 abbrev pub invariant-slots : goal.invariant-slots
 invariant-slots g l = record {
   grown : IsGrown l.fn.dispatcher l.dispatcher;

@@ -18,7 +18,7 @@ use Rattle.pfair_file.proofs.tables.add_entry.Goals as goal
 log_there : (logs : Vec (Vec Logged Global) Global) (i : ℕ) (log : Vec Logged Global) → i < length logs.items → log ≡ get_or logs.items i log → get_or (lists_of logs.items) i [] ≡ log.items
 log_there logs i log within at = get_or-map (λ l. l.items) logs.items i log [] within ∙ ap (λ (l : Vec Logged Global). l.items) (sym at)
 
--- where its log is longer by what the table makes
+-- if its log is longer by what the table makes
 longer_there : (logs : Vec (Vec Logged Global) Global) (version place : ℕ) (table : Members) (made : Made) (log new : Vec Logged Global)
     → made.processor < length logs.items → log ≡ get_or logs.items made.processor log
     → made_at version (length (lists_of logs.items)) place table ≡ Ok made → (r : Result (Unit {0}) FileFault)
@@ -28,7 +28,7 @@ longer_there logs version place table made log new within at read (Ok x) longer 
     rw (read, log_there logs made.processor log within at, longer, map-set (λ (l : Vec Logged Global). l.items) logs.items made.processor new) refl
 longer_there logs version place table made log new within at read (Err e) longer = longer
 
--- where the table's entry is refused
+-- if the table's entry is refused
 refused_there : (logs : Vec (Vec Logged Global) Global) (version place : ℕ) (table : Members) (made : Made) (log : Vec Logged Global)
     → made.processor < length logs.items → log ≡ get_or logs.items made.processor log
     → made_at version (length (lists_of logs.items)) place table ≡ Ok made → (r : Result (Unit {0}) FileFault)

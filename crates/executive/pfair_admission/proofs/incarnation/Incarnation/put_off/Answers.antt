@@ -12,7 +12,7 @@ use Rattle.pfair_admission.proofs.incarnation.Incarnation.put_off.Goals.{After-i
 room : (c : After-index) → last_offset (member_of c.self.inside) + c.args.by ≤ MAX_OFFSET
 room c = let view = ap last_offset c.self.view_is in omega (arith, view, c.requires.room)
 
--- the subtask is a later one, where it is not the next
+-- the subtask is a later one, if it is not the next
 later : (c : After-index) → (c.args.index ≡ c.index.result → ⊥) → c.self.inside.stepper.index < c.args.index
 later c other =
     let view = ap (λ (m : Member). m.next) c.self.view_is in

@@ -40,7 +40,7 @@ left c =
     (is_written (is_there c.args.slot) c.args.name.now c.args.self.now.members.entries c.in-Some.place c.index_mut.result.now c.depart-decision.new.self (who c).only (who c).counts_there) c.depart-decision.ensures.member
     ∙ ap (λ (d : Decision). present c.args.slot (effect c.args.slot (present c.args.slot (listed c.args.self.now)) (Depart c.args.name.now) d)) (found c)
 
--- what stays claimed where somebody departs
+-- what stays claimed if somebody departs
 kept : (c : After-depart-decision) (slot claim : ℕ) → c.depart-decision.new.self ≡ with_freeing slot c.index_mut.result.now → claim + cond (is_there c.args.slot c.depart-decision.new.self) 0 (units_of c.index_mut.result.now.weight c.args.self.now.frame) ≡ c.args.self.now.claim
     → IsLedger (is_there c.args.slot) (record c.args.self.now { members = with_value_at c.args.self.now.members c.in-Some.place c.depart-decision.new.self; claim = claim; first_freeing = earlier_of c.args.self.now.first_freeing (Some slot) })
 kept c slot claim is sum =

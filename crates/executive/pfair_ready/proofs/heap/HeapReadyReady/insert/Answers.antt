@@ -39,7 +39,7 @@ noted c =
       )
     ]
 
--- where an allocation fails what waits is as it was
+-- if an allocation fails what waits is as it was
 back : (c : Joined-release-self) (after : Queue) → after ≡ finmap.remove c.if-release-self.self-inside.waiting c.args.key.name → after ≡ c.self.inside.waiting
 back c after removed =
     removed
