@@ -49,6 +49,14 @@ pub record JobsFillPeriods : Type 0 where
   pub due : (w : Share) (k theta : ℕ) → IsWeight w.cost w.period → deadline_of w (k * w.cost) theta ≡ theta + k * w.period
   pub apart : (w : Share) (k : ℕ) → IsWeight w.cost w.period → b_bit_of w (k * w.cost) ≡ 0
 
+-- k jobs later windows, b-bits and starts of jobs are the same, k periods later; and so are the group deadlines of a heavy weight
+pub record JobsRepeat : Type 0 where
+  pub releases : (w : Share) (i k theta : ℕ) → IsWeight w.cost w.period → 1 ≤ i → release_of w (i + k * w.cost) theta ≡ release_of w i theta + k * w.period
+  pub deadlines : (w : Share) (i k theta : ℕ) → IsWeight w.cost w.period → deadline_of w (i + k * w.cost) theta ≡ deadline_of w i theta + k * w.period
+  pub b_bits : (w : Share) (i k : ℕ) → IsWeight w.cost w.period → b_bit_of w (i + k * w.cost) ≡ b_bit_of w i
+  pub group_deadlines : (w : Share) (i k theta : ℕ) → IsWeight w.cost w.period → IsHeavy w → group_deadline_of w (i + k * w.cost) theta ≡ group_deadline_of w i theta + k * w.period
+  pub starts : (w : Share) (i k : ℕ) → IsWeight w.cost w.period → 1 ≤ i → starts_job_of w (i + k * w.cost) ≡ starts_job_of w i
+
 -- names are equal exactly if their bytes are identical, a proper prefix goes first, and else the first byte that
 -- differs decides
 pub record NamesInByteOrder (eq : List ℕ → List ℕ → Bool) (cmp : List ℕ → List ℕ → Ordering) : Type 0 where

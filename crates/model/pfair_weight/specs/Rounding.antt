@@ -1,12 +1,12 @@
 -- Facts about quotients that are rounded down and up.
-use Rattle.std.specs.Prelude.{ℕ, ◌≡◌, ◌+◌, ◌-◌, ◌*◌, ◌/◌, ◌<◌, ◌≤◌}
+use Rattle.std.specs.Prelude.{ℕ, ◌≡◌, ◌+◌, ◌-◌, ◌*◌, ◌/◌, ◌%◌, ◌<◌, ◌≤◌, min}
 use Rattle.std.specs.Int.{div_ceil}
 use Rattle.std.proofs.Common.{arith, inl, inr, ap, ◌∙◌}
 use Rattle.std.proofs.lemmas.Bool.{cases_lt}
 use Rattle.std.proofs.Math.Nat.{le_refl}
 use Rattle.std.proofs.lemmas.Grind.{div_ceil_times}
 use Rattle.std.proofs.lemmas.Nat.{mul-le}
-use Rattle.std.proofs.Math.Nat.{le-div_iff_mul-le}
+use Rattle.std.proofs.Math.Nat.{le-div_iff_mul-le, add-mul-div_right, add-mul-mod_self_right}
 
 -- from a product that is smaller, at one positive factor, the other factor is smaller
 pub lt_of_mul : (a b d : ℕ) → a * d < b * d → a < b
@@ -58,6 +58,14 @@ div_ceil_of_multiple m d p =
     let up : div_ceil (m * d) d ≤ m = div_ceil_le (m * d) d m p (le_refl (m * d)) in
     let reached : m * d ≤ div_ceil (m * d) d * d = (div_ceil_times (m * d) d p).0 in
     let below : m < div_ceil (m * d) d + 1 = lt_of_mul m (div_ceil (m * d) d + 1) d (omega arith) in
+    omega arith
+
+-- a dividend that is k divisors more makes the quotient k more
+pub div_ceil_more : (n k d : ℕ) → 0 < d → div_ceil (n + k * d) d ≡ div_ceil n d + k
+div_ceil_more n k d p =
+    let quotient : (n + k * d) / d ≡ n / d + k = add-mul-div_right n k p in
+    let rest : (n + k * d) % d ≡ n % d = add-mul-mod_self_right n k d in
+    let rounded : min 1 ((n + k * d) % d) ≡ min 1 (n % d) = ap (λ r. min 1 r) rest in
     omega arith
 
 -- one multiple more

@@ -2,7 +2,7 @@
 //!
 //! Each function states one law and does nothing.
 ghost use Rattle.std.specs.Prelude.{◌≡◌, ◌^◌};
-ghost use Rattle.pfair_weight.specs.Laws.{NoWindowIsEmpty, WindowsRise, WindowsMeet, WindowsByShare, GroupDeadlines, DelaysShift, JobsFillPeriods, NamesInByteOrder};
+ghost use Rattle.pfair_weight.specs.Laws.{NoWindowIsEmpty, WindowsRise, WindowsMeet, WindowsByShare, GroupDeadlines, DelaysShift, JobsFillPeriods, JobsRepeat, NamesInByteOrder};
 
 use crate::name::TaskName;
 use crate::weight::Weight;
@@ -57,6 +57,12 @@ pub fn delays_shift()
 /// The first is released where a period begins and the last is due where it ends, with b-bit 0.
 pub fn jobs_fill_periods()
     ensures { JobsFillPeriods }
+{}
+
+/// All that PD2 looks at repeats after a job: some jobs later a window opens and closes as many
+/// periods later, with the same b-bit, and a heavy weight's group deadline is as much later.
+pub fn jobs_repeat()
+    ensures { JobsRepeat }
 {}
 
 /// `==` of names is true exactly if their bytes are identical. By `cmp` a proper prefix
