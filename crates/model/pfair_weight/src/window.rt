@@ -60,9 +60,8 @@ pub fn b_bit(weight: Weight, index: u64) -> u64
 /// For a heavy weight below 1 it is the slot where the cascade of windows of two slots ends that
 /// the subtask is in (Anderson and Srinivasan): the first slot t at or after its deadline such
 /// that some subtask's window closes at t with b-bit 0, or closes at t + 1 and has three slots.
-/// All subtasks count as if they came at the offset `theta`. The formula is this project's own.
-/// That it gives this slot is proved for subtasks with b-bit 1 (the law
-/// `group_deadlines_end_cascades` of `pfair_optimal`) and tested for all periods up to 32.
+/// All subtasks count as if they came at the offset `theta`. The formula is this project's own,
+/// and gives this slot by the law `group_deadlines_are_least` of `pfair_optimal`.
 pub fn group_deadline(weight: Weight, index: u64, theta: u64) -> u64
     requires first { 1 ≤ index }
     requires last { index ≤ MAX_INDEX }

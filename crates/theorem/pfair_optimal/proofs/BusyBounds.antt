@@ -35,7 +35,7 @@ below_one w i h bit =
     ]
 
 -- no subtask closes before its index
-index_le_closing : (w : Share) (i : ℕ) → IsWeight w.cost w.period → i ≤ closing w i
+pub index_le_closing : (w : Share) (i : ℕ) → IsWeight w.cost w.period → i ≤ closing w i
 index_le_closing w i h =
     let ends = pinned w i h.some_cost in
     let wide = grow w.cost w.period i h.at_most_one in

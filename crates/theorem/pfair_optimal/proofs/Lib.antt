@@ -1,6 +1,7 @@
 pub mod Beginnings
 mod Blocks
 mod BusyBounds
+mod Cascades
 mod Counting
 mod Ends
 mod Fluids

@@ -27,6 +27,22 @@ GroupDeadlinesEndCascades =
     (w : Share) (i k theta : ℕ) → IsWeight w.cost w.period → IsHeavy w → b_bit_of w i ≡ 1
     → (deadline_of w i theta + k < group_deadline_of w i theta) ↔ ((deadline_of w (i + k) theta ≡ deadline_of w i theta + k) × (b_bit_of w (i + k) ≡ 1))
 
+-- a cascade of windows of two slots ends at time t: a subtask is due then with b-bit 0, or one whose window has three slots is due a
+-- slot later
+pub data EndsCascade (w : Share) (theta t : ℕ) : Type 0 where
+  gap : (k : ℕ) → 1 ≤ k → t ≡ deadline_of w k theta → b_bit_of w k ≡ 0 → EndsCascade w theta t
+  three_slots : (k : ℕ) → 1 ≤ k → t + 1 ≡ deadline_of w k theta → release_of w k theta + 3 ≡ deadline_of w k theta → EndsCascade w theta t
+
+-- t is the least time from the deadline of subtask i on at which a cascade ends
+pub record IsGroupDeadline (w : Share) (i theta t : ℕ) : Type 0 where
+  pub not_before : deadline_of w i theta ≤ t
+  pub ends : EndsCascade w theta t
+  pub least : (u : ℕ) → deadline_of w i theta ≤ u → EndsCascade w theta u → t ≤ u
+
+-- the formula of the group deadline is the definition by cascades, for each heavy weight below 1
+abbrev pub GroupDeadlinesAreLeast : Type 0
+GroupDeadlinesAreLeast = (w : Share) (i theta : ℕ) → IsWeight w.cost w.period → IsHeavy w → w.cost < w.period → 1 ≤ i → IsGroupDeadline w i theta (group_deadline_of w i theta)
+
 -- the busy bound of a subtask with b-bit 1 is past each such cascade, of a light weight too; and what is released before it, by then
 -- or later, has no greater share of its first slot than the next subtask has of its own
 pub record BusyBoundsLast : Type 0 where

@@ -2,7 +2,7 @@
 //! theorem of runs.
 //!
 //! Each function states one law and does nothing.
-ghost use Rattle.pfair_optimal.specs.Laws.{SharesFillWindows, SharesFitSlots, GroupDeadlinesEndCascades, BusyBoundsLast, RunsNeverMiss, BeginningsNeverMiss, SomeRunIsFull};
+ghost use Rattle.pfair_optimal.specs.Laws.{SharesFillWindows, SharesFitSlots, GroupDeadlinesEndCascades, GroupDeadlinesAreLeast, BusyBoundsLast, RunsNeverMiss, BeginningsNeverMiss, SomeRunIsFull};
 
 /// In the fluid schedule each subtask gets a quantum in its window and nothing outside of it: its
 /// shares of slots are above 0 just in the window, at most the cost, and add up to the period.
@@ -22,6 +22,14 @@ pub fn shares_fit_slots()
 /// b-bit 0 (Anderson and Srinivasan).
 pub fn group_deadlines_end_cascades()
     ensures { GroupDeadlinesEndCascades }
+{}
+
+/// The group deadline of a heavy subtask is the papers': the least time from its deadline on at which
+/// a cascade of windows of two slots ends, that is, at which some subtask of the task is due with
+/// b-bit 0, or one slot before some subtask is due whose window has three slots (Anderson and
+/// Srinivasan). The weight is below 1.
+pub fn group_deadlines_are_least()
+    ensures { GroupDeadlinesAreLeast }
 {}
 
 /// The busy bound, which is the group deadline of a heavy subtask and the deadline and b-bit of a
