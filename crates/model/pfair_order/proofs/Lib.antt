@@ -1,5 +1,6 @@
 pub mod OrderLemmas
 pub mod KeyLaws
+pub mod Later
 pub mod RankLemmas
 pub mod ByRank
 pub mod InOrder
