@@ -13,3 +13,4 @@ mod Windows
 mod Lags
 mod Overload
 mod Served
+mod Repeats

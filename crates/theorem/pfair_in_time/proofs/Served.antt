@@ -34,13 +34,13 @@ use Rattle.pfair_in_time.proofs.Worlds.{tables_before, next_more, next_new}
 
 -- ---- those who are there
 
-abbrev NoneLeaves : List Member → Type 0
+abbrev pub NoneLeaves : List Member → Type 0
 NoneLeaves ms = (m : Member) → Among ms m → m.freed_at ≡ None
 
 stays : (t : ℕ) (m : Member) → m.freed_at ≡ None → not (is_freed t m.freed_at) ≡ true
 stays t m e = ap (λ (o : Option ℕ). not (is_freed t o)) e
 
-all_present : (t : ℕ) (ms : List Member) → NoneLeaves ms → present t ms ≡ ms
+pub all_present : (t : ℕ) (ms : List Member) → NoneLeaves ms → present t ms ≡ ms
 all_present t [] none = refl
 all_present t (m ∷ ms) none = ap (λ b. cond b (m ∷ present t ms) (present t ms)) (stays t m (none m (inl refl))) ∙ ap (λ (l : List Member). m ∷ l) (all_present t ms (λ n h. none n (inr h)))
 
@@ -142,12 +142,16 @@ record IsStill (a : Arrival) (m : Member) : Type 0 where
   delays : m.delays ≡ []
   stays : m.freed_at ≡ None
 
+-- such arrivals are all that has to have weights
+pub says_weights : (x : Replica) (arrivals : List Arrival) → SaysOnly x arrivals → AllByRecursion (λ (a : Arrival). IsWeight a.weight.cost a.weight.period) arrivals → SaysWeights x
+says_weights x arrivals says weights zero a h =
+    let p = among_map announced arrivals a (subst (λ l. Among l a) says.first h) in
+    subst HasWeight (sym p.2) (among_all (λ (b : Arrival). IsWeight b.weight.cost b.weight.period) arrivals weights p.0 p.1)
+says_weights x arrivals says weights (suc t) a h = absurd (subst (λ l. Among (announcements l) a) (says.later (suc t) (omega arith)) h)
+
 module _ (s : Settings) (x : Replica) (arrivals : List Arrival) (frame : 0 < s.frame) (are : AreArrivals s.frame arrivals) (says : SaysOnly x arrivals) where
   weights : SaysWeights x
-  weights zero a h =
-      let p = among_map announced arrivals a (subst (λ l. Among l a) says.first h) in
-      subst HasWeight (sym p.2) (among_all (λ (b : Arrival). IsWeight b.weight.cost b.weight.period) arrivals are.weights p.0 p.1)
-  weights (suc t) a h = absurd (subst (λ l. Among (announcements l) a) (says.later (suc t) (omega arith)) h)
+  weights = says_weights x arrivals says are.weights
 
   decisions_are : decisions s x 0 ≡ with_decisions (said x 0) (all_decisions (machine s) 0 [] (map announced arrivals))
   decisions_are = ap (λ l. with_decisions (said x 0) (all_decisions (machine s) 0 [] l)) says.first

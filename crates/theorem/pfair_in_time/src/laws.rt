@@ -5,6 +5,7 @@ ghost use Rattle.pfair_in_time.specs.Dispatched.{DispatchersNeverMiss};
 ghost use Rattle.pfair_in_time.specs.InTime.{NoneMisses, EachRunsInTime};
 ghost use Rattle.pfair_in_time.specs.Lags.{LagsStayWithinOne};
 ghost use Rattle.pfair_in_time.specs.Laws.{BoundariesKeepMembers};
+ghost use Rattle.pfair_in_time.specs.Repeats.{TablesRepeat, RepeatsByPeriods};
 ghost use Rattle.pfair_in_time.specs.Schedules.{ServedWhereThereIsRoom, NoneServesMore};
 ghost use Rattle.pfair_in_time.specs.Windows.{WindowsAreKept, DeadlinesAreKept};
 
@@ -71,6 +72,19 @@ pub fn served_where_there_is_room()
 /// there are processors, some task is late at one of its deadlines up to the end of the frame.
 pub fn none_serves_more()
     ensures { NoneServesMore }
+{}
+
+/// A static schedule repeats: if nothing is said but arrivals at slot 0, and h is a common multiple of
+/// the periods of those that are admitted, the table of slot t + h is that of slot t, with the index
+/// of each subtask greater by the quanta that its task has in h slots, cost * h / period.
+pub fn tables_repeat()
+    ensures { TablesRepeat }
+{}
+
+/// So the first h tables give those of all slots, without a bound: that of slot t is the table of slot
+/// t mod h, with the quanta of the whole periods before it added to each index.
+pub fn repeats_by_periods()
+    ensures { RepeatsByPeriods }
 {}
 
 /// After a boundary each member is one that was there before, or has joined in it; and each that
