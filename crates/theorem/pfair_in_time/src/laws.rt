@@ -15,12 +15,14 @@ use pfair_table::laws::one_schedule;
 /// No admitted task misses. Whatever a replica holds, by the tables that follow from it the next
 /// subtask of each member that isn't departing is due after the end of each slot: in a frame of at
 /// least one slot, if each arrival that is said has a weight.
+#[tactic(auto, using(crate::proofs::InTime::none_misses))]
 pub fn none_misses()
     ensures { NoneMisses }
 {}
 
 /// Each row of a table is that of a member's next subtask, in a slot before its deadline and, unless
 /// the task may run early, from its release on.
+#[tactic(auto, using(crate::proofs::InTime::each_runs_in_time))]
 pub fn each_runs_in_time()
     ensures { EachRunsInTime }
 {}
@@ -41,6 +43,7 @@ pub fn dispatchers_never_miss()
 /// Of a member that isn't departing, isn't early and has no delay, each subtask that has run did so in
 /// its window, counted from the member's joining, and each that was due has run. So its lag
 /// stays strictly between -1 and 1 (`lags_keep_windows` of `pfair_lag`).
+#[tactic(auto, using(crate::proofs::Windows::windows_are_kept))]
 pub fn windows_are_kept()
     ensures { WindowsAreKept }
 {}
@@ -48,6 +51,7 @@ pub fn windows_are_kept()
 /// Of a member that isn't departing and has no delay, early or not, each subtask that has run did so
 /// before its deadline, and each that was due has run. So its lag stays below 1
 /// (`lags_keep_deadlines` of `pfair_lag`).
+#[tactic(auto, using(crate::proofs::Windows::deadlines_are_kept))]
 pub fn deadlines_are_kept()
     ensures { DeadlinesAreKept }
 {}
@@ -77,12 +81,14 @@ pub fn none_serves_more()
 /// A static schedule repeats: if nothing is said but arrivals at slot 0, and h is a common multiple of
 /// the periods of those that are admitted, the table of slot t + h is that of slot t, with the index
 /// of each subtask greater by the quanta that its task has in h slots, cost * h / period.
+#[tactic(auto, using(crate::proofs::Repeats::tables_repeat))]
 pub fn tables_repeat()
     ensures { TablesRepeat }
 {}
 
 /// So the first h tables give those of all slots, without a bound: that of slot t is the table of slot
 /// t mod h, with the quanta of the whole periods before it added to each index.
+#[tactic(auto, using(crate::proofs::Repeats::repeats_by_periods))]
 pub fn repeats_by_periods()
     ensures { RepeatsByPeriods }
 {}
@@ -90,6 +96,7 @@ pub fn repeats_by_periods()
 /// After a boundary each member is one that was there before, or has joined in it; and each that
 /// was there before is there still, or is freed. Its offsets never fall, and those of subtasks that
 /// ran, or whose release lies before the boundary, stay.
+#[tactic(auto, using(crate::proofs::Boundaries::boundaries_keep_members))]
 pub fn boundaries_keep_members()
     ensures { BoundariesKeepMembers }
 {}

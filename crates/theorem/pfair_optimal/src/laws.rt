@@ -28,6 +28,7 @@ pub fn group_deadlines_end_cascades()
 /// a cascade of windows of two slots ends, that is, at which some subtask of the task is due with
 /// b-bit 0, or one slot before some subtask is due whose window has three slots (Anderson and
 /// Srinivasan). The weight is below 1.
+#[tactic(auto, using(crate::proofs::Cascades::group_deadlines_are_least))]
 pub fn group_deadlines_are_least()
     ensures { GroupDeadlinesAreLeast }
 {}
