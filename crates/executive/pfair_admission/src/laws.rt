@@ -18,16 +18,19 @@ pub fn members_keep_room()
 {}
 
 /// A refused announcement changes nothing.
+#[tactic(auto, using(crate::proofs::Keeping::refused_stays))]
 pub fn refusals_change_nothing()
     ensures { RefusalsChangeNothing }
 {}
 
 /// The members stay in the order in which they joined.
+#[tactic(auto, using(crate::proofs::Keeping::order_boundary))]
 pub fn order_is_kept()
     ensures { OrderIsKept }
 {}
 
 /// Each announcement gets one decision.
+#[tactic(auto, using(crate::proofs::Keeping::one_each))]
 pub fn one_decision_each()
     ensures { OneDecisionEach }
 {}

@@ -47,11 +47,13 @@ pub fn events_leave_the_least()
 {}
 
 /// While nothing is torn, the tables so far begin the plan of the contents.
+#[tactic(auto, using(crate::proofs::Runs::plan_so_far))]
 pub fn plan_so_far()
     ensures { PlanSoFar }
 {}
 
 /// To add one to the next index of each task of a table is to count by the tables anew.
+#[tactic(auto, using(crate::proofs::NextIndexes::runs_are_counted))]
 pub fn runs_are_counted()
     ensures { RunsAreCounted }
 {}
@@ -65,12 +67,14 @@ pub fn places_are_kept()
 
 /// The places of a slot follow from the tables up to it, so that those who plan the same tables
 /// give the same places.
+#[tactic(auto, using(crate::proofs::PlacesKept::places_follow_tables))]
 pub fn places_follow_tables()
     ensures { PlacesFollowTables }
 {}
 
 /// The headline, of places: two dispatchers of equal settings, after any events, if what they
 /// hold agrees: a slot that both have planned has the same places.
+#[tactic(auto, using(crate::proofs::Alike::one_placing))]
 pub fn one_placing()
     ensures { OnePlacing }
 {}

@@ -9,12 +9,14 @@ use pfair_table::laws::{events_leave_the_least, one_table};
 
 /// The rows of what was planned, and of more behind it, are those of what was planned, and then
 /// those of the rest.
+#[tactic(auto, using(crate::proofs::RowsGoOn::rows_go_on))]
 pub fn rows_go_on()
     ensures { RowsGoOn }
 {}
 
 /// The header and the rows of a whole plan, from the first slot on, are the text that is written of
 /// a run at once.
+#[tactic(auto, using(crate::proofs::RowsGoOn::whole_texts))]
 pub fn whole_rows()
     ensures { WholeRows }
 {}

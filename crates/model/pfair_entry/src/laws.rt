@@ -14,6 +14,7 @@ pub fn limits()
 {}
 
 /// `==` of names holds of names with the same bytes, and of no others.
+#[tactic(auto, using(crate::specs::Exact::names_exact))]
 pub fn names_are_told_apart()
     ensures { IsExact ⟦<TaskName as PartialEq>⟧.eq }
 {}
@@ -25,6 +26,7 @@ pub fn entries_are_told_apart()
 
 /// The notes that a writer accepts are numbered 1, 2, 3 and so on, as many as there are, and their
 /// floors never fall.
+#[tactic(auto, using(crate::proofs::Notes::every_log_rises))]
 pub fn notes_rise()
     ensures { EveryLogRises }
 {}
