@@ -5,9 +5,10 @@
  * slot. It computes schedules; it does not execute tasks. docs/SPECIFICATION.md has the rules and docs/GLOSSARY.md the
  * words.
  *
- * Each processor has a log, whose entries announce that tasks arrive, depart or come late. A dispatcher takes entries
- * of all logs, in any order, and plans a slot once every log says that it announces nothing more at that slot (answers
- * are left out here):
+ * Each processor has a log, whose entries announce that tasks arrive or depart, or that subtasks are released late. An
+ * announcement has a stamp, the slot at which it takes effect. An entry has a floor, a slot below which neither it nor
+ * a later entry of the log is stamped. A dispatcher takes entries of all logs, in any order, and plans a slot once the
+ * floors of all logs are above it (answers are left out here):
  *
  *     struct pfair_dispatcher d = PFAIR_NONE;
  *     pfair_open(&d, 1, 6, 100, 2);               1 processor, a frame of 6 slots, 100 slots, logs of 2 entries
@@ -17,10 +18,9 @@
  *     pfair_table(&d, 0, &count, rows, room);     reads its table
  *     pfair_close(&d);
  *
- * FLOORS. A slot is planned once each log has a floor above it, and each floor takes an entry of a log that has at most
- * 4,096. If each slot had its floor, a log would be full after 4,096 slots. So know some slots ahead what you announce,
- * and raise the floor as seldom as that lead allows: no more often than every slots/4,000 slots, or with an
- * announcement.
+ * FLOORS. A slot is planned once each log has a floor above it. Each floor needs an entry, and a log has at most 4,096:
+ * with a floor for each slot it would be full after 4,096 slots. So announce some slots ahead, and raise the floor as
+ * seldom as that lead allows: in a run of S slots at most once in S/4,000 slots, or with an announcement.
  *
  * UNITS. Slot t is the time from t to t + 1. A quantum is one slot of one processor. Releases, deadlines, floors and
  * stamps are slots; periods, delays and offsets count slots, and costs quanta. Processors, slots and rows are numbered
@@ -35,7 +35,7 @@
  * libpfair_c.a, needs rattle_alloc, rattle_realloc and rattle_dealloc in place of the first three; those of the kit's
  * c/liblibc_c.a call them. Each function has a section of its own, so -Wl,--gc-sections drops what isn't called.
  *
- * X86-64. The code needs x86-64-v2, with the SSE registers enabled. No call asks for it: an older processor meets an
+ * X86-64. The code needs x86-64-v2, with the SSE registers enabled. No call checks for it: an older processor meets an
  * invalid instruction. A program for Linux asks __builtin_cpu_supports("x86-64-v2"). A kernel asks CPUID: leaf 1 has to
  * set bits 0, 9, 13, 19, 20 and 23 of ECX (SSE3, SSSE3, CMPXCHG16B, SSE4.1, SSE4.2, POPCNT), and leaf 0x80000001 bit 0
  * of ECX (LAHF). It enables the registers in CR0 (EM and TS are 0) and CR4 (OSFXSR and OSXMMEXCPT are 1).
@@ -44,8 +44,8 @@
  * direction flag is clear. They change xmm0 to xmm15 and no other vector or x87 state, so FXSAVE and FXRSTOR suffice
  * around calls in an interrupt. They use neither %fs nor %gs.
  *
- * STACK. A call takes at most so many bytes of stack, from its return address on, for every input (computed from the
- * archive). What malloc, realloc, free, memcpy, memmove, memset, __udivti3 and a dynamic linker take comes on top.
+ * STACK. A call uses at most this many bytes of stack, from its return address on, for every input (computed from the
+ * archive). What malloc, realloc, free, memcpy, memmove, memset, __udivti3 and a dynamic linker use comes on top.
  *
  *      4,100  pfair_open
  *     10,000  pfair_read_file, and 4,000 for each level of nested keys; it reads at most 80 levels
@@ -55,9 +55,9 @@
  *      1,000  pfair_lags
  *        450  all others
  *
- * INTERRUPTS. The code has a red zone: it writes up to 128 bytes below its stack pointer. So an interrupt during a call
- * takes a stack of its own (IST), or is off. One that pushes onto the stack that it finds corrupts the call without a
- * trace. Linux leaves room for the red zone of a program when it calls a signal handler.
+ * INTERRUPTS. The code has a red zone: it writes up to 128 bytes below its stack pointer. So interrupts during a call
+ * need a stack of their own (IST), or are off. An interrupt that pushes onto the stack of the call corrupts the call
+ * without a trace. Linux leaves room for the red zone of a program when it calls a signal handler.
  *
  * MEMORY. These calls allocate, and answer 90 if an allocation fails; all others allocate nothing:
  *
@@ -68,9 +68,9 @@
  * pfair_forget frees some of it earlier. The caller owns what its pointers lead to: the library copies what it needs,
  * and keeps no pointer of the caller's after a call.
  *
- * pfair_reserve allocates ahead for plans, and not for takes. An entry takes up to 190 bytes on average. One in 8 takes
- * of new entries allocates, or fewer if they come out of order: in at most 3 calls of malloc, for blocks of at most
- * 1,392 bytes (measured, in logs of 4,096 entries). So if malloc may be slow, takes belong before a tick, not in it.
+ * pfair_reserve allocates ahead for plans, and not for takes. An entry needs up to 190 bytes on average. Of 8 takes of
+ * new entries one allocates, or fewer if they come out of order: in at most 3 calls of malloc, for blocks of at most
+ * 1,392 bytes (measured, in logs of 4,096 entries). So if malloc may be slow, take entries before a tick, not in it.
  *
  * THREADS. The library has no state of its own, neither global nor of a thread.
  *  - Calls on different handles may run at the same time, as far as malloc, realloc and free may.
@@ -86,8 +86,9 @@
  *  - Each call but pfair_open and pfair_read_file answers 102 if a handle that it is given has no dispatcher. It checks
  *    this first (pfair_absorb and pfair_below second), and then changes and writes nothing. The lists leave it out.
  *  - A call writes its results if it answers 0, and after no other answer but those whose text says so.
- *  - A call with `rows` and `room` writes over the first rows. If there are more than `room`, it answers 103 and writes
- *    how many there are, but no row. So a `room` of 0 asks for their number. (pfair_windows writes no number.)
+ *  - A call with `rows` and `room` writes over the first of `rows`, and writes to `count` how many there are
+ *    (pfair_faults has two counts, pfair_windows none). If there are more than `room`, it answers 103 and writes the
+ *    count, but no row. So a `room` of 0 asks for the count.
  *
  * TORN AND SPENT. If a dispatcher has met two different entries for one number of a log, that number is torn, for good,
  * and nothing more is planned (30). If an allocation failed in a plan, the dispatcher is spent, and plans nothing until
@@ -210,14 +211,16 @@ struct pfair_miss {
 };
 
 /*
- * Writes the first subtask of a task of weight cost/period that is out of its window. `picks` are the slots in which
- * the task ran, whatever planned them, counted from the slot in which it joined: the first of them is that of subtask
- * 1, and so on. They are looked at up to the `horizon`, the number of slots that have passed (0 to 1,000,000). There
- * is no such subtask exactly if the lag of the task, from the joining slot to the horizon, is above -1 and below 1.
+ * Writes to `miss` the first subtask of a task of weight cost/period that is out of its window, or that there is none.
+ * `picks` are the slots in which the task ran, whatever planned them, counted from the slot in which it joined: the
+ * first of them is that of subtask 1, and so on. They are looked at up to the `horizon`, the number of slots that have
+ * passed (0 to 1,000,000). There is no such subtask exactly if the lag of the task, from the joining slot to the
+ * horizon, is above -1 and below 1.
  *   4 to 6  as pfair_window
  *   100     the horizon is out of its range
- *   40, 41  a slot isn't after the one before it; isn't before the horizon; `place` is the first one at fault, from 0
- * O(length).
+ *   40      a slot isn't after the one before it
+ *   41      a slot isn't before the horizon
+ * After 40 and 41, whichever fault is first in the list, `place` is that slot's place in it, from 0. O(length).
  */
 uint32_t pfair_first_miss(uint64_t cost, uint64_t period, uint64_t horizon, struct pfair_miss *miss, uint64_t *place, const uint64_t *picks, size_t length);
 
@@ -238,11 +241,11 @@ struct pfair_name {
 /* What an entry announces: nothing; that a task arrives, or departs; or that subtasks are released late. */
 enum pfair_kind { PFAIR_NOTHING = 0, PFAIR_ARRIVE = 1, PFAIR_DEPART = 2, PFAIR_LATE = 3 };
 
-/* An entry of a log. In one that is taken, fields that its kind doesn't need are ignored. */
+/* An entry of a log. If an entry is taken, fields that its kind doesn't need are ignored. */
 struct pfair_entry {
-    uint64_t floor;         /* from this entry on the log stamps nothing before this slot: 0 to 1,000,000 */
+    uint64_t floor;         /* neither this entry nor a later one of the log is stamped below it: 0 to 1,000,000 */
     uint64_t kind;          /* one of enum pfair_kind */
-    uint64_t at;            /* the stamp: at the boundary of which slot it is decided, from the floor to 1,000,000 */
+    uint64_t at;            /* the stamp: the slot at whose boundary it is decided, from the floor to 1,000,000 */
     struct pfair_name name; /* the task that is announced */
     uint64_t cost, period;  /* of an arrival, the weight: `cost` quanta in each `period` slots */
     uint64_t early;         /* of an arrival: 1 if a subtask may run before its release, as soon as the one before it
@@ -270,12 +273,12 @@ struct pfair_dispatcher {
 
 /*
  * Opens a dispatcher that has no entries and has planned nothing: for 1 to 64 processors, a frame of 1 to 1,000,000,000
- * slots, a run of 1 to 1,000,000 slots, and logs of at most `capacity` entries (1 to 4,096). An arrival is refused when
- * it is decided (21) if its period doesn't divide the frame.
+ * slots, a run of 1 to 1,000,000 slots, and logs of at most `capacity` entries (1 to 4,096). Weights are counted in
+ * quanta of a frame: if a period doesn't divide the frame, its arrival is refused when it is decided (21).
  *   101  the handle already has a dispatcher
  *   100  a number is out of its range
  *   90   an allocation failed
- * The handle is as before unless the answer is 0. O(M).
+ * The handle is as before unless the answer is 0. Time and memory are O(M), whatever the capacity.
  */
 uint32_t pfair_open(struct pfair_dispatcher *d, uint8_t processors, uint64_t frame, uint64_t slots, uint32_t capacity);
 
@@ -316,13 +319,14 @@ struct pfair_file_fault {
  *   60 to 65  the file's first fault, which is written to `fault`: 60 comes first, then the file's own keys, and then
  *             the entries' tables, each in order
  *   90        an allocation failed; this may come instead of 60 to 65
- * The handle is as before unless the answer is 0. O(length + e log e) for e entries.
+ * The handle is as before unless the answer is 0. Time is O(length + e log e) and memory O(length + e) for e entries;
+ * the dispatcher keeps O(e).
  */
 uint32_t pfair_read_file(struct pfair_dispatcher *d, struct pfair_file_fault *fault, const uint8_t *bytes, size_t length);
 
 /*
- * Frees the dispatcher. The handle is then PFAIR_NONE, and may be opened again. O(e + n + s + q) for e entries, and s
- * planned slots with q quanta and decisions.
+ * Frees the dispatcher, with all its memory. The handle is then PFAIR_NONE, and may be opened again. O(e + n + s + q)
+ * for e entries, and s planned slots with q quanta and decisions.
  */
 uint32_t pfair_close(struct pfair_dispatcher *d);
 
@@ -352,7 +356,7 @@ enum pfair_taken {
  *   13, 14   there is no such processor; no such number
  *   90       an allocation failed; only if the dispatcher had nothing under this number
  * Nothing has changed unless the answer is 0. A few look-ups, and one more for each entry by which the log's sound
- * beginning (pfair_mark) grows.
+ * beginning (pfair_mark) grows. Only a new entry needs memory: see MEMORY.
  */
 uint32_t pfair_take(struct pfair_dispatcher *d, uint8_t processor, uint32_t number, const struct pfair_entry *entry, uint64_t *taken);
 
@@ -366,7 +370,8 @@ struct pfair_taken_log {
  * the first that is refused. The counts are written after every answer but 102.
  *   13, 14  there is no such processor; no number `first` (1 to the capacity); also if `length` is 0
  *   100, 1 to 10, 14, 90  as pfair_take, of the first entry that is refused
- * Whatever the answer, the first `taken` entries are taken, and no others. The cost is that of pfair_take for each.
+ * Whatever the answer, the first `taken` entries are taken, and no others. Time and memory are those of pfair_take for
+ * each.
  */
 uint32_t pfair_take_log(struct pfair_dispatcher *d, uint8_t processor, uint32_t first, struct pfair_taken_log *counted, const struct pfair_entry *entries, size_t length);
 
@@ -378,7 +383,8 @@ uint32_t pfair_take_log(struct pfair_dispatcher *d, uint8_t processor, uint32_t 
  *   90   an allocation failed: some of the entries are taken, and absorbing the other again gives what one call would
  *        have given
  * Nothing has changed after 100 and 15. Two look-ups for each entry of the other; and in each log of which it has any,
- * one for each entry of the sound beginning, and one for each number up to the first torn one, or to the capacity.
+ * one for each entry of the sound beginning, and one for each number up to the first torn one, or to the capacity. Only
+ * new entries need memory, as in pfair_take.
  *
  * The exported functions pfair_absorb and pfair_below must not be given one handle twice. The macros see to that in C
  * and C++; other languages have to.
@@ -434,7 +440,7 @@ struct pfair_key {
  * beginning and its floor is lower than the last one there; the rest of its log is ignored.
  *   90   an allocation failed; only if there is such a key
  *   103  there are more than `room` keys; `torn` and `fallen` are written
- * A look-up for each number of each log, up to the capacity.
+ * A look-up for each number of each log, up to the capacity. It allocates a list of these keys, and frees it.
  */
 uint32_t pfair_faults(struct pfair_dispatcher *d, uint64_t *torn, uint64_t *fallen, struct pfair_key *rows, size_t room);
 
@@ -486,7 +492,7 @@ uint32_t pfair_plan_next(struct pfair_dispatcher *d, struct pfair_step *step);
  * PFAIR_PLANNED with slot `until` - 1, planned now or before, or says why the plans ended earlier.
  *   100  `until` is 0
  *   30, 31, 90  as pfair_plan_next, if fewer than `until` slots are planned; those planned before that stay
- * The cost is that of the plans.
+ * Time and memory are those of the plans.
  */
 uint32_t pfair_plan_to(struct pfair_dispatcher *d, uint64_t until, struct pfair_step *step);
 
@@ -521,13 +527,13 @@ uint32_t pfair_forget(struct pfair_dispatcher *d, uint64_t slots);
  * Planned slots stay as they are; forgotten ones are planned once more, and stay forgotten.
  *   30   a number is torn; nothing has changed
  *   90   an allocation failed: the dispatcher is spent, and else as before
- * The cost is that of the plans of all slots so far.
+ * The cost is that of the plans of all slots so far. It allocates what plans need for announcements and tasks.
  */
 uint32_t pfair_reopen(struct pfair_dispatcher *d);
 
 /*
- * Writes the frontier, the least mark of all processors: every announcement below this slot is known. It can fall only
- * when an entry of a sound beginning becomes torn. O(M).
+ * Writes the frontier, the least mark of all processors: every announcement below this slot is known, and the slots
+ * below it are settled: they can be planned. It can fall only when an entry of a sound beginning becomes torn. O(M).
  */
 uint32_t pfair_frontier(struct pfair_dispatcher *d, uint64_t *slot);
 
