@@ -41,7 +41,7 @@ Documents of the repository:
 pub(crate) const ENTRIES_TEXTS: Texts = Texts {
     about: "Prints the entries of a task file as rows, one for each entry of each log",
     usage: "pfair_follow entries <FILE>",
-    after: "Columns, of which no header is printed:
+    after: "Columns (no header is printed):
   processor,number,floor,at,kind,name,cost,period,early,index,by
 The logs come in order of processors, and each is closed by an entry with floor `slots`, as the
 reader of task files closes it. `pfair replay --help` shows a task file. A dash stands for nothing.
@@ -65,13 +65,14 @@ ends with its newline.
   0,3,6,-,-,-,-,-,-,-,-                only a floor: no more stamps before slot 6
   ?                                    asks which entries would settle more
 
-The rows of a slot are printed as soon as it is settled, and flushed before more is read.
+The rows of a slot are printed as soon as it is settled, that is, as soon as all logs have come,
+without a gap, to a floor above it. They are flushed before more is read.
 A refused row is reported on standard error, `pfair_follow: NUMBER TEXT: ROW`, and skipped, unless
 --strict is set. For `?`, and if the input ends too early, lines `missing PROCESSOR,NUMBER` on
 standard error name the entries that would settle more.
 If two contents of one entry meet, the run ends at once (30).
 
-Restart: a reader that has the rows of all slots below S asks for the rest with `--from S`."
+Restart: feed all entries again. `--from S` leaves out the rows of the slots below S."
         )
     };
 }
@@ -82,7 +83,7 @@ pub(crate) const REPLAY_TEXTS: Texts = Texts {
     after: with_rows!(
         "Columns:
   slot       the slot, from 0; a slot in which no task runs has no row
-  processor  the row in the slot's table, from 0, in PD2 order: neither a log nor where it runs
+  processor  the row's number in the slot's table, from 0, in PD2 order: not where it runs
   task       the task that has the quantum
   index      the index of its subtask, from 1
   place      (--affinity) the processor that runs it"

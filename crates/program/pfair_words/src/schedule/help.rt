@@ -86,10 +86,10 @@ Faults of the file: the number at the end, as in `62 floor of wrong kind at 7`, 
 of the file, and n for its n-th [[entry]]. The number in `entry 2 of processor 0 refused` counts
 the entries of that processor's log, from 1.
 
-Stalled: `52 stalled at slot S` says that the logs settle only the slots below S. In some log an
+Stalled: `52 stalled at slot S` says that only the slots below S can be planned. In some log an
 entry has a lower floor than the entry before it, and the rest of that log is ignored. The reader
-closes each log with an entry of floor `slots`, so floors only must not fall: put the entries of a
-log in the order of their floors, or plan at most S slots."
+closes each log with an entry of floor `slots`, so it is enough that no floor falls: put the
+entries of a log in the order of their floors, or plan at most S slots."
         )
     };
 }
@@ -100,7 +100,7 @@ pub(crate) const REPLAY_TEXTS: Texts = Texts {
     after: with_task_file!(
         "Columns:
   slot       the slot, from 0; a slot in which no task runs has no row
-  processor  the row in the slot's table, from 0, in PD2 order: neither a log nor where it runs
+  processor  the row's number in the slot's table, from 0, in PD2 order: not where it runs
   task       the task that has the quantum
   index      the index of its subtask, from 1
   place      (--affinity) the processor that runs it. A task that ran in the slot before stays on
