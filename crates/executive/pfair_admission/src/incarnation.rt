@@ -127,7 +127,7 @@ impl Incarnation {
 
     /// Returns the offset of the windows of subtask `index`, in slots: the joining slot and the
     /// accepted delays of this subtask and of those before it (the intra-sporadic model of Anderson
-    /// and Srinivasan). It goes through the accepted delays once.
+    /// and Srinivasan). O(d) for d accepted delays.
     pub fn theta(&self, index: u64) -> u64
         ensures value { result ≡ theta self.now index }
         ensures within { result ≤ MAX_OFFSET }
@@ -138,7 +138,7 @@ impl Incarnation {
 
     /// Returns the slot from which subtask `index` may run, once the one before it has run: its
     /// release, or, for an early task, the joining slot if the subtask doesn't start a job and
-    /// no accepted delay has exactly its index. It goes through the accepted delays, twice at most.
+    /// no accepted delay has exactly its index. O(d) for d accepted delays.
     pub fn eligible(&self, index: u64) -> u64
         requires first { 1 ≤ index }
         requires last { index ≤ MAX_INDEX }

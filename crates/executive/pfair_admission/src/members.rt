@@ -108,9 +108,9 @@ impl Members {
     }
 
     /// Gives the next subtask of the named member a quantum and returns the subtask's index.
-    /// Returns `None`, with nothing changed, if no such member runs: it is departing or not there.
+    /// Returns `None`, with nothing changed, if there is no such member, or it is departing.
     ///
-    /// The member's next index is at most 1,000,000. O(log p) for p later subtasks that are put off.
+    /// The member's next index is at most 1,000,000. O(log d) for d accepted delays of later subtasks.
     pub fn ran(&mut self, name: &TaskName) -> Option<u64>
         requires { ForSome (member_named self.old.members name.now) (λ m. m.next ≤ Entry.LAST_INDEX) }
         ensures index { result ≡ option_map (λ m. m.next) (running (member_named self.old.members name.now)) }
@@ -122,7 +122,7 @@ impl Members {
 
     /// Gives the next subtask of the named member a quantum, as [`Members::ran`], and returns its
     /// index with the slot from which the subtask after it may run and that one's key, as
-    /// [`Incarnation::next_subtask`] then does.
+    /// [`Incarnation::next_subtask`] then does. The cost is that of [`Members::ran`].
     pub fn ran_on(&mut self, name: &TaskName) -> Option<Quantum>
         requires { ForSome (member_named self.old.members name.now) (λ m. m.next ≤ Entry.LAST_INDEX) }
         ensures quantum { result ≡ option_map quantum_of (running (member_named self.old.members name.now)) }
@@ -132,9 +132,9 @@ impl Members {
         self.ledger.members[place].run_on()
     }
 
-    /// Makes room for `tasks` members at once. No boundary grows the maps while there are no more.
+    /// Allocates room for `tasks` members at once. No boundary grows the maps while there are no more.
     ///
-    /// A member that is gone counts until its boundary ends. Without this call an arrival is
+    /// O(`tasks`). A freed member counts until its boundary ends. Without this call an arrival is
     /// O(1) amortized and O(n) at worst for n members, when it grows a map.
     ///
     /// # Errors

@@ -80,12 +80,13 @@ impl LagBook {
         }
     }
 
-    /// Enters a task, after all others, and answers true. Its lag is counted from the slots that
-    /// are recorded from now on. If the name is in use, the answer is false, nothing
-    /// changes and no memory is taken.
+    /// Enters a task after all others and returns true. Its lag counts the slots that are recorded
+    /// from now on. Returns false if the name is in use; then nothing changes or is allocated.
+    ///
+    /// O(1) amortized, and O(n) at worst for n tasks, when the map grows.
     ///
     /// # Errors
-    /// `AllocError` if an allocation fails. Nothing has changed then.
+    /// Returns [`AllocError`] if an allocation fails; nothing has changed.
     pub fn enter(&mut self, name: TaskName, weight: Weight) -> Result<bool, AllocError>
         ensures answer { IfOk result (λ new. new ≡ not (is_some (tally_of name self.old))) }
         ensures there { IsTrue (is_some (tally_of name self.old)) → result ≡ Ok false }
@@ -105,8 +106,8 @@ impl LagBook {
         Ok(true)
     }
 
-    /// Takes a task out, and answers whether it was there. The others keep their order and their
-    /// lags.
+    /// Removes a task and returns whether it was there. The others keep their order and their lags.
+    /// O(n) for n tasks.
     pub fn leave(&mut self, name: &TaskName) -> bool
         ensures answer { result ≡ is_some (tally_of name.now self.old) }
         ensures book { self.new ≡ left name.now self.old }
@@ -117,7 +118,7 @@ impl LagBook {
     /// Records that one slot has passed, in which the tasks of these picks ran. A task that is
     /// named twice had one quantum, and one that isn't entered counts for nobody.
     ///
-    /// Fewer than [`MAX_HORIZON`] slots have been recorded. It allocates nothing.
+    /// Fewer than [`MAX_HORIZON`] slots have been recorded. O(picks); it allocates nothing.
     pub fn record(&mut self, picks: &[Pick])
         requires { self.old.time < MAX_HORIZON }
         ensures { self.new ≡ recorded (map (λ p. p.name) picks.now) self.old }
@@ -136,7 +137,7 @@ impl LagBook {
 
     /// Returns the lag of a task, as a numerator over its period p: `e * t - p * A`, where e is its
     /// cost, t the number of slots recorded since it was entered, and A the number of those of them
-    /// in which it ran. `None` if it isn't there.
+    /// in which it ran. `None` if it isn't there. O(1).
     pub fn lag(&self, name: &TaskName) -> Option<(i64, u64)>
         ensures { result ≡ option_map lag_of (tally_of name.now self.now) }
     {
@@ -145,8 +146,8 @@ impl LagBook {
     }
 
     /// Returns the name at a place, counted from 0, in order of entering, and that task's lag, as
-    /// [`LagBook::lag`]. `None` exactly if there are no more than `place` tasks. It costs the
-    /// same whatever is entered: no name is looked up.
+    /// [`LagBook::lag`]. `None` exactly if there are no more than `place` tasks. O(1): no name is
+    /// looked up.
     pub fn row_at(&self, place: usize) -> Option<(&TaskName, (i64, u64))>
         ensures name { option_map (λ row. row.0.now) result ≡ option_map (λ e. e.0) (slice_get self.now.entered place) }
         ensures lag { option_map (λ row. row.1) result ≡ option_map (λ e. lag_of e.1) (slice_get self.now.entered place) }

@@ -1,7 +1,7 @@
 //! Lags of tasks, and whether the slots in which a task ran lie in the windows of its subtasks.
 //!
-//! The lag of a task at time t is what its weight's share of the t slots before exceeds the quanta
-//! that it got in them: `(e/p) * t - A(t)` for a weight of cost e and period p. It is kept as the
+//! The lag of a task at time t is its weight's share of the t slots before, less the quanta that it
+//! received in them: `(e/p) * t - A(t)` for a weight of cost e and period p. It is kept as the
 //! numerator `e * t - p * A(t)` over p. A schedule is proportionate-fair (Pfair) for a task if its
 //! lag stays strictly between -1 and 1 at all times, and it is so exactly if each subtask runs
 //! in its window (Baruah, Cohen, Plaxton and Varvel 1996). If tasks may run ahead of their

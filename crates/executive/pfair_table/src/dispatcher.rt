@@ -162,8 +162,8 @@ impl<R: Ready> Dispatcher<R> {
     /// these are fewer. Later plans, members and entries do not change. What was forgotten stays
     /// forgotten, also after [`reopen`](Dispatcher::reopen), which plans these slots again.
     ///
-    /// Memory is given back for 1,024 slots at a time, once all of them are forgotten and a later slot
-    /// is planned; 16 bytes stay for them. O(slots that are given back); it allocates nothing.
+    /// Memory is freed for 1,024 slots at a time, once all of them are forgotten and a later slot is
+    /// planned; 16 bytes stay for them. O(slots that are freed); it allocates nothing.
     pub fn forget(&mut self, slots: u64)
         ensures { self.new ≡ record self.old { forgotten = max self.old.forgotten (min slots (length self.old.tables)) } }
     {
@@ -171,7 +171,7 @@ impl<R: Ready> Dispatcher<R> {
     }
 
     /// Returns the table of a slot: its quanta in the PD2 order. `None` if the slot isn't planned or
-    /// is forgotten, and only then.
+    /// is forgotten, and only then. O(1).
     pub fn table(&self, slot: u64) -> Option<&[Pick]>
         ensures value { self.now.forgotten ≤ slot → option_map (λ rows. rows.now) result ≡ slice_get self.now.tables slot }
         ensures forgotten { slot < self.now.forgotten → result ≡ None }
@@ -182,6 +182,7 @@ impl<R: Ready> Dispatcher<R> {
     /// Returns the places of a slot: for each row of its table the processor that runs it. A task
     /// that also ran in the slot before keeps its processor; the others, in row order, each take the
     /// least processor that is free. `None` if the slot isn't planned or is forgotten, and only then.
+    /// O(1): they were worked out when the slot was planned.
     ///
     /// The law [`places_are_kept`](crate::laws::places_are_kept) holds of them, since no table has
     /// more rows than there are processors, or a task twice.
@@ -194,7 +195,7 @@ impl<R: Ready> Dispatcher<R> {
     }
 
     /// Returns the admission decisions at the boundary of a slot, in the order of processor and
-    /// number. `None` if the slot isn't planned or is forgotten, and only then.
+    /// number. `None` if the slot isn't planned or is forgotten, and only then. O(1).
     pub fn decisions(&self, slot: u64) -> Option<&[Decided]>
         ensures value { self.now.forgotten ≤ slot → option_map (λ rows. rows.now) result ≡ slice_get self.now.decided slot }
         ensures forgotten { slot < self.now.forgotten → result ≡ None }
@@ -242,9 +243,11 @@ impl<R: Ready> Dispatcher<R> {
     /// Returns [`Step::Done`] if all slots of the run are planned, else [`Step::Waiting`] if the next
     /// slot is not below the frontier. After either the tables are the whole plan of the entries.
     ///
-    /// O(M log n + a) for M processors, n tasks and a announcements at the slot; beside that each
-    /// entry is looked at once over all plans. The cost doesn't grow with the entries held. Room for
-    /// 1,024 slots is allocated at a time, and nothing that was planned before is copied.
+    /// O((M + r) log n + a + l) for M processors, n members, r releases that come at the slot (also of
+    /// tasks that left), a announcements at it and l late releases accepted of the tasks that these
+    /// name; O(n) more if a member is freed; beside that each entry is looked at once over all plans.
+    /// The cost doesn't grow with the entries held. Room for 1,024 slots is allocated at a time, and
+    /// nothing that was planned before is copied.
     ///
     /// # Errors
     /// The first that applies: [`PlanFault::Torn`] if an entry held is torn and [`PlanFault::Spent`]
@@ -294,9 +297,9 @@ impl<R: Ready> Dispatcher<R> {
     /// Over [`HeapReady`](pfair_ready::HeapReady) the plan of such a slot allocates nothing if no entry
     /// came since the slot before and nothing is announced at it, as long as no more tasks are members;
     /// and else for what was announced alone: entries by their slots, decisions and delays.
-    /// [`PlainReady`](pfair_ready::PlainReady) allocates in each slot. O(slots processors + tasks) time
-    /// and memory: 25 bytes for each slot and processor, some 120 for each slot, and some 900 for each
-    /// task.
+    /// [`PlainReady`](pfair_ready::PlainReady) allocates in each slot. Time and memory are O(M `slots` +
+    /// `tasks`) for M processors: 25 M bytes and some 120 more for each slot, 1,300 to 2,000 for each
+    /// task, and once 920 KB for the calendar of releases.
     ///
     /// # Errors
     /// Returns [`AllocError`] if an allocation fails. All is as before, and the room that was made is
@@ -318,7 +321,7 @@ impl<R: Ready> Dispatcher<R> {
         self.planned.reserve(wanted as usize, processors as usize)
     }
 
-    /// Works everything but entries and planned slots out anew, after which plans go on as if no
+    /// Rebuilds everything except the entries and the planned slots; plans then go on as if no
     /// allocation had failed. Forgotten slots are planned once more, and stay forgotten. The cost is
     /// that of planning all slots so far.
     ///

@@ -15,7 +15,7 @@ pub enum Event {
         /// The entry.
         entry: Entry,
     },
-    /// All comes that another holds.
+    /// All entries of another replica come.
     Absorb(Replica),
     /// The next slot is to be planned.
     Plan,

@@ -1,5 +1,4 @@
-//! Tables: which subtasks run in each slot, as far as the log entries that a dispatcher holds
-//! settle it.
+//! Tables: which subtasks run in each slot, as far as a dispatcher's log entries settle the slots.
 //!
 //! No master decides. A [`Dispatcher`] keeps a replica of the logs of all processors, and plans
 //! slot after slot by the PD2 order of Anderson and Srinivasan over the Pfair model of Baruah,

@@ -133,9 +133,8 @@ impl<R: Ready> SlotPlanner<R> {
     /// planned slots are then the whole plan of the replica. The table reuses `room`, whose content is
     /// dropped.
     ///
-    /// The replica is the one that was handed in before, or one that holds more. O(M log n + a) for M
-    /// processors, n tasks and a announcements at the slot; beside that each entry is looked at once
-    /// over all plans.
+    /// The replica is the one of the call before, or one that holds more. The cost is that of
+    /// [`Dispatcher::plan_next`](crate::Dispatcher::plan_next), without places.
     ///
     /// # Errors
     /// The first that applies: [`PlanFault::Torn`] if an entry held is torn; [`PlanFault::Spent`] if

@@ -46,7 +46,7 @@ impl<K: Exact + Ord, V: Join> JoinMap<K, V> {
         }
     }
 
-    /// Returns how many keys there are. Those of inner maps don't count.
+    /// Returns how many keys there are. Those of inner maps don't count. O(1).
     pub fn len(&self) -> usize
         ensures count { result ≡ length self.now }
         ensures ordered { IsOrdered K.cmp self.now }
@@ -54,7 +54,7 @@ impl<K: Exact + Ord, V: Join> JoinMap<K, V> {
         self.map.len()
     }
 
-    /// Returns the value at `key`, or `None` if the map lacks the key.
+    /// Returns the value at `key`, or `None` if the map lacks the key. O(log n) for n keys.
     pub fn get(&self, key: &K) -> Option<&V>
         ensures { option_copied result ≡ get K.cmp self.now key.now }
     {
@@ -63,8 +63,8 @@ impl<K: Exact + Ord, V: Join> JoinMap<K, V> {
 
     /// Returns the value at `key`, to be changed in place, or `None` if the map lacks the key.
     ///
-    /// When the borrow ends the map holds at `key` what was left there last, and all else as
-    /// before.
+    /// When the borrow ends the map has at `key` the value that was left there last, and all else as
+    /// before. O(log n) for n keys.
     pub fn get_mut(&mut self, key: &K) -> Option<&mut V>
         ensures* writes_back { sem 𝓛 (LendsValue K.row V.row K.Ord V.Join self.entry key.now result) }
         ensures value { option_copied_mut result ≡ get K.cmp self.old key.now }
@@ -73,15 +73,17 @@ impl<K: Exact + Ord, V: Join> JoinMap<K, V> {
         self.map.get_mut(key)
     }
 
-    /// Joins `value` in at `key`: a copy of it if the map lacks the key, else the join of what
-    /// stands there with it.
+    /// Joins `value` in at `key`: a copy of it if the map lacks the key, else the join of the value
+    /// there with it.
+    ///
+    /// O(log n) for n keys, and the cost of the copy or of the join.
     ///
     /// # Errors
     /// Returns [`AllocError`] if an allocation fails: never if the map has the key and its
-    /// values allocate nothing, and never if what stands there is above `value` already, or has a
-    /// place for all of it. Then a missing key is still missing, at a key that is there a part of
-    /// `value` may be joined in, and every other key holds what it held. The same call again gives
-    /// the same join.
+    /// values allocate nothing, and never if the value there is above `value` already, or has a
+    /// place for all of it. Then a missing key is still missing, at an existing key a part of
+    /// `value` may be joined in, and every other key has the value that it had. The same call again
+    /// gives the same join.
     pub fn put(&mut self, key: K, value: &V) -> Result<(), AllocError>
         ensures joined { OnOk result (MapJoins K.cmp V.joins self.old ((key, value.now) ∷ []) self.new) }
         ensures partly { OnErr result (MapPartly K.cmp V.joins V.partly self.old ((key, value.now) ∷ []) self.new) }

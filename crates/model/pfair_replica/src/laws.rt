@@ -85,7 +85,7 @@ pub fn torn_test()
     ensures { IsTornTest }
 {}
 
-/// The torn keys are those of which the content is torn, and the fallen ones those of an entry
+/// The torn keys are those whose content is torn, and the fallen ones those of an entry
 /// right after a sound beginning with a floor below the mark.
 #[tactic(auto, using(crate::proofs::Listed::listed))]
 pub fn listed()

@@ -132,7 +132,7 @@ impl Replica {
 
     /// Merges another replica in: each key then has what either had, the common entry, or `Torn`.
     ///
-    /// Two look-ups for each entry of the other. For each log of which the other has an entry, a
+    /// Two look-ups for each entry of the other. For each log in which the other has an entry, a
     /// look-up for each entry of the sound beginning, and for each number up to the first torn one, or
     /// up to the capacity if none is torn.
     ///
@@ -210,7 +210,7 @@ impl Replica {
     }
 
     /// Returns whether each key of this replica is in the other, with the same content or torn. A
-    /// look-up for each entry, up to the first that the other hasn't.
+    /// look-up for each entry, up to the first that the other lacks.
     pub fn le(&self, other: &Replica) -> bool
         ensures { IsTrue result ↔ Below (replica_of self.now) (replica_of other.now) }
     {

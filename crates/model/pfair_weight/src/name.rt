@@ -143,7 +143,7 @@ impl Ord for TaskName {
     ghost matches_eq = { Prim.search (comparing, rules) };
 
     fn cmp(&self, other: &TaskName) -> Ordering {
-        // numbers of which the first byte is the highest
+        // numbers whose first byte is the highest
         u128::from_be_bytes(self.bytes).cmp(&u128::from_be_bytes(other.bytes))
     }
 }

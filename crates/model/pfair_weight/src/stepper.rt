@@ -20,10 +20,10 @@ pub(crate) enum Group {
     Heavy(Cascade),
 }
 
-/// Stands at one subtask of a weight, at an offset, and goes from it to the next.
+/// Points at one subtask of a weight, at an offset, and goes from it to the next.
 ///
-/// Its readers give what the calls of [`crate::window`] give for the subtask and the offset where
-/// it stands. It divides only when it is made.
+/// Its readers return what the calls of [`crate::window`] return for this subtask and offset. Each
+/// call is O(1), and only the first one, [`Stepper::new`], divides.
 #[derive(Debug, Drop)]
 pub struct Stepper {
     weight: Weight,
@@ -51,7 +51,7 @@ impl Model for Stepper {
 }
 
 impl Stepper {
-    /// Stands at subtask 1, at the offset `theta` in slots.
+    /// Creates a stepper at subtask 1, at the offset `theta` in slots.
     pub fn new(weight: Weight, theta: u64) -> Self
         requires { theta ≤ MAX_OFFSET }
         ensures { result ≡ record { weight = weight; index = 1; theta = theta } }
@@ -100,7 +100,7 @@ impl Stepper {
         self.theta += by;
     }
 
-    /// Returns the subtask where it stands, from 1 to [`MAX_INDEX`].
+    /// Returns the index of its subtask, from 1 to [`MAX_INDEX`].
     pub fn index(&self) -> u64
         ensures value { result ≡ self.now.index }
         ensures position { IsPosition self.now }
@@ -108,7 +108,7 @@ impl Stepper {
         self.index
     }
 
-    /// Returns the offset where it stands, in slots, from 0 to [`MAX_OFFSET`].
+    /// Returns its offset in slots, from 0 to [`MAX_OFFSET`].
     pub fn theta(&self) -> u64
         ensures value { result ≡ self.now.theta }
         ensures position { IsPosition self.now }

@@ -42,7 +42,7 @@ pub fn deadline(weight: Weight, index: u64, theta: u64) -> u64
 }
 
 /// Returns the b-bit of subtask `index`: 1 if its window reaches into that of the next subtask,
-/// by one slot, else 0 (Anderson and Srinivasan). It is the same at each offset.
+/// by one slot, else 0 (Anderson and Srinivasan). It is the same at each offset. O(1).
 pub fn b_bit(weight: Weight, index: u64) -> u64
     requires first { 1 ≤ index }
     requires last { index ≤ MAX_INDEX }
@@ -60,7 +60,7 @@ pub fn b_bit(weight: Weight, index: u64) -> u64
 /// For a heavy weight below 1 it is the slot where the cascade of windows of two slots ends that
 /// the subtask is in (Anderson and Srinivasan): the first slot t at or after its deadline such
 /// that some subtask's window closes at t with b-bit 0, or closes at t + 1 and has three slots.
-/// All subtasks count as if they came at the offset `theta`. The formula is this project's own,
+/// All subtasks count as if they came at the offset `theta`. The formula, O(1), is this project's own,
 /// and gives this slot by the law `group_deadlines_are_least` of `pfair_optimal`.
 pub fn group_deadline(weight: Weight, index: u64, theta: u64) -> u64
     requires first { 1 ≤ index }
