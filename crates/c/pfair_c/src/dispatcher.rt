@@ -47,8 +47,8 @@ pub extern "C" fn pfair_open(
     put_new(alloc, handle, Dispatcher::new(alloc, settings, capacity))
 }
 
-/// Frees the dispatcher, and leaves the handle with none. O(entries held, tasks, and quanta and
-/// decisions of the planned slots).
+/// Frees the dispatcher, and leaves the handle with none. O(e + n + s + q) for e entries, n members,
+/// and s planned slots with q quanta and decisions.
 ///
 /// Answers 0; or 102 if the handle has none.
 #[unsafe(no_mangle)]

@@ -31,7 +31,7 @@ pub struct PfairSettings {
 
 /// Writes the settings with which the dispatcher was opened.
 ///
-/// Answers 0; or 102 if the handle has no dispatcher, and then nothing is written.
+/// Answers 0; or 102 if the handle has no dispatcher, and then nothing is written. O(1).
 #[unsafe(no_mangle)]
 pub extern "C" fn pfair_settings(
     alloc: Global,

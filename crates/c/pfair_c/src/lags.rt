@@ -18,8 +18,8 @@ use std::alloc::Global;
 /// Answers 0 with the number of rows and the rows (none if `from` isn't below `to`); 102 if the
 /// handle has no dispatcher; 104 if slot `to` - 1 isn't planned, or any slot is forgotten; 90 if an
 /// allocation fails: then the rows of some first slots may be written; 103 with the number of rows
-/// wanted, if there are fewer. Nothing else is written. O(rows), and twice the decisions and quanta of
-/// the slots 0 to `to` - 1, of which a book of lags is kept.
+/// wanted, if there are fewer. Nothing else is written. O(rows), and twice the cost of recording the
+/// slots 0 to `to` - 1 in a book of lags.
 #[unsafe(no_mangle)]
 pub extern "C" fn pfair_lags(
     alloc: Global,

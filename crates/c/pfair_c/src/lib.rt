@@ -1,8 +1,7 @@
 //! The Pfair executive for C: the windows of subtasks, and dispatchers behind handles.
 //! `include/pfair.h` declares each call.
 //!
-//! Each call checks all that C's types leave open, hands on to the crates below, and answers by a
-//! number.
+//! Each call checks what C's types leave open, calls the crates below, and answers with a number.
 #![tactic(auto)]
 
 mod dispatcher;

@@ -16,7 +16,7 @@ use std::alloc::Global;
 ///
 /// Answers 0 with the number of rows and the rows; 102 if the handle has no dispatcher; 31 if the
 /// dispatcher is spent; 103 with the number of rows wanted, if there are fewer. Nothing else is
-/// written. Costs the members, and a look at each of their late releases.
+/// written. O(rows + l) for l late releases accepted of these tasks.
 #[unsafe(no_mangle)]
 pub extern "C" fn pfair_members(
     alloc: Global,

@@ -182,7 +182,7 @@ pub extern "C" fn pfair_frontier(alloc: Global, handle: &mut Handle, slot: &mut 
     })
 }
 
-/// Writes the slot that is planned next, which is how many are planned.
+/// Writes the slot that is planned next, which is how many are planned. O(1).
 ///
 /// Answers 0; or 102 if the handle has no dispatcher, and then nothing is written.
 #[unsafe(no_mangle)]

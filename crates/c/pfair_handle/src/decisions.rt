@@ -31,8 +31,7 @@ pub fn count_decisions<R: Ready>(dispatcher: &Dispatcher<R>, from: u64, to: u64)
 }
 
 /// Writes the decisions of the slots `from` to `to` - 1, none of which is forgotten, over the first
-/// rows, slot by slot, each slot's in the order of processor and number. It costs the slots and the
-/// decisions.
+/// rows, slot by slot, each slot's in the order of processor and number. O(slots + decisions).
 pub fn write_several<R: Ready>(
     dispatcher: &Dispatcher<R>,
     from: u64,

@@ -32,8 +32,11 @@ pub struct PfairEntry {
     pub by: u64,
 }
 
-/// Returns the entry, or the number of what is wrong with it: a number out of its range, then the
-/// name's fault, the weight's, the entry's.
+/// Returns the entry that C's fields make. O(1).
+///
+/// # Errors
+/// Returns the number of the first fault that applies: a field out of its range (100), then the name's
+/// fault, the weight's, the entry's.
 pub fn read_entry(entry: &PfairEntry) -> Result<Entry, u32>
     ensures ok { IfOk result (λ read. read ≡ logged_of entry.now) }
     ensures meant { OnOk result (IsMeant entry.now) }

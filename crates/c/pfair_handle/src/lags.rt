@@ -27,8 +27,7 @@ pub struct PfairLag {
 }
 
 /// Returns how many lags the slots `from` to `to` - 1 have, if no slot is forgotten; no more
-/// than fit into 64 bits. The cost is that of
-/// recording the slots 0 to `to` - 1 in a book.
+/// than fit into 64 bits. The cost is that of recording the slots 0 to `to` - 1 in a book.
 ///
 /// # Errors
 /// Returns [`AllocError`] if an allocation fails.

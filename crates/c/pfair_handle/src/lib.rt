@@ -1,6 +1,6 @@
 //! Handles that C can hold: a pointer to a dispatcher on the heap, with what it owns.
 //!
-//! The proofs by hand stand here alone: a box as its pointer, and the pointer without its type.
+//! Only this crate needs proofs by hand: of a box as its pointer, and of the pointer without its type.
 #![tactic(auto)]
 
 ghost use Rattle.std.specs.Prelude.{◌≡◌, true, false, None, Some, IfOk, IfErr, OnOk, OnErr, Err};

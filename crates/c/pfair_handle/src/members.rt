@@ -31,8 +31,8 @@ pub struct PfairMember {
     pub freed_at: u64,
 }
 
-/// Writes the members over the first rows, in the order of admission. It costs their number, and a
-/// look at each late release of each.
+/// Writes the members over the first rows, in the order of admission. O(members + l) for l late
+/// releases accepted of them.
 pub fn write_members(members: &Members, rows: &mut [PfairMember])
     requires { length members.now.members ≤ length rows.old }
     ensures { rows.new ≡ written_over (map member_row members.now.members) rows.old }

@@ -95,7 +95,7 @@ pub(crate) fn decided_row(one: &Decided) -> PfairDecided
     }
 }
 
-/// Writes a table over the first rows.
+/// Writes a table over the first rows. O(rows).
 pub fn write_table(table: &[Pick], rows: &mut [PfairPick])
     requires { length table.now ≤ length rows.old }
     ensures { rows.new ≡ written_over (map pick_row table.now) rows.old }
@@ -105,7 +105,7 @@ pub fn write_table(table: &[Pick], rows: &mut [PfairPick])
     }
 }
 
-/// Writes places over the first rows.
+/// Writes places over the first rows. O(rows).
 pub fn write_places(places: &[u8], rows: &mut [u8])
     requires { length places.now ≤ length rows.old }
     ensures { rows.new ≡ written_over places.now rows.old }
@@ -113,7 +113,7 @@ pub fn write_places(places: &[u8], rows: &mut [u8])
     rows[..places.len()].copy_from_slice(places);
 }
 
-/// Writes decisions over the first rows.
+/// Writes decisions over the first rows. O(rows).
 pub fn write_decisions(decisions: &[Decided], rows: &mut [PfairDecided])
     requires { length decisions.now ≤ length rows.old }
     ensures { rows.new ≡ written_over (map decided_row decisions.now) rows.old }
@@ -133,7 +133,7 @@ fn key_row(key: &EntryKey) -> PfairKey
     }
 }
 
-/// Writes the torn keys over the first rows, and the fallen ones behind them.
+/// Writes the torn keys over the first rows, and the fallen ones behind them. O(rows).
 pub fn write_faults(faults: &Faults, rows: &mut [PfairKey])
     requires { length (faults.now.torn.items ++ faults.now.fallen.items) ≤ length rows.old }
     ensures { rows.new ≡ written_over (map key_row (faults.now.torn.items ++ faults.now.fallen.items)) rows.old }

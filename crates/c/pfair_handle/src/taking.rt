@@ -25,13 +25,13 @@ pub struct PfairTakenLog {
 }
 
 /// Takes entries of the log of a processor, the first of them under the number `first` and each next
-/// one under the next, up to the first that is refused, and counts them. It costs what
-/// [`Dispatcher::take`] costs for each.
+/// one under the next, up to the first that is refused, and counts them. The cost is that of
+/// [`Dispatcher::take`] for each.
 ///
 /// # Errors
 /// The number of what is wrong with the entry after those that were taken, as of
-/// [`read_entry`]; or that of the fault with which the dispatcher refused it. What was taken before
-/// stands.
+/// [`read_entry`]; or that of the fault with which the dispatcher refused it. The entries before it
+/// stay taken.
 pub fn take_entries<R: Ready>(
     dispatcher: &mut Dispatcher<R>,
     processor: u8,

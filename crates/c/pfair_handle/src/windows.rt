@@ -33,8 +33,7 @@ pub fn window_row(weight: Weight, index: u64, theta: u64) -> PfairWindow
     }
 }
 
-/// Writes the windows of `count` subtasks, from `first` on, over the first rows. It costs their
-/// number.
+/// Writes the windows of `count` subtasks, from `first` on, over the first rows. O(count).
 pub fn write_windows(weight: Weight, first: u64, count: u64, theta: u64, rows: &mut [PfairWindow])
     requires first { 1 ≤ first }
     requires last { first + count ≤ MAX_INDEX + 1 }
