@@ -26,8 +26,8 @@ use std::alloc::{AllocError, Global};
 use std::io::Write;
 use std::marker::Model;
 
-/// A dispatcher that is fed one entry after another, and writes the rows of each slot as soon as
-/// what it holds settles it. What was written is forgotten, unless the rows are lags.
+/// A dispatcher that is fed one entry after another, and writes the rows of each slot as soon as its
+/// entries settle the slot. Slots whose rows are written are forgotten, unless the rows are lags.
 #[derive(Drop)]
 pub struct Follower<R: Ready> {
     alloc: Global,
@@ -98,8 +98,8 @@ impl<R: Ready> Follower<R> {
     /// and writes and flushes the rows of the new slots. If there are none, nothing is written or
     /// flushed.
     ///
-    /// It costs what [`Dispatcher::take`] costs, what [`Dispatcher::plan_next`] costs for each new slot, and
-    /// the new rows.
+    /// The cost is that of [`Dispatcher::take`], of [`Dispatcher::plan_next`] for each new slot, and
+    /// O(new rows).
     ///
     /// # Errors
     /// The first of these that applies:
@@ -112,8 +112,8 @@ impl<R: Ready> Follower<R> {
     /// - [`ProgramFault::Memory`] if an allocation for the new rows fails, and [`ProgramFault::WriteFailed`] if the
     ///   writer fails: all slots are planned.
     ///
-    /// After a fault no new row counts as told: a later call writes all of them. Only after `WriteFailed` may the
-    /// writer have gained anything: a part of the new rows.
+    /// After a fault no new row counts as written: a later call writes all of them. Only after `WriteFailed` may
+    /// the writer have gained anything: a part of the new rows.
     pub fn take<W: Write>(
         &mut self,
         writer: &mut W,
@@ -192,8 +192,8 @@ impl<R: Ready> Follower<R> {
         }
     }
 
-    /// Returns the dispatcher: what it holds and has planned. If the rows aren't lags it tells
-    /// nothing of slots whose rows are written.
+    /// Returns the dispatcher. Unless the rows are lags, it has forgotten the slots whose rows are
+    /// written.
     pub fn dispatcher(&self) -> &Dispatcher<R>
         ensures { result.now ≡ self.now.dispatch }
     {

@@ -24,8 +24,8 @@ const PIECE: usize = 4096;
 ///
 /// A refused line is reported in a line to `complaints`, as far as that takes it, and skipped
 /// unless `is_strict`; the line `?` asks for the keys that [`tell_missing`] reports, and is always
-/// skipped. What stands behind the last newline is no row, since it may be the beginning of one. It
-/// costs what [`feed`] costs for each line.
+/// skipped. What is behind the last newline is no row, since it may be the beginning of one. The cost
+/// is that of [`feed`] for each line.
 ///
 /// # Errors
 /// - [`ProgramFault::ReadFailed`] if the reader answers an error, at once and whatever its kind.
@@ -71,7 +71,7 @@ pub fn follow<R: Ready, I: Read, W: Write, E: Write>(
     Err(ProgramFault::ReadFailed)
 }
 
-// Feeds a line that has ended, of which at least the first 257 bytes are given.
+// Feeds a whole line, given by its first 257 bytes at least.
 fn feed_line<R: Ready, W: Write, E: Write>(
     follower: &mut Follower<R>,
     writer: &mut W,

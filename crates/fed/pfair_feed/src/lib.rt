@@ -1,5 +1,5 @@
 //! A dispatcher that is fed: a [`Follower`] takes entries one after another, in whatever order they
-//! come, and writes the rows of each slot as soon as what it holds settles it. [`follow`] feeds it
+//! come, and writes the rows of each slot as soon as its entries settle the slot. [`follow`] feeds it
 //! the rows of entries that a reader gives.
 #![tactic(auto)]
 

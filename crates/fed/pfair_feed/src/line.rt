@@ -16,7 +16,7 @@ use pfair_ready::Ready;
 use std::io::Write;
 
 /// Takes the entry whose row a line is, and writes the rows of the slots that it settles, as
-/// [`Follower::take`]. It costs that, and a few passes over the line.
+/// [`Follower::take`]. The cost is that of this call, and O(bytes) for the line.
 ///
 /// # Errors
 /// - [`ProgramFault::Row`] if the line is no entry's row, with what is wrong with it: nothing has changed.

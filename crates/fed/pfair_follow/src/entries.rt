@@ -11,11 +11,12 @@ use std::alloc::Global;
 use std::io::{Read, Write};
 
 /// Writes the entries of the script that a reader's bytes hold, each as a row: the logs in order of
-/// processors, and in each its entries from number 1 on, with the one that closes it. No header
-/// stands before them.
+/// processors, and in each its entries from number 1 on, with the one that closes it. There is no
+/// header.
 ///
 /// The whole text is made before the first byte goes out. No more than 67,108,864 bytes are taken
-/// from the reader, or one more if the file is too long or an allocation fails.
+/// from the reader, or one more if the file is too long or an allocation fails. The cost is that of
+/// [`read_script`], and O(rows).
 ///
 /// # Errors
 /// Those of [`read_script`], and [`ProgramFault::Memory`] if an allocation fails: nothing has then

@@ -21,8 +21,8 @@ use std::io::{Read, Write};
 // How many entries of one log are taken: those of a task file, with the one that closes the log.
 const LOG: u32 = Script::LONGEST_LOG as u32;
 
-/// Reads rows of entries to the reader's end, and writes the rows of each slot as soon as what was
-/// read settles it, flushed before more is read; before them the header, if `run.from` is 0.
+/// Reads rows of entries to the reader's end, and writes the rows of each slot as soon as the entries
+/// settle the slot, flushed before more is read; before them the header, if `run.from` is 0.
 ///
 /// What is written is what `pfair` writes of a task file with the same entries, from slot `run.from`
 /// on, in whatever order their rows come and however often each. A refused row is reported in a line

@@ -33,8 +33,8 @@ const DECISIONS: &str = "slot,processor,number,task,outcome,value\n0,0,1,a,admit
 
 const LAGS: &str = "time,task,numerator,period\n1,a,-2,4\n2,a,-4,4\n3,a,-2,4\n4,a,0,4\n";
 
-// What is written, from which slot on, whether strictly, of which input; what comes out, what is
-// told, and the number of the fault, or 0.
+// What is written, the first slot, whether the run is strict, and the input; then the output, the
+// complaints, and the number of the fault, or 0.
 const RUNS: [(Output, u64, bool, &str, &str, &str, u8); 11] = [
     (Output::Tables, 0, true, ROWS, TABLES, "", 0),
     (Output::Tables, 0, false, BACKWARDS, TABLES, "", 0),

@@ -16,8 +16,8 @@ use std::io::{Read, Write};
 /// counted from its joining slot.
 ///
 /// The whole text is made before the first byte goes out; one slot at a time is held. At most
-/// 67,108,864 bytes are read, and one more if the file is too long or an allocation fails. It takes
-/// the time of reading the file, of a run of its script, and O(rows).
+/// 67,108,864 bytes are read, and one more if the file is too long or an allocation fails. The cost is
+/// that of reading the file, of a run of its script, and O(rows).
 ///
 /// # Errors
 /// Those of [`scheduled`](pfair_file::scheduled) if the file has no schedule, and

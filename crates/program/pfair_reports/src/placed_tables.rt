@@ -21,8 +21,9 @@ use std::thread::Threads;
 ///
 /// A task that is in the tables of two slots running stays on its processor. The other rows of a
 /// table, in row order, each take the least processor that no row keeps and none has taken. All
-/// else is as for `replay`: the dispatchers' threads, the gate, the bytes that are taken, the
-/// faults, and what has then been written.
+/// else is as for `replay`: the dispatchers' threads, the gate, the bytes that are read, the cost,
+/// the faults, and what has then been written. But the first worker's tables and places are kept until
+/// the text is made.
 ///
 /// # Errors
 /// Those of [`replay`](crate::tables::replay).

@@ -23,7 +23,8 @@ use std::thread::Threads;
 /// are the first one's, and their rows are made as they are planned, so that no table is kept. The
 /// whole run is made before the first byte goes out. No more than
 /// 67,108,864 bytes are taken from the reader, or one more if the file is too long or an
-/// allocation fails.
+/// allocation fails. The cost is that of reading the file, of its dispatchers
+/// ([`run_dispatchers_into`](pfair_board::run_dispatchers_into)), and O(rows).
 ///
 /// # Errors
 /// Those of [`scheduled`](pfair_file::scheduled) if the file has no schedule,

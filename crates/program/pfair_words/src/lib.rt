@@ -1,4 +1,4 @@
-//! The words of both programs' command lines: what they ask for.
+//! The command lines of both programs: what their words ask for.
 #![tactic(auto)]
 
 mod command;

@@ -10,7 +10,7 @@ const LOGS: u8 = 64;
 
 const ENTRIES: u32 = 4096;
 
-// All entries of each ninth log, from the first to the last, of which the floors rise.
+// All entries of every ninth log, from the first to the last, with rising floors.
 fn fills(rt: &impl Abort, replica: &mut Replica) {
     for ninth in 0..8u8 {
         for before in 0..ENTRIES {

@@ -1,4 +1,4 @@
-//! Worked runs, from what is said to the tables: tests of the crates below by short texts.
+//! Worked runs, from announcements to tables: tests of the crates below by short texts.
 //!
 //! Each run is written as the events that come to a dispatcher, and what it has to answer, to plan
 //! and to decide.

@@ -4,8 +4,8 @@ use crate::run::assert_runs;
 use crate::shown::{push_number, push_with};
 use std::alloc::AllocError;
 
-// Four announcements of slot 1, of which processor 0 makes two at the end of a long log, which comes from
-// its last entry to its first.
+// Four announcements at slot 1. Processor 0 makes two of them at the end of a long log, whose entries
+// come from the last to the first.
 fn push_long_log(text: &mut String) -> Result<(), AllocError> {
     text.push_str("late numbers of a long log\n2 4 4\n")?;
     for after in 0..200u64 {

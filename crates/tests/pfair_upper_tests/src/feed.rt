@@ -162,7 +162,7 @@ fn a_reader_that_fails_at_each_call(rt: HostRuntime) {
 
 const MISSING: &str = "missing 0,1\nmissing 63,1\n";
 
-// Reports to a writer what is missing from 64 logs, of which the first and the last are short.
+// Reports to a writer what is missing from 64 logs, the first and the last of which are short.
 // Returns whether the writer took all.
 fn report_all<R: Ready>(rt: &impl Abort, alloc: Global, writer: &mut Sink) -> bool {
     let mut follower: Follower<R> = follower_of(rt, alloc, 64, 4);

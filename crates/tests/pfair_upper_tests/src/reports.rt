@@ -45,7 +45,7 @@ const TWO_THIRDS: &str = "version = 1\nprocessors = 2\nframe = 3\nslots = 3\nent
 { processor = 0, floor = 0, kind = \"arrive\", at = 0, name = \"b\", cost = 2, period = 3 },
 { processor = 0, floor = 0, kind = \"arrive\", at = 0, name = \"c\", cost = 2, period = 3 }]\n";
 
-// Five arrivals at slot 0, of which the first and the fourth are admitted.
+// Five arrivals at slot 0; the first and the fourth are admitted.
 const FIVE_ARRIVALS: &str = "version = 1\nprocessors = 1\nframe = 4\nslots = 4\nentry = [
 { processor = 0, floor = 0, kind = \"arrive\", at = 0, name = \"a\", cost = 1, period = 2 },
 { processor = 0, floor = 0, kind = \"arrive\", at = 0, name = \"a\", cost = 1, period = 4 },

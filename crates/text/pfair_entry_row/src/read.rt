@@ -14,8 +14,8 @@ pub const LONGEST_ROW: usize = 256;
 
 /// Returns the processor, the number and the entry that a row names, without its line's end.
 ///
-/// Just the rows that [`add_entry`](crate::add_entry) writes are read, so each entry has one row.
-/// The row is gone through a few times; no memory is taken.
+/// Only the rows that [`add_entry`](crate::add_entry) writes are read, so each entry has one row.
+/// O(bytes); it allocates nothing.
 ///
 /// # Errors
 /// The first that applies: [`RowFault::NoRow`] if the fields can't be those of any entry,

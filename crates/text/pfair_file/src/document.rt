@@ -19,7 +19,7 @@ use std::alloc::{AllocError, Global};
 use toml::Table;
 
 /// Reads a task file: the settings and the logs of a run, each log closed by an entry whose floor
-/// is the number of slots, if its last floor is below that.
+/// is the number of slots, if its last floor is below that. O(b) for b bytes.
 ///
 /// # Errors
 /// The file's first fault: [`FileFault::NotToml`]; then, key by key in the order of [`Field`],

@@ -52,8 +52,8 @@ pub fn scheduled<R: Read>(
     Ok(run_script(alloc, &script)?)
 }
 
-/// Returns the script that a reader's bytes hold. It costs the reading of all bytes, and what
-/// [`read_file`] costs for them.
+/// Returns the script that a reader's bytes hold. The cost is that of reading all bytes, and of
+/// [`read_file`].
 ///
 /// # Errors
 /// [`ProgramFault::ReadFailed`] if the reader answers an error, [`ProgramFault::FileTooLong`]

@@ -1,4 +1,4 @@
-//! The decisions and the lags of a script's run, of which one slot at a time is held.
+//! The decisions and the lags of a script's run. One slot at a time is held in memory.
 
 ghost use Rattle.std.specs.Prelude.{◌≡◌, ◌≤◌, ◌<◌, ◌+◌, ◌++◌, ◌∷◌, [], IfOk, IfErr, OnOk, length};
 ghost use Rattle.std.specs.List.{flat_map};

@@ -12,8 +12,12 @@ pub struct WriteFailed;
 
 /// Sends a text in as many calls of `write` as the writer takes.
 ///
-/// At `Ok` the writer has gained the whole text, and after a failure a prefix of it. An error of
-/// the writer ends the call at once, whatever its kind. Takes no memory.
+/// At `Ok` the writer has gained the whole text. O(bytes), beside the writer's own cost; it allocates
+/// nothing.
+///
+/// # Errors
+/// Returns [`WriteFailed`] at the first error of the writer, whatever its kind, or if the writer takes
+/// nothing of a piece; a prefix of the text has then gone out.
 pub fn send<W: Write>(writer: &mut W, text: &[u8]) -> Result<(), WriteFailed>
     ensures ok { OnOk result (Appends (W.contents writer.old) (W.contents writer.new) text.now) }
     ensures failed { OnErr result (TakesPrefix (W.contents writer.old) (W.contents writer.new) text.now) }

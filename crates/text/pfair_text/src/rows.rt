@@ -20,8 +20,10 @@ pub fn new_text(alloc: Global) -> Writer<Vec<u8>>
 /// Adds a line of fields, with commas between and a newline at the end.
 ///
 /// There is at least one field, and each is plain: not empty, with no comma, quote or line break,
-/// so that it stands in the line as it is. Fails if an allocation fails, after which the text is not to
-/// be used any more.
+/// so that it is written as it is. O(bytes) amortized.
+///
+/// # Errors
+/// Returns [`AllocError`] if an allocation fails; the text is then not to be used any more.
 pub fn add_row(writer: &mut Writer<Vec<u8>>, fields: &[&[u8]]) -> Result<(), AllocError>
     requires open { IsOpen writer.old }
     requires some { 0 < length fields.now }
@@ -35,7 +37,10 @@ pub fn add_row(writer: &mut Writer<Vec<u8>>, fields: &[&[u8]]) -> Result<(), All
     }
 }
 
-/// Returns the whole text, unless an allocation fails.
+/// Returns the whole text.
+///
+/// # Errors
+/// Returns [`AllocError`] if an allocation fails.
 pub fn finish(writer: Writer<Vec<u8>>) -> Result<Vec<u8>, AllocError>
     ensures { IfOk result (λ text. text.items ≡ text_so_far writer) }
 {

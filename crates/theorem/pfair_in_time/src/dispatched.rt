@@ -14,13 +14,13 @@ use pfair_replica::Replica;
 use pfair_table::{Dispatcher, Settings};
 use pfair_weight::Weight;
 
-/// States that no admitted task misses by what this dispatcher has planned: while nothing that it
-/// holds is torn, each of its slots has the table that follows from what it holds, each row of it
-/// is in time, and after it the next subtask of each member that isn't departing is still to be
-/// due.
+/// States that no admitted task misses its deadline in the slots that this dispatcher has planned:
+/// while its replica has nothing torn, each of these slots has the table that follows from the
+/// replica, each row of it is in time, and the deadline of the next subtask of each member that isn't
+/// departing is later.
 ///
-/// It changes and answers nothing, and a program has no need to call it: it stands for its clause. It
-/// looks once at each key of the replica, since that a weight is one is known of its type alone.
+/// It changes and returns nothing, and a program has no need to call it: it exists for its contract. A
+/// look-up for each key of the replica, since only the type of a weight says that it is one.
 pub fn never_misses<R: Ready>(dispatcher: &Dispatcher<R>)
     ensures { NeverMisses dispatcher.now }
 {

@@ -1,5 +1,5 @@
-//! No admitted task misses its deadline: laws, and one function that stands for its clause, nothing
-//! of which is called when the program runs.
+//! No admitted task misses its deadline: laws, and one function that exists for its contract. No
+//! program calls any of them.
 //!
 //! `pfair_optimal` has the theorem of a run as plain data. Here the tables, the members and the
 //! offsets that follow from what a replica holds, up to any slot, are the beginning of such a run.

@@ -1,11 +1,11 @@
-//! Why no task misses its deadline under PD2: laws alone, nothing of which is called when the
-//! program runs.
+//! Why no task misses its deadline under PD2: laws alone, none of which a program calls.
 //!
 //! The theorem is the law `laws::runs_never_miss`, of a run as plain data (`specs/Run.antt`, whose
 //! record `IsRun` has the premises; `laws::some_run_is_full` says that they can be met). That the
 //! executive is such a run is what the crate `pfair_in_time` shows.
 //!
-//! The proof counts. No counterexample is made smaller, and no subtask is displaced.
+//! The proof counts quanta. Unlike the papers' proofs it displaces no subtask of a least
+//! counterexample.
 //! - **The set** (`proofs/Reasons.antt`). Take the first subtask that misses, and go back slot by
 //!   slot. If one of the set waits, the slot is full: all its rows come in (`full_rows` says that
 //!   there is one on each processor, each before the one that waits). Else it is a hole: those rows

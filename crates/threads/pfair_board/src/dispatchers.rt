@@ -37,12 +37,12 @@ pub struct Finished {
 ///
 /// The board has the capacity of the script's longest log, at least 1. At Ok each desk holds the
 /// script's replica, every entry of its logs and nothing else, the tables of each run are the plan
-/// of it, and its places are those of the tables. No table rests on hints, but that a run comes to
-/// Ok does: their end, which each worker awaits, tells that every log stands on the board.
+/// of that replica, and its places are those of the tables. No table depends on hints. That a run
+/// ends does: each worker waits for the end of the hints, after which every log is on the board.
 ///
-/// Each thread has the cost of [`run_worker`](crate::run_worker). Beside that the entries of all
-/// logs are gone through once to take the script, and once for each thread, to compare what it
-/// holds. A thread holds each entry once, in its desk.
+/// Each thread has the cost of [`run_worker`](crate::run_worker). Beside that there are O(e log e)
+/// steps for the e entries of all logs to take the script, and as many for each thread to compare its
+/// desk with it. A thread holds each entry once, in its desk.
 ///
 /// # Errors
 /// The first of these that applies to the run's workers:
@@ -70,11 +70,11 @@ pub fn run_dispatchers<R: Ready + Send, G: Gate + Sync>(
     Ok(hand_back(alloc, script, board, works)?)
 }
 
-/// Runs the same dispatchers, each of which works out every slot itself and keeps no table; the
-/// first processor's worker hands each of its tables to a sink as it is planned, which is the
-/// answer.
+/// Runs the same dispatchers, each of which works out every slot itself and keeps no table, and
+/// returns the sink, to which the first processor's worker hands each of its tables as it is planned.
 ///
-/// So the memory of a worker doesn't grow with the slots, except by what the sink takes.
+/// So the memory of a worker doesn't grow with the slots, except by what the sink keeps. The cost is
+/// that of [`run_dispatchers`] without places.
 ///
 /// # Errors
 /// As [`run_dispatchers`].

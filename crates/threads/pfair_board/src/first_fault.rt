@@ -7,7 +7,7 @@ use crate::threads::Worked;
 use pfair_replica::Replica;
 use pfair_table::RunFault;
 
-/// Returns the first fault of these workers, of whom each should hold the whole script.
+/// Returns the first fault of these workers, each of whom should hold the whole script.
 pub(crate) fn first_fault<K>(works: &[Worked<K>], whole: &Replica, slots: u64) -> Option<RunFault>
     ensures { IsFirstFault works.now (replica_of whole.now) slots result }
 {

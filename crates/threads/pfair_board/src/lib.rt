@@ -1,7 +1,7 @@
 //! The dispatchers' threads, which share a board: set-once cells, one for each entry of each log.
 //!
-//! No lock stands round the board. A [`Desk`] learns what stands in a cell and keeps it for good,
-//! and two desks that meet hold the exact join of both. The module [`laws`] says that, whatever
+//! The board has no lock. A [`Desk`] reads the entry of a cell and keeps it for good, and two desks
+//! that meet hold the exact join of both. The module [`laws`] says that, whatever
 //! desks do, none holds anything but entries of set cells. In [`run_dispatchers`] each processor of
 //! a script has a thread with a desk and a log of its own, which works out every slot by itself; in
 //! [`run_dispatchers_into`] the first one's tables go to a [`Sink`] as they are planned. Boards and

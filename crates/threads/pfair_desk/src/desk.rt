@@ -134,7 +134,7 @@ impl Desk {
     }
 
     /// Puts an entry at the desk's next number and returns that number. The desk then holds the entry.
-    /// The cost is that of a look.
+    /// The cost is that of [`Desk::look`].
     ///
     /// # Errors
     /// The first of these that applies. `RowFull` if the next number is past the capacity; nothing has
@@ -222,9 +222,9 @@ impl Desk {
     /// empty cell, and returns how many keys are new. In a row that gained some, no number up to the
     /// last one is missing then, also after a failed allocation.
     ///
-    /// For each processor a look at each new number and at one empty cell, and a look-up for each
-    /// number past its sound beginning that was held already. Entries of a sound beginning are not
-    /// gone through again.
+    /// For each processor the cost of [`Desk::look`] for each new number, one empty cell, and a look-up
+    /// for each number past its sound beginning that was held already. Entries of a sound beginning are
+    /// not looked at again.
     ///
     /// # Errors
     /// Returns [`AllocError`] if an allocation fails, which happens only if the board has a key that

@@ -1,7 +1,7 @@
 //! A board of set-once cells, one for each entry of each log, and the desks that set and read them.
 //!
-//! No lock stands round the board. A [`Desk`] learns what stands in a cell and keeps it for good,
-//! and two desks that meet hold the exact join of both. The module [`laws`] says that, whatever
+//! The board has no lock. A [`Desk`] reads the entry of a cell and keeps it for good, and two desks
+//! that meet hold the exact join of both. The module [`laws`] says that, whatever
 //! desks do, none holds anything but entries of set cells.
 #![tactic(auto)]
 
