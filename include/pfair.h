@@ -22,6 +22,12 @@
  * with a floor for each slot it would be full after 4,096 slots. So announce some slots ahead, and raise the floor as
  * seldom as that lead allows: in a run of S slots at most once in S/4,000 slots, or with an announcement.
  *
+ * MODEL. A task of weight cost/period gets `cost` quanta in each `period` slots. Its i-th quantum serves its subtask i,
+ * which has to run in a window of slots, from its release to before its deadline. At the boundary of a slot, before the
+ * slot's table, the announcements stamped with the slot are decided: an arriving task is refused, or admitted and then
+ * a member. A departing member gets no more quanta, but holds its weight and its name until it is freed, some slots
+ * later.
+ *
  * UNITS. Slot t is the time from t to t + 1. A quantum is one slot of one processor. Releases, deadlines, floors and
  * stamps are slots; periods, delays and offsets count slots, and costs quanta. Processors, slots and rows are numbered
  * from 0; the entries of a log and the subtasks of a task from 1.
@@ -95,8 +101,8 @@
  * pfair_reopen (31). In both states it still takes entries, and can be read as before; only pfair_members answers 31 if
  * it is spent.
  *
- * COSTS. M is the number of processors, and n that of members: tasks that were admitted and aren't freed. A look-up is
- * that of a number in a log: O(log e) for the e entries that the dispatcher has of that log.
+ * COSTS. M is the number of processors, and n that of members. A look-up is that of a number in a log: O(log e) for the
+ * e entries that the dispatcher has of that log.
  *
  * WHAT THE CALLER OWES, since no call can check it:
  *  - Each pointer points to a live, aligned object of its type that no other argument points into. `rows` points to

@@ -1,4 +1,9 @@
 //! Members of a schedule, and the decisions at the boundary of a slot.
+//!
+//! At the boundary of a slot, before any task runs in it, the announcements stamped with the slot are
+//! decided. An arriving task is admitted, and then a member, if its name is free, its period divides
+//! the frame, and the members' total weight stays at most the number of processors. A departing member
+//! gets no more quanta, and is freed, with its weight and its name, some slots later.
 #![tactic(auto)]
 
 mod decision;

@@ -1,5 +1,9 @@
 //! What processors tell each other: announcements of tasks, the entries of a log that make them,
 //! and the writer of a log.
+//!
+//! Each processor keeps a log of numbered entries. An entry has a floor, a slot below which neither it
+//! nor a later entry of the log is stamped, and at most one announcement with its stamp, the slot at
+//! which it takes effect: a task arrives or departs, or its subtasks are released late.
 #![tactic(auto)]
 
 mod announcement;
