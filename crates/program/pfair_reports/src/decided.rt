@@ -15,8 +15,8 @@ use std::io::{Read, Write};
 /// the number of its entry, the task, what was decided, and the freeing slot or the number of the
 /// refusal. They stand in the order in which they are decided.
 ///
-/// The whole text is made before the first byte goes out; of the slots one at a time is held. No more
-/// than 67,108,864 bytes are taken from the reader, or one more if the file is too long or an
+/// The whole text is made before the first byte goes out; one slot at a time is held. No more than
+/// 67,108,864 bytes are taken from the reader, or one more if the file is too long or an
 /// allocation fails. The cost is that of reading the file, of running its script, and O(rows).
 ///
 /// # Errors

@@ -51,7 +51,7 @@ pub(crate) fn cut_fields(row: &[u8]) -> Option<Fields<'_>>
     })
 }
 
-// What stands before the first comma and what stands behind it, if there is one.
+// What is before the first comma and what is after it, if there is one.
 fn cut(row: &[u8]) -> Option<(&[u8], &[u8])>
     ensures { MatchOption result (parts row.now ≡ row.now ∷ []) (λ p. HasNoComma p.0.now × (parts row.now ≡ p.0.now ∷ parts p.1.now)) }
 {
