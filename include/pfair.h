@@ -18,15 +18,15 @@
  *     pfair_table(&d, 0, &count, rows, room);     reads its table
  *     pfair_close(&d);
  *
- * FLOORS. A slot is planned once each log has a floor above it. Each floor needs an entry, and a log has at most 4,096:
- * with a floor for each slot it would be full after 4,096 slots. So announce some slots ahead, and raise the floor as
- * seldom as that lead allows: in a run of S slots at most once in S/4,000 slots, or with an announcement.
- *
  * MODEL. A task of weight cost/period gets `cost` quanta in each `period` slots. Its i-th quantum serves its subtask i,
  * which has to run in a window of slots, from its release to before its deadline. At the boundary of a slot, before the
  * slot's table, the announcements stamped with the slot are decided: an arriving task is refused, or admitted and then
  * a member. A departing member gets no more quanta, but holds its weight and its name until it is freed, some slots
  * later.
+ *
+ * FLOORS. A slot is planned once each log has a floor above it. Each floor needs an entry, and a log has at most 4,096:
+ * with a floor for each slot it would be full after 4,096 slots. So announce some slots ahead, and raise the floor as
+ * seldom as that lead allows: in a run of S slots at most once in S/4,000 slots, or with an announcement.
  *
  * UNITS. Slot t is the time from t to t + 1. A quantum is one slot of one processor. Releases, deadlines, floors and
  * stamps are slots; periods, delays and offsets count slots, and costs quanta. Processors, slots and rows are numbered
@@ -86,10 +86,10 @@
  *    a lock, a join or a message orders the two threads.
  *  - pfair_version, pfair_window, pfair_windows, pfair_first_miss, pfair_first_late and pfair_name_of use no handle.
  *
- * ANSWERS. Each call but pfair_version answers with a number of enum pfair_answer: 0 if it did what it says, else why
- * not.
+ * ANSWERS. Each call but pfair_version and pfair_name_of answers with a number of enum pfair_answer: 0 if it did what
+ * it says, else why not.
  *  - The answers of a call are listed in the order of its checks: it gives the first that applies, and 0 if none does.
- *  - Each call but pfair_open and pfair_read_file answers 102 if a handle that it is given has no dispatcher. It checks
+ *  - Each call on a handle but pfair_open and pfair_read_file answers 102 if the handle has no dispatcher. It checks
  *    this first (pfair_absorb and pfair_below second), and then changes and writes nothing. The lists leave it out.
  *  - A call writes its results if it answers 0, and after no other answer but those whose text says so.
  *  - A call with `rows` and `room` writes over the first of `rows`, and writes to `count` how many there are
@@ -111,8 +111,8 @@
  *  - A handle begins as PFAIR_NONE. Only the calls below change it, and no copy of it is used.
  *  - malloc, realloc and free belong to one allocator. It aligns a block to the greatest power of two that divides its
  *    size, up to 16.
- *  - A call in an interrupt or in a signal handler interrupts no call with the same handle; and if it allocates or
- *    frees, neither malloc, realloc nor free. So a handler of a timer's tick may plan.
+ *  - A call in an interrupt or in a signal handler must not interrupt a call with the same handle; and if it allocates
+ *    or frees, nor malloc, realloc or free. The handler of a timer's tick may plan if it keeps to this.
  *  - No call comes from the child of a fork of a process with threads.
  */
 #ifndef PFAIR_H
