@@ -53,7 +53,7 @@ pub fn early_release_keeps_borders()
     ensures { EarlyReleaseKeepsBorders }
 {}
 
-/// The most processors, the longest frame in slots, and the most announcements that members hear.
+/// The most processors, the longest frame in slots, and the most announcements over all boundaries.
 pub fn limits()
     ensures processors { Members.MAX_PROCESSORS ≡ 64 }
     ensures frame { Members.MAX_FRAME ≡ 1000000000 }

@@ -36,7 +36,8 @@ pub trait Ready: Drop {
     /// The release and the key under each name.
     ghost held: { Self → Queue };
 
-    /// Holds nothing, at slot 0, and allocates nothing; later calls allocate from `alloc`.
+    /// Creates a structure that holds nothing, at slot 0. It allocates nothing; later calls allocate
+    /// from `alloc`.
     fn new(alloc: Global) -> Self
         ensures start { now result ≡ 0 }
         ensures empty { held result ≡ finmap.empty };
@@ -63,14 +64,14 @@ pub trait Ready: Drop {
             (if new then finmap.insert (held self.old) key.name (release, key) else held self.old)) }
         ensures err { OnErr result (held self.new ≡ held self.old) };
 
-    /// Drops what is waiting under a name, and returns whether there was something.
+    /// Removes the key under a name and returns whether there was one.
     fn remove(&mut self, name: &TaskName) -> bool
         ensures time { now self.new ≡ now self.old }
         ensures answer { result ≡ finmap.contains_key (held self.old) name.now }
         ensures content { held self.new ≡ finmap.remove (held self.old) name.now };
 
-    /// Takes out the first m in the PD2 order of the keys that are released by `slot`, or all of them
-    /// if they are fewer.
+    /// Removes and returns the first m in the PD2 order of the keys that are released by `slot`, or all
+    /// of them if they are fewer.
     ///
     /// # Errors
     /// `AllocError` if an allocation fails; nothing but `now` has changed.
@@ -83,8 +84,8 @@ pub trait Ready: Drop {
             held self.new ≡ without first.items (held self.old)) }
         ensures err { OnErr result (held self.new ≡ held self.old) };
 
-    /// As [`Ready::take_first`], in a list whose content is dropped, and which grows only if its room
-    /// is too small.
+    /// Does what [`Ready::take_first`] does, and returns the keys in a given list, whose content is
+    /// dropped and which grows only if its room is too small.
     ///
     /// # Errors
     /// As of [`Ready::take_first`]. The list is gone.
@@ -105,8 +106,8 @@ pub trait Ready: Drop {
         self.take_first(slot, m)
     }
 
-    /// Takes room for so many keys, so that no call allocates as long as no more wait at once, as far
-    /// as the structure can.
+    /// Allocates room for that many keys: as far as the structure can, no call then allocates as long
+    /// as no more keys wait at once.
     ///
     /// # Errors
     /// `AllocError` if an allocation fails.

@@ -107,7 +107,7 @@ impl Waiting {
         true
     }
 
-    /// Drops what waits under a name, and answers whether there was something.
+    /// Removes what waits under a name, and returns whether there was something.
     pub(crate) fn remove(&mut self, name: &TaskName) -> bool
         ensures answer { result ≡ finmap.contains_key self.old name.now }
         ensures content { self.new ≡ finmap.remove self.old name.now }

@@ -22,8 +22,8 @@ pub enum Announcement {
         /// same job has run.
         early: bool,
     },
-    /// A task departs: it is given no more quanta, and gives its share back when its last window
-    /// and group deadline allow it.
+    /// A task departs: it gets no more quanta, and its weight is free once its last window and group
+    /// deadline allow it.
     Depart {
         /// The task's name.
         name: TaskName,

@@ -25,8 +25,8 @@ pub trait Join: Drop {
     /// Holds if a join or a copy may allocate.
     ghost takes_memory: { Type 0 };
 
-    /// The second has something for which the first has no place: only then may joining it in want
-    /// memory.
+    /// The second has something for which the first has no place: only then may joining it in
+    /// allocate.
     ghost outgrows: { Self → Self → Type 0 };
 
     /// Joins `other` in.
@@ -43,11 +43,11 @@ pub trait Join: Drop {
         ensures growth { OnErr result (outgrows self.old other.now) }
         ensures memory { OnErr result takes_memory };
 
-    /// Whether this value is below `other`, or is the same.
+    /// Returns whether this value is below `other`, or is the same.
     fn le(&self, other: &Self) -> bool
         ensures { IsTrue result ↔ below self.now other.now };
 
-    /// A second value that is equal to this one.
+    /// Returns a second value that is equal to this one.
     ///
     /// # Errors
     /// Returns [`AllocError`] if an allocation fails.

@@ -50,8 +50,8 @@ impl Model for Replica {
 }
 
 impl Replica {
-    /// Creates a replica of so many processors, with room for so many entries in each log, that holds
-    /// nothing. O(M) for M processors.
+    /// Creates a replica without entries, for the logs of `processors` processors with room for
+    /// `capacity` entries each. O(M) for M processors.
     ///
     /// # Errors
     /// Returns [`AllocError`] if an allocation fails.

@@ -92,7 +92,7 @@ impl Stepper {
         self.index += 1;
     }
 
-    /// Puts this subtask and all later ones off by so many slots: their offset grows by `by`.
+    /// Delays this subtask and all later ones by `by` slots: their offset grows by `by`.
     pub fn delay(&mut self, by: u64)
         requires { self.old.theta + by ≤ MAX_OFFSET }
         ensures { self.new ≡ record self.old { theta = self.old.theta + by } }

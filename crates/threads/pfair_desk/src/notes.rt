@@ -52,7 +52,7 @@ impl Notes {
         }
     }
 
-    /// Sets a cell that is empty, and answers what stands in it.
+    /// Sets the cell if it is empty, and returns its content.
     pub(crate) fn set(
         &mut self,
         alloc: Global,
