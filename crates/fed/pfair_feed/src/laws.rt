@@ -7,22 +7,22 @@ ghost use Rattle.pfair_feed.specs.RowLaws.{RowsGoOn, WholeRows};
 use pfair_entry_row::laws::{each_entry_has_its_row, rows_are_lines};
 use pfair_table::laws::{events_leave_the_least, one_table};
 
-/// The rows of what was planned, and of more behind it, are those of what was planned, and then
-/// those of the rest.
+/// The rows of some planned slots and of the slots after them are the rows of the former, followed by
+/// those of the latter.
 #[tactic(auto, using(crate::proofs::RowsGoOn::rows_go_on))]
 pub fn rows_go_on()
     ensures { RowsGoOn }
 {}
 
-/// The header and the rows of a whole plan, from the first slot on, are the text that is written of
-/// a run at once.
+/// The header and the rows of a whole plan, from the first slot on, are the text that `pfair` writes
+/// of the run.
 #[tactic(auto, using(crate::proofs::RowsGoOn::whole_texts))]
 pub fn whole_rows()
     ensures { WholeRows }
 {}
 
-/// The rows of the same entries, in whatever order and however often they come, leave the same to
-/// be held, and so the same plan, the same decisions and the same text.
+/// The rows of the same entries, in whatever order and however often they come, leave the same
+/// replica, and so the same plan, the same decisions and the same text.
 pub fn order_is_nothing()
     ensures { OrderIsNothing }
 {
@@ -30,21 +30,21 @@ pub fn order_is_nothing()
 }
 
 /// The header, and what [`follow`](crate::follow) has written for a follower that was new, are the
-/// text that is written at once of what it then holds.
+/// text of the plan of the replica that it then has.
 pub fn text_is_whole()
     ensures { WholeText }
 {
     whole_rows();
 }
 
-/// Bytes are lines, and then the beginning of one, in one way.
+/// Bytes are cut into lines, and the beginning of one, in one way only.
 pub fn lines_are_one()
     ensures { LinesAreOne }
 {}
 
 /// The text of a script's entries, as [`entries_of`](crate::entries_of) makes it, is a line for each
-/// of them, its row, and nothing behind the last. Logs that hold nothing, and have room for the
-/// entries, hold after these lines each entry at its number, and nothing else.
+/// of them, its row, and nothing behind the last. Empty logs with room for the entries have, after
+/// these lines, each entry under its number, and nothing else.
 pub fn entries_are_their_rows()
     ensures { EntriesAreTheirRows }
 {
@@ -53,9 +53,9 @@ pub fn entries_are_their_rows()
     rows_are_lines();
 }
 
-/// Lines that have the rows of a script's entries leave the script to be held, in whatever order they
-/// come and however often each, and so its tables, its decisions and its texts. Between them may
-/// stand what brings nothing: questions, lines that are no row, and rows of other keys.
+/// Lines that have the rows of a script's entries leave the script's replica, in whatever order they
+/// come and however often each, and so its tables, its decisions and its texts. Lines that bring
+/// nothing may be among them: questions, lines that are no row, and rows of other keys.
 pub fn entries_give_their_schedule()
     ensures { EntriesGiveTheirSchedule }
 {
@@ -64,7 +64,7 @@ pub fn entries_give_their_schedule()
 }
 
 /// A follower that was new, and was fed bytes of such lines after its header was written, has written
-/// the text that is written at once of the script, and nothing else.
+/// the text that `pfair` writes of the script, and nothing else.
 pub fn fed_entries_give_their_text()
     ensures { FedEntriesGiveTheirText }
 {
@@ -72,9 +72,9 @@ pub fn fed_entries_give_their_text()
     text_is_whole();
 }
 
-/// Of what two followers have written that were new, of equal settings and outputs, and that tell
-/// slots from the same one on, one begins the other, if what they were fed agrees: whatever was
-/// lost, repeated or out of order.
+/// If two new followers of equal settings, outputs and first slots were fed entries that agree,
+/// whatever was lost, repeated or out of order, the text that one has written begins with that of the
+/// other.
 pub fn runs_write_alike()
     ensures { RunsWriteAlike }
 {

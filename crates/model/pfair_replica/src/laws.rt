@@ -6,27 +6,27 @@ ghost use Rattle.pfair_replica.specs.Laws.{IsLeastJoin, IsLongestRun, IsHeldAfte
 ghost use Rattle.pfair_replica.specs.HeldRows.{IsKnownByHeld};
 ghost use Rattle.pfair_replica.specs.SaidAt.{IsSaid};
 
-/// The order of replicas is an order, and a merge is the least that holds both; so it is
+/// The order of replicas is an order, and a merge gives the least replica above both; so it is
 /// commutative, associative and idempotent.
 #[tactic(auto, using(crate::proofs::Runs::least_join))]
 pub fn least_join()
     ensures { IsLeastJoin }
 {}
 
-/// Replicas of one shape that hold the same at every key are one.
+/// Replicas of one shape that have the same content at every key are equal.
 #[tactic(auto, using(crate::proofs::SameRows::known_by_held))]
 pub fn known_by_held()
     ensures { IsKnownByHeld }
 {}
 
-/// The contents at each key after an entry was joined in, which changes nothing if the entry was
-/// held already, and after a merge.
+/// The content of each key after an entry was joined in, which changes nothing if the entry was there
+/// already, and after a merge.
 #[tactic(auto, using(crate::specs::HeldAfter::held_after))]
 pub fn held_after()
     ensures { IsHeldAfter }
 {}
 
-/// What is offered, refused or not, takes nothing away, changes no shape and leaves a replica a
+/// Offering an entry or a replica, refused or not, removes nothing, changes no shape and leaves a
 /// replica.
 #[tactic(auto, using(crate::proofs::OfferedTo::offered_stays))]
 pub fn offered_stays()
@@ -49,13 +49,13 @@ pub fn longest_run()
     ensures { IsLongestRun }
 {}
 
-/// What a sound beginning has at a place is held at the number of that place.
+/// Entry n of a sound beginning is the entry that the replica has under number n.
 #[tactic(auto, using(crate::proofs::SoundEntries::read_by_number))]
 pub fn read_by_number()
     ensures { IsReadByNumber }
 {}
 
-/// A replica that holds more, with nothing torn, has sound beginnings that go on those of the
+/// If a replica is above another and has nothing torn, its sound beginnings continue those of the
 /// other.
 #[tactic(auto, using(crate::proofs::SoundEntries::beginnings_grow))]
 pub fn beginnings_grow()
@@ -68,19 +68,19 @@ pub fn least_mark()
     ensures { IsLeastMark }
 {}
 
-/// A replica that holds more, with nothing torn, has no lower mark and no lower frontier.
+/// A replica that is above another and has nothing torn has no lower mark and no lower frontier.
 #[tactic(auto, using(crate::proofs::Marks::mark_le, crate::proofs::Marks::frontier_le))]
 pub fn marks_never_fall()
     ensures { MarksNeverFall }
 {}
 
-/// Replicas that agree say the same at every slot below both frontiers.
+/// Replicas that agree have the same announcements at every slot below both frontiers.
 #[tactic(auto, using(crate::proofs::Marks::same_said))]
 pub fn say_the_same()
     ensures { SayTheSame }
 {}
 
-/// No key is listed as torn exactly if nothing is torn.
+/// The list of torn keys is empty exactly if nothing is torn.
 pub fn torn_test()
     ensures { IsTornTest }
 {}
@@ -93,7 +93,7 @@ pub fn listed()
 {}
 
 /// The announcements at a slot are those of sound beginnings with that stamp, in order of processors,
-/// and of numbers for each processor. Torn and fallen keys stand in the same order.
+/// and of numbers for each processor. Torn and fallen keys are listed in the same order.
 #[tactic(auto, using(crate::proofs::SaidListed::is_said))]
 pub fn said_in_order()
     ensures { IsSaid }

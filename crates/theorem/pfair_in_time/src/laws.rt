@@ -12,9 +12,9 @@ ghost use Rattle.pfair_in_time.specs.Windows.{WindowsAreKept, DeadlinesAreKept};
 use pfair_lag::laws::{lags_keep_deadlines, lags_keep_windows};
 use pfair_table::laws::one_schedule;
 
-/// No admitted task misses. Whatever a replica holds, by the tables that follow from it the next
-/// subtask of each member that isn't departing is due after the end of each slot: in a frame of at
-/// least one slot, if each arrival that is said has a weight.
+/// No admitted task misses its deadline. Whatever a replica holds, by the tables that follow from it,
+/// after each slot the deadline of the next subtask of each member that isn't departing is still to
+/// come. Premises: a frame of at least one slot, and a weight in each announced arrival.
 #[tactic(auto, using(crate::proofs::InTime::none_misses))]
 pub fn none_misses()
     ensures { NoneMisses }
@@ -27,12 +27,12 @@ pub fn each_runs_in_time()
     ensures { EachRunsInTime }
 {}
 
-/// No dispatcher misses, whatever has come to it and whatever it was asked to plan: while nothing
-/// that it holds is torn, each slot that it has planned has the table that follows from what it
-/// holds, each row of it is in time, and after it the next subtask of each member that isn't
-/// departing is still to be due.
+/// No admitted task misses its deadline by a dispatcher's plan, whatever events the dispatcher had:
+/// while its replica has nothing torn, each slot that it has planned has the table that follows from
+/// the replica, each row of it is in time, and after it the deadline of the next subtask of each
+/// member that isn't departing is still to come.
 ///
-/// What comes are entries, replicas and arrivals with weights, as their types see to.
+/// Premise: events bring entries and replicas whose arrivals have weights, as their types guarantee.
 pub fn dispatchers_never_miss()
     ensures { DispatchersNeverMiss }
 {
@@ -40,24 +40,24 @@ pub fn dispatchers_never_miss()
     one_schedule();
 }
 
-/// Of a member that isn't departing, isn't early and has no delay, each subtask that has run did so in
-/// its window, counted from the member's joining, and each that was due has run. So its lag
-/// stays strictly between -1 and 1 (`lags_keep_windows` of `pfair_lag`).
+/// If a member isn't departing, isn't early and has no delay, each of its subtasks that has run did so
+/// in its window, counted from the member's joining, and each that was due has run. So its lag stays
+/// strictly between -1 and 1 (`lags_keep_windows` of `pfair_lag`).
 #[tactic(auto, using(crate::proofs::Windows::windows_are_kept))]
 pub fn windows_are_kept()
     ensures { WindowsAreKept }
 {}
 
-/// Of a member that isn't departing and has no delay, early or not, each subtask that has run did so
-/// before its deadline, and each that was due has run. So its lag stays below 1
+/// If a member isn't departing and has no delay, early or not, each of its subtasks that has run did
+/// so before its deadline, and each that was due has run. So its lag stays below 1
 /// (`lags_keep_deadlines` of `pfair_lag`).
 #[tactic(auto, using(crate::proofs::Windows::deadlines_are_kept))]
 pub fn deadlines_are_kept()
     ensures { DeadlinesAreKept }
 {}
 
-/// In the rows that are reported of lags: of a member that isn't departing and has no delay, no
-/// numerator is the period or more and, unless the task is early, none is minus the period or less.
+/// In the reported rows of lags, each numerator of a member that isn't departing and has no delay is
+/// less than the period and, unless the task is early, greater than minus the period.
 pub fn lags_stay_within_one()
     ensures { LagsStayWithinOne }
 {
@@ -65,37 +65,40 @@ pub fn lags_stay_within_one()
     lags_keep_deadlines();
 }
 
-/// If nothing is said but arrivals at slot 0, under names that differ and with periods that divide
-/// the frame: all are admitted exactly if in a frame they want no more quanta than its slots have on
-/// all processors, and then each has by each of its deadlines the quanta that are due.
+/// A set that starts together and fits is served: let nothing be announced but arrivals at slot 0,
+/// under distinct names and with periods that divide the frame. All are admitted exactly if in a frame
+/// they need no more quanta than its slots have on all processors, and then each has by each of its
+/// deadlines the quanta that are due.
 pub fn served_where_there_is_room()
     ensures { ServedWhereThereIsRoom }
 {}
 
-/// And if they need more, no one serves them: by whatever tables, with no more rows in a slot than
-/// there are processors, some task is late at one of its deadlines up to the end of the frame.
+/// A set that starts together and doesn't fit can't be served: if the arrivals of
+/// [`served_where_there_is_room`] need more quanta than that, then by any tables with at most as many
+/// rows in a slot as there are processors, some task is late at one of its deadlines up to the end of
+/// the frame.
 pub fn none_serves_more()
     ensures { NoneServesMore }
 {}
 
-/// A static schedule repeats: if nothing is said but arrivals at slot 0, and h is a common multiple of
-/// the periods of those that are admitted, the table of slot t + h is that of slot t, with the index
-/// of each subtask greater by the quanta that its task has in h slots, cost * h / period.
+/// A static schedule repeats: let nothing be announced but arrivals at slot 0, and let h be a common
+/// multiple of the periods of those that are admitted. Then the table of slot t + h is that of slot t,
+/// with each subtask's index greater by the quanta that its task has in h slots, cost * h / period.
 #[tactic(auto, using(crate::proofs::Repeats::tables_repeat))]
 pub fn tables_repeat()
     ensures { TablesRepeat }
 {}
 
-/// So the first h tables give those of all slots, without a bound: that of slot t is the table of slot
-/// t mod h, with the quanta of the whole periods before it added to each index.
+/// So the first h tables give those of all slots, without a bound: the table of slot t is that of slot
+/// t mod h, with each index greater by the quanta that its task has in the whole cycles before.
 #[tactic(auto, using(crate::proofs::Repeats::repeats_by_periods))]
 pub fn repeats_by_periods()
     ensures { RepeatsByPeriods }
 {}
 
-/// After a boundary each member is one that was there before, or has joined in it; and each that
-/// was there before is there still, or is freed. Its offsets never fall, and those of subtasks that
-/// ran, or whose release lies before the boundary, stay.
+/// Each member after a boundary was a member before it or joined at it, and each member before it is
+/// still one or is freed. A member's offsets never fall, and those of subtasks that ran, or whose
+/// release is before the boundary, stay.
 #[tactic(auto, using(crate::proofs::Boundaries::boundaries_keep_members))]
 pub fn boundaries_keep_members()
     ensures { BoundariesKeepMembers }

@@ -5,14 +5,14 @@
 ghost use Rattle.pfair_optimal.specs.Laws.{SharesFillWindows, SharesFitSlots, GroupDeadlinesEndCascades, GroupDeadlinesAreLeast, BusyBoundsLast, RunsNeverMiss, BeginningsNeverMiss, SomeRunIsFull};
 
 /// In the fluid schedule each subtask gets a quantum in its window and nothing outside of it: its
-/// shares of slots are above 0 just in the window, at most the cost, and add up to the period.
+/// shares of slots are above 0 exactly in the window, at most the cost, and add up to the period.
 pub fn shares_fill_windows()
     ensures { SharesFillWindows }
 {}
 
-/// The shares that two subtasks of one task have of a slot are the cost at most, and no three have
-/// a share of one slot. If a b-bit is 1, the last share of that window and the first one of the
-/// next are the cost together.
+/// The shares of two subtasks of one task in a slot add up to at most the cost, and no three have a
+/// share in one slot. If a b-bit is 1, the last share of that window and the first one of the next add
+/// up to the cost.
 pub fn shares_fit_slots()
     ensures { SharesFitSlots }
 {}
@@ -34,28 +34,28 @@ pub fn group_deadlines_are_least()
 {}
 
 /// The busy bound, which is the group deadline of a heavy subtask and the deadline and b-bit of a
-/// light one, is past each such cascade; and what is released before it has no greater share of its
-/// first slot than the next subtask.
+/// light one, is past each such cascade; and no subtask that is released before it has a greater share
+/// of its first slot than the next subtask.
 pub fn busy_bounds_last()
     ensures { BusyBoundsLast }
 {}
 
-/// In a run no task misses. A run is plain data: the rows of each slot, the members, and the final
-/// offsets. It is wanted that a table has the first of the eligible subtasks in PD2 order, that a
-/// task holds its weight up to the busy bound of what it ran, and that the weights held in a slot
-/// have room on the machine.
+/// In a run no task misses a deadline. A run is plain data: the rows of each slot, the members, and
+/// the final offsets. Its premises: each table has the first of the eligible subtasks in PD2 order,
+/// each task holds its weight up to the busy bound of the last subtask that it ran, and the weights
+/// held in a slot add up to at most the number of processors.
 pub fn runs_never_miss()
     ensures { RunsNeverMiss }
 {}
 
-/// The same of the beginning of a run: if the slots below a number keep the premises, none
-/// misses in them, whatever comes later. Offsets are those that stand at the end of the beginning.
+/// The same for the beginning of a run: if the slots below a number keep the premises, no task misses
+/// a deadline in them, whatever comes later. Offsets are those at the end of the beginning.
 pub fn beginnings_never_miss()
     ensures { BeginningsNeverMiss }
 {}
 
-/// The premises of a run don't contradict each other: two tasks of weight 1/2 that run by turns on
-/// one processor keep them, and fill it.
+/// The premises of a run don't contradict each other: two tasks of weight 1/2 that take turns on one
+/// processor meet them, and fill it.
 #[tactic(auto, using(crate::proofs::Halves::halves_are_a_run))]
 pub fn some_run_is_full()
     ensures { SomeRunIsFull }
