@@ -14,6 +14,8 @@ from hypothesis import settings
 TOP = pathlib.Path(__file__).resolve().parents[2]
 EXAMPLES = pathlib.Path(os.environ.get("PFAIR_EXAMPLES", TOP / "examples"))
 SCRIPTS = pathlib.Path(os.environ.get("PFAIR_SCRIPTS", TOP / "scripts"))
+# what the scripts share
+sys.path.append(str(SCRIPTS))
 # each run tries the same examples, however long one takes
 settings.register_profile("steady", derandomize=True, deadline=None, database=None)
 settings.load_profile("steady")

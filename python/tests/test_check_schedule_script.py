@@ -1,6 +1,5 @@
 """scripts/check_schedule: its lines and statuses, and what can't be read."""
 import io
-import os
 import subprocess
 import sys
 
@@ -80,23 +79,6 @@ def test_as_a_program():
     assert run(TASKS)[0] == 2 and "usage: " in run(TASKS)[2]
     status, out, said = run("--help")
     assert status == 0 and "[--order] TASKS ROWS\n" in out and CHECK.__doc__.strip() in out
-
-
-def test_package(monkeypatch, tmp_path):
-    """The package as it is installed; else the one beside, with the library that is named, or is made."""
-    assert CHECK.package() is pfair
-    made = []
-    monkeypatch.setattr(CHECK.importlib.util, "find_spec", lambda name: None if name == "pfair" else 1 / 0)
-    monkeypatch.setattr(CHECK.subprocess, "run", lambda words, **how: made.append(([*map(str, words)], how)))
-    monkeypatch.setattr(sys, "path", [*sys.path])
-    monkeypatch.setattr(CHECK, "TOP", tmp_path)
-    monkeypatch.setenv("PFAIR_LIBRARY", "some.so")
-    assert CHECK.package() is pfair and sys.path[0] == str(tmp_path / "python" / "src") and not made
-    for unset in ("", None):
-        monkeypatch.delenv("PFAIR_LIBRARY") if unset is None else monkeypatch.setenv("PFAIR_LIBRARY", unset)
-        assert CHECK.package() is pfair and os.environ["PFAIR_LIBRARY"] == str(tmp_path / "build" / "libpfair.so")
-    words = [str(tmp_path / "tools" / "make_library"), str(tmp_path / "build")]
-    assert made == [(words, {"stdout": subprocess.DEVNULL, "check": True})] * 2
 
 
 def test_package_that_cant_be_made(call, monkeypatch):
