@@ -9,6 +9,7 @@ library are exceptions below `PfairError`: `number` is the library's answer, and
 """
 from . import study as study
 from ._check import Violation, check
+from ._cycle import NoCycle
 from ._dispatcher import OUTCOMES, Dispatcher, Faults, Planned, TakenCounts, windows
 from ._entries import Entry, Script, arrive, depart, late, promise, rows_of
 from ._errors import (
@@ -26,7 +27,7 @@ __all__ = [
     "Faults", "Miss", "Planned", "Schedule", "Script", "TakenCounts", "Violation", "arrive", "check", "depart",
     "first_late", "first_miss", "late", "promise", "read_task_file", "rows_of", "schedule", "study", "windows",
     "BadDelay", "BadIndex", "CostOverPeriod", "EntryRefused", "FileTooLong", "KeyMissing", "KeyOutOfRange",
-    "KeyWrongKind", "NameBadByte", "NameEmpty", "NameTooLong", "NoSuchNumber", "NoSuchProcessor", "NotOpen",
+    "KeyWrongKind", "NameBadByte", "NameEmpty", "NameTooLong", "NoCycle", "NoSuchNumber", "NoSuchProcessor", "NotOpen",
     "NotPlanned", "NotToml", "OtherShape", "OutOfMemory", "OutOfRange", "PeriodTooLong", "PfairError",
     "PickPastHorizon", "PicksNotRising", "SlotTooFar", "Spent", "Stalled", "StampBeforeFloor", "TaskFileError", "Torn",
     "UnknownVersion", "ZeroCost",

@@ -3,13 +3,16 @@ from __future__ import annotations
 
 import operator
 from dataclasses import dataclass, field
-from typing import Any, Optional, Sequence, Union
+from typing import TYPE_CHECKING, Any, Optional, Sequence, Union
 
 import numpy as np
 import numpy.typing as npt
 
 from ._errors import NameBadByte, OutOfRange
 from ._library import ENTRY
+
+if TYPE_CHECKING:
+    from ._schedule import Schedule
 
 Rows = npt.NDArray[np.void]
 KINDS = (None, "arrive", "depart", "late")
@@ -234,6 +237,35 @@ class Script:
         """
         log = self.log(processor)
         return [*log] if log and log[-1].floor >= self.slots else [*log, promise(self.slots)]
+
+    def cycle(self) -> Schedule:
+        """Plans one cycle of a static schedule: of tasks that all arrive at slot 0 and never change.
+
+        The cycle has H slots: the hyperperiod, the least common multiple of the periods of the tasks that are admitted.
+        In slot t + k H the tasks of slot t run, each with its index raised by k times its quanta in a cycle, which are
+        H * cost / period. This script's own number of slots doesn't matter.
+
+        Returns
+        -------
+        Schedule
+            All slots of a copy of this script that has H slots. Each cycle has the same table of tasks. The places are
+            those of the first one, and a valid assignment for each: at the border between two cycles a task that runs
+            on may change its processor, though the executive would have kept it there.
+
+        Raises
+        ------
+        NoCycle
+            If anything else than an arrival at slot 0 is announced, or H is over 1,000,000.
+        PfairError
+            As `Schedule`, for H slots.
+
+        Notes
+        -----
+        The cost of `Schedule` for H slots.
+        """
+        from ._cycle import cycle_of
+
+        return cycle_of(self)
 
     def text(self) -> str:
         """Returns the script as a task file.
