@@ -2,9 +2,10 @@
 use Rattle.std.proofs.Common.{◌≡◌, ℕ, zero, suc, ◌+◌, ◌-◌, ◌*◌, ◌/◌, ◌%◌, ◌<◌, ◌≤◌, Bool, true, false, cond, List, [], ◌∷◌, map, Option, Some, None, arith, ap, refl, sym, ◌∙◌, subst, inl, inr, ⊎_elim}
 use Rattle.std.specs.Prelude.{◌||◌, not, nat_le, filter, option_map, if◌then◌else◌}
 use Rattle.std.specs.List.{AllByRecursion, find, list_any}
-use Rattle.std.proofs.lemmas.Bool.{true≢false, cases_lt, cases_eq, cases_Bool, and_parts, leb-true, le-leb}
+use Rattle.std.proofs.lemmas.Bool.{cases_lt, cases_eq, cases_Bool, and_parts, leb-true}
+use Rattle.std.proofs.lemmas.Bool.Decides.{nat_tests}
 use Rattle.std.proofs.lemmas.List.{map-id}
-use Rattle.std.proofs.lemmas.Nat.{mul-le, div-add-mod'}
+use Rattle.std.proofs.lemmas.Nat.{div-add-mod'}
 use Rattle.std.proofs.lemmas.Simd.{map-map}
 use Rattle.std.proofs.Math.Nat.{le_refl, mod-eq-sub-div-mul, div-mul-le_self, mul-mod_left, mul_comm}
 use Rattle.pfair_weight.specs.Share.{Share, IsWeight, units_of}
@@ -53,14 +54,11 @@ any_mapped : {A : Type 0} (p : A → Bool) (f : A → A) → ((x : A) → p (f x
 any_mapped p f same [] = refl
 any_mapped p f same (x ∷ xs) = λ i. same x i || any_mapped p f same xs i
 
-le_same : (a b c d : ℕ) → (a ≤ b → c ≤ d) → (c ≤ d → a ≤ b) → nat_le c d ≡ nat_le a b
-le_same a b c d to from = elim (cases_Bool (nat_le a b)) [
-  | inl e ↦ le-leb c d (to (leb-true a b e)) ∙ sym e
-  | inr e ↦ elim (cases_Bool (nat_le c d)) [
-    | inr f ↦ f ∙ sym e
-    | inl f ↦ absurd (true≢false (sym (le-leb a b (from (leb-true c d f))) ∙ e))
-  ]
-]
+le_later : (n t by : ℕ) → nat_le (n + by) (t + by) ≡ nat_le n t
+le_later n t by = grind (arith, nat_tests)
+
+none_le : (t : ℕ) → nat_le 0 t ≡ true
+none_le t = grind (arith, nat_tests)
 
 -- ---- a member that joined at slot 0
 
@@ -75,33 +73,20 @@ module _ (name : List ℕ) (w : Share) (early : Bool) (i k : ℕ) (h : IsWeight 
   -- k jobs later it is eligible k periods later
   eligible_repeats : (t : ℕ) → is_eligible (t + k * w.period) (stands name w early (i + k * w.cost)) ≡ is_eligible t (stands name w early i)
   eligible_repeats t =
-      ap (λ b. nat_le (if not early || (b || false) then release_of w (i + k * w.cost) (theta (stands name w early (i + k * w.cost)) (i + k * w.cost)) else 0) (t + k * w.period)) (starts_job_repeats w i k first)
+      ap (λ b. nat_le (if not early || (b || false) then release_of w (i + k * w.cost) 0 else 0) (t + k * w.period)) (starts_job_repeats w i k first)
       ∙ choose (not early || (starts_job_of w i || false))
     where
-      release_is : release_of w (i + k * w.cost) (theta (stands name w early (i + k * w.cost)) (i + k * w.cost)) ≡ release_of w i (theta (stands name w early i) i) + k * w.period
-      release_is =
-          let one = no_offset (stands name w early (i + k * w.cost)) (i + k * w.cost) refl in
-          let other = no_offset (stands name w early i) i refl in
-          let later = release_repeats w i k 0 h.some_cost first in
-          omega arith
-
-      choose : (b : Bool) → nat_le (if b then release_of w (i + k * w.cost) (theta (stands name w early (i + k * w.cost)) (i + k * w.cost)) else 0) (t + k * w.period)
-          ≡ nat_le (if b then release_of w i (theta (stands name w early i) i) else 0) t
-      choose true = le_same (release_of w i (theta (stands name w early i) i)) t (release_of w (i + k * w.cost) (theta (stands name w early (i + k * w.cost)) (i + k * w.cost))) (t + k * w.period)
-          (λ le. (let is = release_is in omega arith)) (λ le. (let is = release_is in omega arith))
-      choose false = le_same 0 t 0 (t + k * w.period) (λ le. omega arith) (λ le. omega arith)
+      choose : (b : Bool) → nat_le (if b then release_of w (i + k * w.cost) 0 else 0) (t + k * w.period) ≡ nat_le (if b then release_of w i 0 else 0) t
+      choose true = ap (λ r. nat_le r (t + k * w.period)) (release_repeats w i k 0 h.some_cost first) ∙ le_later (release_of w i 0) t (k * w.period)
+      choose false = none_le (t + k * w.period) ∙ sym (none_le t)
 
   group_is : group_deadline_of w (i + k * w.cost) 0 ≡ group_later (k * w.period) (group_deadline_of w i 0)
   group_is = elim (cases_lt (2 * w.cost) w.period) [
-    | inl light ↦
-        let one = group_deadline_light w (i + k * w.cost) 0 light in
-        let other = group_deadline_light w i 0 light in
-        one ∙ sym (ap (group_later (k * w.period)) other)
+    | inl light ↦ group_deadline_light w (i + k * w.cost) 0 light ∙ sym (ap (group_later (k * w.period)) (group_deadline_light w i 0 light))
     | inr heavy ↦
-        let later = group_deadline_repeats w i k 0 h heavy in
         let due = group_deadline_not_before w i 0 h heavy in
         let open_first = window_not_empty w i 0 h first in
-        later ∙ some (group_deadline_of w i 0) (omega arith)
+        group_deadline_repeats w i k 0 h heavy ∙ some (group_deadline_of w i 0) (omega arith)
   ]
     where
       some : (group : ℕ) → 0 < group → group + k * w.period ≡ group_later (k * w.period) group
@@ -110,16 +95,7 @@ module _ (name : List ℕ) (w : Share) (early : Bool) (i k : ℕ) (h : IsWeight 
 
   -- and its key is later by that
   key_repeats : next_key (stands name w early (i + k * w.cost)) ≡ key_later (k * w.period) (next_key (stands name w early i))
-  key_repeats = λ j. record { d = due j; b = b_bit_repeats w i k h.some_cost j; group = group j; name = name }
-    where
-      offset : (n : ℕ) → theta (stands name w early n) n ≡ 0
-      offset n = no_offset (stands name w early n) n refl
-
-      due : deadline_of w (i + k * w.cost) (theta (stands name w early (i + k * w.cost)) (i + k * w.cost)) ≡ deadline_of w i (theta (stands name w early i) i) + k * w.period
-      due = ap (deadline_of w (i + k * w.cost)) (offset (i + k * w.cost)) ∙ deadline_repeats w i k 0 h.some_cost ∙ ap (λ o. deadline_of w i o + k * w.period) (sym (offset i))
-
-      group : group_deadline_of w (i + k * w.cost) (theta (stands name w early (i + k * w.cost)) (i + k * w.cost)) ≡ group_later (k * w.period) (group_deadline_of w i (theta (stands name w early i) i))
-      group = ap (group_deadline_of w (i + k * w.cost)) (offset (i + k * w.cost)) ∙ group_is ∙ ap (λ o. group_later (k * w.period) (group_deadline_of w i o)) (sym (offset i))
+  key_repeats = λ j. record { d = deadline_repeats w i k 0 h.some_cost j; b = b_bit_repeats w i k h.some_cost j; group = group_is j; name = name }
 
 -- all that arrivals leave are such members
 firsts : (mc : Machine) (arrivals : List Arrival) (ms : List Member) → ((m : Member) → Among ms m → IsFirst m) → (m : Member) → Among (all_decided mc 0 ms (map announced arrivals)) m → IsFirst m
@@ -216,33 +192,25 @@ module _ (s : Settings) (x : Replica) (arrivals : List Arrival) (frame : 0 < s.f
 
       -- and when it has ended none has had fewer
       no_fewer : 1 + units_of m.weight h ≤ next_index (tables_before s x h) m
-      no_fewer = elim (cases_eq h 0) [
-        | inl nothing ↦ (
+      no_fewer = elim (cases_lt (next_index (tables_before s x h) m) (1 + units_of m.weight h)) [
+        | inr enough ↦ enough
+        | inl few ↦ absurd (
+            let units = units_are in
             let whole = all_jobs in
-            let some = (weight_of m among).some_cost in
-            let low = (weight_of m among).at_most_one in
-            elim (cases_eq jobs 0) [
-              | inl none_done ↦ (let units = units_are in let no = ap (λ n. n * m.weight.cost) none_done in omega arith)
-              | inr other ↦ absurd (let wide = mul-le 1 m.weight.period jobs m.weight.period (omega (arith, other)) (le_refl m.weight.period) in omega arith)
+            let rise = deadline_rises m.weight (next_index (tables_before s x h) m) (jobs * m.weight.cost) (weight_of m among).some_cost (omega arith) in
+            let due = job_due m.weight jobs 0 (weight_of m among).some_cost in
+            elim (cases_eq h 0) [
+              | inl nothing ↦ (let later = window_not_empty m.weight (next_index (tables_before s x h) m) 0 (weight_of m among) (omega arith) in omega arith)
+              | inr some ↦
+                  let l = counted_one (tables_before s x (h - 1)) m in
+                  let late = none s x frame weights (h - 1) l (member_at (h - 1) m among) (ap is_departing (is_first m among)) in
+                  let at : suc (h - 1) ≡ h = omega (arith, some) in
+                  let index : index_after s x (h - 1) l ≡ next_index (tables_before s x h) m = ap (λ t. next_index (tables_before s x t) m) at in
+                  let offset = no_offset l (index_after s x (h - 1) l) (ap (λ (n : Member). n.delays) (is_first m among)) in
+                  let joined = joined_first m among in
+                  let is = ap (λ i. deadline_of m.weight i 0) index in
+                  omega arith
             ])
-        | inr some ↦ elim (cases_lt (next_index (tables_before s x h) m) (1 + units_of m.weight h)) [
-          | inr enough ↦ enough
-          | inl few ↦ absurd (
-              let l = counted_one (tables_before s x (h - 1)) m in
-              let active : is_departing l ≡ false = ap is_departing (is_first m among) in
-              let late = none s x frame weights (h - 1) l (member_at (h - 1) m among) active in
-              let at : suc (h - 1) ≡ h = omega (arith, some) in
-              let index : index_after s x (h - 1) l ≡ next_index (tables_before s x h) m = ap (λ t. next_index (tables_before s x t) m) at in
-              let undelayed = ap (λ (n : Member). n.delays) (is_first m among) in
-              let offset = no_offset l (index_after s x (h - 1) l) undelayed in
-              let joined = joined_first m among in
-              let units = units_are in
-              let rise = deadline_rises m.weight (next_index (tables_before s x h) m) (jobs * m.weight.cost) (weight_of m among).some_cost (omega arith) in
-              let due = job_due m.weight jobs 0 (weight_of m among).some_cost in
-              let whole = all_jobs in
-              let is = ap (λ i. deadline_of m.weight i 0) index in
-              omega arith)
-        ]
       ]
 
     -- the index of the next subtask is by so much greater
