@@ -10,7 +10,7 @@ library are exceptions below `PfairError`: `number` is the library's answer, and
 from . import study as study
 from ._check import Violation, check
 from ._cycle import NoCycle
-from ._dispatcher import OUTCOMES, Dispatcher, Faults, Planned, TakenCounts, windows
+from ._dispatcher import Dispatcher, Planned
 from ._entries import Entry, Script, arrive, depart, late, promise, rows_of
 from ._errors import (
     BY_NUMBER, BadDelay, BadIndex, CostOverPeriod, EntryRefused, FileTooLong, KeyMissing, KeyOutOfRange, KeyWrongKind,
@@ -19,8 +19,11 @@ from ._errors import (
     StampBeforeFloor, TaskFileError, Torn, UnknownVersion, ZeroCost,
 )
 from ._first_miss import Miss, first_late, first_miss
-from ._library import DECISION, ENTRY, LAG, MEMBER, QUANTUM, VERSION, WINDOW
-from ._schedule import Counts, Schedule, read_task_file, schedule
+from ._library import DECISION, ENTRY, LAG, MEMBER, OUTCOMES, QUANTUM, VERSION, WINDOW
+from ._logs import Faults, TakenCounts
+from ._schedule import Counts, Schedule, schedule
+from ._task_file import read_task_file
+from ._windows import windows
 
 __all__ = [
     "BY_NUMBER", "DECISION", "ENTRY", "LAG", "MEMBER", "OUTCOMES", "QUANTUM", "WINDOW", "Counts", "Dispatcher", "Entry",

@@ -8,11 +8,12 @@ from typing import Any, Iterator, NamedTuple, Optional, Union
 import numpy as np
 import numpy.typing as npt
 
-from ._dispatcher import windows
 from ._entries import Rows, Script
 from ._first_miss import first_miss
 from ._record import Given, Numbers, Record, read_record
-from ._schedule import numbered, opened, plan_to, read_task_file
+from ._schedule import numbered, opened, plan_to
+from ._task_file import read_task_file
+from ._windows import windows
 
 # slots that are planned at once
 _SLOTS_AT_ONCE = 1 << 16
@@ -24,16 +25,16 @@ class Violation(NamedTuple):
     Attributes
     ----------
     slot : int
-        Where it is. For "unserved" the deadline that passed.
+        The slot in which it is; for "unserved" the deadline that passed.
     kind : str
-        "crowded": more quanta in the slot than processors. "place": a processor that there isn't, or that runs two
-        tasks. "twice": a task has two quanta in the slot. "absent": the task isn't a member then. "index": a subtask
-        that isn't the next. "early", "tardy", "unserved": a subtask ran before its release, ran at its deadline or
-        later, didn't run before it. "order": the executive runs others in the slot.
+        "crowded": more quanta in the slot than processors. "place": a processor that the run doesn't have, or that runs
+        two tasks. "twice": a task has two quanta in the slot. "absent": the task isn't a member then. "index": a
+        subtask that isn't the next. "early", "tardy", "unserved": a subtask ran before its release, ran at its deadline
+        or later, or didn't run by its deadline. "order": PD2 runs other subtasks in the slot.
     task : str
         The task, or "" for "crowded".
     subtask : int
-        The one that is meant, from 1, or 0.
+        Its subtask, from 1; 0 if it is about none.
     text : str
         What is wrong, in words.
     """
@@ -65,7 +66,7 @@ def check(tasks: Union[Script, str, "os.PathLike[str]", bytes], rows: Given, ord
     list of Violation
         By slots. Of each slot all that is wrong with the slot itself; of each incarnation of a task the first wrong
         index and the first subtask out of its window, since the next ones follow from these; and the first quantum of
-        each time in which a task isn't there. The second quantum of a task in a slot is left out of all else.
+        each time in which a task isn't a member. A second quantum of a task in a slot counts for "twice" alone.
 
     Raises
     ------
@@ -78,9 +79,9 @@ def check(tasks: Union[Script, str, "os.PathLike[str]", bytes], rows: Given, ord
 
     Notes
     -----
-    O(r log r) for r rows, and the cost of planning the tasks, by whose decisions it goes who is a member when, and
-    which late releases are accepted. The k-th quantum of an incarnation is taken for its subtask k, and the rows for
-    all quanta of the run: a record that ends earlier leaves subtasks unserved.
+    O(r log r) for r rows, and the cost of planning the tasks: the plan's decisions say which tasks are members in
+    which slots, and which late releases are accepted. The k-th quantum of an incarnation is taken for its subtask k,
+    and the rows for all quanta of the run: a record that ends earlier leaves subtasks unserved.
     """
     script = tasks if isinstance(tasks, Script) else read_task_file(tasks)
     record = read_record(rows)

@@ -1,78 +1,26 @@
-"""Windows of subtasks, and dispatchers."""
+"""Dispatchers: they take entries, plan slots, and return what was planned."""
 from __future__ import annotations
 
 import ctypes as c
-import threading
-from contextlib import ExitStack
-from types import TracebackType
-from typing import Any, NamedTuple, Optional, Sequence, Union
+from typing import Any, NamedTuple, Optional
 
 import numpy as np
 
-from ._entries import Entry, Rows, entry_of, rows_of, whole
+from ._entries import Rows, whole
 from ._errors import check
-from ._library import DECISION, ENTRY, KEY, LAG, MEMBER, QUANTUM, WINDOW, FileFault, Handle, Settings, Step, TakenLog, library
+from ._library import DECISION, LAG, MEMBER, QUANTUM, FileFault, Step, library
+from ._logs import Logs
 
-#: The outcomes of decisions by their numbers in DECISION; those from 20 on are refusals.
-OUTCOMES = {
-    0: "admitted", 1: "departing", 2: "delayed", 20: "name taken", 21: "period outside frame", 22: "no room", 23: "no such task",
-    24: "already departing", 25: "already released",
-}
 STEPS = ("planned", "waiting", "done")
-TAKEN = ("new", "known", "torn")
-
 
 # in bytes: the library refuses a longer task file
 LONGEST_FILE = 67_108_864
 # the fields of a file's fault that are set, by the answer
 _WHERE = {61: ("place",), 62: ("place",), 63: ("place",), 64: ("processor", "number", "cause")}
-_KEYS = ("", "version", "processors", "frame", "slots", "entry", "processor", "floor", "kind", "at", "name", "cost", "period", "early", "index", "by")
-
-
-def _at(fault: FileFault) -> str:
-    if fault.cause:
-        return f"entry {fault.number} of processor {fault.processor} for {fault.cause}"
-    return f"{_KEYS[fault.field]} at {fault.place}"
-
-
-def windows(cost: int, period: int, count: int, first: int = 1, theta: int = 0) -> Rows:
-    """Returns the windows of subtasks `first` to `first + count - 1` of a task.
-
-    Parameters
-    ----------
-    cost, period : int
-        The weight: `cost` quanta in each `period` slots, with 1 <= cost <= period <= 1,000,000,000.
-    count : int
-        The number of windows, from 0.
-    first : int
-        The first subtask, from 1; the last one is at most 1,000,001.
-    theta : int
-        The offset in slots, 0 to 2**40: the slot in which the task joined, plus the delays of its late releases.
-
-    Returns
-    -------
-    ndarray of dtype WINDOW
-        A row for each subtask: `release` and `deadline` (slots), `b_bit` (0 or 1), and `group_deadline` (a slot, or 0
-        if the weight is below 1/2).
-
-    Raises
-    ------
-    ZeroCost, CostOverPeriod, PeriodTooLong
-        If the weight is out of its range.
-    OutOfRange
-        If `first`, `count` or `theta` is out of its range, or a number is negative or too large for its type in C.
-
-    Notes
-    -----
-    O(count). Releases and deadlines are those of Baruah, Cohen, Plaxton and Varvel; the b-bit and the group deadline
-    are those of Anderson and Srinivasan.
-    """
-    rows = np.zeros(whole(count, 32, "count"), WINDOW)
-    answer = library.pfair_windows(
-        whole(cost, 64, "cost"), whole(period, 64, "period"), whole(first, 64, "first"), len(rows), whole(theta, 64, "theta"), rows.ctypes.data, len(rows)
-    )
-    check(answer, f"{cost}/{period}")
-    return rows
+_KEYS = (
+    "", "version", "processors", "frame", "slots", "entry", "processor", "floor", "kind", "at", "name", "cost",
+    "period", "early", "index", "by",
+)
 
 
 class Planned(NamedTuple):
@@ -92,43 +40,7 @@ class Planned(NamedTuple):
     slot: int
 
 
-class TakenCounts(NamedTuple):
-    """How many entries a call took, and what each of them met.
-
-    Attributes
-    ----------
-    taken : int
-        All entries taken: the sum of the other three.
-    new : int
-        Entries whose number was free.
-    known : int
-        Entries equal to the existing one.
-    torn : int
-        Entries whose number had a different entry, or was torn already.
-    """
-
-    taken: int
-    new: int
-    known: int
-    torn: int
-
-
-class Faults(NamedTuple):
-    """What is wrong with the logs of a dispatcher, as lists of (processor, number).
-
-    Attributes
-    ----------
-    torn : list of tuple of int
-        The numbers with conflicting entries.
-    fallen : list of tuple of int
-        The entries right behind a sound beginning whose floor is lower: the rest of that log is ignored.
-    """
-
-    torn: list[tuple[int, int]]
-    fallen: list[tuple[int, int]]
-
-
-class Dispatcher:
+class Dispatcher(Logs):
     """Takes entries of the processors' logs, in any order, and plans the slots that they settle.
 
     Parameters
@@ -160,8 +72,9 @@ class Dispatcher:
     """
 
     def __init__(self, processors: int, frame: int, slots: int, capacity: int = 4096) -> None:
-        self._handle, self._lock = Handle(False, None), threading.RLock()
-        self._call("pfair_open", whole(processors, 8, "processors"), whole(frame, 64, "frame"), whole(slots, 64, "slots"), whole(capacity, 32, "capacity"))
+        super().__init__()
+        sizes = whole(processors, 8, "processors"), whole(frame, 64, "frame"), whole(slots, 64, "slots")
+        self._call("pfair_open", *sizes, whole(capacity, 32, "capacity"))
 
     @classmethod
     def of_file(cls, text: bytes) -> "Dispatcher":
@@ -192,322 +105,14 @@ class Dispatcher:
         O(b) for b bytes, and for each entry the cost of `take`.
         """
         made, fault = cls.__new__(cls), FileFault()
-        made._handle, made._lock = Handle(False, None), threading.RLock()
+        Logs.__init__(made)
         answer = library.pfair_read_file(made._handle, fault, text, len(text))
         found = {name: int(getattr(fault, name)) for name in _WHERE.get(answer, ())}
-        check(answer, _at(fault) if found else "", **found)
+        where = f"{_KEYS[fault.field]} at {fault.place}" if found else ""
+        if fault.cause:
+            where = f"entry {fault.number} of processor {fault.processor} for {fault.cause}"
+        check(answer, where, **found)
         return made
-
-    def __enter__(self) -> "Dispatcher":
-        return self
-
-    def __exit__(self, kind: Optional[type[BaseException]], value: Optional[BaseException], trace: Optional[TracebackType]) -> None:
-        self.close()
-
-    def __del__(self) -> None:
-        handle = getattr(self, "_handle", None)
-        if handle is not None and handle.is_open:
-            library.pfair_close(handle)
-
-    def __reduce__(self) -> Any:
-        raise TypeError("a Dispatcher can't be copied or pickled")
-
-    def _call(self, name: str, *given: Any, where: str = "") -> None:
-        with self._lock:
-            check(getattr(library, name)(self._handle, *given), where)
-
-    def _number(self, name: str, *given: Any) -> int:
-        number = c.c_uint64()
-        self._call(name, *given, number)
-        return number.value
-
-    def close(self) -> None:
-        """Frees the dispatcher; a second call does nothing.
-
-        Notes
-        -----
-        O(e + t + r) for e entries, t tasks, and r quanta and decisions of the planned slots.
-        """
-        with self._lock:
-            if self._handle.is_open:
-                check(library.pfair_close(self._handle))
-
-    def _settings(self) -> Settings:
-        settings = Settings()
-        self._call("pfair_settings", settings)
-        return settings
-
-    @property
-    def processors(self) -> int:
-        """The number of processors."""
-        return int(self._settings().processors)
-
-    @property
-    def frame(self) -> int:
-        """The frame, in slots."""
-        return int(self._settings().frame)
-
-    @property
-    def slots(self) -> int:
-        """The number of slots to plan."""
-        return int(self._settings().slots)
-
-    @property
-    def capacity(self) -> int:
-        """The most entries of a log."""
-        return int(self._settings().capacity)
-
-    # ---- entries
-
-    def take(self, processor: int, number: int, entry: Entry) -> str:
-        """Takes an entry of a log and returns what it met.
-
-        Parameters
-        ----------
-        processor : int
-            The processor whose log it is, from 0.
-        number : int
-            The position in the log, 1 to the capacity.
-        entry : Entry
-
-        Returns
-        -------
-        str
-            "new": the number was free, and has the entry now. "known": it had an equal entry. "torn": it had a
-            different entry or was torn already, and is torn now.
-
-        Raises
-        ------
-        NameEmpty, NameTooLong, NameBadByte
-            If the announcement's name is no task name.
-        ZeroCost, CostOverPeriod, PeriodTooLong
-            If an arrival's weight is out of its range.
-        SlotTooFar, StampBeforeFloor, BadIndex, BadDelay
-            If the floor, the stamp, or the index or the delay of a late release is out of its range.
-        NoSuchProcessor, NoSuchNumber
-            If the dispatcher has no such processor or number.
-        OutOfRange
-            If the kind is unknown, or a number is negative or too large for its type in C.
-        OutOfMemory
-            If an allocation fails; only for a free number.
-
-        Notes
-        -----
-        O((1 + g) log n) for n entries in the log, if its run of entries 1, 2, 3, .. grows by g.
-        """
-        row, taken = rows_of([entry]), c.c_uint64()
-        self._call("pfair_take", whole(processor, 8, "processor"), whole(number, 32, "number"), row.ctypes.data, taken, where=f"entry {number} of processor {processor}")
-        return TAKEN[taken.value]
-
-    def take_log(self, processor: int, entries: Union[Sequence[Entry], Rows], first: int = 1) -> TakenCounts:
-        """Takes consecutive entries of a log, each as `take` does, up to the first that is refused.
-
-        Parameters
-        ----------
-        processor : int
-            The processor whose log it is, from 0.
-        entries : sequence of Entry, or ndarray of dtype ENTRY
-            As `rows_of` makes it; an array is read as it is.
-        first : int
-            The number of the first entry, 1 to the capacity, even if there are no entries.
-
-        Returns
-        -------
-        TakenCounts
-
-        Raises
-        ------
-        PfairError
-            As `take`, for the first entry that is refused. found["processor"] and found["number"] name it, and the
-            entries before it are taken.
-        OutOfRange, NameBadByte, TypeError
-            As `rows_of`, before any entry is taken and with nothing in `found`; so too OutOfRange if `processor` or
-            `first` is too large for its type in C.
-
-        Notes
-        -----
-        The cost of `take` for each entry.
-        """
-        rows, counted = rows_of(entries), TakenLog()
-        with self._lock:
-            answer = library.pfair_take_log(self._handle, whole(processor, 8, "processor"), whole(first, 32, "first"), counted, rows.ctypes.data, len(rows))
-        number = first + counted.taken
-        check(answer, f"entry {number} of processor {processor}", processor=processor, number=number)
-        return TakenCounts(counted.taken, counted.fresh, counted.known, counted.torn)
-
-    def absorb(self, other: "Dispatcher") -> None:
-        """Takes all entries of another dispatcher, which stays as it is.
-
-        Parameters
-        ----------
-        other : Dispatcher
-            One with as many processors and the same capacity. With itself the call does nothing.
-
-        Raises
-        ------
-        OtherShape
-            If the number of processors or the capacity differs.
-        OutOfMemory
-            If an allocation fails. Some entries are taken; absorbing the other again takes the rest.
-
-        Notes
-        -----
-        O((n + m) log(n + m)) for n entries here and m there.
-        """
-        if other is self:
-            return
-        with self._both(other):
-            check(library.pfair_absorb(self._handle, other._handle))
-
-    def is_below(self, other: "Dispatcher") -> bool:
-        """Returns whether another dispatcher has all that this one has: each entry, and each torn number as torn.
-
-        Parameters
-        ----------
-        other : Dispatcher
-
-        Returns
-        -------
-        bool
-
-        Notes
-        -----
-        O(n log m) for n entries here and m there.
-        """
-        if other is self:
-            return True
-        is_below = c.c_uint64()
-        with self._both(other):
-            check(library.pfair_below(self._handle, other._handle, is_below))
-        return bool(is_below.value)
-
-    def _both(self, other: "Dispatcher") -> ExitStack:
-        stack = ExitStack()
-        for one in sorted((self, other), key=id):
-            stack.enter_context(one._lock)
-        return stack
-
-    # ---- contents
-
-    def held(self, processor: int, number: int) -> Optional[Entry]:
-        """Returns the entry with a number, or None if there is none.
-
-        Parameters
-        ----------
-        processor : int
-            The processor whose log it is, from 0.
-        number : int
-            The position in the log, 1 to the capacity.
-
-        Returns
-        -------
-        Entry or None
-            Fields that its kind doesn't need have their defaults.
-
-        Raises
-        ------
-        Torn
-            If conflicting entries were taken for the number; found["processor"] and found["number"] name it.
-        NoSuchProcessor, NoSuchNumber
-            If the dispatcher has no such processor or number.
-        OutOfRange
-            If a number is negative or too large for its type in C.
-
-        Notes
-        -----
-        O(log n) for n entries in the log.
-        """
-        row, kind = np.zeros(1, ENTRY), c.c_uint64()
-        self._call("pfair_held", whole(processor, 8, "processor"), whole(number, 32, "number"), kind, row.ctypes.data)
-        if kind.value == 2:
-            check(30, f"entry {number} of processor {processor}", processor=processor, number=number)
-        return entry_of(row[0]) if kind.value == 1 else None
-
-    def mark(self, processor: int) -> tuple[int, int]:
-        """Returns the mark of a processor, and the length of its sound beginning.
-
-        The sound beginning is the longest run of entries 1, 2, 3, .., none torn, whose floors never fall. Its mark is
-        the floor of the last of them, or 0: below that slot the log announces nothing more.
-
-        Parameters
-        ----------
-        processor : int
-            From 0.
-
-        Returns
-        -------
-        tuple of int
-            The mark, a slot, and the number of entries.
-
-        Raises
-        ------
-        NoSuchProcessor
-            If the dispatcher has no such processor.
-        OutOfRange
-            If the number is negative or past 255.
-
-        Notes
-        -----
-        O(1).
-        """
-        slot, count = c.c_uint64(), c.c_uint64()
-        self._call("pfair_mark", whole(processor, 8, "processor"), slot, count)
-        return slot.value, count.value
-
-    def missing(self, processor: int) -> Optional[int]:
-        """Returns the least number of a log that has no entry, or None if every number up to the capacity has one.
-
-        Parameters
-        ----------
-        processor : int
-            The processor whose log it is, from 0.
-
-        Returns
-        -------
-        int or None
-            A torn number isn't missing.
-
-        Raises
-        ------
-        NoSuchProcessor
-            If the dispatcher has no such processor.
-        OutOfRange
-            If the number is negative or past 255.
-
-        Notes
-        -----
-        A look-up for each number up to the one returned.
-        """
-        return self._number("pfair_missing", whole(processor, 8, "processor")) or None
-
-    def faults(self) -> Faults:
-        """Returns the torn numbers of all logs, and the entries whose floor falls behind a sound beginning.
-
-        Returns
-        -------
-        Faults
-            Each list in the order of processors and numbers.
-
-        Raises
-        ------
-        OutOfMemory
-            If an allocation fails; only if there is a fault.
-
-        Notes
-        -----
-        A look-up for each number of each log.
-        """
-        torn, fallen, rows = c.c_uint64(), c.c_uint64(), np.zeros(0, KEY)
-        with self._lock:
-            answer = 103
-            while answer == 103:
-                rows = np.zeros(torn.value + fallen.value, KEY)
-                answer = library.pfair_faults(self._handle, torn, fallen, rows.ctypes.data, len(rows))
-            check(answer)
-        keys = [(int(row["processor"]), int(row["number"])) for row in rows]
-        return Faults(keys[: torn.value], keys[torn.value :])
-
-    # ---- plans
 
     def plan(self, until: Optional[int] = None) -> Planned:
         """Plans slots until `until` of them are planned, or the next one isn't settled, or none is left.
@@ -528,7 +133,7 @@ class Dispatcher:
             If fewer than `until` slots are planned, and a number is torn; found["processor"] and found["number"] name
             the least. No slot is planned.
         OutOfMemory
-            If an allocation fails. Slots planned before that stand, and the dispatcher is spent.
+            If an allocation fails. Slots planned before that stay, and the dispatcher is spent.
         Spent
             If fewer than `until` slots are planned, and an allocation failed in an earlier plan. `reopen` helps.
         OutOfRange
@@ -536,13 +141,16 @@ class Dispatcher:
 
         Notes
         -----
-        For each slot O(M + a + q log n), for M processors, a announcements at the slot, q quanta and n tasks, and what
-        was taken since the last plan. The order is PD2, of Anderson and Srinivasan.
+        For each slot O((M + r) log n + a + l), for M processors, n members, r releases that come at the slot, a
+        announcements at it and l late releases accepted of the tasks that these name; O(n) more if a member is freed;
+        and a look-up for each entry taken since the last plan. The order is PD2, of Anderson and Srinivasan.
         """
         step = Step()
         with self._lock:
-            answer = library.pfair_plan_to(self._handle, self.slots if until is None else whole(until, 64, "until"), step)
-        check(answer, f"entry {step.number} of processor {step.processor}" if answer == 30 else "", processor=step.processor, number=step.number)
+            end = self.slots if until is None else whole(until, 64, "until")
+            answer = library.pfair_plan_to(self._handle, end, step)
+        where = f"entry {step.number} of processor {step.processor}" if answer == 30 else ""
+        check(answer, where, processor=step.processor, number=step.number)
         return Planned(STEPS[step.kind], step.slot)
 
     def reserve(self, slots: int, tasks: int) -> None:
@@ -561,7 +169,7 @@ class Dispatcher:
         Raises
         ------
         OutOfMemory
-            If an allocation fails. Contents and planned slots stand, and plans go on with what was allocated.
+            If an allocation fails. Contents and planned slots stay, and plans go on with what was allocated.
         OutOfRange
             If a number is negative or too large for its type in C.
 
@@ -574,8 +182,8 @@ class Dispatcher:
     def forget(self, slots: int) -> None:
         """Forgets the tables, places and decisions of all planned slots below `slots`.
 
-        Later plans and `members` are as if these slots stood. Their memory is given back 1,024 slots at a time, as soon
-        as a later slot is planned, so a long run can go on without growing.
+        Later plans and `members` are as if these slots were still there. Their memory is freed 1,024 slots at a time,
+        as soon as a later slot is planned, so the memory of a long run hardly grows.
 
         Parameters
         ----------
@@ -589,15 +197,15 @@ class Dispatcher:
 
         Notes
         -----
-        O(s) for s slots whose memory is given back. From then on calls for forgotten slots raise `NotPlanned`, and
+        O(s) for s slots whose memory is freed. From then on calls for forgotten slots raise `NotPlanned`, and
         `lags` does so for any slots, since lags count from slot 0 on.
         """
         self._call("pfair_forget", whole(slots, 64, "slots"))
 
     def reopen(self) -> None:
-        """Makes the planning state anew, after an allocation failed in a plan.
+        """Rebuilds what plans need from the entries, after an allocation failed in a plan.
 
-        Plans then go on as if memory had been ample; forgotten slots stay forgotten.
+        Plans then go on as if no allocation had failed; forgotten slots stay forgotten.
 
         Raises
         ------
@@ -613,30 +221,24 @@ class Dispatcher:
         self._call("pfair_reopen")
 
     @property
-    def frontier(self) -> int:
-        """The frontier, the least mark of all processors: every announcement stamped below this slot is known.
-
-        It falls if an entry of a sound beginning is torn. O(M) for M processors.
-        """
-        return self._number("pfair_frontier")
-
-    @property
     def planned(self) -> int:
         """The number of planned slots, which is also the next slot to plan."""
         return self._number("pfair_next_slot")
 
-    # ---- what was planned
-
-    def _range(self, name: str, kind: "np.dtype[Any]", start: int, stop: Optional[int]) -> Rows:
+    def _rows(self, name: str, kind: "np.dtype[Any]", *given: Any, where: str = "") -> Rows:
         count, rows = c.c_uint64(), np.zeros(0, kind)
         with self._lock:
-            first, behind = whole(start, 64, "start"), self.planned if stop is None else whole(stop, 64, "stop")
             answer = 103
             while answer == 103:
                 rows = np.empty(count.value, kind)
-                answer = getattr(library, name)(self._handle, first, behind, count, rows.ctypes.data, len(rows))
-            check(answer, f"slot {behind - 1}")
+                answer = getattr(library, name)(self._handle, *given, count, rows.ctypes.data, len(rows))
+            check(answer, where)
         return rows
+
+    def _range(self, name: str, kind: "np.dtype[Any]", start: int, stop: Optional[int]) -> Rows:
+        with self._lock:
+            first, behind = whole(start, 64, "start"), self.planned if stop is None else whole(stop, 64, "stop")
+            return self._rows(name, kind, first, behind, where=f"slot {behind - 1}")
 
     def quanta(self, start: int = 0, stop: Optional[int] = None) -> Rows:
         """Returns the quanta of slots `start` to `stop - 1`.
@@ -743,14 +345,7 @@ class Dispatcher:
         -----
         O(r + l) for r rows and l late releases that were accepted of these tasks.
         """
-        count, rows = c.c_uint64(), np.zeros(0, MEMBER)
-        with self._lock:
-            answer = 103
-            while answer == 103:
-                rows = np.empty(count.value, MEMBER)
-                answer = library.pfair_members(self._handle, count, rows.ctypes.data, len(rows))
-            check(answer)
-        return rows
+        return self._rows("pfair_members", MEMBER)
 
     def table(self, slot: int) -> list[tuple[str, int]]:
         """Returns the table of a slot: the task and the subtask of each row, in PD2 order.
@@ -771,6 +366,10 @@ class Dispatcher:
             If the slot isn't planned, or is forgotten.
         OutOfRange
             If the number is negative or too large for its type in C.
+
+        Notes
+        -----
+        O(r) for r rows.
         """
         return [(row["task"].decode(), int(row["index"])) for row in self.quanta(slot, slot + 1)]
 
@@ -791,5 +390,9 @@ class Dispatcher:
         ------
         NotPlanned, OutOfRange
             As `table`.
+
+        Notes
+        -----
+        O(r) for r rows.
         """
         return [int(place) for place in self.quanta(slot, slot + 1)["place"]]

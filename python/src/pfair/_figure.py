@@ -14,6 +14,8 @@ WIDTHS = ((14, 40), (40, 28), (72, 18), (120, 12), (240, 8), (400, 4), (MOST_SLO
 NARROWEST, LEFT, RIGHT, TOP = 640, 118, 40, 76
 # the scale is repeated above every so many rows
 ROWS_OF_SCALE = 16
+# the width of an entry of the key with nothing behind it
+LAST = 0
 #: An entry of the key: the kind of thing, its width, where its words begin, the words, and what draws the sample.
 Entry = tuple[str, int, int, str, Callable[[int, int], str]]
 
@@ -186,3 +188,8 @@ class Figure:
 def blank(x: int, y: int) -> str:
     """Returns no sample, for an entry whose words say all."""
     return ""
+
+
+def across(style: str) -> Callable[[int, int], str]:
+    """Returns the sample of a line of a style."""
+    return lambda x, y: line(x, y + 6, x + 24, y + 6, style)

@@ -58,6 +58,11 @@ QUANTUM = _rows(slot=_NUMBER, row=_NUMBER, place=_NUMBER, task=_NAME, index=_NUM
 #: A decision on the announcement of entry `number` of the log of `processor`, at the boundary of `slot`: `outcome` as
 #: in OUTCOMES; `freed_at` for a departure the slot from which the task's weight and name are free, else 0.
 DECISION = _rows(slot=_NUMBER, task=_NAME, processor=_NUMBER, number=_NUMBER, outcome=_NUMBER, freed_at=_NUMBER)
+#: The outcomes of decisions by their numbers in DECISION; those from 20 on are refusals.
+OUTCOMES = {
+    0: "admitted", 1: "departing", 2: "delayed", 20: "name taken", 21: "period outside frame", 22: "no room",
+    23: "no such task", 24: "already departing", 25: "already released",
+}
 #: A lag: of the task at a time (the end of slot `time` - 1), in quanta: numerator/period.
 LAG = _rows(time=_NUMBER, task=_NAME, numerator=("i8", 8), period=_NUMBER)
 #: A member, a task that was admitted and isn't freed, of weight cost/period: `early` 0 or 1; `joined` the slot in which

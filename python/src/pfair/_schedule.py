@@ -9,11 +9,13 @@ import numpy as np
 import numpy.typing as npt
 
 from . import picture as pictures
-from ._dispatcher import LONGEST_FILE, OUTCOMES, Dispatcher
-from ._entries import Entry, Rows, Script, promise, whole
+from ._dispatcher import Dispatcher
+from ._entries import Entry, Rows, Script, whole
 from ._errors import Stalled, check
 from ._figure import MOST_SLOTS
+from ._library import OUTCOMES
 from ._rows import Decision, Rows as PictureRows
+from ._task_file import read_task_file as read_task_file
 from ._trace import Decided, Lag, Quantum, quanta_of, words_of, write_trace
 
 
@@ -366,50 +368,6 @@ def _sorted(names: npt.NDArray[np.bytes_], words: npt.NDArray[np.uint64]) -> tup
     both = heads if len(tail) <= 1 else heads * len(tail) + tails
     _, first, codes = np.unique(both, return_index=True, return_inverse=True)
     return codes.reshape(-1), [bytes(names[at]) for at in first]
-
-
-def read_task_file(file: Union[str, "os.PathLike[str]", bytes]) -> Script:
-    """Reads a task file as the programs do.
-
-    Parameters
-    ----------
-    file : str, os.PathLike or bytes
-        Its path, or its contents as bytes.
-
-    Returns
-    -------
-    Script
-        Without the closing entry of a log, `promise(slots)`, which `Script.closed` puts there.
-
-    Raises
-    ------
-    TaskFileError
-        One of its subclasses, for the first fault of the file.
-    OutOfMemory
-        If an allocation fails.
-    OSError
-        If the file can't be read.
-
-    Notes
-    -----
-    O(b) for b bytes, for each entry the cost of `Dispatcher.take`, and for each number up to the length of the longest
-    log a look-up in each log.
-    """
-    if isinstance(file, bytes):
-        text = file
-    else:
-        with open(file, "rb") as opened:
-            text = opened.read(LONGEST_FILE + 1)
-    with Dispatcher.of_file(text) as dispatcher:
-        logs = [_log_of(dispatcher, processor) for processor in range(dispatcher.processors)]
-        return Script(dispatcher.processors, dispatcher.frame, dispatcher.slots, logs)
-
-
-def _log_of(dispatcher: Dispatcher, processor: int) -> list[Entry]:
-    """Returns the entries of a log, without the promise that closes it."""
-    held = (dispatcher.held(processor, number) for number in range(1, dispatcher.capacity + 1))
-    log = [entry for entry in held if entry is not None]
-    return log[:-1] if log and log[-1] == promise(dispatcher.slots) else log
 
 
 def schedule(given: Union[Script, str, "os.PathLike[str]", bytes]) -> Schedule:
