@@ -102,6 +102,7 @@ def depart(name: str, at: int, floor: int = 0) -> Entry:
     Returns
     -------
     Entry
+        Its ranges are those of `Entry`, and are checked when it is taken.
     """
     return Entry(floor, "depart", at, name)
 
@@ -125,6 +126,7 @@ def late(name: str, index: int, by: int, at: int, floor: int = 0) -> Entry:
     Returns
     -------
     Entry
+        Its ranges are those of `Entry`, and are checked when it is taken.
     """
     return Entry(floor, "late", at, name, index=index, by=by)
 
@@ -140,6 +142,7 @@ def promise(floor: int) -> Entry:
     Returns
     -------
     Entry
+        Its ranges are those of `Entry`, and are checked when it is taken.
     """
     return Entry(floor)
 
@@ -219,7 +222,18 @@ class Script:
     logs: list[list[Entry]] = field(default_factory=list)
 
     def log(self, processor: int) -> list[Entry]:
-        """Returns the log of a processor, from 0."""
+        """Returns the log of a processor.
+
+        Parameters
+        ----------
+        processor : int
+            From 0.
+
+        Returns
+        -------
+        list of Entry
+            The list itself, and not a copy; an empty one if `logs` has none for the processor.
+        """
         return self.logs[processor] if processor < len(self.logs) else []
 
     def closed(self, processor: int) -> list[Entry]:

@@ -61,6 +61,8 @@ def first_miss(cost: int, period: int, picks: Picks, horizon: int) -> Optional[M
         If the horizon is out of its range, or a number is negative or too large for its type in C.
     PicksNotRising, PickPastHorizon
         If a slot isn't after the one before it, or not before the horizon; found["place"] is the first such place.
+    TypeError
+        If `picks` isn't a list of whole numbers.
 
     Notes
     -----
@@ -85,8 +87,12 @@ def first_late(cost: int, period: int, picks: Picks, horizon: int) -> Optional[M
 
     Raises
     ------
-    PfairError
+    PfairError, TypeError
         As `first_miss`.
+
+    Notes
+    -----
+    O(n) for n picks.
     """
     return _first("pfair_first_late", cost, period, picks, horizon)
 
