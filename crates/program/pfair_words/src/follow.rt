@@ -1,6 +1,6 @@
 //! The words of `pfair_follow`.
 
-ghost use Rattle.std.specs.Prelude.{◌≡◌, ◌≤◌, ◌^◌, MatchOption, codes};
+ghost use Rattle.std.specs.Prelude.{◌≡◌, MatchResult, codes};
 ghost use Rattle.clap.specs.Words.{found_of, rows_of, subcommand_rows_of};
 ghost use Rattle.pfair_words.specs.Parse.{texts};
 ghost use Rattle.pfair_words.specs.FollowAsked.{
@@ -12,6 +12,7 @@ ghost use Rattle.pfair_words.specs.FollowAsked.{
   IsAnswerTo,
   IsAnswerToAny,
 };
+ghost use Rattle.pfair_file.specs.declared.program_fault.ProgramFault.TheVariants.{CommandLine};
 
 mod command;
 mod help;
@@ -102,50 +103,43 @@ fn read_command(alloc: Global, name: &str, words: &ArgMatches<'_>) -> Result<Ask
 fn read_entries(alloc: Global, words: &ArgMatches<'_>) -> Result<Asked, ProgramFault>
     ensures { IsAnswerTo (codes "entries", rows_of (found_of words.now)) result }
 {
-    match file_name(alloc, words)? {
-        Some(file) => Ok(Asked::Entries { file }),
-        None => Err(ProgramFault::CommandLine),
-    }
+    let file = file_name(alloc, words)?;
+    Ok(Asked::Entries { file })
 }
 
 fn read_replay(words: &ArgMatches<'_>) -> Result<Asked, ProgramFault>
     ensures { IsAnswerTo (codes "replay", rows_of (found_of words.now)) result }
 {
     let affinity = is_set(words, "affinity");
-    match read_run(words) {
-        Some(run) => Ok(Asked::Replay { run, affinity }),
-        None => Err(ProgramFault::CommandLine),
-    }
+    let run = read_run(words)?;
+    Ok(Asked::Replay { run, affinity })
 }
 
 fn read_decisions(words: &ArgMatches<'_>) -> Result<Asked, ProgramFault>
     ensures { IsAnswerTo (codes "decisions", rows_of (found_of words.now)) result }
 {
-    match read_run(words) {
-        Some(run) => Ok(Asked::Decisions { run }),
-        None => Err(ProgramFault::CommandLine),
-    }
+    let run = read_run(words)?;
+    Ok(Asked::Decisions { run })
 }
 
 fn read_lags(words: &ArgMatches<'_>) -> Result<Asked, ProgramFault>
     ensures { IsAnswerTo (codes "lags", rows_of (found_of words.now)) result }
 {
-    match read_run(words) {
-        Some(run) => Ok(Asked::Lags { run }),
-        None => Err(ProgramFault::CommandLine),
-    }
+    let run = read_run(words)?;
+    Ok(Asked::Lags { run })
 }
 
 // The run that the options tell.
-fn read_run(words: &ArgMatches<'_>) -> Option<Run>
-    ensures { MatchOption result (AsksNoRun (rows_of (found_of words.now))) (AskRun (rows_of (found_of words.now))) }
+fn read_run(words: &ArgMatches<'_>) -> Result<Run, ProgramFault>
+    ensures { MatchResult result (AskRun (rows_of (found_of words.now)))
+        (λ e. (e ≡ CommandLine) × AsksNoRun (rows_of (found_of words.now))) }
 {
     let settings = read_settings(words)?;
     let from = number(words, "from")?;
     if from > Settings::MAX_SLOTS {
-        return None;
+        return Err(ProgramFault::CommandLine);
     }
-    Some(Run {
+    Ok(Run {
         settings,
         from,
         is_strict: is_set(words, "strict"),
@@ -153,18 +147,13 @@ fn read_run(words: &ArgMatches<'_>) -> Option<Run>
 }
 
 // The settings that the options tell.
-fn read_settings(words: &ArgMatches<'_>) -> Option<Settings>
-    ensures { MatchOption result (AsksNoSettings (rows_of (found_of words.now))) (AskSettings (rows_of (found_of words.now))) }
+fn read_settings(words: &ArgMatches<'_>) -> Result<Settings, ProgramFault>
+    ensures { MatchResult result (AskSettings (rows_of (found_of words.now)))
+        (λ e. (e ≡ CommandLine) × AsksNoSettings (rows_of (found_of words.now))) }
 {
-    let processors = small(number(words, "processors")?)?;
+    let processors = number(words, "processors")?;
     let frame = number(words, "frame")?;
     let slots = number(words, "slots")?;
-    Settings::new(processors, frame, slots)
-}
-
-// A number that fits into a byte.
-fn small(number: u64) -> Option<u8>
-    ensures { MatchOption result (2 ^ 8 ≤ number) (λ n. n ≡ number) }
-{
-    u8::try_from(number).ok()
+    let processors = u8::try_from(processors).map_err(|_| ProgramFault::CommandLine)?;
+    Settings::new(processors, frame, slots).ok_or(ProgramFault::CommandLine)
 }

@@ -1,12 +1,14 @@
 //! The one reading of words, by `clap`: what it makes of them, and what stands under a name.
 
-ghost use Rattle.std.specs.Prelude.{◌≡◌, ℕ, IfOk, MatchOption, codes, option_map, string_bytes, true};
+ghost use Rattle.std.specs.Prelude.{◌≡◌, ◌⊎◌, ℕ, IfOk, MatchResult, None, Some, codes, string_bytes, true};
 ghost use Rattle.clap.specs.Walk.{one_of};
 ghost use Rattle.clap.specs.Words.{app_of, first_of, found_of, is_simple_and_free, kind_of, rows_of};
-ghost use Rattle.pfair_words.specs.Parse.{IsFlag, IsParsed, IsUntakenAs, SpellsIfAny, texts};
+ghost use Rattle.pfair_words.specs.Parse.{IsFlag, IsNumber, IsParsed, IsUntakenAs, texts};
+ghost use Rattle.pfair_file.specs.declared.program_fault.ProgramFault.TheVariants.{CommandLine, Memory};
 
 use clap::error::ErrorKind;
 use clap::{ArgMatches, Command, Error};
+use pfair_file::ProgramFault;
 use std::alloc::{AllocError, Global};
 
 /// What the parser makes of words.
@@ -52,21 +54,31 @@ fn untaken<'a>(alloc: Global, error: &Error) -> Result<Parsed<'a>, AllocError>
 }
 
 /// The name of the task file.
-pub(crate) fn file_name(alloc: Global, words: &ArgMatches<'_>) -> Result<Option<String>, AllocError>
-    ensures { IfOk result (λ name. option_map string_bytes name ≡ first_of (codes "file") (rows_of (found_of words.now))) }
+///
+/// # Errors
+/// [`ProgramFault::CommandLine`] if there is none, and [`ProgramFault::Memory`] if an allocation
+/// fails.
+pub(crate) fn file_name(alloc: Global, words: &ArgMatches<'_>) -> Result<String, ProgramFault>
+    ensures { MatchResult result
+        (λ name. first_of (codes "file") (rows_of (found_of words.now)) ≡ Some (string_bytes name))
+        (λ e. (e ≡ Memory) ⊎ ((e ≡ CommandLine) × (first_of (codes "file") (rows_of (found_of words.now)) ≡ None))) }
 {
     match words.get_str("file") {
-        Some(file) => Ok(Some(String::from_str(alloc, file)?)),
-        None => Ok(None),
+        Some(file) => Ok(String::from_str(alloc, file)?),
+        None => Err(ProgramFault::CommandLine),
     }
 }
 
 /// The number under a name.
-pub(crate) fn number(words: &ArgMatches<'_>, name: &str) -> Option<u64>
-    ensures { MatchOption result ((n : ℕ) → ¬ SpellsIfAny (one_of name.now (rows_of (found_of words.now))) n)
-        (SpellsIfAny (one_of name.now (rows_of (found_of words.now)))) }
+///
+/// # Errors
+/// [`ProgramFault::CommandLine`] if there is none.
+pub(crate) fn number(words: &ArgMatches<'_>, name: &str) -> Result<u64, ProgramFault>
+    ensures { MatchResult result
+        (IsNumber (rows_of (found_of words.now)) name.now)
+        (λ e. (e ≡ CommandLine) × ((n : ℕ) → ¬ IsNumber (rows_of (found_of words.now)) name.now n)) }
 {
-    words.get_one::<u64>(name)
+    words.get_one::<u64>(name).ok_or(ProgramFault::CommandLine)
 }
 
 /// Whether a flag is set.

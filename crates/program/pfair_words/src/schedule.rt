@@ -88,15 +88,9 @@ fn read_command(alloc: Global, name: &str, words: &ArgMatches<'_>) -> Result<Ask
 fn read_windows(words: &ArgMatches<'_>) -> Result<Asked, ProgramFault>
     ensures { IsAnswerTo (codes "windows", rows_of (found_of words.now)) result }
 {
-    let Some(cost) = number(words, "cost") else {
-        return Err(ProgramFault::CommandLine);
-    };
-    let Some(period) = number(words, "period") else {
-        return Err(ProgramFault::CommandLine);
-    };
-    let Some(count) = number(words, "count") else {
-        return Err(ProgramFault::CommandLine);
-    };
+    let cost = number(words, "cost")?;
+    let period = number(words, "period")?;
+    let count = number(words, "count")?;
     if count > MAX_COUNT {
         return Err(ProgramFault::CommandLine);
     }
@@ -110,26 +104,20 @@ fn read_replay(alloc: Global, words: &ArgMatches<'_>) -> Result<Asked, ProgramFa
     ensures { IsAnswerTo (codes "replay", rows_of (found_of words.now)) result }
 {
     let affinity = is_set(words, "affinity");
-    match file_name(alloc, words)? {
-        Some(file) => Ok(Asked::Replay { file, affinity }),
-        None => Err(ProgramFault::CommandLine),
-    }
+    let file = file_name(alloc, words)?;
+    Ok(Asked::Replay { file, affinity })
 }
 
 fn read_decisions(alloc: Global, words: &ArgMatches<'_>) -> Result<Asked, ProgramFault>
     ensures { IsAnswerTo (codes "decisions", rows_of (found_of words.now)) result }
 {
-    match file_name(alloc, words)? {
-        Some(file) => Ok(Asked::Decisions { file }),
-        None => Err(ProgramFault::CommandLine),
-    }
+    let file = file_name(alloc, words)?;
+    Ok(Asked::Decisions { file })
 }
 
 fn read_lags(alloc: Global, words: &ArgMatches<'_>) -> Result<Asked, ProgramFault>
     ensures { IsAnswerTo (codes "lags", rows_of (found_of words.now)) result }
 {
-    match file_name(alloc, words)? {
-        Some(file) => Ok(Asked::Lags { file }),
-        None => Err(ProgramFault::CommandLine),
-    }
+    let file = file_name(alloc, words)?;
+    Ok(Asked::Lags { file })
 }

@@ -1,9 +1,13 @@
 -- The number that is read of a text is the one that it spells.
-use Rattle.std.proofs.Common.{rules, ◌≡◌, ◌∙◌, ℕ, refl, ap, Option, Some, None, MatchOption, Result, Ok, Err, is_some, true≢false}
+use Rattle.std.proofs.Common.{rules, ◌≡◌, ◌∙◌, ℕ, refl, sym, ap, subst, Option, Some, None, MatchOption, Result, Ok, Err, is_some, true≢false}
+use Rattle.std.specs.Prelude.{MatchResult}
+use Rattle.std.specs.Option.{ok_or}
 use Rattle.std.specs.contracts.prelude.U64FromStr.TheImpl.{ghosts}
 use Rattle.clap.specs.Matches.{ReadsOne}
 use Rattle.clap.specs.Words.{Text, found_of}
 use Rattle.clap.proofs.WalkLemmas.{one_text-rows}
+use Rattle.pfair_file.specs.declared.program_fault.ProgramFault.{ProgramFault}
+use Rattle.pfair_file.specs.declared.program_fault.ProgramFault.TheVariants.{CommandLine}
 use Rattle.pfair_words.specs.Parse.{Spells, SpellsIfAny}
 use Rattle.pfair_words.proofs.parse.number.Goals as goal
 
@@ -14,7 +18,12 @@ read gives None (Some n) absent value some none = absurd (true≢false (ap is_so
 read gives (Some t) None absent value some none = λ n s. let e = value t refl in none t e.0 n e.1 s
 read gives (Some t) (Some n) absent value some none = some t n (value t refl)
 
+answered : (found : Option ℕ) (r : Result ℕ ProgramFault) (P : Type 0) (Q : ℕ → Type 0) → r ≡ ok_or found CommandLine → MatchOption found P Q → MatchResult r Q (λ e. (e ≡ CommandLine) × P)
+answered None r P Q is h = subst (λ r. MatchResult r Q (λ e. (e ≡ CommandLine) × P)) (sym is) (refl, h)
+answered (Some n) r P Q is h = subst (λ r. MatchResult r Q (λ e. (e ≡ CommandLine) × P)) (sym is) h
+
 pub returns : goal.returns
 returns c =
     let same = one_text-rows (found_of c.args.words.now) c.args.name.now in
-    read ghosts.from_str_gives _ c.get_one.result (λ e. c.get_one.ensures.none (same ∙ e)) (λ t e. c.get_one.ensures.value t (same ∙ e)) (λ t n h. search (rules, h)) (λ t e n h s. search (rules, h, s))
+    answered c.get_one.result c.ok_or.result _ _ c.ok_or.ensures.value
+    (read ghosts.from_str_gives _ c.get_one.result (λ e. c.get_one.ensures.none (same ∙ e)) (λ t e. c.get_one.ensures.value t (same ∙ e)) (λ t n h. search (rules, h)) (λ t e n h s. search (rules, h, s)))
