@@ -1,18 +1,18 @@
 //! Decisions as rows: slot, processor, number, task, outcome, value.
 
-ghost use Rattle.std.specs.Prelude.{◌≡◌, ◌≤◌, ◌++◌, ◌∷◌, [], drop, map, OnOk, IfOk, IsTrue, List, Some, slice_get};
+ghost use Rattle.std.specs.Prelude.{◌≡◌, ◌≤◌, ◌++◌, drop, map, OnOk, IsTrue, List, Some, slice_get};
 ghost use Rattle.pfair_text.specs.Rows.{IsOpen, is_plain, line, lines_text, text_so_far};
 ghost use Rattle.pfair_table.specs.declared.pick.Decided.{Decided};
 ghost use Rattle.pfair_output.specs.Slots.{slots_from};
-ghost use Rattle.pfair_output.specs.Decisions.{decided_rows, decision_row, decisions_header, decisions_text, outcome_of, value_of};
+ghost use Rattle.pfair_output.specs.Decisions.{decided_rows, decision_row, decisions_header, outcome_of, value_of};
 
 use csv::Writer;
 use itoa::Buffer;
 use pfair_admission::Decision;
 use pfair_ready::Ready;
 use pfair_table::{Decided, Dispatcher};
-use pfair_text::{add_row, finish, new_text};
-use std::alloc::{AllocError, Global};
+use pfair_text::add_row;
+use std::alloc::AllocError;
 
 /// Adds the header of decisions as rows.
 ///
@@ -67,7 +67,8 @@ fn add_slot<R: Ready>(
     requires open { IsOpen writer.old }
     requires standing { dispatcher.now.forgotten ≤ slot }
     ensures open { OnOk result (IsOpen writer.new) }
-    ensures text { OnOk result ((decided : List Decided) → slice_get dispatcher.now.decided slot ≡ Some decided → text_so_far writer.new ≡ text_so_far writer.old ++ lines_text (decided_rows slot decided)) }
+    ensures text { OnOk result ((decided : List Decided) → slice_get dispatcher.now.decided slot ≡ Some decided
+        → text_so_far writer.new ≡ text_so_far writer.old ++ lines_text (decided_rows slot decided)) }
 {
     match dispatcher.decisions(slot) {
         Some(decided) => add_decisions(writer, slot, decided),

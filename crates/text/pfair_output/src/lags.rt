@@ -1,15 +1,13 @@
 //! Lags as rows: time, task, numerator, period.
 
-ghost use Rattle.std.specs.Prelude.{◌≡◌, ◌≤◌, ◌<◌, ◌-◌, ◌++◌, ◌∷◌, [], OnOk, IfOk, List, Some, drop, slice_get, take, true};
+ghost use Rattle.std.specs.Prelude.{◌≡◌, ◌≤◌, ◌<◌, ◌-◌, ◌++◌, ◌∷◌, [], OnOk, List, Some, drop, slice_get, take, true};
 ghost use Rattle.pfair_text.specs.Rows.{is_plain, IsOpen, line, lines_text, text_so_far};
-ghost use Rattle.pfair_replica.specs.HeldRows.{replica_of};
 ghost use Rattle.pfair_weight.specs.Name.{NameValue};
-ghost use Rattle.pfair_lag.specs.Book.{Tally, empty_book};
+ghost use Rattle.pfair_lag.specs.Book.{Tally};
 ghost use Rattle.pfair_table.specs.declared.pick.Decided.{Decided};
 ghost use Rattle.pfair_table.specs.Table.{Table};
-ghost use Rattle.pfair_table.specs.Refinement.{IsWholePlan};
 ghost use Rattle.std.specs.Fmt.{decimal, signed_decimal};
-ghost use Rattle.pfair_output.specs.Lags.{lags_header, lags_text};
+ghost use Rattle.pfair_output.specs.Lags.{lags_header};
 ghost use Rattle.pfair_output.specs.Told.{told, all_told, slot_told, all_slots_told, tally_row, book_rows, rows_told};
 
 use csv::Writer;
@@ -19,9 +17,9 @@ use pfair_entry::Announcement;
 use pfair_lag::{LagBook, MAX_HORIZON};
 use pfair_ready::Ready;
 use pfair_table::{Decided, Dispatcher, Pick};
-use pfair_text::{add_row, finish, new_text};
+use pfair_text::add_row;
 use pfair_weight::TaskName;
-use std::alloc::{AllocError, Global};
+use std::alloc::AllocError;
 
 /// Adds the header of lags as rows.
 ///
@@ -51,7 +49,8 @@ pub fn add_lags_from<R: Ready>(
     ensures open { OnOk result (IsOpen writer.new) }
     ensures book { OnOk result (book.new ≡ all_slots_told book.old (drop book.old.time dispatcher.now.decided) (drop book.old.time dispatcher.now.tables)) }
     ensures text { OnOk result (text_so_far writer.new ≡ text_so_far writer.old
-        ++ lines_text (rows_told book.old (drop book.old.time dispatcher.now.decided) (drop book.old.time dispatcher.now.tables))) }
+        ++ lines_text (rows_told book.old
+        (drop book.old.time dispatcher.now.decided) (drop book.old.time dispatcher.now.tables))) }
 {
     for slot in book.time()..dispatcher.next_slot() {
         add_slot(writer, book, dispatcher, slot)?;
@@ -73,7 +72,8 @@ pub fn tell_slots<R: Ready>(
     requires to { book.old.time ≤ to }
     requires standing { dispatcher.now.forgotten ≤ book.old.time }
     ensures { OnOk result (book.new ≡ all_slots_told book.old
-        (take (to - book.old.time) (drop book.old.time dispatcher.now.decided)) (take (to - book.old.time) (drop book.old.time dispatcher.now.tables))) }
+        (take (to - book.old.time) (drop book.old.time dispatcher.now.decided))
+        (take (to - book.old.time) (drop book.old.time dispatcher.now.tables))) }
 {
     for slot in book.time()..dispatcher.next_slot().min(to) {
         tell_planned(book, dispatcher, slot)?;
@@ -97,7 +97,8 @@ fn add_slot<R: Ready>(
         → book.new ≡ slot_told decided table book.old) }
     ensures text { OnOk result ((decided : List Decided) (table : Table)
         → slice_get dispatcher.now.decided slot ≡ Some decided → slice_get dispatcher.now.tables slot ≡ Some table
-        → text_so_far writer.new ≡ text_so_far writer.old ++ lines_text (book_rows (slot_told decided table book.old))) }
+        → text_so_far writer.new ≡ text_so_far writer.old
+        ++ lines_text (book_rows (slot_told decided table book.old))) }
 {
     tell_planned(book, dispatcher, slot)?;
     add_lags(writer, book)

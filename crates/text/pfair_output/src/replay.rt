@@ -96,7 +96,7 @@ pub fn add_tables_from<R: Ready>(
         ++ lines_text (slots_from table_rows from (drop from dispatcher.now.tables))) }
 {
     for slot in from..dispatcher.next_slot() {
-        add_slot(writer, dispatcher, slot)?;
+        add_slot(writer, dispatcher, slot, &[])?;
     }
     Ok(())
 }
@@ -115,46 +115,30 @@ pub fn add_placed_tables_from<R: Ready>(
     requires standing { dispatcher.now.forgotten ≤ from }
     ensures open { OnOk result (IsOpen writer.new) }
     ensures text { OnOk result (text_so_far writer.new ≡ text_so_far writer.old
-        ++ lines_text (slots_from (placed_table_rows (places_of dispatcher.now.tables)) from (drop from dispatcher.now.tables))) }
+        ++ lines_text (slots_from (placed_table_rows (places_of dispatcher.now.tables)) from
+        (drop from dispatcher.now.tables))) }
 {
     for slot in from..dispatcher.next_slot() {
-        add_placed_slot(writer, dispatcher, slot)?;
+        add_slot(writer, dispatcher, slot, planned_places(dispatcher, slot))?;
     }
     Ok(())
 }
 
-// Adds the rows of a slot that is planned.
+// Adds the rows of a slot that is planned: row k ends with the k-th place, if there is one.
 fn add_slot<R: Ready>(
     writer: &mut Writer<Vec<u8>>,
     dispatcher: &Dispatcher<R>,
     slot: u64,
+    places: &[u8],
 ) -> Result<(), AllocError>
     requires open { IsOpen writer.old }
     requires standing { dispatcher.now.forgotten ≤ slot }
     ensures open { OnOk result (IsOpen writer.new) }
     ensures text { OnOk result ((table : Table) → slice_get dispatcher.now.tables slot ≡ Some table
-        → text_so_far writer.new ≡ text_so_far writer.old ++ lines_text (table_rows slot table)) }
+        → text_so_far writer.new ≡ text_so_far writer.old ++ lines_text (placed_rows_from places.now slot 0 table)) }
 {
     match dispatcher.table(slot) {
-        Some(table) => add_table_rows(writer, slot, table),
-        None => Ok(()),
-    }
-}
-
-// Adds the rows of a slot that is planned, each with its place.
-fn add_placed_slot<R: Ready>(
-    writer: &mut Writer<Vec<u8>>,
-    dispatcher: &Dispatcher<R>,
-    slot: u64,
-) -> Result<(), AllocError>
-    requires open { IsOpen writer.old }
-    requires standing { dispatcher.now.forgotten ≤ slot }
-    ensures open { OnOk result (IsOpen writer.new) }
-    ensures text { OnOk result ((table : Table) → slice_get dispatcher.now.tables slot ≡ Some table
-        → text_so_far writer.new ≡ text_so_far writer.old ++ lines_text (placed_table_rows (places_of dispatcher.now.tables) slot table)) }
-{
-    match dispatcher.table(slot) {
-        Some(table) => add_table(writer, slot, table, planned_places(dispatcher, slot)),
+        Some(table) => add_table(writer, slot, table, places),
         None => Ok(()),
     }
 }
@@ -180,7 +164,8 @@ fn add_all(
     requires { IsOpen writer.old }
     ensures open { OnOk result (IsOpen writer.new) }
     ensures text { OnOk result (text_so_far writer.new ≡ text_so_far writer.old
-        ++ lines_text (slots_from (placed_table_rows (map (λ p. p.items) places.now)) 0 (map (λ t. t.items) tables.now))) }
+        ++ lines_text (slots_from (placed_table_rows (map (λ p. p.items) places.now)) 0
+        (map (λ t. t.items) tables.now))) }
 {
     for (slot, table) in tables.iter().enumerate() {
         add_table(writer, slot as u64, table, slot_places(places, slot))?;

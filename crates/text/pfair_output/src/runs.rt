@@ -1,22 +1,19 @@
 //! The decisions and the lags of a script's run. One slot at a time is held in memory.
 
-ghost use Rattle.std.specs.Prelude.{◌≡◌, ◌≤◌, ◌<◌, ◌+◌, ◌++◌, ◌∷◌, [], IfOk, IfErr, OnOk, length};
+ghost use Rattle.std.specs.Prelude.{◌≡◌, ◌≤◌, ◌<◌, ◌+◌, ◌∷◌, [], IfOk, IfErr, OnOk, length};
 ghost use Rattle.std.specs.List.{flat_map};
-ghost use Rattle.pfair_lag.specs.Book.{empty_book};
 ghost use Rattle.pfair_replica.specs.HeldRows.{replica_of};
 ghost use Rattle.pfair_replica.specs.Replica.{frontier, numbers_below};
 ghost use Rattle.pfair_table.specs.Script.{replica_of_logs};
 ghost use Rattle.pfair_table.specs.ScriptRun.{IsBySlot, IsScriptFaultOf};
 ghost use Rattle.pfair_table.specs.Table.{decisions, table};
-ghost use Rattle.pfair_text.specs.Rows.{IsOpen, lines_text, text_so_far};
-ghost use Rattle.pfair_output.specs.Decisions.{decided_rows, decisions_text};
+ghost use Rattle.pfair_text.specs.Rows.{lines_text};
+ghost use Rattle.pfair_output.specs.Decisions.{decisions_text};
 ghost use Rattle.pfair_output.specs.Lags.{lag_rows, lags_header, lags_text};
 ghost use Rattle.pfair_output.specs.Runs.{decided_below, decided_of};
-ghost use Rattle.pfair_output.specs.Slots.{slots_from};
 
 use crate::decisions::{add_decisions, add_decisions_header};
 use crate::lags::{add_lags, add_lags_header, tell_slot};
-use csv::Writer;
 use pfair_lag::LagBook;
 use pfair_ready::Ready;
 use pfair_replica::Replica;
@@ -72,11 +69,16 @@ fn all_decisions<R: Ready>(
 {
     let mut writer = new_text(alloc);
     add_decisions_header(&mut writer)?;
-    add_all_decisions(alloc, &mut writer, replica, planner)?;
+    let mut room = Vec::new(alloc);
+    'slots: for slot in 0..planner.settings().slots() {
+        let plan = plan_one(replica, planner, room)?;
+        add_decisions(&mut writer, slot, &plan.decided)?;
+        room = plan.table;
+    }
     finish(writer)
 }
 
-// The lags in all slots of a replica, none of which is planned.
+// The lags in all slots of a replica, none of which is planned: each is recorded in a new book.
 fn all_lags<R: Ready>(
     alloc: Global,
     replica: &Replica,
@@ -84,52 +86,11 @@ fn all_lags<R: Ready>(
 ) -> Result<Vec<u8>, AllocError>
     requires able { IsBySlot replica.now planner.old }
     requires start { planner.old.tables ≡ [] }
-    ensures { IfOk result (λ text. text.items ≡ lines_text (lags_header
-        ∷ flat_map (lag_rows planner.old.settings (replica_of replica.now)) (numbers_below planner.old.settings.slots))) }
+    ensures { IfOk result (λ text. text.items ≡ lines_text (lags_header ∷ flat_map
+        (lag_rows planner.old.settings (replica_of replica.now)) (numbers_below planner.old.settings.slots))) }
 {
     let mut writer = new_text(alloc);
     add_lags_header(&mut writer)?;
-    add_all_lags(alloc, &mut writer, replica, planner)?;
-    finish(writer)
-}
-
-// Plans all slots, and adds the rows of what is decided at each.
-fn add_all_decisions<R: Ready>(
-    alloc: Global,
-    writer: &mut Writer<Vec<u8>>,
-    replica: &Replica,
-    planner: &mut SlotPlanner<R>,
-) -> Result<(), AllocError>
-    requires open { IsOpen writer.old }
-    requires able { IsBySlot replica.now planner.old }
-    requires start { planner.old.tables ≡ [] }
-    ensures open { OnOk result (IsOpen writer.new) }
-    ensures text { OnOk result (text_so_far writer.new ≡ text_so_far writer.old
-        ++ lines_text (slots_from decided_rows 0 (decided_below planner.old.settings (replica_of replica.now) planner.old.settings.slots))) }
-{
-    let mut room = Vec::new(alloc);
-    'slots: for slot in 0..planner.settings().slots() {
-        let plan = plan_one(replica, planner, room)?;
-        add_decisions(writer, slot, &plan.decided)?;
-        room = plan.table;
-    }
-    Ok(())
-}
-
-// Plans all slots, tells a new book of each, and adds the rows after it.
-fn add_all_lags<R: Ready>(
-    alloc: Global,
-    writer: &mut Writer<Vec<u8>>,
-    replica: &Replica,
-    planner: &mut SlotPlanner<R>,
-) -> Result<(), AllocError>
-    requires open { IsOpen writer.old }
-    requires able { IsBySlot replica.now planner.old }
-    requires start { planner.old.tables ≡ [] }
-    ensures open { OnOk result (IsOpen writer.new) }
-    ensures text { OnOk result (text_so_far writer.new ≡ text_so_far writer.old
-        ++ lines_text (flat_map (lag_rows planner.old.settings (replica_of replica.now)) (numbers_below planner.old.settings.slots))) }
-{
     let mut book = LagBook::new(alloc);
     let mut room = Vec::new(alloc);
     'slots: for slot in 0..planner.settings().slots() {
@@ -137,10 +98,10 @@ fn add_all_lags<R: Ready>(
         // a run has at most 1,000,000 slots
         prove!(slot < Settings::MAX_SLOTS);
         tell_slot(&mut book, &plan.decided, &plan.table)?;
-        add_lags(writer, &book)?;
+        add_lags(&mut writer, &book)?;
         room = plan.table;
     }
-    Ok(())
+    finish(writer)
 }
 
 // Plans the next slot, which is one of the run.

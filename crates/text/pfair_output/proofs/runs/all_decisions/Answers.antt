@@ -2,10 +2,10 @@ use Rattle.std.proofs.Common.{◌≡◌, ◌++◌, ◌∙◌, ap, arith}
 use Rattle.pfair_replica.specs.HeldRows.{replica_of}
 use Rattle.pfair_replica.specs.Replica.{Replica}
 use Rattle.pfair_table.specs.Table.{Settings, decisions}
-use Rattle.pfair_text.specs.Rows.{lines_text, text_so_far}
-use Rattle.pfair_output.specs.Decisions.{decided_rows}
+use Rattle.pfair_text.specs.Rows.{line, lines_text, text_so_far}
+use Rattle.pfair_output.specs.Decisions.{decided_rows, decisions_header}
 use Rattle.pfair_output.proofs.RunFacts.{decisions_more}
-use Rattle.pfair_output.proofs.runs.add_all_decisions.Goals as goal
+use Rattle.pfair_output.proofs.runs.all_decisions.Goals as goal
 
 pub slots-preserved : goal.slots-preserved
 slots-preserved g c =
@@ -18,6 +18,6 @@ slots-preserved g c =
       able = next.able;
       settings = next.settings ∙ c.slots.invariant.settings;
       planned = omega (arith, next.planned, c.slots.invariant.planned);
-      text = decisions_more s x c.slots.slot (text_so_far c.args.writer.now) (text_so_far c.slots.writer) (text_so_far c.add_decisions.new.writer) c.slots.invariant.text
+      text = decisions_more s x c.slots.slot (line decisions_header) (text_so_far c.slots.writer) (text_so_far c.add_decisions.new.writer) c.slots.invariant.text
           (c.in_ok-add_decisions.ensures.text ∙ ap (λ d. text_so_far c.slots.writer ++ lines_text (decided_rows c.slots.slot d)) decided);
     }

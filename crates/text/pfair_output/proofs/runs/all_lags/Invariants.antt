@@ -3,10 +3,10 @@ use Rattle.std.specs.List.{flat_map}
 use Rattle.pfair_replica.specs.HeldRows.{replica_of}
 use Rattle.pfair_table.specs.ScriptRun.{IsBySlot}
 use Rattle.pfair_replica.specs.Replica.{numbers_below}
-use Rattle.pfair_text.specs.Rows.{IsOpen, lines_text, text_so_far}
-use Rattle.pfair_output.specs.Lags.{lag_rows}
+use Rattle.pfair_text.specs.Rows.{IsOpen, line, lines_text, text_so_far}
+use Rattle.pfair_output.specs.Lags.{lag_rows, lags_header}
 use Rattle.pfair_output.proofs.WorldFacts.{book_after}
-use Rattle.pfair_output.proofs.runs.add_all_lags.Given as goal
+use Rattle.pfair_output.proofs.runs.all_lags.Given as goal
 
 -- the book was notified of the slots so far, and the text has the rows after each
 abbrev pub invariant-slots : goal.invariant-slots
@@ -16,5 +16,5 @@ invariant-slots g l = record {
   settings : l.planner.settings ≡ l.fn.planner.settings;
   planned : length l.planner.tables ≡ l.slot;
   book : l.book ≡ book_after l.fn.planner.settings (replica_of l.replica) l.slot;
-  text : text_so_far l.writer ≡ text_so_far l.fn.writer ++ lines_text (flat_map (lag_rows l.fn.planner.settings (replica_of l.replica)) (numbers_below l.slot));
+  text : text_so_far l.writer ≡ line lags_header ++ lines_text (flat_map (lag_rows l.fn.planner.settings (replica_of l.replica)) (numbers_below l.slot));
 }

@@ -1,11 +1,11 @@
 use Rattle.std.proofs.Common.{◌≡◌, ◌++◌, length}
 use Rattle.pfair_replica.specs.HeldRows.{replica_of}
 use Rattle.pfair_table.specs.ScriptRun.{IsBySlot}
-use Rattle.pfair_text.specs.Rows.{IsOpen, lines_text, text_so_far}
-use Rattle.pfair_output.specs.Decisions.{decided_rows}
+use Rattle.pfair_text.specs.Rows.{IsOpen, line, lines_text, text_so_far}
+use Rattle.pfair_output.specs.Decisions.{decided_rows, decisions_header}
 use Rattle.pfair_output.specs.Runs.{decided_below}
 use Rattle.pfair_output.specs.Slots.{slots_from}
-use Rattle.pfair_output.proofs.runs.add_all_decisions.Given as goal
+use Rattle.pfair_output.proofs.runs.all_decisions.Given as goal
 
 -- the text has the rows of the slots so far
 abbrev pub invariant-slots : goal.invariant-slots
@@ -14,5 +14,5 @@ invariant-slots g l = record {
   able : IsBySlot l.replica l.planner;
   settings : l.planner.settings ≡ l.fn.planner.settings;
   planned : length l.planner.tables ≡ l.slot;
-  text : text_so_far l.writer ≡ text_so_far l.fn.writer ++ lines_text (slots_from decided_rows 0 (decided_below l.fn.planner.settings (replica_of l.replica) l.slot));
+  text : text_so_far l.writer ≡ line decisions_header ++ lines_text (slots_from decided_rows 0 (decided_below l.fn.planner.settings (replica_of l.replica) l.slot));
 }
