@@ -53,7 +53,9 @@ impl<R: Ready> Model for Dispatcher<R> {
 
     ghost view = { λ a. record { settings = a.settings; held = a.replica; tables = a.planned.tables; decided = a.planned.decided; forgotten = a.planned.forgotten; spent = a.spent } };
 
-    ghost invariant = { λ a. IsKept a.settings (replica_of a.replica) a.planned.tables a.planned.decided a.spent a.planner.members (R.now a.planner.ready) (R.held a.planner.ready) × AreReadingsOf (replica_of a.replica) a.planner.readings.by_processor.items };
+    ghost invariant = { λ a. IsKept a.settings (replica_of a.replica) a.planned.tables a.planned.decided a.spent
+        a.planner.members (R.now a.planner.ready) (R.held a.planner.ready)
+        × AreReadingsOf (replica_of a.replica) a.planner.readings.by_processor.items };
 }
 
 impl<R: Ready> Dispatcher<R> {
@@ -210,7 +212,9 @@ impl<R: Ready> Dispatcher<R> {
         ensures none { IfNone result (self.now.spent ≡ true) }
         ensures some { IfSome result (λ members. self.now.spent ≡ false) }
         ensures members { IfSome result (λ members. AreMembersOf self.now members.now.members) }
-        ensures whole { IfSome result (λ members. has_torn (replica_of self.now.held) ≡ false → members.now.members ≡ members_after self.now.settings (replica_of self.now.held) (length self.now.tables)) }
+        ensures whole { IfSome result (λ members. has_torn (replica_of self.now.held) ≡ false
+            → members.now.members
+            ≡ members_after self.now.settings (replica_of self.now.held) (length self.now.tables)) }
     {
         if self.spent {
             return None;

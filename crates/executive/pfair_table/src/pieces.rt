@@ -54,7 +54,10 @@ impl<T: Drop> Model for Pieces<T> {
 
     ghost view = { λ p. record { items = joined (pieces_of p.gone.items p.full.items) ++ p.current.items; forgotten = p.forgotten; gone = length p.gone.items * 1024 } };
 
-    ghost invariant = { λ p. ArePieces (pieces_of p.gone.items p.full.items) p.current.items × IsForgotten (length p.gone.items * 1024) p.forgotten (length (joined (pieces_of p.gone.items p.full.items) ++ p.current.items)) × (length p.gone.items + length p.full.items ≤ vec_capacity p.gone) };
+    ghost invariant = { λ p. ArePieces (pieces_of p.gone.items p.full.items) p.current.items
+        × IsForgotten (length p.gone.items * 1024) p.forgotten
+        (length (joined (pieces_of p.gone.items p.full.items) ++ p.current.items))
+        × (length p.gone.items + length p.full.items ≤ vec_capacity p.gone) };
 }
 
 impl<T: Drop> Pieces<T> {

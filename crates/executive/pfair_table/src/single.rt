@@ -77,7 +77,8 @@ fn take_log<R: Ready>(
     requires { length log.now ≤ Script.LONGEST_LOG }
     ensures rest { dispatcher.new ≡ record dispatcher.old { held = dispatcher.new.held } }
     ensures held { OnOk result ((logs : List (List Logged)) → slice_get logs processor ≡ Some log.now
-        → replica_of dispatcher.old.held ≡ held_of logs (take processor logs) → replica_of dispatcher.new.held ≡ held_of logs (take (processor + 1) logs)) }
+        → replica_of dispatcher.old.held ≡ held_of logs (take processor logs)
+        → replica_of dispatcher.new.held ≡ held_of logs (take (processor + 1) logs)) }
 {
     for (index, entry) in log.iter().enumerate() {
         offer(dispatcher, processor, index as u32 + 1, *entry)?;

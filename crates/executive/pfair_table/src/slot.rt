@@ -43,7 +43,11 @@ pub(crate) fn decide_all(
     requires heard { members.old.heard + length announced.now ≤ Members.MAX_HEARD }
     requires limits { AllByRecursion (λ a. IsWithinLimits a.2) announced.now }
     ensures decided { IfOk result (λ all. all.items ≡ with_decisions announced.now (boundary_decisions members.old.machine slot members.old.members (announcements announced.now))) }
-    ensures members { OnOk result (members.new ≡ record members.old { members = boundary members.old.machine slot members.old.members (announcements announced.now); heard = members.old.heard + length announced.now; last_slot = Some slot }) }
+    ensures members { OnOk result (members.new ≡ record members.old {
+      members = boundary members.old.machine slot members.old.members (announcements announced.now);
+      heard = members.old.heard + length announced.now;
+      last_slot = Some slot;
+    }) }
 {
     let decisions = members.boundary(slot, announced)?;
     announced
@@ -167,7 +171,9 @@ pub(crate) fn plan_slot<R: Ready>(
     requires heard { members.old.heard + length announced.now ≤ Members.MAX_HEARD }
     requires limits { AllByRecursion (λ a. IsWithinLimits a.2) announced.now }
     ensures decided { IfOk result (λ p. p.decided.items ≡ with_decisions announced.now (boundary_decisions members.old.machine slot members.old.members (announcements announced.now))) }
-    ensures table { IfOk result (λ p. let world = boundary members.old.machine slot members.old.members (announcements announced.now) in p.table.items ≡ map (pick world) (first_by_rank processors (eligible slot world))) }
+    ensures table { IfOk result (λ p.
+        let world = boundary members.old.machine slot members.old.members (announcements announced.now) in
+        p.table.items ≡ map (pick world) (first_by_rank processors (eligible slot world))) }
     ensures members { IfOk result (λ p. members.new.members ≡ all_ran p.table.items (boundary members.old.machine slot members.old.members (announcements announced.now))) }
     ensures machine { OnOk result (members.new.machine ≡ members.old.machine) }
     ensures heard { OnOk result (members.new.heard ≡ members.old.heard + length announced.now) }

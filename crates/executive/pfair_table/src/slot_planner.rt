@@ -48,9 +48,19 @@ impl<R: Ready> Model for SlotPlanner<R> {
 
     ghost Value = { Dispatch };
 
-    ghost view = { λ a. record { settings = a.settings; held = a.seen.value; tables = tables_to a.settings a.of.value a.planned; decided = decided_to a.settings a.of.value a.planned; forgotten = a.planned; spent = a.spent } };
+    ghost view = { λ a. record {
+      settings = a.settings;
+      held = a.seen.value;
+      tables = tables_to a.settings a.of.value a.planned;
+      decided = decided_to a.settings a.of.value a.planned;
+      forgotten = a.planned;
+      spent = a.spent;
+    } };
 
-    ghost invariant = { λ a. IsKept a.settings (replica_of a.seen.value) (tables_to a.settings a.of.value a.planned) (decided_to a.settings a.of.value a.planned) a.spent a.planner.members (R.now a.planner.ready) (R.held a.planner.ready) × AreReadingsOf (replica_of a.seen.value) a.planner.readings.by_processor.items };
+    ghost invariant = { λ a. IsKept a.settings (replica_of a.seen.value)
+        (tables_to a.settings a.of.value a.planned) (decided_to a.settings a.of.value a.planned) a.spent
+        a.planner.members (R.now a.planner.ready) (R.held a.planner.ready)
+        × AreReadingsOf (replica_of a.seen.value) a.planner.readings.by_processor.items };
 }
 
 impl<R: Ready> SlotPlanner<R> {
