@@ -1,10 +1,10 @@
 -- One subtask alone is the first that is out of its window.
-use Rattle.std.proofs.Common.{◌≡◌, ℕ, ◌<◌, ◌≤◌, Bool, true, false, Option, Some, None, List, length, refl, sym, ap, subst, ◌∙◌, arith, inl, inr}
+use Rattle.std.proofs.Common.{◌≡◌, ℕ, ◌+◌, ◌<◌, ◌≤◌, Bool, true, false, Option, Some, None, List, length, refl, sym, ap, subst, ◌∙◌, arith, inl, inr}
 use Rattle.std.specs.Prelude.{IsTrue, ◌↔◌, MatchOption, is_some, not}
 use Rattle.std.proofs.lemmas.Bool.{cases_lt}
 use Rattle.pfair_weight.specs.Share.{Share, IsWeight}
 use Rattle.pfair_weight.specs.Window.{release_of, deadline_of}
-use Rattle.pfair_weight.specs.WindowFacts.{window_not_empty}
+use Rattle.pfair_weight.specs.WindowFacts.{deadline_rises, window_not_empty}
 use Rattle.pfair_lag.specs.declared.windows.Miss.{Miss}
 use Rattle.pfair_lag.specs.declared.windows.Miss.TheVariants.{Early, Tardy, Unserved}
 use Rattle.pfair_lag.specs.Picks.{pick_of}
@@ -92,6 +92,15 @@ pub late_miss_deadlines : LateMissDeadlines
 late_miss_deadlines w picks horizon (Early i slot) a met = a.is_late
 late_miss_deadlines w picks horizon (Tardy i slot) a met = grind (arith, in_time)
 late_miss_deadlines w picks horizon (Unserved i) a met = grind (arith, late_index, not_both)
+
+-- ---- none
+
+-- if the first subtask that did not run is due after the horizon, each that is due by then ran
+pub all_served : (w : Share) (picks : List ℕ) (horizon : ℕ) → 0 < w.cost → horizon < deadline_of w (length picks + 1) 0 → (i : ℕ) → 1 ≤ i → deadline_of w i 0 ≤ horizon → i ≤ length picks
+all_served w picks horizon some later i from due = elim (cases_lt (length picks) i) [
+  | inl missing ↦ absurd (let rises = deadline_rises w (length picks + 1) i some (omega arith) in omega arith)
+  | inr ran ↦ ran
+]
 
 -- none was found exactly if there is none
 pub none_found : (P : Type 0) (Q : Miss → Type 0) (found : Option Miss) (inside : Bool) → ((m : Miss) → Q m → P → ⊥) → is_some found ≡ not inside → MatchOption found P Q → IsTrue inside ↔ P

@@ -1,6 +1,5 @@
-use Rattle.std.proofs.Common.{◌+◌, length, arith, inl, inr}
-use Rattle.pfair_weight.specs.WindowFacts.{deadline_rises}
-use Rattle.std.proofs.lemmas.Bool.{cases_lt}
+use Rattle.std.proofs.Common.{arith}
+use Rattle.pfair_lag.proofs.MissLemmas.{all_served}
 use Rattle.pfair_lag.proofs.windows.first_miss.Goals as goal
 
 pub returns-clause-found : goal.returns-clause-found
@@ -8,9 +7,6 @@ returns-clause-found c = record {
   releases = λ i from to. (c.loop-place.invariant i from (omega arith)).0;
   deadlines = record {
     in_time = λ i from to. (c.loop-place.invariant i from (omega arith)).1;
-    served = λ i from reached. elim (cases_lt (length c.args.picks.now) i) [
-      | inl missing ↦ absurd (let later = deadline_rises c.args.weight (length c.args.picks.now + 1) i c.deadline-2.ensures.weight.some_cost (omega arith) in omega arith)
-      | inr there ↦ there
-    ];
+    served = all_served c.args.weight c.args.picks.now c.args.horizon c.deadline-2.ensures.weight.some_cost (omega arith);
   };
 }
