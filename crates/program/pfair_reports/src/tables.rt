@@ -1,13 +1,15 @@
 //! The command `replay`: the tables of a task file, worked out by a dispatcher for each processor
-//! in a thread of its own.
+//! in a thread of its own, and with `--affinity` the processor that runs each row.
 
 ghost use Rattle.pfair_file.specs.Commands.{IsCommandOf};
-ghost use Rattle.pfair_reports.specs.Runs.{IsFaultOfReplay, IsOutputOf, replay_of_run};
+ghost use Rattle.pfair_reports.specs.Runs.{IsFaultOfReplay, IsOutputOf, placed_replay_of_run, replay_of_run};
 
 use crate::dispatchers::first_run;
 use crate::rows::Rows;
 use pfair_board::Gate;
 use pfair_file::ProgramFault;
+use pfair_output::placed_replay_of;
+use pfair_table::Run;
 use pfair_text::send;
 use std::alloc::Global;
 use std::io::{Read, Write};
@@ -45,5 +47,32 @@ pub fn replay<R: Read, W: Write, G: Gate + Sync>(
 {
     let rows = first_run(rt, alloc, reader, gate, Rows::new(alloc)?)?;
     let text = rows.finish()?;
+    Ok(send(writer, text.as_slice())?)
+}
+
+/// Writes the tables of the script that a reader's bytes hold, with their places: a header, and the
+/// rows of [`replay`], each with its place at its end, the processor that runs it.
+///
+/// A task that is in the tables of two slots running stays on its processor. The other rows of a
+/// table, in row order, each take the least processor that no row keeps and none has taken. All
+/// else is as for `replay`: the dispatchers' threads, the gate, the bytes that are read, the cost,
+/// the faults, and what has then been written. But the first worker's tables and places are kept until
+/// the text is made.
+///
+/// # Errors
+/// Those of [`replay`].
+pub fn replay_placed<R: Read, W: Write, G: Gate + Sync>(
+    rt: &(impl Threads + Wait + Sync),
+    alloc: Global,
+    reader: &mut R,
+    writer: &mut W,
+    gate: &G,
+) -> Result<(), ProgramFault>
+    ensures { IsCommandOf (IsOutputOf placed_replay_of_run) (IsFaultOfReplay G.may_give_up) result
+        (R.remaining reader.old) (R.remaining reader.new) (W.contents writer.old) (W.contents writer.new) }
+{
+    let tables = first_run(rt, alloc, reader, gate, Vec::new(alloc))?;
+    let run = Run::of_tables(alloc, tables)?;
+    let text = placed_replay_of(alloc, run.tables.as_slice(), run.places.as_slice())?;
     Ok(send(writer, text.as_slice())?)
 }

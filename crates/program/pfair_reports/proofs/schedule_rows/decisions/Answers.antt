@@ -1,7 +1,7 @@
 use Rattle.pfair_file.proofs.CommandFacts.{ends_cut, ends_refused, ends_well}
 use Rattle.pfair_reports.specs.Runs.{decisions_of_run}
 use Rattle.pfair_reports.proofs.RunFacts.{output_shown}
-use Rattle.pfair_reports.proofs.decided.decisions.Goals as goal
+use Rattle.pfair_reports.proofs.schedule_rows.decisions.Goals as goal
 
 pub returns : goal.returns
 returns g c =

@@ -6,7 +6,7 @@ use Rattle.pfair_board.specs.Sinks.{has_kept}
 use Rattle.pfair_board.proofs.Rows.{kept_fit}
 use Rattle.pfair_reports.specs.Runs.{placed_replay_of_run}
 use Rattle.pfair_reports.proofs.RunFacts.{output_of_plan, places_made}
-use Rattle.pfair_reports.proofs.placed_tables.replay_placed.Goals as goal
+use Rattle.pfair_reports.proofs.tables.replay_placed.Goals as goal
 
 pub of_tables-requires : goal.of_tables-requires
 of_tables-requires g c = let has = c.in_ok-tables.ensures.plan in kept_fit c.in_ok-tables.tables 0 (plan has.0.settings (replica_of_logs has.0.logs)) has.1.plan
