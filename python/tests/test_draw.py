@@ -10,7 +10,7 @@ import pytest
 import pfair
 from conftest import EXAMPLES
 from made_rows import CASES
-from pfair import _schedule, draw, picture
+from pfair import _task_file, draw, picture
 
 FILES = sorted(EXAMPLES.glob("*.toml"))
 RSVG = shutil.which("rsvg-convert")
@@ -154,7 +154,7 @@ def test_sources(monkeypatch):
     assert draw.source_of("file", "pfair") == ("file", "pfair")
     for kind, status in ((pfair.NotToml, 2), (pfair.EntryRefused, 2), (pfair.Stalled, 3), (pfair.OutOfMemory, 4)):
         fault = kind("said so")
-        monkeypatch.setattr(_schedule, "read_task_file", lambda _, fault=fault: (_ for _ in ()).throw(fault))
+        monkeypatch.setattr(_task_file, "read_task_file", lambda _, fault=fault: (_ for _ in ()).throw(fault))
         with pytest.raises(draw.Fault, match=f"^{kind.number} said so$") as refused:
             draw.source_of("file", None)
         assert refused.value.status == status

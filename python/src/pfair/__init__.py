@@ -19,10 +19,11 @@ from ._errors import (
     StampBeforeFloor, TaskFileError, Torn, UnknownVersion, ZeroCost,
 )
 from ._first_miss import Miss, first_late, first_miss
-from ._library import DECISION, ENTRY, LAG, MEMBER, OUTCOMES, QUANTUM, VERSION, WINDOW
+from ._library import DECISION, ENTRY, LAG, MEMBER, OUTCOMES, QUANTUM, WINDOW
 from ._logs import Faults, TakenCounts
 from ._schedule import Counts, Schedule, schedule
 from ._task_file import read_task_file
+from ._version import VERSION
 from ._windows import windows
 
 __all__ = [

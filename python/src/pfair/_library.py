@@ -8,7 +8,7 @@ from typing import Any
 
 import numpy as np
 
-from ._version import VERSION as VERSION
+from ._version import VERSION
 
 
 class Handle(c.Structure):

@@ -15,7 +15,7 @@ from ._errors import Stalled, check
 from ._figure import MOST_SLOTS
 from ._library import OUTCOMES
 from ._rows import Decision, Rows as PictureRows
-from ._task_file import read_task_file as read_task_file
+from ._task_file import read_task_file
 from ._trace import Decided, Lag, Quantum, quanta_of, words_of, write_trace
 
 

@@ -112,7 +112,8 @@ def source_of(file: str, program: Optional[str]) -> Rows:
     if program is not None:
         return Program(file, program)
     from ._errors import PfairError, Stalled, TaskFileError
-    from ._schedule import Schedule, _Source, read_task_file
+    from ._schedule import Schedule, _Source
+    from ._task_file import read_task_file
 
     try:
         return _Source(Schedule(read_task_file(file)))
