@@ -1,6 +1,6 @@
 //! The complaints about refused lines, and about logs that are short.
 
-ghost use Rattle.std.specs.Prelude.{◌≡◌, ◌≢◌, IfErr, OnErr, OnOk, true};
+ghost use Rattle.std.specs.Prelude.{◌≡◌, ◌≢◌, ◌≤◌, ℕ, List, length, IfErr, OnErr, OnOk, true};
 ghost use Rattle.std.specs.Io.KnownBytes.{Appends};
 ghost use Rattle.pfair_text.specs.Output.{TakesPrefix};
 ghost use Rattle.pfair_feed.specs.Feeding.{question};
@@ -18,9 +18,11 @@ const LINE_ROOM: usize = 512;
 
 /// Writes the line of a refusal, `pfair_follow: NUMBER TEXT: LINE`, as far as the writer takes it.
 ///
-/// It goes out in one write, as far as there is room for it, and with a question mark in place of
-/// each byte that is no printed character of ASCII. It allocates nothing.
-pub fn tell_refused<E: Write>(complaints: &mut E, fault: &ProgramFault, line: &[u8]) {
+/// It goes out in one write, cut to 512 bytes, and with a question mark in place of each byte that is
+/// no printed character of ASCII. It allocates nothing.
+pub fn tell_refused<E: Write>(complaints: &mut E, fault: &ProgramFault, line: &[u8])
+    ensures { (text : List ℕ) × (length text ≤ 512) × TakesPrefix (E.contents complaints.old) (E.contents complaints.new) text }
+{
     let mut text = [0; LINE_ROOM];
     let mut room = &mut text[..];
     let number = fault.number();
@@ -32,7 +34,7 @@ pub fn tell_refused<E: Write>(complaints: &mut E, fault: &ProgramFault, line: &[
     }
     let _ = room.write_all(b"\n");
     let length = LINE_ROOM.saturating_sub(room.len());
-    let _ = complaints.write_all(&text[..length]);
+    let _ = send(complaints, &text[..length]);
 }
 
 /// Writes a line `missing PROCESSOR,NUMBER` for each log of which [`Follower::missing`] names the
