@@ -5,7 +5,7 @@ ghost use Rattle.pfair_lag.specs.Picks.{InWindows, MeetsDeadlines};
 ghost use Rattle.pfair_lag.specs.Miss.{IsFirstMiss, IsFirstLate};
 ghost use Rattle.pfair_lag.specs.PickFault.{pick_fault_number};
 ghost use Rattle.pfair_handle.specs.Misses.{miss_row};
-ghost use Rattle.pfair_c.specs.Misses.{IsFoundAs, IsPickFaultAs, asked_answer, fault_place};
+ghost use Rattle.pfair_c.specs.Misses.{IsMissAnswer, asked_answer, fault_place};
 
 use pfair_handle::answer::{DONE, OUT_OF_RANGE};
 use pfair_handle::{PfairMiss, miss_row};
@@ -27,13 +27,7 @@ pub extern "C" fn pfair_first_miss(
     place: &mut u64,
     picks: &[u64],
 ) -> u32
-    ensures asked { (asked_answer cost period horizon ≡ 0 → ⊥) → result ≡ asked_answer cost period horizon }
-    ensures found { result ≡ 0 → IsFoundAs miss.new
-        (InWindows record { cost = cost; period = period } picks.now horizon)
-        (IsFirstMiss record { cost = cost; period = period } picks.now horizon) }
-    ensures fault { asked_answer cost period horizon ≡ 0 → (result ≡ 0 → ⊥) → IsPickFaultAs picks.now horizon result place.new }
-    ensures unchanged { (result ≡ 0 → ⊥) → miss.new ≡ miss.old }
-    ensures untold { (result ≡ 40 → ⊥) → (result ≡ 41 → ⊥) → place.new ≡ place.old }
+    ensures { IsMissAnswer InWindows IsFirstMiss cost period horizon picks.now result miss.old miss.new place.old place.new }
 {
     match asked_weight(cost, period, horizon) {
         Ok(weight) => write_miss(first_miss(weight, picks, horizon), miss, place),
@@ -54,13 +48,7 @@ pub extern "C" fn pfair_first_late(
     place: &mut u64,
     picks: &[u64],
 ) -> u32
-    ensures asked { (asked_answer cost period horizon ≡ 0 → ⊥) → result ≡ asked_answer cost period horizon }
-    ensures found { result ≡ 0 → IsFoundAs miss.new
-        (MeetsDeadlines record { cost = cost; period = period } picks.now horizon)
-        (IsFirstLate record { cost = cost; period = period } picks.now horizon) }
-    ensures fault { asked_answer cost period horizon ≡ 0 → (result ≡ 0 → ⊥) → IsPickFaultAs picks.now horizon result place.new }
-    ensures unchanged { (result ≡ 0 → ⊥) → miss.new ≡ miss.old }
-    ensures untold { (result ≡ 40 → ⊥) → (result ≡ 41 → ⊥) → place.new ≡ place.old }
+    ensures { IsMissAnswer MeetsDeadlines IsFirstLate cost period horizon picks.now result miss.old miss.new place.old place.new }
 {
     match asked_weight(cost, period, horizon) {
         Ok(weight) => write_miss(first_late(weight, picks, horizon), miss, place),
