@@ -26,10 +26,10 @@
 //!   there is room are all admitted (`all_join`), and stay (`there`); and each has its last deadline of
 //!   a frame at the frame's end (`last_due`), by which no tables give more quanta than they have rows
 //!   (`all_within`).
-//! - **What repeats** (`proofs/Repeats.antt`). If nothing changes after slot 0, each member has had
-//!   exactly its quanta at a common multiple of the periods (`no_more`, `no_fewer`). From there on its
-//!   windows are those from slot 0 on, all later by one amount, which keeps the order of keys
-//!   (`later_same` of `pfair_order`), and so the tables (`repeats_if`).
+//! - **What repeats** (`laws::tables_repeat`, `proofs/Repeats.antt`). If nothing changes after slot 0,
+//!   each member has had exactly its quanta at a common multiple of the periods (`no_more`,
+//!   `no_fewer`). From there on its windows are those from slot 0 on, all later by one amount, which
+//!   keeps the order of keys (`later_same` of `pfair_order`), and so the tables (`repeats_if`).
 #![tactic(auto)]
 
 mod dispatched;

@@ -24,7 +24,8 @@
 //!   no row (`overload`).
 //!
 //! Of windows alone (`proofs/Ends.antt`, `proofs/Fluids.antt`, `proofs/BusyBounds.antt`) the other
-//! laws say what is used.
+//! laws say what is used. One more, `laws::group_deadlines_are_least`, says that the formula of the
+//! group deadline is the papers' definition by cascades (`proofs/Cascades.antt`).
 #![tactic(auto)]
 
 pub mod laws;
