@@ -31,7 +31,8 @@ pub extern "C" fn pfair_lags(
 ) -> u32
     ensures closed { handle.old.owner.kept ≡ None → (result ≡ 102) × (count.new ≡ count.old) × (rows.new ≡ rows.old) }
     ensures told { is_kept handle.old.owner.kept ≡ true → (result ≡ 90 → ⊥) →
-        Of handle.old.owner.kept (λ d. AreTold rows_counted (lags_between d from to) result count.old count.new rows.old rows.new) }
+        Of handle.old.owner.kept (λ d.
+        AreTold rows_counted (lags_between d from to) result count.old count.new rows.old rows.new) }
     ensures memory { result ≡ 90 → (count.new ≡ count.old) × Of handle.old.owner.kept (IsLaidInPart from to rows.old rows.new) }
     ensures unchanged { handle.new.owner.kept ≡ handle.old.owner.kept }
 {

@@ -42,7 +42,8 @@ pub fn follow<R: Ready, I: Read, W: Write, E: Write>(
 ) -> Result<(), ProgramFault>
     requires { IsCaughtUp follower.old }
     ensures fed { OnOk result ((bytes rest : List ℕ) × Consumes (I.remaining reader.old) (I.remaining reader.new) bytes
-        × IsAtEnd (I.remaining reader.new) × AreFedBytes bytes follower.old follower.new (W.contents writer.old) (W.contents writer.new) rest) }
+        × IsAtEnd (I.remaining reader.new)
+        × AreFedBytes bytes follower.old follower.new (W.contents writer.old) (W.contents writer.new) rest) }
     ensures stopped { IfErr result (λ e. (bytes : List ℕ) × Consumes (I.remaining reader.old) (I.remaining reader.new) bytes
         × IsStopped bytes e follower.old follower.new (W.contents writer.old) (W.contents writer.new)) }
     ensures strict { OnOk result (is_strict ≡ true → (bytes rest : List ℕ) × Consumes (I.remaining reader.old) (I.remaining reader.new) bytes

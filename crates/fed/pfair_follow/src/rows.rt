@@ -45,7 +45,8 @@ pub fn follow_rows<I: Read, W: Write, E: Write>(
 ) -> Result<(), ProgramFault>
     ensures settled { OnOk result (IsFollowed output run.now (IsSettled run.now.settings) (I.remaining reader.old) (I.remaining reader.new) (W.contents writer.old) (W.contents writer.new)) }
     ensures script { OnOk result (OfItsScript run.now (I.remaining reader.old) (λ script. IsScriptWritten output run.now script (W.contents writer.old) (W.contents writer.new))) }
-    ensures stalled { (slot : ℕ) → IsErrOf result (Stalled slot) → OfItsScript run.now (I.remaining reader.old) (λ script. IsScriptStalled output run.now slot script (W.contents writer.old) (W.contents writer.new)) }
+    ensures stalled { (slot : ℕ) → IsErrOf result (Stalled slot) → OfItsScript run.now (I.remaining reader.old)
+        (λ script. IsScriptStalled output run.now slot script (W.contents writer.old) (W.contents writer.new)) }
     ensures strict { OnOk result (run.now.is_strict ≡ true → AreTakenAll run.now.settings (I.remaining reader.old) (I.remaining reader.new)) }
     ensures lenient { IfErr result (λ e. run.now.is_strict ≡ false → is_refusal e ≡ false) }
     ensures ended { IfErr result (IsEndOf output run.now (I.remaining reader.old) (I.remaining reader.new) (W.contents writer.old) (W.contents writer.new)) }

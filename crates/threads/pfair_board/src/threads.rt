@@ -83,7 +83,9 @@ pub(crate) fn run_all<R: Ready + Send, G: Gate + Sync, K: Sink + Send>(
                 let started = scope.spawn_with(
                     row,
                     move || -> Worked<K>
-                        requires { IsWorkplaceOf K.has board.now workplace.desk.processor workplace × (board.now.processors ≡ script.now.settings.processors) × (board.now.capacity ≡ capacity_of script.now.logs) }
+                        requires { IsWorkplaceOf K.has board.now workplace.desk.processor workplace
+                            × (board.now.processors ≡ script.now.settings.processors)
+                            × (board.now.capacity ≡ capacity_of script.now.logs) }
                         ensures { IsWorkOf K.has G.may_give_up board.entry.now script.entry.now workplace.desk.processor result }
                     { work(rt, alloc, script, board, workplace, gate) },
                 );
