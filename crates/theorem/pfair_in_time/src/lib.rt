@@ -28,7 +28,7 @@
 //!   (`all_within`).
 //! - **What repeats** (`laws::tables_repeat`, `proofs/Repeats.antt`). If nothing changes after slot 0,
 //!   each member has had exactly its quanta at a common multiple of the periods (`no_more`,
-//!   `no_fewer`). From there on its windows are those from slot 0 on, all later by one amount, which
+//!   `no_fewer`). The windows after it are those from slot 0 on, all later by one amount, which
 //!   keeps the order of keys (`later_same` of `pfair_order`), and so the tables (`repeats_if`).
 #![tactic(auto)]
 
