@@ -89,8 +89,7 @@ long_fails name value word h = by (bytes_eq (codes "version") name) refl (bytes_
     by true e b f None h = some (rw e at h)
     by true e b f (Some v) h = some (rw e at h)
     by false e true f None h = some (rw (e, f) at h)
-    by false e true f (Some v) h = some (rw (e, f) at h)
-    by false e false f v h = some (rw (e, f) at h)
+    by false e _ f _ h = some (rw (e, f) at h)
 
 abbrev names : Names
 names = names_of (built line)
@@ -152,25 +151,19 @@ begins (word ∷ rest) n none is =
 
 named : (words : List Text) (r : Result Asked ProgramFault) (o : Option Named) → subcommand_of line words ≡ o → fault_of line words ≡ [] → IsAnswerToAny o r → IsNamedFirst words r
 named words r None is none h = subst (IsNamedFirst words) (sym h) tt
-named words (Ok (Help text)) (Some n) is none h = tt
+named words (Err Memory) (Some n) is none h = tt
+named words (Err CommandLine) (Some n) is none h = tt
 named words (Ok (Windows w count)) (Some n) is none h = subst (λ name. Begins name words) h.name (begins words n none is)
 named words (Ok (Replay file set)) (Some n) is none h = subst (λ name. Begins name words) h.0.0 (begins words n none is)
 named words (Ok (Decisions file)) (Some n) is none h = subst (λ name. Begins name words) h.0 (begins words n none is)
 named words (Ok (Lags file)) (Some n) is none h = subst (λ name. Begins name words) h.0 (begins words n none is)
 named words (Err (Weight fault)) (Some n) is none h = subst (λ name. Begins name words) h.3.name (begins words n none is)
-named words (Err Memory) (Some n) is none h = tt
-named words (Err CommandLine) (Some n) is none h = tt
-named words (Err _) (Some n) is none h = absurd h
+named words _ (Some n) is none h = absurd h
 
 -- so what is answered is what the first word names
 pub first_answer : (words : List Text) (r : Result Asked ProgramFault) → IsAnswer words r → IsNamedFirst words r
 first_answer words (Ok (Help text)) h = tt
-first_answer words (Ok (Windows w n)) (inl h) = named words (Ok (Windows w n)) (subcommand_of line words) refl h.0 h.1
-first_answer words (Ok (Replay file set)) (inl h) = named words (Ok (Replay file set)) (subcommand_of line words) refl h.0 h.1
-first_answer words (Ok (Decisions file)) (inl h) = named words (Ok (Decisions file)) (subcommand_of line words) refl h.0 h.1
-first_answer words (Ok (Lags file)) (inl h) = named words (Ok (Lags file)) (subcommand_of line words) refl h.0 h.1
-first_answer words (Ok asked) (inr h) = absurd h.2
 first_answer words (Err Memory) h = tt
 first_answer words (Err CommandLine) h = tt
-first_answer words (Err fault) (inl h) = named words (Err fault) (subcommand_of line words) refl h.0 h.1
-first_answer words (Err fault) (inr h) = absurd h.2
+first_answer words r (inl h) = named words r (subcommand_of line words) refl h.0 h.1
+first_answer words r (inr h) = absurd h.2

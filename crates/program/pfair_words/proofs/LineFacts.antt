@@ -79,16 +79,9 @@ pub decisions_named : (f : Text) → subcommand_of line (codes "decisions" ∷ f
 unfolding clap_on_literals
 decisions_named f = refl
 
-decisions_whole : (f : Text) → fault_of line (codes "decisions" ∷ f ∷ []) ≡ or_else (level decisions_leaf (f ∷ [])) []
-unfolding clap_on_literals
-decisions_whole f = refl
-
-decisions_level : (f : Text) → IsPlain f → level decisions_leaf (f ∷ []) ≡ []
-unfolding walk_fault defaults_fault
-decisions_level f h = ap₂ (λ t w. ended decisions_leaf (or_else t []) w) (turns decisions_leaf start f h) (goes decisions_leaf.rules start f h)
-
 pub decisions_taken : (f : Text) → IsPlain f → fault_of line (codes "decisions" ∷ f ∷ []) ≡ []
-decisions_taken f h = decisions_whole f ∙ ap (λ below. or_else below []) (decisions_level f h)
+unfolding clap_on_literals
+decisions_taken f h = ap₂ (λ t w. or_else (ended decisions_leaf (or_else t []) w) []) (turns decisions_leaf start f h) (goes decisions_leaf.rules start f h)
 
 abbrev pub lags_leaf : Shape
 lags_leaf = leaf_of lags
@@ -100,16 +93,9 @@ pub lags_named : (f : Text) → subcommand_of line (codes "lags" ∷ f ∷ []) �
 unfolding clap_on_literals
 lags_named f = refl
 
-lags_whole : (f : Text) → fault_of line (codes "lags" ∷ f ∷ []) ≡ or_else (level lags_leaf (f ∷ [])) []
-unfolding clap_on_literals
-lags_whole f = refl
-
-lags_level : (f : Text) → IsPlain f → level lags_leaf (f ∷ []) ≡ []
-unfolding walk_fault defaults_fault
-lags_level f h = ap₂ (λ t w. ended lags_leaf (or_else t []) w) (turns lags_leaf start f h) (goes lags_leaf.rules start f h)
-
 pub lags_taken : (f : Text) → IsPlain f → fault_of line (codes "lags" ∷ f ∷ []) ≡ []
-lags_taken f h = lags_whole f ∙ ap (λ below. or_else below []) (lags_level f h)
+unfolding clap_on_literals
+lags_taken f h = ap₂ (λ t w. or_else (ended lags_leaf (or_else t []) w) []) (turns lags_leaf start f h) (goes lags_leaf.rules start f h)
 
 -- ---- replay
 
@@ -130,14 +116,6 @@ pub replay_named_two : (a b : Text) → subcommand_of line (codes "replay" ∷ a
 unfolding clap_on_literals
 replay_named_two a b = refl
 
-replay_whole : (a : Text) → fault_of line (codes "replay" ∷ a ∷ []) ≡ or_else (level replay_leaf (a ∷ [])) []
-unfolding clap_on_literals
-replay_whole a = refl
-
-replay_whole_two : (a b : Text) → fault_of line (codes "replay" ∷ a ∷ b ∷ []) ≡ or_else (level replay_leaf (a ∷ b ∷ [])) []
-unfolding clap_on_literals
-replay_whole_two a b = refl
-
 -- the rows name this file, and the flag's value is this
 abbrev pub IsRows : Text → Text → List Row → Type 0
 IsRows f set rows = (first_of (codes "file") rows ≡ Some f) × (one_of (codes "affinity") rows ≡ Some set)
@@ -146,10 +124,6 @@ pub replay_rows : (f : Text) → IsPlain f → IsRows f (codes "false") (replay_
 replay_rows f h =
     let e = goes replay_leaf.rules start f h in
     (ap (λ w. first_of (codes "file") (finished replay_leaf.rules w.held)) e, ap (λ w. one_of (codes "affinity") (finished replay_leaf.rules w.held)) e)
-
-replay_level : (f : Text) → IsPlain f → level replay_leaf (f ∷ []) ≡ []
-unfolding walk_fault defaults_fault
-replay_level f h = ap₂ (λ t w. ended replay_leaf (or_else t []) w) (turns replay_leaf start f h) (goes replay_leaf.rules start f h)
 
 -- the flag and then the file
 abbrev flagged : Walk
@@ -171,10 +145,6 @@ flag_rows f h =
     let e = flag_goes f h in
     (ap (λ w. first_of (codes "file") (finished replay_leaf.rules w.held)) e, ap (λ w. one_of (codes "affinity") (finished replay_leaf.rules w.held)) e)
 
-flag_level : (f : Text) → IsPlain f → level replay_leaf (flag ∷ f ∷ []) ≡ []
-unfolding clap_on_literals
-flag_level f h = ap₂ (λ t w. ended replay_leaf (or_else t []) w) (flag_turns f h) (flag_goes f h)
-
 -- the file and then the flag
 pub after_rows : (f : Text) → IsPlain f → IsRows f (codes "true") (replay_rows_of (f ∷ flag ∷ []))
 unfolding walked
@@ -182,18 +152,17 @@ after_rows f h =
     let e = goes replay_leaf.rules start f h in
     (ap (λ w. first_of (codes "file") (finished replay_leaf.rules (walked replay_leaf.rules [] w flag).held)) e, ap (λ w. one_of (codes "affinity") (finished replay_leaf.rules (walked replay_leaf.rules [] w flag).held)) e)
 
-after_level : (f : Text) → IsPlain f → level replay_leaf (f ∷ flag ∷ []) ≡ []
-unfolding clap_on_literals
-after_level f h = ap₂ (λ t w. ended replay_leaf (or_else t (or_else (turn_fault replay_leaf [] w flag) [])) (walked replay_leaf.rules [] w flag)) (turns replay_leaf start f h) (goes replay_leaf.rules start f h)
-
 pub replay_taken : (f : Text) → IsPlain f → fault_of line (codes "replay" ∷ f ∷ []) ≡ []
-replay_taken f h = replay_whole f ∙ ap (λ below. or_else below []) (replay_level f h)
+unfolding clap_on_literals
+replay_taken f h = ap₂ (λ t w. or_else (ended replay_leaf (or_else t []) w) []) (turns replay_leaf start f h) (goes replay_leaf.rules start f h)
 
 pub flag_taken : (f : Text) → IsPlain f → fault_of line (codes "replay" ∷ flag ∷ f ∷ []) ≡ []
-flag_taken f h = replay_whole_two flag f ∙ ap (λ below. or_else below []) (flag_level f h)
+unfolding clap_on_literals
+flag_taken f h = ap₂ (λ t w. or_else (ended replay_leaf (or_else t []) w) []) (flag_turns f h) (flag_goes f h)
 
 pub after_taken : (f : Text) → IsPlain f → fault_of line (codes "replay" ∷ f ∷ flag ∷ []) ≡ []
-after_taken f h = replay_whole_two f flag ∙ ap (λ below. or_else below []) (after_level f h)
+unfolding clap_on_literals
+after_taken f h = ap₂ (λ t w. or_else (ended replay_leaf (or_else t (or_else (turn_fault replay_leaf [] w flag) [])) (walked replay_leaf.rules [] w flag)) []) (turns replay_leaf start f h) (goes replay_leaf.rules start f h)
 
 -- ---- windows
 

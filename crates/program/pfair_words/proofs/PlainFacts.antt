@@ -1,6 +1,5 @@
 -- What is answered to the forms of the commands.
-use Rattle.std.proofs.Common.{rules, ◌≡◌, ◌⊎◌, ℕ, Bool, inl, inr, true, false, refl, sym, ap, subst, ◌∙◌, ◌≤◌, arith, List, [], ◌∷◌, Option, Some, None, IfOk, Result, Ok, Err, codes, true≢false}
-use Rattle.std.specs.Str.{bytes_eq}
+use Rattle.std.proofs.Common.{rules, ◌≡◌, ◌⊎◌, ℕ, Bool, inl, inr, true, false, refl, sym, subst, ◌∙◌, ◌≤◌, arith, List, [], ◌∷◌, Option, Some, None, IfOk, Result, Ok, Err, codes}
 use Rattle.clap.specs.Words.{IsAmong, Row, Text, fault_of, first_of, subcommand_of}
 use Rattle.clap.specs.Walk.{one_of}
 use Rattle.clap.specs.declared.error.kind.ErrorKind.{ErrorKind}
@@ -27,8 +26,7 @@ Answer = Result Asked ProgramFault
 -- the parser takes the words, or it doesn't
 parts : (words : List Text) (G : Type 0) (r : Answer) → IsAnswer words r → (r ≡ Err Memory → G) → (IsAnswerToTaken words r → G) → (IsAnswerToUntaken words r → G) → G
 parts words G (Err Memory) h wanting taken untaken = wanting refl
-parts words G (Err fault) h wanting taken untaken = elim h [ inl x ↦ taken x | inr x ↦ untaken x ]
-parts words G (Ok a) h wanting taken untaken = elim h [ inl x ↦ taken x | inr x ↦ untaken x ]
+parts words G r h wanting taken untaken = elim h [ inl x ↦ taken x | inr x ↦ untaken x ]
 
 -- words that the parser takes are answered by the command that they name
 given : (words : List Text) (named : Named) (r : Answer) → fault_of line words ≡ [] → subcommand_of line words ≡ Some named → IsAnswer words r → IsAnswerTo named r
@@ -38,48 +36,26 @@ given words named r none is h =
     (λ taken. subst (λ n. IsAnswerToAny n r) is taken.1)
     (λ untaken. absurd (subst (IsAmong untaken.0) none untaken.1))
 
-some_inj : {X : Type 0} (x y : X) → Some x ≡ Some y → x ≡ y
-some_inj x y e = ap (λ o. Rattle.std.specs.Option.unwrap_or o x) e
-
--- two names that differ
-apart : (a b : Text) → bytes_eq a a ≡ true → bytes_eq b a ≡ false → a ≡ b → ⊥
-apart a b same other e = true≢false (sym same ∙ ap (λ t. bytes_eq t a) e ∙ other)
-
 -- ---- decisions, lags and replay
 
 module _ (rows : List Row) (f : Text) (file : first_of (codes "file") rows ≡ Some f) where
   decisions_answer : (r : Answer) → IsAnswerTo (codes "decisions", rows) r → IsDecisionsAnswer f r
-  decisions_answer (Ok (Decisions name)) h = some_inj _ _ (sym h.1 ∙ file)
-  decisions_answer (Ok (Windows w n)) h = absurd (apart (codes "decisions") (codes "windows") refl refl h.name)
-  decisions_answer (Ok (Replay name set)) h = absurd (apart (codes "decisions") (codes "replay") refl refl h.0.0)
-  decisions_answer (Ok (Lags name)) h = absurd (apart (codes "decisions") (codes "lags") refl refl h.0)
-  decisions_answer (Ok (Help text)) h = absurd h
+  decisions_answer (Ok (Decisions name)) h = cc
   decisions_answer (Err Memory) h = refl
   decisions_answer (Err CommandLine) h = absurd (h.no_decisions f (refl, file))
-  decisions_answer (Err (Weight fault)) h = absurd (apart (codes "decisions") (codes "windows") refl refl h.3.name)
-  decisions_answer (Err _) h = absurd h
+  decisions_answer _ h = absurd (search rules)
 
   lags_answer : (r : Answer) → IsAnswerTo (codes "lags", rows) r → IsLagsAnswer f r
-  lags_answer (Ok (Lags name)) h = some_inj _ _ (sym h.1 ∙ file)
-  lags_answer (Ok (Windows w n)) h = absurd (apart (codes "lags") (codes "windows") refl refl h.name)
-  lags_answer (Ok (Replay name set)) h = absurd (apart (codes "lags") (codes "replay") refl refl h.0.0)
-  lags_answer (Ok (Decisions name)) h = absurd (apart (codes "lags") (codes "decisions") refl refl h.0)
-  lags_answer (Ok (Help text)) h = absurd h
+  lags_answer (Ok (Lags name)) h = cc
   lags_answer (Err Memory) h = refl
   lags_answer (Err CommandLine) h = absurd (h.no_lags f (refl, file))
-  lags_answer (Err (Weight fault)) h = absurd (apart (codes "lags") (codes "windows") refl refl h.3.name)
-  lags_answer (Err _) h = absurd h
+  lags_answer _ h = absurd (search rules)
 
   replay_answer : (set : Bool) → ((flag : Bool) → IsFlag (one_of (codes "affinity") rows) flag → flag ≡ set) → (r : Answer) → IsAnswerTo (codes "replay", rows) r → IsReplayAnswer f set r
-  replay_answer set is (Ok (Replay name flag)) h = (some_inj _ _ (sym h.0.1 ∙ file), is flag h.1)
-  replay_answer set is (Ok (Windows w n)) h = absurd (apart (codes "replay") (codes "windows") refl refl h.name)
-  replay_answer set is (Ok (Decisions name)) h = absurd (apart (codes "replay") (codes "decisions") refl refl h.0)
-  replay_answer set is (Ok (Lags name)) h = absurd (apart (codes "replay") (codes "lags") refl refl h.0)
-  replay_answer set is (Ok (Help text)) h = absurd h
+  replay_answer set is (Ok (Replay name flag)) h = (cc, is flag h.1)
   replay_answer set is (Err Memory) h = refl
   replay_answer set is (Err CommandLine) h = absurd (h.no_replay f (refl, file))
-  replay_answer set is (Err (Weight fault)) h = absurd (apart (codes "replay") (codes "windows") refl refl h.3.name)
-  replay_answer set is (Err _) h = absurd h
+  replay_answer set is _ h = absurd (search rules)
 
 -- ---- windows
 
@@ -92,12 +68,8 @@ spelled word n most h below =
 
 among_refused : (a b c : Bool) (kind : ErrorKind) → IsAmong kind (line.kinds_by a b c) → kind ≡ ValueValidation
 among_refused true true true kind h = absurd h
-among_refused true true false kind (inl e) = e
-among_refused true true false kind (inr h) = absurd h
-among_refused true false c kind (inl e) = e
-among_refused true false c kind (inr h) = absurd h
-among_refused false b c kind (inl e) = e
-among_refused false b c kind (inr h) = absurd h
+among_refused _ _ _ kind (inl e) = e
+among_refused _ _ _ kind (inr h) = absurd h
 
 no_text : (kind : ErrorKind) → kind ≡ ValueValidation → (kind ≡ DisplayHelp) ⊎ (kind ≡ DisplayVersion) → ⊥
 no_text kind e (inl h) = absurd (search rules)
@@ -139,21 +111,16 @@ module _ (e p n : Text) (he : IsPlain e) (hp : IsPlain p) (hn : IsPlain n) where
 
   windows_answer : (r : Answer) → IsAnswerTo (codes "windows", rows) r → IsWindowsAnswer e p n r
   windows_answer (Ok (Windows w count)) h = to_spelled w.cost w.period count h
-  windows_answer (Ok (Replay name set)) h = absurd (apart (codes "windows") (codes "replay") refl refl h.0.0)
-  windows_answer (Ok (Decisions name)) h = absurd (apart (codes "windows") (codes "decisions") refl refl h.0)
-  windows_answer (Ok (Lags name)) h = absurd (apart (codes "windows") (codes "lags") refl refl h.0)
-  windows_answer (Ok (Help text)) h = absurd h
   windows_answer (Err Memory) h = tt
   windows_answer (Err CommandLine) h = λ a b c k. h.no_windows a b c (to_asked a b c k)
   windows_answer (Err (Weight fault)) h = (h.0, h.1, h.2, to_spelled h.0 h.1 h.2 h.3, h.4)
-  windows_answer (Err _) h = absurd h
+  windows_answer _ h = absurd (search rules)
 
   windows_refusal : (r : Answer) → IsAnswerToUntaken words r → IsWindowsAnswer e p n r
   windows_refusal (Ok (Help text)) h = absurd (no_text h.0 (among_refused _ _ _ h.0 (subst (IsAmong h.0) (line.windows_taken e p n he hp hn) h.1)) h.2)
-  windows_refusal (Ok a) h = absurd h.2
   windows_refusal (Err Memory) h = tt
   windows_refusal (Err CommandLine) h = λ a b c k. subst (IsAmong h.0) (taken a b c k) h.1
-  windows_refusal (Err _) h = absurd h.2
+  windows_refusal _ h = absurd h.2
 
   windows_any : (r : Answer) → IsAnswer words r → IsWindowsAnswer e p n r
   windows_any r h =
@@ -166,47 +133,34 @@ module _ (e p n : Text) (he : IsPlain e) (hp : IsPlain p) (hn : IsPlain n) where
 
 text_of : (kind : ErrorKind) → (kind ≡ DisplayHelp) ⊎ (kind ≡ DisplayVersion) → (r : Answer) → IsAnswerToKind kind r → IsTextAnswer r
 text_of kind text (Ok (Help t)) h = tt
-text_of kind text (Ok a) h = absurd h
 text_of kind text (Err Memory) h = refl
 text_of kind (inl is) (Err CommandLine) h = absurd (h.0 is)
 text_of kind (inr is) (Err CommandLine) h = absurd (h.1 is)
-text_of kind text (Err _) h = absurd h
+text_of kind text _ h = absurd h
 
 refusal_of : (r : Answer) → IsAnswerToKind MissingSubcommand r → IsRefusal r
 refusal_of (Ok (Help t)) (inl e) = absurd (search rules)
 refusal_of (Ok (Help t)) (inr e) = absurd (search rules)
-refusal_of (Ok a) h = absurd h
 refusal_of (Err Memory) h = tt
 refusal_of (Err CommandLine) h = tt
-refusal_of (Err _) h = absurd h
+refusal_of _ h = absurd h
 
 -- words that fail by one kind are answered by that kind
-of_kind : (words : List Text) (kind : ErrorKind) (r : Answer) → fault_of line words ≡ kind ∷ [] → IsAnswer words r → (r ≡ Err Memory) ⊎ IsAnswerToKind kind r
-of_kind words kind r is h =
-    parts words ((r ≡ Err Memory) ⊎ IsAnswerToKind kind r) r h
-    (λ e. inl e)
-    (λ taken. absurd (no_nil (sym is ∙ taken.0)))
+of_kind : (words : List Text) (kind : ErrorKind) (r : Answer) (G : Answer → Type 0) → fault_of line words ≡ kind ∷ [] → IsAnswer words r → G (Err Memory) → (IsAnswerToKind kind r → G r) → G r
+of_kind words kind r G is h memory to =
+    parts words (G r) r h
+    (λ e. subst G (sym e) memory)
+    (λ taken. absurd (let none : kind ∷ [] ≡ [] = sym is ∙ taken.0 in cc))
     (λ untaken. elim (subst (IsAmong untaken.0) is untaken.1) [
-      | inl e ↦ inr (subst (λ k. IsAnswerToKind k r) e untaken.2)
+      | inl e ↦ to (subst (λ k. IsAnswerToKind k r) e untaken.2)
       | inr none ↦ absurd none
     ])
-  where
-    no_nil : kind ∷ [] ≡ [] → ⊥
-    no_nil e = absurd (search rules)
 
 text_answer : (words : List Text) (kind : ErrorKind) (r : Answer) → fault_of line words ≡ kind ∷ [] → (kind ≡ DisplayHelp) ⊎ (kind ≡ DisplayVersion) → IsAnswer words r → IsTextAnswer r
-text_answer words kind r is text h =
-    elim (of_kind words kind r is h) [
-      | inl e ↦ subst IsTextAnswer (sym e) refl
-      | inr k ↦ text_of kind text r k
-    ]
+text_answer words kind r is text h = of_kind words kind r IsTextAnswer is h refl (text_of kind text r)
 
 none_answer : (r : Answer) → IsAnswer [] r → IsRefusal r
-none_answer r h =
-    elim (of_kind [] MissingSubcommand r line.no_words_faults h) [
-      | inl e ↦ subst IsRefusal (sym e) tt
-      | inr k ↦ refusal_of r k
-    ]
+none_answer r h = of_kind [] MissingSubcommand r IsRefusal line.no_words_faults h tt (refusal_of r)
 
 -- ---- together
 
@@ -225,14 +179,10 @@ plain_answer _ r h = record {
 }
 
 pub has_count : (words : List Text) (r : Answer) → IsAnswer words r → IfOk r HasCount
-has_count words (Err fault) h = tt
-has_count words (Ok (Replay name set)) h = tt
-has_count words (Ok (Decisions name)) h = tt
-has_count words (Ok (Lags name)) h = tt
-has_count words (Ok (Help text)) h = tt
 has_count words (Ok (Windows weight count)) (inl taken) = named (subcommand_of line words) taken.1
   where
     named : (n : Option Named) → IsAnswerToAny n (Ok (Windows weight count)) → count ≤ MAX_COUNT
     named (Some n) h = h.range
     named None h = absurd (search rules)
 has_count words (Ok (Windows weight count)) (inr untaken) = absurd untaken.2
+has_count words _ h = tt

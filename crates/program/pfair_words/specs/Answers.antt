@@ -1,5 +1,5 @@
 -- What is answered to the words of a program, of whose commands each asks for something.
-use Rattle.std.specs.Prelude.{◌≡◌, ◌⊎◌, ⊤, List, Option, Some, None, Result, Ok, Err}
+use Rattle.std.specs.Prelude.{◌≡◌, ◌⊎◌, ⊤, List, Option, Some, None, Result, Err}
 use Rattle.clap.specs.Words.{App, Text}
 use Rattle.clap.specs.declared.error.kind.ErrorKind.{ErrorKind}
 use Rattle.pfair_words.specs.Parse.{IsTaken, IsUntaken, Named}

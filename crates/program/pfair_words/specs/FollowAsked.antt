@@ -1,12 +1,12 @@
 -- What the words of `pfair_follow` ask for, by the name of their command and the words under the names of its arguments.
-use Rattle.std.specs.Prelude.{ℕ, ◌≡◌, ◌≤◌, ◌⊎◌, ⊤, List, Option, Some, None, Result, Ok, Err, codes, string_bytes}
+use Rattle.std.specs.Prelude.{ℕ, ◌≡◌, ◌≤◌, ⊤, List, Option, Result, Ok, Err, codes, string_bytes}
 use Rattle.clap.specs.Words.{Row, Text}
 use Rattle.clap.specs.declared.error.kind.ErrorKind.{ErrorKind}
 use Rattle.clap.specs.Walk.{one_of}
 use Rattle.pfair_table.specs.Limits.{IsSettings}
 use Rattle.pfair_table.specs.Table.{Settings}
 use Rattle.pfair_words.specs.Answers.{ToAny, ToTaken, ToUntaken, ToWords}
-use Rattle.pfair_words.specs.Parse.{AskFile, IsFlag, IsNumber, IsRefusalKind, IsTaken, IsTextKind, IsUntaken, Named}
+use Rattle.pfair_words.specs.Parse.{AskFile, IsFlag, IsNumber, IsRefusalKind, IsTextKind, Named}
 use Rattle.pfair_words.specs.FollowLine.{line}
 use Rattle.pfair_words.specs.declared.follow.Run.{Run}
 use Rattle.pfair_words.specs.declared.follow.Asked.{Asked}

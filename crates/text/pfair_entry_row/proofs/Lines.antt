@@ -1,7 +1,7 @@
 -- Rows as lines of a text.
-use Rattle.std.proofs.Common.{ℕ, Bool, true, false, List, [], ◌∷◌, ◌++◌, ◌≡◌, ◌≢◌, ◌==◌, refl, ap, ◌∙◌, zero, suc, arith, length, Option, None, Some, append_assoc}
-use Rattle.std.specs.Prelude.{◌||◌, not}
-use Rattle.std.specs.List.{All, AllByRecursion, join_with_byte, list_all, list_any, slice_split}
+use Rattle.std.proofs.Common.{ℕ, Bool, true, false, List, [], ◌∷◌, ◌++◌, ◌≡◌, ◌≢◌, ◌==◌, refl, zero, suc, arith, length, Option, None, Some, append_assoc}
+use Rattle.std.specs.Prelude.{not}
+use Rattle.std.specs.List.{All, AllByRecursion, join_with_byte, list_all, list_any}
 use Rattle.std.proofs.lemmas.Bool.{and_from, and_parts, eqb-false, ne_eqb, not-true, or_parts}
 use Rattle.std.proofs.lemmas.List.Splits.{slice_split_at}
 use Rattle.pfair_entry.specs.Entry.{Logged}
@@ -9,9 +9,9 @@ use Rattle.pfair_entry.specs.declared.announcement.Announcement.{Announcement}
 use Rattle.pfair_entry.specs.declared.announcement.Announcement.TheVariants.{Arrive, Depart, Late}
 use Rattle.pfair_text.specs.Rows.{is_mark, is_plain}
 use Rattle.pfair_text.proofs.RowFacts.{is_plain-decimal}
-use Rattle.pfair_entry_row.specs.Laws.{RowsAreLines, TextsAreRows, entries_text}
+use Rattle.pfair_entry_row.specs.Laws.{RowsAreLines, TextsAreRows}
 use Rattle.pfair_entry.specs.Notice.{IsNamed, IsWellSaid}
-use Rattle.pfair_entry_row.specs.Row.{truth, announced_fields, said_fields, entry_fields, entry_row, IsEntryAt, IsSpelled, IsSpelledOut}
+use Rattle.pfair_entry_row.specs.Row.{truth, announced_fields, said_fields, entry_fields, IsEntryAt, IsSpelled, IsSpelledOut}
 use Rattle.pfair_text.proofs.NameFacts.{is_plain-name}
 use Rattle.pfair_entry_row.proofs.Refused.{sayable}
 
@@ -25,10 +25,7 @@ both_lines (x ∷ xs) ys h k = (h.0, both_lines xs ys h.1 k)
 
 unmarked : (bytes : List ℕ) → list_any is_mark bytes ≡ false → IsOneLine bytes
 unmarked [] h = tt
-unmarked (b ∷ bytes) h =
-    let parts = or_parts (is_mark b) (list_any is_mark bytes) h in
-    let last = or_parts ((b == 44) || (b == 34) || (b == 13)) (b == 10) parts.0 in
-    (eqb-false b 10 last.1, unmarked bytes parts.1)
+unmarked (b ∷ bytes) h = grind (arith, or_parts, eqb-false, unmarked bytes)
 
 plain : (field : List ℕ) → is_plain field ≡ true → IsOneLine field
 plain field h = unmarked field (not-true (list_any is_mark field) (and_parts (not (length field == 0)) (not (list_any is_mark field)) h).1)
@@ -47,18 +44,9 @@ truth_is_plain true = refl
 truth_is_plain false = refl
 
 announced : (a : Announcement) → IsNamed a → IsSpelled a → list_all is_plain (announced_fields a) ≡ true
-announced (Arrive name weight early) named s =
-    let first = is_plain-name name named in
-    let cost = is_plain-decimal weight.cost s.1 in
-    let period = is_plain-decimal weight.period s.2 in
-    let word = truth_is_plain early in
-    rw (first, cost, period, word) refl
+announced (Arrive name weight early) named s = grind (arith, is_plain-name, is_plain-decimal, truth_is_plain)
 announced (Depart name) named s = let first = is_plain-name name named in rw first refl
-announced (Late name index by) named s =
-    let first = is_plain-name name named in
-    let from = is_plain-decimal index s.1 in
-    let delay = is_plain-decimal by s.2 in
-    rw (first, from, delay) refl
+announced (Late name index by) named s = grind (arith, is_plain-name, is_plain-decimal)
 
 said : (s : Option (ℕ × Announcement)) → IsWellSaid s → IsSpelledOut s → list_all is_plain (said_fields s) ≡ true
 said None well spelled = refl
@@ -83,7 +71,4 @@ at_each (b ∷ bytes) h (suc k) d inside = at_each bytes h.1 k d (omega arith)
 pub texts_are_rows : TextsAreRows
 texts_are_rows [] h = refl
 texts_are_rows (x ∷ entries) h =
-    let row = entry_row x.0 x.1 x.2 in
-    ap (slice_split (λ b. b == 10)) (append_assoc row (10 ∷ []) (entries_text entries))
-    ∙ slice_split_at (λ b. b == 10) row 10 (entries_text entries) (at_each row (rows_are_lines x.0 x.1 x.2 h.0)) refl
-    ∙ ap (λ rows. row ∷ rows) (texts_are_rows entries h.1)
+    grind (arith, append_assoc, slice_split_at, at_each, rows_are_lines, texts_are_rows entries h.1)

@@ -20,11 +20,6 @@ pub no_text : {T E : Type 0} (P : T → Type 0) (Q : E → Type 0) (field : List
 no_text P Q field (Ok s) cases none n small e = cc
 no_text P Q field (Err f) cases none n small e = absurd (cases.0 (IsUtf8-decimal field n small e))
 
--- the text that was read is the field
-pub text_is : {T E : Type 0} (now : T → List ℕ) (P : E → Type 0) (field : List ℕ) (r : Result T E) (text : T) → MatchResult r (λ s. (now s ≡ field) × IsUtf8 field) P → result_ok r ≡ Some text → now text ≡ field
-text_is now P field (Ok s) text cases is = let same : s ≡ text = cc in subst (λ t. now t ≡ field) same cases.0
-text_is now P field (Err f) text cases is = cc
-
 some_is : {x y : ℕ} → Some x ≡ Some y → x ≡ y
 some_is e = cc
 

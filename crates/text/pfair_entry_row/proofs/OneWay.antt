@@ -1,5 +1,5 @@
 -- A row is read one way.
-use Rattle.std.proofs.Common.{ℕ, List, ◌≡◌, ◌⊎◌, inl, inr, refl, sym, ◌∙◌, ap, Ok, Err}
+use Rattle.std.proofs.Common.{arith, ℕ, List, ◌≡◌, ◌⊎◌, inl, inr, refl, sym, ◌∙◌, ap, Ok, Err}
 use Rattle.pfair_entry.specs.Entry.{Logged}
 use Rattle.pfair_entry_row.specs.Faults.{IsRowFaultOf, SaysNothing, SaysWhatIsRefused}
 use Rattle.pfair_entry_row.specs.Laws.{RowsAreReadOneWay}
@@ -7,7 +7,7 @@ use Rattle.pfair_entry_row.specs.Row.{entry_row, IsEntryAt}
 use Rattle.pfair_entry_row.specs.declared.fault.RowFault.{RowFault}
 use Rattle.pfair_entry_row.specs.declared.fault.RowFault.TheVariants.{NoRow, Refused, NoSuchProcessor, NumberOutOfRange}
 use Rattle.pfair_entry_row.proofs.RowFields.{entry_row_injective}
-use Rattle.pfair_entry_row.proofs.Refused.{keyed-same, read_back, sayable}
+use Rattle.pfair_entry_row.proofs.Refused.{read_back, sayable}
 
 -- nothing is said, or what is said is refused
 in_parts : (row : List ℕ) (f : RowFault) → IsRowFaultOf row f → ((f ≡ NoRow) × SaysNothing row) ⊎ SaysWhatIsRefused row f
@@ -15,9 +15,6 @@ in_parts row NoRow h = inl (refl, h)
 in_parts row (Refused f) h = inr h
 in_parts row NoSuchProcessor h = inr h
 in_parts row NumberOutOfRange h = inr h
-
-says_something : (row : List ℕ) (f : RowFault) → SaysNothing row → SaysWhatIsRefused row f → ⊥
-says_something row f nothing s = nothing s.processor s.number s.entry s.sayable s.row_is
 
 no_entry : (row : List ℕ) (p n : ℕ) (e : Logged) (f : RowFault) → IsEntryAt p n e → row ≡ entry_row p n e → SaysWhatIsRefused row f → ⊥
 no_entry row p n e f h is s =
@@ -31,17 +28,10 @@ entry_or_fault row p n e f h is fault =
     elim (in_parts row f fault) [ inl nothing ↦ nothing.1 p n e (sayable p n e h) is | inr refused ↦ no_entry row p n e f h is refused ]
 
 both_refused : (row : List ℕ) (f g : RowFault) → SaysWhatIsRefused row f → SaysWhatIsRefused row g → f ≡ g
-both_refused row f g s t =
-    let same = entry_row_injective s.processor s.number s.entry t.processor t.number t.entry s.sayable t.sayable (sym s.row_is ∙ t.row_is) in
-    let one : Err f ≡ Err g = sym s.refused ∙ keyed-same s.processor s.number s.entry t.processor t.number t.entry same ∙ t.refused in
-    cc
+both_refused row f g s t = grind (arith, entry_row_injective, sayable)
 
 one_fault : (row : List ℕ) (f g : RowFault) → IsRowFaultOf row f → IsRowFaultOf row g → f ≡ g
-one_fault row f g h k =
-    elim (in_parts row f h) [
-      | inl nothing ↦ elim (in_parts row g k) [ inl none ↦ nothing.0 ∙ sym none.0 | inr refused ↦ absurd (says_something row g nothing.1 refused) ]
-      | inr refused ↦ elim (in_parts row g k) [ inl nothing ↦ absurd (says_something row f nothing.1 refused) | inr also ↦ both_refused row f g refused also ]
-    ]
+one_fault row f g h k = grind (arith, in_parts, both_refused, sayable)
 
 pub one_way : RowsAreReadOneWay
 one_way row (Ok x) (Ok y) h k =

@@ -1,5 +1,5 @@
 -- How a command over a task file ends, whatever it writes.
-use Rattle.std.proofs.Common.{ℕ, List, Option, None, Some, Result, Ok, Err, ◌≡◌, ◌≢◌, inl, inr, refl, subst, sym}
+use Rattle.std.proofs.Common.{arith, ℕ, List, Option, None, Some, Result, Ok, Err, ◌≡◌, inr, refl, subst, sym}
 use Rattle.std.specs.Prelude.{IfSome, IsErrAnd}
 use Rattle.std.specs.Io.KnownBytes.{Appends, Keeps}
 use Rattle.pfair_text.specs.Output.{TakesPrefix}
@@ -20,15 +20,13 @@ kept (Some bytes) = refl
 
 -- what was taken of a file before a fault that is passed on
 pub taken_by : {A T : Type 0} {given left : Option (List ℕ)} {e : ProgramFault} → TakesOneFile {T = A} (Err e) given left → (r : Result T ProgramFault) → IsErrAnd r (λ f. f ≡ e) → TakesOneFile r given left
-taken_by {T = T} {given = given} {left = left} {e = e} taken r is = err_is (λ r. TakesOneFile {T = T} r given left) r e is
-    (record { long = λ same. taken.long (cc same); unread = λ same. taken.unread (cc same); within = tt; within_fault = taken.within_fault; end = tt; end_fault = taken.end_fault; most = taken.most })
+taken_by {T = T} {given = given} {left = left} {e = e} taken r is = grind (arith, err_is)
 
 module _ {T : Type 0} {IsOutput : List ℕ → (List ℕ → Type 0) → Type 0} {IsFault : Option (List ℕ) → ProgramFault → Type 0} {given left before : Option (List ℕ)} where
   -- because of the file,
   pub ends_refused : {A : Type 0} {e : ProgramFault} → TakesOneFile {T = A} (Err e) given left → IsFault given e → ¬ IsFault given WriteFailed → (r : Result T ProgramFault) → IsErrAnd r (λ f. f ≡ e)
       → IsCommandOf IsOutput IsFault r given left before before
-  ends_refused {e = e} taken refused other r is = err_is (λ r. IsCommandOf IsOutput IsFault r given left before before) r e is
-      (record { ok = tt; refused = inl refused; taken = taken_by taken (Err e) refl; nothing = λ unlike. kept before; cut = λ same. absurd (other (subst (IsFault given) (cc same) refused)) })
+  ends_refused {e = e} taken refused other r is = grind (arith, err_is, taken_by, kept)
 
   -- or after it was read and run, well
   module _ {A : Type 0} {a : A} (taken : TakesOneFile (Ok a) given left) where

@@ -1,21 +1,17 @@
 -- The lengths of logs.
-use Rattle.std.proofs.Common.{ℕ, List, [], ◌∷◌, true, Vec, Global, ◌≡◌, ◌≤◌, length, length-append, refl, arith, inl, inr, vec_len}
+use Rattle.std.proofs.Common.{ℕ, List, [], ◌∷◌, true, Vec, Global, ◌≡◌, ◌≤◌, length, length-append, refl, arith, vec_len}
 use Rattle.std.specs.Prelude.{All}
 use Rattle.std.specs.List.{list_all}
-use Rattle.std.proofs.lemmas.Bool.{and_from, cases_Bool}
+use Rattle.std.proofs.lemmas.Bool.{and_from}
 use Rattle.std.proofs.lemmas.List.Elements.{All-head, All-tail}
 use Rattle.std.proofs.lemmas.Bool.Decides.{nat_tests}
 use Rattle.pfair_entry.specs.Entry.{Logged}
 use Rattle.pfair_table.specs.Script.{is_short, lists_of}
-use Rattle.pfair_file.specs.Documents.{close_all, closed, is_open}
+use Rattle.pfair_file.specs.Documents.{close_all, closed}
 
 -- a log that is closed has at most one entry more
 closed-short : (slots : ℕ) (log : List Logged) → length log ≤ 4095 → is_short (closed slots log) ≡ true
-closed-short slots log h =
-    elim (cases_Bool (is_open slots log)) [
-      | inl goes_on ↦ rw (goes_on, length-append log) (grind (arith, nat_tests, h))
-      | inr other ↦ rw other (grind (arith, nat_tests, h))
-    ]
+closed-short slots log h = grind (arith, length-append, nat_tests)
 
 -- so that closed logs are as short as a run's may be
 pub closed-all-short : (slots : ℕ) (logs : List (Vec Logged Global)) → All (λ log. vec_len log ≤ 4095) logs → list_all is_short (close_all slots (lists_of logs)) ≡ true

@@ -1,7 +1,5 @@
 -- What each table adds to the logs.
-use Rattle.std.proofs.Common.{ℕ, List, [], ◌∷◌, ◌++◌, Result, Ok, Err, ◌≡◌, ◌≢◌, ◌∙◌, ◌+◌, ◌<◌, length, get_or, set, append_assoc, append-nil, refl, sym, ap, subst, arith, inl, inr}
-use Rattle.std.specs.Prelude.{nat_le, ◌==◌}
-use Rattle.std.proofs.lemmas.Bool.{cases_Bool, eqb-true, eq-eqb}
+use Rattle.std.proofs.Common.{ℕ, List, [], ◌∷◌, ◌++◌, Result, Ok, Err, ◌≡◌, ◌∙◌, ◌+◌, ◌<◌, length, get_or, append_assoc, append-nil, refl, sym, ap, subst, arith}
 use Rattle.std.proofs.lemmas.Grind.{common_steps}
 use Rattle.std.proofs.lemmas.List.{length-set, get_or-set_same, get_or-set_other}
 use Rattle.toml.specs.Data.{Members}
@@ -16,16 +14,8 @@ use Rattle.pfair_file.specs.declared.fault.FileFault.{FileFault}
 
 -- a longer log has the entry at its end
 longer-is : (p : ℕ) (log new : List Logged) (made : Result Logged NoticeFault) → longer_log p log made ≡ Ok new → new ≡ log ++ entry_list made
-longer-is p log new (Ok entry) h =
-    elim (cases_Bool (nat_le 4095 (length log))) [
-      | inl full ↦ absurd (let bad = rw full at h in cc bad)
-      | inr room ↦ (let same = rw room at h in cc same)
-    ]
-longer-is p log new (Err fault) h =
-    elim (cases_Bool (nat_le 4095 (length log))) [
-      | inl full ↦ absurd (let bad = rw full at h in cc bad)
-      | inr room ↦ absurd (let bad = rw room at h in cc bad)
-    ]
+longer-is p log new (Ok entry) h = grind (arith)
+longer-is p log new (Err fault) h = grind (arith)
 
 -- the logs after one table, in the words of order
 record IsAfter (logs after : Logs) (found : Result Made FileFault) : Type 0 where
@@ -33,25 +23,7 @@ record IsAfter (logs after : Logs) (found : Result Made FileFault) : Type 0 wher
   pub longer : (p : ℕ) → p < length logs → get_or after p [] ≡ get_or logs p [] ++ entry_for p found
 
 after-made : (logs after : Logs) (made : Made) → logs_after logs made ≡ Ok after → IsAfter logs after (Ok made)
-after-made logs after made h = go (longer_log made.processor (get_or logs made.processor []) made.entry) refl h
-  where
-    go : (r : Result (List Logged) FileFault) → longer_log made.processor (get_or logs made.processor []) made.entry ≡ r → logs_after logs made ≡ Ok after → IsAfter logs after (Ok made)
-    go (Err f) e g = absurd (let bad = rw e at g in cc bad)
-    go (Ok new) e g =
-        let is : set logs made.processor new ≡ after = (let same = rw e at g in cc same) in
-        let added = longer-is made.processor (get_or logs made.processor []) new made.entry e in
-        record {
-          same_many = ap length (sym is) ∙ length-set logs made.processor new;
-          longer = λ p within. elim (cases_Bool (made.processor == p)) [
-            | inl here ↦
-                let at : made.processor ≡ p = eqb-true made.processor p here in
-                rw here (subst (λ q. get_or after q [] ≡ get_or logs q [] ++ entry_list made.entry) at
-                (ap (λ (ls : Logs). get_or ls made.processor []) (sym is) ∙ (get_or-set_same logs made.processor new [] (subst (λ q. q < length logs) (sym at) within) ∙ added)))
-            | inr other ↦
-                let apart : p ≢ made.processor = λ e. (let bad = eq-eqb made.processor p (sym e) in absurd (let worse = rw other at bad in cc worse)) in
-                rw other (ap (λ (ls : Logs). get_or ls p []) (sym is) ∙ (get_or-set_other logs made.processor p new [] apart ∙ sym (append-nil (get_or logs p []))))
-          ];
-        }
+after-made logs after made h = grind (arith, longer-is, length-set, get_or-set_same, get_or-set_other, append-nil)
 
 after-table : (version place : ℕ) (logs after : Logs) (table : Members) → with_entry version place logs table ≡ Ok after → IsAfter logs after (made_at version (length logs) place table)
 after-table version place logs after table h = go (made_at version (length logs) place table) refl h

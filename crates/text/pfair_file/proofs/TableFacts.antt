@@ -1,5 +1,5 @@
 -- The tables of an array, one after the other.
-use Rattle.std.proofs.Common.{ℕ, List, ◌∷◌, Option, None, Some, Err, ◌≡◌, ◌∙◌, ◌+◌, ◌<◌, length, drop, get_or, option_map, refl, sym, ap}
+use Rattle.std.proofs.Common.{arith, ℕ, List, ◌∷◌, Some, Err, ◌≡◌, ◌+◌, ◌<◌, length, drop, get_or}
 use Rattle.toml.specs.Data.{Data, Items, Members, as_table, item}
 use Rattle.toml.specs.View.{items_view, view}
 use Rattle.toml.specs.declared.value.Value.{Value}
@@ -16,17 +16,9 @@ pub record IsLeft (version : ℕ) (start now : Logs) (items : List Value) (i : �
 -- a table before others
 pub tables-first : (d : Data) (rest : Items) (t : Members) (ts : List Members) → as_table d ≡ Some t → tables_of (item d rest) ≡ Some ts
     → (more : List Members) × (tables_of rest ≡ Some more) × (ts ≡ t ∷ more)
-tables-first d rest t ts table h = go (tables_of rest) refl (rw table at h)
-  where
-    go : (o : Option (List Members)) → tables_of rest ≡ o → option_map (λ x. t ∷ x) (tables_of rest) ≡ Some ts → (more : List Members) × (tables_of rest ≡ Some more) × (ts ≡ t ∷ more)
-    go None e g = absurd (let bad = rw e at g in cc bad)
-    go (Some more) e g = (more, e, let same = rw e at g in cc same)
+tables-first d rest t ts table h = grind (arith)
 
 -- a table that is refused
 pub left-refused : (version : ℕ) (start now : Logs) (items : List Value) (i : ℕ) (v : Value) (t : Members) (f : FileFault) → i < length items → get_or items i v ≡ v → as_table (view v) ≡ Some t
     → with_entry version (i + 1) now t ≡ Err f → IsLeft version start now items i → with_items version start (items_view items) ≡ Err f
-left-refused version start now items i v t f within at table done left =
-    let split = rw at at (items_view-drop items i v within) in
-    let (more, e, parts) = tables-first (view v) (items_view (drop (i + 1) items)) t left.tables table (sym (ap tables_of split) ∙ left.are_tables) in
-    let done_first : with_entries version (i + 1) now (t ∷ more) ≡ Err f = rw done refl in
-    left.same ∙ (ap (with_entries version (i + 1) now) parts ∙ done_first)
+left-refused version start now items i v t f within at table done left = grind (arith, items_view-drop, tables-first)

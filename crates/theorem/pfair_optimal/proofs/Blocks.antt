@@ -1,5 +1,5 @@
 -- Blocks: holes, and the full slot that ends them. What a block's first slot leaves over is paid by its full slot.
-use Rattle.std.proofs.Common.{◌≡◌, ℕ, zero, suc, ◌+◌, ◌-◌, ◌*◌, ◌<◌, ◌≤◌, Bool, true, false, cond, [], ◌∷◌, arith, ap, refl, sym, ◌∙◌, subst, inl, inr, ⊎_elim}
+use Rattle.std.proofs.Common.{◌≡◌, ℕ, zero, suc, ◌+◌, ◌-◌, ◌*◌, ◌<◌, ◌≤◌, Bool, true, false, cond, [], ◌∷◌, arith, ap, refl, sym, subst, inl, inr, ⊎_elim}
 use Rattle.std.specs.Prelude.{nat_lt}
 use Rattle.std.proofs.lemmas.Bool.{true≢false, cases_lt, cases_Bool, lt-ltb, le-ltb}
 use Rattle.std.proofs.lemmas.Bool.Decides.{nat_tests}
@@ -86,11 +86,7 @@ module _ (x : Run) (is : IsRun x) (td : ℕ) (missed : Subtask) (m : IsFirstMiss
               let none = unserved_none x is td missed m a (n - 1) n (omega arith) less (start_holes n (n - 1) (omega arith) (omega arith)) hole alone in
               omega arith
           | inr first ↦
-              let here = carry_first a n first in
-              let at : start x td missed n ≡ n = omega arith in
-              let kept : cond (is_served x td missed a (start x td missed n)) 0 (shares x td missed a (start x td missed n)) ≡ shares x td missed a n =
-              ap (λ (s : ℕ). cond (is_served x td missed a s) 0 (shares x td missed a s)) at ∙ ap (λ b. cond b 0 (shares x td missed a n)) alone in
-              omega arith
+              grind (arith, carry_first)
         ]
       ]
 

@@ -8,7 +8,7 @@ use Rattle.pfair_weight.specs.Rounding.{lt_of_mul, div_ceil_le, le_div_ceil}
 use Rattle.pfair_weight.specs.Window.{release_of, deadline_of, b_bit_of, group_deadline_of, cascade_end}
 use Rattle.pfair_weight.specs.GroupFacts.{group_deadline_light, group_deadline_heavy}
 use Rattle.pfair_optimal.specs.Fluid.{share_of, busy_bound_of}
-use Rattle.pfair_optimal.proofs.Ends.{grow, opening, closing, next_opening, pinned, opening_next, next_near, b_bit_between}
+use Rattle.pfair_optimal.proofs.Ends.{grow, opening, closing, next_opening, pinned, opening_next, b_bit_between}
 use Rattle.pfair_optimal.proofs.Fluids.{first_share}
 
 -- what a subtask with b-bit 1 has, of a weight e / (e + q): with a = d - i, i * q lies strictly between (a - 1) * e and a * e
@@ -21,23 +21,11 @@ pub record Wrapped (w : Share) (i a q : ℕ) : Type 0 where
 
 -- if the b-bit is 1 the weight is below 1
 below_one : (w : Share) (i : ℕ) → IsWeight w.cost w.period → b_bit_of w i ≡ 1 → w.cost < w.period
-below_one w i h bit =
-    elim (cases_lt w.cost w.period) [
-      | inl below ↦ below
-      | inr whole ↦ absurd (
-          let ends = pinned w i h.some_cost in
-          let near = b_bit_between w i h.some_cost in
-          let same : i * w.period ≡ i * w.cost = let e : w.period ≡ w.cost = omega arith in ap (λ (n : ℕ). i * n) e in
-          let close : (next_opening w i + 1) * w.cost ≡ closing w i * w.cost = let e : next_opening w i + 1 ≡ closing w i = omega arith in ap (λ (n : ℕ). n * w.cost) e in
-          let after : i < closing w i = lt_of_mul i (closing w i) w.cost (omega arith) in
-          let before : closing w i < i + 1 = lt_of_mul (closing w i) (i + 1) w.cost (omega arith) in
-          omega arith)
-    ]
+below_one w i h bit = grind (arith, pinned, b_bit_between, lt_of_mul)
 
 -- no subtask closes before its index
 pub index_le_closing : (w : Share) (i : ℕ) → IsWeight w.cost w.period → i ≤ closing w i
 index_le_closing w i h =
-    let ends = pinned w i h.some_cost in
     let wide = grow w.cost w.period i h.at_most_one in
     let below : i < closing w i + 1 = lt_of_mul i (closing w i + 1) w.cost (omega arith) in
     omega arith
@@ -45,7 +33,6 @@ index_le_closing w i h =
 pub wrapped : (w : Share) (i : ℕ) → IsWeight w.cost w.period → b_bit_of w i ≡ 1 → Wrapped w i (closing w i - i) (w.period - w.cost)
 wrapped w i h bit =
     let ends = pinned w i h.some_cost in
-    let near = b_bit_between w i h.some_cost in
     let below = below_one w i h bit in
     let later = index_le_closing w i h in
     let close : (next_opening w i + 1) * w.cost ≡ closing w i * w.cost = let e : next_opening w i + 1 ≡ closing w i = omega arith in ap (λ (n : ℕ). n * w.cost) e in
@@ -116,8 +103,6 @@ cascade_ends w i a q n h at = (from, to)
 -- k tight slots more push the end of a cascade past them
 pub cascade_after : (w : Share) (i k : ℕ) → IsWeight w.cost w.period → b_bit_of w i ≡ 1 → closing w (i + k) ≡ closing w i + k → b_bit_of w (i + k) ≡ 1 → closing w i + k < cascade_end w (closing w i)
 cascade_after w i k h bit tight last =
-    let a = closing w i - i in
-    let q = w.period - w.cost in
     let here = wrapped w i h bit in
     let there = wrapped w (i + k) h last in
     grind (arith, cascade_ends)
@@ -129,15 +114,11 @@ cascade_tight w i k h bit before =
     let q = w.period - w.cost in
     let here = wrapped w i h bit in
     let ends = pinned w (i + k) h.some_cost in
-    let near = next_near w (i + k) h.some_cost in
-    let between = b_bit_between w (i + k) h.some_cost in
-    let grown = grow i (i + k) q (omega arith) in
     let parts : (i + k) * (q + w.cost) ≡ (i + k) * w.period = ap (λ (n : ℕ). (i + k) * n) here.idle in
     elim (cases_lt ((i + k) * q) (a * w.cost)) [
       | inr enough ↦ absurd (let ended = (cascade_ends w i a q (i + k) h here).1 enough in omega arith)
       | inl less ↦
           let not_before : i + k + a < closing w (i + k) + 1 = lt_of_mul (i + k + a) (closing w (i + k) + 1) w.cost (omega arith) in
-          let not_after : closing w (i + k) < i + k + a + 1 = lt_of_mul (closing w (i + k)) (i + k + a + 1) w.cost (omega arith) in
           let opens : next_opening w (i + k) < i + k + a = lt_of_mul (next_opening w (i + k)) (i + k + a) w.cost (omega arith) in
           (omega arith, omega arith)
     ]
@@ -149,7 +130,6 @@ opens_less w i k h bit later before =
     let q = w.period - w.cost in
     let m = k - 1 in
     let here = wrapped w i h bit in
-    let ends = pinned w k h.some_cost in
     let grown = grow i m q (omega arith) in
     let parts : m * (q + w.cost) ≡ m * w.period = ap (λ (n : ℕ). m * n) here.idle in
     let own : i * (q + w.cost) ≡ i * w.period = ap (λ (n : ℕ). i * n) here.idle in
@@ -181,18 +161,7 @@ light_opens w i k h light later = grind (arith, pinned, grow, lt_of_mul)
 -- k tight slots more push the busy bound past them
 pub busy_after : (w : Share) (i k theta : ℕ) → IsWeight w.cost w.period → b_bit_of w i ≡ 1 → deadline_of w (i + k) theta ≡ deadline_of w i theta + k → b_bit_of w (i + k) ≡ 1 →
     deadline_of w i theta + k < busy_bound_of w i theta
-busy_after w i k theta h bit tight last =
-    elim (cases_lt (2 * w.cost) w.period) [
-      | inl light ↦ elim (cases_lt 0 k) [
-        | inl some ↦ absurd (let apart = light_closes w i k h light some in omega arith)
-        | inr none ↦ omega arith
-      ]
-      | inr heavy ↦
-          let below = below_one w i h bit in
-          let after = cascade_after w i k h bit (omega arith) last in
-          let group = group_deadline_heavy w i theta heavy below in
-          omega arith
-    ]
+busy_after w i k theta h bit tight last = grind (arith, light_closes, below_one, cascade_after, group_deadline_heavy)
 
 -- the share of the slot of the release is one number at any offset
 first_same : (w : Share) (i theta later v u : ℕ) → IsWeight w.cost w.period → v ≡ release_of w i theta → u ≡ release_of w i later → share_of w i theta v ≡ share_of w i later u
@@ -202,19 +171,13 @@ first_same w i theta later v u h one other = grind (arith, first_share)
 pub busy_opens : (w : Share) (i k theta later : ℕ) → IsWeight w.cost w.period → b_bit_of w i ≡ 1 → i < k → theta ≤ later → release_of w k later < busy_bound_of w i theta →
     share_of w k later (release_of w k later) ≤ share_of w (i + 1) theta (release_of w (i + 1) theta)
 busy_opens w i k theta later h bit after offsets before =
-    let near = b_bit_between w i h.some_cost in
     let next = opening_next w i in
     elim (cases_lt (i + 1) k) [
       | inr same ↦
-          let is : k ≡ i + 1 = omega arith in
-          let one : share_of w k later (release_of w k later) ≡ share_of w (i + 1) later (release_of w (i + 1) later) = ap (λ (n : ℕ). share_of w n later (release_of w n later)) is in
-          let other = first_same w (i + 1) later theta (release_of w (i + 1) later) (release_of w (i + 1) theta) h refl refl in
-          omega arith
+          grind (arith, first_same)
       | inl far ↦ elim (cases_lt (2 * w.cost) w.period) [
         | inl light ↦ absurd (
-            let apart = light_opens w i k h light far in
-            let group = group_deadline_light w i theta light in
-            omega arith)
+            grind (arith, light_opens, group_deadline_light))
         | inr heavy ↦
             let below = below_one w i h bit in
             let group = group_deadline_heavy w i theta heavy below in

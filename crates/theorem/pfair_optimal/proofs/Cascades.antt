@@ -8,7 +8,7 @@ use Rattle.pfair_weight.specs.Window.{release_of, deadline_of, b_bit_of, group_d
 use Rattle.pfair_weight.specs.WindowFacts.{release_rises, deadline_rises_strictly, windows_overlap, b_bit_at_most_one}
 use Rattle.pfair_weight.specs.GroupFacts.{group_deadline_heavy}
 use Rattle.pfair_optimal.specs.Laws.{EndsCascade, gap, three_slots, GroupDeadlinesAreLeast}
-use Rattle.pfair_optimal.proofs.Ends.{opening, closing, next_opening, pinned, b_bit_between}
+use Rattle.pfair_optimal.proofs.Ends.{opening, closing, next_opening, pinned}
 use Rattle.pfair_optimal.proofs.BusyBounds.{index_le_closing, group_deadline_tight, group_deadline_ends}
 
 -- ---- with b-bit 0
@@ -23,11 +23,8 @@ whole_slots d i a q e p closes idle whole =
 ends_there : (w : Share) (i : ℕ) → IsWeight w.cost w.period → w.cost < w.period → b_bit_of w i ≡ 0 → cascade_end w (closing w i) ≡ closing w i
 ends_there w i h below bit =
     let ends = pinned w i h.some_cost in
-    let between = b_bit_between w i h.some_cost in
     let later = index_le_closing w i h in
     let same : next_opening w i * w.cost ≡ closing w i * w.cost = (let e : next_opening w i ≡ closing w i = omega arith in ap (λ n. n * w.cost) e) in
-    let low = ends.next_low in
-    let high = ends.closes_high in
     let slots = whole_slots (closing w i) i (closing w i - i) (w.period - w.cost) w.cost w.period (omega arith) (omega arith) (omega arith) in
     ap (λ n. div_ceil (div_ceil n w.period * w.period) (w.period - w.cost)) slots
     ∙ ap (λ n. div_ceil (n * w.period) (w.period - w.cost)) (div_ceil_of_multiple (closing w i - i) w.period (omega arith))
@@ -40,8 +37,6 @@ ends_there w i h below bit =
 three_at_most : (w : Share) (i theta : ℕ) → IsWeight w.cost w.period → IsHeavy w → 1 ≤ i → deadline_of w i theta ≤ release_of w i theta + 3
 three_at_most w i theta h heavy first =
     let ends = pinned w i h.some_cost in
-    let low = ends.closes_low in
-    let high = ends.opens_high in
     let one = one_less i w.period first in
     let short : closing w i < opening w i + 4 = lt_of_mul (closing w i) (opening w i + 4) w.cost (omega arith) in
     omega arith
@@ -59,8 +54,6 @@ module _ (w : Share) (i theta : ℕ) (h : IsWeight w.cost w.period) (heavy : IsH
   at_end : (n : ℕ) → 1 ≤ n → deadline_of w i theta + n ≡ group_deadline_of w i theta → EndsCascade w theta (group_deadline_of w i theta)
   at_end n some is =
       let before = group_deadline_tight w i (n - 1) theta h heavy bit (omega arith) in
-      let due = before.0 in
-      let reaches = before.1 in
       let next : i + (n - 1) + 1 ≡ i + n = omega arith in
       let opens = windows_overlap w (i + (n - 1)) theta in
       let same = ap (λ m. release_of w m theta) next in
@@ -78,8 +71,6 @@ module _ (w : Share) (i theta : ℕ) (h : IsWeight w.cost w.period) (heavy : IsH
   none_between : (j u : ℕ) → deadline_of w i theta + j ≡ u → u < group_deadline_of w i theta → EndsCascade w theta u → ⊥
   none_between j u is before (gap k some due apart) =
       let tight = group_deadline_tight w i j theta h heavy bit (omega arith) in
-      let own = tight.0 in
-      let one = tight.1 in
       elim (cases_order k (i + j)) [
         | inl same ↦ (let e = ap (b_bit_of w) same in omega arith)
         | inr (inl less) ↦ (let rise = deadline_rises_strictly w k (i + j) theta h less in omega arith)
@@ -87,8 +78,6 @@ module _ (w : Share) (i theta : ℕ) (h : IsWeight w.cost w.period) (heavy : IsH
       ]
   none_between j u is before (three_slots k some due three) =
       let tight = group_deadline_tight w i j theta h heavy bit (omega arith) in
-      let own = tight.0 in
-      let one = tight.1 in
       let opens = windows_overlap w (i + j) theta in
       elim (cases_order k (i + j + 1)) [
         | inl same ↦ (let e = ap (λ m. release_of w m theta) same in omega arith)
@@ -112,7 +101,6 @@ group_deadlines_are_least w i theta h heavy below first = elim (cases_eq (b_bit_
     ];
   }
   | inr other ↦
-      let small = b_bit_at_most_one w i in
       let none : b_bit_of w i ≡ 0 = omega (arith, other) in
       let formula = group_deadline_heavy w i theta heavy below in
       let there = ends_there w i h below none in

@@ -1,6 +1,5 @@
 -- The count: all that the set needed, in units, against the rows that it had. There is no first miss.
-use Rattle.std.proofs.Common.{◌≡◌, ℕ, zero, suc, ◌+◌, ◌-◌, ◌*◌, ◌/◌, ◌<◌, ◌≤◌, Bool, true, false, cond, List, [], ◌∷◌, length, arith, ap, refl, sym, ◌∙◌, subst, inl, inr}
-use Rattle.std.specs.Prelude.{◌⊎◌}
+use Rattle.std.proofs.Common.{◌≡◌, ℕ, zero, suc, ◌+◌, ◌-◌, ◌*◌, ◌/◌, ◌<◌, ◌≤◌, Bool, true, false, cond, List, [], ◌∷◌, length, arith, ap, refl, sym, ◌∙◌, subst}
 use Rattle.std.proofs.lemmas.Bool.{false≢true}
 use Rattle.std.proofs.lemmas.List.{length-append}
 use Rattle.std.proofs.lemmas.Nat.{mul-le, div-add-mod'}
@@ -27,13 +26,8 @@ tasks_twice (z ∷ zs) = grind (arith, tasks_twice zs)
 
 pub tasks_among : (zs : List Subtask) (z : Subtask) → In zs z → is_among same_task (tasks_of zs) z.task ≡ true
 tasks_among [] z h = absurd (false≢true h)
-tasks_among (y ∷ zs) z h = by (is_among same_task (tasks_of zs) y.task) refl (λ i. tasks_among zs z i) (among_cases same_subtask subtask_exact y zs z h)
-  where
-    by : (b : Bool) → is_among same_task (tasks_of zs) y.task ≡ b → (In zs z → is_among same_task (tasks_of zs) z.task ≡ true) → (z ≡ y) ⊎ In zs z → is_among same_task (cond b (tasks_of zs) (y.task ∷ tasks_of zs)) z.task ≡ true
-    by true e rest (inl i) = ap (λ (w : Subtask). is_among same_task (tasks_of zs) w.task) i ∙ e
-    by true e rest (inr i) = rest i
-    by false e rest (inl i) = ap (λ (w : Subtask). is_among same_task (y.task ∷ tasks_of zs) w.task) i ∙ among_here same_task task_exact (tasks_of zs) y.task
-    by false e rest (inr i) = among_more same_task task_exact y.task (tasks_of zs) z.task (rest i)
+tasks_among (y ∷ zs) z h =
+    grind (arith, among_cases, subtask_exact, among_here, task_exact, among_more, tasks_among zs z)
 
 -- a sum over subtasks, task by task
 pub total_by_task : (f : Subtask → ℕ) (tasks : List Task) → NoneTwice same_task tasks → (zs : List Subtask) → ((z : Subtask) → In zs z → is_among same_task tasks z.task ≡ true) →
@@ -146,7 +140,6 @@ module _ (x : Run) (is : IsRun x) (td : ℕ) (missed : Subtask) (m : IsFirstMiss
       let only = total_among same_task task_exact claim (tasks x td missed) (x.members n) (tasks_twice (reasons x td missed)) (λ a h some. claimed a (is_among same_task (x.members n) a) refl some) in
       let most = total_all_le claim (λ a. units_of (x.weight a) x.frame) (x.members n) (λ a. within a (is_among same_task (x.members n) a)) in
       let sum_is = total_sum (λ a. units_of (x.weight a) x.frame) (x.members n) in
-      let room = is.room n in
       let w = full_some x is td missed m n full in
       let rows = (full_rows x is td missed m w.0 n less w.1 w.2).0 in
       let all : length (picks x td missed n) * x.frame ≡ x.processors * x.frame = ap (λ (k : ℕ). k * x.frame) (ap length (picks_full x is td missed m n less full) ∙ rows) in

@@ -38,14 +38,7 @@ pub record Pinned (w : Share) (i : ℕ) : Type 0 where
   pub next_high : i * w.period < next_opening w i * w.cost + w.cost
 
 pub pinned : (w : Share) (i : ℕ) → 0 < w.cost → Pinned w i
-pinned w i p = record {
-  opens_low = quotient_low ((i - 1) * w.period) w.cost p;
-  opens_high = let h = quotient_high ((i - 1) * w.period) w.cost p in omega arith;
-  closes_low = (div_ceil_times (i * w.period) w.cost p).1;
-  closes_high = (div_ceil_times (i * w.period) w.cost p).0;
-  next_low = quotient_low (i * w.period) w.cost p;
-  next_high = let h = quotient_high (i * w.period) w.cost p in omega arith;
-}
+pinned w i p = grind (arith, quotient_low, quotient_high, div_ceil_times)
 
 -- the next subtask's window opens there
 pub opening_next : (w : Share) (i : ℕ) → opening w (i + 1) ≡ next_opening w i

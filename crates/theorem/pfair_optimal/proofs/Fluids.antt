@@ -7,7 +7,7 @@ use Rattle.pfair_weight.specs.Rounding.{one_less}
 use Rattle.pfair_weight.specs.Window.{release_of, deadline_of, b_bit_of}
 use Rattle.pfair_optimal.specs.Fluid.{fluid_of, share_of, total_before}
 use Rattle.pfair_weight.specs.WindowFacts.{release_rises}
-use Rattle.pfair_optimal.proofs.Ends.{next_opening, grow, opening, closing, pinned, opening_next, next_near, b_bit_between}
+use Rattle.pfair_optimal.proofs.Ends.{grow, opening, closing, pinned, opening_next, next_near, b_bit_between}
 
 -- nothing before the release
 pub fluid_none : (w : Share) (i theta t : ℕ) → IsWeight w.cost w.period → t ≤ release_of w i theta → fluid_of w i theta t ≡ 0
@@ -67,26 +67,13 @@ first_share w i theta v h is = grind (arith, pinned, fluid_none, part_at)
 -- with b-bit 1 the share of the last slot
 pub last_share : (w : Share) (i theta v : ℕ) → IsWeight w.cost w.period → 1 ≤ i → b_bit_of w i ≡ 1 → v + 1 ≡ deadline_of w i theta → share_of w i theta v + closing w i * w.cost ≡ i * w.period + w.cost
 last_share w i theta v h first bit is =
-    let ends = pinned w i h.some_cost in
-    let whole = fluid_whole w i theta (v + 1) h first (omega arith) in
-    let now = part_at w i theta v (next_opening w i) (omega (arith, b_bit_between w i h.some_cost)) in
-    let step = one_less i w.period first in
-    let close : (next_opening w i + 1) * w.cost ≡ closing w i * w.cost = let e : next_opening w i + 1 ≡ closing w i = omega (arith, b_bit_between w i h.some_cost) in ap (λ (n : ℕ). n * w.cost) e in
-    let wide = release_rises w i (i + 1) 0 h first (omega arith) in
-    let opens = opening_next w i in
-    let more = grow (opening w i + 1) (next_opening w i) w.cost (omega arith) in
-    omega arith
+    grind (arith, pinned, fluid_whole, part_at, b_bit_between, one_less, release_rises, opening_next, grow)
 
 -- with b-bit 1 the share of the last slot and that of the next subtask's first slot are the cost together
 pub shares_meet : (w : Share) (i theta v later u : ℕ) → IsWeight w.cost w.period → 1 ≤ i → b_bit_of w i ≡ 1 → v + 1 ≡ deadline_of w i theta → u ≡ release_of w (i + 1) later →
     share_of w i theta v + share_of w (i + 1) later u ≡ w.cost
 shares_meet w i theta v later u h first bit close opens_at =
-    let last = last_share w i theta v h first bit close in
-    let next = first_share w (i + 1) later u h opens_at in
-    let opens : opening w (i + 1) * w.cost ≡ next_opening w i * w.cost = ap (λ (n : ℕ). n * w.cost) (opening_next w i) in
-    let near : (next_opening w i + 1) * w.cost ≡ closing w i * w.cost = let e : next_opening w i + 1 ≡ closing w i = omega (arith, b_bit_between w i h.some_cost) in ap (λ (n : ℕ). n * w.cost) e in
-    let back : (i + 1 - 1) * w.period ≡ i * w.period = let e : i + 1 - 1 ≡ i = omega arith in ap (λ (n : ℕ). n * w.period) e in
-    omega arith
+    grind (arith, last_share, first_share, opening_next, b_bit_between)
 
 -- windows of subtasks that aren't neighbours don't meet
 pub not_neighbours : (w : Share) (i j theta later : ℕ) → IsWeight w.cost w.period → 1 ≤ i → i + 1 < j → theta ≤ later → deadline_of w i theta ≤ release_of w j later
@@ -107,13 +94,7 @@ shares_fit w i j theta later v h first less after =
             elim (cases_lt (i + 1) j) [
               | inl far ↦ absurd (let apart = not_neighbours w i j theta later h first far after in omega (arith, a, b))
               | inr near ↦
-                  let is : j ≡ i + 1 = omega arith in
-                  let opens = opening_next w i in
-                  let at : release_of w j later ≡ release_of w (i + 1) later = ap (λ (n : ℕ). release_of w n later) is in
-                  let ends = next_near w i h.some_cost in
-                  let meet = shares_meet w i theta v later v h first (omega (arith, a, b, ends)) (omega (arith, a, b, ends)) (omega (arith, a, b, ends)) in
-                  let same : share_of w j later v ≡ share_of w (i + 1) later v = ap (λ (n : ℕ). share_of w n later v) is in
-                  omega arith
+                  grind (arith, opening_next, next_near, shares_meet)
             ]
       ]
     ]

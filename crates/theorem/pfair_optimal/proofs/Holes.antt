@@ -38,15 +38,7 @@ module _ (x : Run) (is : IsRun x) (td : ℕ) (missed : Subtask) (m : IsFirstMiss
   hole_ran z t hole h released follows = grind (arith, full_from)
 
   pub tight : (w : Subtask) (t : ℕ) → t < td → is_full x td missed t ≡ false → In (picks x td missed t) w → IsTight x w t
-  tight w t less hole h =
-      let row = picks_rows x is td missed m t w h in
-      let first = (is.rows_follow t w row).counted in
-      let early = in_time x is td missed m w t less row in
-      let released = (hole_pick x is td missed m t w less hole h).1 in
-      let ends = next_release x is w first in
-      let rise = is.offsets_rise w.task w.index first in
-      let small = b_bit_small x is w in
-      record { due = omega arith; bit = omega arith; next = omega arith; undelayed = omega arith }
+  tight w t less hole h = grind (arith, picks_rows, in_time, hole_pick, next_release, b_bit_small)
 
   -- in two holes running the next subtask of a pick is picked next
   pub cascade : (w : Subtask) (t : ℕ) → suc t < td → is_full x td missed t ≡ false → is_full x td missed (suc t) ≡ false → In (picks x td missed t) w → In (picks x td missed (suc t)) (next_of w)
@@ -80,7 +72,6 @@ module _ (x : Run) (is : IsRun x) (td : ℕ) (missed : Subtask) (m : IsFirstMiss
   -- the busy bound of what is picked in a hole is past the holes
   pub cascade_bound : (w : Subtask) (t v : ℕ) → t < v → v ≤ td → AreHoles t v → In (picks x td missed t) w → v < busy_bound x w
   cascade_bound w t v from to holes h =
-      let k = v - suc t in
       let here = tight w t (omega arith) (holes t (omega arith) from) h in
       let more = cascades w t (v - suc t) (omega arith) (λ u a b. holes u a (omega arith)) h in
       let last = tight (record { task = w.task; index = w.index + (v - suc t) }) (t + (v - suc t)) (omega arith) (holes (t + (v - suc t)) (omega arith) (omega arith)) more.0 in
@@ -126,15 +117,7 @@ module _ (x : Run) (is : IsRun x) (td : ℕ) (missed : Subtask) (m : IsFirstMiss
                 }
           ]
       before_hole s z less i rest (inr empty) =
-          let row = picks_rows x is td missed m s z i in
-          let next = hole_pick x is td missed m s z (omega arith) empty i in
-          let before : has_run x (previous_of (next_of z)) t ≡ true = subst (λ y. has_run x y t ≡ true) (sym (previous_next z)) (ran_by x z s t less row) in
-          let ran = hole_ran (next_of z) t hole next.0 (omega arith) (inr before) in
-          let p = reason_ran x is td missed m (next_of z) (suc t) (omega arith) next.0 ran in
-          let after = next_after x is z s p.0 row (picks_rows x is td missed m p.0 (next_of z) p.2) in
-          let that = rest p.0 (next_of z) after (omega arith) p.2 in
-          let up = next_deadline x is z (is.rows_follow s z row).counted in
-          record { due = omega arith; bit = λ e. absurd (omega arith); bound = λ e. absurd (omega arith) }
+          grind (arith, picks_rows, hole_pick, previous_next, ran_by, hole_ran, reason_ran, next_after, next_deadline)
 
   pub reached : (z : Subtask) (t v : ℕ) → t < v → v ≤ td → AreHoles t v → In (reasons x td missed) z → has_run x z (suc t) ≡ true → IsReached x t v z
   reached z t v from to holes h ran =
@@ -175,7 +158,6 @@ module _ (x : Run) (is : IsRun x) (td : ℕ) (missed : Subtask) (m : IsFirstMiss
           let counted = reason_index x is td missed m z h in
           let p = ran_at x (previous_of z) td ran in
           let early = in_time x is td missed m (previous_of z) p.0 p.1 p.2 in
-          let small = b_bit_small x is (previous_of z) in
           let late = next_release_late x is (previous_of z) (is.rows_follow p.0 (previous_of z) p.2).counted in
           let same : release x (next_of (previous_of z)) ≡ release x z = ap (release x) (next_previous z counted) in
           elim (cases_lt p.0 t) [
@@ -207,10 +189,4 @@ module _ (x : Run) (is : IsRun x) (td : ℕ) (missed : Subtask) (m : IsFirstMiss
 
   pub unserved_on : (a : Task) (u s v : ℕ) → u ≤ s → s < v → v ≤ td → AreHoles u v → is_served x td missed a u ≡ false → is_served x td missed a s ≡ false
   unserved_on a u zero v from to le holes alone = let e : u ≡ 0 = omega arith in subst (λ n. is_served x td missed a n ≡ false) e alone
-  unserved_on a u (suc s) v from to le holes alone =
-      elim (cases_eq u (suc s)) [
-        | inl same ↦ subst (λ n. is_served x td missed a n ≡ false) same alone
-        | inr other ↦
-            let before = unserved_on a u s v (omega (arith, other)) (omega arith) le holes alone in
-            unserved_next a s (omega arith) (holes s (omega (arith, other)) (omega arith)) (holes (suc s) from to) before
-      ]
+  unserved_on a u (suc s) v from to le holes alone = grind (arith, unserved_next, unserved_on a u s v)

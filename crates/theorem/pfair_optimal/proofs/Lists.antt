@@ -39,17 +39,11 @@ module _ {A : Type 0} (same : A → A → Bool) (exact : (a b : A) → (same a b
   -- some one passes a test
   pub any_from : (p : A → Bool) (xs : List A) (x : A) → is_among same xs x ≡ true → p x ≡ true → list_any p xs ≡ true
   any_from p [] x h e = absurd (false≢true h)
-  any_from p (y ∷ ys) x h e = ⊎_elim
-      (λ i. or_left (p y) (list_any p ys) (sym (ap p i) ∙ e))
-      (λ m. or_right (p y) (list_any p ys) (any_from p ys x m e))
-      (among_cases y ys x h)
+  any_from p (y ∷ ys) x h e = grind (arith, among_cases, any_from p ys x)
 
   pub any_some : (p : A → Bool) (xs : List A) → list_any p xs ≡ true → (x : A) × (is_among same xs x ≡ true) × (p x ≡ true)
   any_some p [] h = absurd (false≢true h)
-  any_some p (y ∷ ys) h = ⊎_elim
-      (λ e. (y, among_here ys y, e))
-      (λ m. (let t = any_some p ys m in (t.0, among_more y ys t.0 t.1, t.2)))
-      (or_cases (p y) (list_any p ys) h)
+  any_some p (y ∷ ys) h = grind (arith, among_here, among_more, any_some p ys)
 
   -- none twice
   pub twice_filter : (p : A → Bool) (xs : List A) → NoneTwice same xs → NoneTwice same (filter p xs)
@@ -58,5 +52,4 @@ module _ {A : Type 0} (same : A → A → Bool) (exact : (a b : A) → (same a b
 
   pub twice_append : (xs ys : List A) → NoneTwice same xs → NoneTwice same ys → ((x : A) → is_among same xs x ≡ true → is_among same ys x ≡ true → ⊥) → NoneTwice same (xs ++ ys)
   twice_append [] ys a b apart = b
-  twice_append (x ∷ xs) ys a b apart =
-      grind (arith, false_from_ne_true, among_here, among_append, among_more, twice_append xs ys a.1 b (λ z l r. apart z (among_more x xs z l) r))
+  twice_append (x ∷ xs) ys a b apart = grind (arith, among_here, among_append, among_more, twice_append xs ys a.1 b)

@@ -1,8 +1,8 @@
 -- Subtasks that are the same, and those that ran before a time.
-use Rattle.std.proofs.Common.{◌≡◌, ℕ, zero, suc, ◌+◌, ◌-◌, ◌<◌, ◌≤◌, true, false, arith, ⊎_elim}
+use Rattle.std.proofs.Common.{◌≡◌, ℕ, zero, suc, ◌+◌, ◌-◌, ◌<◌, ◌≤◌, true, false, arith}
 use Rattle.std.specs.Prelude.{◌↔◌}
 use Rattle.std.specs.Cmp.Lexicographic.{bytes_decides}
-use Rattle.std.proofs.lemmas.Bool.{false≢true, or_cases, or_left, or_right, and_parts, and_from, eqb-true, eq-eqb}
+use Rattle.std.proofs.lemmas.Bool.{false≢true, and_parts, and_from, eqb-true, eq-eqb}
 use Rattle.pfair_optimal.specs.Run.{Task, Subtask, same_task, same_subtask, next_of, previous_of, Run, is_row, has_run, IsRun}
 
 pub task_exact : (a b : Task) → (same_task a b ≡ true) ↔ (a ≡ b)
@@ -21,13 +21,11 @@ next_previous z some = let e : z.index - 1 + 1 ≡ z.index = omega arith in λ i
 -- what ran before a time is a row of an earlier slot
 pub ran_at : (x : Run) (z : Subtask) (t : ℕ) → has_run x z t ≡ true → (s : ℕ) × (s < t) × (is_row x s z ≡ true)
 ran_at x z zero h = absurd (false≢true h)
-ran_at x z (suc t) h =
-    ⊎_elim (λ before. (let p = ran_at x z t before in (p.0, omega arith, p.2))) (λ now. (t, omega arith, now)) (or_cases _ _ h)
+ran_at x z (suc t) h = grind (arith, ran_at x z t)
 
 pub ran_by : (x : Run) (z : Subtask) (s t : ℕ) → s < t → is_row x s z ≡ true → has_run x z t ≡ true
 ran_by x z s zero less row = absurd (omega arith)
-ran_by x z s (suc t) less row =
-    grind (arith, or_left, or_right, ran_by x z s t)
+ran_by x z s (suc t) less row = grind (arith, ran_by x z s t)
 
 -- what ran before a time ran before each later one
 pub ran_more : (x : Run) (z : Subtask) (s t : ℕ) → s ≤ t → has_run x z s ≡ true → has_run x z t ≡ true

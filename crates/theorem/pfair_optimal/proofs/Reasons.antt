@@ -4,11 +4,11 @@ use Rattle.std.proofs.Common.{◌≡◌, ℕ, zero, suc, ◌+◌, ◌-◌, ◌<�
 use Rattle.std.specs.Prelude.{◌⊎◌, ◌==◌, nat_le, filter}
 use Rattle.std.specs.List.{list_any}
 use Rattle.std.proofs.Math.Logic.{⊎_map}
-use Rattle.std.proofs.lemmas.Bool.{false_from_ne_true, true≢false, false≢true, or_cases, or_left, or_right, and_parts, and_from, eqb-true, eq-eqb, leb-true, le-leb, cases_lt, cases_Bool, not-true, not_from_false}
+use Rattle.std.proofs.lemmas.Bool.{false_from_ne_true, true≢false, false≢true, and_parts, and_from, leb-true, le-leb, cases_lt, cases_Bool}
 use Rattle.pfair_optimal.specs.Run.{Subtask, is_among, NoneTwice, same_subtask, next_of, previous_of, Run, release, deadline, is_row, has_run, IsRun, IsMiss, IsFirstMiss, GoesFirst}
 use Rattle.pfair_optimal.proofs.Lists.{among_here, among_cases, among_left, among_right, among_append, among_filter, filter_among, any_from, any_some, twice_filter, twice_append}
 use Rattle.pfair_optimal.proofs.Past.{subtask_exact, next_previous, ran_at, ran_by, ran_more, not_ran_less, row_not_before, next_not_run}
-use Rattle.pfair_optimal.proofs.RunWindows.{release_joined, release_before, next_deadline, first_bound}
+use Rattle.pfair_optimal.proofs.RunWindows.{release_joined, release_before, next_deadline}
 
 -- it is released by slot v, the one before it ran before v, and it has not run by the end of v
 pub record Waits (x : Run) (z : Subtask) (v : ℕ) : Type 0 where
@@ -20,20 +20,10 @@ abbrev pub waits : Run → ℕ → Subtask → Bool
 waits x v z = nat_le (release x z) v && (not (has_run x z (suc v)) && (z.index == 1 || has_run x (previous_of z) v))
 
 pub waits_true : (x : Run) (v : ℕ) (z : Subtask) → waits x v z ≡ true → Waits x z v
-waits_true x v z h =
-    let p = and_parts (nat_le (release x z) v) (not (has_run x z (suc v)) && (z.index == 1 || has_run x (previous_of z) v)) h in
-    let q = and_parts (not (has_run x z (suc v))) (z.index == 1 || has_run x (previous_of z) v) p.1 in
-    record {
-      released = leb-true (release x z) v p.0;
-      not_run = not-true (has_run x z (suc v)) q.0;
-      follows = ⊎_elim (λ e. inl (eqb-true z.index 1 e)) (λ r. inr r) (or_cases (z.index == 1) (has_run x (previous_of z) v) q.1);
-    }
+waits_true x v z h = grind arith
 
 pub waits_from : (x : Run) (v : ℕ) (z : Subtask) → Waits x z v → waits x v z ≡ true
-waits_from x v z h =
-    and_from (nat_le (release x z) v) (not (has_run x z (suc v)) && (z.index == 1 || has_run x (previous_of z) v)) (le-leb (release x z) v h.released)
-    (and_from (not (has_run x z (suc v))) (z.index == 1 || has_run x (previous_of z) v) (not_from_false (has_run x z (suc v)) h.not_run)
-    (⊎_elim (λ e. or_left (z.index == 1) (has_run x (previous_of z) v) (eq-eqb z.index 1 e)) (λ r. or_right (z.index == 1) (has_run x (previous_of z) v) r) h.follows))
+waits_from x v z h = grind arith
 
 -- the rows of slot v that those of q hang on
 abbrev pub is_wanted : Run → List Subtask → ℕ → Subtask → Bool
@@ -74,17 +64,7 @@ downward P td start step t le = go (td - t) t (omega arith)
 
 -- a row of a slot at or after its deadline missed it by then
 pub late_row : (x : Run) (is : IsRun x) (z : Subtask) (s : ℕ) → is_row x s z ≡ true → deadline x z ≤ s → IsMiss x s z
-late_row x is z s row late =
-    let next = is.rows_follow s z row in
-    let opens = release_before x is z next.counted in
-    let joined = release_joined x is z next.counted in
-    record {
-      some_time = omega arith;
-      active = is.active_since z.task (s - 1) s (omega arith) (omega arith) (is.rows_active s z row);
-      next = next;
-      not_run = row_not_before x is z s s row (omega arith);
-      late = late;
-    }
+late_row x is z s row late = grind (arith, release_before, release_joined, row_not_before)
 
 module _ (x : Run) (is : IsRun x) (td : ℕ) (missed : Subtask) (m : IsFirstMiss x td missed) where
   -- what ran before the first miss ran before its deadline
@@ -265,7 +245,6 @@ module _ (x : Run) (is : IsRun x) (td : ℕ) (missed : Subtask) (m : IsFirstMiss
       by_slot t less rest z here (inl full) =
           let w = full_some t full in
           let first = (full_rows w.0 t less w.1 w.2).1 z (picks_rows t z here) in
-          let bound = first_bound x is z w.0 first in
           let due = rest w.0 (reason_later w.0 t less w.1 w.2.not_run) in
           omega arith
       by_slot t less rest z here (inr hole) =

@@ -1,6 +1,5 @@
 -- Windows in a run.
-use Rattle.std.proofs.Common.{◌≡◌, ℕ, zero, suc, ◌+◌, ◌<◌, ◌≤◌, arith, ap, inl, inr}
-use Rattle.std.proofs.lemmas.Bool.{cases_lt}
+use Rattle.std.proofs.Common.{◌≡◌, ℕ, zero, suc, ◌+◌, ◌<◌, ◌≤◌, arith}
 use Rattle.pfair_weight.specs.WindowFacts.{window_not_empty, release_rises, deadline_rises_strictly, windows_overlap, b_bit_at_most_one}
 use Rattle.pfair_optimal.specs.Run.{Task, Subtask, next_of, Run, release, deadline, b_bit, busy_bound, IsRun, GoesFirst}
 
@@ -8,15 +7,7 @@ module _ (x : Run) (is : IsRun x) where
   -- offsets never fall
   pub offsets : (a : Task) (i j : ℕ) → 1 ≤ i → i ≤ j → x.offset a i ≤ x.offset a j
   offsets a i zero first le = absurd (omega arith)
-  offsets a i (suc j) first le =
-      elim (cases_lt i (suc j)) [
-        | inl less ↦
-            let before = offsets a i j first (omega arith) in
-            let step = is.offsets_rise a j (omega arith) in
-            let same : x.offset a (j + 1) ≡ x.offset a (suc j) = let e : j + 1 ≡ suc j = omega arith in ap (x.offset a) e in
-            omega arith
-        | inr all ↦ let e : i ≡ suc j = omega arith in let same : x.offset a i ≡ x.offset a (suc j) = ap (x.offset a) e in omega arith
-      ]
+  offsets a i (suc j) first le = grind (arith, offsets a i j first)
 
   -- the next window opens where this one closes less the b-bit, and the delay between them
   pub next_release : (z : Subtask) → 1 ≤ z.index → release x (next_of z) + b_bit x z + x.offset z.task z.index ≡ deadline x z + x.offset z.task (z.index + 1)
@@ -53,10 +44,6 @@ module _ (x : Run) (is : IsRun x) where
 
   pub next_deadline : (z : Subtask) → 1 ≤ z.index → deadline x z < deadline x (next_of z)
   next_deadline z first = deadlines z.task z.index (z.index + 1) first (omega arith)
-
-  -- the busy bound is at least the deadline and the b-bit
-  pub busy_late : (z : Subtask) → deadline x z + b_bit x z ≤ busy_bound x z
-  busy_late z = omega arith
 
   -- of two with one deadline and b-bit 1 the one that goes first is bound no earlier
   pub first_bound : (w z : Subtask) → GoesFirst x w z → (deadline x w ≤ deadline x z) × (deadline x w ≡ deadline x z → b_bit x z ≡ 1 → (b_bit x w ≡ 1) × (busy_bound x z ≤ busy_bound x w))

@@ -1,7 +1,7 @@
 -- The shares that one task's subtasks have of a slot.
 use Rattle.std.proofs.Common.{◌≡◌, ℕ, suc, ◌+◌, ◌-◌, ◌<◌, ◌≤◌, true, false, cond, [], ◌∷◌, arith, ap, refl, sym, ◌∙◌, subst, inl, inr, ⊎_elim}
 use Rattle.std.specs.Prelude.{◌⊎◌}
-use Rattle.std.proofs.lemmas.Bool.{true≢false, cases_lt, cases_eq, cases_order}
+use Rattle.std.proofs.lemmas.Bool.{true≢false, cases_lt, cases_eq}
 use Rattle.std.proofs.Math.Nat.{lt_of_not-le}
 use Rattle.pfair_weight.specs.Window.{release_of}
 use Rattle.pfair_optimal.specs.Fluid.{share_of}
@@ -10,7 +10,7 @@ use Rattle.pfair_optimal.proofs.Fluids.{share_in_window, shares_fit, shares_meet
 use Rattle.pfair_optimal.proofs.BusyBounds.{busy_opens}
 use Rattle.pfair_optimal.proofs.Lists.{among_here, among_more}
 use Rattle.pfair_optimal.proofs.Past.{task_exact, subtask_exact, ran_by, ran_more}
-use Rattle.pfair_optimal.proofs.RunWindows.{offsets, release_joined, releases, deadlines, busy_late}
+use Rattle.pfair_optimal.proofs.RunWindows.{offsets, release_joined, releases, deadlines}
 use Rattle.pfair_optimal.proofs.Reasons.{picks, reasons, is_full, In, picks_rows, reason_index, reason_cases, later_twice}
 use Rattle.pfair_optimal.proofs.Holes.{is_served, AreHoles, IsUnserved, unserved, unserved_on, reached}
 use Rattle.pfair_optimal.proofs.Totals.{total, total_some, total_among}
@@ -31,11 +31,7 @@ subtask_of a i = record { task = a; index = i }
 
 -- what rises with the index is met at one index alone
 rising_once : (f : ℕ → ℕ) → ((i j : ℕ) → 1 ≤ i → i < j → f i < f j) → (i j : ℕ) → 1 ≤ i → 1 ≤ j → f i ≡ f j → i ≡ j
-rising_once f up i j first first' e = elim (cases_order i j) [
-  | inl same ↦ same
-  | inr (inl less) ↦ absurd (let higher = up i j first less in omega arith)
-  | inr (inr more) ↦ absurd (let lower = up j i first' more in omega arith)
-]
+rising_once f up i j first first' e = grind arith
 
 -- what is above 0 is the task's own
 pub own : (x : Run) (a : Task) (v : ℕ) (z : Subtask) → 0 < own_share x a v z → (z.task ≡ a) × (0 < share x z v)
@@ -122,19 +118,13 @@ module _ (x : Run) (is : IsRun x) (td : ℕ) (missed : Subtask) (m : IsFirstMiss
                   elim (cases_lt j i) [
                     | inr from ↦ from
                     | inl before ↦ absurd (
-                        let low = reason_index x is td missed m (subtask_of a j) h in
-                        let close = near a v j i low s one in
-                        let at : j ≡ i - 1 = omega (arith, close, before) in
-                        let same : share x (subtask_of a j) v ≡ share x (subtask_of a (i - 1)) v = ap (λ (n : ℕ). share x (subtask_of a n) v) at in
-                        omega (arith, s, same, none))
+                        grind (arith, reason_index, near))
                   ])
               | inl also ↦ at_or_after (i - 1) (omega arith) also (λ j h s.
                   elim (cases_lt j (i - 1)) [
                     | inr from ↦ from
                     | inl before ↦ absurd (
-                        let low = reason_index x is td missed m (subtask_of a j) h in
-                        let close = near a v j i low s one in
-                        omega (arith, close, before))
+                        grind (arith, reason_index, near))
                   ])
             ]
           ]
@@ -158,7 +148,6 @@ module _ (x : Run) (is : IsRun x) (td : ℕ) (missed : Subtask) (m : IsFirstMiss
       let first = reason_index x is td missed m (subtask_of a p.0) p.1 in
       let inside = share_inside (subtask_of a p.0) t first p.2 in
       let joined = release_joined x is (subtask_of a p.0) first in
-      let bound = busy_late x is (subtask_of a p.0) in
       ⊎_elim
       (λ e. is.active_members a t (is.active_since a t (td - 1) (omega arith) (omega arith) (subst (λ (w : Subtask). x.is_active w.task (td - 1) ≡ true) (sym e) m.miss.active)))
       (λ (q : (v : ℕ) × (v < td) × In (picks x td missed v) (subtask_of a p.0)).
@@ -177,7 +166,6 @@ module _ (x : Run) (is : IsRun x) (td : ℕ) (missed : Subtask) (m : IsFirstMiss
     where
       by : (i : ℕ) → In (reasons x td missed) (subtask_of a i) → 0 < share x (subtask_of a i) u → 1 ≤ i → IsLeft a u v
       by i h one first =
-          let y : Subtask = subtask_of a i in
           let inside = share_inside (subtask_of a i) u first one in
           let here = unserved x is td missed m (subtask_of a i) u (omega arith) (holes u (omega arith) from) h inside.0 inside.1 alone in
           let that = reached x is td missed m (subtask_of a i) u v from (omega arith) holes h (ran_more x (subtask_of a i) u (suc u) (omega arith) here.ran) in
@@ -212,7 +200,6 @@ module _ (x : Run) (is : IsRun x) (td : ℕ) (missed : Subtask) (m : IsFirstMiss
                     let at = released p.0 p.1 p.2 in
                     let first_p = reason_index x is td missed m (subtask_of a p.0) p.1 in
                     let inside = share_inside (subtask_of a p.0) v first_p p.2 in
-                    let closes = inside.1 in
                     let one = shares_one a v p.0 (λ j k s. rising_once (λ n. release x (subtask_of a n)) (releases x is a) j p.0 (reason_index x is td missed m (subtask_of a j) k) first_p (released j k s ∙ sym at)) in
                     let after : i < p.0 = lt_of_not-le (λ le.
                     elim (cases_eq i p.0) [

@@ -1,5 +1,5 @@
 -- Sums over lists.
-use Rattle.std.proofs.Common.{◌≡◌, ℕ, ◌+◌, ◌*◌, ◌<◌, ◌≤◌, Bool, true, false, cond, not, List, [], ◌∷◌, ◌++◌, length, arith, ap, refl, sym, ◌∙◌, subst, inl, inr}
+use Rattle.std.proofs.Common.{◌≡◌, ℕ, ◌+◌, ◌*◌, ◌<◌, ◌≤◌, Bool, true, false, cond, not, List, [], ◌∷◌, length, arith, ap, refl, sym, ◌∙◌, subst, inl, inr}
 use Rattle.std.specs.Prelude.{◌↔◌, ◌⊎◌, filter, sum_by}
 use Rattle.std.proofs.lemmas.List.Sums.{sum_by-cons}
 use Rattle.std.proofs.lemmas.Bool.{true≢false, false≢true, cases_lt, cases_Bool, not_from_false}
@@ -23,10 +23,6 @@ module _ {A : Type 0} where
   total_times k f [] = omega arith
   total_times k f (x ∷ xs) = let rest = total_times k f xs in omega arith
 
-  pub total_append : (f : A → ℕ) (xs ys : List A) → total f (xs ++ ys) ≡ total f xs + total f ys
-  total_append f [] ys = omega arith
-  total_append f (x ∷ xs) ys = let rest = total_append f xs ys in omega arith
-
   pub total_constant : (k : ℕ) (xs : List A) → total (λ _. k) xs ≡ length xs * k
   total_constant k [] = omega arith
   total_constant k (x ∷ xs) = let rest = total_constant k xs in omega arith
@@ -45,10 +41,6 @@ module _ {A : Type 0} where
   total_none (x ∷ xs) = let rest = total_none xs in omega arith
 
 module _ {A : Type 0} (same : A → A → Bool) (exact : (a b : A) → (same a b ≡ true) ↔ (a ≡ b)) where
-  pub total_le : (f g : A → ℕ) (xs : List A) → ((a : A) → is_among same xs a ≡ true → f a ≤ g a) → total f xs ≤ total g xs
-  total_le f g [] h = omega arith
-  total_le f g (x ∷ xs) h = let here = h x (among_here same exact xs x) in let rest = total_le f g xs (λ a i. h a (among_more same exact x xs a i)) in omega arith
-
   pub total_same : (f g : A → ℕ) (xs : List A) → ((a : A) → is_among same xs a ≡ true → f a ≡ g a) → total f xs ≡ total g xs
   total_same f g [] h = refl
   total_same f g (x ∷ xs) h = let here = h x (among_here same exact xs x) in let rest = total_same f g xs (λ a i. h a (among_more same exact x xs a i)) in omega arith
@@ -69,13 +61,7 @@ module _ {A : Type 0} (same : A → A → Bool) (exact : (a b : A) → (same a b
 
   total_without : (f : A → ℕ) (a : A) (xs : List A) → is_among same xs a ≡ true → f a + total f (filter (λ b. not (same a b)) xs) ≤ total f xs
   total_without f a [] h = absurd (false≢true h)
-  total_without f a (x ∷ xs) h = by (same a x) refl (total_others_le f a xs) (λ i. total_without f a xs i) (among_cases same exact x xs a h)
-    where
-      by : (b : Bool) → same a x ≡ b → total f (filter (λ b. not (same a b)) xs) ≤ total f xs → (is_among same xs a ≡ true → f a + total f (filter (λ b. not (same a b)) xs) ≤ total f xs)
-          → (a ≡ x) ⊎ (is_among same xs a ≡ true) → f a + total f (cond (not b) (x ∷ filter (λ b. not (same a b)) xs) (filter (λ b. not (same a b)) xs)) ≤ f x + total f xs
-      by true e rest more c = let is : f a ≡ f x = ap f ((exact a x).0 e) in omega arith
-      by false e rest more (inl i) = absurd (true≢false (sym ((exact a x).1 i) ∙ e))
-      by false e rest more (inr i) = let r = more i in omega arith
+  total_without f a (x ∷ xs) h = grind (arith, total_others_le, among_cases, total_without f a xs)
 
   -- if all terms above 0 stand in another list, the sum is at most the sum over that list
   pub total_among : (f : A → ℕ) (xs ys : List A) → NoneTwice same xs → ((a : A) → is_among same xs a ≡ true → 0 < f a → is_among same ys a ≡ true) → total f xs ≤ total f ys
@@ -101,9 +87,4 @@ module _ {A : Type 0} (same : A → A → Bool) (exact : (a b : A) → (same a b
 
   pub total_one : (k : ℕ) (b : A) (xs : List A) → NoneTwice same xs → is_among same xs b ≡ true → total (λ a. cond (same b a) k 0) xs ≡ k
   total_one k b [] apart h = absurd (false≢true h)
-  total_one k b (x ∷ xs) apart h = by (same b x) refl (λ i. total_one k b xs apart.1 i) (among_cases same exact x xs b h)
-    where
-      by : (t : Bool) → same b x ≡ t → (is_among same xs b ≡ true → total (λ a. cond (same b a) k 0) xs ≡ k) → (b ≡ x) ⊎ (is_among same xs b ≡ true) → cond t k 0 + total (λ a. cond (same b a) k 0) xs ≡ k
-      by true e more c = let rest = total_zero k b xs (subst (λ (n : A). is_among same xs n ≡ false) (sym ((exact b x).0 e)) apart.0) in omega arith
-      by false e more (inl i) = absurd (true≢false (sym ((exact b x).1 i) ∙ e))
-      by false e more (inr i) = let rest = more i in omega arith
+  total_one k b (x ∷ xs) apart h = grind (arith, among_cases, total_zero, total_one k b xs apart.1)

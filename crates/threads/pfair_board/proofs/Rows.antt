@@ -17,8 +17,7 @@ use Rattle.pfair_board.specs.Sinks.{has_kept}
 
 -- the same work of a row that is known by other names
 pub work_moves : {K : Type 0} (has : K → ℕ → List Table → Type 0) (m : _) (b b' : BoardFrame) (r r' : LoggedRun) (k k' : ℕ) (w : Worked K) → b ≡ b' → r ≡ r' → k ≡ k' → IsWorkOf has m b r k w → IsWorkOf has m b' r' k' w
-work_moves has m b b' r r' k k' w eb er ek h =
-    subst (λ j. IsWorkOf has m b' r' j w) ek (subst (λ x. IsWorkOf has m b' x k w) er (subst (λ x. IsWorkOf has m x r k w) eb h))
+work_moves has m b b' r r' k k' w eb er ek h = grind (arith)
 
 -- nothing stands in an empty list
 pub none_in_empty : {A : Type 0} (xs : List A) (k : ℕ) (x : A) → xs ≡ [] → slice_get xs k ≡ Some x → ⊥

@@ -1,12 +1,12 @@
 -- What desks hold are entries of set cells, as they stand.
-use Rattle.std.proofs.Common.{ℕ, ◌≡◌, refl, sym, ap, ◌∙◌, subst, inl, inr, Bool, true, false, List, [], ◌∷◌, Option, Some, None}
+use Rattle.std.proofs.Common.{arith, ℕ, ◌≡◌, refl, sym, ◌∙◌, subst, inl, inr, Bool, true, false, List, [], ◌∷◌, Option, Some, None}
 use Rattle.std.specs.Prelude.{◌⊎◌, ◌≢◌, ◌==◌, ◌&&◌, unwrap_or, if◌then◌else◌}
 use Rattle.std.specs.List.{AllByRecursion}
 use Rattle.std.proofs.lemmas.Bool.{eqb-true, and_parts}
 use Rattle.pfair_lattice.specs.Held.{HeldBelow}
 use Rattle.pfair_lattice.specs.declared.flat.Flat.{Flat}
 use Rattle.pfair_lattice.specs.declared.flat.Flat.TheVariants.{One, Torn}
-use Rattle.pfair_lattice.specs.HeldLaws.{join_least, none_below, below_itself, below_trans}
+use Rattle.pfair_lattice.specs.HeldLaws.{join_least, none_below, below_trans}
 use Rattle.pfair_entry.specs.Entry.{Logged, IsEntry}
 use Rattle.pfair_entry.specs.Same.{entry_eq}
 use Rattle.pfair_entry.specs.Exact.{entry_exact}
@@ -21,31 +21,11 @@ UnderCells held cells = (k n : ℕ) → HeldBelow (held k n) (one_of (cells k n)
 
 -- setting a cell changes no cell that is set
 set_keeps : (cells : ℕ → ℕ → Option Logged) (j m : ℕ) (e : Logged) (k n : ℕ) → HeldBelow (one_of (cells k n)) (one_of (set_cell cells j m e k n))
-set_keeps cells j m e k n = by (k == j && n == m) refl
-  where
-    on : (o : Option Logged) → HeldBelow (one_of o) (one_of (Some (unwrap_or o e)))
-    on None = none_below _
-    on (Some f) = below_itself _
-
-    by : (b : Bool) → (k == j && n == m) ≡ b → HeldBelow (one_of (cells k n)) (one_of (if b then Some (unwrap_or (cells j m) e) else cells k n))
-    by true p =
-        (let q = and_parts (k == j) (n == m) p in
-        let ek = eqb-true k j q.0 in
-        let en = eqb-true n m q.1 in
-        subst (λ o. HeldBelow (one_of (cells k n)) (one_of (Some (unwrap_or o e)))) (λ i. cells (ek i) (en i)) (on (cells k n)))
-    by false p = below_itself _
+set_keeps cells j m e k n = grind arith
 
 -- the entry of a cell is below the cells
 only_below : (cells : ℕ → ℕ → Option Logged) (j m : ℕ) (e : Logged) → cells j m ≡ Some e → UnderCells (only j m e) cells
-only_below cells j m e is k n = by (k == j) (n == m) refl refl
-  where
-    by : (b c : Bool) → (k == j) ≡ b → (n == m) ≡ c → HeldBelow (if b then (if c then Some (One e) else None) else None) (one_of (cells k n))
-    by true true p q =
-        (let ek = eqb-true k j p in
-        let en = eqb-true n m q in
-        subst (λ o. HeldBelow (Some (One e)) o) (sym (ap one_of ((λ i. cells (ek i) (en i)) ∙ is))) (below_itself (Some (One e))))
-    by true false p q = none_below _
-    by false c p q = none_below _
+only_below cells j m e is k n = grind arith
 
 read_below : (cells : ℕ → ℕ → Option Logged) (held : Contents) (j m : ℕ) → UnderCells held cells → UnderCells (with_cell held j m (cells j m)) cells
 read_below cells held j m under = by (cells j m) refl

@@ -1,7 +1,5 @@
 -- How many keys are newly held.
 use Rattle.std.proofs.Common.{◌≡◌, ℕ, zero, suc, ◌+◌, ◌-◌, ◌<◌, ◌≤◌, Bool, true, false, not, cond, ◌&&◌, is_some, is_none, Some, None, IsSome, length, inl, inr, refl, sym, ap, ◌∙◌, subst, arith}
-use Rattle.std.specs.Prelude.{◌==◌}
-use Rattle.std.proofs.lemmas.Bool.{cases_Bool, eqb-true, eqb-false}
 use Rattle.std.proofs.lemmas.Option.{slice_get_cases}
 use Rattle.pfair_lattice.specs.declared.flat.Flat.{Flat}
 use Rattle.pfair_lattice.specs.declared.flat.Flat.TheVariants.{One}
@@ -14,28 +12,17 @@ use Rattle.pfair_replica.specs.HeldAfter.{held_after}
 use Rattle.pfair_desk.specs.Desks.{DeskView, DeskState, state_of, learned}
 use Rattle.pfair_desk.specs.Gained.{is_gained, gained_in_row, gained_in_rows, SameDesk, NoGapInRow}
 
-pub same_gained : (x y z : Replica) (k n : ℕ) → y.at k n ≡ z.at k n → is_gained x y k n ≡ is_gained x z k n
-same_gained x y z k n is = ap (λ h. not (is_some (x.at k n)) && is_some h) is
-
-pub same_missing : (w x y : Replica) (k n : ℕ) → w.at k n ≡ x.at k n → is_gained w y k n ≡ is_gained x y k n
-same_missing w x y k n is = ap (λ h. not (is_some h) && is_some (y.at k n)) is
-
 none_gained : (f g : Held Logged) → f ≡ g → (not (is_some f) && is_some g) ≡ false
 none_gained None g is = rw (← is) refl
 none_gained (Some f) g is = refl
 
 pub row_alike : (x y w z : Replica) (k n : ℕ) → ((j : ℕ) → 1 ≤ j → j ≤ n → is_gained x y k j ≡ is_gained w z k j) → gained_in_row x y k n ≡ gained_in_row w z k n
 row_alike x y w z k zero at = refl
-row_alike x y w z k (suc n) at =
-    let rest : gained_in_row x y k n ≡ gained_in_row w z k n = row_alike x y w z k n (λ j a b. at j a (omega arith)) in
-    ap (λ m. m + cond (is_gained x y k (suc n)) 1 0) rest ∙ ap (λ b. gained_in_row w z k n + cond b 1 0) (at (suc n) (omega arith) (omega arith))
+row_alike x y w z k (suc n) at = grind (arith, row_alike x y w z k n)
 
 pub rows_alike : (x y z : Replica) (m : ℕ) → y.capacity ≡ z.capacity → ((k n : ℕ) → k < m → y.at k n ≡ z.at k n) → gained_in_rows x y m ≡ gained_in_rows x z m
 rows_alike x y z zero same at = refl
-rows_alike x y z (suc k) same at =
-    let rest : gained_in_rows x y k ≡ gained_in_rows x z k = rows_alike x y z k same (λ i n below. at i n (omega arith)) in
-    let row : gained_in_row x y k z.capacity ≡ gained_in_row x z k z.capacity = row_alike x y x z k z.capacity (λ j a b. same_gained x y z k j (at k j (omega arith))) in
-    ap (λ m. m + gained_in_row x y k y.capacity) rest ∙ (ap (λ c. gained_in_rows x z k + gained_in_row x y k c) same ∙ ap (λ m. gained_in_rows x z k + m) row)
+rows_alike x y z (suc k) same at = grind (arith, row_alike, rows_alike x y z k same)
 
 -- nothing is gained past the place where the two hold the same
 pub row_rest : (x y : Replica) (k m d : ℕ) → ((j : ℕ) → m < j → y.at k j ≡ x.at k j) → gained_in_row x y k (m + d) ≡ gained_in_row x y k m
@@ -57,33 +44,17 @@ row_next x y k (suc n) le = let same : n ≡ suc n - 1 = omega arith in ap (λ m
 pub same_trans : (a b c : DeskView) → SameDesk a b → SameDesk b c → SameDesk a c
 same_trans a b c p q = record { processor = q.processor ∙ p.processor; next_number = q.next_number ∙ p.next_number; cells = q.cells ∙ p.cells; processors = q.processors ∙ p.processors; capacity = q.capacity ∙ p.capacity }
 
-pub no_gap_alike : (x y z : Replica) (k : ℕ) → ((n : ℕ) → y.at k n ≡ z.at k n) → NoGapInRow x y k → NoGapInRow x z k
-no_gap_alike x y z k same gap n j none some a b = subst (λ h. IsSome h) (same j) (gap n j none (subst (λ h. IsSome h) (sym (same n)) some) a b)
-
 -- one row after another
 pub no_gap_on : (old now new : Replica) (row : ℕ) → ((n : ℕ) → now.at row n ≡ old.at row n) → ((k n : ℕ) → (k ≡ row → ⊥) → new.at k n ≡ now.at k n)
     → ((k : ℕ) → NoGapInRow old now k) → NoGapInRow now new row → (k : ℕ) → NoGapInRow old new k
-no_gap_on old now new row same others before mine k = elim (cases_Bool (k == row)) [
-  | inl here ↦ subst (NoGapInRow old new) (sym (eqb-true k row here)) (λ n j none some a b. mine n j (same n ∙ none) some a b)
-  | inr apart ↦ no_gap_alike old now new k (λ n. sym (others k n (eqb-false k row apart))) (before k)
-]
+no_gap_on old now new row same others before mine k = grind arith
 
 pub same_learned : (d new : DeskView) (p m : ℕ) (e : Logged) → state_of new ≡ learned (state_of d) p m e → SameDesk d new
-same_learned d new p m e is = record {
-  processor = ap (λ (x : DeskState). x.processor) is;
-  next_number = ap (λ (x : DeskState). x.next_number) is;
-  cells = ap (λ (x : DeskState). x.cells) is;
-  processors = ap (λ (x : DeskState). x.replica.processors) is;
-  capacity = ap (λ (x : DeskState). x.replica.capacity) is;
-}
+same_learned d new p m e is = grind arith
 
 pub look_other : (d new : DeskView) (p m : ℕ) (e : Logged) → state_of new ≡ learned (state_of d) p m e → (k n : ℕ) → ((k ≡ p) × (n ≡ m) → ⊥)
     → held new.replica k n ≡ held d.replica k n
 look_other d new p m e is k n apart = ap (λ (x : DeskState). x.replica.at k n) is ∙ held_after.other (replica_of d.replica) p m e k n apart
-
-pub gained_now : (old now new : Held Logged) (f : Flat Logged) → now ≡ old → new ≡ Some f → (not (is_some old) && is_some new) ≡ is_none now
-gained_now None now new f same some = rw (same, some) refl
-gained_now (Some g) now new f same some = rw same refl
 
 pub is_some_some : (h : Held Logged) (f : Flat Logged) → h ≡ Some f → IsSome h
 is_some_some h f is = rw is refl
@@ -91,15 +62,11 @@ is_some_some h f is = rw is refl
 -- what stays in a row that was looked at one number further
 pub row_step : (old now new : Replica) (p m : ℕ) (f : Flat Logged) → 1 ≤ m → now.at p m ≡ old.at p m → new.at p m ≡ Some f → ((n : ℕ) → n < m → new.at p n ≡ now.at p n)
     → gained_in_row old new p m ≡ gained_in_row old now p (m - 1) + cond (is_none (now.at p m)) 1 0
-row_step old now new p m f one same some below =
-    let before : gained_in_row old new p (m - 1) ≡ gained_in_row old now p (m - 1) = row_alike old new old now p (m - 1) (λ j a b. same_gained old new now p j (below j (omega arith))) in
-    row_next old new p m one ∙ (ap (λ c. c + cond (is_gained old new p m) 1 0) before ∙ ap (λ b. gained_in_row old now p (m - 1) + cond b 1 0) (gained_now (old.at p m) (now.at p m) (new.at p m) f same some))
+row_step old now new p m f one same some below = grind (arith, row_alike, row_next)
 
 -- nothing is gained at a number at which both hold the same
 pub row_same : (old now : Replica) (p m : ℕ) → 1 ≤ m → now.at p m ≡ old.at p m → gained_in_row old now p m ≡ gained_in_row old now p (m - 1)
-row_same old now p m one same =
-    let nothing : gained_in_row old now p (m - 1) + 0 ≡ gained_in_row old now p (m - 1) = omega arith in
-    row_next old now p m one ∙ (ap (λ b. gained_in_row old now p (m - 1) + cond b 1 0) (none_gained (old.at p m) (now.at p m) (sym same)) ∙ nothing)
+row_same old now p m one same = grind (arith, row_next)
 
 -- each number of a sound beginning is held
 pub beginning_held : IsReadByNumber → (x : Replica) (k j : ℕ) → 1 ≤ j → j < length (sound_beginning x k) + 1 → IsSome (x.at k j)

@@ -1,7 +1,6 @@
 -- A list seen through a function of its elements, after a push or a write.
-use Rattle.std.proofs.Common.{◌≡◌, ℕ, ◌+◌, ◌<◌, List, [], ◌∷◌, ◌++◌, length, map, take, Option, Some, None, slice_index_or, slice_set, replicate, sym, ap, ◌∙◌, ⊎_elim, arith, IfSome}
-use Rattle.std.proofs.lemmas.Bool.{cases_lt}
-use Rattle.std.proofs.lemmas.List.{get_or_past, map-append, take_more, replicate_more, get_or-map, length-map, map-set}
+use Rattle.std.proofs.Common.{◌≡◌, ℕ, ◌+◌, ◌<◌, List, [], ◌∷◌, ◌++◌, length, map, take, Option, Some, None, slice_index_or, slice_set, replicate, sym, ap, ◌∙◌, arith, IfSome}
+use Rattle.std.proofs.lemmas.List.{map-append, take_more, replicate_more, get_or-map, length-map, map-set}
 use Rattle.std.proofs.Math.Seq.{map-set_same}
 use Rattle.std.proofs.Math.ListN.{get_or-map as seen_or}
 use Rattle.once_cell.specs.declared.race.note.Note.{Note}
@@ -22,8 +21,7 @@ names_push f g ns n cs i cell so_far within is same =
     map-append f ns (n ∷ []) ∙ (ap (λ l. l ++ f n ∷ []) so_far ∙ (ap (λ y. take i (map g cs) ++ y ∷ []) (sym at) ∙ sym (take_more (map g cs) i 0 long)))
 
 pub blank_push : {N X : Type 0} (f : N → Option X) (ns : List N) (n : N) (i : ℕ) → map f ns ≡ replicate i None → f n ≡ None → map f (ns ++ n ∷ []) ≡ replicate (i + 1) None
-blank_push f ns n i so_far none =
-    map-append f ns (n ∷ []) ∙ (ap (λ l. l ++ f n ∷ []) so_far ∙ (ap (λ y. replicate i None ++ y ∷ []) none ∙ replicate_more i None))
+blank_push f ns n i so_far none = grind (arith, map-append, replicate_more)
 
 -- what stands at a place, through the function
 pub seen_at : {N X : Type 0} (f : N → X) (ns : List N) (p : ℕ) (n : N) (z : X) → p < length ns → n ≡ slice_index_or ns p n → slice_index_or (map f ns) p z ≡ f n
@@ -34,40 +32,17 @@ pub alike_at : {N M X : Type 0} (f : N → X) (g : M → X) (ns : List N) (ms : 
     → n ≡ slice_index_or ns p n → m ≡ slice_index_or ms p m → f n ≡ g m
 alike_at f g ns ms p n m alike a b is_n is_m = sym (seen_at f ns p n (f n) a is_n) ∙ (ap (λ l. slice_index_or l p (f n)) alike ∙ seen_at g ms p m (f n) b is_m)
 
--- a write that the function cannot tell
-pub write_unseen : {N X : Type 0} (f : N → X) (ns : List N) (p : ℕ) (n m : N) → n ≡ slice_index_or ns p n → f m ≡ f n → map f (slice_set ns p m) ≡ map f ns
-write_unseen f ns p n m is same = map-set_same f ns p m n (same ∙ ap f is)
-
--- a write, through the function
-pub write_seen : {N X : Type 0} (f : N → X) (ns : List N) (p : ℕ) (m : N) (x : X) → f m ≡ x → map f (slice_set ns p m) ≡ slice_set (map f ns) p x
-write_seen f ns p m x is = map-set f ns p m ∙ ap (slice_set (map f ns) p) is
-
 -- what a note list says after one note was put in the place of another of its cell
 pub view_learned : (ns : List (Note Logged)) (p : ℕ) (n m : Note Logged) (e : Logged) → n ≡ slice_index_or ns p n → m.cell ≡ n.cell → m.known ≡ Some e
     → says (slice_set ns p m) ≡ knowing (says ns) p e
-view_learned ns p n m e is cell known = λ i. record { cells = write_unseen (λ x. x.cell) ns p n m is cell i; known = write_seen (λ x. x.known) ns p m (Some e) known i }
+view_learned ns p n m e is cell known = grind (arith, map-set_same, map-set)
 
 pub view_same : (ns : List (Note Logged)) (p : ℕ) (n m : Note Logged) → n ≡ slice_index_or ns p n → m.cell ≡ n.cell → m.known ≡ n.known
     → says (slice_set ns p m) ≡ says ns
-view_same ns p n m is cell known = λ i. record { cells = write_unseen (λ x. x.cell) ns p n m is cell i; known = write_unseen (λ x. x.known) ns p n m is known i }
+view_same ns p n m is cell known = grind (arith, map-set_same)
 
 pub unknown_at : (ns : List (Note Logged)) (p : ℕ) (n : Note Logged) → n ≡ slice_index_or ns p n → n.known ≡ None → slice_index_or (says ns).known p None ≡ None
 unknown_at ns p n is none = ap (λ z. slice_index_or (says ns).known p z) (sym none) ∙ (seen_or (λ x. x.known) ns p n ∙ (ap (λ x. x.known) (sym is) ∙ none))
-
--- two notes at one place of lists with the same cells are of one cell
-pub one_cell : (ns ms : List (Note Logged)) (p : ℕ) (n m : Note Logged) → (says ns).cells ≡ (says ms).cells → p < length (says ns).cells
-    → n ≡ slice_index_or ns p n → m ≡ slice_index_or ms p m → n.cell ≡ m.cell
-one_cell ns ms p n m alike within is_n is_m =
-    let a : p < length ns = omega (arith, length-map ns (λ (x : Note Logged). x.cell)) in
-    let same : length (says ns).cells ≡ length (says ms).cells = ap length alike in
-    let b : p < length ms = omega (arith, length-map ms (λ (x : Note Logged). x.cell)) in
-    alike_at (λ x. x.cell) (λ x. x.cell) ns ms p n m alike a b is_n is_m
-
-pub known_at : (ns : List (Note Logged)) (p : ℕ) (n : Note Logged) (e : Logged) → n ≡ slice_index_or ns p n → slice_index_or (says ns).known p None ≡ Some e → n.known ≡ Some e
-known_at ns p n e is known =
-    ⊎_elim (λ within. sym (seen_at (λ x. x.known) ns p n None within is) ∙ known)
-    (λ past. let none : slice_index_or (says ns).known p None ≡ None = get_or_past (says ns).known p None (omega (arith, length-map ns (λ (x : Note Logged). x.known))) in absurd (cc (none, known)))
-    (cases_lt p (length ns))
 
 -- a note list after one note learned what another of its cell knows: it knows no less
 pub more_told : (ns : List (Note Logged)) (p : ℕ) (n m : Note Logged) (theirs : Option Logged) → p < length ns → n ≡ slice_index_or ns p n → m.cell ≡ n.cell → m.known ≡ told n.known theirs

@@ -1,16 +1,16 @@
-use Rattle.std.proofs.Common.{option_map}
+use Rattle.std.proofs.Common.{arith, option_map}
 use Rattle.pfair_entry.specs.Notice.{noticed}
-use Rattle.pfair_entry_row.proofs.RowFields.{is_said, no_fields, no_floor, no_notice, no_number, no_processor}
+use Rattle.pfair_entry_row.proofs.RowFields.{says, parts-entry_row, eleven, is_said, no_floor}
 use Rattle.pfair_entry_row.proofs.line.read_line.Goals as goal
 
 pub returns-in_err-fields : goal.returns-in_err-fields
-returns-in_err-fields c = rw c.from_residual.ensures (no_fields c.args.row.now c.in_err-fields.ensures)
+returns-in_err-fields c = grind (arith, parts-entry_row, eleven)
 
 pub returns-in_err-processor : goal.returns-in_err-processor
-returns-in_err-processor c = rw c.from_residual-in_err-processor.ensures (no_processor c.args.row.now c.in_ok-fields.fields c.in_ok-fields.ensures.1 c.in_err-processor.ensures)
+returns-in_err-processor c = grind (arith, says)
 
 pub returns-in_err-number : goal.returns-in_err-number
-returns-in_err-number c = rw c.from_residual-in_err-number.ensures (no_number c.args.row.now c.in_ok-fields.fields c.in_ok-fields.ensures.1 c.in_err-number.ensures)
+returns-in_err-number c = grind (arith, says)
 
 pub returns-in_err-floor : goal.returns-in_err-floor
 returns-in_err-floor c = rw c.from_residual-in_err-floor.ensures (no_floor c.args.row.now c.in_ok-fields.fields c.in_ok-fields.ensures.1 c.in_err-floor.ensures)
@@ -19,7 +19,7 @@ pub read_notice-requires : goal.read_notice-requires
 read_notice-requires c = c.in_ok-fields.ensures.0
 
 pub returns-in_err-notice : goal.returns-in_err-notice
-returns-in_err-notice c = rw c.from_residual-in_err-notice.ensures (no_notice c.args.row.now c.in_ok-fields.fields c.in_ok-fields.ensures.1 c.in_err-notice.ensures)
+returns-in_err-notice c = grind (arith, says)
 
 pub returns : goal.returns
 returns c =

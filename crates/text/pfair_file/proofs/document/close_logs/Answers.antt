@@ -1,4 +1,4 @@
-use Rattle.std.proofs.Common.{ℕ, List, ◌≡◌, ◌∙◌, ◌<◌, length, get_or, sym, ap, arith, set, Vec, Global}
+use Rattle.std.proofs.Common.{ℕ, List, ◌≡◌, ◌∙◌, ◌<◌, length, get_or, arith, set, Vec, Global}
 use Rattle.std.proofs.lemmas.List.{get_or-map, length-map, map-set}
 use Rattle.std.proofs.lemmas.List.Edits.{map_over_more}
 use Rattle.std.specs.Vec.{with_item}
@@ -11,10 +11,7 @@ use Rattle.pfair_file.proofs.document.close_logs.Goals as goal
 logs-written : (logs : Vec (Vec Logged Global) Global) (i : ℕ) (old new : Vec Logged Global) (f : List Logged → List Logged) → i < length logs.items
     → old ≡ get_or logs.items i old → new.items ≡ f old.items
     → (lists_of (with_item logs i new).items ≡ set (lists_of logs.items) i (f old.items)) × (old.items ≡ get_or (lists_of logs.items) i old.items)
-logs-written logs i old new f within at written = (
-  map-set (λ (l : Vec Logged Global). l.items) logs.items i new ∙ ap (set (lists_of logs.items) i) written,
-  ap (λ (l : Vec Logged Global). l.items) at ∙ sym (get_or-map (λ l. l.items) logs.items i old old.items within),
-)
+logs-written logs i old new f within at written = grind (arith, map-set, get_or-map)
 
 pub loop-i-preserved : goal.loop-i-preserved
 loop-i-preserved c =

@@ -1,4 +1,4 @@
-use Rattle.std.proofs.Common.{ℕ, List, Result, Ok, Err, ◌≡◌, ◌∙◌, ◌<◌, [], length, set, sym, ap, refl, arith, rules, get_or, Vec, Global}
+use Rattle.std.proofs.Common.{ℕ, Result, Ok, Err, ◌≡◌, ◌∙◌, ◌<◌, [], length, set, sym, ap, arith, get_or, Vec, Global}
 use Rattle.std.specs.Prelude.{IfErr, OnOk, ◌≢◌}
 use Rattle.std.proofs.lemmas.Grind.{common_steps}
 use Rattle.std.proofs.lemmas.List.{length-map, get_or-map, map-set}
@@ -24,8 +24,7 @@ longer_there : (logs : Vec (Vec Logged Global) Global) (version place : ℕ) (ta
     → made_at version (length (lists_of logs.items)) place table ≡ Ok made → (r : Result (Unit {0}) FileFault)
     → OnOk r (longer_log made.processor log.items made.entry ≡ Ok new.items)
     → OnOk r (with_entry version place (lists_of logs.items) table ≡ Ok (lists_of (set logs.items made.processor new)))
-longer_there logs version place table made log new within at read (Ok x) longer =
-    rw (read, log_there logs made.processor log within at, longer, map-set (λ (l : Vec Logged Global). l.items) logs.items made.processor new) refl
+longer_there logs version place table made log new within at read (Ok x) longer = grind (arith, log_there, map-set)
 longer_there logs version place table made log new within at read (Err e) longer = longer
 
 -- if the table's entry is refused
@@ -35,16 +34,13 @@ refused_there : (logs : Vec (Vec Logged Global) Global) (version place : ℕ) (t
     → IfErr r (λ f. f ≢ Memory → longer_log made.processor log.items made.entry ≡ Err f)
     → IfErr r (λ f. f ≢ Memory → with_entry version place (lists_of logs.items) table ≡ Err f)
 refused_there logs version place table made log within at read (Ok x) refused = refused
-refused_there logs version place table made log within at read (Err e) refused =
-    λ other. rw (read, log_there logs made.processor log within at, refused other) refl
+refused_there logs version place table made log within at read (Err e) refused = grind (arith, log_there)
 
 within : (c : After-append) → c.in_ok-made.made.processor < length c.args.logs.now.items
 within c = grind (arith, common_steps)
 
 read : (c : After-append) → made_at c.args.version (length (lists_of c.args.logs.now.items)) c.args.place (table_view c.args.table.now) ≡ Ok c.in_ok-made.made
-read c =
-    let size : length (lists_of c.args.logs.now.items) ≡ c.len.result = grind (arith, common_steps, length-map {A = Vec Logged Global} {B = List Logged}) in
-    rw size (search rules)
+read c = grind (arith, common_steps, length-map)
 
 pub returns-clause-ok : goal.returns-clause-ok
 returns-clause-ok c =
@@ -52,6 +48,4 @@ returns-clause-ok c =
     longer_there c.args.logs.now c.args.version c.args.place (table_view c.args.table.now) c.in_ok-made.made c.index_mut.result.now c.append.new.log (within at) c.index_mut.ensures.value (read at) c.append.result c.append.ensures.ok
 
 pub returns-clause-fault : goal.returns-clause-fault
-returns-clause-fault c =
-    let at = (goal.at.returns-clause-fault c).After-append in
-    refused_there c.args.logs.now c.args.version c.args.place (table_view c.args.table.now) c.in_ok-made.made c.index_mut.result.now (within at) c.index_mut.ensures.value (read at) c.append.result c.append.ensures.fault
+returns-clause-fault c = grind (arith, common_steps, refused_there, within, read)

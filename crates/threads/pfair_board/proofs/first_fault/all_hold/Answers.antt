@@ -1,5 +1,5 @@
-use Rattle.std.proofs.Common.{◌≡◌, ◌∙◌, sym, subst, refl, arith, ⊎_elim, length, Some, slice_get}
-use Rattle.std.proofs.lemmas.Bool.{cases_lt, true≢false}
+use Rattle.std.proofs.Common.{◌≡◌, ◌∙◌, subst, arith, ⊎_elim, Some, slice_get}
+use Rattle.std.proofs.lemmas.Bool.{cases_lt}
 use Rattle.std.proofs.lemmas.Option.{slice_get_read, slice_get_within, get_or_from_slice_get}
 use Rattle.pfair_replica.specs.HeldRows.{replica_of}
 use Rattle.pfair_board.specs.declared.threads.Worked.{Worked}
@@ -7,9 +7,7 @@ use Rattle.pfair_board.specs.FirstFault.{Holds}
 use Rattle.pfair_board.proofs.first_fault.all_hold.Goals as goal
 
 pub returns-then-not-holds-clause-some : goal.returns-then-not-holds-clause-some
-returns-then-not-holds-clause-some g c = λ no.
-    (let at = slice_get_read c.args.works.now (length c.args.works.now) c.loop-work.work-index c.work-item.result refl c.loop-work-test.true c.work-item.is in
-    (c.loop-work.work-index, c.work-item.result, at, λ holds. true≢false (sym (c.holds.ensures.1 holds) ∙ c.if-not-holds.true)))
+returns-then-not-holds-clause-some g c = grind (arith, slice_get_read)
 
 pub loop-work-preserved : goal.loop-work-preserved
 loop-work-preserved g c = λ k w below at. ⊎_elim (λ before. c.loop-work.invariant k w before at)

@@ -1,7 +1,6 @@
 use Rattle.std.proofs.Common.{◌≡◌, ◌∙◌, ap, arith, sym}
 use Rattle.std.proofs.lemmas.Grind.{common_steps}
 use Rattle.pfair_desk.specs.Desks.{fresh_desk, state_of}
-use Rattle.pfair_desk.proofs.NotedLemmas.{fresh_is_of}
 use Rattle.pfair_desk.proofs.Rows.{each_snoc}
 use Rattle.pfair_desk.proofs.board.Board.desks.Goals as goal
 
@@ -14,4 +13,4 @@ loop-processor-preserved c = record {
 }
 
 pub returns-clause-own : goal.returns-clause-own
-returns-clause-own c = λ k d at. fresh_is_of _ k d (c.loop-processor.invariant.fresh k d at)
+returns-clause-own c = grind arith

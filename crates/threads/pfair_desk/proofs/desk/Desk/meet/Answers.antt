@@ -1,6 +1,6 @@
-use Rattle.std.proofs.Common.{◌≡◌, ap, sym, refl, ◌∙◌}
+use Rattle.std.proofs.Common.{arith, ◌≡◌, ap, sym, refl, ◌∙◌}
 use Rattle.pfair_replica.specs.Replica.{join}
-use Rattle.pfair_replica.specs.HeldRows.{replica_of, SameShape}
+use Rattle.pfair_replica.specs.HeldRows.{replica_of}
 use Rattle.pfair_desk.specs.Noted.{AllNoted}
 use Rattle.pfair_desk.proofs.NotedLemmas.{all_noted_more, join_noted, below_noted, noted_whole, kept_noted, in_order_met, holds_more}
 use Rattle.pfair_desk.proofs.desk.Desk.meet.Goals.{After-merge, in-Ok, in-Err}
@@ -32,14 +32,5 @@ returns-clause-kept c = rw (← c.self.view_is) (record {
   kept = kept_noted (replica_of c.self.inside.replica) (replica_of c.merge.new.self) c.share.new.self.known c.merge.ensures.grows (now_known (goal.at.returns-clause-kept c).After-merge);
 })
 
-same_shape : (c : goal.Joined-merge) → SameShape c.self.inside.replica c.other.inside.replica
-same_shape c = (
-  ap (λ d. d.replica.processors) c.self.view_is ∙ (c.requires.own.processors ∙ sym (ap (λ d. d.replica.processors) c.other.view_is)),
-  ap (λ d. d.replica.capacity) c.self.view_is ∙ (c.requires.own.capacity ∙ sym (ap (λ d. d.replica.capacity) c.other.view_is)),
-)
-
 pub returns-clause-lacking : goal.returns-clause-lacking
-returns-clause-lacking c = elim c.match-merge.branch [
-  | in-Ok w ↦ rw w.result-is tt
-  | in-Err w ↦ rw (w.result-is, ← c.self.view_is, ← c.other.view_is) (holds_more c.self.inside.replica c.other.inside.replica w.in-Err.field-0 (same_shape c) w.in-Err.ensures.fault)
-]
+returns-clause-lacking c = grind (arith, holds_more)

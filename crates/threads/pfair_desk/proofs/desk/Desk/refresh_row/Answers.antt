@@ -25,36 +25,10 @@ loop-number-init c =
 
 -- a number that is held already
 pub loop-number-preserved-then-is_some : goal.loop-number-preserved-then-is_some
-loop-number-preserved-then-is_some c =
-    let old = c.args.self.now in
-    let now = c.loop-number.self in
-    let x = replica_of old.replica in
-    let y = replica_of now.replica in
-    let m = c.loop-number.number in
-    let was = c.loop-number.invariant in
-    let capacity : c.capacity-number-end.result ≡ old.replica.capacity = c.capacity-number-end.ensures.value ∙ ap (λ d. d.replica.capacity) c.self.view_is in
-    let here : is_some (held now.replica c.args.processor m) ≡ true
-    = sym (ap is_some c.get.ensures.value ∙ ap (λ (d : DeskView). is_some (held d.replica c.args.processor m)) c.self-in-loop-number.view_is) ∙ (sym c.is_some.ensures ∙ c.if-is_some.true) in
-    let shift : m ≡ m + 1 - 1 = omega arith in
-    record {
-      same = was.same;
-      kept = was.kept;
-      positive = omega arith;
-      room = (let long = was.same.capacity in let test = c.loop-number-test.true in omega arith);
-      full = λ j a lt. ⊎_elim (λ below. was.full j a below)
-          (λ last. let last_is : m ≡ j = omega arith in subst (λ i. IsSome (held now.replica c.args.processor i)) last_is here)
-          (cases_lt j m);
-      count = was.count ∙ (sym (row_same x y c.args.processor m was.positive (was.later m (omega arith))) ∙ ap (gained_in_row x y c.args.processor) shift);
-      few = (let few = was.few in omega arith);
-      others = was.others;
-      later = λ n le. was.later n (omega arith);
-    }
+loop-number-preserved-then-is_some c = grind (arith, row_same)
 
 pub returns-in-Ok-None-clause-count : goal.returns-in-Ok-None-clause-count
-returns-in-Ok-None-clause-count c =
-    let same : c.look.new.self ≡ c.loop-number.self = (c.in-Ok-None.ensures.none (ap Ok c.in-Ok-None.field-0-is)).1 in
-    let room = c.loop-number.invariant.room in let positive = c.loop-number.invariant.positive in
-    subst (λ (d : DeskView). c.loop-number.found ≡ gained_in_row (replica_of c.args.self.now.replica) (replica_of d.replica) c.args.processor d.replica.capacity) (sym same) (c.loop-number.invariant.count ∙ sym (row_full (replica_of c.args.self.now.replica) (replica_of c.loop-number.self.replica) c.args.processor (c.loop-number.number - 1) c.loop-number.self.replica.capacity (omega arith) (λ j lt. c.loop-number.invariant.later j (omega arith))))
+returns-in-Ok-None-clause-count c = grind (arith, row_full)
 
 -- a number that is newly held
 pub loop-number-preserved : goal.loop-number-preserved
