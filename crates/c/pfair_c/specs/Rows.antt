@@ -3,7 +3,7 @@ use Rattle.std.specs.Prelude.{ℕ, ◌≡◌, ◌≤◌, ◌<◌, Bool, ◌&&◌
 use Rattle.std.specs.Prelude.{List, length, map, slice_get, Option}
 use Rattle.std.specs.declared.option.Option.TheVariants.{None, Some}
 use Rattle.std.specs.Option.{option_map}
-use Rattle.pfair_table.specs.Places.{places_of}
+use Rattle.pfair_table.specs.Places.{places_in}
 use Rattle.pfair_handle.specs.declared.rows.PfairPick.{PfairPick}
 use Rattle.pfair_handle.specs.declared.rows.PfairDecided.{PfairDecided}
 use Rattle.pfair_handle.specs.declared.quanta.PfairQuantum.{PfairQuantum}
@@ -59,7 +59,7 @@ abbrev pub table_of : Dispatch → (slot : ℕ) → Option (List PfairPick)
 table_of d slot = option_map (map pick_row) (told_at d.forgotten d.tables slot)
 
 abbrev pub places_at : Dispatch → (slot : ℕ) → Option (List ℕ)
-places_at d slot = told_at d.forgotten (places_of d.tables) slot
+places_at d slot = told_at d.forgotten (places_in d.origin d.tables) slot
 
 abbrev pub decided_at : Dispatch → (slot : ℕ) → Option (List PfairDecided)
 decided_at d slot = option_map (map decided_row) (told_at d.forgotten d.decided slot)
@@ -67,7 +67,7 @@ decided_at d slot = option_map (map decided_row) (told_at d.forgotten d.decided 
 -- the quanta of the slots `from` to `to` - 1, if all of these are planned, and none is forgotten
 abbrev pub quanta_between : Dispatch → (from to : ℕ) → Option (List PfairQuantum)
 quanta_between d from to =
-    if are_told d.forgotten (length d.tables) from to then Some (quanta_of d.tables from to) else None
+    if are_told d.forgotten (length d.tables) from to then Some (quanta_of d.origin d.tables from to) else None
 
 -- the decisions of the slots `from` to `to` - 1, if all of these are planned, and none is forgotten
 abbrev pub decisions_between : Dispatch → (from to : ℕ) → Option (List PfairDecision)

@@ -5,13 +5,14 @@ use Rattle.std.proofs.lemmas.Grind.{div_ceil_times}
 use Rattle.std.proofs.lemmas.Nat.{mul-le}
 use Rattle.std.proofs.Math.Nat.{le_refl}
 use Rattle.pfair_weight.specs.Ratio.{Ratio}
+use Rattle.pfair_weight.specs.declared.window.TheConstants.{MAX_CLOSE}
 
 -- from x times p to y times p by what lies between
 pub grown : (x y p : ℕ) → x ≤ y → x * p + (y - x) * p ≡ y * p
 grown x y p h = grind arith
 
 -- the end of a cascade fits a word
-pub end_fits : (close room p : ℕ) → 0 < room → 0 < p → p ≤ 1000000000 → close ≤ 1000001000000000 → div_ceil (close * room) p * p < 2 ^ 63 * room
+pub end_fits : (close room p : ℕ) → 0 < room → 0 < p → p ≤ 1000000000 → close ≤ MAX_CLOSE → div_ceil (close * room) p * p < 2 ^ 63 * room
 end_fits close room p some hp small near = grind (arith, div_ceil_times, mul-le, le_refl)
 
 -- so many steps more

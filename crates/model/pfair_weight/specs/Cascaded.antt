@@ -3,6 +3,7 @@ use Rattle.std.specs.Prelude.{◌≡◌, ◌-◌, ◌*◌, ◌<◌, ◌≤◌}
 use Rattle.std.specs.Int.{div_ceil}
 use Rattle.pfair_weight.specs.Share.{IsWeight}
 use Rattle.pfair_weight.specs.Close.{Close}
+use Rattle.pfair_weight.specs.declared.window.TheConstants.{MAX_CLOSE}
 use Rattle.pfair_weight.specs.declared.cascade.Cascade.TheInside.{Inside}
 
 abbrev pub close_of : Inside → Close
@@ -11,7 +12,7 @@ close_of a = record { weight = a.weight; close = a.close }
 pub record IsCascaded (a : Inside) : Type 0 where
   pub weight : IsWeight a.weight.cost a.weight.period
   pub below_one : a.weight.cost < a.weight.period
-  pub range : a.close ≤ 1000001000000000
+  pub range : a.close ≤ MAX_CLOSE
   pub idle : a.idle ≡ record { numerator = a.close * (a.weight.period - a.weight.cost); denominator = a.weight.period }
   pub idle_step : a.idle_step ≡ record { numerator = a.weight.period - a.weight.cost; denominator = a.weight.period }
   pub end : a.end ≡ record { numerator = div_ceil (a.close * (a.weight.period - a.weight.cost)) a.weight.period * a.weight.period; denominator = a.weight.period - a.weight.cost }

@@ -4,6 +4,7 @@ ghost use Rattle.pfair_weight.specs.Window.{cascade_end};
 
 use crate::fraction::Fraction;
 use crate::weight::Weight;
+use crate::window::MAX_CLOSE;
 use std::marker::Model;
 
 /// Where the cascade of a heavy weight below 1 ends, for a window that closes later and later.
@@ -30,34 +31,29 @@ impl Model for Cascade {
 }
 
 impl Cascade {
-    /// Creates the cascade of a window that closes at `close`, in slots, at offset 0. It takes a
-    /// step for each slot up to there, so `close` should be small.
+    /// Creates the cascade of a window that closes at `close`, in slots, at offset 0.
     pub fn new(weight: Weight, close: u64) -> Self
         requires below_one { weight.cost < weight.period }
-        requires range { close ≤ 1000001000000000 }
+        requires range { close ≤ MAX_CLOSE }
         ensures { result ≡ record { weight = weight; close = close } }
     {
         let period = weight.period();
         let room = period - weight.cost();
-        let idle_step = Fraction::new(room, period);
-        let mut idle = Fraction::new(0, period);
-        idle.add_times(&idle_step, close);
-        let end_step = Fraction::new(period, room);
-        let mut end = Fraction::new(0, room);
-        end.add_times(&end_step, idle.ceiling());
+        let idle = Fraction::of_product(close, room, period);
+        let end = Fraction::of_product(idle.ceiling(), period, room);
         Cascade {
             weight,
             close,
             idle,
-            idle_step,
+            idle_step: Fraction::new(room, period),
             end,
-            end_step,
+            end_step: Fraction::new(period, room),
         }
     }
 
     /// Goes on to the window that closes so many slots later.
     pub fn advance(&mut self, slots: u64)
-        requires { self.old.close + slots ≤ 1000001000000000 }
+        requires { self.old.close + slots ≤ MAX_CLOSE }
         ensures { self.new ≡ record self.old { close = self.old.close + slots } }
     {
         let before = self.idle.ceiling();

@@ -25,7 +25,7 @@ impl Model for Fraction {
 }
 
 impl Fraction {
-    /// Creates `numerator` over `denominator`, by the only division.
+    /// Creates `numerator` over `denominator`.
     pub fn new(numerator: u64, denominator: u64) -> Self
         requires { 0 < denominator }
         ensures { result ≡ record { numerator = numerator; denominator = denominator } }
@@ -33,6 +33,20 @@ impl Fraction {
         Fraction {
             whole: numerator / denominator,
             rest: numerator % denominator,
+            denominator,
+        }
+    }
+
+    /// Creates `factor * numerator` over `denominator`. The product may need more than 64 bits.
+    pub fn of_product(factor: u64, numerator: u64, denominator: u64) -> Self
+        requires some_denominator { 0 < denominator }
+        requires small { IsSmall record { numerator = factor * numerator; denominator = denominator } }
+        ensures { result ≡ record { numerator = factor * numerator; denominator = denominator } }
+    {
+        let product = factor as u128 * numerator as u128;
+        Fraction {
+            whole: (product / denominator as u128) as u64,
+            rest: (product % denominator as u128) as u64,
             denominator,
         }
     }

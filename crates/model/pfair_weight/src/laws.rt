@@ -10,7 +10,7 @@ use crate::window::{MAX_INDEX, MAX_OFFSET};
 
 /// How far windows are counted, how long a period is and how long a name is at most.
 pub fn limits()
-    ensures index { MAX_INDEX ≡ 1000001 }
+    ensures index { MAX_INDEX ≡ 2000001 }
     ensures offset { MAX_OFFSET ≡ 2 ^ 40 }
     ensures period { Weight.MAX_PERIOD ≡ 1000000000 }
     ensures name { TaskName.MAX_LEN ≡ 16 }

@@ -23,7 +23,7 @@ pub(crate) enum Group {
 /// Points at one subtask of a weight, at an offset, and goes from it to the next.
 ///
 /// Its readers return what the calls of [`crate::window`] return for this subtask and offset. Each
-/// call is O(1), and only the first one, [`Stepper::new`], divides.
+/// call is O(1), and only [`Stepper::new`] and [`Stepper::at`] divide.
 #[derive(Debug, Drop)]
 pub struct Stepper {
     weight: Weight,
@@ -56,8 +56,18 @@ impl Stepper {
         requires { theta ≤ MAX_OFFSET }
         ensures { result ≡ record { weight = weight; index = 1; theta = theta } }
     {
+        Stepper::at(weight, 1, theta)
+    }
+
+    /// Creates a stepper at subtask `index`, at the offset `theta` in slots.
+    pub fn at(weight: Weight, index: u64, theta: u64) -> Self
+        requires first { 1 ≤ index }
+        requires last { index ≤ MAX_INDEX }
+        requires offset { theta ≤ MAX_OFFSET }
+        ensures { result ≡ record { weight = weight; index = index; theta = theta } }
+    {
         let (cost, period) = (weight.cost(), weight.period());
-        let served = Fraction::new(period, cost);
+        let served = Fraction::new(index * period, cost);
         let group = if !weight.is_heavy() {
             Group::Light
         } else if cost == period {
@@ -67,9 +77,9 @@ impl Stepper {
         };
         Stepper {
             weight,
-            index: 1,
+            index,
             theta,
-            opened: 0,
+            opened: (index - 1) * period / cost,
             served,
             served_step: Fraction::new(period, cost),
             group,
@@ -119,7 +129,7 @@ impl Stepper {
     /// Returns the slot in which the subtask's window opens, as [`crate::release`].
     pub fn release(&self) -> u64
         ensures value { result ≡ release_of self.now.weight self.now.index self.now.theta }
-        ensures within { result < 2 ^ 50 }
+        ensures within { result < 2 ^ 51 }
         ensures position { IsPosition self.now }
     {
         self.opened + self.theta
@@ -128,7 +138,7 @@ impl Stepper {
     /// Returns the slot before which the subtask's window closes, as [`crate::deadline`].
     pub fn deadline(&self) -> u64
         ensures value { result ≡ deadline_of self.now.weight self.now.index self.now.theta }
-        ensures within { result < 2 ^ 50 }
+        ensures within { result < 2 ^ 51 }
         ensures position { IsPosition self.now }
     {
         self.served.ceiling() + self.theta
@@ -146,7 +156,7 @@ impl Stepper {
     /// Returns the subtask's group deadline, as [`crate::group_deadline`].
     pub fn group_deadline(&self) -> u64
         ensures value { result ≡ group_deadline_of self.now.weight self.now.index self.now.theta }
-        ensures within { result < 2 ^ 50 }
+        ensures within { result < 2 ^ 51 }
         ensures position { IsPosition self.now }
     {
         match &self.group {

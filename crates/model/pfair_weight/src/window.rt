@@ -9,10 +9,13 @@ ghost use Rattle.pfair_weight.specs.Window.{release_of, deadline_of, b_bit_of, g
 use crate::weight::Weight;
 
 /// The last subtask whose window can be asked for.
-pub const MAX_INDEX: u64 = 1_000_001;
+pub const MAX_INDEX: u64 = 2_000_001;
 
 /// The greatest offset, in slots.
 pub const MAX_OFFSET: u64 = 1_099_511_627_776;
+
+// The last slot before which a window closes at offset 0.
+pub(crate) const MAX_CLOSE: u64 = MAX_INDEX * Weight::MAX_PERIOD;
 
 /// Returns the slot in which the window of subtask `index` opens: `theta` and the whole slots of
 /// (index - 1) * period / cost, rounded down (Baruah, Cohen, Plaxton and Varvel, 1996).
@@ -21,7 +24,7 @@ pub fn release(weight: Weight, index: u64, theta: u64) -> u64
     requires last { index ≤ MAX_INDEX }
     requires offset { theta ≤ MAX_OFFSET }
     ensures value { result ≡ release_of weight index theta }
-    ensures within { result < 2 ^ 50 }
+    ensures within { result < 2 ^ 51 }
     ensures weight { IsWeight weight.cost weight.period }
 {
     theta + (index - 1) * weight.period() / weight.cost()
@@ -35,7 +38,7 @@ pub fn deadline(weight: Weight, index: u64, theta: u64) -> u64
     requires last { index ≤ MAX_INDEX }
     requires offset { theta ≤ MAX_OFFSET }
     ensures value { result ≡ deadline_of weight index theta }
-    ensures within { result < 2 ^ 50 }
+    ensures within { result < 2 ^ 51 }
     ensures weight { IsWeight weight.cost weight.period }
 {
     theta + (index * weight.period()).div_ceil(weight.cost())
@@ -67,7 +70,7 @@ pub fn group_deadline(weight: Weight, index: u64, theta: u64) -> u64
     requires last { index ≤ MAX_INDEX }
     requires offset { theta ≤ MAX_OFFSET }
     ensures value { result ≡ group_deadline_of weight index theta }
-    ensures within { result < 2 ^ 50 }
+    ensures within { result < 2 ^ 51 }
     ensures weight { IsWeight weight.cost weight.period }
 {
     if !weight.is_heavy() {
@@ -94,7 +97,7 @@ pub fn starts_job(weight: Weight, index: u64) -> bool
 // 0. The products need more than 64 bits.
 fn end_of_cascade(weight: Weight, close: u64) -> u64
     requires below_one { weight.cost < weight.period }
-    requires close_in_range { close ≤ 1000001000000000 }
+    requires close_in_range { close ≤ MAX_CLOSE }
     ensures value { result ≡ cascade_end weight close }
     ensures within { result ≤ close + weight.period }
 {

@@ -11,7 +11,7 @@ type Window = (u64, u64, u64, u64);
 
 fn window(weight: Weight, index: u64, theta: u64) -> Window
     requires first { 1 ≤ index }
-    requires last { index ≤ 1000001 }
+    requires last { index ≤ 2000001 }
     requires offset { theta ≤ 1099511627776 }
 {
     (
@@ -35,8 +35,8 @@ fn read(stepper: &Stepper) -> Window {
 fn the_last_window_of_the_longest_period(rt: HostRuntime) {
     let weight = Weight::new(1, 1_000_000_000).expect(&rt, "a weight");
     assert_eq!(&rt;
-        window(weight, 1_000_001, 0),
-        (1_000_000_000_000_000, 1_000_001_000_000_000, 0, 0)
+        window(weight, 2_000_001, 0),
+        (2_000_000_000_000_000, 2_000_001_000_000_000, 0, 0)
     );
 }
 

@@ -5,6 +5,7 @@ use Rattle.pfair_weight.specs.Rounding.{div_ceil_rises}
 use Rattle.std.proofs.lemmas.Nat.{mul-le}
 use Rattle.std.proofs.Math.Nat.{le_refl}
 use Rattle.pfair_weight.specs.Close.{Close}
+use Rattle.pfair_weight.specs.declared.window.TheConstants.{MAX_CLOSE}
 use Rattle.pfair_weight.proofs.Cascades.{grown, end_fits, more_of, more_between, ceiling_is}
 use Rattle.pfair_weight.proofs.cascade.Cascade.advance.Goals as goal
 use Rattle.pfair_weight.proofs.cascade.Cascade.advance.Goals.{After-ceiling}
@@ -19,7 +20,7 @@ ceiling_next c = ceiling_is c.add_times.new.self _ _ c.ceiling.result (idle_next
 ceiling_before : (c : After-ceiling) → c.ceiling-before.result ≡ div_ceil (c.self.inside.close * (c.self.inside.weight.period - c.self.inside.weight.cost)) c.self.inside.weight.period
 ceiling_before c = ceiling_is c.self.inside.idle _ _ c.ceiling-before.result c.self.invariant.idle c.ceiling-before.ensures
 
-range : (c : After-ceiling) → c.self.inside.close + c.args.slots ≤ 1000001000000000
+range : (c : After-ceiling) → c.self.inside.close + c.args.slots ≤ MAX_CLOSE
 range c = let same = ap (λ (x : Close). x.close) c.self.view_is in omega (arith, c.requires)
 
 rises : (c : After-ceiling) → c.ceiling-before.result ≤ c.ceiling.result
