@@ -10,8 +10,8 @@ use Rattle.pfair_entry.specs.declared.announcement.Announcement.{Announcement}
 use Rattle.pfair_entry.specs.Said.{Said}
 use Rattle.pfair_admission.specs.declared.decision.Decision.{Decision}
 use Rattle.pfair_admission.specs.declared.delay.Delay.{Delay}
-use Rattle.pfair_entry.specs.declared.entry.TheConstants.Entry.{LAST_SLOT, LONGEST_DELAY}
-use Rattle.pfair_admission.specs.declared.members.TheConstants.Members.{MAX_HEARD}
+use Rattle.pfair_entry.specs.declared.entry.TheConstants.Entry.{LONGEST_DELAY}
+use Rattle.pfair_admission.specs.declared.members.TheConstants.Members.{LAST_SLOT, MAX_HEARD}
 use Rattle.pfair_admission.specs.Member.{Member, last_offset}
 use Rattle.pfair_admission.specs.Admission.{Machine, change, newcomer, with_freeing, with_delay, with_quantum, effect, is_freed, present, decision, decided, all_decided, all_decisions, announcements, ran}
 use Rattle.pfair_admission.specs.Roster.{EachBounded, EachHasRoom}

@@ -131,7 +131,7 @@ own_fits m i = let part = sum_filter (λ (d : Delay). d.by) (at i) m.delays in o
 
 -- ---- what is kept beside the delays
 
-at_key : (k q : ℕ) → map.is_at (nat_cmp k) q ≡ (k == q)
+pub at_key : (k q : ℕ) → map.is_at (nat_cmp k) q ≡ (k == q)
 at_key k q = by (nat_lt k q) refl (k == q) refl
   where
     by : (b : Bool) → nat_lt k q ≡ b → (c : Bool) → (k == q) ≡ c → is_eq (cond b Less (cond c Equal Greater)) ≡ c

@@ -1,5 +1,9 @@
 mod Boundaries
+pub mod CarriedAgain
+pub mod CarriedWindows
+pub mod Carrying
 mod Changes
+mod Coming
 pub mod Deciding
 pub mod Delays
 pub mod Each
@@ -9,5 +13,6 @@ mod Kept
 mod MemberLists
 pub mod NamesKept
 mod Registers
+pub mod Successors
 mod Sums
 mod Written

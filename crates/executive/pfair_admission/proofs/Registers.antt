@@ -19,7 +19,7 @@ use Rattle.pfair_admission.specs.Ledger.{has_number, is_there, IsFound, IsNamedI
 abbrev pub Names : Type 0
 Names = List (NameValue × ℕ)
 
-same_name : (name other : NameValue) → name_eq name other ≡ true → name ≡ other
+pub same_name : (name other : NameValue) → name_eq name other ≡ true → name ≡ other
 same_name name other = (bytes_decides name other).0
 
 -- ---- look-ups
@@ -113,7 +113,7 @@ number_of es (e ∷ names) name number h at =
     ]) refl at
 
 -- the number of one that counts is that of its name
-number_at : (counts : Member → Bool) (names : Names) (es : Numbered) (place : ℕ) (x : Member) → AllByRecursion (IsNamedIn counts names) es → slice_get (values_of es) place ≡ Some x → counts x ≡ true → slice_get (keys_of es) place ≡ lookup (name_eq x.name) names
+pub number_at : (counts : Member → Bool) (names : Names) (es : Numbered) (place : ℕ) (x : Member) → AllByRecursion (IsNamedIn counts names) es → slice_get (values_of es) place ≡ Some x → counts x ≡ true → slice_get (keys_of es) place ≡ lookup (name_eq x.name) names
 number_at counts names [] place x h at there = absurd (none-some x at)
 number_at counts names (e ∷ es) zero x h at there =
     let is : e.1 ≡ x = same_Some e.1 x at in
@@ -126,7 +126,7 @@ differs_at k (n ∷ ns) zero number h at = subst (λ x. nat_eq k x ≡ false) (s
 differs_at k (n ∷ ns) (suc place) number h at = differs_at k ns place number h.1 at
 
 -- a number is at one place
-one_place : (ns : List ℕ) (number place other : ℕ) → IsDistinct nat_eq ns → slice_get ns place ≡ Some number → slice_get ns other ≡ Some number → other ≡ place
+pub one_place : (ns : List ℕ) (number place other : ℕ) → IsDistinct nat_eq ns → slice_get ns place ≡ Some number → slice_get ns other ≡ Some number → other ≡ place
 unfolding IsDistinct
 one_place [] number place other unique here there = absurd (none-some number here)
 one_place (n ∷ ns) number zero zero unique here there = refl

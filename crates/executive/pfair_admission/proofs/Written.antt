@@ -42,10 +42,10 @@ filter_all (x ∷ ms) = ap (λ (l : List Member). x ∷ l) (filter_all ms)
 -- ---- names
 
 -- nobody who counts has the name
-abbrev AreOthers : (Member → Bool) → List ℕ → List Member → Type 0
+abbrev pub AreOthers : (Member → Bool) → List ℕ → List Member → Type 0
 AreOthers counts name ms = (i : ℕ) (x : Member) → slice_get ms i ≡ Some x → counts x ≡ true → is_named name x ≡ true → ⊥
 
-others_named : (counts : Member → Bool) (name : List ℕ) (ms : List Member) → AreOthers counts name ms → member_named (filter counts ms) name ≡ None
+pub others_named : (counts : Member → Bool) (name : List ℕ) (ms : List Member) → AreOthers counts name ms → member_named (filter counts ms) name ≡ None
 others_named counts name [] h = refl
 others_named counts name (x ∷ ms) h =
     (elim (counts x) as (λ b. counts x ≡ b → member_named (cond b (x ∷ filter counts ms) (filter counts ms)) name ≡ None) [

@@ -2,12 +2,14 @@
 use Rattle.std.specs.Prelude.{ℕ, ◌≡◌, ◌≢◌, ◌+◌, ◌-◌, ◌*◌, ◌<◌, ◌≤◌, true, false, List, length, AllPairs}
 use Rattle.std.specs.List.{AllByRecursion}
 use Rattle.pfair_weight.specs.Name.{NamesApart}
-use Rattle.pfair_weight.specs.Window.{release_of, starts_job_of}
+use Rattle.pfair_weight.specs.Share.{IsWeight}
+use Rattle.pfair_weight.specs.Window.{release_of, deadline_of, b_bit_of, group_deadline_of, starts_job_of}
 use Rattle.pfair_entry.specs.declared.announcement.Announcement.{Announcement}
 use Rattle.pfair_admission.specs.declared.decision.Decision.TheVariants.{Refused}
 use Rattle.pfair_admission.specs.declared.refusal.Refusal.{Refusal}
-use Rattle.pfair_admission.specs.Member.{Member, theta, busy_until, freeing_slot, is_delayed_at, eligible_from}
+use Rattle.pfair_admission.specs.Member.{Member, theta, busy_until, freeing_slot, is_delayed_at, eligible_from, next_key}
 use Rattle.pfair_admission.specs.Admission.{Machine, claimed, with_delay, decision, decided, boundary, boundary_decisions, ran}
+use Rattle.pfair_admission.specs.Carried.{carried, jobs_done, subtasks_done, CanBeCarried}
 use Rattle.pfair_admission.specs.Removal.{NoneFreed}
 
 -- a name stands once among the members
@@ -59,3 +61,24 @@ pub record EarlyReleaseKeepsBorders : Type 0 where
   pub else_joined : (m : Member) (i : ℕ) → m.early ≡ true → starts_job_of m.weight i ≡ false → is_delayed_at m i ≡ false → eligible_from m i ≡ m.joined
   pub no_later : (m : Member) (i : ℕ) → eligible_from m i ≤ release_of m.weight i (theta m i)
   pub joined : (m : Member) (i : ℕ) → m.joined ≤ eligible_from m i
+
+-- a member that is carried has run if it had, starts within its first job and the subtask after, and is carried again as it is
+pub record CarriedMembersStay : Type 0 where
+  pub ran : (m : Member) → 2 ≤ m.next → 2 ≤ (carried m).next
+  pub first_job : (m : Member) → 1 ≤ m.weight.cost → 1 ≤ m.next → (carried m).next ≤ m.weight.cost + 1
+  pub again : (m : Member) → carried (carried m) ≡ carried m
+  pub able : (m : Member) → CanBeCarried m → CanBeCarried (carried m)
+
+-- what is not over yet of a member that is carried stands where it stood: its last subtask that ran, and all later ones, are as
+-- many subtasks earlier as are done, and their windows lie in the same slots
+pub record CarryingKeepsWindows : Type 0 where
+  pub offsets : (m : Member) (j : ℕ) → 1 ≤ j → m.next ≤ j + subtasks_done m + 1 → theta (carried m) j ≡ theta m (j + subtasks_done m) + jobs_done m * m.weight.period
+  pub releases : (m : Member) (j : ℕ) → IsWeight m.weight.cost m.weight.period → 1 ≤ j → m.next ≤ j + subtasks_done m + 1 → release_of m.weight j (theta (carried m) j) ≡ release_of m.weight (j + subtasks_done m) (theta m (j + subtasks_done m))
+  pub deadlines : (m : Member) (j : ℕ) → IsWeight m.weight.cost m.weight.period → 1 ≤ j → m.next ≤ j + subtasks_done m + 1 → deadline_of m.weight j (theta (carried m) j) ≡ deadline_of m.weight (j + subtasks_done m) (theta m (j + subtasks_done m))
+  pub group_deadlines : (m : Member) (j : ℕ) → IsWeight m.weight.cost m.weight.period → 1 ≤ j → m.next ≤ j + subtasks_done m + 1 → group_deadline_of m.weight j (theta (carried m) j) ≡ group_deadline_of m.weight (j + subtasks_done m) (theta m (j + subtasks_done m))
+  pub b_bits : (m : Member) (j : ℕ) → IsWeight m.weight.cost m.weight.period → b_bit_of m.weight j ≡ b_bit_of m.weight (j + subtasks_done m)
+  pub starts : (m : Member) (j : ℕ) → 1 ≤ j → starts_job_of m.weight j ≡ starts_job_of m.weight (j + subtasks_done m)
+  pub delayed : (m : Member) (j : ℕ) → 2 ≤ j → m.next ≤ j + subtasks_done m → is_delayed_at (carried m) j ≡ is_delayed_at m (j + subtasks_done m)
+  pub next : (m : Member) → IsWeight m.weight.cost m.weight.period → 1 ≤ m.next → next_key (carried m) ≡ next_key m
+  pub busy : (m : Member) → IsWeight m.weight.cost m.weight.period → 2 ≤ m.next → busy_until (carried m) ((carried m).next - 1) ≡ busy_until m (m.next - 1)
+  pub freed : (m : Member) (t : ℕ) → IsWeight m.weight.cost m.weight.period → 1 ≤ m.next → freeing_slot (carried m) t ≡ freeing_slot m t

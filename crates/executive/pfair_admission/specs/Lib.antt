@@ -1,4 +1,5 @@
 pub mod Admission
+pub mod Carried
 pub mod Change
 pub mod Incarnation
 pub mod Laws

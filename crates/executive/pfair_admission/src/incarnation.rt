@@ -1,15 +1,20 @@
 //! One incarnation of a task: from its joining slot to its freeing slot.
-ghost use Rattle.std.specs.Prelude.{◌≡◌, ◌≤◌, ◌<◌, ◌+◌, Some, IfOk, OnOk, OnErr, nat_lt};
+ghost use Rattle.std.specs.Prelude.{◌≡◌, ◌≤◌, ◌<◌, ◌+◌, ◌-◌, ◌*◌, ◌↔◌, IsTrue, Some, IfOk, OnOk, OnErr, nat_lt};
 ghost use Rattle.pfair_weight.specs.Window.{release_of};
 ghost use Rattle.pfair_admission.specs.Member.{IsMember, last_offset, theta, is_departing, eligible_from, next_key, busy_until, freeing_slot};
 ghost use Rattle.pfair_admission.specs.Admission.{newcomer, with_delay, is_freed, departure, late_release, running, quantum_of};
+ghost use Rattle.pfair_admission.specs.Carried.{carried, jobs_done, CanBeCarried};
 ghost use Rattle.pfair_admission.specs.Change.{after_departure, after_late_release, after_quantum};
 ghost use Rattle.std.specs.Option.{option_map};
 
 use crate::decision::Decision;
-use crate::delay::{Delay, add_at, delay_up_to, is_delayed_at};
+use crate::delay::{
+    Delay, add_at, carried_delays, coming_after, delay_up_to, is_delayed_at, total_delay,
+};
+use crate::members::Members;
 use crate::quantum::Quantum;
 use crate::refusal::Refusal;
+use pfair_entry::Entry;
 use pfair_order::Key;
 use pfair_weight::{
     MAX_INDEX, MAX_OFFSET, Stepper, TaskName, Weight, b_bit, deadline, group_deadline, release,
@@ -275,6 +280,54 @@ impl Incarnation {
             next_from,
             next_key,
         })
+    }
+
+    /// Returns whether it can be a member of a next run: with its indexes lowered by whole jobs its
+    /// next index is at most 1,000,001, as it always is if the cost is at most 1,000,000, and its
+    /// offset after all delays at most [`Members::LAST_SLOT`]. O(d) for d accepted delays.
+    pub fn can_be_carried(&self) -> bool
+        ensures { IsTrue result ↔ CanBeCarried self.now }
+    {
+        let jobs = self.jobs_done();
+        let next = self.next() - jobs * self.weight.cost();
+        let offset = self.joined + total_delay(&self.delays) + jobs * self.weight.period();
+        next <= Entry::LAST_INDEX + 1 && offset <= Members::LAST_SLOT
+    }
+
+    /// The member of a next run, with its indexes lowered by whole jobs.
+    pub(crate) fn carried(&self, alloc: Global) -> Result<Incarnation, AllocError>
+        requires { CanBeCarried self.now }
+        ensures { IfOk result (λ m. m ≡ carried self.now) }
+    {
+        let jobs = self.jobs_done();
+        let subtasks = jobs * self.weight.cost();
+        let next = self.next() - subtasks;
+        let joined = self.joined + jobs * self.weight.period();
+        let delays = carried_delays(alloc, &self.delays, self.next(), subtasks)?;
+        let stepper = Stepper::at(self.weight, next, joined + delay_up_to(&delays, next));
+        let is_put_off = is_delayed_at(&delays, next);
+        let coming = coming_after(alloc, &delays, next)?;
+        Ok(Incarnation {
+            name: self.name,
+            weight: self.weight,
+            early: self.early,
+            joined,
+            delays,
+            stepper,
+            is_put_off,
+            coming,
+            freed_at: self.freed_at,
+        })
+    }
+
+    // The whole jobs before that of the last subtask that ran.
+    fn jobs_done(&self) -> u64
+        ensures value { result ≡ jobs_done self.now }
+        ensures subtasks { result * self.now.weight.cost ≤ self.now.next - 2 }
+        ensures slots { result * self.now.weight.period ≤ MAX_INDEX * Weight.MAX_PERIOD }
+        ensures member { IsMember self.now }
+    {
+        self.next().saturating_sub(2) / self.weight.cost()
     }
 
     // The slot from which its weight and its name are free if it departs at `slot`.

@@ -1,8 +1,8 @@
 //! The laws of members, for every machine, slot and list of members.
 //!
 //! Each function states one law and does nothing.
-ghost use Rattle.std.specs.Prelude.{◌≡◌};
-ghost use Rattle.pfair_admission.specs.Laws.{NamesStayApart, MembersKeepRoom, RefusalsChangeNothing, OrderIsKept, OneDecisionEach, DelaysMoveLaterSubtasks, LeaversHoldTheirClaim, EarlyReleaseKeepsBorders};
+ghost use Rattle.std.specs.Prelude.{◌≡◌, ◌-◌, ◌^◌};
+ghost use Rattle.pfair_admission.specs.Laws.{NamesStayApart, MembersKeepRoom, RefusalsChangeNothing, OrderIsKept, OneDecisionEach, DelaysMoveLaterSubtasks, LeaversHoldTheirClaim, EarlyReleaseKeepsBorders, CarriedMembersStay, CarryingKeepsWindows};
 
 use crate::members::Members;
 
@@ -53,9 +53,23 @@ pub fn early_release_keeps_borders()
     ensures { EarlyReleaseKeepsBorders }
 {}
 
-/// The most processors, the longest frame in slots, and the most announcements over all boundaries.
+/// A carried member has run if it had. Its next subtask is of its first job or the one after, and
+/// carried again it stays as it is.
+pub fn carried_members_stay()
+    ensures { CarriedMembersStay }
+{}
+
+/// Carrying a member moves none of its windows that are not over: those of its last subtask that
+/// ran and of all later ones, its next key, and the slot in which it is freed if it departs.
+pub fn carrying_keeps_windows()
+    ensures { CarryingKeepsWindows }
+{}
+
+/// The most processors, the longest frame in slots, the most announcements over all boundaries, and
+/// the last slot of a boundary.
 pub fn limits()
     ensures processors { Members.MAX_PROCESSORS ≡ 64 }
     ensures frame { Members.MAX_FRAME ≡ 1000000000 }
     ensures heard { Members.MAX_HEARD ≡ 262144 }
+    ensures slot { Members.LAST_SLOT ≡ 2 ^ 40 - 2 ^ 38 }
 {}

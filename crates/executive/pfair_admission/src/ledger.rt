@@ -1,5 +1,5 @@
 //! The members of a machine at the boundary of a slot, and the decisions on announcements.
-ghost use Rattle.std.specs.Prelude.{◌≡◌, ℕ, ◌≤◌, ◌<◌, ◌+◌, ◌-◌, ◌*◌, ◌^◌, Bool, true, false, [], filter, nat_eq, OnOk, OnErr, IfOk, IfSome, IfNone, None, Some, length, take};
+ghost use Rattle.std.specs.Prelude.{◌≡◌, ℕ, ◌≤◌, ◌<◌, ◌+◌, ◌-◌, ◌*◌, ◌^◌, Bool, true, false, [], filter, nat_eq, OnOk, OnErr, IfOk, IfSome, IfNone, None, Some, length, map, take};
 ghost use Rattle.std.specs.List.{AllByRecursion};
 ghost use Rattle.indexmap.specs.IndexMap.{values, IsUnique};
 ghost use Rattle.pfair_weight.specs.Share.{Share, units_of};
@@ -7,6 +7,7 @@ ghost use Rattle.pfair_entry.specs.Entry.{IsWithinLimits};
 ghost use Rattle.pfair_entry.specs.declared.announcement.Announcement.TheVariants.{Arrive, Depart, Late};
 ghost use Rattle.pfair_admission.specs.Member.{Member};
 ghost use Rattle.pfair_admission.specs.Admission.{member_named, arrival, announcements, claimed, is_freed, present};
+ghost use Rattle.pfair_admission.specs.Carried.{carried, CanBeCarried, IsFirstLeft};
 ghost use Rattle.pfair_admission.specs.Removal.{earlier_of, NoneFreed, NoneFreedBefore};
 ghost use Rattle.pfair_admission.specs.Roster.{EachBounded, EachHasRoom};
 ghost use Rattle.pfair_admission.specs.Ledger.{after, after_all, all_told, has_number, is_there, listed, standing, told, HasRegister, IsFound, IsLedger, IsPlace, IsUnswept};
@@ -16,7 +17,7 @@ use crate::incarnation::{Incarnation, has_come};
 use crate::members::Members;
 use crate::refusal::Refusal;
 use indexmap::IndexMap;
-use pfair_entry::{Announcement, Entry, Said};
+use pfair_entry::{Announcement, Said};
 use pfair_weight::{MAX_OFFSET, TaskName, Weight};
 use std::alloc::{AllocError, Global};
 
@@ -80,9 +81,10 @@ impl Ledger {
         slot: u64,
         announced: &[Said],
     ) -> Result<Vec<Decision>, AllocError>
-        requires slot { slot ≤ Entry.LAST_SLOT }
+        requires slot { slot ≤ Members.LAST_SLOT }
         requires kept { IsLedger (is_there slot) self.old }
-        requires few { self.old.admitted + length announced.now ≤ Members.MAX_HEARD }
+        requires few { length announced.now ≤ Members.MAX_HEARD }
+        requires numbers { self.old.admitted + length announced.now < 2 ^ 64 }
         requires bounded { EachBounded (Members.MAX_HEARD - length announced.now) (present slot (listed self.old)) }
         requires limits { AllByRecursion (λ a. IsWithinLimits a.2) announced.now }
         ensures decisions { IfOk result (λ all. all.items ≡ all_told slot (announcements announced.now) (standing slot self.old)) }
@@ -104,7 +106,7 @@ impl Ledger {
     fn decide(&mut self, slot: u64, announcement: Announcement) -> Result<Decision, AllocError>
         requires slot { slot ≤ MAX_OFFSET }
         requires kept { IsLedger (is_there slot) self.old }
-        requires few { self.old.admitted < Members.MAX_HEARD }
+        requires numbers { self.old.admitted + 1 < 2 ^ 64 }
         requires room { EachHasRoom (present slot (listed self.old)) }
         requires limits { IsWithinLimits announcement }
         ensures decision { IfOk result (λ d. d ≡ told slot announcement (standing slot self.old)) }
@@ -133,7 +135,7 @@ impl Ledger {
     ) -> Result<Decision, AllocError>
         requires slot { slot ≤ MAX_OFFSET }
         requires kept { IsLedger (is_there slot) self.old }
-        requires few { self.old.admitted < Members.MAX_HEARD }
+        requires numbers { self.old.admitted + 1 < 2 ^ 64 }
         ensures decision { IfOk result (λ d. d ≡ told slot (Arrive name weight early) (standing slot self.old)) }
         ensures members { OnOk result (standing slot self.new ≡ after slot (Arrive name weight early) (standing slot self.old)) }
         ensures err { OnErr result (standing slot self.new ≡ standing slot self.old) }
@@ -224,6 +226,51 @@ impl Ledger {
             return None;
         }
         Some(place)
+    }
+
+    /// Returns the name of the first member that can't be a member of a next run.
+    pub(crate) fn first_left(&self) -> Option<TaskName>
+        ensures some { IfSome result (λ name. IsFirstLeft (listed self.now) name) }
+        ensures none { IfNone result (AllByRecursion CanBeCarried (listed self.now)) }
+    {
+        for place in 0..self.members.len() {
+            let member = &self.members[place];
+            if !member.can_be_carried() {
+                return Some(*member.name());
+            }
+        }
+        None
+    }
+
+    /// Creates the ledger of a next run, whose members are these, carried.
+    pub(crate) fn carried(&self) -> Result<Ledger, AllocError>
+        requires kept { IsLedger (λ _. true) self.now }
+        requires able { AllByRecursion CanBeCarried (listed self.now) }
+        ensures members { IfOk result (λ next. listed next ≡ map carried (listed self.now)) }
+        ensures machine { IfOk result (λ next. (next.processors ≡ self.now.processors) × (next.frame ≡ self.now.frame)) }
+        ensures admitted { IfOk result (λ next. next.admitted ≤ 2 ^ 63) }
+        ensures kept { IfOk result (λ next. IsLedger (λ _. true) next) }
+    {
+        let tasks = self.members.len();
+        let mut members = IndexMap::new(self.alloc);
+        let mut names = IndexMap::new(self.alloc);
+        members.reserve(tasks)?;
+        names.reserve(tasks)?;
+        for place in 0..tasks {
+            let member = &self.members[place];
+            names.insert(*member.name(), place as u64)?;
+            members.insert(place as u64, member.carried(self.alloc)?)?;
+        }
+        Ok(Ledger {
+            alloc: self.alloc,
+            processors: self.processors,
+            frame: self.frame,
+            members,
+            names,
+            admitted: tasks as u64,
+            claim: self.claim,
+            first_freeing: self.first_freeing,
+        })
     }
 }
 

@@ -4,8 +4,12 @@
 //! decided. An arriving task is admitted, and then a member, if its name is free, its period divides
 //! the frame, and the members' total weight stays at most the number of processors. A departing member
 //! gets no more quanta, and is freed, with its weight and its name, some slots later.
+//!
+//! A run ends after some slots. The next one can begin with its members, carried: their indexes are
+//! lowered by whole jobs, and slots stay as they are.
 #![tactic(auto)]
 
+mod carry_fault;
 mod decision;
 mod delay;
 mod incarnation;
@@ -15,6 +19,7 @@ mod members;
 mod quantum;
 mod refusal;
 
+pub use carry_fault::CarryFault;
 pub use decision::Decision;
 pub use delay::Delay;
 pub use incarnation::Incarnation;

@@ -1,19 +1,21 @@
 //! The members of a machine from slot to slot.
-ghost use Rattle.std.specs.Prelude.{◌≡◌, ◌↔◌, IsTrue, ◌≤◌, ◌<◌, ◌+◌, ℕ, [], OnOk, OnErr, IfOk, None, Some, is_some, length, slice_get, take, if◌then◌else◌};
+ghost use Rattle.std.specs.Prelude.{◌≡◌, ◌↔◌, IsTrue, ◌≤◌, ◌<◌, ◌+◌, ℕ, [], OnOk, OnErr, IfOk, IfErr, None, Some, is_some, length, map, slice_get, take, if◌then◌else◌};
 ghost use Rattle.std.specs.List.{AllByRecursion};
 ghost use Rattle.std.specs.Option.{ForSome, option_copied, option_map};
 ghost use Rattle.pfair_entry.specs.Entry.{IsWithinLimits};
 ghost use Rattle.pfair_admission.specs.Admission.{member_named, boundary, boundary_decisions, announcements, decision, decided, all_decided, all_decisions, running, ran, quantum_of};
+ghost use Rattle.pfair_admission.specs.Carried.{carried, CanBeCarried, IsCarryFault};
 ghost use Rattle.pfair_admission.specs.Removal.{NoneFreed};
 ghost use Rattle.pfair_admission.specs.Roster.{LeavesBeginning};
 
+use crate::carry_fault::CarryFault;
 use crate::decision::Decision;
 use crate::incarnation::Incarnation;
 use crate::ledger::Ledger;
 use crate::quantum::Quantum;
 use indexmap::IndexMap;
-use pfair_entry::{Announcement, Entry, Said};
-use pfair_weight::TaskName;
+use pfair_entry::{Announcement, Said};
+use pfair_weight::{MAX_INDEX, TaskName};
 use std::alloc::{AllocError, Global};
 use std::marker::Model;
 
@@ -48,6 +50,10 @@ impl Members {
     /// The most announcements over all boundaries.
     pub const MAX_HEARD: u64 = 262_144;
 
+    /// The last slot of a boundary: a run of accepted delays after it keeps all offsets at most
+    /// [`MAX_OFFSET`](pfair_weight::MAX_OFFSET).
+    pub const LAST_SLOT: u64 = 824_633_720_832;
+
     /// Creates a machine without members, with 1 to 64 processors and frames of 1 to 1,000,000,000
     /// slots. Allocates nothing.
     pub fn new(alloc: Global, processors: u8, frame: u64) -> Self
@@ -73,11 +79,36 @@ impl Members {
         }
     }
 
+    /// Creates the members of a next run: these, with their indexes lowered by whole jobs.
+    ///
+    /// Of each member the jobs before that of its last quantum are counted no more, and it counts
+    /// as joined as many periods later. Its accepted delays up to its last quantum become one, of
+    /// subtask 1. Slots stay as they are. O(n + d log d) for n members with d accepted delays.
+    ///
+    /// # Errors
+    /// Returns [`CarryFault::CannotCarry`] with the name of the first member, in the order of
+    /// admission, for which [`Incarnation::can_be_carried`] returns `false`, and
+    /// [`CarryFault::Memory`] if an allocation fails.
+    pub fn carried(&self) -> Result<Members, CarryFault>
+        ensures ok { IfOk result (λ next. next ≡ record { machine = self.now.machine; members = map carried self.now.members; heard = 0; last_slot = None }) }
+        ensures able { OnOk result (AllByRecursion CanBeCarried self.now.members) }
+        ensures fault { IfErr result (IsCarryFault self.now.members) }
+    {
+        if let Some(name) = self.ledger.first_left() {
+            return Err(CarryFault::CannotCarry { name });
+        }
+        Ok(Members {
+            ledger: self.ledger.carried()?,
+            heard: 0,
+            last_slot: None,
+        })
+    }
+
     /// Drops the members that are freed by `slot`, decides the announcements one by one in their
     /// order, and returns the decisions.
     ///
-    /// `slot` is at most 1,000,000 and not before that of an earlier call. At most 262,144
-    /// announcements are handed in over all calls.
+    /// `slot` is at most [`Members::LAST_SLOT`] and not before that of an earlier call. At most
+    /// 262,144 announcements are handed in over all calls.
     ///
     /// O(n) for n members if one is freed by `slot`. Then O(1) amortized for each arrival; for a
     /// member with d accepted delays O(d) for a departure and for a late release.
@@ -87,7 +118,7 @@ impl Members {
     /// members are then those that the frees and some beginning of the announcements leave, and
     /// all announcements count as heard.
     pub fn boundary(&mut self, slot: u64, announced: &[Said]) -> Result<Vec<Decision>, AllocError>
-        requires slot { slot ≤ Entry.LAST_SLOT }
+        requires slot { slot ≤ Members.LAST_SLOT }
         requires order { ForSome self.old.last_slot (λ last. last ≤ slot) }
         requires heard { self.old.heard + length announced.now ≤ Members.MAX_HEARD }
         requires limits { AllByRecursion (λ a. IsWithinLimits a.2) announced.now }
@@ -110,9 +141,10 @@ impl Members {
     /// Gives the next subtask of the named member a quantum and returns the subtask's index.
     /// Returns `None`, with nothing changed, if there is no such member, or it is departing.
     ///
-    /// The member's next index is at most 1,000,000. O(log d) for d accepted delays of later subtasks.
+    /// The member's next index is below [`MAX_INDEX`]. O(log d) for d accepted delays of later
+    /// subtasks.
     pub fn ran(&mut self, name: &TaskName) -> Option<u64>
-        requires { ForSome (member_named self.old.members name.now) (λ m. m.next ≤ Entry.LAST_INDEX) }
+        requires { ForSome (member_named self.old.members name.now) (λ m. m.next < MAX_INDEX) }
         ensures index { result ≡ option_map (λ m. m.next) (running (member_named self.old.members name.now)) }
         ensures members { self.new ≡ (if is_some result then record self.old { members = ran name.now self.old.members } else self.old) }
     {
@@ -124,7 +156,7 @@ impl Members {
     /// index with the slot from which the subtask after it may run and that one's key, as
     /// [`Incarnation::next_subtask`] then does. The cost is that of [`Members::ran`].
     pub fn ran_on(&mut self, name: &TaskName) -> Option<Quantum>
-        requires { ForSome (member_named self.old.members name.now) (λ m. m.next ≤ Entry.LAST_INDEX) }
+        requires { ForSome (member_named self.old.members name.now) (λ m. m.next < MAX_INDEX) }
         ensures quantum { result ≡ option_map quantum_of (running (member_named self.old.members name.now)) }
         ensures members { self.new ≡ (if is_some result then record self.old { members = ran name.now self.old.members } else self.old) }
     {

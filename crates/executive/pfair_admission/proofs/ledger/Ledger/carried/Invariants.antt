@@ -1,0 +1,6 @@
+use Rattle.pfair_admission.specs.Ledger.{listed}
+use Rattle.pfair_admission.proofs.Successors.{AreCarried}
+use Rattle.pfair_admission.proofs.ledger.Ledger.carried.Given as goal
+
+abbrev pub invariant-loop-place : goal.invariant-loop-place
+invariant-loop-place l = AreCarried (listed l.self) l.place l.members.entries l.names.entries

@@ -1,0 +1,65 @@
+-- A member that is carried into a next run: whole jobs that are over are counted no more.
+use Rattle.std.specs.Prelude.{ℕ, ◌≡◌, ◌≤◌, ◌+◌, ◌-◌, ◌*◌, ◌/◌, nat_lt, nat_le, List, [], ◌∷◌, ◌++◌, map, sum_by, filter, slice_get, take, Some}
+use Rattle.std.specs.List.{AllByRecursion}
+use Rattle.pfair_entry.specs.declared.entry.TheConstants.Entry.{LAST_INDEX}
+use Rattle.pfair_admission.specs.declared.members.TheConstants.Members.{LAST_SLOT}
+use Rattle.pfair_admission.specs.declared.delay.Delay.{Delay}
+use Rattle.pfair_admission.specs.declared.carry_fault.CarryFault.{CarryFault}
+use Rattle.pfair_admission.specs.declared.carry_fault.CarryFault.TheVariants.{CannotCarry, Memory}
+use Rattle.pfair_admission.specs.Member.{Member, last_offset}
+
+-- the whole jobs before the job of the last subtask that ran
+abbrev pub jobs_done : Member → ℕ
+jobs_done m = (m.next - 2) / m.weight.cost
+
+-- their subtasks
+abbrev pub subtasks_done : Member → ℕ
+subtasks_done m = jobs_done m * m.weight.cost
+
+-- ---- delays
+
+-- those of subtasks that ran, and those of the next subtask and of later ones
+abbrev pub passed_delays : ℕ → List Delay → List Delay
+passed_delays next delays = filter (λ d. nat_lt d.index next) delays
+
+abbrev pub coming_delays : ℕ → List Delay → List Delay
+coming_delays next delays = filter (λ d. nat_le next d.index) delays
+
+-- one delay of subtask 1 in place of some
+abbrev pub as_one : List Delay → List Delay
+as_one [] = []
+as_one (d ∷ more) = record { index = 1; by = sum_by (λ d. d.by) (d ∷ more) } ∷ []
+
+abbrev pub lowered : ℕ → Delay → Delay
+lowered subtasks d = record d { index = d.index - subtasks }
+
+-- the delays if subtask `next` is the next one, and subtasks are counted from so many later
+abbrev pub delays_from : ℕ → ℕ → List Delay → List Delay
+delays_from next subtasks delays = as_one (passed_delays next delays) ++ map (lowered subtasks) (coming_delays next delays)
+
+abbrev pub carried_delays : Member → List Delay
+carried_delays m = delays_from m.next (subtasks_done m) m.delays
+
+-- ---- members
+
+-- a member that joined as many periods later as it has jobs done
+abbrev pub carried : Member → Member
+carried m = record m { joined = m.joined + jobs_done m * m.weight.period; delays = carried_delays m; next = m.next - subtasks_done m }
+
+-- it can be the member of a next run: there is a window for each of its quanta there, and its offsets leave room for delays
+pub record CanBeCarried (m : Member) : Type 0 where
+  pub next : (carried m).next ≤ LAST_INDEX + 1
+  pub offset : last_offset (carried m) ≤ LAST_SLOT
+
+-- the first of the members that can't be carried has that name
+pub record IsFirstLeft (members : List Member) (name : List ℕ) : Type 0 where
+  pub place : ℕ
+  pub member : Member
+  pub at : slice_get members place ≡ Some member
+  pub named : member.name ≡ name
+  pub left : CanBeCarried member → ⊥
+  pub before : AllByRecursion CanBeCarried (take place members)
+
+abbrev pub IsCarryFault : List Member → CarryFault → Type 0
+IsCarryFault members (CannotCarry name) = IsFirstLeft members name
+IsCarryFault members Memory = AllByRecursion CanBeCarried members
