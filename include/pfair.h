@@ -53,11 +53,12 @@
  * STACK. A call uses at most this many bytes of stack, from its return address on, for every input (computed from the
  * archive). What malloc, realloc, free, memcpy, memmove, memset, __udivti3 and a dynamic linker use comes on top.
  *
- *      4,100  pfair_open
- *     10,000  pfair_read_file, and 4,000 for each level of nested keys; it reads at most 80 levels
- *      2,300  pfair_plan_next, pfair_plan_to, pfair_reopen
+ *      6,500  pfair_open
+ *     13,500  pfair_read_file, and 4,000 for each level of nested keys; it reads at most 80 levels
+ *      3,200  pfair_reopen
+ *      2,300  pfair_plan_next, pfair_plan_to
+ *      2,200  pfair_close
  *      1,800  pfair_take, pfair_take_log, pfair_absorb
- *      1,500  pfair_close
  *      1,000  pfair_lags
  *        450  all others
  *

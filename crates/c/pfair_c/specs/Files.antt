@@ -1,5 +1,5 @@
 -- Task files, read into dispatchers.
-use Rattle.std.specs.Prelude.{ℕ, ◌≡◌, List, [], false, Ok, Err}
+use Rattle.std.specs.Prelude.{ℕ, ◌≡◌, List, [], None, false, Ok, Err}
 use Rattle.pfair_replica.specs.HeldRows.{replica_of}
 use Rattle.pfair_table.specs.Script.{LoggedRun, replica_of_logs}
 use Rattle.pfair_table.specs.Refinement.{Dispatch}
@@ -15,7 +15,7 @@ use Rattle.pfair_c.specs.declared.file.PfairFileFault.{PfairFileFault}
 -- a new dispatcher that has taken all entries of a script's logs, and no more
 abbrev pub IsStartedWith : LoggedRun → Dispatch → Type 0
 IsStartedWith script d =
-    (d.settings ≡ script.settings) × (replica_of d.held ≡ replica_of_logs script.logs)
+    (d.settings ≡ script.settings) × (d.origin ≡ None) × (replica_of d.held ≡ replica_of_logs script.logs)
     × (d.tables ≡ []) × (d.spent ≡ false)
 
 -- what a file says, in such a dispatcher

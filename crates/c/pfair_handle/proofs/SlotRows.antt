@@ -4,12 +4,12 @@ use Rattle.std.specs.List.{AllByRecursion}
 use Rattle.std.proofs.lemmas.List.{length-append}
 use Rattle.std.proofs.lemmas.Option.{same_Some, none-some}
 use Rattle.pfair_table.specs.declared.pick.Pick.{Pick}
-use Rattle.pfair_table.specs.Table.{Table}
+use Rattle.pfair_table.specs.Table.{Origin, Table}
 use Rattle.pfair_table.specs.PlaceLaws.{IsFit}
 use Rattle.pfair_handle.specs.declared.quanta.PfairQuantum.{PfairQuantum}
 use Rattle.std.proofs.Math.Nat.{le_refl}
 use Rattle.std.proofs.Math.Seq.{take-length, take-append_seam, drop-append_seam}
-use Rattle.pfair_table.specs.Places.{places_of}
+use Rattle.pfair_table.specs.Places.{places_in}
 use Rattle.pfair_handle.specs.Rows.{quantum_row, quanta_at, quanta_in, rows_of, slot_of, written_over}
 
 -- a slot has a quantum for each row of its table
@@ -17,8 +17,8 @@ pub as-many : (places : List ℕ) (slot k : ℕ) (table : Table) → length (qua
 as-many places slot k [] = refl
 as-many places slot k (p ∷ more) = ap suc (as-many places slot (suc k) more)
 
-pub as-many-at : (tables : List Table) (t : ℕ) → length (quanta_at tables t) ≡ length (slot_of tables t)
-as-many-at tables t = as-many (slot_of (places_of tables) t) t 0 (slot_of tables t)
+pub as-many-at : (o : Origin) (tables : List Table) (t : ℕ) → length (quanta_at o tables t) ≡ length (slot_of tables t)
+as-many-at o tables t = as-many (slot_of (places_in o tables) t) t 0 (slot_of tables t)
 
 -- no table has more rows than there are processors
 pub no-more-rows : (m : ℕ) (tables : List Table) → AllByRecursion (IsFit m) tables → (t : ℕ) (rows : Table) → slice_get tables t ≡ Some rows → length rows ≤ m

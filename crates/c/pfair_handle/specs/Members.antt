@@ -24,4 +24,4 @@ member_row m = record {
 -- the members after the slots that are planned: if nothing that is held is torn, those of the contents
 pub record AreMembersNow (d : Dispatch) (members : List Member) : Type 0 where
   pub are_members : AreMembersOf d members
-  pub of_held : has_torn (replica_of d.held) ≡ false → members ≡ members_after d.settings (replica_of d.held) (length d.tables)
+  pub of_held : has_torn (replica_of d.held) ≡ false → members ≡ members_after d.origin d.settings (replica_of d.held) (length d.tables)

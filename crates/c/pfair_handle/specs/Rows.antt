@@ -9,8 +9,8 @@ use Rattle.pfair_admission.specs.declared.decision.Decision.{Decision}
 use Rattle.pfair_admission.specs.declared.decision.Decision.TheVariants.{Admitted, Departing, Delayed, Refused}
 use Rattle.pfair_table.specs.declared.pick.Pick.{Pick}
 use Rattle.pfair_table.specs.declared.pick.Decided.{Decided}
-use Rattle.pfair_table.specs.Table.{Table}
-use Rattle.pfair_table.specs.Places.{places_of}
+use Rattle.pfair_table.specs.Table.{Origin, Table}
+use Rattle.pfair_table.specs.Places.{places_in}
 use Rattle.pfair_handle.specs.declared.rows.PfairName.{PfairName}
 use Rattle.pfair_handle.specs.declared.rows.PfairPick.{PfairPick}
 use Rattle.pfair_handle.specs.declared.rows.PfairDecided.{PfairDecided}
@@ -78,8 +78,8 @@ quanta_in places slot k [] = []
 quanta_in places slot k (p ∷ more) = quantum_row slot k p (slice_get places k) ∷ quanta_in places slot (suc k) more
 
 -- the quanta of slot t
-abbrev pub quanta_at : List Table → ℕ → List PfairQuantum
-quanta_at tables t = quanta_in (slot_of (places_of tables) t) t 0 (slot_of tables t)
+abbrev pub quanta_at : Origin → List Table → ℕ → List PfairQuantum
+quanta_at o tables t = quanta_in (slot_of (places_in o tables) t) t 0 (slot_of tables t)
 
 -- the rows of so many slots, from one on
 abbrev pub rows_of : {B : Type 0} → (ℕ → List B) → (from count : ℕ) → List B
@@ -87,8 +87,8 @@ rows_of rows_at from zero = []
 rows_of rows_at from (suc n) = rows_of rows_at from n ++ rows_at (from + n)
 
 -- the quanta of the slots `from` to `to` - 1
-abbrev pub quanta_of : List Table → (from to : ℕ) → List PfairQuantum
-quanta_of tables from to = rows_of (quanta_at tables) from (to - from)
+abbrev pub quanta_of : Origin → List Table → (from to : ℕ) → List PfairQuantum
+quanta_of o tables from to = rows_of (quanta_at o tables) from (to - from)
 
 -- a decision with its slot
 abbrev pub decision_row : (slot : ℕ) → Decided → PfairDecision

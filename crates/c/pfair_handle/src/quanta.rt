@@ -27,7 +27,7 @@ pub struct PfairQuantum {
 pub fn count_quanta<R: Ready>(dispatcher: &Dispatcher<R>, from: u64, to: u64) -> u64
     requires standing { dispatcher.now.forgotten ≤ from }
     requires few { to ≤ Settings.MAX_SLOTS }
-    ensures { result ≡ length (quanta_of dispatcher.now.tables from to) }
+    ensures { result ≡ length (quanta_of dispatcher.now.origin dispatcher.now.tables from to) }
 {
     let mut count = 0;
     for slot in from..to {
@@ -45,8 +45,8 @@ pub fn write_quanta<R: Ready>(
     rows: &mut [PfairQuantum],
 )
     requires standing { dispatcher.now.forgotten ≤ from }
-    requires room { length (quanta_of dispatcher.now.tables from to) ≤ length rows.old }
-    ensures { rows.new ≡ written_over (quanta_of dispatcher.now.tables from to) rows.old }
+    requires room { length (quanta_of dispatcher.now.origin dispatcher.now.tables from to) ≤ length rows.old }
+    ensures { rows.new ≡ written_over (quanta_of dispatcher.now.origin dispatcher.now.tables from to) rows.old }
 {
     let mut at = 0;
     for slot in from..to {
@@ -78,7 +78,7 @@ fn write_slot<R: Ready>(
 ) -> usize
     requires standing { dispatcher.now.forgotten ≤ slot }
     requires room { at + length (slot_of dispatcher.now.tables slot) ≤ length rows.old }
-    ensures rows { rows.new ≡ take at rows.old ++ written_over (quanta_at dispatcher.now.tables slot) (drop at rows.old) }
+    ensures rows { rows.new ≡ take at rows.old ++ written_over (quanta_at dispatcher.now.origin dispatcher.now.tables slot) (drop at rows.old) }
     ensures next { result ≡ at + length (slot_of dispatcher.now.tables slot) }
 {
     let places = dispatcher.places(slot).unwrap_or(&[]);

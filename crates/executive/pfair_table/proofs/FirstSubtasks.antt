@@ -1,5 +1,5 @@
 -- The first keys of the ready structure are the first eligible subtasks of the members.
-use Rattle.std.proofs.Common.{ℕ, ◌≤◌, ◌≡◌, refl, sym, ap, ◌∙◌, subst, inl, inr, Bool, true, false, cond, List, [], ◌∷◌, Option, Some, None}
+use Rattle.std.proofs.Common.{ℕ, ◌<◌, ◌≡◌, refl, sym, ap, ◌∙◌, subst, inl, inr, Bool, true, false, cond, List, [], ◌∷◌, Option, Some, None}
 use Rattle.std.specs.Prelude.{T, IsTrue, filter, not, nat_le, if◌then◌else◌}
 use Rattle.std.specs.List.{AllByRecursion}
 use Rattle.std.specs.declared.cmp.Ordering.{Ordering}
@@ -21,6 +21,7 @@ use Rattle.pfair_replica.specs.Among.{Among, among_filter, filter_among, among_m
 use Rattle.std.proofs.lemmas.Option.{none-some, same_Some}
 use Rattle.std.specs.Cmp.Lexicographic.{nat_list_eq_equiv}
 use Rattle.pfair_weight.specs.Name.{NamesApart}
+use Rattle.pfair_weight.specs.declared.window.TheConstants.{MAX_INDEX}
 use Rattle.pfair_weight.proofs.NamesApart.{apart_nil, apart_cons, apart_head, apart_tail, apart_filter, apart_map}
 use Rattle.pfair_order.proofs.NamesApart.{first_names}
 use Rattle.pfair_ready.proofs.Released.{IsReleased, each_found, each_released, released_remove, get_without}
@@ -149,11 +150,11 @@ module _ (n : ℕ) (members : List Member) (waiting : Queue) (named : NamesApart
   pub first_apart : (m : ℕ) (first : List Key) → first ≡ first_by_rank m (released n waiting) → NamesApart (λ (k : Key). k.name) first
   first_apart m first is = subst (NamesApart (λ (k : Key). k.name)) (sym (is ∙ first_of_queue m)) (first_names m (eligible n members) (eligible_apart n members named))
 
-  pub first_may_run : (m : ℕ) (first : List Key) → first ≡ first_by_rank m (released n waiting) → AllByRecursion (λ m. m.next ≤ 1000000) members → (k : Key) → Among first k → MayRun members k
+  pub first_may_run : (m : ℕ) (first : List Key) → first ≡ first_by_rank m (released n waiting) → AllByRecursion (λ m. m.next < MAX_INDEX) members → (k : Key) → Among first k → MayRun members k
   first_may_run m first is few k h =
       let i = among_first (eligible n members) (eligible_apart n members named) m k (subst (λ ks. Among ks k) (is ∙ first_of_queue m) h) in
       let t = eligible_member k i in
-      (t.0, ap (member_named members) (ap (λ (k : Key). k.name) t.2) ∙ found_own members named t.0 t.1, t.3, among_all (λ m. m.next ≤ 1000000) members few t.0 t.1)
+      (t.0, ap (member_named members) (ap (λ (k : Key). k.name) t.2) ∙ found_own members named t.0 t.1, t.3, among_all (λ m. m.next < MAX_INDEX) members few t.0 t.1)
 
 -- ---- and the others wait on
 

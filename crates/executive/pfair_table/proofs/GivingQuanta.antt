@@ -1,5 +1,5 @@
 -- The loop over the keys that have a quantum.
-use Rattle.std.proofs.Common.{ℕ, ◌+◌, ◌≤◌, ◌<◌, ◌≡◌, refl, sym, ap, ◌∙◌, subst, inl, Bool, true, false, List, [], ◌∷◌, ◌++◌, length, get_or, drop, take, Option, Some, None}
+use Rattle.std.proofs.Common.{ℕ, ◌+◌, ◌<◌, ◌≡◌, refl, sym, ap, ◌∙◌, subst, inl, Bool, true, false, List, [], ◌∷◌, ◌++◌, length, get_or, drop, take, Option, Some, None}
 use Rattle.std.specs.Prelude.{◌||◌, not, map, if◌then◌else◌}
 use Rattle.std.specs.Option.{ForSome, option_map}
 use Rattle.std.specs.FinMap as finmap
@@ -14,6 +14,7 @@ use Rattle.pfair_replica.specs.Among.{Among, among_right, among_all}
 use Rattle.std.specs.List.{AllByRecursion}
 use Rattle.std.specs.Cmp.Lexicographic.{nat_list_eq_equiv}
 use Rattle.pfair_weight.specs.Name.{NamesApart}
+use Rattle.pfair_weight.specs.declared.window.TheConstants.{MAX_INDEX}
 use Rattle.pfair_weight.proofs.NamesApart.{apart_head, apart_tail}
 use Rattle.pfair_ready.specs.Queue.{Queue}
 use Rattle.pfair_admission.specs.Member.{Member}
@@ -95,8 +96,8 @@ module _ {start : Roster} {first : List Key} {i : ℕ} {roster : Roster} {table 
         ∙ may.1
 
     -- so it may run
-    pub may_run : ForSome (member_named roster.members key.name) (λ m. m.next ≤ 1000000)
-    may_run x e = subst (λ (m : Member). m.next ≤ 1000000) (same_Some may.0 x (sym still_found ∙ e)) may.3
+    pub may_run : ForSome (member_named roster.members key.name) (λ m. m.next < MAX_INDEX)
+    may_run x e = subst (λ (m : Member). m.next < MAX_INDEX) (same_Some may.0 x (sym still_found ∙ e)) may.3
 
     -- and its quantum is that of its next subtask
     pub runs_next : option_map quantum_of (running (member_named roster.members key.name)) ≡ Some (quantum_of may.0)

@@ -1,102 +1,100 @@
 -- The dispatcher's invariant through plans.
-use Rattle.std.proofs.Common.{ℕ, zero, suc, min, ◌+◌, ◌≤◌, ◌<◌, ◌≡◌, refl, sym, ap, ◌∙◌, subst, arith, Bool, false, List, [], ◌∷◌, ◌++◌, length, map, inl, Option, None}
+use Rattle.std.proofs.Common.{ℕ, zero, suc, min, ◌≤◌, ◌<◌, ◌≡◌, refl, sym, ap, ◌∙◌, subst, arith, Bool, false, List, [], ◌∷◌, ◌++◌, length, map, inl, Option, None}
 use Rattle.std.proofs.lemmas.List.{map-append}
 use Rattle.std.proofs.lemmas.Option.{none-some}
 use Rattle.pfair_replica.specs.HeldRows.{HeldRows, replica_of}
 use Rattle.pfair_replica.specs.Replica.{Replica, IsReplica, has_torn, frontier, empty_replica, numbers_below}
 use Rattle.std.specs.Option.{ForSome}
-use Rattle.std.specs.List.{AllByRecursion}
-use Rattle.std.specs.FinMap as finmap
-use Rattle.std.specs.FinMap.{get-empty}
 use Rattle.pfair_lattice.specs.declared.flat.Flat.TheVariants.{One, Torn}
-use Rattle.pfair_ready.specs.Names.{name_cmp}
 use Rattle.pfair_admission.specs.Member.{Member}
-use Rattle.pfair_admission.specs.Admission.{member_named}
 use Rattle.pfair_weight.specs.Name.{NamesApart}
-use Rattle.pfair_weight.proofs.NamesApart.{apart_nil}
-use Rattle.pfair_table.specs.Queue.{queued}
+use Rattle.pfair_table.specs.Queue.{IsQueue}
+use Rattle.pfair_table.specs.Limits.{IsOrigin}
+use Rattle.pfair_table.proofs.Members.{named_before}
 use Rattle.pfair_ready.specs.Queue.{Queue}
 use Rattle.pfair_admission.specs.Roster.{Roster}
 use Rattle.pfair_table.specs.declared.pick.Decided.{Decided}
-use Rattle.pfair_table.specs.Table.{Settings, Table, history, table, decisions, plan}
+use Rattle.pfair_table.specs.Table.{Settings, Origin, Table, slot_of, members_before, history_from, table_from, decisions_from, plan_from}
 use Rattle.pfair_table.specs.Laws.{IsOf}
 use Rattle.pfair_table.specs.Refinement.{IsPlanOf, IsInStep, IsKept, IsWholePlan}
 use Rattle.pfair_replica.proofs.TornKeys.{untorn_by_test}
 use Rattle.pfair_table.proofs.Steps.{plan_of_held, step_of_held, plan_next_slot}
 
 -- the tables of the slots so far, one for each
-pub tables_listed : (s : Settings) (x : Replica) (n : ℕ) → (history s x n).tables ≡ map (table s x) (numbers_below n)
-tables_listed s x zero = refl
-tables_listed s x (suc n) = ap (λ (ts : List Table). ts ++ table s x n ∷ []) (tables_listed s x n) ∙ sym (map-append (table s x) (numbers_below n) (n ∷ []))
+pub tables_listed : (o : Origin) (s : Settings) (x : Replica) (n : ℕ) → (history_from o s x n).tables ≡ map (table_from o s x) (numbers_below n)
+tables_listed o s x zero = refl
+tables_listed o s x (suc n) = ap (λ (ts : List Table). ts ++ table_from o s x n ∷ []) (tables_listed o s x n) ∙ sym (map-append (table_from o s x) (numbers_below n) (n ∷ []))
 
-module _ {s : Settings} {held : Replica} {tables : List Table} {decided : List (List Decided)} {spent : Bool} {roster : Roster} {now : ℕ} {waiting : Queue} (kept : IsKept s held tables decided spent roster now waiting) (sound : IsReplica held) where
+module _ {o : Origin} {s : Settings} {held : Replica} {tables : List Table} {decided : List (List Decided)} {spent : Bool} {roster : Roster} {now : ℕ} {waiting : Queue} (kept : IsKept o s held tables decided spent roster now waiting) (sound : IsReplica held) where
   pub is_of_held : IsOf s held
   is_of_held = record { replica = sound; processors = kept.processors }
 
   module _ (test : has_torn held ≡ false) where
-    pub plan_now : IsPlanOf s held held tables decided
+    pub plan_now : IsPlanOf o s held held tables decided
     plan_now = plan_of_held kept.plan is_of_held (untorn_by_test held sound test)
 
     -- nothing is spent: members and ready structure are in step with the present contents
-    pub step_now : spent ≡ false → IsInStep s held (length tables) roster now waiting
+    pub step_now : spent ≡ false → IsInStep o s held (length tables) roster now waiting
     step_now e = step_of_held kept.plan is_of_held (untorn_by_test held sound test) (kept.step e)
 
     -- if as many slots are planned as can be, the tables and decisions are the whole plan
     as_many : min (frontier held) s.slots ≤ length tables → length tables ≡ min (frontier held) s.slots
     as_many le = omega (arith, le, plan_now.early, plan_now.wanted)
 
-    pub tables_whole : min (frontier held) s.slots ≤ length tables → tables ≡ plan s held
-    tables_whole le = plan_now.tables_are ∙ tables_listed s held (length tables) ∙ ap (λ (n : ℕ). map (table s held) (numbers_below n)) (as_many le)
+    pub tables_whole : min (frontier held) s.slots ≤ length tables → tables ≡ plan_from o s held
+    tables_whole le = plan_now.tables_are ∙ tables_listed o s held (length tables) ∙ ap (λ (n : ℕ). map (table_from o s held) (numbers_below n)) (as_many le)
 
-    pub decided_whole : min (frontier held) s.slots ≤ length tables → decided ≡ map (decisions s held) (numbers_below (min (frontier held) s.slots))
-    decided_whole le = plan_now.decided_are ∙ ap (λ (n : ℕ). map (decisions s held) (numbers_below n)) (as_many le)
+    pub decided_whole : min (frontier held) s.slots ≤ length tables → decided ≡ map (decisions_from o s held) (numbers_below (min (frontier held) s.slots))
+    decided_whole le = plan_now.decided_are ∙ ap (λ (n : ℕ). map (decisions_from o s held) (numbers_below n)) (as_many le)
 
     -- members and ready structure made anew
-    pub kept_anew : {spent2 : Bool} {roster2 : Roster} {now2 : ℕ} {waiting2 : Queue} → IsInStep s held (length tables) roster2 now2 waiting2 → IsKept s held tables decided spent2 roster2 now2 waiting2
-    kept_anew step = record { processors = kept.processors; capacity = kept.capacity; of = held; room = kept.capacity; plan = plan_now; step = λ _. step }
+    pub kept_anew : {spent2 : Bool} {roster2 : Roster} {now2 : ℕ} {waiting2 : Queue} → IsInStep o s held (length tables) roster2 now2 waiting2 → IsKept o s held tables decided spent2 roster2 now2 waiting2
+    kept_anew step = record { began = kept.began; processors = kept.processors; capacity = kept.capacity; of = held; room = kept.capacity; plan = plan_now; step = λ _. step }
 
     -- one more slot
     pub kept_next : {more : List Table} {more_decided : List (List Decided)} {spent2 : Bool} {roster2 : Roster} {now2 : ℕ} {waiting2 : Queue} → length tables < frontier held → length tables < s.slots
-        → more ≡ tables ++ table s held (length tables) ∷ [] → more_decided ≡ decided ++ decisions s held (length tables) ∷ []
-        → IsInStep s held (length more) roster2 now2 waiting2 → IsKept s held more more_decided spent2 roster2 now2 waiting2
+        → more ≡ tables ++ table_from o s held (length tables) ∷ [] → more_decided ≡ decided ++ decisions_from o s held (length tables) ∷ []
+        → IsInStep o s held (length more) roster2 now2 waiting2 → IsKept o s held more more_decided spent2 roster2 now2 waiting2
     kept_next {more_decided} early wanted tables_are decided_are step = record {
+      began = kept.began;
       processors = kept.processors;
       capacity = kept.capacity;
       of = held;
       room = kept.capacity;
-      plan = subst (λ (ts : List Table). IsPlanOf s held held ts more_decided) (sym tables_are)
-          (subst (λ (ds : List (List Decided)). IsPlanOf s held held (tables ++ table s held (length tables) ∷ []) ds) (sym decided_are) (plan_next_slot plan_now early wanted));
+      plan = subst (λ (ts : List Table). IsPlanOf o s held held ts more_decided) (sym tables_are)
+          (subst (λ (ds : List (List Decided)). IsPlanOf o s held held (tables ++ table_from o s held (length tables) ∷ []) ds) (sym decided_are) (plan_next_slot plan_now early wanted));
       step = λ _. step;
     }
 
-pub whole_plan : {s : Settings} {x : HeldRows} {tables : List Table} {decided : List (List Decided)} {spent : Bool} {roster : Roster} {now forgotten : ℕ} {waiting : Queue} → IsKept s (replica_of x) tables decided spent roster now waiting
+pub whole_plan : {o : Origin} {s : Settings} {x : HeldRows} {tables : List Table} {decided : List (List Decided)} {spent : Bool} {roster : Roster} {now forgotten : ℕ} {waiting : Queue} → IsKept o s (replica_of x) tables decided spent roster now waiting
     → IsReplica (replica_of x) → has_torn (replica_of x) ≡ false → min (frontier (replica_of x)) s.slots ≤ length tables
-    → IsWholePlan (record { settings = s; held = x; tables = tables; decided = decided; forgotten = forgotten; spent = spent })
+    → IsWholePlan (record { settings = s; origin = o; held = x; tables = tables; decided = decided; forgotten = forgotten; spent = spent })
 whole_plan kept sound test enough = record { tables_are = tables_whole kept sound test enough; decided_are = decided_whole kept sound test enough }
 
 -- a new dispatcher's members and ready structure are in step
-pub start_step : {s : Settings} {x : Replica} {roster : Roster} {now : ℕ} {waiting : Queue} → roster ≡ record { machine = record { processors = s.processors; frame = s.frame }; members = []; heard = 0; last_slot = None } → now ≡ 0 → waiting ≡ finmap.empty → IsInStep s x 0 roster now waiting
-start_step e now_is waiting_is =
+pub start_step : {o : Origin} {s : Settings} {x : Replica} {roster : Roster} {now : ℕ} {waiting : Queue} → IsOrigin o s → roster ≡ record { machine = record { processors = s.processors; frame = s.frame }; members = members_before o; heard = 0; last_slot = None } → now ≡ 0
+    → IsQueue roster.members waiting → IsInStep o s x 0 roster now waiting
+start_step {o} {s} began e now_is queue =
     let ms = ap (λ (r : Roster). r.members) e in
     record {
       machine_is = ap (λ (r : Roster). r.machine) e;
       members_are = ms;
       heard_is = ap (λ (r : Roster). r.heard) e;
       steady = record {
-        named = subst (NamesApart (λ (m : Member). m.name)) (sym ms) (apart_nil (λ (m : Member). m.name));
-        queue = λ name. ap (λ (h : Queue). finmap.get h name) waiting_is ∙ get-empty name_cmp name ∙ sym (ap (λ (l : List Member). queued (member_named l name)) ms);
+        named = subst (NamesApart (λ (m : Member). m.name)) (sym ms) (named_before o s began);
+        queue = queue;
         by_now = omega (arith, now_is);
-        order = subst (λ (o : Option ℕ). ForSome o (λ last. last ≤ 0)) (sym (ap (λ (r : Roster). r.last_slot) e)) (λ y h. absurd (none-some y h));
-        few = subst (AllByRecursion (λ m. m.next ≤ 0 + 1)) (sym ms) tt;
+        order = subst (λ (l : Option ℕ). ForSome l (λ last. last ≤ slot_of o 0)) (sym (ap (λ (r : Roster). r.last_slot) e)) (λ y h. absurd (none-some y h));
       };
     }
 
 -- nothing planned of a replica that holds nothing
-pub start_kept : {s : Settings} {x : Replica} {roster : Roster} {now : ℕ} {waiting : Queue} → x ≡ empty_replica s.processors x.capacity → x.capacity ≤ 4096 → IsInStep s x 0 roster now waiting → IsKept s x [] [] false roster now waiting
-start_kept {s} {x} e few step =
+pub start_kept : {o : Origin} {s : Settings} {x : Replica} {roster : Roster} {now : ℕ} {waiting : Queue} → IsOrigin o s → x ≡ empty_replica s.processors x.capacity → x.capacity ≤ 4096 → IsInStep o s x 0 roster now waiting → IsKept o s x [] [] false roster now waiting
+start_kept {s} {x} began e few step =
     let none : (k n : ℕ) → x.at k n ≡ None = λ k n. ap (λ (r : Replica). r.at k n) e in
     let many : x.processors ≡ s.processors = ap (λ (r : Replica). r.processors) e in
     record {
+      began = began;
       processors = many;
       capacity = few;
       of = x;

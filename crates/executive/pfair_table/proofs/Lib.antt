@@ -16,6 +16,7 @@ mod PlacesKept
 mod Filling
 mod PlacesOn
 mod Alike
+mod NextRuns
 mod ReadOn
 mod Bucketed
 mod Least

@@ -1,5 +1,5 @@
 -- The next index of a member is one more than its quanta in the tables; and adding one for each row keeps it so.
-use Rattle.std.proofs.Common.{ℕ, zero, suc, ◌+◌, ◌≤◌, ◌≡◌, refl, sym, ap, ◌∙◌, arith, Bool, true, false, cond, List, [], ◌∷◌, ◌++◌, length, drop}
+use Rattle.std.proofs.Common.{ℕ, zero, suc, ◌+◌, ◌≤◌, ◌≡◌, refl, sym, ap, subst, ◌∙◌, arith, None, Bool, true, false, cond, List, [], ◌∷◌, ◌++◌, length, drop}
 use Rattle.std.specs.Prelude.{◌||◌, map, count_by, not, if◌then◌else◌}
 use Rattle.std.specs.List.{AllByRecursion}
 use Rattle.std.proofs.SliceLists.{all_by_recursion_push}
@@ -18,7 +18,7 @@ use Rattle.pfair_entry.specs.Said.{Said}
 use Rattle.pfair_admission.specs.Admission.{Machine, is_named, decision, newcomer, is_freed, boundary, with_freeing, with_delay, ran, with_quantum}
 use Rattle.pfair_admission.specs.Member.{Member}
 use Rattle.pfair_admission.specs.Admission.{announcements}
-use Rattle.pfair_table.specs.Table.{Settings, Table, History, machine, names_task, quanta, next_index, counted, counted_one, members_at, history, world, table, all_ran}
+use Rattle.pfair_table.specs.Table.{Settings, Origin, Table, History, machine, names_task, quanta, next_index, counted, counted_one, members_at, history, world, table, history_from, table_from, all_ran}
 use Rattle.pfair_table.specs.declared.pick.Pick.{Pick}
 use Rattle.pfair_weight.specs.Name.{NamesApart}
 use Rattle.pfair_weight.proofs.NamesApart.{apart_head, apart_tail}
@@ -38,36 +38,6 @@ module _ (t : ℕ) (P : Member → Type 0) (joins : (name : Name) (w : Share) (e
       (λ name w early is admitted. all_by_recursion_push P ms (newcomer t name w early) h (joins name w early))
       (λ name slot is _. each_change P P name (with_freeing slot) (freed slot) (λ m p. p) ms h)
       (λ name index by is _. each_change P P name (with_delay index by) (delayed index by) (λ m p. p) ms h)) members announced all
-
--- it joined by slot t, and its next index is that of the tables
-pub record IsCounted (t : ℕ) (tables : List Table) (m : Member) : Type 0 where
-  pub by_now : m.joined ≤ t
-  pub next_is : m.next ≡ next_index tables m
-
--- who joins at t has had no quantum
-counted_at : (s : Settings) (t : ℕ) (announced : List Said) (h : History) → length h.tables ≡ t → AllByRecursion (λ m. m.joined ≤ t) h.members → AllByRecursion (IsCounted t h.tables) (members_at s t announced h)
-counted_at s t announced h e all =
-    each_boundary t (IsCounted t h.tables)
-    (λ name w early. record { by_now = omega arith; next_is = sym (ap (λ ts. 1 + count_by (names_task name) ts) (drop_all t h.tables (omega (arith, e)))) })
-    (λ slot m c. record { by_now = c.by_now; next_is = c.next_is }) (λ index by m c. record { by_now = c.by_now; next_is = c.next_is })
-    (machine s) (announcements announced) (counted h.tables h.members)
-    (each_map (λ m. m.joined ≤ t) (IsCounted t h.tables) (counted_one h.tables) (λ m l. record { by_now = l; next_is = refl }) h.members all)
-
-pub long_history : (s : Settings) (x : Replica) (t : ℕ) → length (history s x t).tables ≡ t
-long_history s x zero = refl
-long_history s x (suc t) =
-    (let more = long_history s x t in let sum = length-append (history s x t).tables (table s x t ∷ []) in omega (arith, more, sum))
-
-pub joined_history : (s : Settings) (x : Replica) (t : ℕ) → AllByRecursion (λ m. m.joined ≤ t) (history s x t).members
-joined_history s x zero = tt
-joined_history s x (suc t) =
-    each (IsCounted t (history s x t).tables) (λ m. m.joined ≤ suc t) (λ m c. omega (arith, c.by_now)) (world s x t) (counted_at s t (said x t) (history s x t) (long_history s x t) (joined_history s x t))
-
-pub counted_world : (s : Settings) (x : Replica) (t : ℕ) → AllByRecursion (IsCounted t (history s x t).tables) (world s x t)
-counted_world s x t = counted_at s t (said x t) (history s x t) (long_history s x t) (joined_history s x t)
-
-pub joined_world : (s : Settings) (x : Replica) (t : ℕ) → AllByRecursion (λ m. m.joined ≤ t) (world s x t)
-joined_world s x t = each (IsCounted t (history s x t).tables) (λ m. m.joined ≤ t) (λ m c. c.by_now) (world s x t) (counted_world s x t)
 
 -- ---- a table's rows
 
@@ -96,6 +66,29 @@ all_ran_is (p ∷ picks) apart members =
     ∙ map-map (after_table picks) (λ m. if is_named p.name m then with_quantum m else m) members
     ∙ map_same (λ m. after_table picks (if is_named p.name m then with_quantum m else m)) (after_table (p ∷ picks)) members (λ m h. one_row p picks (apart_head (λ (p : Pick). p.name) p picks apart) m)
 
+-- ---- counted by the tables of a first run
+
+-- it joined by slot t, and its next index is that of the tables
+pub record IsCounted (t : ℕ) (tables : List Table) (m : Member) : Type 0 where
+  pub by_now : m.joined ≤ t
+  pub next_is : m.next ≡ next_index tables m
+
+-- who joins at t has had no quantum
+counted_at : (s : Settings) (t : ℕ) (announced : List Said) (h : History) → length h.tables ≡ t → AllByRecursion (IsCounted t h.tables) h.members → AllByRecursion (IsCounted t h.tables) (members_at s t announced h)
+counted_at s t announced h e =
+    each_boundary t (IsCounted t h.tables)
+    (λ name w early. record { by_now = omega arith; next_is = sym (ap (λ ts. 1 + count_by (names_task name) ts) (drop_all t h.tables (omega (arith, e)))) })
+    (λ slot m c. record { by_now = c.by_now; next_is = c.next_is }) (λ index by m c. record { by_now = c.by_now; next_is = c.next_is })
+    (machine s) (announcements announced) h.members
+
+pub long_from : (o : Origin) (s : Settings) (x : Replica) (t : ℕ) → length (history_from o s x t).tables ≡ t
+long_from o s x zero = refl
+long_from o s x (suc t) =
+    (let more = long_from o s x t in let sum = length-append (history_from o s x t).tables (table_from o s x t ∷ []) in omega (arith, more, sum))
+
+pub long_history : (s : Settings) (x : Replica) (t : ℕ) → length (history s x t).tables ≡ t
+long_history = long_from None
+
 -- a member, counted by one more table
 one_more : (t : ℕ) (tables : List Table) (table : Table) → length tables ≡ t → (m : Member) → IsCounted t tables m → after_table table m ≡ counted_one (tables ++ table ∷ []) m
 one_more t tables table e m h =
@@ -109,9 +102,36 @@ one_more t tables table e m h =
     by true n more = (let was = h.next_is in let now : m.next + 1 ≡ n = omega (arith, more, was) in ap (λ k. record m { next = k }) now)
     by false n more = (let was = h.next_is in let now : m.next ≡ n = omega (arith, more, was) in ap (λ k. record m { next = k }) now)
 
-pub runs_are_counted : RunsAreCounted
-runs_are_counted s x t =
+-- who is counted before a slot's table is counted after it
+still_counted : (t : ℕ) (tables : List Table) (table : Table) → length tables ≡ t → (m : Member) → IsCounted t tables m → IsCounted (suc t) (tables ++ table ∷ []) (counted_one (tables ++ table ∷ []) m)
+still_counted t tables table e m h = (let le = h.by_now in record { by_now = omega (arith, le); next_is = refl })
+
+-- adding one for each row is counting by the tables so far
+one_on : (s : Settings) (x : Replica) (t : ℕ) → AllByRecursion (IsCounted t (history s x t).tables) (world s x t) → all_ran (table s x t) (world s x t) ≡ counted (history s x (suc t)).tables (world s x t)
+one_on s x t count =
     let tables = (history s x t).tables in
     all_ran_is (table s x t) (tables_are_ordered s x t).2 (world s x t)
     ∙ map_same (after_table (table s x t)) (counted_one (tables ++ table s x t ∷ [])) (world s x t)
-    (λ m h. one_more t tables (table s x t) (long_history s x t) m (among_all (IsCounted t tables) (world s x t) (counted_world s x t) m h))
+    (λ m h. one_more t tables (table s x t) (long_history s x t) m (among_all (IsCounted t tables) (world s x t) count m h))
+
+counted_history : (s : Settings) (x : Replica) (t : ℕ) → AllByRecursion (IsCounted t (history s x t).tables) (history s x t).members
+counted_history s x zero = tt
+counted_history s x (suc t) =
+    let tables = (history s x t).tables in
+    let count = counted_at s t (said x t) (history s x t) (long_history s x t) (counted_history s x t) in
+    subst (AllByRecursion (IsCounted (suc t) (tables ++ table s x t ∷ []))) (sym (one_on s x t count))
+    (each_map (IsCounted t tables) (IsCounted (suc t) (tables ++ table s x t ∷ [])) (counted_one (tables ++ table s x t ∷ []))
+    (still_counted t tables (table s x t) (long_history s x t)) (world s x t) count)
+
+pub counted_world : (s : Settings) (x : Replica) (t : ℕ) → AllByRecursion (IsCounted t (history s x t).tables) (world s x t)
+counted_world s x t = counted_at s t (said x t) (history s x t) (long_history s x t) (counted_history s x t)
+
+pub runs_are_counted : RunsAreCounted
+runs_are_counted s x t = one_on s x t (counted_world s x t)
+
+pub joined_world : (s : Settings) (x : Replica) (t : ℕ) → AllByRecursion (λ m. m.joined ≤ t) (world s x t)
+joined_world s x t = each (IsCounted t (history s x t).tables) (λ m. m.joined ≤ t) (λ m c. c.by_now) (world s x t) (counted_world s x t)
+
+-- so the members of the next slot follow from those of this one, counted by the tables so far
+pub world_counted : (s : Settings) (x : Replica) (t : ℕ) → world s x (suc t) ≡ boundary (machine s) (suc t) (counted (history s x (suc t)).tables (world s x t)) (announcements (said x (suc t)))
+world_counted s x t = ap (λ ms. boundary (machine s) (suc t) ms (announcements (said x (suc t)))) (runs_are_counted s x t)

@@ -227,7 +227,7 @@ places_are_kept m tables fit = kept_on m [] [] (λ k h. absurd h) tt tables fit
 
 -- ---- the places follow from the tables
 
-follow_on : (before : Table) (old : List ℕ) (xs ys : List Table) (t : ℕ) → ((u : ℕ) → u ≤ t → slice_get xs u ≡ slice_get ys u) → slice_get (places_from before old xs) t ≡ slice_get (places_from before old ys) t
+pub follow_on : (before : Table) (old : List ℕ) (xs ys : List Table) (t : ℕ) → ((u : ℕ) → u ≤ t → slice_get xs u ≡ slice_get ys u) → slice_get (places_from before old xs) t ≡ slice_get (places_from before old ys) t
 follow_on before old [] [] t same = refl
 follow_on before old [] (y ∷ ys) t same = absurd (none-some y (same zero (omega arith)))
 follow_on before old (x ∷ xs) [] t same = absurd (some_none x (same zero (omega arith)))

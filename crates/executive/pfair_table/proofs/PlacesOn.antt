@@ -7,13 +7,15 @@ use Rattle.pfair_replica.specs.Replica.{Replica, numbers_below}
 use Rattle.pfair_weight.proofs.NamesApart.{apart_nil}
 use Rattle.pfair_table.specs.declared.pick.Decided.{Decided}
 use Rattle.pfair_table.specs.declared.pick.Pick.{Pick}
-use Rattle.pfair_table.specs.Table.{Settings, Table, table}
-use Rattle.pfair_table.specs.Places.{places_after, places_from, places_of}
+use Rattle.pfair_table.specs.Table.{Settings, Origin, Table, table_from}
+use Rattle.pfair_table.specs.Places.{places_after, places_from, places_in, table_before, places_before}
 use Rattle.pfair_table.specs.PlaceLaws.{IsFit}
 use Rattle.pfair_table.specs.Planned.{last_or}
 use Rattle.pfair_table.specs.Refinement.{IsPlanOf}
-use Rattle.pfair_replica.specs.Among.{Among, all_among, among_map}
-use Rattle.pfair_table.proofs.TableLaws.{tables_are_ordered}
+use Rattle.pfair_replica.specs.Among.{Among, all_among, among_all, among_map}
+use Rattle.pfair_table.proofs.TableLaws.{ordered_from}
+use Rattle.pfair_table.proofs.Members.{named_before}
+use Rattle.pfair_table.specs.Limits.{IsOrigin}
 use Rattle.pfair_table.proofs.Keeping.{tables_listed}
 use Rattle.pfair_table.proofs.PlacesKept.{below_after}
 
@@ -41,8 +43,9 @@ places_more : (before : Table) (old : List ℕ) (tables : List Table) (now : Tab
 places_more before old [] now = refl
 places_more before old (x ∷ tables) now = ap (λ (ps : List (List ℕ)). places_after before old x ∷ ps) (places_more x (places_after before old x) tables now)
 
-pub next_are : (tables : List Table) (now : Table) → places_of (tables ++ now ∷ []) ≡ places_of tables ++ places_after (last_or [] tables) (last_or [] (places_of tables)) now ∷ []
-next_are tables now = places_more [] [] tables now
+pub next_are : (o : Origin) (tables : List Table) (now : Table)
+    → places_in o (tables ++ now ∷ []) ≡ places_in o tables ++ places_after (last_or (table_before o) tables) (last_or (places_before o) (places_in o tables)) now ∷ []
+next_are o tables now = places_more (table_before o) (places_before o) tables now
 
 -- ---- places are processors, if tables have no more rows
 
@@ -53,19 +56,30 @@ few_below m before old below (now ∷ tables) few =
     let here = below_after m before old now below few.0.0 in
     (all_among (λ k. k < m) (places_after before old now) here.below, few_below m now (places_after before old now) here.below tables few.1)
 
-pub last_below : (m : ℕ) (tables : List Table) → AllByRecursion (IsFit m) tables → AllByRecursion (λ k. k < m) (last_or [] (places_of tables))
-last_below m tables few = last_all (λ (ps : List ℕ). AllByRecursion (λ k. k < m) ps) [] (places_of tables) tt (few_below m [] [] (λ k h. absurd h) tables few)
+pub last_below : (m : ℕ) (o : Origin) (tables : List Table) → AllByRecursion (λ k. k < m) (places_before o) → AllByRecursion (IsFit m) tables → AllByRecursion (λ k. k < m) (last_or (places_before o) (places_in o tables))
+last_below m o tables below few =
+    last_all (λ (ps : List ℕ). AllByRecursion (λ k. k < m) ps) (places_before o) (places_in o tables) below
+    (few_below m (table_before o) (places_before o) (among_all (λ k. k < m) (places_before o) below) tables few)
 
 -- ---- what a dispatcher plans
 
 -- the tables of a plan are fit
-pub fit_plan : {s : Settings} {held of : Replica} {tables : List Table} {decided : List (List Decided)} → IsPlanOf s held of tables decided → AllByRecursion (IsFit s.processors) tables
-fit_plan {s} {of} {tables} plan =
-    subst (AllByRecursion (IsFit s.processors)) (sym (plan.tables_are ∙ tables_listed s of (length tables)))
-    (all_among (IsFit s.processors) (map (table s of) (numbers_below (length tables)))
-    (λ rows h. (let t = among_map (table s of) (numbers_below (length tables)) rows h in
-    let o = tables_are_ordered s of t.0 in
-    subst (IsFit s.processors) (sym t.2) (o.0, o.2))))
+pub fit_plan : {o : Origin} {s : Settings} {held of : Replica} {tables : List Table} {decided : List (List Decided)} → IsOrigin o s → IsPlanOf o s held of tables decided → AllByRecursion (IsFit s.processors) tables
+fit_plan {o} {s} {of} {tables} began plan =
+    subst (AllByRecursion (IsFit s.processors)) (sym (plan.tables_are ∙ tables_listed o s of (length tables)))
+    (all_among (IsFit s.processors) (map (table_from o s of) (numbers_below (length tables)))
+    (λ rows h. (let t = among_map (table_from o s of) (numbers_below (length tables)) rows h in
+    let fit = ordered_from o s (named_before o s began) of t.0 in
+    subst (IsFit s.processors) (sym t.2) (fit.0, fit.2))))
 
-pub last_fit : (m : ℕ) (tables : List Table) → AllByRecursion (IsFit m) tables → IsFit m (last_or [] tables)
-last_fit m tables fit = last_all (IsFit m) [] tables (omega arith, apart_nil (λ (p : Pick). p.name)) fit
+pub last_fit : (m : ℕ) (before : Table) (tables : List Table) → IsFit m before → AllByRecursion (IsFit m) tables → IsFit m (last_or before tables)
+last_fit m before tables = last_all (IsFit m) before tables
+
+-- so is what a run takes over
+pub fit_before : (o : Origin) (s : Settings) → IsOrigin o s → IsFit s.processors (table_before o)
+fit_before None s began = (omega arith, apart_nil (λ (p : Pick). p.name))
+fit_before (Some c) s began = began.rows
+
+pub below_before : (o : Origin) (s : Settings) → IsOrigin o s → AllByRecursion (λ k. k < s.processors) (places_before o)
+below_before None s began = tt
+below_before (Some c) s began = began.below

@@ -1,10 +1,10 @@
 -- The queue of the members' next subtasks, through boundaries and quanta.
 use Rattle.std.proofs.Common.{ℕ, ◌+◌, ◌<◌, ◌≡◌, refl, sym, ap, ◌∙◌, subst, Bool, true, false, cond, List, [], ◌∷◌, ◌++◌, length, get_or, drop, Option, Some, None}
-use Rattle.std.specs.Prelude.{◌||◌, find, not, is_some, if◌then◌else◌}
+use Rattle.std.specs.Prelude.{◌||◌, find, not, is_some, slice_get, if◌then◌else◌}
 use Rattle.std.specs.Ordering.{eq_by_cmp}
 use Rattle.std.proofs.lemmas.Cmp.{nat_list_cmp_total}
 use Rattle.std.specs.FinMap as finmap
-use Rattle.std.specs.FinMap.{get-insert, get-remove, same_map}
+use Rattle.std.specs.FinMap.{get-empty, get-insert, get-remove, same_map}
 use Rattle.pfair_ready.proofs.Names.{names_exact, tied_names}
 use Rattle.std.proofs.lemmas.Bool.{true≢false, or_parts}
 use Rattle.std.proofs.lemmas.List.{drop_more}
@@ -20,12 +20,12 @@ use Rattle.pfair_entry.specs.Names.{name_of}
 use Rattle.pfair_entry.specs.Said.{Said}
 use Rattle.pfair_entry.specs.declared.announcement.Announcement.{Announcement}
 use Rattle.pfair_entry.specs.Exact.{name_exact, name_itself}
-use Rattle.std.proofs.lemmas.Option.{none-some, same_Some}
+use Rattle.std.proofs.lemmas.Option.{none-some, same_Some, slice_get_within, get_or_from_slice_get}
 use Rattle.pfair_ready.specs.Queue.{Queue}
 use Rattle.pfair_admission.specs.Admission.{Machine, is_named, member_named, newcomer, with_delay, with_freeing, change, effect, decision, present, is_freed, all_decided, boundary, announcements}
 use Rattle.pfair_admission.specs.Member.{Member, is_departing, eligible_from, next_key}
 use Rattle.pfair_admission.specs.declared.decision.Decision.{Decision}
-use Rattle.pfair_table.specs.Queue.{queued, IsQueue, IsQueueBut, IsToldOf, is_said}
+use Rattle.pfair_table.specs.Queue.{queued, IsQueue, IsQueueBesides, IsQueueBut, IsToldOf, is_of_some, is_said}
 use Rattle.pfair_admission.proofs.Effects.{by_effect}
 use Rattle.pfair_admission.proofs.NamesKept.{apart_present, apart_effect}
 
@@ -192,3 +192,27 @@ pub told_turn : (heard : List Said) (i : ℕ) (said : Said) (members : List Memb
     → IsQueueBut (drop i heard) members before → IsToldOf (name_of said.2) members before after → IsQueueBut (drop (i + 1) heard) members after
 told_turn heard i said members before after l e queue told =
     told_one said (drop (i + 1) heard) members before after (subst (λ (rest : List Said). IsQueueBut rest members before) (drop_item heard i said l e) queue) told
+
+-- ---- a ready structure that is made anew
+
+none_named : (name : Name) (members : List Member) → is_of_some name members ≡ false → member_named members name ≡ None
+none_named name [] e = refl
+none_named name (m ∷ members) e =
+    let parts = or_parts (name_eq name m.name) (is_of_some name members) e in
+    ap (λ b. cond b (Some m) (member_named members name)) parts.0 ∙ none_named name members parts.1
+
+-- an empty one has to be notified of all members
+pub besides_all : (members : List Member) (waiting : Queue) → waiting ≡ finmap.empty → IsQueueBesides members members waiting
+besides_all members waiting empty name e = ap (λ (h : Queue). finmap.get h name) empty ∙ get-empty name_cmp name ∙ sym (ap queued (none_named name members e))
+
+-- and one that was notified of a member has to be notified of one less
+pub besides_at : (members : List Member) (i : ℕ) (m : Member) (name : Name) (before after : Queue) → Some m ≡ slice_get members i → name ≡ m.name
+    → IsQueueBesides (drop i members) members before → IsToldOf name members before after → IsQueueBesides (drop (i + 1) members) members after
+besides_at members i m told before after at is queue anew name e = by (name_eq name told) refl (anew name)
+  where
+    rest : is_of_some name (drop i members) ≡ name_eq name m.name || is_of_some name (drop (i + 1) members)
+    rest = ap (is_of_some name) (drop_item members i m (slice_get_within members i m (sym at)) (sym (get_or_from_slice_get members i m m (sym at))))
+
+    by : (b : Bool) → name_eq name told ≡ b → finmap.get after name ≡ (if b then queued (member_named members told) else finmap.get before name) → finmap.get after name ≡ queued (member_named members name)
+    by true q now = now ∙ ap (λ n. queued (member_named members n)) (sym (name_exact name told q))
+    by false q now = now ∙ queue name (rest ∙ ap (λ b. b || is_of_some name (drop (i + 1) members)) (ap (name_eq name) (sym is) ∙ q) ∙ e)

@@ -17,14 +17,14 @@ use Rattle.pfair_replica.specs.Replica.{Replica, IsReplica, Below, Untorn, Agree
 use Rattle.pfair_replica.proofs.Marks.{below_agree, frontier_le}
 use Rattle.pfair_replica.proofs.OfferedTo.{offered_stays}
 use Rattle.pfair_replica.proofs.TornKeys.{untorn_by_test}
-use Rattle.pfair_table.specs.Table.{Settings, Table, table, decisions, plan}
+use Rattle.pfair_table.specs.Table.{Settings, Origin, Table, table, table_from, decisions_from, plan}
 use Rattle.pfair_table.specs.declared.pick.Decided.{Decided}
 use Rattle.pfair_replica.specs.Offered.{taken, absorbed}
 use Rattle.pfair_table.specs.declared.event.Event.{Event}
 use Rattle.pfair_table.specs.declared.event.Event.TheVariants.{Take, Absorb, Plan}
 use Rattle.pfair_table.specs.Events.{IsEvent, Course, start, is_plannable, with_next_slot, happens, run, run_of}
 use Rattle.pfair_table.specs.Laws.{IsOf, IsPrefixOf, OneSchedule, PlanSoFar}
-use Rattle.pfair_table.proofs.TableLaws.{one_table, prefix_map}
+use Rattle.pfair_table.proofs.TableLaws.{one_table, one_table_from, prefix_map}
 
 -- ---- lists
 
@@ -81,19 +81,19 @@ below_all x y z f g k n = below_trans (x.at k n) (y.at k n) (z.at k n) (f k n) (
 -- ---- what was planned
 
 -- slot t was planned of this replica
-record WasPlanned (s : Settings) (of : Replica) (tables : List Table) (decided : List (List Decided)) (t : ℕ) : Type 0 where
+record WasPlanned (o : Origin) (s : Settings) (of : Replica) (tables : List Table) (decided : List (List Decided)) (t : ℕ) : Type 0 where
   pub is_of : IsOf s of
   pub whole : Untorn of
   pub early : t < frontier of
   pub wanted : t < s.slots
-  pub table_is : slice_get tables t ≡ Some (table s of t)
-  pub decided_is : slice_get decided t ≡ Some (decisions s of t)
+  pub table_is : slice_get tables t ≡ Some (table_from o s of t)
+  pub decided_is : slice_get decided t ≡ Some (decisions_from o s of t)
 
 -- each slot was planned of a replica that is still held
 record IsSound (s : Settings) (c : Course) : Type 0 where
   pub is_of : IsOf s c.held
   pub as_many : length c.decided ≡ length c.tables
-  pub planned : (t : ℕ) → t < length c.tables → (of : Replica) × Below of c.held × WasPlanned s of c.tables c.decided t
+  pub planned : (t : ℕ) → t < length c.tables → (of : Replica) × Below of c.held × WasPlanned c.origin s of c.tables c.decided t
 
 -- with more held
 sound_more : (s : Settings) (c : Course) (x : Replica) → IsSound s c → IsOf s x → Below c.held x → IsSound s (record c { held = x })
@@ -109,10 +109,10 @@ sound_next s c sound ok =
     let p = and_parts (not (has_torn c.held)) (nat_lt (length c.tables) (frontier c.held) && nat_lt (length c.tables) s.slots) ok in
     let q = and_parts (nat_lt (length c.tables) (frontier c.held)) (nat_lt (length c.tables) s.slots) p.1 in
     let u = length c.tables in
-    let tables = c.tables ++ table s c.held u ∷ [] in
-    let decided = c.decided ++ decisions s c.held u ∷ [] in
-    let lt = length-append c.tables (table s c.held u ∷ []) in
-    let ld = length-append c.decided (decisions s c.held u ∷ []) in
+    let tables = c.tables ++ table_from c.origin s c.held u ∷ [] in
+    let decided = c.decided ++ decisions_from c.origin s c.held u ∷ [] in
+    let lt = length-append c.tables (table_from c.origin s c.held u ∷ []) in
+    let ld = length-append c.decided (decisions_from c.origin s c.held u ∷ []) in
     let same = sound.as_many in
     record {
       is_of = sound.is_of;
@@ -126,21 +126,21 @@ sound_next s c sound ok =
             whole = w.2.whole;
             early = w.2.early;
             wanted = w.2.wanted;
-            table_is = get_left c.tables (table s c.held u ∷ []) t old ∙ w.2.table_is;
-            decided_is = get_left c.decided (decisions s c.held u ∷ []) t (omega (arith, same, old)) ∙ w.2.decided_is;
+            table_is = get_left c.tables (table_from c.origin s c.held u ∷ []) t old ∙ w.2.table_is;
+            decided_is = get_left c.decided (decisions_from c.origin s c.held u ∷ []) t (omega (arith, same, old)) ∙ w.2.decided_is;
           },
         ))
         | inr new ↦ (
           c.held,
           (λ k n. below_itself (c.held.at k n)),
           (let e : u ≡ t = omega (arith, new, l, lt) in
-              subst (WasPlanned s c.held tables decided) e (record {
+              subst (WasPlanned c.origin s c.held tables decided) e (record {
                 is_of = sound.is_of;
                 whole = untorn_by_test c.held sound.is_of.replica (not-true (has_torn c.held) p.0);
                 early = ltb-true u (frontier c.held) q.0;
                 wanted = ltb-true u s.slots q.1;
-                table_is = get_last c.tables (table s c.held u);
-                decided_is = ap (slice_get decided) (sym same) ∙ get_last c.decided (decisions s c.held u);
+                table_is = get_last c.tables (table_from c.origin s c.held u);
+                decided_is = ap (slice_get decided) (sym same) ∙ get_last c.decided (decisions_from c.origin s c.held u);
               })),
         )
       ];
@@ -178,14 +178,28 @@ agree_down x a y b f g agree k n torn =
 pub untorn_left : (x y : Replica) → Agree x y → Untorn x
 untorn_left x y agree k n torn = elim (join_first entry_eq entry_exact (x.at k n) (y.at k n) Torn torn) [ inl h ↦ agree k n h | inr h ↦ agree k n h ]
 
+-- events don't change where the run began
+origin_happens : (s : Settings) (c : Course) (e : Event) → (happens s c e).origin ≡ c.origin
+origin_happens s c (Take k n e) = refl
+origin_happens s c (Absorb y) = refl
+origin_happens s c Plan = by (is_plannable s c.held (length c.tables))
+  where
+    by : (b : Bool) → (if b then with_next_slot s c else c).origin ≡ c.origin
+    by true = refl
+    by false = refl
+
+origin_stays : (s : Settings) (events : List Event) (c : Course) → (run s c events).origin ≡ c.origin
+origin_stays s [] c = refl
+origin_stays s (e ∷ events) c = origin_stays s events (happens s c e) ∙ origin_happens s c e
+
 -- if nothing that is held is torn, what was planned is planned of that
-planned_now : (s : Settings) (c : Course) → IsSound s c → Untorn c.held → (t : ℕ) → t < length c.tables → WasPlanned s c.held c.tables c.decided t
+planned_now : (s : Settings) (c : Course) → IsSound s c → Untorn c.held → (t : ℕ) → t < length c.tables → WasPlanned c.origin s c.held c.tables c.decided t
 planned_now s c sound whole t l =
     let p = sound.planned t l in
     let w = p.2 in
     let le = frontier_le p.0 c.held sound.is_of.replica (w.is_of.processors ∙ sym sound.is_of.processors) p.1 whole in
     let early : t < frontier c.held = omega (arith, le, w.early) in
-    let same = one_table s p.0 c.held w.is_of sound.is_of (below_agree p.0 c.held p.1 whole) t w.early early in
+    let same = one_table_from c.origin s p.0 c.held w.is_of sound.is_of (below_agree p.0 c.held p.1 whole) t w.early early in
     record {
       is_of = sound.is_of;
       whole = whole;
@@ -202,11 +216,13 @@ one_schedule s m n es fs all_es all_fs agree t lc ld =
     let sound = sound_run s es (start s m) all_es (sound_start s m) in
     let v = planned_now s c sound (untorn_left c.held d.held agree) t lc in
     let w = (sound_run s fs (start s n) all_fs (sound_start s n)).planned t ld in
-    let there = one_table s c.held w.0 sound.is_of w.2.is_of (agree_down c.held c.held w.0 d.held (λ k n. below_itself (c.held.at k n)) w.1 agree) t v.early w.2.early in (
-      v.table_is,
-      w.2.table_is ∙ ap Some (sym there.0),
-      v.decided_is,
-      w.2.decided_is ∙ ap Some (sym there.1),
+    let there = one_table s c.held w.0 sound.is_of w.2.is_of (agree_down c.held c.held w.0 d.held (λ k n. below_itself (c.held.at k n)) w.1 agree) t v.early w.2.early in
+    let first = origin_stays s es (start s m) in
+    let other = origin_stays s fs (start s n) in (
+      v.table_is ∙ ap (λ o. Some (table_from o s c.held t)) first,
+      w.2.table_is ∙ ap (λ o. Some (table_from o s w.0 t)) other ∙ ap Some (sym there.0),
+      v.decided_is ∙ ap (λ o. Some (decisions_from o s c.held t)) first,
+      w.2.decided_is ∙ ap (λ o. Some (decisions_from o s w.0 t)) other ∙ ap Some (sym there.1),
     )
 
 -- a list of as many tables, each that of its slot, begins the plan
@@ -228,4 +244,4 @@ plan_so_far s m events all untorn =
     let now = planned_now s c (sound_run s events (start s m) all (sound_start s m)) untorn in
     begins_plan s c.held c.tables
     (all_below (length c.tables) (min (frontier c.held) s.slots) (λ t l. (let w = now t l in omega (arith, w.early, w.wanted))))
-    (λ t l. (now t l).table_is)
+    (λ t l. (now t l).table_is ∙ ap (λ o. Some (table_from o s c.held t)) (origin_stays s events (start s m)))

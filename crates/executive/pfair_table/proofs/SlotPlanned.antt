@@ -9,7 +9,7 @@ use Rattle.pfair_ready.specs.Queue.{Queue}
 use Rattle.pfair_admission.specs.Roster.{Roster}
 use Rattle.pfair_table.specs.declared.pick.Decided.{Decided}
 use Rattle.pfair_table.specs.Events.{is_plannable}
-use Rattle.pfair_table.specs.Table.{Settings, Table, table, decisions}
+use Rattle.pfair_table.specs.Table.{Settings, Table, table, decisions, table_from, decisions_from}
 use Rattle.pfair_table.specs.declared.slot.SlotPlan.{SlotPlan}
 use Rattle.pfair_table.specs.PlaceLaws.{IsFit}
 use Rattle.pfair_table.specs.Refinement.{Dispatch, IsInStep, IsKept, IsWholePlan}
@@ -43,14 +43,14 @@ none_settled s x n le = one_false (not (has_torn x)) (nat_lt n (frontier x)) (na
 -- ---- the slots so far
 
 pub tables_long : (s : Settings) (x : HeldRows) (n : ℕ) → length (tables_to s x n) ≡ n
-tables_long s x n = ap length (tables_listed s (replica_of x) n) ∙ (length-map (numbers_below n) (table s (replica_of x)) ∙ length_numbers n)
+tables_long s x n = ap length (tables_listed None s (replica_of x) n) ∙ (length-map (numbers_below n) (table s (replica_of x)) ∙ length_numbers n)
 
 one_more : (n : ℕ) → n + 1 ≡ suc n
 one_more n = omega arith
 
 -- what is seen of a replica, if n slots are planned of what was held before
 abbrev at_slot : Settings → HeldRows → HeldRows → ℕ → Bool → Dispatch
-at_slot s x of n spent = record { settings = s; held = x; tables = tables_to s of n; decided = decided_to s of n; forgotten = n; spent = spent }
+at_slot s x of n spent = record { settings = s; origin = None; held = x; tables = tables_to s of n; decided = decided_to s of n; forgotten = n; spent = spent }
 
 -- and what the next plan of that answers
 module _ (of : HeldRows) (n : ℕ) {s : Settings} {x : HeldRows} {spent : Bool} {d : Dispatch} (view : at_slot s x of n spent ≡ d) where
@@ -77,24 +77,24 @@ module _ (of : HeldRows) (n : ℕ) {s : Settings} {x : HeldRows} {spent : Bool} 
       let ordered = tables_are_ordered s (replica_of d.held) n in
       let few = ordered.0 in (
         slot_plannable test early wanted,
-        table_is ∙ (λ i. table (settings_are i) (replica_of d.held) (planned_are i)),
-        decided_is ∙ (λ i. decisions (settings_are i) (replica_of d.held) (planned_are i)),
+        table_is ∙ (λ i. table_from ((view i).origin) (settings_are i) (replica_of d.held) (planned_are i)),
+        decided_is ∙ (λ i. decisions_from ((view i).origin) (settings_are i) (replica_of d.held) (planned_are i)),
         subst (IsFit 64) (sym table_is) (omega (arith, few, most), ordered.2),
       )
 
-pub within : (of : HeldRows) (n : ℕ) {s : Settings} {x : Replica} {spent : Bool} {roster : Roster} {now : ℕ} {waiting : Queue} → IsKept s x (tables_to s of n) (decided_to s of n) spent roster now waiting → n ≤ s.slots
+pub within : (of : HeldRows) (n : ℕ) {s : Settings} {x : Replica} {spent : Bool} {roster : Roster} {now : ℕ} {waiting : Queue} → IsKept None s x (tables_to s of n) (decided_to s of n) spent roster now waiting → n ≤ s.slots
 within of n {s} kept = omega (arith, kept.plan.wanted, tables_long s of n)
 
-module _ (of : HeldRows) (n : ℕ) {s : Settings} {x : HeldRows} {spent : Bool} {roster : Roster} {now : ℕ} {waiting : Queue} (kept : IsKept s (replica_of x) (tables_to s of n) (decided_to s of n) spent roster now waiting) where
+module _ (of : HeldRows) (n : ℕ) {s : Settings} {x : HeldRows} {spent : Bool} {roster : Roster} {now : ℕ} {waiting : Queue} (kept : IsKept None s (replica_of x) (tables_to s of n) (decided_to s of n) spent roster now waiting) where
   module _ {d : Dispatch} (view : at_slot s x of n spent ≡ d) (sound : IsReplica (replica_of d.held)) (test : has_torn (replica_of d.held) ≡ false) where
     abbrev y : Replica
     y = replica_of d.held
 
-    pub kept_of : IsKept s y (tables_to s of n) (decided_to s of n) spent roster now waiting
-    kept_of = subst (λ (h : HeldRows). IsKept s (replica_of h) (tables_to s of n) (decided_to s of n) spent roster now waiting) (ap (λ (e : Dispatch). e.held) view) kept
+    pub kept_of : IsKept None s y (tables_to s of n) (decided_to s of n) spent roster now waiting
+    kept_of = subst (λ (h : HeldRows). IsKept None s (replica_of h) (tables_to s of n) (decided_to s of n) spent roster now waiting) (ap (λ (e : Dispatch). e.held) view) kept
 
-    pub step_seen : spent ≡ false → IsInStep s y n roster now waiting
-    step_seen able = subst (λ k. IsInStep s y k roster now waiting) (tables_long s of n) (step_now kept_of sound test able)
+    pub step_seen : spent ≡ false → IsInStep None s y n roster now waiting
+    step_seen able = subst (λ k. IsInStep None s y k roster now waiting) (tables_long s of n) (step_now kept_of sound test able)
 
     pub whole_seen : min (frontier y) s.slots ≤ n → IsWholePlan d
     whole_seen far =
@@ -109,16 +109,16 @@ module _ (of : HeldRows) (n : ℕ) {s : Settings} {x : HeldRows} {spent : Bool} 
         ap (decided_to s d.held) (one_more n) ∙ map-append (decisions s y) (numbers_below n) (n ∷ [])
         ∙ ap (λ (ds : List (List Decided)). ds ++ decisions s y n ∷ []) (sym ((plan_now kept_of sound test).decided_are ∙ ap (decided_to s d.held) (tables_long s of n)))
 
-    pub kept_seen : {z : HeldRows} {roster2 : Roster} {now2 : ℕ} {waiting2 : Queue} → z ≡ d.held → n < frontier y → n < s.slots → IsInStep s y (n + 1) roster2 now2 waiting2
-        → IsKept s (replica_of x) (tables_to s z (n + 1)) (decided_to s z (n + 1)) spent roster2 now2 waiting2
+    pub kept_seen : {z : HeldRows} {roster2 : Roster} {now2 : ℕ} {waiting2 : Queue} → z ≡ d.held → n < frontier y → n < s.slots → IsInStep None s y (n + 1) roster2 now2 waiting2
+        → IsKept None s (replica_of x) (tables_to s z (n + 1)) (decided_to s z (n + 1)) spent roster2 now2 waiting2
     kept_seen {roster2} {now2} {waiting2} same early wanted step =
         let long = tables_long s of n in
         let held_is : x ≡ d.held = ap (λ (e : Dispatch). e.held) view in
-        subst (λ (h : HeldRows × HeldRows). IsKept s (replica_of h.0) (tables_to s h.1 (n + 1)) (decided_to s h.1 (n + 1)) spent roster2 now2 waiting2) (λ i. (sym held_is i, sym same i))
+        subst (λ (h : HeldRows × HeldRows). IsKept None s (replica_of h.0) (tables_to s h.1 (n + 1)) (decided_to s h.1 (n + 1)) spent roster2 now2 waiting2) (λ i. (sym held_is i, sym same i))
         (kept_next kept_of sound test (omega (arith, early, long)) (omega (arith, wanted, long))
         (tables_more ∙ ap (λ k. tables_to s of n ++ table s y k ∷ []) (sym long))
         (decided_more ∙ ap (λ k. decided_to s of n ++ decisions s y k ∷ []) (sym long))
-        (subst (λ k. IsInStep s y k roster2 now2 waiting2) (sym (tables_long s d.held (n + 1))) step))
+        (subst (λ k. IsInStep None s y k roster2 now2 waiting2) (sym (tables_long s d.held (n + 1))) step))
 
     pub seen_after : {z : HeldRows} (next : SlotPlan) → z ≡ d.held → next.table.items ≡ table s y n → next.decided.items ≡ decisions s y n → at_slot s x z (n + 1) spent ≡ after_plan d (Some next)
     seen_after next same table_is decided_is =

@@ -1,23 +1,27 @@
 -- What holds before a slot holds before the next.
-use Rattle.std.proofs.Common.{ℕ, ◌+◌, ◌≤◌, ◌≡◌, sym, subst, arith, Bool, true, false, List, [], ◌∷◌, map, Some}
+use Rattle.std.proofs.Common.{ℕ, zero, suc, ◌+◌, ◌≤◌, ◌<◌, ◌≡◌, sym, subst, arith, Bool, true, false, List, Some, None}
 use Rattle.std.specs.Prelude.{if◌then◌else◌}
 use Rattle.std.specs.Option.{ForSome}
 use Rattle.std.specs.List.{AllByRecursion}
 use Rattle.pfair_entry.specs.declared.announcement.Announcement.{Announcement}
 use Rattle.pfair_entry.specs.Said.{Said}
-use Rattle.pfair_table.specs.Ranks.{first_by_rank}
 use Rattle.pfair_ready.specs.Queue.{Queue}
 use Rattle.pfair_weight.specs.Name.{NamesApart}
-use Rattle.pfair_admission.specs.Admission.{Machine, boundary, announcements, ran, with_quantum}
+use Rattle.pfair_admission.specs.Admission.{Machine, boundary, announcements, with_quantum}
 use Rattle.pfair_admission.specs.Member.{Member}
 use Rattle.pfair_admission.specs.Roster.{Roster}
 use Rattle.pfair_table.specs.declared.pick.Pick.{Pick}
-use Rattle.pfair_table.specs.Table.{Table, eligible, pick, all_ran, names_task}
+use Rattle.pfair_table.specs.Table.{Settings, Origin, Table, machine, members_before, slot_of, history_from, world_from, table_from, all_ran, names_task}
 use Rattle.pfair_table.specs.Queue.{IsQueue, IsSteady}
-use Rattle.pfair_admission.proofs.NamesKept.{apart_boundary, apart_ran}
+use Rattle.pfair_table.specs.Limits.{IsOrigin}
+use Rattle.pfair_admission.specs.declared.members.TheConstants.Members.{LAST_SLOT}
+use Rattle.pfair_weight.specs.declared.window.TheConstants.{MAX_INDEX}
+use Rattle.pfair_admission.proofs.NamesKept.{apart_boundary}
 use Rattle.std.proofs.lemmas.Option.{same_Some}
-use Rattle.pfair_table.proofs.TableLaws.{rows_apart}
-use Rattle.pfair_admission.proofs.Each.{each_map}
+use Rattle.pfair_table.proofs.TableLaws.{ordered_from}
+use Rattle.pfair_table.proofs.Members.{label, named_before, named_ran}
+use Rattle.pfair_admission.proofs.Each.{each, each_map}
+use Rattle.pfair_replica.specs.Replica.{Replica, said}
 use Rattle.pfair_table.proofs.NextIndexes.{each_boundary, all_ran_is, after_table}
 
 -- ---- next indexes
@@ -34,20 +38,42 @@ few_ran n picks differ members all =
     by m h true = omega (arith, h)
     by m h false = omega (arith, h)
 
-named_ran : (picks : Table) (members : List Member) → NamesApart (λ (m : Member). m.name) members → NamesApart (λ (m : Member). m.name) (all_ran picks members)
-named_ran [] members a = a
-named_ran (p ∷ picks) members a = named_ran picks (ran p.name members) (apart_ran p.name members a)
+-- in each slot of a run an index rises by one at most
+pub few_history : (o : Origin) (s : Settings) (most : ℕ) → 1 ≤ most → NamesApart label (members_before o) → AllByRecursion (λ m. m.next ≤ most) (members_before o) → (x : Replica) (t : ℕ)
+    → AllByRecursion (λ m. m.next ≤ most + t) (history_from o s x t).members
+few_history o s most some named few x zero = each (λ m. m.next ≤ most) (λ m. m.next ≤ most + 0) (λ m h. omega (arith, h)) (members_before o) few
+few_history o s most some named few x (suc t) =
+    let world = world_from o s x t in
+    let before = few_history o s most some named few x t in
+    each (λ m. m.next ≤ most + t + 1) (λ m. m.next ≤ most + suc t) (λ m h. omega (arith, h)) (all_ran (table_from o s x t) world)
+    (few_ran (most + t) (table_from o s x t) (ordered_from o s named x t).2 world
+    (few_boundary (most + t) (machine s) (slot_of o t) (omega (arith, some)) (announcements (said x t)) (history_from o s x t).members before))
+
+-- so in each slot that a run can have, a member can run
+pub few_before : (o : Origin) (s : Settings) → IsOrigin o s → (x : Replica) (t : ℕ) → t < 1000000 → AllByRecursion (λ m. m.next < MAX_INDEX) (history_from o s x t).members
+few_before o s began x t early =
+    each (λ m. m.next ≤ 1000001 + t) (λ m. m.next < MAX_INDEX) (λ m h. omega (arith, h, early)) (history_from o s x t).members
+    (few_history o s 1000001 (omega arith) (named_before o s began) (few o began) x t)
+  where
+    few : (o : Origin) → IsOrigin o s → AllByRecursion (λ m. m.next ≤ 1000001) (members_before o)
+    few None began = tt
+    few (Some c) began = began.few
+
+-- and its time is within that of members
+pub in_time : (o : Origin) (s : Settings) → IsOrigin o s → s.slots ≤ 1000000 → (t : ℕ) → t < s.slots → slot_of o t ≤ LAST_SLOT
+in_time None s began few t early = omega (arith, few, early)
+in_time (Some c) s began few t early = (let last = began.in_time in omega (arith, last, early))
 
 some_slot : (slot : ℕ) → ForSome (Some slot) (λ last. last ≤ slot + 1)
 some_slot slot x e = (let s = same_Some slot x e in omega (arith, s))
 
 -- after the quanta of a slot all is steady for the next
-pub steady_next : {slot now now2 : ℕ} {before after : Roster} {waiting waiting2 : Queue} {rows : Table} (heard : List Said) (m : ℕ)
+pub steady_next : {slot now now2 : ℕ} {before after : Roster} {waiting waiting2 : Queue} (rows : Table) (heard : List Said)
     → IsSteady slot before now waiting
     → let world = boundary before.machine slot before.members (announcements heard) in
-    rows ≡ map (pick world) (first_by_rank m (eligible slot world)) → after.members ≡ all_ran rows world → after.last_slot ≡ Some slot → now2 ≡ slot → IsQueue after.members waiting2
+    after.members ≡ all_ran rows world → after.last_slot ≡ Some slot → now2 ≡ slot → IsQueue after.members waiting2
     → IsSteady (slot + 1) after now2 waiting2
-steady_next {slot} {before} {rows} heard m steady rows_are ran_are last_is now_is queue =
+steady_next {slot} {before} rows heard steady ran_are last_is now_is queue =
     let world = boundary before.machine slot before.members (announcements heard) in
     let named = apart_boundary before.machine slot before.members (announcements heard) steady.named in
     record {
@@ -55,6 +81,4 @@ steady_next {slot} {before} {rows} heard m steady rows_are ran_are last_is now_i
       queue = queue;
       by_now = omega (arith, now_is);
       order = subst (λ o. ForSome o (λ last. last ≤ slot + 1)) (sym last_is) (some_slot slot);
-      few = subst (AllByRecursion (λ m. m.next ≤ slot + 1 + 1)) (sym ran_are) (few_ran (slot + 1) rows (subst (NamesApart (λ (p : Pick). p.name)) (sym rows_are) (rows_apart m slot world named)) world
-          (few_boundary (slot + 1) before.machine slot (omega arith) (announcements heard) before.members steady.few));
     }

@@ -16,49 +16,53 @@ use Rattle.pfair_ready.specs.Queue.{Queue}
 use Rattle.pfair_admission.specs.Admission.{boundary, announcements}
 use Rattle.pfair_admission.specs.Roster.{Roster}
 use Rattle.pfair_table.specs.declared.pick.Decided.{Decided}
-use Rattle.pfair_table.specs.Table.{Settings, Table, eligible, pick, all_ran, history, world, table, decisions, counted}
+use Rattle.pfair_table.specs.Table.{Settings, Origin, Table, eligible, pick, slot_of, all_ran, history_from, world_from, table_from, decisions_from}
 use Rattle.pfair_table.specs.Laws.{IsOf}
 use Rattle.pfair_table.specs.Queue.{IsSteady}
 use Rattle.pfair_table.specs.Refinement.{IsPlanOf, IsInStep, IsKept, heard_before}
 use Rattle.pfair_replica.specs.Among.{map_same, among_below}
-use Rattle.pfair_table.proofs.TableLaws.{same_history, one_table}
-use Rattle.pfair_table.proofs.NextIndexes.{runs_are_counted}
+use Rattle.pfair_table.proofs.TableLaws.{same_history, one_table_from}
 use Rattle.pfair_table.proofs.Runs.{below_all, length_numbers}
 
 -- ---- the members that the boundary leaves are the definition's
 
-world_is : {s : Settings} {x : Replica} {n : ℕ} {before : Roster} {now : ℕ} {waiting : Queue} → IsInStep s x n before now waiting → boundary before.machine n before.members (announcements (said x n)) ≡ world s x n
-world_is {x} {n} step = let m = step.machine_is in let ms = step.members_are in λ i. boundary (m i) n (ms i) (announcements (said x n))
+world_is : {o : Origin} {s : Settings} {x : Replica} {n : ℕ} {before : Roster} {now : ℕ} {waiting : Queue} → IsInStep o s x n before now waiting → {at : ℕ} → at ≡ slot_of o n
+    → boundary before.machine at before.members (announcements (said x n)) ≡ world_from o s x n
+world_is {x} {n} step at_is = let m = step.machine_is in let ms = step.members_are in λ i. boundary (m i) (at_is i) (ms i) (announcements (said x n))
 
-rows_are : {s : Settings} {x : Replica} {n : ℕ} {before : Roster} {now : ℕ} {waiting : Queue} → IsInStep s x n before now waiting → {processors : ℕ} → processors ≡ s.processors → {rows : Table}
-    → (let w = boundary before.machine n before.members (announcements (said x n)) in rows ≡ map (pick w) (first_by_rank processors (eligible n w))) → rows ≡ table s x n
-rows_are {n} step many is =
-    let w = world_is step in
-    is ∙ (λ i. map (pick (w i)) (first_by_rank (many i) (eligible n (w i))))
+rows_are : {o : Origin} {s : Settings} {x : Replica} {n : ℕ} {before : Roster} {now : ℕ} {waiting : Queue} → IsInStep o s x n before now waiting → {at processors : ℕ} → at ≡ slot_of o n → processors ≡ s.processors → {rows : Table}
+    → (let w = boundary before.machine at before.members (announcements (said x n)) in rows ≡ map (pick w) (first_by_rank processors (eligible at w))) → rows ≡ table_from o s x n
+rows_are step at_is many is =
+    let w = world_is step at_is in
+    is ∙ (λ i. map (pick (w i)) (first_by_rank (many i) (eligible (at_is i) (w i))))
+
+slot_next : (o : Origin) (n : ℕ) → slot_of o n + 1 ≡ slot_of o (n + 1)
+slot_next None n = refl
+slot_next (Some c) n = omega arith
 
 -- One slot on.
-step_next : {s : Settings} {x : Replica} {n : ℕ} {before after : Roster} {now now2 : ℕ} {waiting waiting2 : Queue} {rows : Table} → IsInStep s x n before now waiting
-    → rows ≡ table s x n → after.machine ≡ before.machine → after.members ≡ all_ran rows (boundary before.machine n before.members (announcements (said x n)))
-    → after.heard ≡ before.heard + length (said x n) → IsSteady (n + 1) after now2 waiting2 → IsInStep s x (n + 1) after now2 waiting2
-step_next {s} {x} {n} step rows_is machine_is ran_is heard_is steady =
-    let w = world_is step in
+step_next : {o : Origin} {s : Settings} {x : Replica} {n : ℕ} {before after : Roster} {now now2 : ℕ} {waiting waiting2 : Queue} {rows : Table} → IsInStep o s x n before now waiting → {at : ℕ} → at ≡ slot_of o n
+    → rows ≡ table_from o s x n → after.machine ≡ before.machine → after.members ≡ all_ran rows (boundary before.machine at before.members (announcements (said x n)))
+    → after.heard ≡ before.heard + length (said x n) → IsSteady (at + 1) after now2 waiting2 → IsInStep o s x (n + 1) after now2 waiting2
+step_next {o} {s} {x} {n} {after} {now2} {waiting2} step at_is rows_is machine_is ran_is heard_is steady =
+    let w = world_is step at_is in
     let one : suc n ≡ n + 1 = omega arith in
     record {
       machine_is = machine_is ∙ step.machine_is;
-      members_are = ran_is ∙ (λ i. all_ran (rows_is i) (w i)) ∙ runs_are_counted s x n ∙ ap (λ k. counted (history s x k).tables (history s x k).members) one;
+      members_are = ran_is ∙ (λ i. all_ran (rows_is i) (w i)) ∙ ap (λ k. (history_from o s x k).members) one;
       heard_is = heard_is ∙ ap (λ k. k + length (said x n)) step.heard_is ∙ ap (heard_before x) one;
-      steady = steady;
+      steady = subst (λ t. IsSteady t after now2 waiting2) (ap (λ t. t + 1) at_is ∙ slot_next o n) steady;
     }
 
 -- so what a slot's plan leaves is in step
-pub step_after : {s : Settings} {x : Replica} {n : ℕ} {before : Roster} {now : ℕ} {waiting : Queue} {heard : List Said} {processors : ℕ} (after : Roster) (now2 : ℕ) (waiting2 : Queue) (r : Result SlotPlan AllocError)
-    → IsInStep s x n before now waiting → heard ≡ said x n → processors ≡ s.processors
-    → IfOk r (λ p. let w = boundary before.machine n before.members (announcements heard) in p.table.items ≡ map (pick w) (first_by_rank processors (eligible n w)))
-    → IfOk r (λ p. after.members ≡ all_ran p.table.items (boundary before.machine n before.members (announcements heard)))
-    → OnOk r (after.machine ≡ before.machine) → OnOk r (after.heard ≡ before.heard + length heard) → OnOk r (IsSteady (n + 1) after now2 waiting2) → OnOk r (IsInStep s x (n + 1) after now2 waiting2)
-step_after after now2 waiting2 (Ok p) step is many rows ran machine count steady =
-    step_next step (rows_are step many (rw is at rows)) machine (rw is at ran) (rw is at count) steady
-step_after after now2 waiting2 (Err e) step is many rows ran machine count steady = tt
+pub step_after : {o : Origin} {s : Settings} {x : Replica} {n : ℕ} {before : Roster} {now : ℕ} {waiting : Queue} {heard : List Said} {processors : ℕ} (after : Roster) (now2 : ℕ) (waiting2 : Queue) (r : Result SlotPlan AllocError)
+    → IsInStep o s x n before now waiting → {at : ℕ} → at ≡ slot_of o n → heard ≡ said x n → processors ≡ s.processors
+    → IfOk r (λ p. let w = boundary before.machine at before.members (announcements heard) in p.table.items ≡ map (pick w) (first_by_rank processors (eligible at w)))
+    → IfOk r (λ p. after.members ≡ all_ran p.table.items (boundary before.machine at before.members (announcements heard)))
+    → OnOk r (after.machine ≡ before.machine) → OnOk r (after.heard ≡ before.heard + length heard) → OnOk r (IsSteady (at + 1) after now2 waiting2) → OnOk r (IsInStep o s x (n + 1) after now2 waiting2)
+step_after after now2 waiting2 (Ok p) step at_is is many rows ran machine count steady =
+    step_next step at_is (rows_are step at_is many (rw is at rows)) machine (rw is at ran) (rw is at count) steady
+step_after after now2 waiting2 (Err e) step at_is is many rows ran machine count steady = tt
 
 -- ---- the growth law, for members and ready structure
 
@@ -69,7 +73,7 @@ same_heard x y (suc n) same =
     let before = same_heard x y n (λ u h. same u (omega (arith, h))) in
     λ i. before i + length (now i)
 
-module _ {s : Settings} {held of : Replica} {tables : List Table} {decided : List (List Decided)} (plan : IsPlanOf s held of tables decided) (is_of : IsOf s held) (whole : Untorn held) where
+module _ {o : Origin} {s : Settings} {held of : Replica} {tables : List Table} {decided : List (List Decided)} (plan : IsPlanOf o s held of tables decided) (is_of : IsOf s held) (whole : Untorn held) where
   same_processors : of.processors ≡ held.processors
   same_processors = plan.is_of.processors ∙ sym is_of.processors
 
@@ -82,11 +86,11 @@ module _ {s : Settings} {held of : Replica} {tables : List Table} {decided : Lis
       let le = further in
       same_said of held plan.is_of.replica is_of.replica same_processors (below_agree of held plan.kept whole) u (omega (arith, l, early)) (omega (arith, l, early, le))
 
-  past : history s of (length tables) ≡ history s held (length tables)
-  past = same_history s of held (length tables) alike
+  past : history_from o s of (length tables) ≡ history_from o s held (length tables)
+  past = same_history o s of held (length tables) alike
 
   -- What was planned of a replica below is planned of this one,
-  pub plan_of_held : IsPlanOf s held held tables decided
+  pub plan_of_held : IsPlanOf o s held held tables decided
   plan_of_held =
       let early = plan.early in
       let le = further in
@@ -97,41 +101,42 @@ module _ {s : Settings} {held of : Replica} {tables : List Table} {decided : Lis
         early = omega (arith, early, le);
         wanted = plan.wanted;
         tables_are = plan.tables_are ∙ ap (λ h. h.tables) past;
-        decided_are = plan.decided_are ∙ map_same (decisions s of) (decisions s held) (numbers_below (length tables))
+        decided_are = plan.decided_are ∙ map_same (decisions_from o s of) (decisions_from o s held) (numbers_below (length tables))
             (λ u i. (let l = among_below (length tables) u i in
-            (one_table s of held plan.is_of is_of (below_agree of held plan.kept whole) u (omega (arith, l, early)) (omega (arith, l, early, le))).1));
+            (one_table_from o s of held plan.is_of is_of (below_agree of held plan.kept whole) u (omega (arith, l, early)) (omega (arith, l, early, le))).1));
       }
 
   -- and members and ready structure are in step with it too.
-  pub step_of_held : {roster : Roster} {now : ℕ} {waiting : Queue} → IsInStep s of (length tables) roster now waiting → IsInStep s held (length tables) roster now waiting
+  pub step_of_held : {roster : Roster} {now : ℕ} {waiting : Queue} → IsInStep o s of (length tables) roster now waiting → IsInStep o s held (length tables) roster now waiting
   step_of_held step = record {
     machine_is = step.machine_is;
-    members_are = step.members_are ∙ ap (λ h. counted h.tables h.members) past;
+    members_are = step.members_are ∙ ap (λ h. h.members) past;
     heard_is = step.heard_is ∙ same_heard of held (length tables) alike;
     steady = step.steady;
   }
 
 -- With the next slot planned.
-pub plan_next_slot : {s : Settings} {x : Replica} {tables : List Table} {decided : List (List Decided)} → IsPlanOf s x x tables decided → length tables < frontier x → length tables < s.slots
-    → IsPlanOf s x x (tables ++ table s x (length tables) ∷ []) (decided ++ decisions s x (length tables) ∷ [])
-plan_next_slot {s} {x} {tables} {decided} plan early wanted =
+pub plan_next_slot : {o : Origin} {s : Settings} {x : Replica} {tables : List Table} {decided : List (List Decided)} → IsPlanOf o s x x tables decided → length tables < frontier x → length tables < s.slots
+    → IsPlanOf o s x x (tables ++ table_from o s x (length tables) ∷ []) (decided ++ decisions_from o s x (length tables) ∷ [])
+plan_next_slot {o} {s} {x} {tables} {decided} plan early wanted =
     let n = length tables in
-    let long : length (tables ++ table s x n ∷ []) ≡ suc n = length-append tables (table s x n ∷ []) ∙ (let e : n + 1 ≡ suc n = omega arith in e) in
+    let long : length (tables ++ table_from o s x n ∷ []) ≡ suc n = length-append tables (table_from o s x n ∷ []) ∙ (let e : n + 1 ≡ suc n = omega arith in e) in
     record {
       is_of = plan.is_of;
       kept = plan.kept;
       whole = plan.whole;
       early = omega (arith, long, early);
       wanted = omega (arith, long, wanted);
-      tables_are = ap (λ (ts : List Table). ts ++ table s x n ∷ []) plan.tables_are ∙ ap (λ k. (history s x k).tables) (sym long);
-      decided_are = ap (λ (ds : List (List Decided)). ds ++ decisions s x n ∷ []) plan.decided_are ∙ sym (map-append (decisions s x) (numbers_below n) (n ∷ [])) ∙ ap (λ k. map (decisions s x) (numbers_below k)) (sym long);
+      tables_are = ap (λ (ts : List Table). ts ++ table_from o s x n ∷ []) plan.tables_are ∙ ap (λ k. (history_from o s x k).tables) (sym long);
+      decided_are = ap (λ (ds : List (List Decided)). ds ++ decisions_from o s x n ∷ []) plan.decided_are ∙ sym (map-append (decisions_from o s x) (numbers_below n) (n ∷ [])) ∙ ap (λ k. map (decisions_from o s x) (numbers_below k)) (sym long);
     }
 
 -- ---- the contents grow
 
-pub kept_above : {s : Settings} {held more : Replica} {tables : List Table} {decided : List (List Decided)} {spent : Bool} {roster : Roster} {now : ℕ} {waiting : Queue}
-    → IsKept s held tables decided spent roster now waiting → Below held more → more.processors ≡ held.processors → more.capacity ≡ held.capacity → IsKept s more tables decided spent roster now waiting
+pub kept_above : {o : Origin} {s : Settings} {held more : Replica} {tables : List Table} {decided : List (List Decided)} {spent : Bool} {roster : Roster} {now : ℕ} {waiting : Queue}
+    → IsKept o s held tables decided spent roster now waiting → Below held more → more.processors ≡ held.processors → more.capacity ≡ held.capacity → IsKept o s more tables decided spent roster now waiting
 kept_above {held} {more} kept above same_p same_c = record {
+  began = kept.began;
   processors = same_p ∙ kept.processors;
   capacity = omega (arith, kept.capacity, same_c);
   of = kept.of;

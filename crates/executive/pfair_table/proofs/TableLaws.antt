@@ -1,38 +1,44 @@
 -- The proofs of the laws of tables and plans.
-use Rattle.std.proofs.Common.{ℕ, zero, suc, ◌<◌, ◌≤◌, ◌≡◌, refl, sym, ap, ◌∙◌, arith, inl, inr, List, [], ◌∷◌, ◌++◌, min}
-use Rattle.std.specs.Prelude.{map, filter}
+use Rattle.std.proofs.Common.{ℕ, zero, suc, ◌<◌, ◌≤◌, ◌≡◌, refl, sym, ap, ◌∙◌, arith, inl, inr, None, length, List, [], ◌∷◌, ◌++◌, min}
+use Rattle.std.specs.Prelude.{map, filter, AllPairs}
+use Rattle.pfair_order.specs.Order.{GoesBefore}
 use Rattle.std.proofs.lemmas.List.{length-map, map-append, append_assoc, append-nil}
 use Rattle.std.proofs.lemmas.Bool.{cases_order}
 use Rattle.pfair_order.specs.declared.Key.{Key}
 use Rattle.pfair_replica.specs.Among.{among_below, map_same}
 use Rattle.pfair_weight.specs.Name.{NamesApart}
-use Rattle.pfair_weight.proofs.NamesApart.{apart_filter, apart_map}
+use Rattle.pfair_weight.proofs.NamesApart.{apart_filter, apart_map, apart_nil}
 use Rattle.pfair_order.proofs.NamesApart.{first_names}
 use Rattle.pfair_table.proofs.FirstByRank.{length_first, rising_first}
-use Rattle.pfair_replica.specs.Replica.{Replica, said, frontier, numbers_below}
+use Rattle.pfair_replica.specs.Replica.{Replica, Agree, said, frontier, numbers_below}
 use Rattle.pfair_replica.proofs.Marks.{same_said, mark_le, frontier_le, below_agree}
 use Rattle.pfair_admission.specs.Member.{Member, next_key}
 use Rattle.pfair_table.specs.Ranks.{first_by_rank}
-use Rattle.pfair_table.specs.Table.{Settings, eligible, is_eligible, chosen, pick, table_of, members_at, slot_after, decided_at, history, world, table}
+use Rattle.pfair_table.specs.Table.{Settings, Origin, eligible, is_eligible, chosen, pick, table_of, members_at, members_before, slot_of, slot_after, decided_at, history_from, world_from, table_from, decisions_from, table}
 use Rattle.pfair_table.specs.declared.pick.Pick.{Pick}
-use Rattle.pfair_table.specs.Laws.{IsPrefixOf, OneTable, PlansGoOn, OnePlan, TablesAreOrdered}
-use Rattle.pfair_table.proofs.Members.{label, named_world}
+use Rattle.pfair_table.specs.Laws.{IsOf, IsPrefixOf, OneTable, PlansGoOn, OnePlan, TablesAreOrdered}
+use Rattle.pfair_table.proofs.Members.{label, named_from}
 
 -- ---- one table
 
-pub same_history : (s : Settings) (x y : Replica) (t : ℕ) → ((u : ℕ) → u < t → said x u ≡ said y u) → history s x t ≡ history s y t
-same_history s x y zero same = refl
-same_history s x y (suc t) same =
+pub same_history : (o : Origin) (s : Settings) (x y : Replica) (t : ℕ) → ((u : ℕ) → u < t → said x u ≡ said y u) → history_from o s x t ≡ history_from o s y t
+same_history o s x y zero same = refl
+same_history o s x y (suc t) same =
     let now = same t (omega arith) in
-    let before = same_history s x y t (λ u h. same u (omega (arith, h))) in
-    λ i. slot_after s t (now i) (before i)
+    let before = same_history o s x y t (λ u h. same u (omega (arith, h))) in
+    λ i. slot_after s (slot_of o t) (now i) (before i)
+
+pub one_table_from : (o : Origin) (s : Settings) (x y : Replica) → IsOf s x → IsOf s y → Agree x y → (t : ℕ) → t < frontier x → t < frontier y
+    → (table_from o s x t ≡ table_from o s y t) × (decisions_from o s x t ≡ decisions_from o s y t)
+one_table_from o s x y ox oy agree t h g =
+    let alike : (u : ℕ) → u < suc t → said x u ≡ said y u = λ u l. same_said x y ox.replica oy.replica (ox.processors ∙ sym oy.processors) agree u (omega (arith, h, l)) (omega (arith, g, l)) in
+    let past = same_history o s x y t (λ u l. alike u (omega (arith, l))) in
+    let now = alike t (omega arith) in
+    let at = slot_of o t in
+    (λ i. table_of s at (members_at s at (now i) (past i)), λ i. decided_at s at (now i) (past i))
 
 pub one_table : OneTable
-one_table s x y ox oy agree t h g =
-    let alike : (u : ℕ) → u < suc t → said x u ≡ said y u = λ u l. same_said x y ox.replica oy.replica (ox.processors ∙ sym oy.processors) agree u (omega (arith, h, l)) (omega (arith, g, l)) in
-    let past = same_history s x y t (λ u l. alike u (omega (arith, l))) in
-    let now = alike t (omega arith) in
-    (λ i. table_of s t (members_at s t (now i) (past i)), λ i. decided_at s t (now i) (past i))
+one_table = one_table_from None
 
 -- ---- plans go on
 
@@ -79,14 +85,20 @@ pub rows_apart : (m t : ℕ) (members : List Member) → NamesApart label member
 rows_apart m t members named =
     apart_map (λ (k : Key). k.name) (λ (p : Pick). p.name) (pick members) (λ k. refl) (first_by_rank m (eligible t members)) (first_names m (eligible t members) (eligible_apart t members named))
 
-pub tables_are_ordered : TablesAreOrdered
-tables_are_ordered s x t =
-    let members = world s x t in
-    let keys = eligible t members in
-    let apart = eligible_apart t members (named_world s x t) in
+pub ordered_from : (o : Origin) (s : Settings) → NamesApart label (members_before o) → (x : Replica) (t : ℕ)
+    → (length (table_from o s x t) ≤ s.processors) × AllPairs GoesBefore (chosen s (slot_of o t) (world_from o s x t)) × NamesApart (λ p. p.name) (table_from o s x t)
+ordered_from o s before x t =
+    let members = world_from o s x t in
+    let at = slot_of o t in
+    let keys = eligible at members in
+    let named = named_from o s before x t in
+    let apart = eligible_apart at members named in
     let few = length_first keys apart s.processors in
-    let same = length-map (chosen s t members) (pick members) in (
+    let same = length-map (chosen s at members) (pick members) in (
       omega (arith, few, same),
       rising_first keys apart s.processors,
-      rows_apart s.processors t members (named_world s x t),
+      rows_apart s.processors at members named,
     )
+
+pub tables_are_ordered : TablesAreOrdered
+tables_are_ordered s x t = ordered_from None s (apart_nil label) x t

@@ -2,11 +2,11 @@
 use Rattle.pfair_replica.specs.HeldRows.{replica_of}
 use Rattle.pfair_table.specs.declared.event.Event.{Event}
 use Rattle.pfair_table.specs.declared.event.Event.TheVariants.{Take, Absorb, Plan}
-use Rattle.std.specs.Prelude.{ℕ, Bool, not, ◌&&◌, nat_lt, List, [], ◌∷◌, ◌++◌, length, ⊤, if◌then◌else◌}
+use Rattle.std.specs.Prelude.{ℕ, Bool, not, ◌&&◌, nat_lt, List, [], ◌∷◌, None, ◌++◌, length, ⊤, if◌then◌else◌}
 use Rattle.pfair_entry.specs.Entry.{IsEntry}
 use Rattle.pfair_replica.specs.Replica.{Replica, IsReplica, empty_replica, has_torn, frontier}
 use Rattle.pfair_replica.specs.Offered.{taken, absorbed}
-use Rattle.pfair_table.specs.Table.{Settings, Table, table, decisions}
+use Rattle.pfair_table.specs.Table.{Settings, Origin, Table, table_from, decisions_from}
 use Rattle.pfair_table.specs.declared.pick.Decided.{Decided}
 
 -- what can come: an entry within its limits, or a replica
@@ -17,14 +17,15 @@ IsEvent Plan = ⊤
 
 -- ---- what is planned
 
--- the contents, and what was planned: the table and the decisions of each slot so far
+-- where the run began, the contents, and what was planned: the table and the decisions of each slot so far
 pub record Course : Type 0 where
+  pub origin : Origin
   pub held : Replica
   pub tables : List Table
   pub decided : List (List Decided)
 
 abbrev pub start : Settings → ℕ → Course
-start s capacity = record { held = empty_replica s.processors capacity; tables = []; decided = [] }
+start s capacity = record { origin = None; held = empty_replica s.processors capacity; tables = []; decided = [] }
 
 -- slot n can be planned of x
 abbrev pub is_plannable : Settings → Replica → ℕ → Bool
@@ -34,7 +35,7 @@ is_plannable s x n = not (has_torn x) && (nat_lt n (frontier x) && nat_lt n s.sl
 abbrev pub with_next_slot : Settings → Course → Course
 with_next_slot s c =
     let t = length c.tables in
-    record { held = c.held; tables = c.tables ++ table s c.held t ∷ []; decided = c.decided ++ decisions s c.held t ∷ [] }
+    record { origin = c.origin; held = c.held; tables = c.tables ++ table_from c.origin s c.held t ∷ []; decided = c.decided ++ decisions_from c.origin s c.held t ∷ [] }
 
 abbrev pub happens : Settings → Course → Event → Course
 happens s c (Take k n e) = record c { held = taken c.held k n e }
@@ -46,6 +47,6 @@ abbrev pub run : Settings → Course → List Event → Course
 run s c [] = c
 run s c (e ∷ events) = run s (happens s c e) events
 
--- the same, from an empty replica of that capacity
+-- the same in a first run, from an empty replica of that capacity
 abbrev pub run_of : Settings → ℕ → List Event → Course
 run_of s capacity events = run s (start s capacity) events

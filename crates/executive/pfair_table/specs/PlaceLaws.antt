@@ -8,7 +8,7 @@ use Rattle.pfair_replica.specs.HeldRows.{replica_of}
 use Rattle.pfair_table.specs.declared.event.Event.{Event}
 use Rattle.pfair_table.specs.Events.{IsEvent, run_of}
 use Rattle.pfair_table.specs.Table.{Settings, Table, names_task}
-use Rattle.pfair_table.specs.Places.{place_of, places_of}
+use Rattle.pfair_table.specs.Places.{place_of, places_of, places_in}
 use Rattle.pfair_table.specs.Refinement.{Dispatch}
 
 -- no more rows than that, and each name once
@@ -48,8 +48,8 @@ OnePlacing =
     → let c = run_of s m es in let d = run_of s n fs in
     Agree c.held d.held → (t : ℕ) → t < length c.tables → t < length d.tables → slice_get (places_of c.tables) t ≡ slice_get (places_of d.tables) t
 
--- If settings and contents agree, a slot that both dispatchers have planned has the same places.
+-- If settings and contents agree, and where the runs began, a slot that both dispatchers have planned has the same places.
 abbrev pub HavePlacedAlike : Dispatch → Dispatch → Type 0
 HavePlacedAlike c d =
-    c.settings ≡ d.settings → Agree (replica_of c.held) (replica_of d.held) → (t : ℕ) → t < length c.tables → t < length d.tables
-    → slice_get (places_of c.tables) t ≡ slice_get (places_of d.tables) t
+    c.settings ≡ d.settings → c.origin ≡ d.origin → Agree (replica_of c.held) (replica_of d.held) → (t : ℕ) → t < length c.tables → t < length d.tables
+    → slice_get (places_in c.origin c.tables) t ≡ slice_get (places_in d.origin d.tables) t

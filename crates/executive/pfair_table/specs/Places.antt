@@ -4,7 +4,7 @@ use Rattle.std.specs.List.{list_any}
 use Rattle.pfair_ready.specs.Names.{NameValue as Name}
 use Rattle.pfair_entry.specs.Same.{name_eq}
 use Rattle.pfair_replica.specs.Replica.{numbers_below}
-use Rattle.pfair_table.specs.Table.{Table}
+use Rattle.pfair_table.specs.Table.{Table, Origin}
 
 -- the place of a task in a table whose rows have these places
 abbrev pub place_of : Table → List ℕ → Name → Option ℕ
@@ -42,6 +42,19 @@ abbrev pub places_from : Table → List ℕ → List Table → List (List ℕ)
 places_from before places [] = []
 places_from before places (now ∷ tables) = let here = places_after before places now in here ∷ places_from now here tables
 
+-- the table of the slot before a run, and its places
+abbrev pub table_before : Origin → Table
+table_before None = []
+table_before (Some c) = c.table
+
+abbrev pub places_before : Origin → List ℕ
+places_before None = []
+places_before (Some c) = c.places
+
+-- the places of a run's tables
+abbrev pub places_in : Origin → List Table → List (List ℕ)
+places_in o tables = places_from (table_before o) (places_before o) tables
+
 -- the places of some tables, of one slot after another: the first table keeps none
 abbrev pub places_of : List Table → List (List ℕ)
-places_of tables = places_from [] [] tables
+places_of tables = places_in None tables

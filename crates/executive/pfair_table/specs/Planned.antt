@@ -3,10 +3,11 @@ use Rattle.std.specs.Prelude.{ℕ, Vec, List, [], ◌∷◌, map}
 use Rattle.std.specs.declared.alloc.Global.{Global}
 use Rattle.pfair_table.specs.declared.pick.Pick.{Pick}
 use Rattle.pfair_table.specs.declared.pick.Decided.{Decided}
-use Rattle.pfair_table.specs.Table.{Table}
+use Rattle.pfair_table.specs.Table.{Table, Origin}
 
--- the table of each slot from slot 0 on, what was decided at its boundary, and below which slot these are forgotten
+-- where the run began, the table of each slot from slot 0 on, what was decided at its boundary, and below which slot these are forgotten
 pub record PlannedSlots : Type 0 where
+  pub origin : Origin
   pub tables : List Table
   pub decided : List (List Decided)
   pub forgotten : ℕ

@@ -1,12 +1,13 @@
 -- What a ready structure holds of the members: the next subtask of each that isn't departing.
-use Rattle.std.specs.Prelude.{ℕ, Bool, false, ◌+◌, ◌≡◌, ◌≤◌, Option, Some, None, List, if◌then◌else◌}
+use Rattle.std.specs.Prelude.{ℕ, Bool, false, ◌≡◌, ◌≤◌, ◌<◌, Option, Some, None, List, if◌then◌else◌}
 use Rattle.std.specs.Option.{ForSome}
-use Rattle.std.specs.List.{AllByRecursion, list_any}
+use Rattle.std.specs.List.{list_any}
 use Rattle.pfair_entry.specs.Same.{name_eq}
 use Rattle.pfair_entry.specs.Names.{name_of}
 use Rattle.pfair_entry.specs.Said.{Said}
 use Rattle.std.specs.FinMap as finmap
 use Rattle.pfair_weight.specs.Name.{NamesApart}
+use Rattle.pfair_weight.specs.declared.window.TheConstants.{MAX_INDEX}
 use Rattle.pfair_ready.specs.Names.{NameValue as Name}
 use Rattle.pfair_order.specs.declared.Key.{Key}
 use Rattle.pfair_ready.specs.Queue.{Queue}
@@ -28,13 +29,16 @@ pub record IsSteady (slot : ℕ) (roster : Roster) (now : ℕ) (waiting : Queue)
   pub queue : IsQueue roster.members waiting
   pub by_now : now ≤ slot
   pub order : ForSome roster.last_slot (λ last. last ≤ slot)
-  pub few : AllByRecursion (λ m. m.next ≤ slot + 1) roster.members
 
 -- ---- in the middle of a slot
 
 -- some announcement is about the task
 abbrev pub is_said : Name → List Said → Bool
 is_said name announced = list_any (λ a. name_eq name (name_of a.2)) announced
+
+-- some member has the name
+abbrev pub is_of_some : Name → List Member → Bool
+is_of_some name members = list_any (λ m. name_eq name m.name) members
 
 -- some key is of the task
 abbrev pub has_key_of : Name → List Key → Bool
@@ -44,6 +48,11 @@ has_key_of name keys = list_any (λ k. name_eq name k.name) keys
 abbrev pub IsQueueBut : List Said → List Member → Queue → Type 0
 IsQueueBut announced members waiting =
     (name : Name) → is_said name announced ≡ false → finmap.get waiting name ≡ queued (member_named members name)
+
+-- the contents of every name but those of the members that are left to notify of
+abbrev pub IsQueueBesides : List Member → List Member → Queue → Type 0
+IsQueueBesides left members waiting =
+    (name : Name) → is_of_some name left ≡ false → finmap.get waiting name ≡ queued (member_named members name)
 
 -- the same without the keys that were taken out
 abbrev pub IsQueueWithout : List Key → List Member → Queue → Type 0
@@ -55,6 +64,6 @@ abbrev pub IsToldOf : Name → List Member → (before after : Queue) → Type 0
 IsToldOf told members before after =
     (name : Name) → finmap.get after name ≡ (if name_eq name told then queued (member_named members told) else finmap.get before name)
 
--- a member with the key's name may run
+-- a member with the key's name may run, and isn't at the last index of windows
 abbrev pub MayRun : List Member → Key → Type 0
-MayRun members k = (m : Member) × (member_named members k.name ≡ Some m) × (is_departing m ≡ false) × (m.next ≤ 1000000)
+MayRun members k = (m : Member) × (member_named members k.name ≡ Some m) × (is_departing m ≡ false) × (m.next < MAX_INDEX)

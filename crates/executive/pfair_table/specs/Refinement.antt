@@ -10,8 +10,9 @@ use Rattle.pfair_table.specs.declared.answer.Step.{Step}
 use Rattle.pfair_table.specs.declared.answer.Step.TheVariants.{Planned, Waiting, Done}
 use Rattle.pfair_table.specs.declared.answer.PlanFault.{PlanFault}
 use Rattle.pfair_table.specs.declared.answer.PlanFault.TheVariants.{Torn, Spent, Memory}
-use Rattle.pfair_table.specs.Table.{Settings, Table, machine, history, counted, table, decisions, plan}
+use Rattle.pfair_table.specs.Table.{Settings, Origin, Table, machine, slot_of, history_from, table_from, decisions_from, plan_from}
 use Rattle.pfair_table.specs.Events.{Course, is_plannable}
+use Rattle.pfair_table.specs.Limits.{IsOrigin}
 use Rattle.pfair_table.specs.Laws.{IsOf}
 use Rattle.pfair_table.specs.Queue.{IsSteady}
 
@@ -19,6 +20,7 @@ use Rattle.pfair_table.specs.Queue.{IsSteady}
 -- `forgotten` on.
 pub record Dispatch : Type 0 where
   pub settings : Settings
+  pub origin : Origin
   pub held : HeldRows
   pub tables : List Table
   pub decided : List (List Decided)
@@ -26,7 +28,7 @@ pub record Dispatch : Type 0 where
   pub spent : Bool
 
 abbrev pub course_of : Dispatch → Course
-course_of d = record { held = replica_of d.held; tables = d.tables; decided = d.decided }
+course_of d = record { origin = d.origin; held = replica_of d.held; tables = d.tables; decided = d.decided }
 
 -- ---- answers
 
@@ -63,58 +65,59 @@ IsLast Done = Unit {0}
 
 -- the tables are the whole plan of the contents, and the decisions are those of its slots
 pub record IsWholePlan (d : Dispatch) : Type 0 where
-  pub tables_are : d.tables ≡ plan d.settings (replica_of d.held)
-  pub decided_are : d.decided ≡ map (decisions d.settings (replica_of d.held)) (numbers_below (min (frontier (replica_of d.held)) d.settings.slots))
+  pub tables_are : d.tables ≡ plan_from d.origin d.settings (replica_of d.held)
+  pub decided_are : d.decided ≡ map (decisions_from d.origin d.settings (replica_of d.held)) (numbers_below (min (frontier (replica_of d.held)) d.settings.slots))
 
 -- ---- the refinement
 
 -- The tables and decisions so far are those of a replica that is still held: whole, and settled for as many slots.
-pub record IsPlanOf (s : Settings) (held of : Replica) (tables : List Table) (decided : List (List Decided)) : Type 0 where
+pub record IsPlanOf (o : Origin) (s : Settings) (held of : Replica) (tables : List Table) (decided : List (List Decided)) : Type 0 where
   pub is_of : IsOf s of
   pub kept : Below of held
   pub whole : Untorn of
   pub early : length tables ≤ frontier of
   pub wanted : length tables ≤ s.slots
-  pub tables_are : tables ≡ (history s of (length tables)).tables
-  pub decided_are : decided ≡ map (decisions s of) (numbers_below (length tables))
+  pub tables_are : tables ≡ (history_from o s of (length tables)).tables
+  pub decided_are : decided ≡ map (decisions_from o s of) (numbers_below (length tables))
 
--- the members after slots 0 to n - 1, counted by the tables of these
-abbrev pub members_after : Settings → Replica → ℕ → List Member
-members_after s x n = counted (history s x n).tables (history s x n).members
+-- the members after slots 0 to n - 1
+abbrev pub members_after : Origin → Settings → Replica → ℕ → List Member
+members_after o s x n = (history_from o s x n).members
 
 -- the members after the tables so far, of a replica whose plan these are
 pub record AreMembersOf (d : Dispatch) (members : List Member) : Type 0 where
   pub of : Replica
-  pub plan : IsPlanOf d.settings (replica_of d.held) of d.tables d.decided
-  pub members_are : members ≡ members_after d.settings of (length d.tables)
+  pub plan : IsPlanOf d.origin d.settings (replica_of d.held) of d.tables d.decided
+  pub members_are : members ≡ members_after d.origin d.settings of (length d.tables)
 
 -- how many announcements are said before slot n
 abbrev pub heard_before : Replica → ℕ → ℕ
 heard_before x zero = 0
 heard_before x (suc n) = heard_before x n + length (said x n)
 
--- The members are those of the definition after n slots, counted by the tables so far; and the ready structure waits for slot n.
-pub record IsInStep (s : Settings) (of : Replica) (n : ℕ) (roster : Roster) (now : ℕ) (waiting : Queue) : Type 0 where
+-- The members are those of the definition after n slots, and the ready structure waits for slot n.
+pub record IsInStep (o : Origin) (s : Settings) (of : Replica) (n : ℕ) (roster : Roster) (now : ℕ) (waiting : Queue) : Type 0 where
   pub machine_is : roster.machine ≡ machine s
-  pub members_are : roster.members ≡ members_after s of n
+  pub members_are : roster.members ≡ members_after o s of n
   pub heard_is : roster.heard ≡ heard_before of n
-  pub steady : IsSteady n roster now waiting
+  pub steady : IsSteady (slot_of o n) roster now waiting
 
 -- All of this for one replica; if an allocation failed, members and ready structure say nothing.
-pub record IsKept (s : Settings) (held : Replica) (tables : List Table) (decided : List (List Decided)) (spent : Bool) (roster : Roster) (now : ℕ) (waiting : Queue) : Type 0 where
+pub record IsKept (o : Origin) (s : Settings) (held : Replica) (tables : List Table) (decided : List (List Decided)) (spent : Bool) (roster : Roster) (now : ℕ) (waiting : Queue) : Type 0 where
+  pub began : IsOrigin o s
   pub processors : held.processors ≡ s.processors
   pub capacity : held.capacity ≤ 4096
   pub of : Replica
   pub room : of.capacity ≤ 4096
-  pub plan : IsPlanOf s held of tables decided
-  pub step : spent ≡ false → IsInStep s of (length tables) roster now waiting
+  pub plan : IsPlanOf o s held of tables decided
+  pub step : spent ≡ false → IsInStep o s of (length tables) roster now waiting
 
 -- ---- two dispatchers
 
--- If settings and contents agree, a slot that both have planned has one table and one list of decisions: those of what
--- either holds.
+-- If settings and contents agree, and where the runs began, a slot that both have planned has one table and one list of decisions:
+-- those of what either holds.
 abbrev pub HavePlannedAlike : Dispatch → Dispatch → Type 0
 HavePlannedAlike c d =
-    c.settings ≡ d.settings → Agree (replica_of c.held) (replica_of d.held) → (t : ℕ) → t < length c.tables → t < length d.tables
-    → (slice_get c.tables t ≡ Some (table c.settings (replica_of c.held) t)) × (slice_get d.tables t ≡ Some (table c.settings (replica_of c.held) t))
-    × (slice_get c.decided t ≡ Some (decisions c.settings (replica_of c.held) t)) × (slice_get d.decided t ≡ Some (decisions c.settings (replica_of c.held) t))
+    c.settings ≡ d.settings → c.origin ≡ d.origin → Agree (replica_of c.held) (replica_of d.held) → (t : ℕ) → t < length c.tables → t < length d.tables
+    → (slice_get c.tables t ≡ Some (table_from c.origin c.settings (replica_of c.held) t)) × (slice_get d.tables t ≡ Some (table_from c.origin c.settings (replica_of c.held) t))
+    × (slice_get c.decided t ≡ Some (decisions_from c.origin c.settings (replica_of c.held) t)) × (slice_get d.decided t ≡ Some (decisions_from c.origin c.settings (replica_of c.held) t))

@@ -1,5 +1,5 @@
 -- What a script's run on one dispatcher answers.
-use Rattle.std.specs.Prelude.{◌≡◌, ◌<◌, ◌≤◌, false}
+use Rattle.std.specs.Prelude.{◌≡◌, ◌<◌, ◌≤◌, None, false}
 use Rattle.pfair_replica.specs.Replica.{frontier, has_torn}
 use Rattle.pfair_table.specs.declared.run_fault.RunFault.{RunFault}
 use Rattle.pfair_table.specs.declared.run_fault.RunFault.TheVariants.{Memory, GateGaveUp, Astray, Stalled}
@@ -7,9 +7,10 @@ use Rattle.pfair_replica.specs.HeldRows.{HeldRows, replica_of}
 use Rattle.pfair_table.specs.Refinement.{Dispatch, IsWholePlan}
 use Rattle.pfair_table.specs.Script.{LoggedRun, replica_of_logs}
 
--- a dispatcher that holds the whole script, and has planned all its slots
+-- a dispatcher that holds the whole script, and has planned all its slots, as a first run
 pub record IsRunOf (r : LoggedRun) (d : Dispatch) : Type 0 where
   pub settings_are : d.settings ≡ r.settings
+  pub first : d.origin ≡ None
   pub held_is : replica_of d.held ≡ replica_of_logs r.logs
   pub far_enough : r.settings.slots ≤ frontier (replica_of_logs r.logs)
   pub whole : IsWholePlan d

@@ -5,7 +5,7 @@ use Rattle.pfair_replica.specs.Replica.{numbers_below}
 use Rattle.pfair_table.specs.declared.pick.Decided.{Decided}
 use Rattle.pfair_table.specs.declared.settings.TheConstants.Settings.{MAX_PROCESSORS}
 use Rattle.pfair_table.specs.declared.slot.SlotPlan.{SlotPlan}
-use Rattle.pfair_table.specs.Table.{Settings, Table, history, table, decisions}
+use Rattle.pfair_table.specs.Table.{Settings, Table, history, decisions, table_from, decisions_from}
 use Rattle.pfair_table.specs.Events.{is_plannable}
 use Rattle.pfair_table.specs.Refinement.{Dispatch}
 use Rattle.pfair_table.specs.PlaceLaws.{IsFit}
@@ -26,8 +26,8 @@ seeing d x = record d { held = x }
 abbrev pub IsNextPlan : Dispatch → Option SlotPlan → Type 0
 IsNextPlan d (Some next) =
     IsTrue (is_plannable d.settings (replica_of d.held) (length d.tables))
-    × (next.table.items ≡ table d.settings (replica_of d.held) (length d.tables))
-    × (next.decided.items ≡ decisions d.settings (replica_of d.held) (length d.tables))
+    × (next.table.items ≡ table_from d.origin d.settings (replica_of d.held) (length d.tables))
+    × (next.decided.items ≡ decisions_from d.origin d.settings (replica_of d.held) (length d.tables))
     × IsFit MAX_PROCESSORS next.table.items
 IsNextPlan d None = is_plannable d.settings (replica_of d.held) (length d.tables) ≡ false
 

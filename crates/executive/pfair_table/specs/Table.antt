@@ -28,21 +28,6 @@ Table = List Pick
 abbrev pub names_task : Name → Table → Bool
 names_task name table = list_any (λ p. name_eq name p.name) table
 
--- ---- how far an incarnation has come
-
--- the quanta that it has had, by the tables of all slots so far: those of its joining slot and after that name it
-abbrev pub quanta : List Table → Member → ℕ
-quanta tables m = count_by (names_task m.name) (drop m.joined tables)
-
-abbrev pub next_index : List Table → Member → ℕ
-next_index tables m = 1 + quanta tables m
-
-abbrev pub counted_one : List Table → Member → Member
-counted_one tables m = record m { next = next_index tables m }
-
-abbrev pub counted : List Table → List Member → List Member
-counted tables members = map (counted_one tables) members
-
 -- ---- eligible subtasks
 
 -- its next subtask may run in slot t
@@ -59,16 +44,59 @@ index_of (Some m) = m.next
 abbrev pub pick : List Member → Key → Pick
 pick members k = record { name = k.name; index = index_of (member_named members k.name) }
 
+-- ---- quanta
+
+-- the members after each row of a table has run
+abbrev pub all_ran : Table → List Member → List Member
+all_ran [] members = members
+all_ran (p ∷ picks) members = all_ran picks (ran p.name members)
+
+-- the quanta that an incarnation has had, by the tables of all slots of a first run so far: those of its joining slot and after that name it
+abbrev pub quanta : List Table → Member → ℕ
+quanta tables m = count_by (names_task m.name) (drop m.joined tables)
+
+abbrev pub next_index : List Table → Member → ℕ
+next_index tables m = 1 + quanta tables m
+
+abbrev pub counted_one : List Table → Member → Member
+counted_one tables m = record m { next = next_index tables m }
+
+abbrev pub counted : List Table → List Member → List Member
+counted tables members = map (counted_one tables) members
+
+-- ---- where a run begins
+
+-- what a run takes over from the one before: the slot after that one's last, its machine and the members, and its last table with the places
+pub record Carried : Type 0 where
+  pub slot : ℕ
+  pub machine : Machine
+  pub members : List Member
+  pub table : Table
+  pub places : List ℕ
+
+-- a first run takes over nothing
+abbrev pub Origin : Type 0
+Origin = Option Carried
+
+-- slot t of the run, counted from the first slot of the first run
+abbrev pub slot_of : Origin → ℕ → ℕ
+slot_of None t = t
+slot_of (Some c) t = c.slot + t
+
+abbrev pub members_before : Origin → List Member
+members_before None = []
+members_before (Some c) = c.members
+
 -- ---- slot after slot
 
--- what the slots so far have left: the members after the last boundary, and the table of each slot
+-- what the slots so far have left: the members after the quanta of the last one, and the table of each slot
 pub record History : Type 0 where
   pub members : List Member
   pub tables : List Table
 
 -- the members after the boundary of slot t, if this was said
 abbrev pub members_at : Settings → ℕ → List Said → History → List Member
-members_at s t announced h = boundary (machine s) t (counted h.tables h.members) (announcements announced)
+members_at s t announced h = boundary (machine s) t h.members (announcements announced)
 
 -- the keys of slot t's quanta: the first eligible subtasks in PD2 order, as many as there are processors
 abbrev pub chosen : Settings → ℕ → List Member → List Key
@@ -80,24 +108,8 @@ table_of s t members = map (pick members) (chosen s t members)
 abbrev pub slot_after : Settings → ℕ → List Said → History → History
 slot_after s t announced h =
     let members = members_at s t announced h in
-    record { members = members; tables = h.tables ++ table_of s t members ∷ [] }
-
--- the slots before t
-abbrev pub history : Settings → Replica → ℕ → History
-history s x zero = record { members = []; tables = [] }
-history s x (suc t) = slot_after s t (said x t) (history s x t)
-
--- the members in slot t
-abbrev pub world : Settings → Replica → ℕ → List Member
-world s x t = members_at s t (said x t) (history s x t)
-
-abbrev pub table : Settings → Replica → ℕ → Table
-table s x t = table_of s t (world s x t)
-
--- the members after each row of a table has run
-abbrev pub all_ran : Table → List Member → List Member
-all_ran [] members = members
-all_ran (p ∷ picks) members = all_ran picks (ran p.name members)
+    let rows = table_of s t members in
+    record { members = all_ran rows members; tables = h.tables ++ rows ∷ [] }
 
 abbrev pub with_decision : Said × Decision → Decided
 with_decision p = record { proc = p.0.0; number = p.0.1; announcement = p.0.2; decision = p.1 }
@@ -107,13 +119,41 @@ abbrev pub with_decisions : List Said → List Decision → List Decided
 with_decisions announced ds = map with_decision (zip announced ds)
 
 abbrev pub decided_at : Settings → ℕ → List Said → History → List Decided
-decided_at s t announced h =
-    with_decisions announced (boundary_decisions (machine s) t (counted h.tables h.members) (announcements announced))
+decided_at s t announced h = with_decisions announced (boundary_decisions (machine s) t h.members (announcements announced))
 
--- what is decided at the boundary of slot t, in order
-abbrev pub decisions : Settings → Replica → ℕ → List Decided
-decisions s x t = decided_at s t (said x t) (history s x t)
+-- the slots before slot t of a run
+abbrev pub history_from : Origin → Settings → Replica → ℕ → History
+history_from o s x zero = record { members = members_before o; tables = [] }
+history_from o s x (suc t) = slot_after s (slot_of o t) (said x t) (history_from o s x t)
+
+-- the members in its slot t
+abbrev pub world_from : Origin → Settings → Replica → ℕ → List Member
+world_from o s x t = members_at s (slot_of o t) (said x t) (history_from o s x t)
+
+abbrev pub table_from : Origin → Settings → Replica → ℕ → Table
+table_from o s x t = table_of s (slot_of o t) (world_from o s x t)
+
+-- what is decided at the boundary of its slot t, in order
+abbrev pub decisions_from : Origin → Settings → Replica → ℕ → List Decided
+decisions_from o s x t = decided_at s (slot_of o t) (said x t) (history_from o s x t)
 
 -- the tables of all slots below the frontier and the number of slots
+abbrev pub plan_from : Origin → Settings → Replica → List Table
+plan_from o s x = map (table_from o s x) (numbers_below (min (frontier x) s.slots))
+
+-- ---- a first run
+
+abbrev pub history : Settings → Replica → ℕ → History
+history s x t = history_from None s x t
+
+abbrev pub world : Settings → Replica → ℕ → List Member
+world s x t = world_from None s x t
+
+abbrev pub table : Settings → Replica → ℕ → Table
+table s x t = table_from None s x t
+
+abbrev pub decisions : Settings → Replica → ℕ → List Decided
+decisions s x t = decisions_from None s x t
+
 abbrev pub plan : Settings → Replica → List Table
-plan s x = map (table s x) (numbers_below (min (frontier x) s.slots))
+plan s x = plan_from None s x

@@ -1,8 +1,11 @@
 //! What a plan answers.
 
 ghost use Rattle.std.specs.Prelude.{◌≡◌};
-ghost use Rattle.pfair_table.specs.Faults.{plan_fault_number};
+ghost use Rattle.pfair_table.specs.Faults.{plan_fault_number, next_run_fault_number};
 
+use pfair_admission::CarryFault;
+use pfair_weight::TaskName;
+use std::alloc::AllocError;
 use thiserror::Error;
 
 /// What a call of `plan_next` did.
@@ -49,6 +52,80 @@ impl PlanFault {
             PlanFault::Torn { .. } => 30,
             PlanFault::Spent => 31,
             PlanFault::Memory => 90,
+        }
+    }
+}
+
+/// Why no next run begins.
+#[derive(Clone, Copy, Debug, PartialEq, Eq, Error)]
+pub enum NextRunFault {
+    /// An entry has two contents; this is the least such key.
+    #[error("entry {number} of processor {proc} torn")]
+    Torn {
+        /// The processor in whose log the entry stands, counted from 0.
+        proc: u8,
+        /// Its number in that log, counted from 1.
+        number: u32,
+    },
+    /// An allocation failed in an earlier plan: the dispatcher has to be reopened.
+    #[error("spent")]
+    Spent,
+    /// Not all slots of the run are planned.
+    #[error("run not finished")]
+    Unfinished,
+    /// The next run would end after slot [`Members::LAST_SLOT`](pfair_admission::Members::LAST_SLOT),
+    /// counted from the first run's first slot.
+    #[error("run past the last slot")]
+    PastLastSlot,
+    /// This member can't be carried into a next run, and each one admitted before it can.
+    #[error("cannot carry a member")]
+    CannotCarry {
+        /// The member's name.
+        name: TaskName,
+    },
+    /// An allocation failed.
+    #[error("out of memory")]
+    Memory,
+}
+
+impl NextRunFault {
+    /// Returns the number under which the fault is reported: 30 to 34 and 90, in the order of the
+    /// variants.
+    pub fn number(&self) -> u8
+        ensures { result ≡ next_run_fault_number self.now }
+    {
+        match self {
+            NextRunFault::Torn { .. } => 30,
+            NextRunFault::Spent => 31,
+            NextRunFault::Unfinished => 32,
+            NextRunFault::PastLastSlot => 33,
+            NextRunFault::CannotCarry { .. } => 34,
+            NextRunFault::Memory => 90,
+        }
+    }
+}
+
+impl From<AllocError> for NextRunFault {
+    ghost use Rattle.std.specs.Prelude.{◌≡◌};
+    ghost use Rattle.pfair_table.specs.declared.answer.NextRunFault.TheVariants.{Memory};
+
+    ghost from_gives = { λ _ e. e ≡ Memory };
+
+    fn from(_error: AllocError) -> NextRunFault {
+        NextRunFault::Memory
+    }
+}
+
+impl From<CarryFault> for NextRunFault {
+    ghost use Rattle.std.specs.Prelude.{◌≡◌};
+    ghost use Rattle.pfair_table.specs.Faults.{next_run_fault_of};
+
+    ghost from_gives = { λ c e. e ≡ next_run_fault_of c };
+
+    fn from(fault: CarryFault) -> NextRunFault {
+        match fault {
+            CarryFault::CannotCarry { name } => NextRunFault::CannotCarry { name },
+            CarryFault::Memory => NextRunFault::Memory,
         }
     }
 }

@@ -9,19 +9,20 @@ ghost use Rattle.pfair_replica.specs.Faults.{IsKeyOf, IsTakenAs, IsTakeFaultOf, 
 ghost use Rattle.pfair_table.specs.declared.event.Event.TheVariants.{Plan as PlanEvent};
 ghost use Rattle.pfair_table.specs.Events.{start, happens};
 ghost use Rattle.pfair_table.specs.Laws.{IsOf};
-ghost use Rattle.pfair_table.specs.Table.{table, decisions};
+ghost use Rattle.pfair_table.specs.Table.{table_from, decisions_from};
 ghost use Rattle.std.specs.List.{AllByRecursion};
 ghost use Rattle.pfair_table.specs.Planned.{as_tables, as_places};
-ghost use Rattle.pfair_table.specs.Places.{places_of};
+ghost use Rattle.pfair_table.specs.Places.{places_in};
 ghost use Rattle.pfair_table.specs.PlaceLaws.{IsFit, HavePlacedAlike};
 ghost use Rattle.pfair_table.specs.Readings.{AreReadingsOf};
-ghost use Rattle.pfair_table.specs.Refinement.{AreMembersOf, IsInStep, course_of, members_after, IsStepOf, IsPlanFault, after_fault, IsReopenFault, IsLast, IsWholePlan, HavePlannedAlike};
+ghost use Rattle.pfair_table.specs.NextRun.{LeaveAlike};
+ghost use Rattle.pfair_table.specs.Refinement.{AreMembersOf, course_of, members_after, IsStepOf, IsPlanFault, after_fault, IsReopenFault, IsLast, IsWholePlan, HavePlannedAlike};
 
 use crate::answer::{PlanFault, Step};
+use crate::origin::Origin;
 use crate::pick::{Decided, Pick};
-use crate::places::places_beside;
 use crate::planned::{Planned, Run};
-use crate::planner::Planner;
+use crate::planner::{Planner, plan_onto};
 use crate::script::Script;
 use crate::settings::Settings;
 use pfair_admission::Members;
@@ -37,11 +38,11 @@ use std::marker::Model;
 /// whatever order they arrive, with whatever losses and repeats.
 #[derive(Drop)]
 pub struct Dispatcher<R: Ready> {
-    settings: Settings,
-    replica: Replica,
-    planner: Planner<R>,
-    planned: Planned,
-    spent: bool,
+    pub(crate) settings: Settings,
+    pub(crate) replica: Replica,
+    pub(crate) planner: Planner<R>,
+    pub(crate) planned: Planned,
+    pub(crate) spent: bool,
 }
 
 impl<R: Ready> Model for Dispatcher<R> {
@@ -51,9 +52,17 @@ impl<R: Ready> Model for Dispatcher<R> {
 
     ghost Value = { Dispatch };
 
-    ghost view = { λ a. record { settings = a.settings; held = a.replica; tables = a.planned.tables; decided = a.planned.decided; forgotten = a.planned.forgotten; spent = a.spent } };
+    ghost view = { λ a. record {
+      settings = a.settings;
+      origin = a.planned.origin;
+      held = a.replica;
+      tables = a.planned.tables;
+      decided = a.planned.decided;
+      forgotten = a.planned.forgotten;
+      spent = a.spent;
+    } };
 
-    ghost invariant = { λ a. IsKept a.settings (replica_of a.replica) a.planned.tables a.planned.decided a.spent
+    ghost invariant = { λ a. IsKept a.planned.origin a.settings (replica_of a.replica) a.planned.tables a.planned.decided a.spent
         a.planner.members (R.now a.planner.ready) (R.held a.planner.ready)
         × AreReadingsOf (replica_of a.replica) a.planner.readings.by_processor.items };
 }
@@ -71,15 +80,7 @@ impl<R: Ready> Dispatcher<R> {
         ensures standing { IfOk result (λ d. d.forgotten ≡ 0) }
         ensures spent { IfOk result (λ d. d.spent ≡ false) }
     {
-        let replica = Replica::new(alloc, settings.processors(), capacity)?;
-        let planner = Planner::new(alloc, settings)?;
-        Ok(Dispatcher {
-            settings,
-            replica,
-            planner,
-            planned: Planned::new(alloc),
-            spent: false,
-        })
+        Dispatcher::begin(alloc, settings, capacity, Origin::first())
     }
 
     /// Takes entry `number` (from 1) of the log of processor `proc` (from 0), as [`Replica::take`].
@@ -129,11 +130,13 @@ impl<R: Ready> Dispatcher<R> {
     }
 
     /// States the headline of two dispatchers, whatever was called on either: if their settings are
-    /// equal and their replicas agree, each slot that both have planned has the same table, which is
-    /// that of either replica, the same decisions and the same places. It does nothing.
+    /// equal, their runs began alike and their replicas agree, each slot that both have planned has the same table, which is
+    /// that of either replica, the same decisions and the same places, and what a next run takes over
+    /// is the same. It does nothing.
     pub fn plans_alike<Q: Ready>(&self, other: &Dispatcher<Q>)
         ensures planned { HavePlannedAlike self.now other.now }
         ensures placed { HavePlacedAlike self.now other.now }
+        ensures left { LeaveAlike self.now other.now }
     {
         prove!(self.replica.processors() >= 1);
         prove!(other.replica.processors() >= 1);
@@ -189,7 +192,7 @@ impl<R: Ready> Dispatcher<R> {
     /// The law [`places_are_kept`](crate::laws::places_are_kept) holds of them, since no table has
     /// more rows than there are processors, or a task twice.
     pub fn places(&self, slot: u64) -> Option<&[u8]>
-        ensures value { self.now.forgotten ≤ slot → option_map (λ places. places.now) result ≡ slice_get (places_of self.now.tables) slot }
+        ensures value { self.now.forgotten ≤ slot → option_map (λ places. places.now) result ≡ slice_get (places_in self.now.origin self.now.tables) slot }
         ensures forgotten { slot < self.now.forgotten → result ≡ None }
         ensures fit { AllByRecursion (IsFit self.now.settings.processors) self.now.tables }
     {
@@ -214,7 +217,7 @@ impl<R: Ready> Dispatcher<R> {
         ensures members { IfSome result (λ members. AreMembersOf self.now members.now.members) }
         ensures whole { IfSome result (λ members. has_torn (replica_of self.now.held) ≡ false
             → members.now.members
-            ≡ members_after self.now.settings (replica_of self.now.held) (length self.now.tables)) }
+            ≡ members_after self.now.origin self.now.settings (replica_of self.now.held) (length self.now.tables)) }
     {
         if self.spent {
             return None;
@@ -230,7 +233,7 @@ impl<R: Ready> Dispatcher<R> {
     /// Returns [`AllocError`] if an allocation fails.
     pub fn into_run(self) -> Result<Run, AllocError>
         ensures tables { IfOk result (λ run. as_tables run.tables ≡ drop self.forgotten self.tables) }
-        ensures places { IfOk result (λ run. as_places run.places ≡ drop self.forgotten (places_of self.tables)) }
+        ensures places { IfOk result (λ run. as_places run.places ≡ drop self.forgotten (places_in self.origin self.tables)) }
     {
         self.planned.into_run()
     }
@@ -341,7 +344,10 @@ impl<R: Ready> Dispatcher<R> {
             return Err(PlanFault::Torn { proc, number });
         }
         let slots = self.planned.len() as u64;
-        match self.planner.plan_again(self.settings, &self.replica, slots) {
+        match self
+            .planner
+            .plan_again(self.settings, self.planned.origin(), &self.replica, slots)
+        {
             Ok(()) => {
                 self.spent = false;
                 Ok(())
@@ -352,33 +358,4 @@ impl<R: Ready> Dispatcher<R> {
             }
         }
     }
-}
-
-// Plans slot n of the replica, and puts it behind the n slots before it.
-fn plan_onto<R: Ready>(
-    settings: Settings,
-    replica: &Replica,
-    planner: &mut Planner<R>,
-    planned: &mut Planned,
-) -> Result<(), AllocError>
-    requires of { IsOf settings (replica_of replica.now) }
-    requires untorn { Untorn (replica_of replica.now) }
-    requires room { replica.now.capacity ≤ Script.LONGEST_LOG }
-    requires slots { length planned.old.tables < settings.slots }
-    requires readings { AreReadingsOf (replica_of replica.now) planner.old.readings.by_processor.items }
-    requires fit { AllByRecursion (IsFit settings.processors) planned.old.tables }
-    requires step { IsInStep settings (replica_of replica.now) (length planned.old.tables) planner.old.members (R.now planner.old.ready) (R.held planner.old.ready) }
-    ensures tables { OnOk result (planned.new.tables ≡ planned.old.tables ++ table settings (replica_of replica.now) (length planned.old.tables) ∷ []) }
-    ensures decided { OnOk result (planned.new.decided ≡ planned.old.decided ++ decisions settings (replica_of replica.now) (length planned.old.tables) ∷ []) }
-    ensures step { OnOk result (IsInStep settings (replica_of replica.now) (length planned.new.tables) planner.new.members (R.now planner.new.ready) (R.held planner.new.ready)) }
-    ensures forgotten { planned.new.forgotten ≡ planned.old.forgotten }
-    ensures err { OnErr result (planned.new ≡ planned.old) }
-    ensures readings { AreReadingsOf (replica_of replica.now) planner.new.readings.by_processor.items }
-{
-    let slot = planned.len() as u64;
-    let room = planned.take_room();
-    let next = planner.plan(settings, replica, slot, room.table)?;
-    let (before, there) = planned.last();
-    let places = places_beside(before, there, &next.table, &mut planner.kept, room.places)?;
-    planned.push(next, places)
 }

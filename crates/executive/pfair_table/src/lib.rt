@@ -11,6 +11,8 @@ mod buckets;
 mod dispatcher;
 mod event;
 pub mod laws;
+mod next_run;
+mod origin;
 mod pick;
 mod pieces;
 mod places;
@@ -26,7 +28,7 @@ mod single;
 mod slot;
 mod slot_planner;
 
-pub use answer::{PlanFault, Step};
+pub use answer::{NextRunFault, PlanFault, Step};
 pub use dispatcher::Dispatcher;
 pub use event::Event;
 pub use pick::{Decided, Pick};

@@ -3,10 +3,11 @@
 ghost use Rattle.std.specs.Prelude.{◌≡◌, ◌<◌, ◌≤◌, ◌++◌, ◌∷◌, [], IfOk, OnOk, OnErr, None, drop, length, map, max, min, slice_get};
 ghost use Rattle.std.specs.Option.{option_map};
 ghost use Rattle.std.specs.List.{AllByRecursion};
-ghost use Rattle.pfair_table.specs.Places.{places_of};
+ghost use Rattle.pfair_table.specs.Places.{places_of, places_in, table_before, places_before};
 ghost use Rattle.pfair_table.specs.PlaceLaws.{IsFit};
 ghost use Rattle.pfair_table.specs.Planned.{last_or, as_tables, as_places};
 
+use crate::origin::Origin;
 use crate::pick::{Decided, Pick};
 use crate::pieces::Pieces;
 use crate::places::places_beside;
@@ -70,6 +71,7 @@ struct PlannedSlot {
 /// its boundary. Those of the slots below one may be forgotten.
 #[derive(Drop)]
 pub(crate) struct Planned {
+    origin: Origin,
     slots: Pieces<PlannedSlot>,
     // the room of slots that come, and what more of it is made from
     rooms: Vec<Room>,
@@ -78,26 +80,34 @@ pub(crate) struct Planned {
 
 impl Model for Planned {
     ghost use Rattle.std.specs.Prelude.{◌≡◌, map};
-    ghost use Rattle.pfair_table.specs.Places.{places_of};
+    ghost use Rattle.pfair_table.specs.Places.{places_in};
     ghost use Rattle.pfair_table.specs.Planned.{PlannedSlots};
 
     ghost Value = { PlannedSlots };
 
-    ghost view = { λ p. record { tables = map (λ s. s.plan.table.items) p.slots.items; decided = map (λ s. s.plan.decided.items) p.slots.items; forgotten = p.slots.forgotten } };
+    ghost view = { λ p. record { origin = p.origin; tables = map (λ s. s.plan.table.items) p.slots.items; decided = map (λ s. s.plan.decided.items) p.slots.items; forgotten = p.slots.forgotten } };
 
-    ghost invariant = { λ p. map (λ s. s.places.items) p.slots.items ≡ places_of (map (λ s. s.plan.table.items) p.slots.items) };
+    ghost invariant = { λ p. map (λ s. s.places.items) p.slots.items ≡ places_in p.origin (map (λ s. s.plan.table.items) p.slots.items) };
 }
 
 impl Planned {
-    /// Nothing is planned.
-    pub(crate) fn new(alloc: Global) -> Planned
-        ensures { result ≡ record { tables = []; decided = []; forgotten = 0 } }
+    /// Nothing is planned of a run that begins there.
+    pub(crate) fn new(alloc: Global, origin: Origin) -> Planned
+        ensures { result ≡ record { origin = origin; tables = []; decided = []; forgotten = 0 } }
     {
         Planned {
+            origin,
             slots: Pieces::new(alloc),
             rooms: Vec::new(alloc),
             alloc,
         }
+    }
+
+    /// Where the run begins.
+    pub(crate) fn origin(&self) -> &Origin
+        ensures { result.now ≡ self.now.origin }
+    {
+        &self.origin
     }
 
     /// How many slots are planned, the forgotten ones among them.
@@ -134,7 +144,7 @@ impl Planned {
 
     /// The places of a slot, or none if that is forgotten.
     pub(crate) fn places(&self, slot: usize) -> Option<&[u8]>
-        ensures value { self.now.forgotten ≤ slot → option_map (λ places. places.now) result ≡ slice_get (places_of self.now.tables) slot }
+        ensures value { self.now.forgotten ≤ slot → option_map (λ places. places.now) result ≡ slice_get (places_in self.now.origin self.now.tables) slot }
         ensures forgotten { slot < self.now.forgotten → result ≡ None }
     {
         let planned = self.slots.get(slot)?;
@@ -150,15 +160,15 @@ impl Planned {
         Some(&planned.plan.decided)
     }
 
-    /// The table of the last slot and its places, also if it is forgotten, or no rows if nothing
-    /// is planned.
+    /// The table of the last slot and its places, also if it is forgotten, or those of the slot before
+    /// the run if nothing is planned.
     pub(crate) fn last(&self) -> (&[Pick], &[u8])
-        ensures table { result.0.now ≡ last_or [] self.now.tables }
-        ensures places { result.1.now ≡ last_or [] (places_of self.now.tables) }
+        ensures table { result.0.now ≡ last_or (table_before self.now.origin) self.now.tables }
+        ensures places { result.1.now ≡ last_or (places_before self.now.origin) (places_in self.now.origin self.now.tables) }
     {
         match self.slots.last() {
             Some(planned) => (&planned.plan.table, &planned.places),
-            None => (&[], &[]),
+            None => self.origin.last(),
         }
     }
 
@@ -185,7 +195,7 @@ impl Planned {
 
     /// Adds the next slot.
     pub(crate) fn push(&mut self, plan: SlotPlan, places: Vec<u8>) -> Result<(), AllocError>
-        requires { places_of (self.old.tables ++ plan.table.items ∷ []) ≡ places_of self.old.tables ++ places.items ∷ [] }
+        requires { places_in self.old.origin (self.old.tables ++ plan.table.items ∷ []) ≡ places_in self.old.origin self.old.tables ++ places.items ∷ [] }
         ensures ok { OnOk result (self.new ≡ record self.old { tables = self.old.tables ++ plan.table.items ∷ []; decided = self.old.decided ++ plan.decided.items ∷ [] }) }
         ensures err { OnErr result (self.new ≡ self.old) }
     {
@@ -195,7 +205,7 @@ impl Planned {
     /// The tables that aren't forgotten and their places: each is moved, and none is copied.
     pub(crate) fn into_run(self) -> Result<Run, AllocError>
         ensures tables { IfOk result (λ run. as_tables run.tables ≡ drop self.forgotten self.tables) }
-        ensures places { IfOk result (λ run. as_places run.places ≡ drop self.forgotten (places_of self.tables)) }
+        ensures places { IfOk result (λ run. as_places run.places ≡ drop self.forgotten (places_in self.origin self.tables)) }
     {
         run_of(self.slots.into_list()?)
     }

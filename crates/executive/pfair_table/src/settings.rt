@@ -1,6 +1,6 @@
 //! What a run is set to.
 
-ghost use Rattle.std.specs.Prelude.{◌≡◌};
+ghost use Rattle.std.specs.Prelude.{◌≡◌, ◌≤◌};
 ghost use Rattle.std.specs.Option.{SomeIff};
 ghost use Rattle.pfair_table.specs.Limits.{IsSettings};
 
@@ -56,6 +56,15 @@ impl Settings {
         } else {
             None
         }
+    }
+
+    /// Returns the same settings for so many slots, 1 to [`Settings::MAX_SLOTS`].
+    pub(crate) fn with_slots(self, slots: u64) -> Settings
+        requires some { 1 ≤ slots }
+        requires few { slots ≤ Settings.MAX_SLOTS }
+        ensures { result ≡ record self { slots = slots } }
+    {
+        Settings { slots, ..self }
     }
 
     /// Returns the number of processors.

@@ -1,6 +1,6 @@
 //! A script's run on one dispatcher.
 
-ghost use Rattle.std.specs.Prelude.{◌≡◌, ◌+◌, ◌<◌, ◌≤◌, List, [], IfOk, IfErr, OnOk, Some, false, slice_get, length, take};
+ghost use Rattle.std.specs.Prelude.{◌≡◌, ◌+◌, ◌<◌, ◌≤◌, List, [], IfOk, IfErr, OnOk, Some, None, false, slice_get, length, take};
 ghost use Rattle.pfair_replica.specs.HeldRows.{replica_of};
 ghost use Rattle.pfair_table.specs.Refinement.{IsWholePlan};
 ghost use Rattle.pfair_table.specs.Script.{held_of, replica_of_logs};
@@ -44,6 +44,7 @@ pub fn run_script<R: Ready>(alloc: Global, script: &Script) -> Result<Dispatcher
 pub fn take_script<R: Ready>(alloc: Global, script: &Script) -> Result<Dispatcher<R>, AllocError>
     ensures settings { IfOk result (λ d. d.settings ≡ script.now.settings) }
     ensures held { IfOk result (λ d. replica_of d.held ≡ replica_of_logs script.now.logs) }
+    ensures first { IfOk result (λ d. d.origin ≡ None) }
     ensures nothing { IfOk result (λ d. d.tables ≡ []) }
     ensures undecided { IfOk result (λ d. d.decided ≡ []) }
     ensures standing { IfOk result (λ d. d.forgotten ≡ 0) }
@@ -89,6 +90,7 @@ fn take_log<R: Ready>(
 // Plans as many slots as the contents settle.
 fn plan_all<R: Ready>(dispatcher: &mut Dispatcher<R>) -> Result<(), PlanFault>
     ensures settings { OnOk result (dispatcher.new.settings ≡ dispatcher.old.settings) }
+    ensures origin { OnOk result (dispatcher.new.origin ≡ dispatcher.old.origin) }
     ensures held { OnOk result (dispatcher.new.held ≡ dispatcher.old.held) }
     ensures standing { dispatcher.new.forgotten ≡ dispatcher.old.forgotten }
     ensures whole { OnOk result (IsWholePlan dispatcher.new) }

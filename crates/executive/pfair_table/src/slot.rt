@@ -10,12 +10,13 @@ ghost use Rattle.pfair_table.specs.Ranks.{first_by_rank};
 ghost use Rattle.pfair_admission.specs.Admission.{boundary, boundary_decisions, announcements};
 ghost use Rattle.pfair_entry.specs.Entry.{IsWithinLimits};
 ghost use Rattle.pfair_table.specs.Table.{with_decisions, eligible, pick, all_ran};
+ghost use Rattle.pfair_weight.specs.declared.window.TheConstants.{MAX_INDEX};
 ghost use Rattle.pfair_table.specs.Queue.{IsQueue, IsQueueBut, IsQueueWithout, IsToldOf, IsSteady, MayRun};
 
 use crate::pick::{Decided, Pick};
 use crate::room::emptied;
 use pfair_admission::Members;
-use pfair_entry::{Entry, Said};
+use pfair_entry::Said;
 use pfair_order::Key;
 use pfair_ready::Ready;
 use pfair_weight::TaskName;
@@ -38,7 +39,7 @@ pub(crate) fn decide_all(
     slot: u64,
     announced: &[Said],
 ) -> Result<Vec<Decided>, AllocError>
-    requires slot { slot ≤ Entry.LAST_SLOT }
+    requires slot { slot ≤ Members.LAST_SLOT }
     requires order { ForSome members.old.last_slot (λ last. last ≤ slot) }
     requires heard { members.old.heard + length announced.now ≤ Members.MAX_HEARD }
     requires limits { AllByRecursion (λ a. IsWithinLimits a.2) announced.now }
@@ -99,6 +100,20 @@ pub(crate) fn tell_ready<R: Ready>(
     Ok(())
 }
 
+/// Returns a ready structure with the next subtask of each member that isn't departing.
+pub(crate) fn ready_of<R: Ready>(alloc: Global, members: &Members) -> Result<R, AllocError>
+    ensures queue { IfOk result (λ ready. IsQueue members.now.members (R.held ready)) }
+    ensures time { IfOk result (λ ready. R.now ready ≡ 0) }
+{
+    let mut ready = R::new(alloc);
+    for index in 0..members.len() {
+        if let Some((name, _)) = members.at(index) {
+            tell_of(&mut ready, members, name)?;
+        }
+    }
+    Ok(ready)
+}
+
 /// Each of these keys has a quantum, and the next subtask of its task waits. The table uses the room
 /// of a list.
 pub(crate) fn run_each<R: Ready>(
@@ -142,7 +157,7 @@ pub(crate) fn give_quanta<R: Ready>(
     requires time { R.now ready.old ≤ slot }
     requires named { NamesApart (λ m. m.name) members.old.members }
     requires queue { IsQueue members.old.members (R.held ready.old) }
-    requires few { AllByRecursion (λ m. m.next ≤ Entry.LAST_INDEX) members.old.members }
+    requires few { AllByRecursion (λ m. m.next < MAX_INDEX) members.old.members }
     ensures table { IfOk result (λ table. table.items ≡ map (pick members.old.members) (first_by_rank processors (eligible slot members.old.members))) }
     ensures members { IfOk result (λ table. members.new ≡ record members.old { members = all_ran table.items members.old.members }) }
     ensures queue { OnOk result (IsQueue members.new.members (R.held ready.new)) }
@@ -166,7 +181,8 @@ pub(crate) fn plan_slot<R: Ready>(
     keys: &mut Vec<Key>,
     room: Vec<Pick>,
 ) -> Result<SlotPlan, AllocError>
-    requires slot { slot < Entry.LAST_SLOT }
+    requires slot { slot ≤ Members.LAST_SLOT }
+    requires few { AllByRecursion (λ m. m.next < MAX_INDEX) members.old.members }
     requires steady { IsSteady slot members.old (R.now ready.old) (R.held ready.old) }
     requires heard { members.old.heard + length announced.now ≤ Members.MAX_HEARD }
     requires limits { AllByRecursion (λ a. IsWithinLimits a.2) announced.now }

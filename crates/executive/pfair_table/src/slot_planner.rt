@@ -1,14 +1,19 @@
 //! What plans slot after slot of a replica that is held elsewhere.
 
-ghost use Rattle.std.specs.Prelude.{◌≡◌, ◌≤◌, [], false, IfOk, IfErr, OnOk, None, length};
-ghost use Rattle.pfair_replica.specs.Replica.{Below, has_torn};
+ghost use Rattle.std.specs.Prelude.{◌≡◌, ◌≤◌, ◌<◌, ◌+◌, [], false, IfOk, IfErr, OnOk, None, length};
+ghost use Rattle.pfair_replica.specs.Replica.{Below, Untorn, has_torn};
 ghost use Rattle.pfair_replica.specs.HeldRows.{SameShape, replica_of};
 ghost use Rattle.pfair_table.specs.Script.{replica_of_logs};
+ghost use Rattle.pfair_table.specs.Laws.{IsOf};
+ghost use Rattle.pfair_table.specs.Limits.{IsSettings};
+ghost use Rattle.pfair_table.specs.Readings.{AreReadingsOf};
+ghost use Rattle.pfair_table.specs.Table.{table, decisions};
 ghost use Rattle.pfair_table.specs.ScriptRun.{IsBySlot, IsScriptFaultOf};
-ghost use Rattle.pfair_table.specs.Refinement.{after_fault, IsPlanFault, IsWholePlan};
+ghost use Rattle.pfair_table.specs.Refinement.{after_fault, IsInStep, IsPlanFault, IsWholePlan};
 ghost use Rattle.pfair_table.specs.SlotPlans.{IsNextPlan, after_plan, seeing};
 
 use crate::answer::PlanFault;
+use crate::origin::Origin;
 use crate::pick::Pick;
 use crate::planner::Planner;
 use crate::run_fault::RunFault;
@@ -39,6 +44,7 @@ pub struct SlotPlanner<R: Ready> {
 }
 
 impl<R: Ready> Model for SlotPlanner<R> {
+    ghost use Rattle.std.specs.Prelude.{None};
     ghost use Rattle.pfair_replica.specs.HeldRows.{replica_of};
     ghost use Rattle.pfair_table.specs.Readings.{AreReadingsOf};
     ghost use Rattle.pfair_table.specs.Script.{replica_of_logs};
@@ -50,6 +56,7 @@ impl<R: Ready> Model for SlotPlanner<R> {
 
     ghost view = { λ a. record {
       settings = a.settings;
+      origin = None;
       held = a.seen.value;
       tables = tables_to a.settings a.of.value a.planned;
       decided = decided_to a.settings a.of.value a.planned;
@@ -57,7 +64,7 @@ impl<R: Ready> Model for SlotPlanner<R> {
       spent = a.spent;
     } };
 
-    ghost invariant = { λ a. IsKept a.settings (replica_of a.seen.value)
+    ghost invariant = { λ a. IsKept None a.settings (replica_of a.seen.value)
         (tables_to a.settings a.of.value a.planned) (decided_to a.settings a.of.value a.planned) a.spent
         a.planner.members (R.now a.planner.ready) (R.held a.planner.ready)
         × AreReadingsOf (replica_of a.seen.value) a.planner.readings.by_processor.items };
@@ -75,11 +82,11 @@ impl<R: Ready> SlotPlanner<R> {
         replica: &Replica,
     ) -> Result<SlotPlanner<R>, AllocError>
         requires { replica.now.processors ≡ settings.processors }
-        ensures start { IfOk result (λ p. p ≡ record { settings = settings; held = replica.now; tables = []; decided = []; forgotten = 0; spent = false }) }
+        ensures start { IfOk result (λ p. p ≡ record { settings = settings; origin = None; held = replica.now; tables = []; decided = []; forgotten = 0; spent = false }) }
     {
         // the logs of a replica have at most 4,096 entries
         prove!(replica.processors() >= 1);
-        let planner = Planner::new(alloc, settings)?;
+        let planner = Planner::new(alloc, settings, &Origin::first())?;
         Ok(SlotPlanner {
             settings,
             planner,
@@ -100,6 +107,7 @@ impl<R: Ready> SlotPlanner<R> {
         ensures settings { IfOk result (λ r. r.1.settings ≡ script.now.settings) }
         ensures held { IfOk result (λ r. replica_of r.0 ≡ replica_of_logs script.now.logs) }
         ensures start { IfOk result (λ r. r.1.tables ≡ []) }
+        ensures first { IfOk result (λ r. r.1.origin ≡ None) }
         ensures able { IfOk result (λ r. IsBySlot r.0 r.1) }
         ensures fault { IfErr result (IsScriptFaultOf script.now) }
     {
@@ -178,7 +186,7 @@ impl<R: Ready> SlotPlanner<R> {
         if slot >= replica.frontier() {
             return Ok(None);
         }
-        match self.planner.plan(self.settings, replica, slot, room) {
+        match plan_first(&mut self.planner, self.settings, replica, slot, room) {
             Ok(next) => {
                 self.of = Snapshot::of(replica);
                 self.planned = slot + 1;
@@ -199,4 +207,27 @@ impl<R: Ready> SlotPlanner<R> {
     {
         self.seen = Snapshot::of(replica);
     }
+}
+
+// Plans slot n of a first run.
+fn plan_first<R: Ready>(
+    planner: &mut Planner<R>,
+    settings: Settings,
+    replica: &Replica,
+    slot: u64,
+    room: Vec<Pick>,
+) -> Result<SlotPlan, AllocError>
+    requires of { IsOf settings (replica_of replica.now) }
+    requires untorn { Untorn (replica_of replica.now) }
+    requires room { replica.now.capacity ≤ Script.LONGEST_LOG }
+    requires slot { slot < settings.slots }
+    requires readings { AreReadingsOf (replica_of replica.now) planner.old.readings.by_processor.items }
+    requires step { IsInStep None settings (replica_of replica.now) slot planner.old.members (R.now planner.old.ready) (R.held planner.old.ready) }
+    ensures table { IfOk result (λ next. next.table.items ≡ table settings (replica_of replica.now) slot) }
+    ensures decided { IfOk result (λ next. next.decided.items ≡ decisions settings (replica_of replica.now) slot) }
+    ensures step { OnOk result (IsInStep None settings (replica_of replica.now) (slot + 1) planner.new.members (R.now planner.new.ready) (R.held planner.new.ready)) }
+    ensures limits { OnOk result (IsSettings settings) }
+    ensures readings { AreReadingsOf (replica_of replica.now) planner.new.readings.by_processor.items }
+{
+    planner.plan(settings, &Origin::first(), replica, slot, room)
 }

@@ -34,8 +34,8 @@ begins output slot ts us ds es same same' h tables decided =
     (first_of_other ts us h (λ t l. tables t l (omega arith)))
     (first_of_other ds es (omega arith) (λ t l. decided t (omega arith) (omega arith)))
 
-pub told_alike : (f g : Follow) → length f.dispatch.tables ≡ length f.dispatch.decided → length g.dispatch.tables ≡ length g.dispatch.decided → HavePlannedAlike f.dispatch g.dispatch → HaveToldAlike f g
-told_alike f g same same' planned output settings agree slot =
+pub told_alike : (f g : Follow) → length f.dispatch.tables ≡ length f.dispatch.decided → length g.dispatch.tables ≡ length g.dispatch.decided → f.dispatch.origin ≡ g.dispatch.origin → HavePlannedAlike f.dispatch g.dispatch → HaveToldAlike f g
+told_alike f g same same' origins planned output settings agree slot =
     let c = f.dispatch in
     let d = g.dispatch in
     elim (cases_order (length f.dispatch.tables) (length g.dispatch.tables)) [
@@ -47,11 +47,11 @@ told_alike f g same same' planned output settings agree slot =
     shorter : length f.dispatch.tables ≤ length g.dispatch.tables → IsPrefixOf (rows_from f.output slot f.dispatch.tables f.dispatch.decided) (rows_from g.output slot g.dispatch.tables g.dispatch.decided)
     shorter h =
         let p = begins f.output slot f.dispatch.tables g.dispatch.tables f.dispatch.decided g.dispatch.decided same same' h
-        (λ t l m. (let a = planned settings agree t l m in a.0 ∙ sym a.1)) (λ t l m. (let a = planned settings agree t l m in a.2 ∙ sym a.3)) in
+        (λ t l m. (let a = planned settings origins agree t l m in a.0 ∙ sym a.1)) (λ t l m. (let a = planned settings origins agree t l m in a.2 ∙ sym a.3)) in
         (p.0, p.1 ∙ ap (λ (o : Output). rows_from o slot g.dispatch.tables g.dispatch.decided) output)
 
     longer : length g.dispatch.tables ≤ length f.dispatch.tables → IsPrefixOf (rows_from g.output slot g.dispatch.tables g.dispatch.decided) (rows_from f.output slot f.dispatch.tables f.dispatch.decided)
     longer h =
         let p = begins g.output slot g.dispatch.tables f.dispatch.tables g.dispatch.decided f.dispatch.decided same' same h
-        (λ t m l. (let a = planned settings agree t l m in a.1 ∙ sym a.0)) (λ t m l. (let a = planned settings agree t l m in a.3 ∙ sym a.2)) in
+        (λ t m l. (let a = planned settings origins agree t l m in a.1 ∙ sym a.0)) (λ t m l. (let a = planned settings origins agree t l m in a.3 ∙ sym a.2)) in
         (p.0, p.1 ∙ ap (λ (o : Output). rows_from o slot f.dispatch.tables f.dispatch.decided) (sym output))

@@ -9,7 +9,7 @@ use Rattle.pfair_text.proofs.RowFacts.{lines_text-append}
 use Rattle.pfair_replica.specs.HeldRows.{replica_of}
 use Rattle.pfair_table.specs.declared.pick.Decided.{Decided}
 use Rattle.pfair_table.specs.Laws.{IsPrefixOf}
-use Rattle.pfair_table.specs.Table.{Table, decisions, table}
+use Rattle.pfair_table.specs.Table.{Table, decisions_from, table_from}
 use Rattle.pfair_table.specs.Refinement.{Dispatch, IsWholePlan}
 use Rattle.pfair_feed.specs.declared.output.Output.{Output}
 use Rattle.pfair_feed.specs.Follow.{Follow, news}
@@ -20,8 +20,8 @@ use Rattle.pfair_feed.specs.Feeding.{HasGoneOn, IsCaughtUp}
 
 pub even : (d : Dispatch) → IsWholePlan d → length d.tables ≡ length d.decided
 even d whole =
-    ap (λ (ts : List Table). length ts) whole.tables_are ∙ length-map _ (table d.settings (replica_of d.held))
-    ∙ sym (length-map _ (decisions d.settings (replica_of d.held))) ∙ sym (ap (λ (ds : List (List Decided)). length ds) whole.decided_are)
+    ap (λ (ts : List Table). length ts) whole.tables_are ∙ length-map _ (table_from d.origin d.settings (replica_of d.held))
+    ∙ sym (length-map _ (decisions_from d.origin d.settings (replica_of d.held))) ∙ sym (ap (λ (ds : List (List Decided)). length ds) whole.decided_are)
 
 pub keeps_all : (old new : Option (List ℕ)) (bs : List ℕ) → bs ≡ [] → Keeps old new → Appends old new bs
 keeps_all None new bs e k = tt
@@ -63,6 +63,7 @@ gone_trans f g h u v w a b =
       output_is = b.output_is ∙ a.output_is;
       grown = record {
         settings_are = b.grown.settings_are ∙ a.grown.settings_are;
+        origin_is = b.grown.origin_is ∙ a.grown.origin_is;
         held_are = refl;
         tables_go_on = prefix_trans f.dispatch.tables g.dispatch.tables h.dispatch.tables a.grown.tables_go_on b.grown.tables_go_on;
         decided_go_on = prefix_trans f.dispatch.decided g.dispatch.decided h.dispatch.decided a.grown.decided_go_on b.grown.decided_go_on;

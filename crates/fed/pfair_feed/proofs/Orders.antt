@@ -100,4 +100,4 @@ pub text_is_whole : WholeRows → WholeText
 text_is_whole whole bytes rest f g old new none fed =
     ap (λ (o : Output). line (header_of g.output) ++ lines_text (rows_from o f.told g.dispatch.tables g.dispatch.decided)) (sym fed.fed.gone_on.output_is)
     ∙ ap (λ (n : ℕ). line (header_of g.output) ++ lines_text (rows_from g.output n g.dispatch.tables g.dispatch.decided)) none
-    ∙ whole g.output g.dispatch fed.fed.gone_on.caught_up.whole
+    ∙ whole g.output g.dispatch fed.fed.gone_on.caught_up.first fed.fed.gone_on.caught_up.whole

@@ -18,6 +18,7 @@ use Rattle.pfair_feed.specs.RowLaws.{RowsGoOn, WholeRows}
 use Rattle.pfair_feed.specs.Rows.{book_before, rows_from, header_of}
 use Rattle.pfair_text.specs.Rows.{lines_text}
 use Rattle.pfair_feed.proofs.Books.{all_told_before, rows-append}
+use Rattle.pfair_feed.proofs.Planned.{decided_first, tables_first}
 
 -- ---- slot after slot
 
@@ -112,7 +113,7 @@ rows_go_on output slot ts more ds rest same =
 -- ---- whole plans
 
 pub whole_texts : WholeRows
-whole_texts Tables d whole = ap (λ (ts : List Table). lines_text (header_of Tables ∷ slots_from table_rows 0 ts)) whole.tables_are
-whole_texts PlacedTables d whole = ap (λ (ts : List Table). lines_text (header_of PlacedTables ∷ slots_from (placed_table_rows (places_of ts)) 0 ts)) whole.tables_are
-whole_texts Decisions d whole = ap (λ (ds : List (List Decided)). lines_text (header_of Decisions ∷ slots_from decided_rows 0 ds)) whole.decided_are
-whole_texts Lags d whole = ap (λ rows. lines_text (header_of Lags ∷ rows)) (whole_rows d whole)
+whole_texts Tables d first whole = ap (λ (ts : List Table). lines_text (header_of Tables ∷ slots_from table_rows 0 ts)) (tables_first d first whole)
+whole_texts PlacedTables d first whole = ap (λ (ts : List Table). lines_text (header_of PlacedTables ∷ slots_from (placed_table_rows (places_of ts)) 0 ts)) (tables_first d first whole)
+whole_texts Decisions d first whole = ap (λ (ds : List (List Decided)). lines_text (header_of Decisions ∷ slots_from decided_rows 0 ds)) (decided_first d first whole)
+whole_texts Lags d first whole = ap (λ rows. lines_text (header_of Lags ∷ rows)) (whole_rows d first whole)

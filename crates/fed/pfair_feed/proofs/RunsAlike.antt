@@ -1,5 +1,5 @@
 -- Two runs whose followers hold what agrees have written texts of which one begins the other.
-use Rattle.std.proofs.Common.{ℕ, ◌<◌, ◌≡◌, inl, inr, refl, sym, ap, subst, ◌∙◌, arith, List, [], ◌∷◌, ◌++◌, length, map, min, Some, slice_get}
+use Rattle.std.proofs.Common.{ℕ, ◌<◌, ◌≡◌, inl, inr, refl, sym, ap, subst, ◌∙◌, arith, List, [], ◌∷◌, ◌++◌, length, map, min, None, Some, slice_get}
 use Rattle.std.specs.Prelude.{◌⊎◌}
 use Rattle.std.specs.List.{AllByRecursion}
 use Rattle.std.proofs.lemmas.Bool.{cases_order}
@@ -12,7 +12,7 @@ use Rattle.pfair_table.specs.declared.pick.Decided.{Decided}
 use Rattle.pfair_table.specs.Events.{Course}
 use Rattle.pfair_table.specs.Laws.{IsOf, IsPrefixOf, OneTable}
 use Rattle.pfair_table.specs.Refinement.{Dispatch, HavePlannedAlike, IsWholePlan}
-use Rattle.pfair_table.specs.Table.{Settings, Table, decisions, table}
+use Rattle.pfair_table.specs.Table.{Settings, Origin, Table, decisions, decisions_from, table, table_from}
 use Rattle.pfair_replica.proofs.OfferedTo.{offered_stays}
 use Rattle.pfair_feed.specs.declared.output.Output.{Output}
 use Rattle.pfair_feed.specs.Follow.{Follow, news}
@@ -79,25 +79,27 @@ of_nothing s capacity = record {
 inside_of : {A : Type 0} (f : ℕ → A) (n t : ℕ) (xs : List A) → xs ≡ map f (numbers_below n) → t < length xs → t < n
 inside_of f n t xs e l = (let a = ap length e ∙ so_many f n in omega (arith, a, l))
 
-module _ (d : Dispatch) (whole : IsWholePlan d) (t : ℕ) where
+module _ (d : Dispatch) (first : d.origin ≡ None) (whole : IsWholePlan d) (t : ℕ) where
   planned_there : t < length d.tables → (t < frontier (replica_of d.held)) × (slice_get d.tables t ≡ Some (table d.settings (replica_of d.held) t)) × (slice_get d.decided t ≡ Some (decisions d.settings (replica_of d.held) t))
   planned_there l =
       let n = min (frontier (replica_of d.held)) d.settings.slots in
-      let inside = inside_of (table d.settings (replica_of d.held)) n t d.tables whole.tables_are l in (
+      let inside = inside_of (table_from d.origin d.settings (replica_of d.held)) n t d.tables whole.tables_are l in (
         omega (arith, inside),
-        ap (λ (ts : List Table). slice_get ts t) whole.tables_are ∙ get_numbers (table d.settings (replica_of d.held)) n t inside,
-        ap (λ (ds : List (List Decided)). slice_get ds t) whole.decided_are ∙ get_numbers (decisions d.settings (replica_of d.held)) n t inside,
+        ap (λ (ts : List Table). slice_get ts t) whole.tables_are ∙ get_numbers (table_from d.origin d.settings (replica_of d.held)) n t inside ∙ ap (λ (o : Origin). Some (table_from o d.settings (replica_of d.held) t)) first,
+        ap (λ (ds : List (List Decided)). slice_get ds t) whole.decided_are ∙ get_numbers (decisions_from d.origin d.settings (replica_of d.held)) n t inside ∙ ap (λ (o : Origin). Some (decisions_from o d.settings (replica_of d.held) t)) first,
       )
 
-planned_alike : OneTable → (s : Settings) (c d : Dispatch) → c.settings ≡ s → IsWholePlan c → IsWholePlan d → IsOf s (replica_of c.held) → IsOf s (replica_of d.held) → HavePlannedAlike c d
-planned_alike law s c d set whole whole' of of' settings agree t l m =
-    let here = planned_there c whole t l in
-    let there = planned_there d whole' t m in
+planned_alike : OneTable → (s : Settings) (c d : Dispatch) → c.settings ≡ s → c.origin ≡ None → d.origin ≡ None → IsWholePlan c → IsWholePlan d → IsOf s (replica_of c.held) → IsOf s (replica_of d.held) → HavePlannedAlike c d
+planned_alike law s c d set first first' whole whole' of of' settings origins agree t l m =
+    let here = planned_there c first whole t l in
+    let there = planned_there d first' whole' t m in
     let set' : d.settings ≡ s = sym settings ∙ set in
     let same = law s (replica_of c.held) (replica_of d.held) of of' agree t here.0 there.0 in
     let tables : table d.settings (replica_of d.held) t ≡ table c.settings (replica_of c.held) t = ap (λ (r : Settings). table r (replica_of d.held) t) set' ∙ sym same.0 ∙ ap (λ (r : Settings). table r (replica_of c.held) t) (sym set) in
     let decided : decisions d.settings (replica_of d.held) t ≡ decisions c.settings (replica_of c.held) t = ap (λ (r : Settings). decisions r (replica_of d.held) t) set' ∙ sym same.1 ∙ ap (λ (r : Settings). decisions r (replica_of c.held) t) (sym set) in
-    (here.1, there.1 ∙ ap Some tables, here.2, there.2 ∙ ap Some decided)
+    let own = ap (λ (o : Origin). Some (table_from o c.settings (replica_of c.held) t)) (sym first) in
+    let own' = ap (λ (o : Origin). Some (decisions_from o c.settings (replica_of c.held) t)) (sym first) in
+    (here.1 ∙ own, there.1 ∙ ap Some tables ∙ own, here.2 ∙ own', there.2 ∙ ap Some decided ∙ own')
 
 -- ---- the law
 
@@ -123,10 +125,12 @@ runs_write_alike law s capacity capacity' bytes bytes' rest rest' f g f' g' old 
         let set : g.dispatch.settings ≡ s = a.fed.gone_on.grown.settings_are ∙ fresh.settings_are in
         let set' : g'.dispatch.settings ≡ s = b.fed.gone_on.grown.settings_are ∙ fresh'.settings_are in
         let outputs : g.output ≡ g'.output = a.fed.gone_on.output_is ∙ output ∙ sym b.fed.gone_on.output_is in
+        let first = a.fed.gone_on.caught_up.first in
+        let first' = b.fed.gone_on.caught_up.first in
         let whole = a.fed.gone_on.caught_up.whole in
         let whole' = b.fed.gone_on.caught_up.whole in
-        let planned = planned_alike law s g.dispatch g'.dispatch set whole whole' (of capacity f g es fresh all left) (of capacity' f' g' es' fresh' all' left') in
-        let rows = told_alike g g' (even g.dispatch whole) (even g'.dispatch whole') planned outputs (set ∙ sym set') agree f.told in
+        let planned = planned_alike law s g.dispatch g'.dispatch set first first' whole whole' (of capacity f g es fresh all left) (of capacity' f' g' es' fresh' all' left') in
+        let rows = told_alike g g' (even g.dispatch whole) (even g'.dispatch whole') (first ∙ sym first') planned outputs (set ∙ sym set') agree f.told in
         let here : lines_text (rows_from g.output f.told g.dispatch.tables g.dispatch.decided) ≡ news f g =
         ap (λ (o : Output). lines_text (rows_from o f.told g.dispatch.tables g.dispatch.decided)) a.fed.gone_on.output_is in
         let there : lines_text (rows_from g'.output f.told g'.dispatch.tables g'.dispatch.decided) ≡ news f' g' =

@@ -5,7 +5,7 @@ use Rattle.pfair_replica.specs.HeldRows.{replica_of}
 use Rattle.pfair_replica.specs.Replica.{empty_replica, frontier, mark, numbers_below}
 use Rattle.pfair_table.specs.Events.{Course, start}
 use Rattle.pfair_table.specs.Refinement.{Dispatch, IsWholePlan, course_of}
-use Rattle.pfair_table.specs.Table.{Settings, decisions, table}
+use Rattle.pfair_table.specs.Table.{Settings, decisions_from, table_from}
 
 mark_none : (processors capacity k : ℕ) → mark (empty_replica processors capacity) k ≡ 0
 mark_none processors zero k = refl
@@ -24,6 +24,6 @@ whole_start d s capacity course =
     let settled : frontier (replica_of d.held) ≡ 0 = ap frontier held ∙ frontier_none s.processors capacity in
     let none : min (frontier (replica_of d.held)) d.settings.slots ≡ 0 = omega (arith, settled) in
     record {
-      tables_are = ap (λ (c : Course). c.tables) course ∙ sym (ap (λ (n : ℕ). map (table d.settings (replica_of d.held)) (numbers_below n)) none);
-      decided_are = ap (λ (c : Course). c.decided) course ∙ sym (ap (λ (n : ℕ). map (decisions d.settings (replica_of d.held)) (numbers_below n)) none);
+      tables_are = ap (λ (c : Course). c.tables) course ∙ sym (ap (λ (n : ℕ). map (table_from d.origin d.settings (replica_of d.held)) (numbers_below n)) none);
+      decided_are = ap (λ (c : Course). c.decided) course ∙ sym (ap (λ (n : ℕ). map (decisions_from d.origin d.settings (replica_of d.held)) (numbers_below n)) none);
     }

@@ -46,8 +46,9 @@ AreTakenFrom (line ∷ lines) before after = (mid : Replica) × IsTakenFrom line
 
 -- ---- what is planned and written
 
--- the plan is whole, and the book was notified of all of it
+-- the plan of a first run is whole, and the book was notified of all of it
 pub record IsCaughtUp (f : Follow) : Type 0 where
+  pub first : f.dispatch.origin ≡ None
   pub whole : IsWholePlan f.dispatch
   pub all_told : length f.dispatch.tables ≤ f.told
 

@@ -34,6 +34,7 @@ news before after = lines_text (rows_from before.output before.told after.dispat
 -- more is planned of the same, and what was planned stands
 pub record IsGrown (before after : Dispatch) : Type 0 where
   pub settings_are : after.settings ≡ before.settings
+  pub origin_is : after.origin ≡ before.origin
   pub held_are : after.held ≡ before.held
   pub tables_go_on : IsPrefixOf before.tables after.tables
   pub decided_go_on : IsPrefixOf before.decided after.decided

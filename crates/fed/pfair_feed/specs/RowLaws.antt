@@ -1,5 +1,5 @@
 -- What holds of rows that are written slot after slot.
-use Rattle.std.specs.Prelude.{ℕ, ◌≡◌, List, ◌∷◌, ◌++◌, length, map, max, min}
+use Rattle.std.specs.Prelude.{ℕ, ◌≡◌, List, ◌∷◌, ◌++◌, None, length, map, max, min}
 use Rattle.pfair_text.specs.Rows.{lines_text}
 use Rattle.pfair_replica.specs.HeldRows.{replica_of}
 use Rattle.pfair_replica.specs.Replica.{Replica, frontier, numbers_below}
@@ -27,8 +27,8 @@ text_of PlacedTables s x = placed_replay_text (plan s x)
 text_of Decisions s x = decisions_text (map (decisions s x) (numbers_below (min (frontier x) s.slots)))
 text_of Lags s x = lags_text s x
 
--- The header and the rows of a whole plan are that text.
+-- The header and the rows of a first run's whole plan are that text.
 abbrev pub WholeRows : Type 0
 WholeRows =
-    (output : Output) (d : Dispatch) → IsWholePlan d
+    (output : Output) (d : Dispatch) → d.origin ≡ None → IsWholePlan d
     → lines_text (header_of output ∷ rows_from output 0 d.tables d.decided) ≡ text_of output d.settings (replica_of d.held)

@@ -38,6 +38,7 @@ pub struct Follower<R: Ready> {
 }
 
 impl<R: Ready> Model for Follower<R> {
+    ghost use Rattle.std.specs.Prelude.{◌≡◌, None};
     ghost use Rattle.pfair_feed.specs.Rows.{IsBookOf, IsTold};
     ghost use Rattle.pfair_feed.specs.Follow.{Follow};
 
@@ -45,7 +46,8 @@ impl<R: Ready> Model for Follower<R> {
 
     ghost view = { λ a. record { output = a.output; dispatch = a.dispatcher; told = a.told } };
 
-    ghost invariant = { λ a. IsBookOf a.told a.dispatcher.tables a.dispatcher.decided a.book × IsTold a.output a.dispatcher.forgotten a.told };
+    ghost invariant = { λ a. IsBookOf a.told a.dispatcher.tables a.dispatcher.decided a.book × IsTold a.output a.dispatcher.forgotten a.told
+        × (a.dispatcher.origin ≡ None) };
 }
 
 impl<R: Ready> Follower<R> {

@@ -14,8 +14,8 @@ pub fn rows_go_on()
     ensures { RowsGoOn }
 {}
 
-/// The header and the rows of a whole plan, from the first slot on, are the text that `pfair` writes
-/// of the run.
+/// The header and the rows of a first run's whole plan, from the first slot on, are the text that
+/// `pfair` writes of the run.
 #[tactic(auto, using(crate::proofs::RowsGoOn::whole_texts))]
 pub fn whole_rows()
     ensures { WholeRows }

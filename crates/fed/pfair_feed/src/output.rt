@@ -1,6 +1,6 @@
 //! What is written of a run, and the rows of it that are new.
 
-ghost use Rattle.std.specs.Prelude.{◌≡◌, ◌⊎◌, ◌++◌, ◌≢◌, [], IfErr, IfOk, IsErrOf, OnErr, OnOk, length, max};
+ghost use Rattle.std.specs.Prelude.{◌≡◌, ◌⊎◌, ◌++◌, ◌≢◌, [], IfErr, IfOk, IsErrOf, None, OnErr, OnOk, length, max};
 ghost use Rattle.std.specs.Io.KnownBytes.{Appends, Keeps};
 ghost use Rattle.pfair_text.specs.Output.{TakesPrefix};
 ghost use Rattle.pfair_text.specs.Rows.{IsOpen, line, lines_text, text_so_far};
@@ -77,6 +77,7 @@ pub(crate) fn write_rows<R: Ready, W: Write>(
 ) -> Result<(), ProgramFault>
     requires book { IsBookOf from dispatcher.now.tables dispatcher.now.decided book.old }
     requires standing { IsTold output dispatcher.now.forgotten from }
+    requires first { dispatcher.now.origin ≡ None }
     ensures book { OnOk result (IsBookOf (max from (length dispatcher.now.tables)) dispatcher.now.tables dispatcher.now.decided book.new) }
     ensures written { OnOk result (Appends (W.contents writer.old) (W.contents writer.new) (lines_text (rows_from output from dispatcher.now.tables dispatcher.now.decided))) }
     ensures cut { IsErrOf result WriteFailed → TakesPrefix (W.contents writer.old) (W.contents writer.new) (lines_text (rows_from output from dispatcher.now.tables dispatcher.now.decided)) }
@@ -102,6 +103,7 @@ fn add_rows<R: Ready>(
     requires open { IsOpen text.old }
     requires book { IsBookOf from dispatcher.now.tables dispatcher.now.decided book.old }
     requires standing { IsTold output dispatcher.now.forgotten from }
+    requires first { dispatcher.now.origin ≡ None }
     ensures open { OnOk result (IsOpen text.new) }
     ensures book { OnOk result (IsBookOf (max from (length dispatcher.now.tables)) dispatcher.now.tables dispatcher.now.decided book.new) }
     ensures text { OnOk result (text_so_far text.new ≡ text_so_far text.old

@@ -17,7 +17,7 @@ use Rattle.pfair_feed.specs.Feeding.{AreFedBytes, AreTakenFrom, AreWelcome}
 use Rattle.pfair_feed.specs.Laws.{WholeText}
 use Rattle.pfair_words.specs.declared.follow.Run.{Run}
 use Rattle.pfair_file.specs.declared.program_fault.ProgramFault.{ProgramFault}
-use Rattle.pfair_feed.proofs.Planned.{planned}
+use Rattle.pfair_feed.proofs.Planned.{decided_first, planned, tables_first}
 use Rattle.pfair_follow.specs.Runs.{AreTakenAll, IsEndOf, IsFed, IsFedEndOf, IsFedShort, IsFollowed, IsFresh, IsSettled, IsSettledBelow, IsShort, IsUnread, head_from, text_from}
 
 -- one text behind another
@@ -37,8 +37,9 @@ whole_text law output zero s f g bytes rest old new out told set fed =
     ∙ law bytes rest f g old new told fed
     ∙ (λ i. text_of ((fed.fed.gone_on.output_is ∙ out) i) (set i) (replica_of g.dispatch.held))
 whole_text law output (suc slot) s f g bytes rest old new out told set fed =
-    let whole = fed.fed.gone_on.caught_up.whole in
-    (λ i. lines_text (rows_from (out i) (told i) (whole.tables_are i) (whole.decided_are i)))
+    let tables = tables_first g.dispatch fed.fed.gone_on.caught_up.first fed.fed.gone_on.caught_up.whole in
+    let decided = decided_first g.dispatch fed.fed.gone_on.caught_up.first fed.fed.gone_on.caught_up.whole in
+    (λ i. lines_text (rows_from (out i) (told i) (tables i) (decided i)))
     ∙ ap (λ (t : Settings). lines_text (rows_from output (suc slot) (plan t (replica_of g.dispatch.held)) (map (decisions t (replica_of g.dispatch.held)) (numbers_below (min (frontier (replica_of g.dispatch.held)) t.slots))))) set
 
 -- ---- what is torn

@@ -16,17 +16,17 @@ use Rattle.pfair_table.specs.Refinement.{Dispatch, IsWholePlan}
 use Rattle.pfair_admission.specs.declared.decision.Decision.{Decision}
 use Rattle.pfair_admission.specs.declared.decision.Decision.TheVariants.{Admitted, Departing, Delayed, Refused}
 use Rattle.pfair_admission.specs.Member.{Member}
-use Rattle.pfair_admission.specs.Admission.{Machine, member_named, decision, newcomer, with_freeing, with_delay, change, effect, is_freed, present, decided, all_decided, all_decisions, announcements}
+use Rattle.pfair_admission.specs.Admission.{Machine, member_named, decision, newcomer, with_freeing, with_delay, change, effect, is_freed, present, all_decided, all_decisions, announcements}
 use Rattle.pfair_table.specs.declared.pick.Pick.{Pick}
 use Rattle.pfair_table.specs.declared.pick.Decided.{Decided}
-use Rattle.pfair_table.specs.Table.{Settings, Table, machine, names_task, quanta, counted, history, world, table, with_decisions, decisions}
+use Rattle.pfair_table.specs.Table.{Settings, Origin, Table, machine, names_task, quanta, counted, history, world, table, with_decisions, decisions, decisions_from, plan_from}
 use Rattle.pfair_weight.specs.Name.{NameValue, name_eq}
 use Rattle.pfair_lag.specs.Book.{Tally, Book, empty_book, tally_of, has_run, entered_with, slot_more}
 use Rattle.pfair_output.specs.Lags.{is_staying, lag_row, lag_rows}
 use Rattle.pfair_output.specs.Told.{told, all_told, slot_told, all_slots_told, tally_row, book_rows, rows_told}
 use Rattle.pfair_admission.proofs.Deciding.{admitted_new}
 use Rattle.pfair_admission.proofs.Each.{each_filter}
-use Rattle.pfair_table.proofs.NextIndexes.{joined_world, long_history}
+use Rattle.pfair_table.proofs.NextIndexes.{joined_world, long_history, runs_are_counted}
 use Rattle.pfair_output.proofs.ToldFacts.{time-all_told}
 
 -- what a book has of a member
@@ -206,15 +206,19 @@ module _ (s : Settings) (x : Replica) where
     pub time_is : book.time ≡ t
     pub entered_is : book.entered ≡ shown_all t (history s x t).tables (history s x t).members
 
+  -- the quanta of a slot change nothing of it
+  shown_ran : (time t : ℕ) → shown_all time (history s x (suc t)).tables (history s x (suc t)).members ≡ shown_all time (history s x (suc t)).tables (world s x t)
+  shown_ran time t = ap (shown_all time (history s x (suc t)).tables) (runs_are_counted s x t) ∙ shown_counted time (history s x (suc t)).tables (world s x t)
+
   -- a slot more
   after_more : (t : ℕ) (book : Book) → IsAfter t book → IsAfter (suc t) (slot_told (decisions s x t) (table s x t) book)
   after_more t book a =
       let tables : List Table = (history s x t).tables in
-      let start : List Member = counted tables (history s x t).members in
+      let start : List Member = (history s x t).members in
       let next : suc t ≡ t + 1 = omega arith in
       let long = long_history s x t in
       let opened : book.entered ≡ shown_all t tables (present t start) =
-      a.entered_is ∙ sym (shown_counted t tables (history s x t).members) ∙ ap (map (shown t tables)) (sym (staying_present t start)) in
+      a.entered_is ∙ ap (map (shown t tables)) (sym (staying_present t start)) in
       let told : (all_told (decisions s x t) book).entered ≡ shown_all t tables (world s x t) =
       all_of_slot (machine s) t tables (said x t) (present t start) book long opened in
       let closed : (slot_told (decisions s x t) (table s x t) book).entered ≡ shown_all (t + 1) (tables ++ table s x t ∷ []) (world s x t) =
@@ -222,7 +226,7 @@ module _ (s : Settings) (x : Replica) where
       ∙ all_recorded t tables (table s x t) (filter is_staying (world s x t)) long (each_filter (λ m. m.joined ≤ t) is_staying (world s x t) (joined_world s x t)) in
       record {
         time_is = ap (λ n. n + 1) (time-all_told (decisions s x t) book ∙ a.time_is) ∙ sym next;
-        entered_is = closed ∙ ap (λ n. shown_all n (tables ++ table s x t ∷ []) (world s x t)) (sym next);
+        entered_is = closed ∙ ap (λ n. shown_all n (tables ++ table s x t ∷ []) (world s x t)) (sym next) ∙ sym (shown_ran (suc t) t);
       }
 
   pub after_all : (t : ℕ) → IsAfter t (book_after t)
@@ -239,7 +243,7 @@ module _ (s : Settings) (x : Replica) where
       let a : IsAfter (suc t) (book_after (suc t)) = after_all (suc t) in
       let next : suc t ≡ t + 1 = omega arith in
       ap (λ n. map (tally_row n) (book_after (suc t)).entered) a.time_is
-      ∙ ap (map (tally_row (suc t))) a.entered_is
+      ∙ ap (map (tally_row (suc t))) (a.entered_is ∙ shown_ran (suc t) t)
       ∙ same_rows (suc t) (history s x (suc t)).tables (filter is_staying (world s x t))
       ∙ ap (λ n. map (lag_row (history s x (suc t)).tables n) (filter is_staying (world s x t))) next
 
@@ -286,10 +290,10 @@ module _ (s : Settings) (x : Replica) where
       ∙ ap (λ l. flat_map (lag_rows s x) (numbers_below n) ++ l) (rows_after s x n ∙ sym (append-nil (lag_rows s x n)))
       ∙ sym (flat_map-append (lag_rows s x) (numbers_below n) (n ∷ []))
 
--- the rows of a whole plan
-pub whole_rows : (d : Dispatch) → IsWholePlan d → rows_told empty_book d.decided d.tables ≡ flat_map (lag_rows d.settings (replica_of d.held)) (numbers_below (min (frontier (replica_of d.held)) d.settings.slots))
-whole_rows d whole =
+-- the rows of a first run's whole plan
+pub whole_rows : (d : Dispatch) → d.origin ≡ None → IsWholePlan d → rows_told empty_book d.decided d.tables ≡ flat_map (lag_rows d.settings (replica_of d.held)) (numbers_below (min (frontier (replica_of d.held)) d.settings.slots))
+whole_rows d first whole =
     let n : ℕ = min (frontier (replica_of d.held)) d.settings.slots in
-    ap (λ (ds : List (List Decided)). rows_told empty_book ds d.tables) whole.decided_are
-    ∙ ap (λ (ts : List Table). rows_told empty_book (map (decisions d.settings (replica_of d.held)) (numbers_below n)) ts) whole.tables_are
+    ap (λ (ds : List (List Decided)). rows_told empty_book ds d.tables) (whole.decided_are ∙ ap (λ (o : Origin). map (decisions_from o d.settings (replica_of d.held)) (numbers_below n)) first)
+    ∙ ap (λ (ts : List Table). rows_told empty_book (map (decisions d.settings (replica_of d.held)) (numbers_below n)) ts) (whole.tables_are ∙ ap (λ (o : Origin). plan_from o d.settings (replica_of d.held)) first)
     ∙ rows_of_slots d.settings (replica_of d.held) n

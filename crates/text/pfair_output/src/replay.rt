@@ -2,7 +2,7 @@
 
 ghost use Rattle.std.specs.Prelude.{◌≡◌, ◌≤◌, ◌++◌, ◌∷◌, [], List, OnOk, IfOk, Some, drop, length, map, slice_get};
 ghost use Rattle.pfair_text.specs.Rows.{IsOpen, line, lines_text, text_so_far};
-ghost use Rattle.pfair_table.specs.Places.{places_of};
+ghost use Rattle.pfair_table.specs.Places.{places_in};
 ghost use Rattle.pfair_table.specs.Table.{Table};
 ghost use Rattle.pfair_output.specs.Slots.{slots_from};
 ghost use Rattle.pfair_output.specs.Replay.{placed_header, placed_row, placed_rows_from, placed_table_rows, placed_text, places_at, replay_header, replay_text, table_rows};
@@ -115,7 +115,7 @@ pub fn add_placed_tables_from<R: Ready>(
     requires standing { dispatcher.now.forgotten ≤ from }
     ensures open { OnOk result (IsOpen writer.new) }
     ensures text { OnOk result (text_so_far writer.new ≡ text_so_far writer.old
-        ++ lines_text (slots_from (placed_table_rows (places_of dispatcher.now.tables)) from
+        ++ lines_text (slots_from (placed_table_rows (places_in dispatcher.now.origin dispatcher.now.tables)) from
         (drop from dispatcher.now.tables))) }
 {
     for slot in from..dispatcher.next_slot() {
@@ -146,7 +146,7 @@ fn add_slot<R: Ready>(
 // The places of a slot, if it is planned.
 fn planned_places<R: Ready>(dispatcher: &Dispatcher<R>, slot: u64) -> &[u8]
     requires { dispatcher.now.forgotten ≤ slot }
-    ensures { result.now ≡ places_at (places_of dispatcher.now.tables) slot }
+    ensures { result.now ≡ places_at (places_in dispatcher.now.origin dispatcher.now.tables) slot }
 {
     match dispatcher.places(slot) {
         Some(here) => here,

@@ -1,6 +1,6 @@
 //! The decisions and the lags of a script's run. One slot at a time is held in memory.
 
-ghost use Rattle.std.specs.Prelude.{◌≡◌, ◌≤◌, ◌<◌, ◌+◌, ◌∷◌, [], IfOk, IfErr, OnOk, length};
+ghost use Rattle.std.specs.Prelude.{◌≡◌, ◌≤◌, ◌<◌, ◌+◌, ◌∷◌, [], IfOk, IfErr, None, OnOk, length};
 ghost use Rattle.std.specs.List.{flat_map};
 ghost use Rattle.pfair_replica.specs.HeldRows.{replica_of};
 ghost use Rattle.pfair_replica.specs.Replica.{frontier, numbers_below};
@@ -57,13 +57,14 @@ pub fn lags_of_script<R: Ready>(alloc: Global, script: &Script) -> Result<Vec<u8
     Ok(all_lags(alloc, &replica, &mut planner)?)
 }
 
-// The decisions of all slots of a replica, none of which is planned.
+// The decisions of all slots of a replica's first run, none of which is planned.
 fn all_decisions<R: Ready>(
     alloc: Global,
     replica: &Replica,
     planner: &mut SlotPlanner<R>,
 ) -> Result<Vec<u8>, AllocError>
     requires able { IsBySlot replica.now planner.old }
+    requires first { planner.old.origin ≡ None }
     requires start { planner.old.tables ≡ [] }
     ensures { IfOk result (λ text. text.items ≡ decisions_text (decided_below planner.old.settings (replica_of replica.now) planner.old.settings.slots)) }
 {
@@ -78,13 +79,14 @@ fn all_decisions<R: Ready>(
     finish(writer)
 }
 
-// The lags in all slots of a replica, none of which is planned: each is recorded in a new book.
+// The lags in all slots of a replica's first run, none of which is planned: each is recorded in a new book.
 fn all_lags<R: Ready>(
     alloc: Global,
     replica: &Replica,
     planner: &mut SlotPlanner<R>,
 ) -> Result<Vec<u8>, AllocError>
     requires able { IsBySlot replica.now planner.old }
+    requires first { planner.old.origin ≡ None }
     requires start { planner.old.tables ≡ [] }
     ensures { IfOk result (λ text. text.items ≡ lines_text (lags_header ∷ flat_map
         (lag_rows planner.old.settings (replica_of replica.now)) (numbers_below planner.old.settings.slots))) }
@@ -104,18 +106,20 @@ fn all_lags<R: Ready>(
     finish(writer)
 }
 
-// Plans the next slot, which is one of the run.
+// Plans the next slot, which is one of a first run.
 fn plan_one<R: Ready>(
     replica: &Replica,
     planner: &mut SlotPlanner<R>,
     room: Vec<Pick>,
 ) -> Result<SlotPlan, AllocError>
     requires able { IsBySlot replica.now planner.old }
+    requires first { planner.old.origin ≡ None }
     requires left { length planner.old.tables < planner.old.settings.slots }
     ensures table { IfOk result (λ plan. plan.table.items ≡ table planner.old.settings (replica_of replica.now) (length planner.old.tables)) }
     ensures decided { IfOk result (λ plan. plan.decided.items ≡ decisions planner.old.settings (replica_of replica.now) (length planner.old.tables)) }
     ensures planned { OnOk result (length planner.new.tables ≡ length planner.old.tables + 1) }
     ensures able { OnOk result (IsBySlot replica.now planner.new) }
+    ensures first { OnOk result (planner.new.origin ≡ None) }
     ensures settings { OnOk result (planner.new.settings ≡ planner.old.settings) }
 {
     match planner.plan_next(replica, room) {

@@ -1,5 +1,5 @@
 -- What a dispatcher has planned is in time, whatever events have come.
-use Rattle.std.proofs.Common.{◌≡◌, ℕ, ◌+◌, ◌<◌, Bool, true, false, cond, List, [], ◌∷◌, length, Option, Some, None, refl, sym, subst, inl, inr, ⊎_elim}
+use Rattle.std.proofs.Common.{◌≡◌, ℕ, ◌+◌, ◌<◌, Bool, true, false, cond, List, [], ◌∷◌, length, Option, Some, None, refl, ap, sym, ◌∙◌, subst, inl, inr, ⊎_elim}
 use Rattle.std.specs.Prelude.{◌⊎◌, ◌==◌, IfSome, slice_get, if◌then◌else◌}
 use Rattle.std.specs.List.{AllByRecursion}
 use Rattle.std.proofs.lemmas.Option.{none-some}
@@ -19,7 +19,7 @@ use Rattle.pfair_replica.proofs.SoundEntries.{read_by_number}
 use Rattle.pfair_table.specs.declared.event.Event.{Event}
 use Rattle.pfair_table.specs.declared.event.Event.TheVariants.{Take, Absorb, Plan}
 use Rattle.pfair_table.specs.Events.{Course, start, is_plannable, with_next_slot, happens, run, run_of}
-use Rattle.pfair_table.specs.Table.{Settings, Table, table}
+use Rattle.pfair_table.specs.Table.{Settings, Origin, Table, table, table_from}
 use Rattle.pfair_table.specs.Laws.{OneSchedule}
 use Rattle.pfair_table.specs.Limits.{IsSettings}
 use Rattle.pfair_table.specs.Refinement.{Dispatch, HavePlannedAlike}
@@ -96,6 +96,7 @@ dispatchers_never_miss one s capacity events frame are bring untorn t planned =
 
 -- the same of one in hand, each row of which was looked at
 pub never_misses : (d : Dispatch) → IsSettings d.settings → HavePlannedAlike d d → IsReplica (replica_of d.held) → ((k : ℕ) → k < d.held.processors → RowHasWeights d.held k d.held.capacity) → NeverMisses d
-never_misses d settings alike are rows untorn t planned =
+never_misses d settings alike are rows first untorn t planned =
     let weights = says_weights (replica_of d.held) (λ k n e h. (let key = are.in_range k n (One e) h in rows k key.0 n e key.1 key.2 h)) in
-    served_slot d.settings (replica_of d.held) d.tables t settings.frame.0 weights (alike refl (agrees_alone (replica_of d.held) untorn) t planned planned).0
+    let table_is = (alike refl refl (agrees_alone (replica_of d.held) untorn) t planned planned).0 in
+    served_slot d.settings (replica_of d.held) d.tables t settings.frame.0 weights (table_is ∙ ap (λ (o : Origin). Some (table_from o d.settings (replica_of d.held) t)) first)

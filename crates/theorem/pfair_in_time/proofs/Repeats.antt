@@ -26,6 +26,7 @@ use Rattle.pfair_admission.proofs.Keeping.{eligible_at_job}
 use Rattle.pfair_table.specs.declared.pick.Pick.{Pick}
 use Rattle.pfair_table.specs.Ranks.{first_by_rank}
 use Rattle.pfair_table.specs.Table.{Settings, machine, names_task, next_index, counted_one, counted, is_eligible, eligible, index_of, pick, chosen, table_of, world, table}
+use Rattle.pfair_table.proofs.NextIndexes.{world_counted}
 use Rattle.pfair_in_time.specs.InTime.{SaysWeights, index_after}
 use Rattle.pfair_in_time.specs.Schedules.{Arrival, announced, SaysOnly}
 use Rattle.pfair_in_time.specs.Repeats.{IsCommonMultiple, quanta_in, later_row, TablesRepeat, RepeatsByPeriods}
@@ -127,7 +128,8 @@ module _ (s : Settings) (x : Replica) (arrivals : List Arrival) (frame : 0 < s.f
       same : (m : Member) → IsFirst m → counted_one [] m ≡ m
       same m e = ap (counted_one []) e ∙ ap (stands m.name m.weight m.early) (omega arith) ∙ sym e
   world_is (suc t) =
-      ap (λ l. all_decided (machine s) (suc t) (present (suc t) (counted (tables_before s x (suc t)) (world s x t))) (announcements l)) (says.later (suc t) (omega arith))
+      world_counted s x t
+      ∙ ap (λ l. all_decided (machine s) (suc t) (present (suc t) (counted (tables_before s x (suc t)) (world s x t))) (announcements l)) (says.later (suc t) (omega arith))
       ∙ ap (λ ms. present (suc t) (counted (tables_before s x (suc t)) ms)) (world_is t)
       ∙ ap (present (suc t)) (map-map (counted_one (tables_before s x (suc t))) (counted_one (tables_before s x t)) (world s x 0))
       ∙ all_present (suc t) (counted (tables_before s x (suc t)) (world s x 0)) none_leaves

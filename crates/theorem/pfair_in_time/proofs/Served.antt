@@ -22,6 +22,7 @@ use Rattle.pfair_admission.specs.Member.{Member}
 use Rattle.pfair_admission.specs.Admission.{Machine, is_named, member_named, claimed, arrival, newcomer, effect, is_freed, present, decided, all_decided, all_decisions, announcements}
 use Rattle.pfair_table.specs.declared.pick.Decided.{Decided}
 use Rattle.pfair_table.specs.Table.{Settings, machine, quanta, counted_one, history, world, table, with_decisions, decisions}
+use Rattle.pfair_table.proofs.NextIndexes.{world_counted}
 use Rattle.pfair_in_time.specs.Descent.{HasWeight}
 use Rattle.pfair_in_time.specs.InTime.{SaysWeights, index_after}
 use Rattle.pfair_in_time.specs.Schedules.{Arrival, announced, AreArrivals, SaysOnly, units_wanted, quanta_before, IsServed, ServedWhereThereIsRoom}
@@ -185,7 +186,8 @@ module _ (s : Settings) (x : Replica) (arrivals : List Arrival) (frame : 0 < s.f
       let still = p.2 in
       let among = filter_among (λ (n : Member). not (is_freed (suc t) n.freed_at)) (map (counted_one (history s x (suc t)).tables) (world s x t)) m (map_among (counted_one (history s x (suc t)).tables) (world s x t) p.0 p.1) (stays (suc t) m still.stays) in (
         m,
-        subst (λ l. Among (all_decided (machine s) (suc t) (present (suc t) (map (counted_one (history s x (suc t)).tables) (world s x t))) (announcements l)) m) (sym (says.later (suc t) (omega arith))) among,
+        subst (λ l. Among l m) (sym (world_counted s x t))
+            (subst (λ l. Among (all_decided (machine s) (suc t) (present (suc t) (map (counted_one (history s x (suc t)).tables) (world s x t))) (announcements l)) m) (sym (says.later (suc t) (omega arith))) among),
         record { name = still.name; weight = still.weight; joined = still.joined; delays = still.delays; stays = still.stays },
       )
 

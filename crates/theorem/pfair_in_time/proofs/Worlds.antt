@@ -26,7 +26,7 @@ use Rattle.pfair_table.specs.declared.pick.Pick.{Pick}
 use Rattle.pfair_in_time.specs.Descent.{Descends, IsSound, IsNew}
 use Rattle.pfair_in_time.specs.Laws.{AllSound, AllHaveWeights, IsFreed}
 use Rattle.pfair_table.proofs.Members.{named_world}
-use Rattle.pfair_table.proofs.NextIndexes.{IsCounted, counted_world, long_history}
+use Rattle.pfair_table.proofs.NextIndexes.{IsCounted, counted_world, long_history, world_counted}
 use Rattle.pfair_in_time.proofs.Boundaries.{named_is, boundaries_keep_members}
 
 -- some one passes a test
@@ -161,7 +161,8 @@ module _ (s : Settings) (x : Replica) (weights : (t : ℕ) → AllHaveWeights (a
 
   sound_world : (t : ℕ) (m : Member) → Among (world s x t) m → IsSound s.frame m
   sound_world zero = boundaries_keep_members.sound (machine s) 0 [] (announcements (said x 0)) (apart_nil (λ (m : Member). m.name)) (λ l none. absurd none) (weights 0)
-  sound_world (suc t) = boundaries_keep_members.sound (machine s) (suc t) (counted (tables_before s x (suc t)) (world s x t)) (announcements (said x (suc t))) (apart_on t) (all_on_sound t (λ m h. here_if t m h (sound_world t m h))) (weights (suc t))
+  sound_world (suc t) = subst (AllSound s.frame) (sym (world_counted s x t))
+      (boundaries_keep_members.sound (machine s) (suc t) (counted (tables_before s x (suc t)) (world s x t)) (announcements (said x (suc t))) (apart_on t) (all_on_sound t (λ m h. here_if t m h (sound_world t m h))) (weights (suc t)))
 
   pub here : (t : ℕ) (m : Member) → Among (world s x t) m → IsHere s x t m
   here t m h = here_if t m h (sound_world t m h)
@@ -173,8 +174,10 @@ module _ (s : Settings) (x : Replica) (weights : (t : ℕ) → AllHaveWeights (a
       (λ (p : (l : Member) × Among (counted (tables_before s x (suc t)) (world s x t)) l × Descends (suc t) l n).
       (let q = among_map (counted_one (tables_before s x (suc t))) (world s x t) p.0 p.1 in inl (q.0, q.1, subst (λ l. Descends (suc t) l n) q.2 p.2)))
       (λ new. inr new)
-      (boundaries_keep_members.from (machine s) (suc t) (counted (tables_before s x (suc t)) (world s x t)) (announcements (said x (suc t))) (apart_on t) (all_on_sound t (here t)) (weights (suc t)) n h)
+      (boundaries_keep_members.from (machine s) (suc t) (counted (tables_before s x (suc t)) (world s x t)) (announcements (said x (suc t))) (apart_on t) (all_on_sound t (here t)) (weights (suc t)) n
+      (subst (λ ms. Among ms n) (world_counted s x t) h))
 
   pub goes_to : (t : ℕ) (m : Member) → Among (world s x t) m → ((n : Member) × Among (world s x (suc t)) n × Descends (suc t) (on s x t m) n) ⊎ ((n : Member) × IsFreed (suc t) s.frame (on s x t m) n)
-  goes_to t m h = boundaries_keep_members.to (machine s) (suc t) (counted (tables_before s x (suc t)) (world s x t)) (announcements (said x (suc t))) (apart_on t) (all_on_sound t (here t)) (weights (suc t)) (on s x t m)
-      (map_among (counted_one (tables_before s x (suc t))) (world s x t) m h)
+  goes_to t m h = subst (λ ms. ((n : Member) × Among ms n × Descends (suc t) (on s x t m) n) ⊎ ((n : Member) × IsFreed (suc t) s.frame (on s x t m) n)) (sym (world_counted s x t))
+      (boundaries_keep_members.to (machine s) (suc t) (counted (tables_before s x (suc t)) (world s x t)) (announcements (said x (suc t))) (apart_on t) (all_on_sound t (here t)) (weights (suc t)) (on s x t m)
+      (map_among (counted_one (tables_before s x (suc t))) (world s x t) m h))

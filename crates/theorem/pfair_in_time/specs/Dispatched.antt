@@ -1,5 +1,5 @@
 -- That no admitted task misses by what a dispatcher has planned, whatever events have come.
-use Rattle.std.specs.Prelude.{ℕ, suc, ◌≡◌, ◌<◌, ◌≤◌, false, List, length, Some, IfSome, ⊤, slice_get}
+use Rattle.std.specs.Prelude.{ℕ, suc, ◌≡◌, ◌<◌, ◌≤◌, false, List, length, Some, None, IfSome, ⊤, slice_get}
 use Rattle.std.specs.List.{AllByRecursion}
 use Rattle.pfair_lattice.specs.declared.flat.Flat.TheVariants.{One}
 use Rattle.pfair_weight.specs.Window.{deadline_of}
@@ -45,6 +45,6 @@ DispatchersNeverMiss =
 abbrev pub RowHasWeights : HeldRows → ℕ → ℕ → Type 0
 RowHasWeights x k most = (n : ℕ) (e : Logged) → 0 < n → n ≤ most → held x k n ≡ Some (One e) → AnnouncesWeight e
 
--- Of a dispatcher in hand, whatever was called on it: while nothing that it holds is torn, so is each slot that it has planned.
+-- Of a dispatcher in hand of a first run, whatever was called on it: while nothing that it holds is torn, so is each slot that it has planned.
 abbrev pub NeverMisses : Dispatch → Type 0
-NeverMisses d = Untorn (replica_of d.held) → (t : ℕ) → t < length d.tables → IsServedSlot d.settings (replica_of d.held) d.tables t
+NeverMisses d = d.origin ≡ None → Untorn (replica_of d.held) → (t : ℕ) → t < length d.tables → IsServedSlot d.settings (replica_of d.held) d.tables t

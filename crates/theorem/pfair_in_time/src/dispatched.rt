@@ -14,10 +14,10 @@ use pfair_replica::Replica;
 use pfair_table::{Dispatcher, Settings};
 use pfair_weight::Weight;
 
-/// States that no admitted task misses its deadline in the slots that this dispatcher has planned:
-/// while its replica has nothing torn, each of these slots has the table that follows from the
-/// replica, each row of it is in time, and the deadline of the next subtask of each member that isn't
-/// departing is later.
+/// States that no admitted task misses its deadline in the slots that this dispatcher has planned, if
+/// its run is a first run, which begins without members: while its replica has nothing torn, each of
+/// these slots has the table that follows from the replica, each row of it is in time, and the deadline
+/// of the next subtask of each member that isn't departing is later.
 ///
 /// It changes and returns nothing, and a program has no need to call it: it exists for its contract. A
 /// look-up for each key of the replica, since only the type of a weight says that it is one.

@@ -1,8 +1,7 @@
 -- What desks hold while a worker runs.
-use Rattle.std.proofs.Common.{◌≡◌, ◌∙◌, sym, subst, ℕ, ◌+◌, Some, inl, inr, ⊎_elim, List}
-use Rattle.pfair_lattice.specs.declared.flat.Flat.TheVariants.{One, Torn}
+use Rattle.std.proofs.Common.{arith, ◌∙◌, sym, subst, ℕ, inl, inr, ⊎_elim, List}
+use Rattle.pfair_lattice.specs.declared.flat.Flat.TheVariants.{Torn}
 use Rattle.pfair_entry.specs.Entry.{Logged}
-use Rattle.pfair_replica.specs.HeldRows.{held}
 use Rattle.pfair_table.specs.Refinement.{Dispatch}
 use Rattle.pfair_table.specs.Table.{Table}
 use Rattle.pfair_desk.specs.Desks.{DeskView, GrownDesk}
@@ -10,28 +9,19 @@ use Rattle.pfair_board.specs.Logs.{HasPublished}
 use Rattle.pfair_board.specs.Works.{HasLearned, IsAtWork}
 
 pub grown_trans : (a b c : DeskView) → GrownDesk a b → GrownDesk b c → GrownDesk a c
-grown_trans a b c p q = record {
-  processor = q.processor ∙ p.processor;
-  cells = q.cells ∙ p.cells;
-  processors = q.processors ∙ p.processors;
-  capacity = q.capacity ∙ p.capacity;
-  kept = λ k n f is. q.kept k n f (p.kept k n f is);
-}
+grown_trans a b c p q = grind (arith)
 
 pub learned_trans : (a b c : DeskView) → HasLearned a b → HasLearned b c → HasLearned a c
 learned_trans a b c p q = record { grown = grown_trans a b c p.grown q.grown; next = q.next ∙ p.next }
 
 -- a log that is published is published later, when more was learned
 pub published_later : (a b c : DeskView) (log : List Logged) → HasPublished a b log → HasLearned b c → HasPublished a c log
-published_later a b c log published learned = record {
-  held = λ i x at. subst (λ k. held c.replica k (a.next_number + i) ≡ Some (One x)) (sym learned.grown.processor)
-      (learned.grown.kept b.processor (a.next_number + i) (One x) (published.held i x at));
-  next = learned.next ∙ published.next;
-}
+published_later a b c log published learned = grind (arith)
 
 -- what is at work at a desk is at work at what it grows to
 pub at_work_later : {K : Type 0} (has : K → ℕ → List Table → Type 0) (a : Dispatch) (sink : K) (d e : DeskView) → IsAtWork has a sink d → GrownDesk d e → IsAtWork has a sink e
 at_work_later has a sink d e at_work grown = record {
+  first = at_work.first;
   able = at_work.able;
   shape = (at_work.shape.0 ∙ sym grown.processors, at_work.shape.1 ∙ sym grown.capacity);
   below = λ k n c is. ⊎_elim (λ same. inl (grown.kept k n c same)) (λ torn. inr (grown.kept k n Torn torn)) (at_work.below k n c is);

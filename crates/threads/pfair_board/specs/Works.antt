@@ -1,5 +1,5 @@
 -- What the threads of a run begin with and hand back.
-use Rattle.std.specs.Prelude.{ℕ, ◌≡◌, Bool, false, List, [], length, slice_get, Some, IfErr, IfOk, OnOk}
+use Rattle.std.specs.Prelude.{ℕ, ◌≡◌, Bool, false, List, [], length, slice_get, Some, None, IfErr, IfOk, OnOk}
 use Rattle.pfair_replica.specs.HeldRows.{SameShape, replica_of}
 use Rattle.pfair_replica.specs.Replica.{Below}
 use Rattle.pfair_table.specs.Table.{Table, plan}
@@ -28,8 +28,9 @@ pub record AreWorks {K : Type 0} (has : K → ℕ → List Table → Type 0) (ma
   pub count : length ws ≡ b.processors
   pub each : (k : ℕ) (w : Worked K) → slice_get ws k ≡ Some w → IsWorkOf has may_give_up b r k w
 
--- What plans a worker's slots has planned of nothing but what its desk holds, and can plan; and its sink has the tables.
+-- What plans a worker's slots, those of a first run, has planned of nothing but what its desk holds, and can plan; and its sink has the tables.
 pub record IsAtWork {K : Type 0} (has : K → ℕ → List Table → Type 0) (a : Dispatch) (sink : K) (d : DeskView) : Type 0 where
+  pub first : a.origin ≡ None
   pub able : a.spent ≡ false
   pub shape : SameShape a.held d.replica
   pub below : Below (replica_of a.held) (replica_of d.replica)

@@ -14,13 +14,14 @@ overflow_add-count g c =
 pub loop-slot-preserved : goal.loop-slot-preserved
 loop-slot-preserved g c =
     let tables : List Table = c.args.dispatcher.now.tables in
+    let origin = c.args.dispatcher.now.origin in
     let slot = c.loop-slot.slot in
-    let more = c.count_slot-count.ensures.value ∙ sym (as-many-at tables slot) in
-    let count = slot-counted (quanta_at tables) c.args.from slot c.loop-slot.count c.count_slot-count.result c.loop-slot.invariant.0 c.loop-slot.invariant.2 more in
+    let more = c.count_slot-count.ensures.value ∙ sym (as-many-at origin tables slot) in
+    let count = slot-counted (quanta_at origin tables) c.args.from slot c.loop-slot.count c.count_slot-count.result c.loop-slot.invariant.0 c.loop-slot.invariant.2 more in
     (omega arith, omega arith, count, omega arith)
 
 pub returns : goal.returns
 returns g c =
-    let rows_at : ℕ → List PfairQuantum = quanta_at c.args.dispatcher.now.tables in
+    let rows_at : ℕ → List PfairQuantum = quanta_at c.args.dispatcher.now.origin c.args.dispatcher.now.tables in
     let all : c.loop-slot.slot - c.args.from ≡ c.args.to - c.args.from = omega arith in
     c.loop-slot.invariant.2 ∙ ap (λ n. length (rows_of rows_at c.args.from n)) all

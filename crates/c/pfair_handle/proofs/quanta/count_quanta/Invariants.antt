@@ -4,4 +4,4 @@ use Rattle.pfair_handle.proofs.quanta.count_quanta.Given as goal
 
 abbrev pub invariant-loop-slot : goal.invariant-loop-slot
 invariant-loop-slot g l =
-    (l.from ≤ l.slot) × (l.slot - l.from ≤ l.to - l.from) × (l.count ≡ length (rows_of (quanta_at l.dispatcher.tables) l.from (l.slot - l.from))) × (l.count ≤ 64 * (l.slot - l.from))
+    (l.from ≤ l.slot) × (l.slot - l.from ≤ l.to - l.from) × (l.count ≡ length (rows_of (quanta_at l.dispatcher.origin l.dispatcher.tables) l.from (l.slot - l.from))) × (l.count ≤ 64 * (l.slot - l.from))

@@ -8,8 +8,9 @@ use Rattle.pfair_handle.proofs.quanta.write_quanta.Goals as goal
 pub write_slot-at-requires-clause-room : goal.write_slot-at-requires-clause-room
 write_slot-at-requires-clause-room g c =
     let tables : List Table = c.args.dispatcher.now.tables in
-    let room = room-for (quanta_at tables) c.args.from c.args.to c.loop-slot.slot c.args.rows.now c.loop-slot.invariant.0 c.loop-slot-test.true c.requires.room in
-    let many = as-many-at tables c.loop-slot.slot in
+    let origin = c.args.dispatcher.now.origin in
+    let room = room-for (quanta_at origin tables) c.args.from c.args.to c.loop-slot.slot c.args.rows.now c.loop-slot.invariant.0 c.loop-slot-test.true c.requires.room in
+    let many = as-many-at origin tables c.loop-slot.slot in
     let at = c.loop-slot.invariant.2 in
     let rows = c.loop-slot.auto.rows in
     omega arith
@@ -17,10 +18,11 @@ write_slot-at-requires-clause-room g c =
 pub loop-slot-preserved : goal.loop-slot-preserved
 loop-slot-preserved g c =
     let tables : List Table = c.args.dispatcher.now.tables in
-    let rows_at : ℕ → List PfairQuantum = quanta_at tables in
+    let origin = c.args.dispatcher.now.origin in
+    let rows_at : ℕ → List PfairQuantum = quanta_at origin tables in
     let after = c.loop-slot.invariant.0 in
     let room = room-for rows_at c.args.from c.args.to c.loop-slot.slot c.args.rows.now after c.loop-slot-test.true c.requires.room in
-    let next = slot-counted rows_at c.args.from c.loop-slot.slot c.loop-slot.at (length (slot_of tables c.loop-slot.slot)) after c.loop-slot.invariant.2 (sym (as-many-at tables c.loop-slot.slot)) in (
+    let next = slot-counted rows_at c.args.from c.loop-slot.slot c.loop-slot.at (length (slot_of tables c.loop-slot.slot)) after c.loop-slot.invariant.2 (sym (as-many-at origin tables c.loop-slot.slot)) in (
       omega arith,
       omega arith,
       c.write_slot-at.ensures.next ∙ next,
@@ -29,6 +31,6 @@ loop-slot-preserved g c =
 
 pub returns : goal.returns
 returns g c =
-    let rows_at : ℕ → List PfairQuantum = quanta_at c.args.dispatcher.now.tables in
+    let rows_at : ℕ → List PfairQuantum = quanta_at c.args.dispatcher.now.origin c.args.dispatcher.now.tables in
     let all : c.loop-slot.slot - c.args.from ≡ c.args.to - c.args.from = omega arith in
     c.loop-slot.invariant.3 ∙ ap (λ n. written_over (rows_of rows_at c.args.from n) c.args.rows.now) all

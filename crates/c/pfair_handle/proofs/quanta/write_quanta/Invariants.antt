@@ -4,5 +4,5 @@ use Rattle.pfair_handle.proofs.quanta.write_quanta.Given as goal
 
 abbrev pub invariant-loop-slot : goal.invariant-loop-slot
 invariant-loop-slot g l =
-    (l.from ≤ l.slot) × (l.slot - l.from ≤ l.to - l.from) × (l.at ≡ length (rows_of (quanta_at l.dispatcher.tables) l.from (l.slot - l.from)))
-    × (l.rows ≡ written_over (rows_of (quanta_at l.dispatcher.tables) l.from (l.slot - l.from)) l.initial.rows)
+    (l.from ≤ l.slot) × (l.slot - l.from ≤ l.to - l.from) × (l.at ≡ length (rows_of (quanta_at l.dispatcher.origin l.dispatcher.tables) l.from (l.slot - l.from)))
+    × (l.rows ≡ written_over (rows_of (quanta_at l.dispatcher.origin l.dispatcher.tables) l.from (l.slot - l.from)) l.initial.rows)

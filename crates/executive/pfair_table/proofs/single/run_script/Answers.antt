@@ -20,6 +20,7 @@ returns-in-Ok-clause-ok g c =
     let mark_is : c.frontier.result ≡ frontier (replica_of_logs c.args.script.now.logs) = c.frontier.ensures.value ∙ ap (λ (h : HeldRows). frontier (replica_of h)) c.replica.ensures.value ∙ ap frontier held_is in
     record {
       settings_are = c.in-Ok.ensures.settings ∙ c.in_ok-dispatcher.ensures.settings;
+      first = c.in-Ok.ensures.origin ∙ c.in_ok-dispatcher.ensures.first;
       held_is = ap replica_of c.in-Ok.ensures.held ∙ held_is;
       far_enough = omega (arith, c.in_ok-check_settled.ensures.settled, c.slots.ensures.value, slots_are, mark_is);
       whole = c.in-Ok.ensures.whole;

@@ -17,6 +17,7 @@ loop-processor-init g c =
     record {
       is = λ i. record {
         settings = (c.in_ok-dispatcher.ensures.settings ∙ settings_are) i;
+        origin = (course i).origin;
         held = c.in_ok-dispatcher.dispatcher.held;
         tables = (course i).tables;
         decided = (course i).decided;
@@ -39,6 +40,9 @@ returns-clause-held g c =
 
 pub returns-clause-settings : goal.returns-clause-settings
 returns-clause-settings g c = ap (λ (d : Dispatch). d.settings) c.loop-processor.invariant.is
+
+pub returns-clause-first : goal.returns-clause-first
+returns-clause-first g c = ap (λ (d : Dispatch). d.origin) c.loop-processor.invariant.is
 
 pub returns-clause-nothing : goal.returns-clause-nothing
 returns-clause-nothing g c = ap (λ (d : Dispatch). d.tables) c.loop-processor.invariant.is

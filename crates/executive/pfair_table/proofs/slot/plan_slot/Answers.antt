@@ -1,15 +1,15 @@
-use Rattle.std.proofs.Common.{◌≤◌, ◌+◌, ◌∙◌, sym, ap, subst, arith, map, List}
+use Rattle.std.proofs.Common.{◌<◌, ◌∙◌, sym, ap, subst, arith}
 use Rattle.std.specs.List.{AllByRecursion}
 use Rattle.pfair_weight.specs.Name.{NamesApart}
-use Rattle.pfair_table.specs.Ranks.{first_by_rank}
 use Rattle.pfair_admission.specs.Member.{Member}
-use Rattle.pfair_admission.specs.Admission.{boundary, announcements, member_named}
+use Rattle.pfair_admission.specs.Admission.{announcements, member_named}
 use Rattle.pfair_admission.specs.Roster.{Roster}
-use Rattle.pfair_table.specs.Table.{eligible, pick, all_ran}
+use Rattle.pfair_table.specs.Table.{all_ran}
 use Rattle.pfair_table.specs.Queue.{queued}
 use Rattle.pfair_admission.proofs.NamesKept.{apart_boundary}
-use Rattle.pfair_admission.proofs.Each.{each}
-use Rattle.pfair_table.proofs.Slots.{steady_next, few_boundary}
+use Rattle.pfair_table.proofs.Slots.{steady_next}
+use Rattle.pfair_table.proofs.NextIndexes.{each_boundary}
+use Rattle.pfair_weight.specs.declared.window.TheConstants.{MAX_INDEX}
 use Rattle.pfair_table.proofs.QueueKept.{queue_after_boundary}
 use Rattle.pfair_table.proofs.slot.plan_slot.Goals as goal
 
@@ -26,16 +26,13 @@ give_quanta-requires-clause-named g c =
 pub give_quanta-requires-clause-few : goal.give_quanta-requires-clause-few
 give_quanta-requires-clause-few g c =
     let old = c.args.members.now in
-    let announced = announcements c.args.announced.now in
-    subst (λ (r : Roster). AllByRecursion (λ (m : Member). m.next ≤ 1000000) r.members) (sym c.in_ok-decided.ensures.members)
-    (each (λ (m : Member). m.next ≤ c.args.slot + 1) (λ m. m.next ≤ 1000000) (λ m few. omega (arith, c.requires.slot, few)) (boundary old.machine c.args.slot old.members announced)
-    (few_boundary (c.args.slot + 1) old.machine c.args.slot (omega arith) announced old.members c.requires.steady.few))
+    subst (λ (r : Roster). AllByRecursion (λ (m : Member). m.next < MAX_INDEX) r.members) (sym c.in_ok-decided.ensures.members)
+    (each_boundary c.args.slot (λ m. m.next < MAX_INDEX) (λ name w early. omega arith) (λ slot m h. h) (λ index by m h. h) old.machine (announcements c.args.announced.now) old.members c.requires.few)
 
 pub returns-clause-steady : goal.returns-clause-steady
 returns-clause-steady g c =
     let members_are = ap (λ (r : Roster). r.members) c.in_ok-decided.ensures.members in
-    steady_next c.args.announced.now c.args.processors c.requires.steady
-    (c.in_ok-table.ensures.table ∙ ap (λ (ms : List Member). map (pick ms) (first_by_rank c.args.processors (eligible c.args.slot ms))) members_are)
+    steady_next c.in_ok-table.table.items c.args.announced.now c.requires.steady
     (ap (λ (r : Roster). r.members) c.in_ok-table.ensures.members ∙ ap (all_ran c.in_ok-table.table.items) members_are)
     (ap (λ (r : Roster). r.last_slot) c.in_ok-table.ensures.members ∙ ap (λ (r : Roster). r.last_slot) c.in_ok-decided.ensures.members)
     c.in_ok-table.ensures.time c.in_ok-table.ensures.queue

@@ -1,7 +1,7 @@
-use Rattle.pfair_table.specs.Places.{places_of}
+use Rattle.pfair_table.specs.Places.{places_in}
 use Rattle.pfair_output.specs.Replay.{placed_table_rows}
 use Rattle.pfair_output.proofs.SlotFacts.{IsOnTheWay}
 use Rattle.pfair_output.proofs.replay.add_placed_tables_from.Given as goal
 
 abbrev pub invariant-loop-slot : goal.invariant-loop-slot
-invariant-loop-slot g l = IsOnTheWay (placed_table_rows (places_of l.dispatcher.tables)) l.dispatcher.tables l.from l.fn.writer l.slot l.writer
+invariant-loop-slot g l = IsOnTheWay (placed_table_rows (places_in l.dispatcher.origin l.dispatcher.tables)) l.dispatcher.tables l.from l.fn.writer l.slot l.writer

@@ -1,4 +1,4 @@
-use Rattle.std.proofs.Common.{◌≡◌, ◌++◌, length}
+use Rattle.std.proofs.Common.{◌≡◌, ◌++◌, None, length}
 use Rattle.pfair_replica.specs.HeldRows.{replica_of}
 use Rattle.pfair_table.specs.ScriptRun.{IsBySlot}
 use Rattle.pfair_text.specs.Rows.{IsOpen, line, lines_text, text_so_far}
@@ -12,6 +12,7 @@ abbrev pub invariant-slots : goal.invariant-slots
 invariant-slots g l = record {
   is_open : IsOpen l.writer;
   able : IsBySlot l.replica l.planner;
+  first : l.planner.origin ≡ None;
   settings : l.planner.settings ≡ l.fn.planner.settings;
   planned : length l.planner.tables ≡ l.slot;
   text : text_so_far l.writer ≡ line decisions_header ++ lines_text (slots_from decided_rows 0 (decided_below l.fn.planner.settings (replica_of l.replica) l.slot));

@@ -29,6 +29,7 @@ slots-preserved g c =
     record {
       is_open = c.in_ok-add_lags.ensures.open;
       able = next.able;
+      first = next.first;
       settings = next.settings ∙ c.slots.invariant.settings;
       planned = omega (arith, next.planned, c.slots.invariant.planned);
       book = told;

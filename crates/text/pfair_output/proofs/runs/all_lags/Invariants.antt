@@ -1,4 +1,4 @@
-use Rattle.std.proofs.Common.{◌≡◌, ◌++◌, length}
+use Rattle.std.proofs.Common.{◌≡◌, ◌++◌, None, length}
 use Rattle.std.specs.List.{flat_map}
 use Rattle.pfair_replica.specs.HeldRows.{replica_of}
 use Rattle.pfair_table.specs.ScriptRun.{IsBySlot}
@@ -13,6 +13,7 @@ abbrev pub invariant-slots : goal.invariant-slots
 invariant-slots g l = record {
   is_open : IsOpen l.writer;
   able : IsBySlot l.replica l.planner;
+  first : l.planner.origin ≡ None;
   settings : l.planner.settings ≡ l.fn.planner.settings;
   planned : length l.planner.tables ≡ l.slot;
   book : l.book ≡ book_after l.fn.planner.settings (replica_of l.replica) l.slot;

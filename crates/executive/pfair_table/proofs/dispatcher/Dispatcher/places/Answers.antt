@@ -8,4 +8,4 @@ use Rattle.pfair_table.proofs.dispatcher.Dispatcher.places.Goals as goal
 pub returns-clause-fit : goal.returns-clause-fit
 returns-clause-fit g c =
     subst (λ (d : Dispatch). AllByRecursion (IsFit d.settings.processors) d.tables) c.self.view_is
-    (fit_plan c.self.invariant.0.plan)
+    (fit_plan c.self.invariant.0.began c.self.invariant.0.plan)

@@ -5,6 +5,6 @@ use Rattle.pfair_table.proofs.planner.Planner.plan_again.Given as goal
 
 abbrev pub invariant-loop-slot : goal.invariant-loop-slot
 invariant-loop-slot g l = record {
-  step : IsInStep l.settings (replica_of l.replica) l.slot l.self.members (g.R.Ready.now l.self.ready) (g.R.Ready.held l.self.ready);
+  step : IsInStep l.origin l.settings (replica_of l.replica) l.slot l.self.members (g.R.Ready.now l.self.ready) (g.R.Ready.held l.self.ready);
   readings : AreReadingsOf (replica_of l.replica) l.self.readings.by_processor.items;
 }

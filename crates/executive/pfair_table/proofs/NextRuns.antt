@@ -1,0 +1,105 @@
+-- What a finished run leaves can be taken over by a next run, and finished runs that agree leave the same.
+use Rattle.std.proofs.Common.{ℕ, ◌+◌, ◌≤◌, ◌<◌, ◌≡◌, refl, sym, ap, subst, ◌∙◌, arith, Bool, false, List, length, map}
+use Rattle.std.specs.List.{AllByRecursion}
+use Rattle.std.proofs.lemmas.Simd.{map-map}
+use Rattle.pfair_weight.specs.Name.{NamesApart}
+use Rattle.pfair_weight.proofs.NamesApart.{apart_map}
+use Rattle.pfair_replica.specs.Among.{map_same}
+use Rattle.pfair_replica.specs.HeldRows.{HeldRows, replica_of}
+use Rattle.pfair_replica.specs.Replica.{Replica, IsReplica, has_torn, said}
+use Rattle.pfair_replica.proofs.Marks.{same_said}
+use Rattle.pfair_ready.specs.Queue.{Queue}
+use Rattle.std.specs.Prelude.{Result, Ok, Err, IfErr}
+use Rattle.std.specs.Result.{IsErrAnd}
+use Rattle.pfair_admission.specs.declared.carry_fault.CarryFault.{CarryFault}
+use Rattle.pfair_admission.specs.declared.carry_fault.CarryFault.TheVariants.{CannotCarry, Memory}
+use Rattle.pfair_admission.specs.Carried.{carried, CanBeCarried, IsCarryFault}
+use Rattle.pfair_table.specs.declared.answer.NextRunFault.{NextRunFault}
+use Rattle.pfair_table.specs.Faults.{next_run_fault_of}
+use Rattle.pfair_admission.specs.Member.{Member}
+use Rattle.pfair_admission.specs.Roster.{Roster}
+use Rattle.pfair_admission.specs.declared.members.TheConstants.Members.{LAST_SLOT}
+use Rattle.pfair_admission.proofs.CarriedAgain.{able_again, carried_again}
+use Rattle.pfair_admission.proofs.Each.{each_map}
+use Rattle.pfair_table.specs.declared.pick.Decided.{Decided}
+use Rattle.pfair_table.specs.Limits.{IsCarried}
+use Rattle.pfair_table.specs.NextRun.{IsFinished, IsNextRunFault, LeaveAlike, end_of, members_left}
+use Rattle.pfair_table.specs.PlaceLaws.{IsFit}
+use Rattle.pfair_table.specs.Places.{table_before, places_before, places_in}
+use Rattle.pfair_table.specs.Planned.{last_or}
+use Rattle.pfair_table.specs.Refinement.{Dispatch, IsKept, members_after}
+use Rattle.pfair_table.specs.Table.{Settings, Origin, Carried, Table, machine, slot_of, history_from}
+use Rattle.pfair_table.proofs.Alike.{kept_alike, untorn_right}
+use Rattle.pfair_table.proofs.Keeping.{is_of_held, step_now}
+use Rattle.pfair_table.proofs.Members.{label}
+use Rattle.pfair_table.proofs.PlacesOn.{below_before, fit_before, fit_plan, last_below, last_fit}
+use Rattle.pfair_table.proofs.Runs.{same_list, untorn_left}
+use Rattle.pfair_table.proofs.Steps.{plan_of_held}
+use Rattle.pfair_table.proofs.TableLaws.{same_history}
+
+module _ {o : Origin} {s : Settings} {held : Replica} {tables : List Table} {decided : List (List Decided)} {spent : Bool} {roster : Roster} {now : ℕ} {waiting : Queue} (kept : IsKept o s held tables decided spent roster now waiting) (sound : IsReplica held) (test : has_torn held ≡ false) (able : spent ≡ false) (all : s.slots ≤ length tables) where
+  -- the members are those after the last slot
+  pub left_members : roster.members ≡ members_after o s held s.slots
+  left_members =
+      let wanted = kept.plan.wanted in
+      let long : length tables ≡ s.slots = omega (arith, wanted, all) in
+      (step_now kept sound test able).members_are ∙ ap (members_after o s held) long
+
+  -- and with their jobs taken off, a next run can begin with them
+  pub carried_on : (slots : ℕ) (c : Carried) → c.slot ≡ slot_of o s.slots → c.machine ≡ machine s → c.members ≡ map carried (members_after o s held s.slots) → AllByRecursion CanBeCarried (members_after o s held s.slots)
+      → c.table ≡ last_or (table_before o) tables → c.places ≡ last_or (places_before o) (places_in o tables) → c.slot + slots ≤ LAST_SLOT → IsCarried (record s { slots = slots }) c
+  carried_on slots c slot_is machine_is members_are can table_is places_are within =
+      let members = members_after o s held s.slots in
+      let named = subst (NamesApart label) left_members (step_now kept sound test able).steady.named in
+      let fit = fit_plan kept.began kept.plan in
+      record {
+        machine_is = machine_is;
+        named = subst (NamesApart label) (sym members_are) (apart_map label label carried (λ m. refl) members named);
+        again = ap (map carried) members_are ∙ map-map carried carried members ∙ map_same (λ m. carried (carried m)) carried members (λ m h. carried_again m) ∙ sym members_are;
+        able = subst (AllByRecursion CanBeCarried) (sym members_are) (each_map CanBeCarried CanBeCarried carried able_again members can);
+        few = subst (AllByRecursion (λ (m : Member). m.next ≤ 1000001)) (sym members_are) (each_map CanBeCarried (λ m. m.next ≤ 1000001) carried (λ m h. h.next) members can);
+        in_time = within;
+        rows = subst (IsFit s.processors) (sym table_is) (last_fit s.processors (table_before o) tables (fit_before o s kept.began) fit);
+        below = subst (AllByRecursion (λ k. k < s.processors)) (sym places_are) (last_below s.processors o tables (below_before o s kept.began) fit);
+      }
+
+-- ---- refusals
+
+-- a refusal that another one is made of
+pub refused_as : {A : Type 0} (r : Result A NextRunFault) (fault : NextRunFault) (P : NextRunFault → Type 0) → IsErrAnd r (λ e. e ≡ fault) → P fault → IfErr r P
+refused_as (Ok x) fault P is p = tt
+refused_as (Err e) fault P is p = subst P (sym is) p
+
+-- why members aren't carried is why no next run begins
+pub not_carried : (d : Dispatch) (slots : ℕ) (fault : CarryFault) → IsFinished d → end_of d + slots ≤ LAST_SLOT → IsCarryFault (members_left d) fault → IsNextRunFault d slots (next_run_fault_of fault)
+not_carried d slots (CannotCarry name) finished within is = (finished, within, is)
+not_carried d slots Memory finished within is = (finished, within, is)
+
+-- Of finished runs that began alike and hold what agrees, a next run takes over the same.
+pub left_alike : {o q : Origin} {s r : Settings} {x y : HeldRows} {tx ty : List Table} {dx dy : List (List Decided)} {bx by : Bool} {fx fy : ℕ} {mx my : Roster} {nx ny : ℕ} {hx hy : Queue}
+    → IsKept o s (replica_of x) tx dx bx mx nx hx → IsKept q r (replica_of y) ty dy by my ny hy → IsReplica (replica_of x) → IsReplica (replica_of y)
+    → LeaveAlike (record { settings = s; origin = o; held = x; tables = tx; decided = dx; forgotten = fx; spent = bx }) (record { settings = r; origin = q; held = y; tables = ty; decided = dy; forgotten = fy; spent = by })
+left_alike {o} {q} {s} {r} {x} {y} {tx} {ty} kx ky sound_x sound_y same began agree fx fy =
+    let of_x = is_of_held kx sound_x in
+    let of_y = is_of_held ky sound_y in
+    let px = plan_of_held kx.plan of_x (untorn_left (replica_of x) (replica_of y) agree) in
+    let py = plan_of_held ky.plan of_y (untorn_right (replica_of x) (replica_of y) agree) in
+    let slots_are = ap (λ (a : Settings). a.slots) same in
+    let processors_are = ap (λ (a : Settings). a.processors) same in
+    let all_x = fx.all in
+    let all_y = fy.all in
+    let long : length tx ≡ length ty = omega (arith, px.wanted, py.wanted, all_x, all_y, slots_are) in
+    let said_alike : (u : ℕ) → u < s.slots → said (replica_of x) u ≡ said (replica_of y) u =
+    λ u l. same_said (replica_of x) (replica_of y) sound_x sound_y (of_x.processors ∙ processors_are ∙ sym of_y.processors) agree u (omega (arith, l, px.early, all_x)) (omega (arith, l, py.early, all_y, slots_are)) in
+    let past = same_history o s (replica_of x) (replica_of y) s.slots said_alike in
+    let tables_are : tx ≡ ty = same_list tx ty long (λ t l.
+    (let alike = kept_alike kx ky sound_x sound_y same began agree t l (omega (arith, l, long)) in alike.0 ∙ sym alike.1)) in
+    let members_are : members_after o s (replica_of x) s.slots ≡ members_after q r (replica_of y) r.slots =
+    ap (λ h. h.members) past ∙ (λ i. (history_from (began i) (same i) (replica_of y) (same i).slots).members) in
+    λ i. record {
+      slot = slot_of (began i) (same i).slots;
+      machine = machine (same i);
+      members = map carried (members_are i);
+      table = last_or (table_before (began i)) (tables_are i);
+      places = last_or (places_before (began i)) (places_in (began i) (tables_are i));
+    }

@@ -1,0 +1,44 @@
+use Rattle.std.proofs.Common.{◌≡◌, ◌∙◌, [], sym, ap, subst, IfOk, Some, map}
+use Rattle.std.specs.List.{AllByRecursion}
+use Rattle.pfair_admission.specs.Carried.{carried, CanBeCarried}
+use Rattle.pfair_replica.specs.Replica.{empty_replica}
+use Rattle.pfair_table.specs.Events.{Course}
+use Rattle.pfair_table.specs.Limits.{IsCarried}
+use Rattle.pfair_table.specs.NextRun.{IsFinished, end_of, members_left}
+use Rattle.pfair_table.specs.Places.{table_before, places_before, places_in}
+use Rattle.pfair_table.specs.Planned.{last_or}
+use Rattle.pfair_table.specs.Refinement.{Dispatch, course_of}
+use Rattle.pfair_table.specs.Table.{Settings, Carried, machine}
+use Rattle.pfair_table.proofs.NextRuns.{carried_on}
+use Rattle.pfair_table.proofs.dispatcher.Dispatcher.begin_with.Goals as goal
+
+pub begin-requires-clause-origin : goal.begin-requires-clause-origin
+begin-requires-clause-origin g c =
+    let view = c.self.view_is in
+    let finished = subst IsFinished (sym view) c.requires.finished in
+    let there : Carried = record {
+      slot = c.args.slot;
+      machine = c.args.members.machine;
+      members = c.args.members.members;
+      table = c.in_ok-from_slice.field-0.items;
+      places = c.in_ok-from_slice-2.field-0.items;
+    } in
+    subst (λ (s : Settings). IsCarried s there) (ap (λ (e : Dispatch). record e.settings { slots = c.args.settings.slots }) view ∙ sym c.requires.settings)
+    (carried_on c.self.invariant.0 c.processors.ensures.rows.entries finished.whole finished.able finished.all c.args.settings.slots there
+    (c.requires.slot ∙ ap end_of (sym view)) (c.requires.machine ∙ ap (λ (e : Dispatch). machine e.settings) (sym view)) (c.requires.members ∙ ap (λ (e : Dispatch). map carried (members_left e)) (sym view))
+    (subst (λ (e : Dispatch). AllByRecursion CanBeCarried (members_left e)) (sym view) c.requires.able)
+    (c.in_ok-from_slice.ensures.items ∙ c.last.ensures.table) (c.in_ok-from_slice-2.ensures.items ∙ c.last.ensures.places) c.requires.within)
+
+pub returns-clause-course : goal.returns-clause-course
+returns-clause-course g c =
+    let view = c.self.view_is in
+    let processors_are = ap (λ (s : Settings). s.processors) c.requires.settings in
+    let capacity_is = c.capacity.ensures.value ∙ ap (λ (e : Dispatch). e.held.capacity) view in
+    let table_is = c.in_ok-from_slice.ensures.items ∙ c.last.ensures.table ∙ ap (λ (e : Dispatch). last_or (table_before e.origin) e.tables) view in
+    let places_are = c.in_ok-from_slice-2.ensures.items ∙ c.last.ensures.places ∙ ap (λ (e : Dispatch). last_or (places_before e.origin) (places_in e.origin e.tables)) view in
+    subst (λ (k : Course). IfOk c.begin.result (λ next. course_of next ≡ k)) (λ i. record {
+      origin = Some (record { slot = c.requires.slot i; machine = c.requires.machine i; members = c.requires.members i; table = table_is i; places = places_are i });
+      held = empty_replica (processors_are i) (capacity_is i);
+      tables = [];
+      decided = [];
+    }) c.begin.ensures.course

@@ -1,0 +1,54 @@
+use Rattle.std.proofs.Common.{ℕ, ◌<◌, ◌≤◌, ◌≡◌, ◌∙◌, ◌∷◌, [], ◌++◌, sym, ap, subst, arith, length, List}
+use Rattle.std.specs.List.{AllByRecursion}
+use Rattle.pfair_replica.specs.HeldRows.{replica_of}
+use Rattle.pfair_table.specs.PlaceLaws.{IsFit}
+use Rattle.pfair_table.specs.Places.{places_after, places_in, table_before, places_before}
+use Rattle.pfair_table.specs.Limits.{IsOrigin}
+use Rattle.pfair_table.specs.Table.{Origin, Table}
+use Rattle.pfair_table.specs.Planned.{PlannedSlots}
+use Rattle.pfair_admission.proofs.Each.{each}
+use Rattle.pfair_table.proofs.PlacesOn.{below_before, fit_before, last_below, last_fit, next_are}
+use Rattle.pfair_table.proofs.TableLaws.{ordered_from}
+use Rattle.pfair_table.proofs.Members.{named_before}
+use Rattle.pfair_table.proofs.planner.plan_onto.Goals as goal
+
+fit_wider : (m : ℕ) (rows : Table) → m ≤ 64 → IsFit m rows → IsFit 64 rows
+fit_wider m rows le fit = (let few = fit.0 in omega (arith, few, le), fit.1)
+
+all_wider : (m : ℕ) (now before : PlannedSlots) → m ≤ 64 → now ≡ before → AllByRecursion (IsFit m) before.tables → AllByRecursion (IsFit 64) now.tables
+all_wider m now before le same fit =
+    subst (λ (p : PlannedSlots). AllByRecursion (IsFit 64) p.tables) (sym same) (each (IsFit m) (IsFit 64) (λ rows. fit_wider m rows le) before.tables fit)
+
+pub places_beside-requires-clause-before : goal.places_beside-requires-clause-before
+places_beside-requires-clause-before g c =
+    let s = c.args.settings in
+    let most = c.in_ok-next.ensures.limits.processors.1 in
+    let p = c.take_room-room.new.self in
+    let began = subst (λ (q : PlannedSlots). IsOrigin q.origin s) (sym c.take_room-room.ensures) c.requires.began in
+    subst (IsFit 64) (sym c.last.ensures.table)
+    (last_fit 64 (table_before p.origin) p.tables (fit_wider s.processors (table_before p.origin) most (fit_before p.origin s began)) (all_wider s.processors _ _ most c.take_room-room.ensures c.requires.fit))
+
+pub places_beside-requires-clause-below : goal.places_beside-requires-clause-below
+places_beside-requires-clause-below g c =
+    let s = c.args.settings in
+    let most = c.in_ok-next.ensures.limits.processors.1 in
+    let p = c.take_room-room.new.self in
+    let began = subst (λ (q : PlannedSlots). IsOrigin q.origin s) (sym c.take_room-room.ensures) c.requires.began in
+    subst (AllByRecursion (λ k. k < 64)) (sym c.last.ensures.places)
+    (last_below 64 p.origin p.tables (each (λ k. k < s.processors) (λ k. k < 64) (λ k less. omega (arith, less, most)) (places_before p.origin) (below_before p.origin s began))
+    (all_wider s.processors _ _ most c.take_room-room.ensures c.requires.fit))
+
+pub places_beside-requires-clause-rows : goal.places_beside-requires-clause-rows
+places_beside-requires-clause-rows g c =
+    let o = c.origin.result.now in
+    let began = subst (λ (q : Origin). IsOrigin q c.args.settings) (sym (c.origin.ensures ∙ ap (λ (p : PlannedSlots). p.origin) c.take_room-room.ensures)) c.requires.began in
+    let long = ap length (c.deref.ensures.value ∙ c.in_ok-next.ensures.table) in
+    let few = (ordered_from o c.args.settings (named_before o c.args.settings began) (replica_of c.args.replica.now) c.len-slot.result).0 in
+    let limit = c.in_ok-next.ensures.limits.processors.1 in
+    omega (arith, long, few, limit)
+
+pub push-requires : goal.push-requires
+push-requires g c =
+    let p = c.take_room-room.new.self in
+    next_are p.origin p.tables c.in_ok-next.next.table.items
+    ∙ ap (λ (ps : List ℕ). places_in p.origin p.tables ++ ps ∷ []) (sym (c.in_ok-places.ensures ∙ (λ i. places_after (c.last.ensures.table i) (c.last.ensures.places i) (c.deref.ensures.value i))))

@@ -1,0 +1,56 @@
+-- What the run after a run begins with.
+use Rattle.std.specs.Prelude.{ℕ, ◌+◌, ◌≡◌, ◌≤◌, ◌<◌, true, false, List, [], length, map, Some, slice_get}
+use Rattle.std.specs.List.{AllByRecursion}
+use Rattle.pfair_replica.specs.HeldRows.{replica_of}
+use Rattle.pfair_replica.specs.Replica.{Agree, empty_replica, has_torn, torn_keys}
+use Rattle.pfair_admission.specs.Member.{Member}
+use Rattle.pfair_admission.specs.Carried.{carried, CanBeCarried, IsFirstLeft}
+use Rattle.pfair_admission.specs.declared.members.TheConstants.Members.{LAST_SLOT}
+use Rattle.pfair_table.specs.declared.answer.NextRunFault.{NextRunFault}
+use Rattle.pfair_table.specs.declared.answer.NextRunFault.TheVariants.{Torn, Spent, Unfinished, PastLastSlot, CannotCarry, Memory}
+use Rattle.pfair_table.specs.Table.{Carried, machine, slot_of}
+use Rattle.pfair_table.specs.Places.{table_before, places_before, places_in}
+use Rattle.pfair_table.specs.Planned.{last_or}
+use Rattle.pfair_table.specs.Events.{Course}
+use Rattle.pfair_table.specs.Refinement.{Dispatch, members_after}
+
+-- nothing is torn or spent, and all slots are planned
+pub record IsFinished (d : Dispatch) : Type 0 where
+  pub whole : has_torn (replica_of d.held) ≡ false
+  pub able : d.spent ≡ false
+  pub all : d.settings.slots ≤ length d.tables
+
+-- the members after the last slot
+abbrev pub members_left : Dispatch → List Member
+members_left d = members_after d.origin d.settings (replica_of d.held) d.settings.slots
+
+-- the slot after the last, counted from the first slot of the first run
+abbrev pub end_of : Dispatch → ℕ
+end_of d = slot_of d.origin d.settings.slots
+
+-- what the run after this one takes over: the members, each with the jobs that are over taken off, and the last table with its places
+abbrev pub left_by : Dispatch → Carried
+left_by d = record {
+  slot = end_of d;
+  machine = machine d.settings;
+  members = map carried (members_left d);
+  table = last_or (table_before d.origin) d.tables;
+  places = last_or (places_before d.origin) (places_in d.origin d.tables);
+}
+
+-- the next run at its start: with that taken over, it holds nothing and has planned nothing
+abbrev pub start_after : Dispatch → Course
+start_after d = record { origin = Some (left_by d); held = empty_replica d.settings.processors d.held.capacity; tables = []; decided = [] }
+
+-- why no run of so many slots begins after this one, by the first cause that applies
+abbrev pub IsNextRunFault : Dispatch → ℕ → NextRunFault → Type 0
+IsNextRunFault d slots (Torn proc number) = (has_torn (replica_of d.held) ≡ true) × (slice_get (torn_keys (replica_of d.held)) 0 ≡ Some (proc, number))
+IsNextRunFault d slots Spent = (has_torn (replica_of d.held) ≡ false) × (d.spent ≡ true)
+IsNextRunFault d slots Unfinished = (has_torn (replica_of d.held) ≡ false) × (d.spent ≡ false) × (length d.tables < d.settings.slots)
+IsNextRunFault d slots PastLastSlot = IsFinished d × (LAST_SLOT < end_of d + slots)
+IsNextRunFault d slots (CannotCarry name) = IsFinished d × (end_of d + slots ≤ LAST_SLOT) × IsFirstLeft (members_left d) name
+IsNextRunFault d slots Memory = IsFinished d × (end_of d + slots ≤ LAST_SLOT) × AllByRecursion CanBeCarried (members_left d)
+
+-- If settings and contents agree, and where the runs began, finished runs leave the same.
+abbrev pub LeaveAlike : Dispatch → Dispatch → Type 0
+LeaveAlike c d = c.settings ≡ d.settings → c.origin ≡ d.origin → Agree (replica_of c.held) (replica_of d.held) → IsFinished c → IsFinished d → left_by c ≡ left_by d

@@ -1,0 +1,146 @@
+//! A run after a run, which begins with the members that the last one left.
+
+ghost use Rattle.std.specs.Prelude.{◌≡◌, ◌≤◌, ◌+◌, [], false, map, IfOk, IfErr, OnOk};
+ghost use Rattle.std.specs.List.{AllByRecursion};
+ghost use Rattle.pfair_replica.specs.HeldRows.{IsShape};
+ghost use Rattle.pfair_replica.specs.Replica.{empty_replica};
+ghost use Rattle.pfair_admission.specs.declared.members.TheConstants.Members.{LAST_SLOT};
+ghost use Rattle.pfair_table.specs.Limits.{IsOrigin};
+ghost use Rattle.pfair_admission.specs.Carried.{carried, CanBeCarried};
+ghost use Rattle.pfair_table.specs.Table.{machine};
+ghost use Rattle.pfair_table.specs.NextRun.{IsFinished, IsNextRunFault, end_of, members_left, start_after};
+ghost use Rattle.pfair_table.specs.Refinement.{course_of};
+
+use crate::answer::NextRunFault;
+use crate::dispatcher::Dispatcher;
+use crate::origin::{Carried, Origin};
+use crate::planned::Planned;
+use crate::planner::Planner;
+use crate::settings::Settings;
+use pfair_admission::Members;
+use pfair_ready::Ready;
+use pfair_replica::Replica;
+use std::alloc::{AllocError, Global};
+
+impl<R: Ready> Dispatcher<R> {
+    /// Creates a dispatcher for the run after this one, of 1 to 1,000,000 slots, with the same
+    /// processors, frame and room for log entries. It holds no entries and has planned nothing; this
+    /// dispatcher stays as it is.
+    ///
+    /// The next run begins with the members of this one, in their order, and a task that runs on
+    /// keeps its processor. Of each member the jobs before that of its last quantum are taken off: its
+    /// indexes begin anew, at most one job high, and its windows stay where they are. Stamps, floors
+    /// and slots of the next run count from its own slot 0, entries from 1. Announcements at or after
+    /// the last slot of this run are not taken over.
+    ///
+    /// O(n log n + d log d) for n members with d accepted delays that are still to come.
+    ///
+    /// # Errors
+    /// The first that applies: [`NextRunFault::Torn`] if an entry held is torn;
+    /// [`NextRunFault::Spent`] if the dispatcher is spent; [`NextRunFault::Unfinished`] if not all
+    /// slots of this run are planned; [`NextRunFault::PastLastSlot`] if the next run would end after
+    /// slot [`Members::LAST_SLOT`] of all runs; [`NextRunFault::CannotCarry`] if a member's next index
+    /// would be above 1,000,001 (its period is then longer than a run can be) or its delays leave no
+    /// room for more; [`NextRunFault::Memory`] if an allocation fails.
+    pub fn next_run(&self, slots: u64) -> Result<Dispatcher<R>, NextRunFault>
+        requires some { 1 ≤ slots }
+        requires few { slots ≤ Settings.MAX_SLOTS }
+        ensures finished { OnOk result (IsFinished self.now) }
+        ensures settings { IfOk result (λ next. next.settings ≡ record self.now.settings { slots = slots }) }
+        ensures course { IfOk result (λ next. course_of next ≡ start_after self.now) }
+        ensures standing { IfOk result (λ next. next.forgotten ≡ 0) }
+        ensures spent { IfOk result (λ next. next.spent ≡ false) }
+        ensures fault { IfErr result (IsNextRunFault self.now slots) }
+    {
+        let slot = self.end(slots)?;
+        // a replica holds entries of its own logs
+        prove!(self.replica.processors() >= 1);
+        let members = self.planner.members.carried()?;
+        Ok(self.begin_with(self.settings.with_slots(slots), slot, members)?)
+    }
+
+    // A dispatcher for the run after this one, which begins at a slot with these members.
+    fn begin_with(
+        &self,
+        settings: Settings,
+        slot: u64,
+        members: Members,
+    ) -> Result<Dispatcher<R>, AllocError>
+        requires settings { settings ≡ record self.now.settings { slots = settings.slots } }
+        requires finished { IsFinished self.now }
+        requires slot { slot ≡ end_of self.now }
+        requires within { slot + settings.slots ≤ LAST_SLOT }
+        requires machine { members.machine ≡ machine self.now.settings }
+        requires members { members.members ≡ map carried (members_left self.now) }
+        requires able { AllByRecursion CanBeCarried (members_left self.now) }
+        ensures settings { IfOk result (λ next. next.settings ≡ settings) }
+        ensures course { IfOk result (λ next. course_of next ≡ start_after self.now) }
+        ensures standing { IfOk result (λ next. next.forgotten ≡ 0) }
+        ensures spent { IfOk result (λ next. next.spent ≡ false) }
+    {
+        // a replica holds entries of its own logs
+        prove!(self.replica.processors() >= 1);
+        let alloc = self.planner.alloc;
+        let (table, places) = self.planned.last();
+        let carried = Carried {
+            slot,
+            members,
+            table: Vec::from_slice(alloc, table)?,
+            places: Vec::from_slice(alloc, places)?,
+        };
+        let origin = Origin {
+            carried: Some(carried),
+        };
+        Dispatcher::begin(alloc, settings, self.replica.capacity(), origin)
+    }
+
+    // Returns the slot after the last of a finished run, counted from the first run's first slot, if a
+    // run of so many slots can begin there.
+    fn end(&self, slots: u64) -> Result<u64, NextRunFault>
+        requires { slots ≤ Settings.MAX_SLOTS }
+        ensures slot { IfOk result (λ slot. slot ≡ end_of self.now) }
+        ensures finished { OnOk result (IsFinished self.now) }
+        ensures within { OnOk result (end_of self.now + slots ≤ LAST_SLOT) }
+        ensures fault { IfErr result (IsNextRunFault self.now slots) }
+    {
+        if let Some((proc, number)) = self.replica.first_torn() {
+            return Err(NextRunFault::Torn { proc, number });
+        }
+        if self.spent {
+            return Err(NextRunFault::Spent);
+        }
+        if (self.planned.len() as u64) < self.settings.slots() {
+            return Err(NextRunFault::Unfinished);
+        }
+        let slot = self.planned.origin().slot_of(self.settings.slots());
+        if slot + slots > Members::LAST_SLOT {
+            return Err(NextRunFault::PastLastSlot);
+        }
+        Ok(slot)
+    }
+
+    // A dispatcher that holds no entries and has planned nothing of a run that begins there.
+    pub(crate) fn begin(
+        alloc: Global,
+        settings: Settings,
+        capacity: u32,
+        origin: Origin,
+    ) -> Result<Self, AllocError>
+        requires shape { IsShape settings.processors capacity }
+        requires origin { IsOrigin origin settings }
+        ensures settings { IfOk result (λ d. d.settings ≡ settings) }
+        ensures course { IfOk result (λ d. course_of d ≡ record { origin = origin; held = empty_replica settings.processors capacity; tables = []; decided = [] }) }
+        ensures standing { IfOk result (λ d. d.forgotten ≡ 0) }
+        ensures spent { IfOk result (λ d. d.spent ≡ false) }
+    {
+        let replica = Replica::new(alloc, settings.processors(), capacity)?;
+        let planner = Planner::new(alloc, settings, &origin)?;
+        Ok(Dispatcher {
+            settings,
+            replica,
+            planner,
+            planned: Planned::new(alloc, origin),
+            spent: false,
+        })
+    }
+}

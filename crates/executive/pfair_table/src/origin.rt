@@ -1,0 +1,91 @@
+//! Where a run begins: at slot 0 without members, or with what the run before has left.
+ghost use Rattle.std.specs.Prelude.{◌≡◌, ◌<◌, ◌^◌, None, IfOk};
+ghost use Rattle.pfair_table.specs.Table.{machine, slot_of, members_before};
+ghost use Rattle.pfair_table.specs.Limits.{IsOrigin};
+ghost use Rattle.pfair_table.specs.Places.{table_before, places_before};
+
+use crate::pick::Pick;
+use crate::settings::Settings;
+use pfair_admission::{CarryFault, Members};
+use std::alloc::{AllocError, Global};
+use std::marker::Model;
+
+/// What a run takes over from the one before.
+#[derive(Drop)]
+pub(crate) struct Carried {
+    /// The slot after the last one of that run, counted from the first run's first slot.
+    pub slot: u64,
+    pub members: Members,
+    /// The last table of that run, and its places.
+    pub table: Vec<Pick>,
+    pub places: Vec<u8>,
+}
+
+impl Model for Carried {
+    ghost use Rattle.pfair_table.specs.Table.{Carried as Taken};
+
+    ghost Value = { Taken };
+
+    ghost view = { λ a. record { slot = a.slot; machine = a.members.machine; members = a.members.members; table = a.table.items; places = a.places.items } };
+}
+
+/// What a run takes over, if it isn't the first.
+#[derive(Drop)]
+pub(crate) struct Origin {
+    pub carried: Option<Carried>,
+}
+
+impl Model for Origin {
+    ghost use Rattle.pfair_table.specs.Table.{Origin as Begin};
+
+    ghost Value = { Begin };
+
+    ghost view = { λ a. a.carried };
+}
+
+impl Origin {
+    /// That of a first run.
+    pub(crate) fn first() -> Origin
+        ensures { result ≡ None }
+    {
+        Origin { carried: None }
+    }
+
+    /// Returns the members before the run's first slot.
+    pub(crate) fn members(&self, alloc: Global, settings: Settings) -> Result<Members, AllocError>
+        requires { IsOrigin self.now settings }
+        ensures { IfOk result (λ members. members ≡ record { machine = machine settings; members = members_before self.now; heard = 0; last_slot = None }) }
+    {
+        let Some(carried) = &self.carried else {
+            return Ok(Members::new(alloc, settings.processors(), settings.frame()));
+        };
+        match carried.members.carried() {
+            Ok(members) => Ok(members),
+            Err(CarryFault::Memory) => Err(AllocError),
+            // members that were carried can be carried again, and stay as they are
+            Err(CarryFault::CannotCarry { .. }) => unreachable!(),
+        }
+    }
+
+    /// Returns slot `slot` of the run, counted from the first run's first slot.
+    pub(crate) fn slot_of(&self, slot: u64) -> u64
+        requires { slot_of self.now slot < 2 ^ 64 }
+        ensures { result ≡ slot_of self.now slot }
+    {
+        match &self.carried {
+            Some(carried) => carried.slot + slot,
+            None => slot,
+        }
+    }
+
+    /// Returns the table of the slot before the run and its places, or no rows in a first run.
+    pub(crate) fn last(&self) -> (&[Pick], &[u8])
+        ensures table { result.0.now ≡ table_before self.now }
+        ensures places { result.1.now ≡ places_before self.now }
+    {
+        match &self.carried {
+            Some(carried) => (&carried.table, &carried.places),
+            None => (&[], &[]),
+        }
+    }
+}
