@@ -1,5 +1,5 @@
 -- When replicas agree.
-use Rattle.std.proofs.Common.{◌≡◌, refl, Some, None, arith}
+use Rattle.std.proofs.Common.{◌≡◌, Some, arith}
 use Rattle.std.specs.Prelude.{◌≢◌}
 use Rattle.pfair_lattice.specs.declared.flat.Flat.TheVariants.{One, Torn}
 use Rattle.pfair_lattice.specs.Held.{Held, held_join}
@@ -10,20 +10,13 @@ use Rattle.pfair_replica.specs.Laws.{IsAgreement}
 use Rattle.pfair_replica.proofs.Marks.{same_at}
 
 torn_first : (b : Held Logged) → held_join entry_eq (Some Torn) b ≡ Some Torn
-torn_first None = refl
-torn_first (Some c) = refl
+torn_first b = grind arith
 
 torn_second : (a : Held Logged) → held_join entry_eq a (Some Torn) ≡ Some Torn
-torn_second None = refl
-torn_second (Some (One e)) = refl
-torn_second (Some Torn) = refl
+torn_second a = grind arith
 
 whole : (a b : Held Logged) → a ≢ Some Torn → b ≢ Some Torn → ((e f : Logged) → a ≡ Some (One e) → b ≡ Some (One f) → e ≡ f) → held_join entry_eq a b ≢ Some Torn
-whole None b p q same = q
-whole (Some c) None p q same = p
-whole (Some Torn) (Some d) p q same = absurd (p refl)
-whole (Some (One e)) (Some Torn) p q same = absurd (q refl)
-whole (Some (One e)) (Some (One f)) p q same = grind (arith, entry_exact)
+whole a b p q same = grind (arith, entry_exact)
 
 pub agreement : IsAgreement
 agreement x y = grind (arith, torn_first, torn_second, same_at, whole)

@@ -1,4 +1,5 @@
 -- Parts of sound beginnings, and what stays of one when something comes into its row.
+use Rattle.std.proofs.lemmas.Grind.{common_steps}
 use Rattle.std.proofs.Common.{ℕ, zero, suc, ◌+◌, ◌-◌, ◌<◌, ◌≤◌, ◌≡◌, refl, sym, ap, ◌∙◌, subst, arith, inl, inr, ⊎_elim, List, [], ◌∷◌, ◌++◌, length, Some, None}
 use Rattle.std.specs.Prelude.{◌⊎◌, ◌≢◌}
 use Rattle.std.proofs.lemmas.Bool.{cases_eq}
@@ -76,15 +77,11 @@ module _ (row : ℕ → Held Logged) where
     at_zero none = let count = before.count in ap row (let first : number - 1 ≡ 0 = omega (arith, count, none) in first) ∙ before.zero
 
     no_floor : (es : List Logged) → length es ≡ 0 → last_floor 0 es ≡ 0
-    no_floor [] none = refl
-    no_floor (e ∷ es) none = absurd (omega (arith, none))
+    no_floor es none = grind (arith, common_steps)
 
     -- the part before that number ends with the entry that is held there
     pub part_to_entry : (e : Logged) → row (number - 1) ≡ Some (One e) → IsPart row (record { count = number - 1; mark = e.floor })
-    part_to_entry e held = ⊎_elim
-        (λ none. (let gone = sym held ∙ at_zero none in absurd (cc)))
-        (λ last. (let same = sym last.1 ∙ held in part_to e.floor (last.2 ∙ (let one : last.0 ≡ e = cc in ap (λ l. l.floor) one))))
-        last_before
+    part_to_entry e held = grind (arith, at_zero, part_to, last_before)
 
     -- or it is empty
     pub part_to_none : ((e : Logged) → row (number - 1) ≡ Some (One e) → ⊥) → IsPart row (record { count = number - 1; mark = 0 })

@@ -1,4 +1,5 @@
 -- Rows compared, read cell by cell.
+use Rattle.std.proofs.lemmas.Grind.{common_steps}
 use Rattle.std.proofs.Common.{arith, ◌≡◌, refl, sym, ap, subst, ⊎_elim, inl, inr, ◌∙◌, Bool}
 use Rattle.std.specs.Prelude.{◌↔◌, ◌≢◌, ℕ, Option, None, Some, List, [], ◌∷◌, length, IsTrue, nat_eq}
 use Rattle.std.specs.Option.{option_and_then}
@@ -39,8 +40,7 @@ nothing_below [] h = refl
 nothing_below (x ∷ xs) h = absurd (not_none x.1 (get nat_cmp (x ∷ xs) x.0) (lookup_head (is_at (nat_cmp x.0)) x xs (ap is_eq (tied_itself nat_cmp_total x.0))) (h x.0))
 
 pub empty_below : (v : Row) → length v ≡ 0 → (n : ℕ) → HeldBelow (get nat_cmp v n) None
-empty_below [] e n = none_below None
-empty_below (x ∷ xs) e n = absurd (cc)
+empty_below v e n = grind (arith, none_below, common_steps)
 
 pub below_as : (x x' y y' : Held Logged) → x' ≡ x → y' ≡ y → HeldBelow x y → HeldBelow x' y'
 below_as x x' y y' e f h = subst (λ (u : Held Logged). HeldBelow u y') (sym e) (subst (HeldBelow x) (sym f) h)
@@ -67,10 +67,7 @@ module _ (a b : List (ℕ × Row)) (p : ℕ) (v : Row) (ea : get nat_cmp a p ≡
 
 -- if the second row has something for which the first has no place, it holds a key at which the first holds nothing
 cell_outgrown : (a b : Held Logged) → OptionOutgrows (λ _ _. ⊥) a b → (a ≡ None) × (b ≢ None)
-cell_outgrown None None h = absurd h
-cell_outgrown (Some c) None h = absurd h
-cell_outgrown None (Some d) h = (refl, λ e. cc)
-cell_outgrown (Some c) (Some d) h = absurd h
+cell_outgrown a b h = grind arith
 
 pub rows_outgrown : (m m' : ℕ) (a b : List (ℕ × Row)) → m ≡ m' → IsFull m a → IsFull m' b → MapOutgrows nat_cmp (MapOutgrows nat_cmp (λ _ _. ⊥)) a b
     → (k : ℕ) × (n : ℕ) × (held_in a k n ≡ None) × (held_in b k n ≢ None)

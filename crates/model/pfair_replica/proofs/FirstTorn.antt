@@ -12,18 +12,13 @@ use Rattle.pfair_replica.proofs.TornKeys.{torn_first, flat_none, flat_first, not
 -- ---- the first of some keys
 
 comes_later : (a b : EntryKey) (k n : ℕ) → ComesFirst a b.0 b.1 → ComesFirst b k n → ComesFirst a k n
-comes_later a b k n (inl h) (inl g) = inl (omega (arith, h, g))
-comes_later a b k n (inl h) (inr g) = (let same = g.0 in inl (omega (arith, h, same)))
-comes_later a b k n (inr h) (inl g) = (let same = h.0 in inl (omega (arith, same, g)))
-comes_later a b k n (inr h) (inr g) = (let first = h.1 in let then = g.1 in inr (h.0 ∙ g.0, omega (arith, first, then)))
+comes_later a b k n h h2 = grind arith
 
 pub first_alike : (P R : ℕ → ℕ → Type 0) (first : Option EntryKey) → ((k n : ℕ) → P k n → R k n) → ((k n : ℕ) → R k n → P k n) → IsFirst P first → IsFirst R first
-first_alike P R None to from h = λ k n r. h k n (from k n r)
-first_alike P R (Some key) to from h = (to key.0 key.1 h.0, λ k n r. h.1 k n (from k n r))
+first_alike P R first to from h = grind arith
 
 first_bounds : (P : ℕ → ℕ → Type 0) (first : Option EntryKey) → IsFirst P first → (k n : ℕ) → P k n → (key : EntryKey) × (first ≡ Some key) × ComesFirst key k n
-first_bounds P None h k n here = absurd (h k n here)
-first_bounds P (Some key) h k n here = (key, refl, h.1 k n here)
+first_bounds P first h k n here = grind arith
 
 -- of two first keys the earlier one
 pub earlier_first : (P Q R : ℕ → ℕ → Type 0) (first other result : Option EntryKey) → IsFirst P first → IsFirst Q other → IsEarlier first other result

@@ -1,5 +1,5 @@
 -- Counters that follow what comes into the rows.
-use Rattle.std.proofs.Common.{ℕ, zero, suc, ◌+◌, ◌<◌, ◌≤◌, ◌≡◌, refl, sym, ap, ◌∙◌, subst, arith, inl, inr, ⊎_elim, cond, List, length, Option, Some, None}
+use Rattle.std.proofs.Common.{ℕ, ◌+◌, ◌<◌, ◌≤◌, ◌≡◌, refl, sym, ap, ◌∙◌, subst, arith, inl, inr, ⊎_elim, cond, List, length, Option, Some, None}
 use Rattle.std.specs.Prelude.{◌⊎◌, ◌≢◌, ◌==◌, slice_get, set, replicate}
 use Rattle.std.proofs.lemmas.Bool.{cases_eq, eq-eqb, ne_eqb}
 use Rattle.std.proofs.lemmas.List.{length-set, get_or-set_other, length-replicate, get_or-replicate}
@@ -13,7 +13,7 @@ use Rattle.pfair_entry.specs.Entry.{Logged}
 use Rattle.pfair_entry.specs.Same.{entry_eq}
 use Rattle.pfair_replica.specs.declared.counters.Beginning.{Beginning}
 use Rattle.pfair_replica.specs.Key.{EntryKey}
-use Rattle.pfair_replica.specs.Replica.{Contents, Replica, IsReplica, goes_on, run_on, run_from, last_floor, sound_beginning, mark, entry_key, only}
+use Rattle.pfair_replica.specs.Replica.{Contents, Replica, IsReplica, sound_beginning, mark, entry_key, only}
 use Rattle.pfair_replica.specs.HeldAfter.{held_after, join_none}
 use Rattle.pfair_replica.specs.Counters.{beginning_in, IsLeftAt, IsTornAt, IsFirstTornIn, IsEarlier, AreCounters, WereBefore, WereApart}
 use Rattle.pfair_replica.proofs.Runs.{run_room}
@@ -72,13 +72,7 @@ module _ (capacity p i : ℕ) (now : Contents) (xs : List Beginning) (first : Op
     }
 
     pub entry_untorn : (IsTornAt now p i → ⊥) → AreCounters capacity now (set xs p y) first
-    entry_untorn untorn = record {
-      beginnings = beginnings_followed;
-      torn = first_alike (IsTornAt w.old) (IsTornAt now) first
-          (λ k n. still_torn (w.old k n) (now k n) (w.below k n))
-          (λ k n torn. ⊎_elim (λ h. h) (λ h. absurd (untorn (subst (IsTornAt now p) h.1 (subst (λ (j : ℕ). IsTornAt now j n) h.0 torn)))) (elsewhere_torn k n torn))
-          w.counters.torn;
-    }
+    entry_untorn untorn = grind (arith, beginnings_followed, first_alike, still_torn, elsewhere_torn)
 
 -- ---- after other rows came in
 
@@ -92,16 +86,7 @@ module _ (capacity : ℕ) (other now : Contents) (xs : List Beginning) (first : 
   midway_start w = record { apart = w; done = λ k n low. absurd (omega (arith, low)) }
 
   pub midway_end : (p : ℕ) → length xs ≤ p → Midway capacity p other now xs first → AreCounters capacity now xs first
-  midway_end p whole m =
-      let w = m.apart in
-      record {
-        beginnings = λ k b e. w.counters.beginnings k b e
-            ∙ (λ i. beginning_in capacity (λ n. m.done k n (let h = slice_get_within xs k b e in omega (arith, h, whole)) i));
-        torn = first_alike (IsTornAt w.old) (IsTornAt now) first
-            (λ k n. still_torn (w.old k n) (now k n) (w.below k n))
-            (λ k n torn. m.done k n (let h = (w.within k n torn).0 in omega (arith, h, whole)) ∙ torn)
-            w.counters.torn;
-      }
+  midway_end p whole m = grind (arith, slice_get_within, first_alike, still_torn)
 
   module _ (p : ℕ) (m : Midway capacity p other now xs first) where
     pub midway_as_it_was : ((n : ℕ) → other p n ≡ None) → Midway capacity (p + 1) other now xs first
@@ -158,8 +143,7 @@ module _ (capacity : ℕ) (other now : Contents) (xs : List Beginning) (first : 
 -- ---- the counters of a replica
 
 nothing_if : (h : Held Logged) → ((c : Flat Logged) → h ≡ Some c → ⊥) → h ≡ None
-nothing_if None none = refl
-nothing_if (Some c) none = absurd (none c refl)
+nothing_if h none = grind arith
 
 -- a number that no log has
 pub none_at_zero : (x : Replica) → IsReplica x → (k : ℕ) → x.at k 0 ≡ None
@@ -185,8 +169,7 @@ module _ (x : Replica) (xs : List Beginning) (first : Option EntryKey) (counters
 
 -- if nothing is held
 begins_empty : (row : ℕ → Held Logged) → ((n : ℕ) → row n ≡ None) → (capacity : ℕ) → beginning_in capacity row ≡ record { count = 0; mark = 0 }
-begins_empty row nothing zero = refl
-begins_empty row nothing (suc left) = ap (λ c. record { count = length (run_on (goes_on c 0) (run_from row left 2)); mark = last_floor 0 (run_on (goes_on c 0) (run_from row left 2)) }) (nothing 1)
+begins_empty row nothing capacity = grind arith
 
 pub counters_of_nothing : (m capacity : ℕ) (at : Contents) → ((k n : ℕ) → at k n ≡ None) → AreCounters capacity at (replicate m (record { count = 0; mark = 0 })) None
 counters_of_nothing m capacity at nothing = record {

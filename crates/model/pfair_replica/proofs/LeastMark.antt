@@ -1,5 +1,5 @@
 -- The frontier is the least of the marks.
-use Rattle.std.proofs.Common.{ℕ, zero, suc, ◌+◌, ◌<◌, ◌≤◌, ◌≡◌, refl, sym, ◌∙◌, subst, arith, inl, inr, ⊎_elim, min}
+use Rattle.std.proofs.Common.{ℕ, zero, suc, ◌+◌, ◌<◌, ◌≤◌, ◌≡◌, refl, ◌∙◌, subst, arith, inl, inr, ⊎_elim, min}
 use Rattle.std.specs.Prelude.{◌⊎◌, map, fold}
 use Rattle.std.proofs.Math.Numerals.{add-one}
 use Rattle.std.proofs.lemmas.Bool.{cases_eq, cases_lt}
@@ -18,12 +18,7 @@ module _ (f : ℕ → ℕ) (a : ℕ) where
 
   at_most_each : (m k : ℕ) → k < m → fold min a (map f (numbers_below m)) ≤ f k
   at_most_each zero k h = absurd (omega (arith, h))
-  at_most_each (suc m) k h =
-      let next = least_next m in
-      ⊎_elim
-      (λ same. subst (λ (j : ℕ). fold min a (map f (numbers_below (suc m))) ≤ f j) (sym same) (omega (arith, next)))
-      (λ ne. (let more = at_most_each m k (omega (arith, h, ne)) in omega (arith, next, more)))
-      (cases_eq k m)
+  at_most_each (suc m) k h = grind (arith, least_next, cases_eq, at_most_each m k)
 
   one_of_them : (m : ℕ) → (fold min a (map f (numbers_below m)) ≡ a) ⊎ ((k : ℕ) × (k < m) × (fold min a (map f (numbers_below m)) ≡ f k))
   one_of_them zero = inl refl

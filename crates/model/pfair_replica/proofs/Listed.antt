@@ -1,6 +1,6 @@
 -- What the lists of torn and of fallen keys contain.
-use Rattle.std.proofs.Common.{ℕ, zero, suc, ◌+◌, ◌<◌, ◌≤◌, ◌≡◌, refl, sym, ap, ◌∙◌, subst, arith, inl, inr, Bool, true, false, cond, [], ◌∷◌, length, Some, None}
-use Rattle.std.specs.Prelude.{filter, nat_lt}
+use Rattle.std.proofs.Common.{ℕ, zero, suc, ◌+◌, ◌<◌, ◌≤◌, ◌≡◌, refl, sym, ap, ◌∙◌, subst, arith, inl, true, cond, [], ◌∷◌, length, Some}
+use Rattle.std.specs.Prelude.{filter}
 use Rattle.std.specs.List.{Contains}
 use Rattle.std.proofs.lemmas.Bool.{true≢false, ltb-true, lt-ltb}
 use Rattle.pfair_lattice.specs.declared.flat.Flat.TheVariants.{One, Torn}
@@ -14,9 +14,7 @@ use Rattle.pfair_replica.specs.Among.{Among, among_contains, contains_among, amo
 -- ---- torn keys
 
 torn_true : (c : Held Logged) → is_torn c ≡ true → c ≡ Some Torn
-torn_true None e = absurd (true≢false (sym e))
-torn_true (Some (One d)) e = absurd (true≢false (sym e))
-torn_true (Some Torn) e = refl
+torn_true c e = grind (arith, true≢false)
 
 number_to : (m n : ℕ) → 1 ≤ n → n ≤ m → Among (numbers_to m) n
 number_to m zero low high = absurd (omega (arith, low))
@@ -42,14 +40,7 @@ module _ (x : Replica) where
 -- ---- fallen keys
 
 pub fallen_one : (j i mark : ℕ) (c : Held Logged) (v : EntryKey) → Among (fallen_at j i mark c) v → (v ≡ entry_key j i) × ((e : Logged) × (c ≡ Some (One e)) × (e.floor < mark))
-fallen_one j i mark None v h = absurd h
-fallen_one j i mark (Some Torn) v h = absurd h
-fallen_one j i mark (Some (One e)) v h = by (nat_lt e.floor mark) refl h
-  where
-    by : (b : Bool) → nat_lt e.floor mark ≡ b → Among (cond b (entry_key j i ∷ []) []) v → (v ≡ entry_key j i) × ((d : Logged) × (Some (One e) ≡ Some (One d)) × (d.floor < mark))
-    by true lower (inl is) = (is, (e, refl, ltb-true e.floor mark lower))
-    by true lower (inr none) = absurd none
-    by false lower none = absurd none
+fallen_one j i mark c v h = grind (arith, ltb-true)
 
 fallen_here : (j i mark : ℕ) (e : Logged) → e.floor < mark → Among (fallen_at j i mark (Some (One e))) (entry_key j i)
 fallen_here j i mark e lower = subst (λ b. Among (cond b (entry_key j i ∷ []) []) (entry_key j i)) (sym (lt-ltb e.floor mark lower)) (inl refl)

@@ -1,5 +1,5 @@
 -- Numbers gone through one after another.
-use Rattle.std.proofs.Common.{ℕ, zero, suc, ◌+◌, ◌-◌, ◌<◌, ◌≤◌, ◌≡◌, refl, sym, ap, ◌∙◌, subst, arith, Bool, true, false, cond, [], ◌∷◌, ◌++◌, Option, Some, None, IsSome}
+use Rattle.std.proofs.Common.{ℕ, zero, suc, ◌+◌, ◌-◌, ◌<◌, ◌≤◌, ◌≡◌, sym, ap, ◌∙◌, subst, arith, Bool, true, false, cond, [], ◌∷◌, ◌++◌, Option, Some, None, IsSome}
 use Rattle.std.specs.Prelude.{find, is_none}
 use Rattle.std.proofs.Math.Numerals.{add-one}
 use Rattle.std.proofs.lemmas.Bool.{true≢false}
@@ -43,12 +43,10 @@ first_found p zero = λ n low high. absurd (omega arith)
 first_found p (suc b) = grind (arith, map-append, find-append, first_found p b)
 
 some_held : {X : Type 0} (o : Option X) → is_none o ≡ false → IsSome o
-some_held None e = absurd (true≢false e)
-some_held (Some v) e = refl
+some_held o e = grind (arith, true≢false)
 
 none_held : {X : Type 0} (o : Option X) → is_none o ≡ true → o ≡ None
-none_held None e = refl
-none_held (Some v) e = absurd (true≢false (sym e))
+none_held o e = grind (arith, true≢false)
 
 pub missing_is_least : (x : Replica) (k : ℕ) → IsLeastMissing x k (missing x k)
 missing_is_least x k = grind (arith, first_found, some_held, none_held)

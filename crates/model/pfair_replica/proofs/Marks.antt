@@ -1,5 +1,5 @@
 -- Below both frontiers, replicas that agree say the same; and a replica that holds more has marks that are no lower.
-use Rattle.std.proofs.Common.{ℕ, suc, ◌<◌, ◌≤◌, ◌≡◌, refl, sym, ap, ◌∙◌, subst, arith, List, [], ◌∷◌, ◌++◌, Some, min}
+use Rattle.std.proofs.Common.{ℕ, suc, ◌<◌, ◌≤◌, ◌≡◌, refl, sym, ap, ◌∙◌, subst, arith, List, [], ◌∷◌, Some, min}
 use Rattle.std.specs.Prelude.{◌≢◌, map, flat_map, fold}
 use Rattle.std.proofs.lemmas.Bool.{ne_eqb}
 use Rattle.pfair_lattice.specs.declared.flat.Flat.TheVariants.{One, Torn}
@@ -35,10 +35,7 @@ Stamped row = (n : ℕ) (e : Logged) → row n ≡ Some (One e) → IsStamped e
 -- a run whose floors are past t says nothing at t
 late_run : (row : ℕ → Held Logged) → Stamped row → (t k : ℕ) (es : List Logged) (n floor : ℕ) → IsRun row n floor es → t < floor → said_in t k n es ≡ []
 late_run row stamped t k [] n floor run late = refl
-late_run row stamped t k (e ∷ es) n floor run late =
-    let low = run.1 in
-    let later : t < e.floor = omega (arith, low, late) in
-    ap (λ s. s ++ said_in t k (suc n) es) (said_late t k n e (stamped n e run.0) later) ∙ late_run row stamped t k es (suc n) e.floor run.2 later
+late_run row stamped t k (e ∷ es) n floor run late = grind (arith, said_late, late_run row stamped t k es (suc n) e.floor run.2)
 
 -- two rows whose entries are the same, if both hold one
 abbrev Alike : (ℕ → Held Logged) → (ℕ → Held Logged) → Type 0
@@ -48,10 +45,7 @@ Alike r q = (n : ℕ) (e f : Logged) → r n ≡ Some (One e) → q n ≡ Some (
 same_run : (r q : ℕ → Held Logged) → Stamped r → Stamped q → Alike r q → (t k : ℕ) (es fs : List Logged) (n floor : ℕ) → IsRun r n floor es → IsRun q n floor fs → t < last_floor floor es → t < last_floor floor fs → said_in t k n es ≡ said_in t k n fs
 same_run r q sr sq alike t k [] fs n floor re rf h g = sym (late_run q sq t k fs n floor rf h)
 same_run r q sr sq alike t k (e ∷ es) [] n floor re rf h g = late_run r sr t k (e ∷ es) n floor re g
-same_run r q sr sq alike t k (e ∷ es) (f ∷ fs) n floor re rf h g =
-    let same = alike n e f re.0 rf.0 in
-    let more = same_run r q sr sq alike t k es fs (suc n) e.floor re.2 (subst (λ (v : Logged). IsRun q (suc n) v.floor fs) (sym same) rf.2) h (subst (λ (v : Logged). t < last_floor v.floor fs) (sym same) g) in
-    λ i. said_by t k n (same i).said ++ more i
+same_run r q sr sq alike t k (e ∷ es) (f ∷ fs) n floor re rf h g = grind (arith, same_run r q sr sq alike t k es fs (suc n) e.floor re.2)
 
 -- ---- the frontier
 

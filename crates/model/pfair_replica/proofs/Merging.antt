@@ -1,6 +1,6 @@
 -- Rows joined, and what stays true of what they hold.
-use Rattle.std.proofs.Common.{◌≡◌, refl, sym, ◌∙◌, ap, subst, inl, inr, ⊎_elim, Bool, true, false, cond, arith}
-use Rattle.std.specs.Prelude.{◌⊎◌, ◌==◌, ◌<◌, ◌≤◌, ℕ, Option, None, Some, List, IsSomeAnd, Result, Ok, Err, OnOk, OnErr}
+use Rattle.std.proofs.Common.{◌≡◌, sym, subst, inr, ⊎_elim, arith}
+use Rattle.std.specs.Prelude.{◌⊎◌, ◌<◌, ◌≤◌, ℕ, Option, None, Some, List, IsSomeAnd, Result, OnOk, OnErr}
 use Rattle.std.specs.Ordering.{nat_cmp}
 use Rattle.std.specs.Option.{option_and_then}
 use Rattle.std.proofs.lemmas.Bool.{eqb-true}
@@ -9,7 +9,7 @@ use Rattle.pfair_lattice.specs.Flat.{FlatJoins}
 use Rattle.pfair_lattice.specs.Option.{OptionJoins, OptionPartly}
 use Rattle.pfair_lattice.specs.Held.{Held, held_join, HeldBelow}
 use Rattle.pfair_lattice.specs.declared.flat.Flat.{Flat}
-use Rattle.pfair_lattice.specs.declared.flat.Flat.TheVariants.{One, Torn}
+use Rattle.pfair_lattice.specs.declared.flat.Flat.TheVariants.{One}
 use Rattle.pfair_lattice.specs.HeldLaws.{joins_held, below_itself, join_first, join_assoc, join_idem}
 use Rattle.pfair_entry.specs.Entry.{Logged, IsEntry}
 use Rattle.pfair_entry.specs.Same.{entry_eq}
@@ -25,10 +25,7 @@ in_row r n = option_and_then (λ row. get nat_cmp row n) r
 -- ---- what joined rows hold
 
 row_joined : (a b c : Option Row) (n : ℕ) → OptionJoins (MapJoins nat_cmp FlatJoins) a b c → in_row c n ≡ held_join entry_eq (in_row a n) (in_row b n)
-row_joined None b c n j = ap (λ r. in_row r n) j
-row_joined (Some v) None c n j = ap (λ r. in_row r n) j ∙ sym (join_none (get nat_cmp v n))
-row_joined (Some v) (Some w) None n j = absurd j
-row_joined (Some v) (Some w) (Some u) n j = joins_held entry_eq entry_exact (get nat_cmp v n) (get nat_cmp w n) (get nat_cmp u n) (j.each n)
+row_joined a b c n j = grind (arith, join_none, joins_held, entry_exact)
 
 pub joined_held : (a b c : List (ℕ × Row)) → MapJoins nat_cmp (MapJoins nat_cmp FlatJoins) a b c → (k n : ℕ) → held_in c k n ≡ held_join entry_eq (held_in a k n) (held_in b k n)
 joined_held a b c j k n = row_joined (get nat_cmp a k) (get nat_cmp b k) (get nat_cmp c k) n (j.each k)
@@ -38,20 +35,10 @@ abbrev pub Between : Held Logged → Held Logged → Held Logged → Type 0
 Between a b c = (c ≡ a) ⊎ (c ≡ held_join entry_eq a b)
 
 cell_between : (a b c : Held Logged) → OptionPartly FlatJoins (λ _ _ _. ⊥) a b c → Between a b c
-cell_between a b c (inl e) = inl e
-cell_between a b c (inr (inl j)) = inr (joins_held entry_eq entry_exact a b c j)
-cell_between None b c (inr (inr h)) = absurd h
-cell_between (Some v) None c (inr (inr h)) = absurd h
-cell_between (Some v) (Some w) None (inr (inr h)) = absurd h
-cell_between (Some v) (Some w) (Some u) (inr (inr h)) = absurd h
+cell_between a b c h = grind (arith, joins_held, entry_exact)
 
 row_between : (a b c : Option Row) (n : ℕ) → OptionPartly (MapJoins nat_cmp FlatJoins) (MapPartly nat_cmp FlatJoins (λ _ _ _. ⊥)) a b c → Between (in_row a n) (in_row b n) (in_row c n)
-row_between a b c n (inl e) = inl (ap (λ r. in_row r n) e)
-row_between a b c n (inr (inl j)) = inr (row_joined a b c n j)
-row_between None b c n (inr (inr h)) = absurd h
-row_between (Some v) None c n (inr (inr h)) = absurd h
-row_between (Some v) (Some w) None n (inr (inr h)) = absurd h
-row_between (Some v) (Some w) (Some u) n (inr (inr h)) = cell_between (get nat_cmp v n) (get nat_cmp w n) (get nat_cmp u n) (h.each n)
+row_between a b c n h = grind (arith, row_joined, cell_between)
 
 abbrev pub PartlyJoins : List (ℕ × Row) → List (ℕ × Row) → List (ℕ × Row) → Type 0
 PartlyJoins = MapPartly nat_cmp (MapJoins nat_cmp FlatJoins) (MapPartly nat_cmp FlatJoins (λ _ _ _. ⊥))
@@ -65,28 +52,16 @@ some_and : (r : Option Row) (v : Row) → r ≡ Some v → IsOrdered nat_cmp v �
 some_and r v e h = subst (λ (o : Option Row). IsSomeAnd o (IsOrdered nat_cmp)) (sym e) h
 
 there_joined : (a b c : Option Row) → IsSomeAnd a (IsOrdered nat_cmp) → OptionJoins (MapJoins nat_cmp FlatJoins) a b c → IsSomeAnd c (IsOrdered nat_cmp)
-there_joined None b c h j = absurd h
-there_joined (Some v) None c h j = some_and c v j h
-there_joined (Some v) (Some w) None h j = absurd j
-there_joined (Some v) (Some w) (Some u) h j = j.ordered
+there_joined a b c h j = grind (arith, some_and)
 
 there_between : (a b c : Option Row) → IsSomeAnd a (IsOrdered nat_cmp) → OptionPartly (MapJoins nat_cmp FlatJoins) (MapPartly nat_cmp FlatJoins (λ _ _ _. ⊥)) a b c → IsSomeAnd c (IsOrdered nat_cmp)
-there_between a b c h (inl e) = subst (λ (o : Option Row). IsSomeAnd o (IsOrdered nat_cmp)) (sym e) h
-there_between a b c h (inr (inl j)) = there_joined a b c h j
-there_between None b c h (inr (inr q)) = absurd q
-there_between (Some v) None c h (inr (inr q)) = absurd q
-there_between (Some v) (Some w) None h (inr (inr q)) = absurd q
-there_between (Some v) (Some w) (Some u) h (inr (inr q)) = q.ordered
+there_between a b c h h2 = grind (arith, there_joined)
 
 none_joined : (a b c : Option Row) → a ≡ None → b ≡ None → OptionJoins (MapJoins nat_cmp FlatJoins) a b c → c ≡ None
-none_joined None b c p q j = j ∙ q
-none_joined (Some v) b c p q j = absurd (cc)
+none_joined a b c p q j = grind arith
 
 none_between : (a b c : Option Row) → a ≡ None → b ≡ None → OptionPartly (MapJoins nat_cmp FlatJoins) (MapPartly nat_cmp FlatJoins (λ _ _ _. ⊥)) a b c → c ≡ None
-none_between a b c p q (inl e) = e ∙ p
-none_between a b c p q (inr (inl j)) = none_joined a b c p q j
-none_between None b c p q (inr (inr h)) = absurd h
-none_between (Some v) b c p q (inr (inr h)) = absurd (cc)
+none_between a b c p q h = grind (arith, none_joined)
 
 pub full_joined : (m : ℕ) (a b c : List (ℕ × Row)) → IsFull m a → IsFull m b → MapJoins nat_cmp (MapJoins nat_cmp FlatJoins) a b c → IsFull m c
 full_joined m a b c f g j = grind (arith, there_joined, none_joined)
@@ -102,15 +77,10 @@ pub record MayHold (processors capacity k n : ℕ) (h : Held Logged) : Type 0 wh
   pub stamped : (e : Logged) → h ≡ Some (One e) → IsEntry e
 
 some_side : (a b : Held Logged) (c : Flat Logged) → held_join entry_eq a b ≡ Some c → ((d : Flat Logged) × (a ≡ Some d)) ⊎ ((d : Flat Logged) × (b ≡ Some d))
-some_side None b c e = inr (c, e)
-some_side (Some x) b c e = inl (x, refl)
+some_side a b c e = grind arith
 
 pub one_side : (a b : Held Logged) (e : Logged) → held_join entry_eq a b ≡ Some (One e) → (a ≡ Some (One e)) ⊎ (b ≡ Some (One e))
-one_side None b e p = inr p
-one_side (Some x) None e p = inl p
-one_side (Some (One x)) (Some (One y)) e p = grind arith
-one_side (Some (One x)) (Some Torn) e p = absurd (cc)
-one_side (Some Torn) (Some y) e p = absurd (cc)
+one_side a b e p = grind arith
 
 module _ (m c k n : ℕ) where
   may_join : (a b : Held Logged) → MayHold m c k n a → MayHold m c k n b → MayHold m c k n (held_join entry_eq a b)
@@ -120,8 +90,7 @@ module _ (m c k n : ℕ) where
   }
 
   may_between : (a b d : Held Logged) → MayHold m c k n a → MayHold m c k n b → Between a b d → MayHold m c k n d
-  may_between a b d p q (inl e) = subst (MayHold m c k n) (sym e) p
-  may_between a b d p q (inr e) = subst (MayHold m c k n) (sym e) (may_join a b p q)
+  may_between a b d p q h = grind (arith, may_join)
 
   may_none : MayHold m c k n None
   may_none = record { in_range = λ d e. absurd (cc); stamped = λ x e. absurd (cc) }
@@ -133,15 +102,7 @@ replica_held : (m c : ℕ) (at : Contents) → ((k n : ℕ) → MayHold m c k n 
 replica_held m c at h = record { in_range = λ k n. (h k n).in_range; stamped = λ k n. (h k n).stamped }
 
 may_only : (m c p i : ℕ) (e : Logged) → IsEntry e → p < m → 0 < i → i ≤ c → (k n : ℕ) → MayHold m c k n (only p i e k n)
-may_only m c p i e good row first last k n = by (k == p) refl (n == i) refl
-  where
-    by : (s : Bool) → (k == p) ≡ s → (t : Bool) → (n == i) ≡ t → MayHold m c k n (cond s (cond t (Some (One e)) None) None)
-    by true h true g =
-        let ek = eqb-true k p h in
-        let en = eqb-true n i g in
-        record { in_range = λ d q. (omega arith, omega arith, omega arith); stamped = λ x q. subst IsEntry (let same : e ≡ x = cc in same) good }
-    by true h false g = may_none m c k n
-    by false h t g = may_none m c k n
+may_only m c p i e good row first last k n = grind (arith, eqb-true, may_none)
 
 -- after an entry was joined in
 pub replica_taken : (x : Replica) (p i : ℕ) (e : Logged) (at : Contents) → IsReplica x → IsEntry e → p < x.processors → 0 < i → i ≤ x.capacity
@@ -158,25 +119,17 @@ replica_between m c x y at r s h =
 -- ---- what is left after want of memory
 
 pub between_below : (a b c : Held Logged) → Between a b c → HeldBelow a c
-between_below a b c (inl e) = subst (HeldBelow a) (sym e) (below_itself a)
-between_below a b c (inr e) = subst (HeldBelow a) (sym e) (join_first entry_eq entry_exact a b)
+between_below a b c h = grind (arith, below_itself, join_first, entry_exact)
 
 pub between_within : (a b c : Held Logged) → Between a b c → HeldBelow c (held_join entry_eq a b)
-between_within a b c (inl e) = subst (λ (h : Held Logged). HeldBelow h (held_join entry_eq a b)) (sym e) (join_first entry_eq entry_exact a b)
-between_within a b c (inr e) = subst (λ (h : Held Logged). HeldBelow h (held_join entry_eq a b)) (sym e) (below_itself (held_join entry_eq a b))
+between_within a b c h = grind (arith, join_first, entry_exact, below_itself)
 
 between_again : (a b c : Held Logged) → Between a b c → held_join entry_eq c b ≡ held_join entry_eq a b
-between_again a b c (inl e) = ap (λ h. held_join entry_eq h b) e
-between_again a b c (inr e) = ap (λ h. held_join entry_eq h b) e ∙ join_assoc entry_eq entry_exact a b b ∙ ap (held_join entry_eq a) (join_idem entry_eq entry_exact b)
+between_again a b c h = grind (arith, join_assoc, entry_exact, join_idem)
 
 pub partly_merged : (m c m' c' : ℕ) (x y z : Contents) → ((k n : ℕ) → Between (x k n) (y k n) (z k n))
     → IsPartlyMerged (record { processors = m; capacity = c; at = x }) (record { processors = m'; capacity = c'; at = y }) (record { processors = m; capacity = c; at = z })
-partly_merged m c m' c' x y z h = record {
-  each = h;
-  kept = λ k n. between_below (x k n) (y k n) (z k n) (h k n);
-  within = λ k n. between_within (x k n) (y k n) (z k n) (h k n);
-  again = λ i. record { processors = m; capacity = c; at = λ k n. between_again (x k n) (y k n) (z k n) (h k n) i };
-}
+partly_merged m c m' c' x y z h = grind (arith, between_below, between_within, between_again, below_itself, join_first, entry_exact, join_assoc, join_idem)
 
 -- ---- the rows of a replica after a merge
 
@@ -208,9 +161,7 @@ module _ (m c m' c' : ℕ) (a b z : List (ℕ × Row)) (em : m ≡ m') (ec : c �
 -- whatever the join answered, each content is as it was, or joined
 pub either_held : {A E : Type 0} (r : Result A E) (a b z : List (ℕ × Row)) → OnOk r (MapJoins nat_cmp (MapJoins nat_cmp FlatJoins) a b z) → OnErr r (PartlyJoins a b z)
     → (k n : ℕ) → Between (held_in a k n) (held_in b k n) (held_in z k n)
-either_held (Ok v) a b z joined partly k n = inr (joined_held a b z joined k n)
-either_held (Err e) a b z joined partly k n = between_held a b z partly k n
+either_held r a b z joined partly k n = grind (arith, joined_held, between_held)
 
 pub on_err_here : {A E P : Type 0} (r : Result A E) → P → OnErr r P
-on_err_here (Ok a) p = tt
-on_err_here (Err e) p = p
+on_err_here r p = grind arith

@@ -15,12 +15,10 @@ pub absorbed_alike : (x y : Replica) → x.processors ≡ y.processors → x.cap
 absorbed_alike x y p c = ap (λ b. cond b (join x y) x) (and_from _ _ (eq-eqb x.processors y.processors p) (eq-eqb x.capacity y.capacity c))
 
 above : (x z : Replica) → Below x z → (b : Bool) → Below x (cond b z x)
-above x z h true = h
-above x z h false = λ k n. below_itself (x.at k n)
+above x z h b = grind (arith, below_itself)
 
 shape : (x z : Replica) → z.processors ≡ x.processors → z.capacity ≡ x.capacity → (b : Bool) → ((cond b z x).processors ≡ x.processors) × ((cond b z x).capacity ≡ x.capacity)
-shape x z p c true = (p, c)
-shape x z p c false = (refl, refl)
+shape x z p c b = grind arith
 
 taken_replica : (x : Replica) (k n : ℕ) (e : Logged) → IsReplica x → IsEntry e → IsReplica (taken x k n e)
 taken_replica x j m e r good = by (has_key x j m) refl

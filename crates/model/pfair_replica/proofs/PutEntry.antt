@@ -1,6 +1,7 @@
 -- Rows of entries, one of them changed.
-use Rattle.std.proofs.Common.{◌≡◌, refl, sym, ◌∙◌, ap, subst, ⊎_elim, Bool, true, false, cond, arith}
-use Rattle.std.specs.Prelude.{◌≢◌, ◌==◌, ℕ, Option, None, Some, List, [], ◌∷◌, IsSome, IsSomeAnd, Result, Ok, Err, OnErr, if◌then◌else◌}
+use Rattle.std.proofs.lemmas.Grind.{common_steps}
+use Rattle.std.proofs.Common.{◌≡◌, refl, sym, ◌∙◌, ap, subst, ⊎_elim, Bool, false, cond, arith}
+use Rattle.std.specs.Prelude.{◌≢◌, ◌==◌, ℕ, Option, None, Some, List, [], ◌∷◌, IsSome, IsSomeAnd, Result, OnErr, if◌then◌else◌}
 use Rattle.std.specs.Ordering.{nat_cmp, eq_by_cmp}
 use Rattle.std.specs.Option.{option_and_then}
 use Rattle.std.specs.Map.{set_value}
@@ -24,8 +25,7 @@ use Rattle.pfair_replica.specs.Replica.{only}
 use Rattle.pfair_replica.specs.HeldRows.{Row, held_in, IsFull}
 
 either_there : {X : Type 0} (b : Bool) (o : Option (List (ℕ × X))) (after : List (ℕ × X)) → IsOrdered nat_cmp after → IsSomeAnd o (IsOrdered nat_cmp) → IsSomeAnd (cond b (Some after) o) (IsOrdered nat_cmp)
-either_there true o after s p = s
-either_there false o after s p = p
+either_there b o after s p = grind arith
 
 pub apart : (p q : ℕ) → q ≢ p → eq_by_cmp nat_cmp p q ≡ false
 apart p q ne = ⊎_elim (λ e. absurd (ne (sym (exact_unsigned p q ((Equal-is (nat_cmp p q)).0 e))))) (λ f. f) (cases_Bool (eq_by_cmp nat_cmp p q))
@@ -44,12 +44,10 @@ module _ {X : Type 0} where
   get_set_other es p q w h ne = at_set es p q w h ∙ ap (λ b. cond b (Some w) (get nat_cmp es q)) (apart p q ne)
 
 pub none_if : {X : Type 0} (o : Option X) → (IsSome o → ⊥) → o ≡ None
-none_if None h = refl
-none_if (Some v) h = absurd (h refl)
+none_if o h = grind arith
 
 pub on_err_both : {A E P Q R : Type 0} (r : Result A E) → (P → Q → R) → OnErr r P → OnErr r Q → OnErr r R
-on_err_both (Ok a) f p q = tt
-on_err_both (Err e) f p q = f p q
+on_err_both r f p q = grind arith
 
 module _ (rows : List (ℕ × Row)) (p : ℕ) (row after : Row) (was : get nat_cmp rows p ≡ Some row) where
   there : IsSome (get nat_cmp rows p)
@@ -69,24 +67,15 @@ module _ (rows : List (ℕ × Row)) (p : ℕ) (row after : Row) (was : get nat_c
 
   module _ (m : ℕ) (e : Logged) (j : MapJoins nat_cmp FlatJoins row ((m, One e) ∷ []) after) where
     in_row : (n : ℕ) → get nat_cmp after n ≡ held_join entry_eq (get nat_cmp row n) (if n == m then Some (One e) else None)
-    in_row n =
-        joins_held entry_eq entry_exact (get nat_cmp row n) (get nat_cmp ((m, One e) ∷ []) n) (get nat_cmp after n) (j.each n)
-        ∙ ap (λ b. held_join entry_eq (get nat_cmp row n) (cond b (Some (One e)) None)) (same_test n m)
+    in_row n = grind (arith, joins_held, entry_exact, same_test)
 
     own_row : (n : ℕ) → held_in (set_value (is_at (nat_cmp p)) rows after) p n ≡ held_join entry_eq (held_in rows p n) (only p m e p n)
-    own_row n =
-        held_set n ∙ in_row n
-        ∙ ap (λ h. held_join entry_eq h (if n == m then Some (One e) else None)) (sym (held_was n))
-        ∙ ap (λ b. held_join entry_eq (held_in rows p n) (cond b (if n == m then Some (One e) else None) None)) (sym (eq-eqb p p refl))
+    own_row n = grind (arith, held_set, in_row, held_was, eq-eqb)
 
     -- an entry joined into one row
     pub put_held : (k n : ℕ) → held_in (set_value (is_at (nat_cmp p)) rows after) k n ≡ held_join entry_eq (held_in rows k n) (only p m e k n)
-    put_held k n = ⊎_elim
-        (λ same. subst (λ (q : ℕ). held_in (set_value (is_at (nat_cmp p)) rows after) q n ≡ held_join entry_eq (held_in rows q n) (only p m e q n)) (sym same) (own_row n))
-        (λ ne. held_other k n ne ∙ sym (ap (λ b. held_join entry_eq (held_in rows k n) (cond b (if n == m then Some (One e) else None) None)) (ne_eqb k p ne) ∙ join_none (held_in rows k n)))
-        (cases_eq k p)
+    put_held k n = grind (arith, own_row, held_other, ne_eqb, join_none, cases_eq, common_steps)
 
 -- rows that are all there stay so
 pub full_set : (m p : ℕ) (rows : List (ℕ × Row)) (row after : Row) → get nat_cmp rows p ≡ Some row → IsOrdered nat_cmp after → IsFull m rows → IsFull m (set_value (is_at (nat_cmp p)) rows after)
-full_set m p rows row after was s f =
-    grind (arith, at_set, keys-set_value, there, either_there, none-some, exact_unsigned)
+full_set m p rows row after was s f = grind (arith, at_set, keys-set_value, there, either_there, none-some, exact_unsigned)

@@ -1,14 +1,14 @@
 -- The laws of the join; and runs: that a sound beginning is the longest one, and how runs go on.
-use Rattle.std.proofs.Common.{ℕ, zero, suc, ◌+◌, ◌-◌, ◌≤◌, ◌≡◌, refl, ap, ◌∙◌, arith, List, [], ◌∷◌, ◌++◌, length, Option, Some, None}
+use Rattle.std.proofs.Common.{ℕ, zero, suc, ◌+◌, ◌-◌, ◌≤◌, ◌≡◌, refl, ap, ◌∙◌, arith, List, [], ◌∷◌, ◌++◌, length, Some, None}
 use Rattle.std.proofs.lemmas.Bool.{leb-true, le-leb}
 use Rattle.std.proofs.lemmas.Option.{none-some, cond_some}
-use Rattle.pfair_lattice.specs.declared.flat.Flat.TheVariants.{One, Torn}
+use Rattle.pfair_lattice.specs.declared.flat.Flat.TheVariants.{One}
 use Rattle.pfair_lattice.specs.Held.{Held}
 use Rattle.pfair_lattice.specs.HeldLaws.{below_itself, below_trans, below_antisym, join_first, join_second, join_least, join_comm, join_assoc, join_idem}
 use Rattle.pfair_entry.specs.Entry.{Logged}
 use Rattle.pfair_entry.specs.Same.{entry_eq}
 use Rattle.pfair_entry.specs.Exact.{entry_exact}
-use Rattle.pfair_replica.specs.Replica.{goes_on, run_on, run_from, last_floor}
+use Rattle.pfair_replica.specs.Replica.{goes_on, run_from, last_floor}
 use Rattle.pfair_replica.specs.Laws.{IsLeastJoin, IsRun, IsLongestRun}
 
 pub least_join : IsLeastJoin
@@ -26,32 +26,21 @@ least_join = record {
 
 -- the entry that goes on a run is held, and its floor isn't lower
 going : (c : Held Logged) (floor : ℕ) (e : Logged) → goes_on c floor ≡ Some e → (c ≡ Some (One e)) × (floor ≤ e.floor)
-going None floor e on = absurd (none-some e on)
-going (Some Torn) floor e on = absurd (none-some e on)
-going (Some (One d)) floor e on = grind (arith, cond_some, leb-true)
+going c floor e on = grind (arith, none-some, cond_some, leb-true)
 
 module _ (row : ℕ → Held Logged) where
   pub run_is_run : (left n floor : ℕ) → IsRun row n floor (run_from row left n floor)
   run_is_run zero n floor = tt
-  run_is_run (suc left) n floor = by (goes_on (row n) floor) refl (run_is_run left (suc n))
-    where
-      by : (o : Option Logged) → goes_on (row n) floor ≡ o → ((f : ℕ) → IsRun row (suc n) f (run_from row left (suc n) f)) → IsRun row n floor (run_on o (run_from row left (suc n)))
-      by None on more = tt
-      by (Some e) on more = let is = going (row n) floor e on in (is.0, is.1, more e.floor)
+  run_is_run (suc left) n floor = grind (arith, going, run_is_run left (suc n))
 
   -- a run has no more entries than are left
   pub run_room : (left n floor : ℕ) → length (run_from row left n floor) ≤ left
   run_room zero n floor = omega arith
-  run_room (suc left) n floor = by (goes_on (row n) floor) (run_room left (suc n))
-    where
-      by : (o : Option Logged) → ((f : ℕ) → length (run_from row left (suc n) f) ≤ left) → length (run_on o (run_from row left (suc n))) ≤ suc left
-      by None more = omega arith
-      by (Some e) more = let le = more e.floor in omega (arith, le)
+  run_room (suc left) n floor = grind (arith, run_room left (suc n))
 
   -- if no entry goes on, the run ends
   pub run_ends : (left n floor : ℕ) → goes_on (row n) floor ≡ None → run_from row left n floor ≡ []
-  run_ends zero n floor none = refl
-  run_ends (suc left) n floor none = ap (λ o. run_on o (run_from row left (suc n))) none
+  run_ends left n floor none = grind arith
 
   -- one entry more
   pub run_more : (es : List Logged) (n floor m : ℕ) (e : Logged) → IsRun row n floor es → m ≡ n + length es → goes_on (row m) (last_floor floor es) ≡ Some e → IsRun row n floor (es ++ e ∷ [])
@@ -62,16 +51,12 @@ module _ (row : ℕ → Held Logged) where
   pub run_begins : (es : List Logged) (n floor left total m : ℕ) → IsRun row n floor es → total ≡ length es + left → m ≡ n + length es → es ++ run_from row left m (last_floor floor es) ≡ run_from row total n floor
   run_begins [] n floor left total m run sum at = grind arith
   run_begins (e ∷ es) n floor left zero m run sum at = absurd (omega arith)
-  run_begins (e ∷ es) n floor left (suc total) m run sum at =
-      grind (arith, le-leb, run_begins es (suc n) e.floor left total m run.2 (omega arith) (omega arith))
+  run_begins (e ∷ es) n floor left (suc total) m run sum at = grind (arith, le-leb, run_begins es (suc n) e.floor left total m run.2)
 
   -- it has room if the row holds no later number
   run_short : (last : ℕ) → ((n : ℕ) (e : Logged) → row n ≡ Some (One e) → n ≤ last) → (es : List Logged) (n floor : ℕ) → n ≤ suc last → IsRun row n floor es → n + length es ≤ suc last
   run_short last within [] n floor room run = omega arith
-  run_short last within (e ∷ es) n floor room run =
-      let le = within n e run.0 in
-      let more = run_short last within es (suc n) e.floor (omega (arith, le)) run.2 in
-      omega (arith, more)
+  run_short last within (e ∷ es) n floor room run = grind (arith, run_short last within es (suc n) e.floor)
 
   -- a run's floors never fall
   run_rises : (es : List Logged) (n floor : ℕ) → IsRun row n floor es → floor ≤ last_floor floor es

@@ -1,5 +1,5 @@
 -- What is said in a sound beginning behind some of its entries.
-use Rattle.std.proofs.Common.{ℕ, zero, suc, ◌+◌, ◌≤◌, ◌≡◌, refl, sym, ap, ◌∙◌, subst, arith, List, [], ◌∷◌, ◌++◌, drop, length, Option, Some, None, append_assoc}
+use Rattle.std.proofs.Common.{ℕ, zero, suc, ◌+◌, ◌≤◌, ◌≡◌, refl, ap, ◌∙◌, subst, arith, List, [], ◌∷◌, ◌++◌, drop, length, Option, Some, None, append_assoc}
 use Rattle.std.specs.Prelude.{◌≢◌, slice_get, IsSome}
 use Rattle.std.proofs.lemmas.List.{append-nil, drop_all, drop_more}
 use Rattle.std.proofs.lemmas.Option.{slice_get_within, get_or_from_slice_get}
@@ -21,11 +21,7 @@ module _ (x : Replica) (k place : ℕ) where
 
   -- so if that is noted the rest is what is behind it
   pub noted_next : (t : ℕ) (e : Logged) (all now then_now : List Said) → slice_get (sound_beginning x k) place ≡ Some e → then_now ≡ now ++ said_by t k (place + 1) e.said → now ++ said_behind x t k place ≡ all → then_now ++ said_behind x t k (place + 1) ≡ all
-  noted_next t e all now then_now is noted so_far =
-      ap (λ xs. xs ++ said_behind x t k (place + 1)) noted
-      ∙ append_assoc now (said_by t k (place + 1) e.said) (said_behind x t k (place + 1))
-      ∙ ap (λ xs. now ++ xs) (sym (behind_next t e is))
-      ∙ so_far
+  noted_next t e all now then_now is noted so_far = grind (arith, append_assoc, behind_next)
 
   -- behind the last entry nothing is left
   pub all_noted : (t : ℕ) (came all : List Said) → length (sound_beginning x k) ≤ place → came ++ said_behind x t k place ≡ all → came ≡ all

@@ -1,10 +1,9 @@
 -- What the lists of what is said contain, and in which order the lists stand.
-use Rattle.std.proofs.Common.{ℕ, zero, suc, ◌+◌, ◌≡◌, refl, sym, ap, ◌∙◌, subst, arith, inl, inr, ⊎_elim, Bool, List, [], ◌∷◌, ◌++◌, length, get_or, Some, None}
+use Rattle.std.proofs.Common.{ℕ, zero, suc, ◌+◌, ◌≡◌, refl, ap, ◌∙◌, subst, arith, inr, ⊎_elim, Bool, List, [], ◌∷◌, ◌++◌, length, get_or, Some}
 use Rattle.std.specs.Prelude.{map, filter, flat_map, slice_get, Option, AllPairs}
 use Rattle.std.specs.List.{Contains}
 use Rattle.std.proofs.lemmas.Bool.{eqb-true, eq-eqb}
 use Rattle.std.proofs.lemmas.List.{map-append}
-use Rattle.pfair_lattice.specs.declared.flat.Flat.TheVariants.{One, Torn}
 use Rattle.pfair_lattice.specs.Held.{Held}
 use Rattle.pfair_entry.specs.declared.announcement.Announcement.{Announcement}
 use Rattle.pfair_entry.specs.Said.{Said}
@@ -19,8 +18,7 @@ use Rattle.pfair_replica.proofs.Listed.{fallen_one}
 -- ---- what one processor says
 
 said_one : (t k n : ℕ) (o : Option (ℕ × Announcement)) (s : Said) → Among (said_by t k n o) s → (s ≡ (k, n, s.2)) × (o ≡ Some (t, s.2))
-said_one t k n None s h = absurd h
-said_one t k n (Some p) s h = grind (arith, eqb-true)
+said_one t k n o s h = grind (arith, eqb-true)
 
 said_here : (t k n : ℕ) (o : Option (ℕ × Announcement)) (a : Announcement) → o ≡ Some (t, a) → Among (said_by t k n o) (k, n, a)
 said_here t k n o a e = grind (arith, eq-eqb)
@@ -81,12 +79,7 @@ module _ {A : Type 0} (key : A → EntryKey) where
   module _ (f : ℕ → List A) (own : (k : ℕ) (a : A) → Among (f k) a → (key a).0 ≡ k) (each : (k : ℕ) → InOrder (f k)) where
     of_each : (m : ℕ) → InOrder (flat_map f (numbers_below m))
     of_each zero = tt
-    of_each (suc m) = subst InOrder (sym (flat_more f m)) (joined (flat_map f (numbers_below m)) (f m) (of_each m) (each m)
-        (λ a b p q. (let from = among_flat f (numbers_below m) a p in
-        let low = among_below m from.0 from.1 in
-        let first = own from.0 a from.2 in
-        let second = own m b q in
-        inl (omega (arith, low, first, second)))))
+    of_each (suc m) = grind (arith, flat_more, joined, among_flat, among_below, of_each m)
 
 said_order : (t k n : ℕ) (es : List Logged) → InOrder key_of (said_in t k n es)
 said_order t k n [] = tt
@@ -96,13 +89,7 @@ said_order t k n (e ∷ es) = grind (arith, said_one, said_from, said_order t k 
 
 numbers_rise : (k m : ℕ) → InOrder (entry_key k) (numbers_to m)
 numbers_rise k zero = tt
-numbers_rise k (suc m) = subst (InOrder (entry_key k)) (sym (map-append suc (numbers_below m) (m ∷ [])))
-    (joined (entry_key k) (numbers_to m) (suc m ∷ []) (numbers_rise k m) ((λ b h. absurd h), tt) (λ a b p q.
-    (let from = among_map suc (numbers_below m) a p in
-    let low = among_below m from.0 from.1 in
-    let here = from.2 in
-    let last : b ≡ suc m = ⊎_elim (λ e. e) (λ none. absurd none) q in
-    inr (refl, omega (arith, low, here, last)))))
+numbers_rise k (suc m) = grind (arith, map-append, joined, among_map, among_below, numbers_rise k m)
 
 kept_order : (k : ℕ) (p : ℕ → Bool) (xs : List ℕ) → InOrder (entry_key k) xs → InOrder (λ e. e) (map (entry_key k) (filter p xs))
 kept_order k p [] h = tt
@@ -115,9 +102,7 @@ fallen_own : (x : Replica) (k : ℕ) (e : EntryKey) → Among (fallen_in x k) e 
 fallen_own x k e h = ap (λ (e : EntryKey). e.0) (fallen_one k (length (sound_beginning x k) + 1) (mark x k) (x.at k (length (sound_beginning x k) + 1)) e h).0
 
 fallen_alone : (k n mark : ℕ) (c : Held Logged) → InOrder (λ e. e) (fallen_at k n mark c)
-fallen_alone k n mark None = tt
-fallen_alone k n mark (Some Torn) = tt
-fallen_alone k n mark (Some (One e)) = grind arith
+fallen_alone k n mark c = grind arith
 
 pub is_said : IsSaid
 is_said = record {

@@ -7,7 +7,7 @@ use Rattle.std.proofs.lemmas.Bool.{true≢false, or_parts, cases_lt}
 use Rattle.std.proofs.lemmas.List.{append-nil}
 use Rattle.std.proofs.lemmas.Grind.{flat_map-append}
 use Rattle.pfair_lattice.specs.Held.{Held}
-use Rattle.pfair_lattice.specs.declared.flat.Flat.TheVariants.{One, Torn}
+use Rattle.pfair_lattice.specs.declared.flat.Flat.TheVariants.{Torn}
 use Rattle.pfair_entry.specs.Entry.{Logged}
 use Rattle.pfair_replica.specs.Among.{Among, below_among}
 use Rattle.pfair_replica.specs.Replica.{Replica, IsReplica, Untorn, is_torn, has_torn, entry_key, numbers_below, numbers_to, torn_in, torn_keys}
@@ -45,11 +45,7 @@ module _ {A : Type 0} (f : ℕ → List A) where
   -- a number that gives something
   pub flat_some : (m p : ℕ) → p < m → f p ≢ [] → flat_map f (numbers_below m) ≢ []
   flat_some zero p below some none = absurd (omega arith)
-  flat_some (suc m) p below some none = elim (cases_lt p m) [
-    | inl l ↦ some_left (flat_map f (numbers_below m)) (f m) (flat_some m p l some) (sym (flat_more m) ∙ none)
-    | inr g ↦ (let same : p ≡ m = omega arith in
-        some_right (flat_map f (numbers_below m)) (f m) (subst (λ (q : ℕ). f q ≢ []) same some) (sym (flat_more m) ∙ none))
-  ]
+  flat_some (suc m) p below some none = grind (arith, cases_lt, some_left, flat_more, some_right, flat_some m p)
 
   empty : (xs : List A) → slice_get xs 0 ≡ None → xs ≡ []
   empty [] e = refl
@@ -66,11 +62,7 @@ module _ {A : Type 0} (f : ℕ → List A) where
   -- the first that is given
   pub flat_first : (m p : ℕ) (a : A) → p < m → flat_map f (numbers_below p) ≡ [] → slice_get (f p) 0 ≡ Some a → slice_get (flat_map f (numbers_below m)) 0 ≡ Some a
   flat_first zero p a below none here = absurd (omega arith)
-  flat_first (suc m) p a below none here = elim (cases_lt p m) [
-    | inl l ↦ ap (λ xs. slice_get xs 0) (flat_more m) ∙ kept (flat_map f (numbers_below m)) (f m) a (flat_first m p a l none here)
-    | inr g ↦ (let same : p ≡ m = omega arith in
-        subst (λ q. slice_get (flat_map f (numbers_below (suc q))) 0 ≡ Some a) same (ap (λ xs. slice_get xs 0) (flat_more p ∙ ap (λ xs. xs ++ f p) none) ∙ here))
-  ]
+  flat_first (suc m) p a below none here = grind (arith, cases_lt, flat_more, kept, flat_first m p a)
 
 -- ---- the test
 
@@ -79,12 +71,10 @@ is_more [] = false
 is_more (x ∷ xs) = true
 
 some_more : {A : Type 0} (xs : List A) → is_some (slice_get xs 0) ≡ is_more xs
-some_more [] = refl
-some_more (x ∷ xs) = refl
+some_more xs = grind arith
 
 more_append : {A : Type 0} (xs ys : List A) → is_more (xs ++ ys) ≡ (is_more xs || is_more ys)
-more_append [] ys = refl
-more_append (x ∷ xs) ys = refl
+more_append xs ys = grind arith
 
 more_flat : {A : Type 0} (f : ℕ → List A) (xs : List ℕ) → is_more (flat_map f xs) ≡ list_any (λ k. is_more (f k)) xs
 more_flat f [] = refl
@@ -116,9 +106,7 @@ none_any p h [] = refl
 none_any p h (y ∷ ys) = ap (λ b. b || list_any p ys) (h y) ∙ none_any p h ys
 
 pub not_torn : (c : Held Logged) → c ≢ Some Torn → is_torn c ≡ false
-not_torn None h = refl
-not_torn (Some (One e)) h = refl
-not_torn (Some Torn) h = absurd (h refl)
+not_torn c h = grind arith
 
 pub untorn_by_test : (x : Replica) → IsReplica x → has_torn x ≡ false → Untorn x
 untorn_by_test x r e k n torn = at n torn (r.in_range k n Torn torn)

@@ -1,12 +1,8 @@
-use Rattle.std.proofs.lemmas.Grind.{common_steps}
 use Rattle.std.proofs.Common.{◌<◌, ◌≤◌, ◌∙◌, length, arith}
 use Rattle.std.proofs.lemmas.List.{length-set}
 use Rattle.pfair_replica.specs.HeldRows.{held_in}
-use Rattle.pfair_replica.proofs.Following.{midway_start, midway_end, midway_as_it_was, midway_next}
+use Rattle.pfair_replica.proofs.Following.{midway_end, midway_as_it_was, midway_next}
 use Rattle.pfair_replica.proofs.counters.Counters.follow_join.Goals as goal
-
-pub loop-processor-init : goal.loop-processor-init
-loop-processor-init c = grind (arith, common_steps, midway_start)
 
 pub loop-processor-preserved-then-holds_nothing : goal.loop-processor-preserved-then-holds_nothing
 loop-processor-preserved-then-holds_nothing c = record {

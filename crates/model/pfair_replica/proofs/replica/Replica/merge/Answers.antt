@@ -1,5 +1,5 @@
 use Rattle.std.proofs.lemmas.Grind.{common_steps}
-use Rattle.std.proofs.Common.{rules, inr, arith}
+use Rattle.std.proofs.Common.{rules, arith}
 use Rattle.pfair_replica.specs.Faults.{HoldsMore}
 use Rattle.pfair_replica.specs.HeldRows.{held_in, replica_of}
 use Rattle.pfair_replica.proofs.Comparing.{rows_outgrown}
@@ -37,20 +37,16 @@ returns-in_err-joined-clause-fault c =
     search rules
 
 pub returns-in_err-joined-clause-grows : goal.returns-in_err-joined-clause-grows
-returns-in_err-joined-clause-grows c = rw (← c.self.view_is) (λ k n. between_below (held_in c.self.inside.rows k n) (held_in c.other.inside.rows k n) (held_in c.join-joined.new.self k n)
-    (between_held c.self.inside.rows c.other.inside.rows c.join-joined.new.self c.in_err-joined.ensures.partly k n))
+returns-in_err-joined-clause-grows c = rw (← c.self.view_is) (grind (arith, between_below, between_held, common_steps))
 
 pub returns-clause-grows : goal.returns-clause-grows
-returns-clause-grows c = rw (← c.self.view_is) (λ k n. between_below (held_in c.self.inside.rows k n) (held_in c.other.inside.rows k n) (held_in c.join-joined.new.self k n)
-    (inr (joined_held c.self.inside.rows c.other.inside.rows c.join-joined.new.self c.in_ok-joined.ensures.joined k n)))
+returns-clause-grows c = rw (← c.self.view_is) (grind (arith, between_below, joined_held, common_steps))
 
 pub returns-clause-offered : goal.returns-clause-offered
 returns-clause-offered c = grind (arith, common_steps, joined_held, absorbed_alike)
 
 pub returns-in_err-joined-clause-within : goal.returns-in_err-joined-clause-within
-returns-in_err-joined-clause-within c = rw (← c.self.view_is, ← c.other.view_is) (λ k n. between_within (held_in c.self.inside.rows k n) (held_in c.other.inside.rows k n) (held_in c.join-joined.new.self k n)
-    (between_held c.self.inside.rows c.other.inside.rows c.join-joined.new.self c.in_err-joined.ensures.partly k n))
+returns-in_err-joined-clause-within c = rw (← c.self.view_is, ← c.other.view_is) (grind (arith, between_within, between_held, common_steps))
 
 pub returns-clause-within : goal.returns-clause-within
-returns-clause-within c = rw (← c.self.view_is, ← c.other.view_is) (λ k n. between_within (held_in c.self.inside.rows k n) (held_in c.other.inside.rows k n) (held_in c.join-joined.new.self k n)
-    (inr (joined_held c.self.inside.rows c.other.inside.rows c.join-joined.new.self c.in_ok-joined.ensures.joined k n)))
+returns-clause-within c = rw (← c.self.view_is, ← c.other.view_is) (grind (arith, between_within, joined_held, common_steps))
