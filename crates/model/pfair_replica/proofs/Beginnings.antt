@@ -73,15 +73,12 @@ module _ (row : ℕ → Held Logged) where
     part_to : (floor : ℕ) → last_floor 0 before.entries ≡ floor → IsPart row (record { count = number - 1; mark = floor })
     part_to floor mark = let count = before.count in record { entries = before.entries; run = before.run; count = omega (arith, count); mark = mark }
 
-    at_zero : length before.entries ≡ 0 → row (number - 1) ≡ None
-    at_zero none = let count = before.count in ap row (let first : number - 1 ≡ 0 = omega (arith, count, none) in first) ∙ before.zero
-
     no_floor : (es : List Logged) → length es ≡ 0 → last_floor 0 es ≡ 0
     no_floor es none = grind (arith, common_steps)
 
     -- the part before that number ends with the entry that is held there
     pub part_to_entry : (e : Logged) → row (number - 1) ≡ Some (One e) → IsPart row (record { count = number - 1; mark = e.floor })
-    part_to_entry e held = grind (arith, at_zero, part_to, last_before)
+    part_to_entry e held = grind (arith, part_to, last_before)
 
     -- or it is empty
     pub part_to_none : ((e : Logged) → row (number - 1) ≡ Some (One e) → ⊥) → IsPart row (record { count = number - 1; mark = 0 })

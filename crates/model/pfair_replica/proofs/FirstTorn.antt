@@ -14,9 +14,6 @@ use Rattle.pfair_replica.proofs.TornKeys.{torn_first, flat_none, flat_first, not
 comes_later : (a b : EntryKey) (k n : ℕ) → ComesFirst a b.0 b.1 → ComesFirst b k n → ComesFirst a k n
 comes_later a b k n h h2 = grind arith
 
-pub first_alike : (P R : ℕ → ℕ → Type 0) (first : Option EntryKey) → ((k n : ℕ) → P k n → R k n) → ((k n : ℕ) → R k n → P k n) → IsFirst P first → IsFirst R first
-first_alike P R first to from h = grind arith
-
 first_bounds : (P : ℕ → ℕ → Type 0) (first : Option EntryKey) → IsFirst P first → (k n : ℕ) → P k n → (key : EntryKey) × (first ≡ Some key) × ComesFirst key k n
 first_bounds P first h k n here = grind arith
 
@@ -40,9 +37,6 @@ earlier_first P Q R first other result p q e one two from = by result e.either (
 -- ---- the first torn key of a row
 
 module _ (at : Contents) (k b : ℕ) (untorn : (n : ℕ) → 1 ≤ n → n ≤ b → IsTornAt at k n → ⊥) where
-  pub torn_here : ((n : ℕ) → IsTornAt at k n → 1 ≤ n) → IsTornAt at k (b + 1) → IsFirstTornIn at k (Some (entry_key k (b + 1)))
-  torn_here first torn = grind arith
-
   pub torn_not_yet : (IsTornAt at k (b + 1) → ⊥) → (n : ℕ) → 1 ≤ n → n ≤ b + 1 → IsTornAt at k n → ⊥
   torn_not_yet not_here n low high torn = grind arith
 

@@ -19,7 +19,7 @@ use Rattle.pfair_replica.specs.Counters.{beginning_in, IsLeftAt, IsTornAt, IsFir
 use Rattle.pfair_replica.proofs.Runs.{run_room}
 use Rattle.pfair_replica.proofs.Beginnings.{left_at}
 use Rattle.pfair_replica.proofs.Merging.{Between, between_below}
-use Rattle.pfair_replica.proofs.FirstTorn.{first_alike, earlier_first}
+use Rattle.pfair_replica.proofs.FirstTorn.{earlier_first}
 
 -- ---- one counter changed
 
@@ -72,7 +72,7 @@ module _ (capacity p i : ℕ) (now : Contents) (xs : List Beginning) (first : Op
     }
 
     pub entry_untorn : (IsTornAt now p i → ⊥) → AreCounters capacity now (set xs p y) first
-    entry_untorn untorn = grind (arith, beginnings_followed, first_alike, still_torn, elsewhere_torn)
+    entry_untorn untorn = grind (arith, beginnings_followed, still_torn, elsewhere_torn)
 
 -- ---- after other rows came in
 
@@ -82,11 +82,8 @@ pub record Midway (capacity p : ℕ) (other now : Contents) (xs : List Beginning
   pub done : (k n : ℕ) → k < p → apart.old k n ≡ now k n
 
 module _ (capacity : ℕ) (other now : Contents) (xs : List Beginning) (first : Option EntryKey) where
-  pub midway_start : WereApart capacity other now xs first → Midway capacity 0 other now xs first
-  midway_start w = record { apart = w; done = λ k n low. absurd (omega (arith, low)) }
-
   pub midway_end : (p : ℕ) → length xs ≤ p → Midway capacity p other now xs first → AreCounters capacity now xs first
-  midway_end p whole m = grind (arith, slice_get_within, first_alike, still_torn)
+  midway_end p whole m = grind (arith, slice_get_within, still_torn)
 
   module _ (p : ℕ) (m : Midway capacity p other now xs first) where
     pub midway_as_it_was : ((n : ℕ) → other p n ≡ None) → Midway capacity (p + 1) other now xs first

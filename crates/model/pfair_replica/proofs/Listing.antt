@@ -1,8 +1,7 @@
 -- Numbers gone through one after another.
-use Rattle.std.proofs.Common.{ℕ, zero, suc, ◌+◌, ◌-◌, ◌<◌, ◌≤◌, ◌≡◌, sym, ap, ◌∙◌, subst, arith, Bool, true, false, cond, [], ◌∷◌, ◌++◌, Option, Some, None, IsSome}
-use Rattle.std.specs.Prelude.{find, is_none}
+use Rattle.std.proofs.Common.{ℕ, zero, suc, ◌+◌, ◌-◌, ◌<◌, ◌≤◌, ◌≡◌, sym, ap, ◌∙◌, subst, arith, Bool, true, false, cond, [], ◌∷◌, ◌++◌, Option, Some, None}
+use Rattle.std.specs.Prelude.{find}
 use Rattle.std.proofs.Math.Numerals.{add-one}
-use Rattle.std.proofs.lemmas.Bool.{true≢false}
 use Rattle.std.proofs.lemmas.List.{map-append}
 use Rattle.std.proofs.lemmas.List.Folds.{find-append}
 use Rattle.std.specs.Option.{option_or}
@@ -42,11 +41,5 @@ first_found : (p : ℕ → Bool) (b : ℕ) → IsFirst p b (find p (numbers_to b
 first_found p zero = λ n low high. absurd (omega arith)
 first_found p (suc b) = grind (arith, map-append, find-append, first_found p b)
 
-some_held : {X : Type 0} (o : Option X) → is_none o ≡ false → IsSome o
-some_held o e = grind (arith, true≢false)
-
-none_held : {X : Type 0} (o : Option X) → is_none o ≡ true → o ≡ None
-none_held o e = grind (arith, true≢false)
-
 pub missing_is_least : (x : Replica) (k : ℕ) → IsLeastMissing x k (missing x k)
-missing_is_least x k = grind (arith, first_found, some_held, none_held)
+missing_is_least x k = grind (arith, first_found)

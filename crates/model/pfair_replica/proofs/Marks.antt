@@ -1,11 +1,10 @@
 -- Below both frontiers, replicas that agree say the same; and a replica that holds more has marks that are no lower.
 use Rattle.std.proofs.Common.{ℕ, suc, ◌<◌, ◌≤◌, ◌≡◌, refl, sym, ap, ◌∙◌, subst, arith, List, [], ◌∷◌, Some, min}
-use Rattle.std.specs.Prelude.{◌≢◌, map, flat_map, fold}
+use Rattle.std.specs.Prelude.{map, flat_map, fold}
 use Rattle.std.proofs.lemmas.Bool.{ne_eqb}
-use Rattle.pfair_lattice.specs.declared.flat.Flat.TheVariants.{One, Torn}
-use Rattle.pfair_lattice.specs.Held.{Held, held_join}
+use Rattle.pfair_lattice.specs.declared.flat.Flat.TheVariants.{One}
+use Rattle.pfair_lattice.specs.Held.{Held}
 use Rattle.pfair_entry.specs.Entry.{Logged, IsStamped}
-use Rattle.pfair_entry.specs.Same.{entry_eq}
 use Rattle.pfair_entry.specs.Exact.{entry_exact}
 use Rattle.pfair_replica.specs.Among.{Among, map_among, flat_same}
 use Rattle.pfair_replica.specs.Laws.{IsRun}
@@ -15,12 +14,8 @@ use Rattle.pfair_replica.proofs.SoundEntries.{held_within, beginnings_grow}
 
 -- ---- agreement at a key
 
--- two entries that don't tear each other are one
-untorn_same : (e f : Logged) → held_join entry_eq (Some (One e)) (Some (One f)) ≢ Some Torn → e ≡ f
-untorn_same e f not_torn = grind (arith, entry_exact)
-
 pub same_at : (x y : Replica) → Agree x y → (k n : ℕ) (e f : Logged) → x.at k n ≡ Some (One e) → y.at k n ≡ Some (One f) → e ≡ f
-same_at x y agree k n e f p q = grind (arith, untorn_same)
+same_at x y agree k n e f p q = grind (arith, entry_exact)
 
 -- ---- runs
 

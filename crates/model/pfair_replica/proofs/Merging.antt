@@ -1,10 +1,10 @@
 -- Rows joined, and what stays true of what they hold.
-use Rattle.std.proofs.Common.{◌≡◌, sym, subst, inr, ⊎_elim, arith}
-use Rattle.std.specs.Prelude.{◌⊎◌, ◌<◌, ◌≤◌, ℕ, Option, None, Some, List, IsSomeAnd, Result, OnOk, OnErr}
+use Rattle.std.proofs.Common.{◌≡◌, inr, ⊎_elim, arith}
+use Rattle.std.specs.Prelude.{◌⊎◌, ◌<◌, ◌≤◌, ℕ, Option, Some, List, Result, OnOk, OnErr}
 use Rattle.std.specs.Ordering.{nat_cmp}
 use Rattle.std.specs.Option.{option_and_then}
 use Rattle.std.proofs.lemmas.Bool.{eqb-true}
-use Rattle.pfair_lattice.specs.Entries.{get, IsOrdered, MapJoins, MapPartly}
+use Rattle.pfair_lattice.specs.Entries.{get, MapJoins, MapPartly}
 use Rattle.pfair_lattice.specs.Flat.{FlatJoins}
 use Rattle.pfair_lattice.specs.Option.{OptionJoins, OptionPartly}
 use Rattle.pfair_lattice.specs.Held.{Held, held_join, HeldBelow}
@@ -34,11 +34,8 @@ joined_held a b c j k n = row_joined (get nat_cmp a k) (get nat_cmp b k) (get na
 abbrev pub Between : Held Logged → Held Logged → Held Logged → Type 0
 Between a b c = (c ≡ a) ⊎ (c ≡ held_join entry_eq a b)
 
-cell_between : (a b c : Held Logged) → OptionPartly FlatJoins (λ _ _ _. ⊥) a b c → Between a b c
-cell_between a b c h = grind (arith, joins_held, entry_exact)
-
 row_between : (a b c : Option Row) (n : ℕ) → OptionPartly (MapJoins nat_cmp FlatJoins) (MapPartly nat_cmp FlatJoins (λ _ _ _. ⊥)) a b c → Between (in_row a n) (in_row b n) (in_row c n)
-row_between a b c n h = grind (arith, row_joined, cell_between)
+row_between a b c n h = grind (arith, row_joined, joins_held, entry_exact)
 
 abbrev pub PartlyJoins : List (ℕ × Row) → List (ℕ × Row) → List (ℕ × Row) → Type 0
 PartlyJoins = MapPartly nat_cmp (MapJoins nat_cmp FlatJoins) (MapPartly nat_cmp FlatJoins (λ _ _ _. ⊥))
@@ -48,26 +45,11 @@ between_held a b c j k n = row_between (get nat_cmp a k) (get nat_cmp b k) (get 
 
 -- ---- all rows are still there
 
-some_and : (r : Option Row) (v : Row) → r ≡ Some v → IsOrdered nat_cmp v → IsSomeAnd r (IsOrdered nat_cmp)
-some_and r v e h = subst (λ (o : Option Row). IsSomeAnd o (IsOrdered nat_cmp)) (sym e) h
-
-there_joined : (a b c : Option Row) → IsSomeAnd a (IsOrdered nat_cmp) → OptionJoins (MapJoins nat_cmp FlatJoins) a b c → IsSomeAnd c (IsOrdered nat_cmp)
-there_joined a b c h j = grind (arith, some_and)
-
-there_between : (a b c : Option Row) → IsSomeAnd a (IsOrdered nat_cmp) → OptionPartly (MapJoins nat_cmp FlatJoins) (MapPartly nat_cmp FlatJoins (λ _ _ _. ⊥)) a b c → IsSomeAnd c (IsOrdered nat_cmp)
-there_between a b c h h2 = grind (arith, there_joined)
-
-none_joined : (a b c : Option Row) → a ≡ None → b ≡ None → OptionJoins (MapJoins nat_cmp FlatJoins) a b c → c ≡ None
-none_joined a b c p q j = grind arith
-
-none_between : (a b c : Option Row) → a ≡ None → b ≡ None → OptionPartly (MapJoins nat_cmp FlatJoins) (MapPartly nat_cmp FlatJoins (λ _ _ _. ⊥)) a b c → c ≡ None
-none_between a b c p q h = grind (arith, none_joined)
-
 pub full_joined : (m : ℕ) (a b c : List (ℕ × Row)) → IsFull m a → IsFull m b → MapJoins nat_cmp (MapJoins nat_cmp FlatJoins) a b c → IsFull m c
-full_joined m a b c f g j = grind (arith, there_joined, none_joined)
+full_joined m a b c f g j = grind arith
 
 pub full_between : (m : ℕ) (a b c : List (ℕ × Row)) → IsFull m a → IsFull m b → PartlyJoins a b c → IsFull m c
-full_between m a b c f g j = grind (arith, there_between, none_between)
+full_between m a b c f g j = grind arith
 
 -- ---- keys stay in range, and entries stamped
 
@@ -92,9 +74,6 @@ module _ (m c k n : ℕ) where
   may_between : (a b d : Held Logged) → MayHold m c k n a → MayHold m c k n b → Between a b d → MayHold m c k n d
   may_between a b d p q h = grind (arith, may_join)
 
-  may_none : MayHold m c k n None
-  may_none = record { in_range = λ d e. absurd (cc); stamped = λ x e. absurd (cc) }
-
 may_hold : (x : Replica) → IsReplica x → (k n : ℕ) → MayHold x.processors x.capacity k n (x.at k n)
 may_hold x r k n = record { in_range = r.in_range k n; stamped = r.stamped k n }
 
@@ -102,7 +81,7 @@ replica_held : (m c : ℕ) (at : Contents) → ((k n : ℕ) → MayHold m c k n 
 replica_held m c at h = record { in_range = λ k n. (h k n).in_range; stamped = λ k n. (h k n).stamped }
 
 may_only : (m c p i : ℕ) (e : Logged) → IsEntry e → p < m → 0 < i → i ≤ c → (k n : ℕ) → MayHold m c k n (only p i e k n)
-may_only m c p i e good row first last k n = grind (arith, eqb-true, may_none)
+may_only m c p i e good row first last k n = grind (arith, eqb-true)
 
 -- after an entry was joined in
 pub replica_taken : (x : Replica) (p i : ℕ) (e : Logged) (at : Contents) → IsReplica x → IsEntry e → p < x.processors → 0 < i → i ≤ x.capacity
@@ -121,15 +100,9 @@ replica_between m c x y at r s h =
 pub between_below : (a b c : Held Logged) → Between a b c → HeldBelow a c
 between_below a b c h = grind (arith, below_itself, join_first, entry_exact)
 
-pub between_within : (a b c : Held Logged) → Between a b c → HeldBelow c (held_join entry_eq a b)
-between_within a b c h = grind (arith, join_first, entry_exact, below_itself)
-
-between_again : (a b c : Held Logged) → Between a b c → held_join entry_eq c b ≡ held_join entry_eq a b
-between_again a b c h = grind (arith, join_assoc, entry_exact, join_idem)
-
 pub partly_merged : (m c m' c' : ℕ) (x y z : Contents) → ((k n : ℕ) → Between (x k n) (y k n) (z k n))
     → IsPartlyMerged (record { processors = m; capacity = c; at = x }) (record { processors = m'; capacity = c'; at = y }) (record { processors = m; capacity = c; at = z })
-partly_merged m c m' c' x y z h = grind (arith, between_below, between_within, between_again, below_itself, join_first, entry_exact, join_assoc, join_idem)
+partly_merged m c m' c' x y z h = grind (arith, between_below, below_itself, join_first, entry_exact, join_assoc, join_idem)
 
 -- ---- the rows of a replica after a merge
 

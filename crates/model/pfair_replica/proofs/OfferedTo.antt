@@ -1,7 +1,7 @@
 -- The contents after an entry or a replica was offered.
-use Rattle.std.proofs.Common.{ℕ, ◌≡◌, refl, ap, subst, sym, inr, Bool, true, false, cond, arith}
+use Rattle.std.proofs.Common.{ℕ, ◌≡◌, refl, subst, sym, inr, Bool, true, false, cond, arith}
 use Rattle.std.specs.Prelude.{◌&&◌, nat_lt, nat_le, ◌==◌}
-use Rattle.std.proofs.lemmas.Bool.{eq-eqb, eqb-true, ltb-true, leb-true, and_from, and_parts}
+use Rattle.std.proofs.lemmas.Bool.{eqb-true, ltb-true, leb-true, and_parts}
 use Rattle.pfair_lattice.specs.HeldLaws.{join_first, below_itself}
 use Rattle.pfair_entry.specs.Entry.{Logged, IsEntry}
 use Rattle.pfair_entry.specs.Exact.{entry_exact}
@@ -9,10 +9,6 @@ use Rattle.pfair_replica.specs.Replica.{Replica, IsReplica, Below, contents_join
 use Rattle.pfair_replica.specs.Offered.{has_key, has_shape, taken, absorbed}
 use Rattle.pfair_replica.specs.Laws.{OfferedStays}
 use Rattle.pfair_replica.proofs.Merging.{replica_taken, replica_between}
-
--- a replica of the same shape is joined in
-pub absorbed_alike : (x y : Replica) → x.processors ≡ y.processors → x.capacity ≡ y.capacity → absorbed x y ≡ join x y
-absorbed_alike x y p c = ap (λ b. cond b (join x y) x) (and_from _ _ (eq-eqb x.processors y.processors p) (eq-eqb x.capacity y.capacity c))
 
 above : (x z : Replica) → Below x z → (b : Bool) → Below x (cond b z x)
 above x z h b = grind (arith, below_itself)

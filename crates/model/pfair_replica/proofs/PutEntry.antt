@@ -1,9 +1,8 @@
 -- Rows of entries, one of them changed.
 use Rattle.std.proofs.lemmas.Grind.{common_steps}
-use Rattle.std.proofs.Common.{◌≡◌, refl, sym, ◌∙◌, ap, subst, ⊎_elim, Bool, false, cond, arith}
-use Rattle.std.specs.Prelude.{◌≢◌, ◌==◌, ℕ, Option, None, Some, List, [], ◌∷◌, IsSome, IsSomeAnd, Result, OnErr, if◌then◌else◌}
+use Rattle.std.proofs.Common.{◌≡◌, refl, sym, ◌∙◌, ap, subst, ⊎_elim, false, cond, arith}
+use Rattle.std.specs.Prelude.{◌≢◌, ◌==◌, ℕ, Option, None, Some, List, [], ◌∷◌, IsSome, Result, OnErr, if◌then◌else◌}
 use Rattle.std.specs.Ordering.{nat_cmp, eq_by_cmp}
-use Rattle.std.specs.Option.{option_and_then}
 use Rattle.std.specs.Map.{set_value}
 use Rattle.std.specs.BTreeMap.{is_at}
 use Rattle.std.specs.Cmp.{nat_cmp_total, Equal-is, eq_by_cmp_equiv}
@@ -24,14 +23,8 @@ use Rattle.pfair_replica.specs.HeldAfter.{join_none}
 use Rattle.pfair_replica.specs.Replica.{only}
 use Rattle.pfair_replica.specs.HeldRows.{Row, held_in, IsFull}
 
-either_there : {X : Type 0} (b : Bool) (o : Option (List (ℕ × X))) (after : List (ℕ × X)) → IsOrdered nat_cmp after → IsSomeAnd o (IsOrdered nat_cmp) → IsSomeAnd (cond b (Some after) o) (IsOrdered nat_cmp)
-either_there b o after s p = grind arith
-
 pub apart : (p q : ℕ) → q ≢ p → eq_by_cmp nat_cmp p q ≡ false
 apart p q ne = ⊎_elim (λ e. absurd (ne (sym (exact_unsigned p q ((Equal-is (nat_cmp p q)).0 e))))) (λ f. f) (cases_Bool (eq_by_cmp nat_cmp p q))
-
-pub same_test : (n m : ℕ) → eq_by_cmp nat_cmp n m ≡ (n == m)
-same_test n m = grind (arith, eq-eqb, apart, ne_eqb)
 
 module _ {X : Type 0} where
   at_set : (es : List (ℕ × X)) (p q : ℕ) (w : X) → IsSome (get nat_cmp es p) → get nat_cmp (set_value (is_at (nat_cmp p)) es w) q ≡ cond (eq_by_cmp nat_cmp p q) (Some w) (get nat_cmp es q)
@@ -39,9 +32,6 @@ module _ {X : Type 0} where
 
   get_set : (es : List (ℕ × X)) (p : ℕ) (w : X) → IsSome (get nat_cmp es p) → get nat_cmp (set_value (is_at (nat_cmp p)) es w) p ≡ Some w
   get_set es p w h = at_set es p p w h ∙ ap (λ b. cond b (Some w) (get nat_cmp es p)) ((eq_by_cmp_equiv nat_cmp_total).refl p)
-
-  get_set_other : (es : List (ℕ × X)) (p q : ℕ) (w : X) → IsSome (get nat_cmp es p) → q ≢ p → get nat_cmp (set_value (is_at (nat_cmp p)) es w) q ≡ get nat_cmp es q
-  get_set_other es p q w h ne = at_set es p q w h ∙ ap (λ b. cond b (Some w) (get nat_cmp es q)) (apart p q ne)
 
 pub none_if : {X : Type 0} (o : Option X) → (IsSome o → ⊥) → o ≡ None
 none_if o h = grind arith
@@ -53,29 +43,20 @@ module _ (rows : List (ℕ × Row)) (p : ℕ) (row after : Row) (was : get nat_c
   there : IsSome (get nat_cmp rows p)
   there = subst IsSome (sym was) refl
 
-  held_was : (n : ℕ) → held_in rows p n ≡ get nat_cmp row n
-  held_was n = ap (option_and_then (λ (r : Row). get nat_cmp r n)) was
-
-  held_set : (n : ℕ) → held_in (set_value (is_at (nat_cmp p)) rows after) p n ≡ get nat_cmp after n
-  held_set n = ap (option_and_then (λ (r : Row). get nat_cmp r n)) (get_set rows p after there)
-
-  held_other : (q n : ℕ) → q ≢ p → held_in (set_value (is_at (nat_cmp p)) rows after) q n ≡ held_in rows q n
-  held_other q n ne = ap (option_and_then (λ (r : Row). get nat_cmp r n)) (get_set_other rows p q after there ne)
-
   pub set_same : after ≡ row → set_value (is_at (nat_cmp p)) rows after ≡ rows
   set_same e = set_value_same (is_at (nat_cmp p)) rows after (was ∙ ap Some (sym e))
 
   module _ (m : ℕ) (e : Logged) (j : MapJoins nat_cmp FlatJoins row ((m, One e) ∷ []) after) where
     in_row : (n : ℕ) → get nat_cmp after n ≡ held_join entry_eq (get nat_cmp row n) (if n == m then Some (One e) else None)
-    in_row n = grind (arith, joins_held, entry_exact, same_test)
+    in_row n = grind (arith, joins_held, entry_exact)
 
     own_row : (n : ℕ) → held_in (set_value (is_at (nat_cmp p)) rows after) p n ≡ held_join entry_eq (held_in rows p n) (only p m e p n)
-    own_row n = grind (arith, held_set, in_row, held_was, eq-eqb)
+    own_row n = grind (arith, in_row, eq-eqb, get_set, there)
 
     -- an entry joined into one row
     pub put_held : (k n : ℕ) → held_in (set_value (is_at (nat_cmp p)) rows after) k n ≡ held_join entry_eq (held_in rows k n) (only p m e k n)
-    put_held k n = grind (arith, own_row, held_other, ne_eqb, join_none, cases_eq, common_steps)
+    put_held k n = grind (arith, own_row, ne_eqb, join_none, cases_eq, common_steps, there, at_set, apart)
 
 -- rows that are all there stay so
 pub full_set : (m p : ℕ) (rows : List (ℕ × Row)) (row after : Row) → get nat_cmp rows p ≡ Some row → IsOrdered nat_cmp after → IsFull m rows → IsFull m (set_value (is_at (nat_cmp p)) rows after)
-full_set m p rows row after was s f = grind (arith, at_set, keys-set_value, there, either_there, none-some, exact_unsigned)
+full_set m p rows row after was s f = grind (arith, at_set, keys-set_value, there, none-some, exact_unsigned)

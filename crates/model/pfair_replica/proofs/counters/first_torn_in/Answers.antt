@@ -2,11 +2,11 @@ use Rattle.std.proofs.lemmas.Grind.{common_steps}
 use Rattle.std.proofs.Common.{sym, ◌∙◌, arith}
 use Rattle.std.proofs.lemmas.Bool.{false≢true}
 use Rattle.pfair_replica.specs.HeldRows.{held_in}
-use Rattle.pfair_replica.proofs.FirstTorn.{torn_here, torn_not_yet, torn_nowhere}
+use Rattle.pfair_replica.proofs.FirstTorn.{torn_not_yet, torn_nowhere}
 use Rattle.pfair_replica.proofs.counters.first_torn_in.Goals as goal
 
 pub returns-then-is_torn : goal.returns-then-is_torn
-returns-then-is_torn c = grind (arith, common_steps, torn_here)
+returns-then-is_torn c = grind (arith, common_steps)
 
 pub loop-before-preserved : goal.loop-before-preserved
 loop-before-preserved c = torn_not_yet (held_in c.args.rows.now) c.args.processor c.loop-before.before c.loop-before.invariant (λ torn. false≢true (sym c.if-is_torn.false ∙ c.is_torn.ensures.1 torn))
