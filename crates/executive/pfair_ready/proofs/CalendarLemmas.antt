@@ -1,9 +1,9 @@
 -- The lists of a calendar's near slots, and what moves out of them.
-use Rattle.std.proofs.Common.{◌≡◌, ℕ, zero, suc, ◌+◌, ◌<◌, ◌≤◌, ◌⊎◌, inl, inr, Bool, true, false, List, [], ◌∷◌, ◌++◌, Vec, Global, length, refl, sym, ap, subst, ◌∙◌, arith, Option, Some}
-use Rattle.std.specs.Prelude.{Contains, slice_get, slice_set, slice_index_or, option_to_list, nat_le, ◌%◌, ◌-◌}
+use Rattle.std.proofs.lemmas.Grind.{common_steps}
+use Rattle.std.proofs.Common.{◌≡◌, ℕ, zero, suc, ◌+◌, ◌<◌, ◌≤◌, ◌⊎◌, inl, inr, List, [], ◌∷◌, ◌++◌, Vec, Global, length, refl, sym, ap, subst, arith, Option, Some}
+use Rattle.std.specs.Prelude.{Contains, slice_get, slice_set, slice_index_or, option_to_list, ◌%◌, ◌-◌}
 use Rattle.std.proofs.Math.Nat.{div-add-mod}
 use Rattle.std.proofs.lemmas.Bool.{leb-true, leb-false}
-use Rattle.std.proofs.lemmas.List.Elements.{Contains-push_cases}
 use Rattle.std.proofs.lemmas.Option.{same_Some, slice_get_past, slice_get_within, slice_get-get_or}
 use Rattle.pfair_order.specs.declared.Key.{Key}
 use Rattle.pfair_ready.specs.declared.calendar.Calendar.{Calendar}
@@ -61,19 +61,11 @@ noted_near c c' i b more turned near far d noted =
 
 -- far dates that have lost none
 pub noted_far : (c c' : Calendar) → ((x : Date) → Contains c.far x → Contains c'.far x) → c'.turned ≡ c.turned → c'.near.items ≡ c.near.items → (d : Date) → IsNoted c d → IsNoted c' d
-noted_far c c' more turned near d noted =
-    elim noted [
-      | inl n ↦ inl (still_near _ _ _ _ d turned (subst (λ (x : Buckets). Contains (under x d.release) d) (sym near) n.there) n)
-      | inr f ↦ inr (more d f)
-    ]
+noted_far c c' more turned near d noted = grind (arith, still_near)
 
 -- nothing is noted if there is neither
 pub none_noted : (c : Calendar) → c.near.items ≡ [] → c.far ≡ [] → (d : Date) → IsNoted c d → ⊥
-none_noted c near far d noted =
-    elim noted [
-      | inl n ↦ empty_has_none (under c.near.items d.release) d (ap (λ (x : Buckets). under x d.release) near) n.there
-      | inr f ↦ empty_has_none c.far d far f
-    ]
+none_noted c near far d noted = grind (arith, empty_has_none)
 
 -- ---- what moves
 
@@ -121,54 +113,19 @@ moves_far slot Was c c' turns0 turns turns' m f turned near =
 -- the near slots are those after a later one, if the lists up to that are empty
 pub moves_turned : (slot : ℕ) (Was : Date → Type 0) (c c' : Calendar) (turns turns' : Turned) → Moves slot Was (IsNoted c) turns turns' → c.turned ≤ slot → ((s : ℕ) → c.turned < s → s ≤ c.turned + 64 → s ≤ slot → under c.near.items s ≡ [])
     → c'.turned ≡ slot → c'.near.items ≡ c.near.items → c'.far ≡ c.far → Moves slot Was (IsNoted c') turns turns'
-moves_turned slot Was c c' turns turns' m later empty turned near far =
-    record {
-      kept = m.kept;
-      moved = λ d was. elim (m.moved d was) [
-        | inl noted ↦ elim noted [
-          | inl n ↦ inl (inl (stays d n (nat_le d.release slot) refl))
-          | inr f ↦ inl (inr (subst (λ x. IsAmong x d) (sym far) f))
-        ]
-        | inr gone ↦ inr gone
-      ];
-    }
-  where
-    stays : (d : Date) → IsNear c.turned c.near.items d → (due : Bool) → nat_le d.release slot ≡ due → IsNear c'.turned c'.near.items d
-    stays d n true e = absurd (empty_has_none (under c.near.items d.release) d (empty d.release n.after n.within (leb-true d.release slot e)) n.there)
-    stays d n false e = record {
-      after = let past = leb-false d.release slot e in omega (arith, past, turned);
-      within = let within = n.within in omega (arith, within, later, turned);
-      there = subst (λ (x : Buckets). Contains (under x d.release) d) (sym near) n.there;
-    }
+moves_turned slot Was c c' turns turns' m later empty turned near far = grind (arith, empty_has_none, leb-true, leb-false)
 
 pub popped_last : (o : Option Date) (xs ys : List Date) (last : Date) (n : ℕ) → n ≡ length xs → xs ≡ ys ++ option_to_list o → ((d : Date) → 0 < n → o ≡ Some (slice_index_or xs (n - 1) d)) → Some last ≡ slice_get xs (length xs - 1)
     → (d : Date) → Contains xs d → (last ≡ d) ⊎ Contains ys d
-popped_last o xs ys last n long items value at d h =
-    let within = slice_get_within xs (length xs - 1) last (sym at) in
-    let some : 0 < n = omega (arith, within, long) in
-    let read : last ≡ slice_index_or xs (length xs - 1) last = same_Some last (slice_index_or xs (length xs - 1) last) (at ∙ slice_get-get_or xs (length xs - 1) last within) in
-    let popped : o ≡ Some last = value last some ∙ ap (λ m. Some (slice_index_or xs (m - 1) last)) long ∙ ap Some (sym read) in
-    elim (Contains-push_cases ys last d (subst (λ (l : List Date). Contains l d) (items ∙ ap (λ (o : Option Date). ys ++ option_to_list o) popped) h)) [ inl stays ↦ inr stays | inr same ↦ inl same ]
+popped_last o xs ys last n long items value at d h = grind (arith, slice_get_within, same_Some, slice_get-get_or, common_steps)
 
 -- ---- the lists of one slot after another
 
 -- the next one is empty too
 pub emptied_next : (near : Buckets) (from ahead : ℕ) (b : Vec Date Global) → b.items ≡ [] → (from + 1 + ahead) % 64 < length near → ((s : ℕ) → from < s → s ≤ from + ahead → under near s ≡ [])
     → (s : ℕ) → from < s → s ≤ from + (ahead + 1) → under (slice_set near ((from + 1 + ahead) % 64) b) s ≡ []
-emptied_next near from ahead b empty inside before s after until = by (nat_le s (from + ahead)) refl
-  where
-    by : (earlier : Bool) → nat_le s (from + ahead) ≡ earlier → under (slice_set near ((from + 1 + ahead) % 64) b) s ≡ []
-    by true e = none_set near ((from + 1 + ahead) % 64) (s % 64) b empty (before s after (leb-true s (from + ahead) e))
-    by false e =
-        let same : s ≡ from + 1 + ahead = (let past = leb-false s (from + ahead) e in omega (arith, past, until)) in
-        ap (λ n. in_bucket (slice_get (slice_set near ((from + 1 + ahead) % 64) b) (n % 64))) same ∙ at_set near ((from + 1 + ahead) % 64) b inside ∙ empty
+emptied_next near from ahead b empty inside before s after until = grind (arith, none_set, leb-true, leb-false, at_set)
 
 -- or there is none
 pub emptied_past : (near : Buckets) (from ahead : ℕ) → length near ≤ (from + 1 + ahead) % 64 → ((s : ℕ) → from < s → s ≤ from + ahead → under near s ≡ []) → (s : ℕ) → from < s → s ≤ from + (ahead + 1) → under near s ≡ []
-emptied_past near from ahead past before s after until = by (nat_le s (from + ahead)) refl
-  where
-    by : (earlier : Bool) → nat_le s (from + ahead) ≡ earlier → under near s ≡ []
-    by true e = before s after (leb-true s (from + ahead) e)
-    by false e =
-        let same : s ≡ from + 1 + ahead = (let later = leb-false s (from + ahead) e in omega (arith, later, until)) in
-        ap (λ n. in_bucket (slice_get near (n % 64))) same ∙ ap in_bucket (slice_get_past near ((from + 1 + ahead) % 64) past)
+emptied_past near from ahead past before s after until = grind (arith, leb-true, leb-false, slice_get_past)

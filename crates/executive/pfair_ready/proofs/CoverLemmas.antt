@@ -50,8 +50,7 @@ covered_moved now slot held dates dates' turns turns' c within m turned =
     }
 
 one_or : {A : Type 0} (b : Bool) (x y : A) (o : Option A) → cond b (Some x) o ≡ Some y → ((b ≡ true) × (x ≡ y)) ⊎ (o ≡ Some y)
-one_or true x y o e = inl (refl, same_Some x y e)
-one_or false x y o e = inr e
+one_or b x y o e = grind (arith, same_Some)
 
 -- a key more, with its date or its turn
 pub covered_more : (now r : ℕ) (k : Key) (held : Queue) (dates : Calendar) (turns : List (Key × ℕ)) → HasDate dates r k ⊎ ((r ≤ now) × HasTurn turns k) → IsCovered now held dates turns → IsCovered now (finmap.insert held k.name (r, k)) dates turns
@@ -70,8 +69,7 @@ covered_more now r k held dates turns here c =
     }
 
 kept_entry : {A : Type 0} (b : Bool) (o : Option A) (x : A) → cond b None o ≡ Some x → (b ≡ false) × (o ≡ Some x)
-kept_entry true o x e = absurd (none-some x e)
-kept_entry false o x e = (refl, e)
+kept_entry b o x e = grind (arith, none-some)
 
 -- what waits under a name after another's key was taken out
 pub still_there : (held : Queue) (s q : NameValue) (v : ℕ × Key) → finmap.get (finmap.remove held s) q ≡ Some v → (q ≡ s → ⊥) × (finmap.get held q ≡ Some v)
@@ -83,16 +81,10 @@ still_there held s q v at =
 
 -- a key less
 pub covered_less : (now : ℕ) (held : Queue) (s : NameValue) (dates : Calendar) (turns : List (Key × ℕ)) → IsCovered now held dates turns → IsCovered now (finmap.remove held s) dates turns
-covered_less now held s dates turns c =
-    record {
-      named = λ q r k at. c.named q r k (still_there held s q (r, k) at).1;
-      turned = c.turned;
-      covered = λ q r k at. c.covered q r k (still_there held s q (r, k) at).1;
-    }
+covered_less now held s dates turns c = grind (arith, still_there)
 
 none_at : {A : Type 0} (o : Option A) → is_some o ≡ false → o ≡ None
-none_at None e = refl
-none_at (Some x) e = absurd (true≢false e)
+none_at o e = grind (arith, true≢false)
 
 -- a key that was put where nothing waited, and taken out again
 pub put_back : (held : Queue) (s : NameValue) (v : ℕ × Key) → finmap.contains_key held s ≡ false → finmap.remove (finmap.insert held s v) s ≡ held

@@ -1,5 +1,5 @@
 -- Dates in a heap, and what moves from there to the turns.
-use Rattle.std.proofs.Common.{◌≡◌, ℕ, ◌<◌, ◌≤◌, ◌⊎◌, inl, inr, List, length, subst, arith, Option, Some, None}
+use Rattle.std.proofs.Common.{◌≡◌, ℕ, ◌<◌, ◌≤◌, ◌⊎◌, List, length, arith, Option}
 use Rattle.std.specs.Prelude.{Contains, IfNone, IfSome}
 use Rattle.std.specs.BinaryHeap.{IsHeap, PopsGreatest}
 use Rattle.std.specs.declared.cmp.Reverse.{Reverse}
@@ -8,31 +8,14 @@ use Rattle.pfair_ready.specs.declared.far_dates.Date.{Date}
 use Rattle.pfair_ready.specs.Calendar.{later_cmp, HasTurn, Moves}
 
 pub popped_order : (o : Option (Reverse Date)) (xs ys : List (Reverse Date)) (n : ℕ) → n ≡ length xs → 0 < length xs → IfNone o (n ≡ 0) → IfSome o (λ x. PopsGreatest later_cmp xs x ys) → IsHeap later_cmp xs → IsHeap later_cmp ys
-popped_order None xs ys n e some none h up = absurd (omega arith)
-popped_order (Some x) xs ys n e some none h up = (h up).0
+popped_order o xs ys n e some none h up = grind arith
 
 -- one date more has gone
 pub moves_more : (slot : ℕ) (date : Date) (Was Is Is' : Date → Type 0) (turns0 turns turns' : List (Key × ℕ)) → Moves slot Was Is turns0 turns
     → ((x : Key × ℕ) → Contains turns x → Contains turns' x) → ((d : Date) → Is d → (date ≡ d) ⊎ Is' d) → (Was date → (date.release ≤ slot) × HasTurn turns' date.key)
     → Moves slot Was Is' turns0 turns'
-moves_more slot date Was Is Is' turns0 turns turns' m kept left there =
-    record {
-      kept = λ x h. kept x (m.kept x h);
-      moved = λ d was. elim (m.moved d was) [
-        | inl stays ↦ elim (left d stays) [
-          | inl same ↦
-              let P : Date → Type 0 = λ x. Was x → (x.release ≤ slot) × HasTurn turns' x.key in
-              inr (subst P same there was)
-          | inr later ↦ inl later
-        ]
-        | inr gone ↦ inr (gone.0, (gone.1.0, kept (d.key, gone.1.0) gone.1.1))
-      ];
-    }
+moves_more slot date Was Is Is' turns0 turns turns' m kept left there = grind arith
 
 -- and none
 pub moves_kept : (slot : ℕ) (Was Is : Date → Type 0) (turns0 turns turns' : List (Key × ℕ)) → Moves slot Was Is turns0 turns → ((x : Key × ℕ) → Contains turns x → Contains turns' x) → Moves slot Was Is turns0 turns'
-moves_kept slot Was Is turns0 turns turns' m kept =
-    record {
-      kept = λ x h. kept x (m.kept x h);
-      moved = λ d was. elim (m.moved d was) [ inl stays ↦ inl stays | inr gone ↦ inr (gone.0, (gone.1.0, kept (d.key, gone.1.0) gone.1.1)) ];
-    }
+moves_kept slot Was Is turns0 turns turns' m kept = grind arith

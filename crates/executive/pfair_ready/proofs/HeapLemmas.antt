@@ -1,5 +1,6 @@
 -- What a heap has after an element was put in or taken out.
-use Rattle.std.proofs.Common.{◌≡◌, ℕ, zero, suc, ◌<◌, ◌⊎◌, inl, inr, List, [], ◌∷◌, length, map, refl, sym, subst, ◌∙◌, arith, Option, Some, None}
+use Rattle.std.proofs.lemmas.Grind.{common_steps}
+use Rattle.std.proofs.Common.{◌≡◌, ℕ, ◌<◌, ◌⊎◌, List, [], ◌∷◌, length, map, refl, subst, arith, Option, Some}
 use Rattle.std.specs.Prelude.{Contains, IfNone, IfSome, slice_get, slice_index_or}
 use Rattle.std.specs.List.Sorted.{IsPermutation}
 use Rattle.std.specs.declared.cmp.Reverse.{Reverse}
@@ -9,8 +10,7 @@ use Rattle.std.proofs.lemmas.Option.{same_Some}
 use Rattle.pfair_order.proofs.RankLemmas.{place_of, at_place}
 
 in_cons : {A : Type 0} (y : A) (xs : List A) (x : A) (i : ℕ) → slice_get (y ∷ xs) i ≡ Some x → (y ≡ x) ⊎ Contains xs x
-in_cons y xs x zero e = inl (same_Some y x e)
-in_cons y xs x (suc i) e = inr (at_place xs i x e)
+in_cons y xs x i e = grind (arith, same_Some, at_place)
 
 -- an element is the top or stays
 pub top_or_stays : {A : Type 0} (top x : A) (xs ys : List A) → IsPermutation xs (top ∷ ys) → Contains xs x → (top ≡ x) ⊎ Contains ys x
@@ -25,14 +25,12 @@ pub pushed_top : {A : Type 0} (item : A) (xs ys : List A) → IsPermutation (ite
 pushed_top item xs ys p = Contains-permutation (item ∷ xs) ys item p (0, omega arith, refl)
 
 pub same_head : {A : Type 0} (xs : List A) (x y : A) → 0 < length xs → x ≡ slice_index_or xs 0 x → y ≡ slice_index_or xs 0 y → x ≡ y
-same_head [] x y h e f = absurd (omega arith)
-same_head (z ∷ xs) x y h e f = e ∙ sym f
+same_head xs x y h e f = grind (arith, common_steps)
 
 -- a heap's top is taken out
 pub popped : {A : Type 0} (o : Option A) (xs ys : List A) (top : A) (n : ℕ) → n ≡ length xs → 0 < length xs → top ≡ slice_index_or xs 0 top
     → IfNone o (n ≡ 0) → IfSome o (λ x. x ≡ slice_index_or xs 0 x) → IfSome o (λ x. IsPermutation xs (x ∷ ys)) → IsPermutation xs (top ∷ ys)
-popped None xs ys top n e some t none at p = absurd (omega arith)
-popped (Some x) xs ys top n e some t none at p = subst (λ z. IsPermutation xs (z ∷ ys)) (same_head xs x top some at t) p
+popped o xs ys top n e some t none at p = grind (arith, same_head)
 
 -- an item more in a heap of reversed ones
 pub given : {A : Type 0} (item : A) (xs ys : List (Reverse A)) (all : List A) → map (λ (r : Reverse A). r.0) xs ≡ all → IsPermutation (record { 0 = item } ∷ xs) ys → IsPermutation (item ∷ all) (map (λ (r : Reverse A). r.0) ys)

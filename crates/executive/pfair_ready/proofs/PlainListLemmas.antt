@@ -1,5 +1,5 @@
 -- The list of waiting keys and the map that it holds.
-use Rattle.std.proofs.Common.{◌≡◌, ℕ, Bool, true, false, cond, not, List, [], ◌∷◌, ◌++◌, map, refl, sym, ap, subst, ◌∙◌, Option, Some, None}
+use Rattle.std.proofs.Common.{◌≡◌, ℕ, Bool, true, false, cond, not, List, [], ◌∷◌, ◌++◌, map, refl, sym, ap, subst, ◌∙◌, Option, Some, None, arith}
 use Rattle.std.specs.Prelude.{nat_le}
 use Rattle.std.specs.List.{AllByRecursion, filter}
 use Rattle.std.specs.declared.cmp.Ordering.TheVariants.{Less, Equal, Greater}
@@ -68,12 +68,7 @@ entry w = (w.key.name, (w.release, w.key))
 
 find_entry : (ws : List Waiting) (q : NameValue) → find name_cmp q (map entry ws) ≡ first_named q ws
 find_entry [] q = refl
-find_entry (w ∷ ws) q =
-    ap (λ b. cond b (Some (w.release, w.key)) (find name_cmp q (map entry ws))) (same_name q w.key.name)
-    ∙ elim (name_eq w.key.name q) as (λ b. cond b (Some (w.release, w.key)) (find name_cmp q (map entry ws)) ≡ option_map (λ (w : Waiting). (w.release, w.key)) (cond b (Some w) (list.find (λ (w : Waiting). name_eq w.key.name q) ws))) [
-      | true ↦ refl
-      | false ↦ find_entry ws q
-    ]
+find_entry (w ∷ ws) q = grind (arith, map, same_name, find_entry ws q)
 
 -- the contents under a name
 pub get_held : (ws : List Waiting) (q : NameValue) → finmap.get (queue_of ws) q ≡ first_named q ws
@@ -81,8 +76,7 @@ get_held ws q = get-from_entries names_total (map entry ws) q ∙ find_entry ws 
 
 -- whether something is held under a name, by a search of the list
 pub contained : (held : Queue) (ws seen : List Waiting) (name : NameValue) (o : Option (ℕ × Key)) (b : Bool) → queue_of ws ≡ held → seen ≡ ws → o ≡ first_named name seen → b ≡ is_some o → finmap.contains_key held name ≡ b
-contained held ws seen name o b view same found is =
-    ap (λ h. finmap.contains_key h name) (sym view) ∙ ap is_some (get_held ws name ∙ ap (first_named name) (sym same) ∙ sym found) ∙ sym is
+contained held ws seen name o b view same found is = grind (arith, get_held)
 
 -- one more with a new name
 pub queue_of_push : (ws : List Waiting) (w : Waiting) → first_named w.key.name ws ≡ None → queue_of (ws ++ w ∷ []) ≡ finmap.insert (queue_of ws) w.key.name (w.release, w.key)
@@ -95,20 +89,7 @@ shown w = (w.release, w.key)
 
 named_filter : (p : NameValue → Bool) (ws : List Waiting) (q : NameValue) → first_named q (filter (λ w. p w.key.name) ws) ≡ cond (p q) (first_named q ws) None
 named_filter p [] q = elim (p q) as (λ b. let e : Option (ℕ × Key) = None in e ≡ cond b e e) [ true ↦ refl | false ↦ refl ]
-named_filter p (w ∷ ws) q =
-    let kept : List Waiting = filter (λ w. p w.key.name) ws in
-    let rest : first_named q kept ≡ cond (p q) (first_named q ws) None = named_filter p ws q in
-    elim (name_eq w.key.name q) as (λ b. name_eq w.key.name q ≡ b → first_named q (cond (p w.key.name) (w ∷ kept) kept) ≡ cond (p q) (option_map shown (cond b (Some w) (list.find (λ (w : Waiting). name_eq w.key.name q) ws))) None) [
-      | true ↦ λ t. ap (λ b. first_named q (cond b (w ∷ kept) kept)) (ap p ((bytes_decides w.key.name q).0 t))
-          ∙ elim (p q) as (λ b. first_named q kept ≡ cond b (first_named q ws) None → first_named q (cond b (w ∷ kept) kept) ≡ cond b (Some (shown w)) None) [
-            | true ↦ λ _. ap (λ b. option_map shown (cond b (Some w) (list.find (λ (w : Waiting). name_eq w.key.name q) kept))) t
-            | false ↦ λ r. r
-          ] rest
-      | false ↦ λ f. elim (p w.key.name) as (λ b. first_named q (cond b (w ∷ kept) kept) ≡ first_named q kept) [
-        | true ↦ ap (λ b. option_map shown (cond b (Some w) (list.find (λ (w : Waiting). name_eq w.key.name q) kept))) f
-        | false ↦ refl
-      ] ∙ rest
-    ] refl
+named_filter p (w ∷ ws) q = grind (arith, bytes_decides, named_filter p ws q)
 
 -- those whose names pass stay
 pub queue_of_filter : (p : NameValue → Bool) (ws : List Waiting) → queue_of (filter (λ w. p w.key.name) ws) ≡ finmap.retain_keys (queue_of ws) p
@@ -132,11 +113,7 @@ name_of w = w.key.name
 -- a name that is not found is no other's, and the other way round
 pub none_named : (q : NameValue) (ws : List Waiting) → first_named q ws ≡ None → AllByRecursion (λ w. name_eq w.key.name q ≡ false) ws
 none_named q [] none = tt
-none_named q (w ∷ ws) none =
-    elim (name_eq w.key.name q) as (λ b. option_map shown (cond b (Some w) (list.find (λ (w : Waiting). name_eq w.key.name q) ws)) ≡ None → (b ≡ false) × AllByRecursion (λ w. name_eq w.key.name q ≡ false) ws) [
-      | true ↦ λ n. absurd (none-some (shown w) (sym n))
-      | false ↦ λ n. (refl, none_named q ws n)
-    ] none
+none_named q (w ∷ ws) none = grind (arith, none-some, none_named q ws)
 
 none_found : (q : NameValue) (ws : List Waiting) → AllByRecursion (λ w. name_eq q w.key.name ≡ false) ws → first_named q ws ≡ None
 none_found q [] other = refl

@@ -57,9 +57,7 @@ due_held k slot (Some d) e =
     (d.0, ap (λ (x : Key). Some (d.0, x)) (keys_exact d.1 k ((Equal-is (pd2_cmp d.1 k)).0 parts.1)), parts.0)
 
 held_due : (k : Key) (slot r : ℕ) → r ≤ slot → is_due k slot (Some (r, k)) ≡ true
-held_due k slot r within =
-    let one : nat_le r slot ≡ true = grind (arith, nat_tests) in
-    rw one (ap is_eq (tied_itself keys_total k))
+held_due k slot r within = grind (arith, nat_tests, tied_itself, keys_total)
 
 -- at the start nothing is given
 pub taking_none : (slot m : ℕ) (start : Queue) (dates : Calendar) (turns : List (Key × ℕ))

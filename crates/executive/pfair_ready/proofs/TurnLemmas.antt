@@ -1,8 +1,7 @@
 -- The turns of a heap, and their order.
-use Rattle.std.proofs.Common.{◌≡◌, ℕ, false, List, refl}
+use Rattle.std.proofs.Common.{◌≡◌, ℕ, false, List, arith}
 use Rattle.std.specs.BinaryHeap.{IsUpperBound}
 use Rattle.std.specs.declared.cmp.Ordering.{Ordering}
-use Rattle.std.specs.declared.cmp.Ordering.TheVariants.{Less, Equal, Greater}
 use Rattle.std.specs.declared.cmp.Reverse.{Reverse}
 use Rattle.std.specs.Ordering.{is_lt, nat_cmp, ordering_then}
 use Rattle.std.proofs.lemmas.List.Elements.{All-from_recursion, All-map, All-weaker}
@@ -12,9 +11,7 @@ use Rattle.pfair_ready.specs.Turns.{turn_cmp, reverse_cmp, turns_of, IsFirst}
 
 -- by the order of two parts one isn't before another, so it isn't by the first part's
 pub first_not_less : (a b : Ordering) → is_lt (ordering_then a b) ≡ false → is_lt a ≡ false
-first_not_less Less b e = e
-first_not_less Equal b e = refl
-first_not_less Greater b e = refl
+first_not_less a b e = grind arith
 
 -- no turn of a heap goes before that of its top
 pub top_first : (top : Reverse (Key × ℕ)) (heap : List (Reverse (Key × ℕ))) → IsUpperBound reverse_cmp top heap → IsFirst top.0 (turns_of heap)

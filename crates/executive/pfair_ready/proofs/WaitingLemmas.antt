@@ -20,8 +20,7 @@ module _ {X : Type 0} where
   found es q = lookup (is_at (name_cmp q)) es
 
   pub find_found : (es : List (NameValue × X)) (q : NameValue) → find name_cmp q es ≡ found es q
-  find_found [] q = refl
-  find_found (e ∷ es) q = ap (cond (is_at (name_cmp q) e.0) (Some e.1)) (find_found es q)
+  find_found es q = grind arith
 
   pub get_found : (es : List (NameValue × X)) (q : NameValue) → finmap.get (finmap.from_entries {R = name_cmp} es) q ≡ found es q
   get_found es q = get-from_entries names_total es q ∙ find_found es q
@@ -36,16 +35,14 @@ at es q = lookup (name_eq q) es
 
 -- an entry of another name
 other_entry : (n : NameValue) (o : Option (ℕ × Key)) (es : List (NameValue × (ℕ × Key))) (q : NameValue) → name_eq q n ≡ false → found (with_entry n o es) q ≡ found es q
-other_entry n None es q e = refl
-other_entry n (Some v) es q e = ap (λ b. cond b (Some v) (found es q)) (tied_names q n ∙ e)
+other_entry n o es q e = grind (arith, tied_names)
 
 no_live : (es : Entries) (q : NameValue) → AllByRecursion (λ y. name_eq q y ≡ false) (keys_of es) → found (live es) q ≡ None
 no_live [] q h = refl
 no_live (e ∷ es) q h = other_entry e.0 e.1 (live es) q h.0 ∙ no_live es q h.1
 
 own_entry : (n : NameValue) (o : Option (ℕ × Key)) (es : List (NameValue × (ℕ × Key))) (q : NameValue) → name_eq q n ≡ true → found es q ≡ None → found (with_entry n o es) q ≡ o
-own_entry n None es q e none = none
-own_entry n (Some v) es q e none = ap (λ b. cond b (Some v) (found es q)) (tied_names q n ∙ e)
+own_entry n o es q e none = grind (arith, tied_names)
 
 pub live_found : (es : Entries) (q : NameValue) → IsDistinct name_eq (keys_of es) → found (live es) q ≡ flat (at es q)
 unfolding IsDistinct
@@ -85,11 +82,7 @@ module _ (es fs : Entries) (one : IsDistinct name_eq (keys_of es)) (two : IsDist
 -- entries without a key make no difference
 pub live_kept : (es : Entries) → live (filter (λ (e : NameValue × Option (ℕ × Key)). is_some e.1) es) ≡ live es
 live_kept [] = refl
-live_kept (e ∷ es) =
-    elim e.1 as (λ o. live (cond (is_some o) ((e.0, o) ∷ filter (λ (e : NameValue × Option (ℕ × Key)). is_some e.1) es) (filter (λ (e : NameValue × Option (ℕ × Key)). is_some e.1) es)) ≡ with_entry e.0 o (live es)) [
-      | None ↦ live_kept es
-      | Some v ↦ ap (λ (l : List (NameValue × (ℕ × Key))). (e.0, v) ∷ l) (live_kept es)
-    ]
+live_kept (e ∷ es) = grind (arith, filter, live_kept es)
 
 -- nothing waits under a name that has no entry
 pub none_there : (es : Entries) (name : NameValue) → IsDistinct name_eq (keys_of es) → at es name ≡ None → finmap.get (queue_in es) name ≡ None
@@ -106,8 +99,7 @@ entry_at es n i p =
     subst (λ x. IsEntryOf es x i) (sym ((bytes_decides n (get_or (keys_of es) i n)).0 q.1)) (key_entry es i n q.0)
 
 pub each_entry : (es : Entries) (n : NameValue) (o : Option ℕ) → o ≡ position (name_eq n) (keys_of es) → IfSome o (IsEntryOf es n)
-each_entry es n None e = tt
-each_entry es n (Some i) e = entry_at es n i (sym e)
+each_entry es n o e = grind (arith, entry_at)
 
 module _ (es : Entries) (name : NameValue) (h : IsDistinct name_eq (keys_of es)) where
   -- what an entry has waits under its name
