@@ -1,5 +1,5 @@
 -- A loop over the entries of one map that joins them into another, or compares them, with `rest` still to come.
-use Rattle.std.proofs.Common.{◌≡◌, refl, sym, ap, subst, false, List, [], ◌∷◌, inl, inr}
+use Rattle.std.proofs.Common.{◌≡◌, sym, ap, subst, false, List, [], ◌∷◌, arith}
 use Rattle.std.specs.Prelude.{Option, None, Some}
 use Rattle.std.specs.declared.cmp.Ordering.{Ordering}
 use Rattle.std.specs.Ordering.{is_eq, eq_by_cmp}
@@ -12,7 +12,7 @@ use Rattle.std.proofs.lemmas.Map.Entries.{none_past_head}
 use Rattle.std.proofs.lemmas.Map.Lookups.{CmpEqualImpliesEq}
 use Rattle.pfair_lattice.specs.Order.{IsOrder, IsJoin}
 use Rattle.pfair_lattice.specs.Option.{OptionBelow, OptionJoins, OptionPartly, OptionOutgrows}
-use Rattle.pfair_lattice.specs.Entries.{IsOrdered, get, MapBelow, MapJoins, MapPartly, MapOutgrows, covers, entries_from_get}
+use Rattle.pfair_lattice.specs.Entries.{IsOrdered, get, MapBelow, MapJoins, MapOutgrows, covers, entries_from_get}
 use Rattle.pfair_lattice.proofs.AtKey.{by_key, head_at, tail_at, keeps}
 
 -- at a key: joined, or still to come, and then as it was
@@ -26,12 +26,10 @@ BelowSoFar below a None b = OptionBelow below a b
 BelowSoFar below a (Some w) b = a ≡ Some w
 
 joined_start : {X : Type 0} (joins : X → X → X → Type 0) (a b : Option X) → JoinedSoFar joins a b b a
-joined_start joins a None = keeps joins a
-joined_start joins a (Some w) = (refl, refl)
+joined_start joins a b = grind (arith, keeps)
 
 so_far_partly : {X : Type 0} (joins partly : X → X → X → Type 0) (a b r c : Option X) → JoinedSoFar joins a b r c → OptionPartly joins partly a b c
-so_far_partly joins partly a b None c h = inr (inl h)
-so_far_partly joins partly a b (Some w) c h = inl h.1
+so_far_partly joins partly a b r c h = grind arith
 
 module _ {K X : Type 0} (cmp : K → K → Ordering) where
   -- `now` is `old` with the entries of `other` before `rest` joined in
@@ -68,19 +66,11 @@ module _ {K X : Type 0} {cmp : K → K → Ordering} (o : IsTotalOrder cmp) (x :
           (λ n. subst (λ (r : Option X). BelowSoFar below (get cmp es q) r (get cmp fs q)) (tail_at o k q v rest n) (h.each q));
     }
 
-    pub covered_end : (es fs : List (K × X)) → IsOrdered cmp fs → IsCoveredUpTo cmp below es fs [] → MapBelow cmp below es fs
-    covered_end es fs p h = inr (record { ordered_first = h.ordered_first; ordered_second = p; each = h.each })
-
     -- a value that is not below
     pub uncovered_above : IsOrder below → (es fs rest : List (K × X)) (k : K) (v w : X) → IsCoveredUpTo cmp below es fs ((k, v) ∷ rest) → get cmp fs k ≡ Some w → (below v w → ⊥) → MapBelow cmp below es fs → ⊥
-    uncovered_above l es fs rest k v w h found not_below m =
-        let e = (covers l es fs h.ordered_first m).each k in
-        not_below (subst (λ (b : Option X). OptionBelow below (Some v) b) found (subst (λ (a : Option X). OptionBelow below a (get cmp fs k)) (covered_next es fs rest k v h) e))
+    uncovered_above l es fs rest k v w h found not_below m = grind (arith, covers, covered_next)
 
     module _ {joins : X → X → X → Type 0} (l : IsJoin below joins) where
-      pub joined_up_to_start : (old other : List (K × X)) → IsOrdered cmp old → IsOrdered cmp other → IsJoinedUpTo cmp joins old other other old
-      joined_up_to_start old other p q = record { ordered_first = p; ordered_second = q; ordered_rest = q; ordered = p; each = λ k. joined_start joins (get cmp old k) (get cmp other k) }
-
       -- at the next entry's key
       joined_next : (old other rest now : List (K × X)) (k : K) (w : X) → IsJoinedUpTo cmp joins old other ((k, w) ∷ rest) now → (get cmp other k ≡ Some w) × (get cmp now k ≡ get cmp old k)
       joined_next old other rest now k w h = subst (λ (r : Option X). JoinedSoFar joins (get cmp old k) (get cmp other k) r (get cmp now k)) (head_at o k w rest) (h.each k)
@@ -103,36 +93,15 @@ module _ {K X : Type 0} {cmp : K → K → Ordering} (o : IsTotalOrder cmp) (x :
                 (subst (λ (c : Option X). JoinedSoFar joins (get cmp old q) (get cmp other q) (get cmp ((k, w) ∷ rest) q) c) (sym (apart q e)) (h.each q)));
           }
 
-      -- the loop stops at an entry that is joined in partly
-      pub joined_up_to_failed : {partly : X → X → X → Type 0} (old other rest now then : List (K × X)) (k : K) (w : X) → IsJoinedUpTo cmp joins old other ((k, w) ∷ rest) now
-          → MapPartly cmp joins partly now ((k, w) ∷ []) then → ((q : K) → eq_by_cmp cmp k q ≡ false → get cmp then q ≡ get cmp now q) → MapPartly cmp joins partly old other then
-      joined_up_to_failed {partly} old other rest now then k w h m apart =
-          let n = joined_next old other rest now k w h in
-          let here : OptionPartly joins partly (get cmp now k) (Some w) (get cmp then k) = subst (λ (b : Option X). OptionPartly joins partly (get cmp now k) b (get cmp then k)) (head_at o k w []) (m.each k) in
-          record {
-            ordered_first = h.ordered_first;
-            ordered_second = h.ordered_second;
-            ordered = m.ordered;
-            each = λ q. by_key x (λ q'. OptionPartly joins partly (get cmp old q') (get cmp other q') (get cmp then q')) k q
-                (subst (λ (b : Option X). OptionPartly joins partly (get cmp old k) b (get cmp then k)) (sym n.0)
-                (subst (λ (a : Option X). OptionPartly joins partly a (Some w) (get cmp then k)) n.1 here))
-                (λ e. subst (λ (c : Option X). OptionPartly joins partly (get cmp old q) (get cmp other q) c) (sym (apart q e)) (so_far_partly joins partly (get cmp old q) (get cmp other q) (get cmp ((k, w) ∷ rest) q) (get cmp now q) (h.each q)));
-          }
-
       -- the entry at which the loop stops isn't below what the map had, so the other map isn't below it
       pub not_below_failed : (old other rest now : List (K × X)) (k : K) (w : X) → IsJoinedUpTo cmp joins old other ((k, w) ∷ rest) now
           → (OptionBelow below (Some w) (get cmp now k) → ⊥) → MapBelow cmp below other old → ⊥
-      not_below_failed old other rest now k w h lacking m =
-          let n = joined_next old other rest now k w h in
-          let e = (covers l.order other old h.ordered_second m).each k in
-          lacking (subst (λ (c : Option X). OptionBelow below (Some w) c) (sym n.1) (subst (λ (b : Option X). OptionBelow below b (get cmp old k)) n.0 e))
+      not_below_failed old other rest now k w h lacking m = grind (arith, joined_next, covers)
 
       -- and it has something for which the map had no place
       pub outgrown_failed : (outgrows : X → X → Type 0) (old other rest now : List (K × X)) (k : K) (w : X) → IsJoinedUpTo cmp joins old other ((k, w) ∷ rest) now
           → OptionOutgrows outgrows (get cmp now k) (Some w) → MapOutgrows cmp outgrows old other
-      outgrown_failed outgrows old other rest now k w h more =
-          let n = joined_next old other rest now k w h in
-          (k, subst (λ (a : Option X). OptionOutgrows outgrows a (get cmp other k)) n.1 (subst (λ (b : Option X). OptionOutgrows outgrows (get cmp now k) b) (sym n.0) more))
+      outgrown_failed outgrows old other rest now k w h more = grind (arith, joined_next)
 
       -- the empty map with es joined in is es
       pub copied : (es gs : List (K × X)) → MapJoins cmp joins [] es gs → gs ≡ es
