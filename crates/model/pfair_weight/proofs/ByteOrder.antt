@@ -1,11 +1,11 @@
 -- The order of names, by the numbers that their bytes spell, the first of them the highest.
-use Rattle.std.proofs.Common.{ℕ, zero, suc, ◌≡◌, ◌+◌, ◌-◌, ◌*◌, ◌^◌, ◌<◌, List, [], ◌∷◌, ◌++◌, length, refl, sym, ap, ◌∙◌, subst, arith}
+use Rattle.std.proofs.Common.{ℕ, zero, suc, ◌≡◌, ◌+◌, ◌-◌, ◌*◌, ◌^◌, ◌<◌, List, [], ◌∷◌, ◌++◌, length, sym, ap, ◌∙◌, arith}
 use Rattle.std.specs.Prelude.{replicate, slice_index}
 use Rattle.std.specs.Int.{w128, byte_worth, from_be_bytes, sum_through}
 use Rattle.std.specs.Cmp.Lexicographic.{slice_cmp}
 use Rattle.std.specs.Ordering.{nat_cmp, ordering_then, MatchOrdering}
 use Rattle.std.specs.declared.cmp.Ordering.{Ordering}
-use Rattle.std.specs.declared.cmp.Ordering.TheVariants.{Less, Equal, Greater}
+use Rattle.std.specs.declared.cmp.Ordering.TheVariants.{Greater}
 use Rattle.std.proofs.lemmas.Bool.Decides.{nat_tests}
 use Rattle.std.proofs.lemmas.Cmp.{ranked}
 use Rattle.std.proofs.Math.Nat.{pow-suc}
@@ -31,8 +31,7 @@ worth [] = 0
 worth (byte ∷ bytes) = byte_worth (length bytes) byte + worth bytes
 
 by_power : (k byte : ℕ) → byte_worth k byte ≡ byte * 256 ^ k
-by_power zero byte = omega arith
-by_power (suc k) byte = refl
+by_power k byte = grind arith
 
 spelled_worth : (n : ℕ) (bytes : List ℕ) → spelled n bytes ≡ n * 256 ^ length bytes + worth bytes
 spelled_worth n [] = omega arith
@@ -67,12 +66,7 @@ less : (xs ys : List ℕ) (m n : ℕ) → length xs ≡ length ys → Small xs �
 less [] [] m n long h k before = before
 less [] (y ∷ ys) m n long h k before = absurd (omega (arith, long))
 less (x ∷ xs) [] m n long h k before = absurd (omega (arith, long))
-less (x ∷ xs) (y ∷ ys) m n long h k before =
-    let small = h.0 in
-    less xs ys (m * 256 + x) (n * 256 + y) (omega (arith, long)) h.1 k.1 (omega (arith, small, before))
-
-is_less : (m n : ℕ) → m < n → nat_cmp m n ≡ Less
-is_less m n before = grind (arith, nat_tests, before)
+less (x ∷ xs) (y ∷ ys) m n long h k before = grind (arith, less xs ys)
 
 is_greater : (m n : ℕ) → n < m → nat_cmp m n ≡ Greater
 is_greater m n after = grind (arith, nat_tests, after)
@@ -80,17 +74,13 @@ is_greater m n after = grind (arith, nat_tests, after)
 module _ (x y n : ℕ) (xs ys : List ℕ) (fits : length xs ≡ length ys) (h : Small (x ∷ xs)) (k : Small (y ∷ ys)) where
   by_first : nat_cmp (spelled (n * 256 + x) xs) (spelled (n * 256 + x) ys) ≡ slice_cmp nat_cmp xs ys → (r : Ordering) → MatchOrdering r (x < y) (x ≡ y) (y < x)
       → nat_cmp (spelled (n * 256 + x) xs) (spelled (n * 256 + y) ys) ≡ ordering_then r (slice_cmp nat_cmp xs ys)
-  by_first rest Less before = is_less _ _ (less xs ys (n * 256 + x) (n * 256 + y) fits h.1 k.1 (omega (arith, before)))
-  by_first rest Equal same = subst (λ (z : ℕ). nat_cmp (spelled (n * 256 + x) xs) (spelled (n * 256 + z) ys) ≡ slice_cmp nat_cmp xs ys) same rest
-  by_first rest Greater after = is_greater _ _ (less ys xs (n * 256 + y) (n * 256 + x) (sym fits) k.1 h.1 (omega (arith, after)))
+  by_first rest r before = grind (arith, less, slice_cmp, is_greater)
 
 ordered : (xs ys : List ℕ) (n : ℕ) → length xs ≡ length ys → Small xs → Small ys → nat_cmp (spelled n xs) (spelled n ys) ≡ slice_cmp nat_cmp xs ys
 ordered [] [] n long h k = grind (arith, nat_tests)
 ordered [] (y ∷ ys) n long h k = absurd (omega (arith, long))
 ordered (x ∷ xs) [] n long h k = absurd (omega (arith, long))
-ordered (x ∷ xs) (y ∷ ys) n long h k =
-    let fits : length xs ≡ length ys = omega (arith, long) in
-    by_first x y n xs ys fits h k (ordered xs ys (n * 256 + x) fits h.1 k.1) (nat_cmp x y) (ranked x y (nat_cmp x y) refl)
+ordered (x ∷ xs) (y ∷ ys) n long h k = grind (arith, by_first, ranked, ordered xs ys)
 
 -- ---- names
 
@@ -102,9 +92,6 @@ small : (name : List ℕ) (m : ℕ) → AreBytes name → Small (name ++ replica
 small [] m h = small_zeros m
 small (byte ∷ name) m h = (h.1, small name m h.2)
 
-small_name : (a : Inside) → IsPadded a → Small a.bytes
-small_name a p = subst Small (sym p.padded_with_zeros) (small (before_zero a.bytes) (16 - length (before_zero a.bytes)) (name_bytes _ p.named))
-
 pub number_order : (a b : Inside) → IsPadded a → IsPadded b → length a.bytes ≡ 16 → length b.bytes ≡ 16
     → nat_cmp (from_be_bytes w128 a.bytes) (from_be_bytes w128 b.bytes) ≡ slice_cmp nat_cmp (before_zero a.bytes) (before_zero b.bytes)
-number_order a b p q long long' = grind (arith, read, ordered, small_name, padded_order)
+number_order a b p q long long' = grind (arith, read, ordered, padded_order, small, name_bytes)

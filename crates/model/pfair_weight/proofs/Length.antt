@@ -1,4 +1,5 @@
 -- The length of a name, by the number that its bytes spell, the first of them the lowest, with the zeros after it.
+use Rattle.std.proofs.lemmas.Grind.{common_steps}
 use Rattle.std.proofs.Common.{ℕ, zero, suc, ◌≡◌, ◌+◌, ◌-◌, ◌*◌, ◌/◌, ◌^◌, ◌<◌, ◌≤◌, List, [], ◌∷◌, ◌++◌, length, take, refl, ap, ◌∙◌, ⊎_elim, arith}
 use Rattle.std.specs.Prelude.{replicate, slice_index}
 use Rattle.std.specs.Int.{w128, byte_worth, from_le_bytes, leading_zeros, sum_through}
@@ -78,9 +79,7 @@ zeros_before n k few fits from to =
     omega (arith, least, most, counted, few)
 
 fits : (k n : ℕ) → k ≤ 16 → n < powers k → n < 2 ^ 128
-fits k n few h =
-    let bits : 8 * k ≤ 128 = omega (arith, few) in
-    omega (arith, pow_mono bits, h)
+fits k n few h = grind (arith, pow_mono, common_steps)
 
 -- what is read from the bytes of a name has 16 less its length of zero bytes before it
 length_by_zeros : (name : List ℕ) (m : ℕ) → IsTaskName name → length (name ++ replicate m 0) ≡ 16 → 16 - leading_zeros w128 (from_le_bytes w128 (name ++ replicate m 0)) / 8 ≡ length name

@@ -1,5 +1,5 @@
 -- Names, and the bytes that store them.
-use Rattle.std.proofs.Common.{ℕ, zero, suc, ◌≡◌, ◌+◌, ◌-◌, ◌<◌, ◌≤◌, ◌==◌, true, false, List, [], ◌∷◌, ◌++◌, length, get_or, drop, refl, sym, ap, ◌∙◌, subst, arith}
+use Rattle.std.proofs.Common.{ℕ, zero, suc, ◌≡◌, ◌+◌, ◌-◌, ◌<◌, ◌≤◌, ◌==◌, true, false, List, [], ◌∷◌, ◌++◌, length, get_or, drop, sym, ap, ◌∙◌, subst, arith}
 use Rattle.std.specs.Prelude.{replicate, slice_index}
 use Rattle.std.specs.Cmp.Lexicographic.{slice_cmp}
 use Rattle.std.specs.Ordering.{nat_cmp, ordering_then}
@@ -42,8 +42,7 @@ is_name bytes place some short each all = grind (arith, nat_tests)
 -- ---- the name in the bytes
 
 zeros_alone : (n : ℕ) → before_zero (replicate n 0) ≡ []
-zeros_alone zero = refl
-zeros_alone (suc n) = refl
+zeros_alone n = grind arith
 
 read_back : (name : List ℕ) (n : ℕ) → AreBytes name → before_zero (name ++ replicate n 0) ≡ name
 read_back [] n h = zeros_alone n

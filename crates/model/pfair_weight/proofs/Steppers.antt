@@ -1,20 +1,18 @@
 -- A stepper's next subtask.
-use Rattle.std.proofs.Common.{◌≡◌, ℕ, ◌+◌, ◌-◌, ◌*◌, ◌/◌, ◌<◌, ◌≤◌, arith, refl}
+use Rattle.std.proofs.Common.{◌≡◌, ℕ, ◌+◌, ◌-◌, ◌*◌, ◌/◌, ◌<◌, ◌≤◌, arith}
 use Rattle.std.specs.Int.{div_ceil}
 use Rattle.pfair_weight.specs.Share.{Share}
 use Rattle.pfair_weight.specs.Ratio.{Ratio}
 use Rattle.pfair_weight.specs.Close.{Close}
 use Rattle.pfair_weight.specs.declared.stepper.Group.{Group}
-use Rattle.pfair_weight.specs.declared.stepper.Group.TheVariants.{Light, Whole, Heavy}
+use Rattle.pfair_weight.specs.declared.stepper.Group.TheVariants.{Heavy}
 use Rattle.pfair_weight.specs.declared.stepper.Stepper.TheInside.{Inside}
 use Rattle.pfair_weight.specs.declared.window.TheConstants.{MAX_INDEX}
 use Rattle.pfair_weight.specs.Stepped.{IsStepped, IsGroupOf}
 
 -- the kind of a light weight, or of a weight of 1, stays
 pub group_kept : (w : Share) (from to : ℕ) (group : Group) → ((x : Close) → group ≡ Heavy x → ⊥) → IsGroupOf w from group → IsGroupOf w to group
-group_kept w from to Light n h = h
-group_kept w from to Whole n h = h
-group_kept w from to (Heavy x) n h = absurd (n x refl)
+group_kept w from to group n h = grind arith
 
 -- a cascade goes on by as many slots as the window's end moves
 pub group_moves : (w : Share) (from to : ℕ) (group : Group) (x y : Close) → from ≤ to → group ≡ Heavy x →
