@@ -1,8 +1,9 @@
 -- What a split of the keys into a rising front and a rest says of ranks.
+use Rattle.std.proofs.lemmas.Grind.{common_steps}
 use Rattle.std.proofs.Common.{◌≡◌, ℕ, zero, suc, ◌+◌, ◌<◌, ◌≤◌, inl, inr, Bool, true, false, cond, List, [], ◌∷◌, ◌++◌, length, refl, sym, ap, subst, ◌∙◌, arith, get_or, append_assoc, Some}
 use Rattle.std.specs.List.{All, AllByRecursion, Contains, count_by, slice_get}
 use Rattle.std.specs.declared.cmp.Ordering.{Ordering}
-use Rattle.std.specs.declared.cmp.Ordering.TheVariants.{Less, Equal, Greater}
+use Rattle.std.specs.declared.cmp.Ordering.TheVariants.{Less}
 use Rattle.std.specs.Ordering.{is_lt, is_eq, ordering_reverse}
 use Rattle.std.specs.Cmp.{IsTotalOrder, tied_itself}
 use Rattle.std.specs.List.Sorted.{IsPermutation, IsSortedBy}
@@ -131,22 +132,16 @@ module _ {K : Type 0} {R : K → K → Ordering} (o : IsTotalOrder R) where
 
   zero_counted : (p : K → Bool) (xs : List K) → count_by p xs ≡ 0 → AllByRecursion (λ x. p x ≡ false) xs
   zero_counted p [] e = tt
-  zero_counted p (x ∷ xs) e =
-      let sum : cond (p x) 1 0 + count_by p xs ≡ 0 = sym (count_cons p x xs _ refl) ∙ e in
-      (elim (p x) as (λ b. cond b 1 0 + count_by p xs ≡ 0 → b ≡ false) [ true ↦ λ h. absurd (omega arith) | false ↦ λ h. refl ] sum, zero_counted p xs (omega arith))
+  zero_counted p (x ∷ xs) e = grind (arith, count_cons, zero_counted p xs)
 
   pub count_of_tail : (p : K → Bool) (x : K) (xs : List K) → count_by p (x ∷ xs) ≤ 1 → count_by p xs ≤ 1
   count_of_tail p x xs h = omega (arith, count_head p x xs)
 
   pub less_of : (r s : Ordering) → r ≡ ordering_reverse s → is_lt r ≡ false → is_eq r ≡ false → s ≡ Less
-  less_of r Less e f g = refl
-  less_of r Equal e f g = grind arith
-  less_of r Greater e f g = grind arith
+  less_of r s e f g = grind arith
 
   pub is_eq_back : (r s : Ordering) → r ≡ ordering_reverse s → is_eq s ≡ false → is_eq r ≡ false
-  is_eq_back r Less e f = ap is_eq e
-  is_eq_back r Equal e f = cc
-  is_eq_back r Greater e f = ap is_eq e
+  is_eq_back r s e f = grind arith
 
   all_less : (x : K) (zs : List K) → AllByRecursion (λ z. is_lt (R z x) ≡ false) zs → AllByRecursion (λ z. is_eq (R z x) ≡ false) zs → AllByRecursion (λ z. R x z ≡ Less) zs
   all_less x [] f g = tt
@@ -230,8 +225,7 @@ module _ {K : Type 0} {R : K → K → Ordering} (o : IsTotalOrder R) where
       }
 
   all_push : (P : K → Type 0) (xs : List K) (x : K) → AllByRecursion P xs → P x → AllByRecursion P (xs ++ x ∷ [])
-  all_push P [] x h p = (p, tt)
-  all_push P (y ∷ ys) x h p = (h.0, all_push P ys x h.1 p)
+  all_push P xs x h p = grind (arith, common_steps)
 
   rising_push : (xs : List K) (x : K) → Rising R xs → AllByRecursion (λ g. R g x ≡ Less) xs → Rising R (xs ++ x ∷ [])
   rising_push [] x h b = (tt, tt)
@@ -265,9 +259,7 @@ module _ {K : Type 0} {R : K → K → Ordering} (o : IsTotalOrder R) where
   counted_too p q more (x ∷ xs) = grind (arith, count_cons, counted_too p q more xs)
 
   pub is_less : (r : Ordering) → is_lt r ≡ true → r ≡ Less
-  is_less Less e = refl
-  is_less Equal e = cc
-  is_less Greater e = cc
+  is_less r e = grind arith
 
   -- of two keys the one of the less rank goes first
   pub less_by_rank : (keys : List K) (x y : K) → rank R keys x < rank R keys y → R x y ≡ Less
@@ -287,7 +279,4 @@ module _ {K : Type 0} {R : K → K → Ordering} (o : IsTotalOrder R) where
 
   -- and each of them goes before all later ones
   pub first_pairs : (m : ℕ) (keys first : List K) → AreFirst R m keys first → (i j : ℕ) (d : K) → i < j → j < length first → R (get_or first i d) (get_or first j d) ≡ Less
-  first_pairs m keys first a i j d earlier within =
-      let here : rank R keys (get_or first i d) ≡ i = (a.at_rank i (get_or first i d) (slice_get-get_or first i d (omega arith))).1 in
-      let later : rank R keys (get_or first j d) ≡ j = (a.at_rank j (get_or first j d) (slice_get-get_or first j d within)).1 in
-      less_by_rank keys (get_or first i d) (get_or first j d) (omega arith)
+  first_pairs m keys first a i j d earlier within = grind (arith, slice_get-get_or, less_by_rank, counted_too, is_less)
