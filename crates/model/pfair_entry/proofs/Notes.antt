@@ -1,5 +1,5 @@
 -- The notes of a log, one after the other.
-use Rattle.std.proofs.Common.{ℕ, zero, suc, ◌≡◌, ◌+◌, ◌<◌, ◌≤◌, List, [], ◌∷◌, length, get_or, Some, sym, ap, ◌∙◌, arith}
+use Rattle.std.proofs.Common.{ℕ, zero, suc, ◌≡◌, ◌+◌, ◌<◌, ◌≤◌, List, [], ◌∷◌, length, get_or, Some, ap, ◌∙◌, arith}
 use Rattle.std.specs.Prelude.{slice_get, AllPairs}
 use Rattle.pfair_entry.specs.Entry.{Logged}
 use Rattle.pfair_entry.specs.Writer.{Written, AreNotes, EveryLogRises}
@@ -7,33 +7,19 @@ use Rattle.pfair_entry.specs.Writer.{Written, AreNotes, EveryLogRises}
 -- a note is numbered by its place
 numbered_from : (before after : Written) (notes : List (ℕ × Logged)) → AreNotes before notes after → (i : ℕ) (n : ℕ × Logged) → slice_get notes i ≡ Some n → n.0 ≡ before.written + (i + 1)
 numbered_from before after [] are i n e = absurd (cc)
-numbered_from before after (m ∷ notes) are zero n e =
-    let here : m ≡ n = cc in
-    let number = are.1.number in
-    sym (ap (λ (p : ℕ × Logged). p.0) here) ∙ number
-numbered_from before after (m ∷ notes) are (suc i) n e =
-    let later = numbered_from are.0 after notes are.2 i n e in
-    let number = are.1.number in
-    let written : are.0.written ≡ m.0 = ap (λ (w : Written). w.written) are.1.left in
-    omega (arith, later, number, written)
+numbered_from before after (m ∷ notes) are zero n e = grind arith
+numbered_from before after (m ∷ notes) are (suc i) n e = grind (arith, numbered_from are.0 after notes are.2 i n e)
 
 -- no floor is below that of the log before
 above : (before after : Written) (notes : List (ℕ × Logged)) → AreNotes before notes after → (i : ℕ) (d : ℕ × Logged) → i < length notes → before.floor ≤ (get_or notes i d).1.floor
 above before after [] are i d within = absurd (omega arith)
 above before after (m ∷ notes) are zero d within = are.1.floor
-above before after (m ∷ notes) are (suc i) d within =
-    let later = above are.0 after notes are.2 i d (omega (arith, within)) in
-    let floor = are.1.floor in
-    let last : are.0.floor ≡ m.1.floor = ap (λ (w : Written). w.floor) are.1.left in
-    omega (arith, later, floor, last)
+above before after (m ∷ notes) are (suc i) d within = grind (arith, above are.0 after notes are.2 i d)
 
 floors_from : (before after : Written) (notes : List (ℕ × Logged)) → AreNotes before notes after → AllPairs (λ m n. m.1.floor ≤ n.1.floor) notes
 floors_from before after [] are i j d earlier within = absurd (omega arith)
 floors_from before after (m ∷ notes) are zero zero d earlier within = absurd (omega arith)
-floors_from before after (m ∷ notes) are zero (suc j) d earlier within =
-    let later = above are.0 after notes are.2 j d (omega (arith, within)) in
-    let last : are.0.floor ≡ m.1.floor = ap (λ (w : Written). w.floor) are.1.left in
-    omega (arith, later, last)
+floors_from before after (m ∷ notes) are zero (suc j) d earlier within = grind (arith, above)
 floors_from before after (m ∷ notes) are (suc i) zero d earlier within = absurd (omega arith)
 floors_from before after (m ∷ notes) are (suc i) (suc j) d earlier within = floors_from are.0 after notes are.2 i j d (omega (arith, earlier)) (omega (arith, within))
 
@@ -41,15 +27,7 @@ floors_from before after (m ∷ notes) are (suc i) (suc j) d earlier within = fl
 written_from : (before after : Written) (notes : List (ℕ × Logged)) → before.written ≤ before.capacity → AreNotes before notes after
     → (after.written ≡ before.written + length notes) × (before.written + length notes ≤ before.capacity)
 written_from before after [] fits are = (let same = ap (λ (w : Written). w.written) are in omega (arith, same), omega (arith, fits))
-written_from before after (m ∷ notes) fits are =
-    let number = are.1.number in
-    let room = are.1.room in
-    let written : are.0.written ≡ m.0 = ap (λ (w : Written). w.written) are.1.left in
-    let capacity : are.0.capacity ≡ before.capacity = ap (λ (w : Written). w.capacity) are.1.left in
-    let more = written_from are.0 after notes (omega (arith, number, room, written, capacity)) are.2 in
-    let count = more.0 in
-    let within = more.1 in
-    (omega (arith, count, number, written), omega (arith, within, number, written, capacity))
+written_from before after (m ∷ notes) fits are = grind (arith, written_from are.0 after notes)
 
 pub every_log_rises : EveryLogRises
 every_log_rises capacity notes after are =

@@ -4,17 +4,15 @@ use Rattle.std.specs.Prelude.{slice_index, nat_lt, ◌==◌, option_and_then}
 use Rattle.std.proofs.lemmas.Bool.Decides.{nat_tests}
 use Rattle.pfair_weight.specs.Name.{may_stand, IsTaskName}
 use Rattle.pfair_weight.specs.NameFault.{IsFaultOf as IsNameFaultOf}
-use Rattle.pfair_weight.specs.Share.{IsWeight}
 use Rattle.pfair_weight.specs.WeightFault.{IsFaultOf as IsWeightFaultOf}
 use Rattle.pfair_weight.specs.declared.name.NameFault.{NameFault}
 use Rattle.pfair_weight.specs.declared.name.NameFault.TheVariants as name
 use Rattle.pfair_weight.specs.declared.weight.WeightFault.{WeightFault}
 use Rattle.pfair_weight.specs.declared.weight.WeightFault.TheVariants as weight
-use Rattle.pfair_entry.specs.Entry.{Logged, IsEntry, IsWithinLimits}
-use Rattle.pfair_entry.specs.EntryFault.{entry_fault, limit_fault}
+use Rattle.pfair_entry.specs.Entry.{Logged, IsEntry}
+use Rattle.pfair_entry.specs.EntryFault.{entry_fault}
 use Rattle.pfair_entry.specs.Notice.{announced_fault, first_failing, name_fault, refusal, weight_fault, IsLoggable, IsNamed, IsWeighed, IsWellSaid}
 use Rattle.pfair_entry.specs.declared.announcement.Announcement.{Announcement}
-use Rattle.pfair_entry.specs.declared.announcement.Announcement.TheVariants.{Arrive, Depart, Late}
 use Rattle.pfair_entry.specs.declared.entry.EntryFault.{EntryFault}
 use Rattle.pfair_entry.specs.declared.notice.NoticeFault.TheVariants.{Entry}
 
@@ -49,10 +47,7 @@ no_name_fault bytes ok =
 
 pub name_fault_is : (bytes : List ℕ) (f : NameFault) → IsNameFaultOf bytes f → name_fault bytes ≡ Some f
 name_fault_is bytes name.Empty h = rw h refl
-name_fault_is bytes name.TooLong h =
-    let some : (length bytes == 0) ≡ false = grind (arith, nat_tests, h) in
-    let long : nat_lt 16 (length bytes) ≡ true = grind (arith, nat_tests, h) in
-    rw (some, long) refl
+name_fault_is bytes name.TooLong h = grind (arith, nat_tests)
 name_fault_is bytes (name.BadByte at) h =
     let some : (length bytes == 0) ≡ false = grind (arith, nat_tests, h.not_empty) in
     let short : nat_lt 16 (length bytes) ≡ false = grind (arith, nat_tests, h.not_too_long) in
@@ -61,41 +56,23 @@ name_fault_is bytes (name.BadByte at) h =
 
 -- ---- weights
 
-no_weight_fault : (cost period : ℕ) → IsWeight cost period → weight_fault cost period ≡ None
-no_weight_fault cost period ok = grind (arith, nat_tests, ok.some_cost, ok.at_most_one, ok.period_in_range)
-
 pub weight_fault_is : (cost period : ℕ) (f : WeightFault) → IsWeightFaultOf cost period f → weight_fault cost period ≡ Some f
-weight_fault_is cost period weight.ZeroCost h = rw h refl
-weight_fault_is cost period weight.CostOverPeriod h = grind (arith, nat_tests, h.0, h.1)
-weight_fault_is cost period weight.PeriodTooLong h = grind (arith, nat_tests, h.0, h.1, h.2)
+weight_fault_is cost period f h = grind (arith, nat_tests)
 
 -- ---- what is announced
 
 no_announced_fault : (a : Announcement) → IsNamed a → IsWeighed a → announced_fault a ≡ None
-no_announced_fault (Arrive name share early) named weighed = rw (no_name_fault name named, no_weight_fault share.cost share.period weighed) refl
-no_announced_fault (Depart name) named weighed = rw (no_name_fault name named) refl
-no_announced_fault (Late name index by) named weighed = rw (no_name_fault name named) refl
+no_announced_fault a named weighed = grind (arith, no_name_fault)
 
 -- ---- entries
 
-no_limit_fault : (a : Announcement) → IsWithinLimits a → limit_fault a ≡ None
-no_limit_fault (Arrive name share early) within = refl
-no_limit_fault (Depart name) within = refl
-no_limit_fault (Late name index by) within = grind (arith, nat_tests, within.0.0, within.0.1, within.1.0, within.1.1)
-
 no_entry_fault : (floor : ℕ) (s : Option (ℕ × Announcement)) → IsEntry (record { floor = floor; said = s }) → entry_fault (record { floor = floor; said = s }) ≡ None
-no_entry_fault floor None e = grind (arith, nat_tests, e.floor_in_range)
-no_entry_fault floor (Some s) e =
-    let low : nat_lt 1000000 floor ≡ false = grind (arith, nat_tests, e.floor_in_range) in
-    let near : nat_lt 1000000 s.0 ≡ false = grind (arith, nat_tests, e.stamp_in_range) in
-    let after : nat_lt s.0 floor ≡ false = grind (arith, nat_tests, e.stamped) in
-    rw (low, near, after) (no_limit_fault s.1 e.within_limits)
+no_entry_fault floor s e = grind (arith, nat_tests)
 
 -- ---- the first of all
 
 no_said_fault : (s : Option (ℕ × Announcement)) → IsWellSaid s → option_and_then (λ s. announced_fault s.1) s ≡ None
-no_said_fault None well = refl
-no_said_fault (Some s) well = no_announced_fault s.1 well.0 well.1
+no_said_fault s well = grind (arith, no_announced_fault)
 
 -- what a log may have is refused by no rule
 pub no_refusal : (e : Logged) → IsLoggable e → refusal e ≡ None

@@ -1,7 +1,7 @@
 //! The entries of a log.
-ghost use Rattle.std.specs.Prelude.{◌≡◌, Some, IfOk, IfErr, OnOk};
-ghost use Rattle.pfair_entry.specs.Entry.{IsEntry, IsWithinLimits};
-ghost use Rattle.pfair_entry.specs.EntryFault.{entry_fault, entry_fault_number, limit_fault};
+ghost use Rattle.std.specs.Prelude.{◌≡◌, Some, IfOk, IfErr};
+ghost use Rattle.pfair_entry.specs.Entry.{IsEntry};
+ghost use Rattle.pfair_entry.specs.EntryFault.{entry_fault, entry_fault_number};
 
 use crate::announcement::Announcement;
 use pfair_lattice::Exact;
@@ -99,7 +99,14 @@ impl Entry {
         if *stamp < floor {
             return Err(EntryFault::StampBeforeFloor);
         }
-        within_limits(*announcement)?;
+        if let Announcement::Late { index, by, .. } = announcement {
+            if *index == 0 || *index > Entry::LAST_INDEX {
+                return Err(EntryFault::BadIndex);
+            }
+            if *by == 0 || *by > Entry::LONGEST_DELAY {
+                return Err(EntryFault::BadDelay);
+            }
+        }
         Ok(Entry { floor, said })
     }
 
@@ -119,21 +126,5 @@ impl Entry {
         ensures entry { IsEntry self.now }
     {
         self.said
-    }
-}
-
-// Whether what is delayed is a subtask of the run, and not by too much.
-fn within_limits(announcement: Announcement) -> Result<(), EntryFault>
-    ensures ok { OnOk result (IsWithinLimits announcement) }
-    ensures err { IfErr result (λ fault. limit_fault announcement ≡ Some fault) }
-{
-    match announcement {
-        Announcement::Late { index, .. } if index == 0 || index > Entry::LAST_INDEX => Err(
-            EntryFault::BadIndex,
-        ),
-        Announcement::Late { by, .. } if by == 0 || by > Entry::LONGEST_DELAY => Err(
-            EntryFault::BadDelay,
-        ),
-        _ => Ok(()),
     }
 }

@@ -91,13 +91,9 @@ impl Writer {
         if floor < self.floor {
             return Err(NoteFault::FloorFell);
         }
-        match Entry::new(floor, said) {
-            Ok(entry) => {
-                self.written += 1;
-                self.floor = floor;
-                Ok((self.written, entry))
-            }
-            Err(fault) => Err(NoteFault::Refused(fault)),
-        }
+        let entry = Entry::new(floor, said).map_err(NoteFault::Refused)?;
+        self.written += 1;
+        self.floor = floor;
+        Ok((self.written, entry))
     }
 }
