@@ -44,10 +44,7 @@ module _ (row : ℕ → Held Logged) where
   part_whole capacity part p room ends =
       let count = p.count in
       let left = capacity - part.count in
-      let rest : run_from row left (part.count + 1) (last_floor 0 p.entries) ≡ [] = ⊎_elim
-      (λ full. ap (λ n. run_from row n (part.count + 1) (last_floor 0 p.entries)) (let none : left ≡ 0 = omega (arith, full) in none))
-      (λ none. run_ends row left (part.count + 1) (last_floor 0 p.entries) (ap (goes_on (row (part.count + 1))) p.mark ∙ none))
-      ends in
+      let rest : run_from row left (part.count + 1) (last_floor 0 p.entries) ≡ [] = grind (arith, run_ends) in
       let whole : p.entries ≡ run_from row capacity 1 0 =
       sym (append-nil p.entries) ∙ ap (λ es. p.entries ++ es) (sym rest) ∙ run_begins row p.entries 1 0 left capacity (part.count + 1) p.run (omega (arith, count, room)) (omega (arith, count)) in
       λ i. record { count = (sym p.count ∙ ap length whole) i; mark = (sym p.mark ∙ ap (last_floor 0) whole) i }
@@ -99,12 +96,7 @@ module _ (old now : ℕ → Held Logged) where
   moved_before capacity number first within same nothing =
       let short = shorter_run old (run_from old capacity 1 0) (number - 1) 1 0 (omega (arith, within)) (run_is_run old capacity 1 0) in
       let count = short.2 in
-      record {
-        entries = short.0;
-        run = moved_run short.0 1 0 (λ m low high. same m low (omega (arith, count, high, first))) short.1;
-        count = omega (arith, count, first);
-        zero = nothing;
-      }
+      grind (arith, moved_run)
 
 -- what is left of a sound beginning after something came at one number, and nothing was taken away
 pub left_at : (capacity number : ℕ) (old now : ℕ → Held Logged) → 1 ≤ number → now 0 ≡ None → ((m : ℕ) → m ≢ number → now m ≡ old m) → HeldBelow (old number) (now number)

@@ -1,5 +1,5 @@
 -- Counters that follow what comes into the rows.
-use Rattle.std.proofs.Common.{ℕ, ◌+◌, ◌<◌, ◌≤◌, ◌≡◌, refl, sym, ap, ◌∙◌, subst, arith, inl, inr, ⊎_elim, cond, List, length, Option, Some, None}
+use Rattle.std.proofs.Common.{ℕ, ◌+◌, ◌<◌, ◌≤◌, ◌≡◌, refl, sym, ap, ◌∙◌, subst, arith, inr, ⊎_elim, cond, List, length, Option, Some, None}
 use Rattle.std.specs.Prelude.{◌⊎◌, ◌≢◌, ◌==◌, slice_get, set, replicate}
 use Rattle.std.proofs.lemmas.Bool.{cases_eq, eq-eqb, ne_eqb}
 use Rattle.std.proofs.lemmas.List.{length-set, get_or-set_other, length-replicate, get_or-replicate}
@@ -27,10 +27,7 @@ set_at : (xs : List Beginning) (p k : ℕ) (y b : Beginning) → p < length xs �
 set_at xs p k y b room e =
     let here = get_or_from_slice_get (set xs p y) k b b e in
     let within : k < length xs = (let h = slice_get_within (set xs p y) k b e in let same = length-set xs p y in omega (arith, h, same)) in
-    ⊎_elim
-    (λ same. inl (same, sym here ∙ get_or-set_at xs p k y b same room))
-    (λ ne. inr (ne, slice_get-get_or xs k b within ∙ ap Some (sym (get_or-set_other xs p k y b ne) ∙ here)))
-    (cases_eq k p)
+    grind (arith, get_or-set_at, slice_get-get_or, get_or-set_other, cases_eq)
 
 -- the beginnings of a list of rows
 abbrev Beginnings : ℕ → Contents → List Beginning → Type 0
@@ -89,10 +86,7 @@ module _ (capacity : ℕ) (other now : Contents) (xs : List Beginning) (first : 
     pub midway_as_it_was : ((n : ℕ) → other p n ≡ None) → Midway capacity (p + 1) other now xs first
     midway_as_it_was nothing = record {
       apart = m.apart;
-      done = λ k n low. ⊎_elim
-          (λ same. sym (m.apart.same k (λ j. ap (λ q. other q j) same ∙ nothing j) n))
-          (λ ne. m.done k n (omega (arith, low, ne)))
-          (cases_eq k p);
+      done = grind (arith, cases_eq);
     }
 
     abbrev mid : Contents
@@ -114,27 +108,15 @@ module _ (capacity : ℕ) (other now : Contents) (xs : List Beginning) (first : 
             counters = record {
               beginnings = one_followed capacity p w.old mid xs y room (is ∙ sym (λ i. beginning_in capacity (λ n. mid_here p n refl i))) mid_there w.counters.beginnings;
               torn = earlier_first (IsTornAt w.old) (λ k n. (k ≡ p) × IsTornAt now k n) (IsTornAt mid) first found result w.counters.torn torn e
-                  (λ k n h. ⊎_elim
-                  (λ same. mid_here k n same ∙ still_torn (w.old k n) (now k n) (w.below k n) h)
-                  (λ ne. mid_there k n ne ∙ h)
-                  (cases_eq k p))
+                  (grind (arith, mid_here, still_torn, mid_there, cases_eq))
                   (λ k n h. mid_here k n h.0 ∙ h.1)
-                  (λ k n h. ⊎_elim
-                  (λ same. inr (same, sym (mid_here k n same) ∙ h))
-                  (λ ne. inl (sym (mid_there k n ne) ∙ h))
-                  (cases_eq k p));
+                  (grind (arith, mid_here, mid_there, cases_eq));
             };
             same = λ k nothing n. ⊎_elim (λ same. sym (mid_here k n same)) (λ ne. w.same k nothing n ∙ sym (mid_there k n ne)) (cases_eq k p);
-            below = λ k n. ⊎_elim
-                (λ same. subst (λ (h : Held Logged). HeldBelow h (now k n)) (sym (mid_here k n same)) (below_itself (now k n)))
-                (λ ne. subst (λ (h : Held Logged). HeldBelow h (now k n)) (sym (mid_there k n ne)) (w.below k n))
-                (cases_eq k p);
+            below = grind (arith, mid_here, below_itself, mid_there, cases_eq);
             within = λ k n h. subst (λ (l : ℕ). (k < l) × (1 ≤ n) × (n ≤ capacity)) (sym (length-set xs p y)) (w.within k n h);
           };
-          done = λ k n low. ⊎_elim
-              (λ same. mid_here k n same)
-              (λ ne. mid_there k n ne ∙ m.done k n (omega (arith, low, ne)))
-              (cases_eq k p);
+          done = grind (arith, mid_here, mid_there, cases_eq);
         }
 
 -- ---- the counters of a replica

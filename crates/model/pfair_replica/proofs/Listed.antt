@@ -61,8 +61,7 @@ module _ (x : Replica) where
       let at = h.1 in
       among_contains (fallen_keys x) (entry_key k n)
       (flat_among (fallen_in x) (numbers_below x.processors) (entry_key k n) k (below_among x.processors k (r.in_range k n (One at.0) at.1).0)
-      (subst (λ (i : ℕ). Among (fallen_at k i (mark x k) (x.at k i)) (entry_key k n)) h.0
-      (subst (λ (c : Held Logged). Among (fallen_at k n (mark x k) c) (entry_key k n)) (sym at.1) (fallen_here k n (mark x k) at.0 at.2))))
+      (grind (arith, fallen_here)))
 
 pub listed : IsListed
 listed = record {

@@ -40,9 +40,6 @@ impl BySlot {
     }
 
     /// Adds an item behind those of a slot.
-    ///
-    /// # Errors
-    /// Returns [`AllocError`] if an allocation fails; nothing has then changed.
     pub(crate) fn push(&mut self, alloc: Global, slot: u64, said: Said) -> Result<(), AllocError>
         ensures ok { OnOk result ((t : ℕ) → listed_at self.new.lists t ≡ listed_at self.old.lists t ++ one_at slot said t) }
         ensures err { OnErr result ((t : ℕ) → listed_at self.new.lists t ≡ listed_at self.old.lists t) }

@@ -308,13 +308,8 @@ impl Replica {
         let (count, mark) = self.sound_beginning(processor);
         let number = count + 1;
         match self.get(processor, number) {
-            Some(Flat::One(entry)) => {
-                if entry.floor() < mark {
-                    fallen.push((processor, number))?;
-                }
-            }
-            Some(Flat::Torn) => {}
-            None => {}
+            Some(Flat::One(entry)) if entry.floor() < mark => fallen.push((processor, number))?,
+            _ => {}
         }
         Ok(())
     }
@@ -334,18 +329,13 @@ impl Replica {
 }
 
 // Notes in an agenda what an entry says.
-fn note_said_by(
-    processor: u8,
-    number: u32,
-    entry: Entry,
-    agenda: &mut Agenda,
-) -> Result<(), AllocError>
-    ensures heard { OnOk result ((t : ℕ) → said_at agenda.new t ≡ said_at agenda.old t ++ said_by t processor number entry.said) }
+fn note_said_by(proc: u8, number: u32, entry: Entry, agenda: &mut Agenda) -> Result<(), AllocError>
+    ensures heard { OnOk result ((t : ℕ) → said_at agenda.new t ≡ said_at agenda.old t ++ said_by t proc number entry.said) }
     ensures wanted { OnErr result (IsSome entry.said) }
     ensures unchanged { OnErr result ((t : ℕ) → said_at agenda.new t ≡ said_at agenda.old t) }
 {
     if let Some((stamp, announcement)) = entry.said() {
-        agenda.push(stamp, processor, number, announcement)?;
+        agenda.push(stamp, proc, number, announcement)?;
     }
     Ok(())
 }
