@@ -38,9 +38,6 @@ none_set (x ∷ near) zero (suc j) b empty h = h
 none_set (x ∷ near) (suc i) zero b empty h = h
 none_set (x ∷ near) (suc i) (suc j) b empty h = none_set near i j b empty h
 
-pub empty_has_none : (xs : List Date) (d : Date) → xs ≡ [] → Contains xs d → ⊥
-empty_has_none xs d empty c = let within = c.1 in let long = ap (λ (l : List Date). length l) empty in omega (arith, within, long)
-
 -- two of 64 slots that have one list are the same
 same_slot : (from r s : ℕ) → from < r → r ≤ from + 64 → from < s → s ≤ from + 64 → r % 64 ≡ s % 64 → r ≡ s
 same_slot from r s a b c d e = let x = div-add-mod r 64 in let y = div-add-mod s 64 in omega (arith, a, b, c, d, e, x, y)
@@ -65,7 +62,7 @@ noted_far c c' more turned near d noted = grind (arith, still_near)
 
 -- nothing is noted if there is neither
 pub none_noted : (c : Calendar) → c.near.items ≡ [] → c.far ≡ [] → (d : Date) → IsNoted c d → ⊥
-none_noted c near far d noted = grind (arith, empty_has_none)
+none_noted c near far d noted = grind arith
 
 -- ---- what moves
 
@@ -113,7 +110,7 @@ moves_far slot Was c c' turns0 turns turns' m f turned near =
 -- the near slots are those after a later one, if the lists up to that are empty
 pub moves_turned : (slot : ℕ) (Was : Date → Type 0) (c c' : Calendar) (turns turns' : Turned) → Moves slot Was (IsNoted c) turns turns' → c.turned ≤ slot → ((s : ℕ) → c.turned < s → s ≤ c.turned + 64 → s ≤ slot → under c.near.items s ≡ [])
     → c'.turned ≡ slot → c'.near.items ≡ c.near.items → c'.far ≡ c.far → Moves slot Was (IsNoted c') turns turns'
-moves_turned slot Was c c' turns turns' m later empty turned near far = grind (arith, empty_has_none, leb-true, leb-false)
+moves_turned slot Was c c' turns turns' m later empty turned near far = grind (arith, leb-true, leb-false)
 
 pub popped_last : (o : Option Date) (xs ys : List Date) (last : Date) (n : ℕ) → n ≡ length xs → xs ≡ ys ++ option_to_list o → ((d : Date) → 0 < n → o ≡ Some (slice_index_or xs (n - 1) d)) → Some last ≡ slice_get xs (length xs - 1)
     → (d : Date) → Contains xs d → (last ≡ d) ⊎ Contains ys d

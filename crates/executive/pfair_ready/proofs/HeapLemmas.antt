@@ -24,13 +24,10 @@ pushed_more item x xs ys p h = Contains-permutation (item ∷ xs) ys x p (Contai
 pub pushed_top : {A : Type 0} (item : A) (xs ys : List A) → IsPermutation (item ∷ xs) ys → Contains ys item
 pushed_top item xs ys p = Contains-permutation (item ∷ xs) ys item p (0, omega arith, refl)
 
-pub same_head : {A : Type 0} (xs : List A) (x y : A) → 0 < length xs → x ≡ slice_index_or xs 0 x → y ≡ slice_index_or xs 0 y → x ≡ y
-same_head xs x y h e f = grind (arith, common_steps)
-
 -- a heap's top is taken out
 pub popped : {A : Type 0} (o : Option A) (xs ys : List A) (top : A) (n : ℕ) → n ≡ length xs → 0 < length xs → top ≡ slice_index_or xs 0 top
     → IfNone o (n ≡ 0) → IfSome o (λ x. x ≡ slice_index_or xs 0 x) → IfSome o (λ x. IsPermutation xs (x ∷ ys)) → IsPermutation xs (top ∷ ys)
-popped o xs ys top n e some t none at p = grind (arith, same_head)
+popped o xs ys top n e some t none at p = grind (arith, common_steps)
 
 -- an item more in a heap of reversed ones
 pub given : {A : Type 0} (item : A) (xs ys : List (Reverse A)) (all : List A) → map (λ (r : Reverse A). r.0) xs ≡ all → IsPermutation (record { 0 = item } ∷ xs) ys → IsPermutation (item ∷ all) (map (λ (r : Reverse A). r.0) ys)

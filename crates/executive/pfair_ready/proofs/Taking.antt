@@ -7,7 +7,7 @@ use Rattle.std.specs.Ordering.{is_lt, is_eq}
 use Rattle.std.specs.Cmp.{Equal-is, tied_itself}
 use Rattle.std.specs.FinMap as finmap
 use Rattle.std.specs.List.Sorted.{IsPermutation}
-use Rattle.std.proofs.lemmas.List.Sorted.{IsPermutation-refl, IsPermutation-sym}
+use Rattle.std.proofs.lemmas.List.Sorted.{IsPermutation-sym}
 use Rattle.std.proofs.lemmas.List.Elements.{All-contains}
 use Rattle.std.proofs.lemmas.Bool.{true≢false, and_parts}
 use Rattle.std.proofs.lemmas.Bool.Decides.{nat_tests}
@@ -64,11 +64,7 @@ pub taking_none : (slot m : ℕ) (start : Queue) (dates : Calendar) (turns : Lis
     → IsCovered slot start dates turns → ((d : Date) → IsNoted dates d → slot < d.release) → IsTaking slot m (length turns) start start dates turns []
 taking_none slot m start dates turns c later =
     record {
-      split = record {
-        parts = IsPermutation-refl (released slot start);
-        rising = tt;
-        after = each_trivial (released slot start);
-      };
+      split = grind (arith, each_trivial);
       left = sym (without_none start);
       covered = c;
       later = later;

@@ -12,6 +12,8 @@ use pfair_weight::TaskName;
 use std::alloc::{AllocError, Global};
 use std::marker::Model;
 
+type Entries = IndexMap<TaskName, Option<(u64, Key)>>;
+
 /// Under each name the release and the key that wait.
 ///
 /// A name keeps its entry when its key is taken, since the next key of its task mostly follows. Such
@@ -20,7 +22,7 @@ use std::marker::Model;
 /// Calls take a hint where the name stands. It changes no answer: a wrong one costs a look-up.
 #[derive(Drop)]
 pub(crate) struct Waiting {
-    entries: IndexMap<TaskName, Option<(u64, Key)>>,
+    entries: Entries,
     // how many names have an entry without a key
     vacant: usize,
 }
@@ -145,11 +147,7 @@ impl Waiting {
 }
 
 // Where a name stands: it is looked up only if the hint is wrong.
-fn find(
-    entries: &IndexMap<TaskName, Option<(u64, Key)>>,
-    hint: usize,
-    name: &TaskName,
-) -> Option<usize>
+fn find(entries: &Entries, hint: usize, name: &TaskName) -> Option<usize>
     ensures some { IfSome result (IsEntryOf entries.now.entries name.now) }
     ensures none { IfNone result (at_name name_eq entries.now name.now ≡ None) }
     ensures unique { IsUnique name_eq entries.now }
@@ -163,7 +161,7 @@ fn find(
 }
 
 // What waits under the name whose entry is at the index.
-fn held_at(entries: &IndexMap<TaskName, Option<(u64, Key)>>, index: usize) -> Option<(u64, Key)>
+fn held_at(entries: &Entries, index: usize) -> Option<(u64, Key)>
     ensures { (name : NameValue) → IsEntryOf entries.now.entries name index → at_name name_eq entries.now name ≡ Some result }
 {
     match entries.get_index(index) {
@@ -173,11 +171,7 @@ fn held_at(entries: &IndexMap<TaskName, Option<(u64, Key)>>, index: usize) -> Op
 }
 
 // From now on this waits under the name whose entry is at the index.
-fn put_at(
-    entries: &mut IndexMap<TaskName, Option<(u64, Key)>>,
-    index: usize,
-    held: Option<(u64, Key)>,
-)
+fn put_at(entries: &mut Entries, index: usize, held: Option<(u64, Key)>)
     ensures updates { (name : NameValue) → IsEntryOf entries.old.entries name index → Updates name_eq entries.old entries.new name (Some held) }
     ensures unique { IsUnique name_eq entries.new }
 {

@@ -1,8 +1,8 @@
-use Rattle.std.proofs.Common.{◌∷◌, [], inl, inr, refl, sym, ap, subst, ◌∙◌, List, length}
-use Rattle.std.specs.Prelude.{Contains, slice_get, slice_set}
+use Rattle.std.proofs.Common.{◌∷◌, [], inr, refl, sym, ap, subst, ◌∙◌, List, length, arith}
+use Rattle.std.specs.Prelude.{Contains}
 use Rattle.std.specs.Vec.{with_item}
 use Rattle.std.proofs.lemmas.Option.{slice_get_read}
-use Rattle.std.proofs.lemmas.List.Elements.{Contains-append_left, Contains-push}
+use Rattle.std.proofs.lemmas.List.Elements.{Contains-append_left}
 use Rattle.pfair_ready.specs.declared.calendar.Calendar.{Calendar}
 use Rattle.pfair_ready.specs.declared.far_dates.Date.{Date}
 use Rattle.pfair_ready.specs.Calendar.{in_bucket}
@@ -27,12 +27,7 @@ pub returns-in_ok-push-in-Some-clause-there : goal.returns-in_ok-push-in-Some-cl
 returns-in_ok-push-in-Some-clause-there c =
     let made : Calendar = c.make_near.new.self in
     let bucket = c.in-Some.ensures in
-    inl (record {
-      after = bucket.2;
-      within = bucket.3;
-      there = subst (λ (l : List Date). Contains l c.args.date) (sym (ap (λ i. in_bucket (slice_get (slice_set made.near.items c.in-Some.bucket c.push.new.self) i)) (sym bucket.0) ∙ at_set made.near.items c.in-Some.bucket c.push.new.self bucket.1 ∙ c.in_ok-push-in-Some.ensures.items))
-          (Contains-push c.index_mut.result.now.items c.args.date);
-    })
+    grind (arith, at_set)
 
 pub returns-in_err-push-in-None-clause-kept : goal.returns-in_err-push-in-None-clause-kept
 returns-in_err-push-in-None-clause-kept c =

@@ -50,5 +50,4 @@ returns-clause-moves c =
     let was : Calendar = c.loop-ahead.self in
     let same = c.loop-ahead.invariant.turned in
     let before = c.requires.turned in
-    moves_turned c.args.slot (IsNoted c.args.self.now) was (record { turned = c.args.slot; near = was.near; far = was.far }) c.args.released.now c.loop-ahead.released c.loop-ahead.invariant.moves (omega (arith, same, before))
-    (λ s after near due. c.loop-ahead.invariant.emptied s (omega (arith, same, after)) (omega (arith, same, near, due, before, c.loop-ahead-test.false, c.min-ahead-end.ensures))) refl refl refl
+    grind (arith, moves_turned)

@@ -1,8 +1,8 @@
-use Rattle.std.proofs.Common.{◌≡◌, not, None, sym, ap, ◌∙◌}
+use Rattle.std.proofs.Common.{◌≡◌, not, None, sym, ap, ◌∙◌, arith}
 use Rattle.std.specs.FinMap as finmap
 use Rattle.std.proofs.lemmas.Bool.{true≢false}
 use Rattle.pfair_weight.proofs.NamesApart.{apart_push}
-use Rattle.pfair_ready.specs.PlainList.{queue_of, first_named}
+use Rattle.pfair_ready.specs.PlainList.{first_named}
 use Rattle.pfair_weight.specs.Options.{nothing}
 use Rattle.pfair_ready.proofs.PlainListLemmas.{name_of, none_named, contained, queue_of_push}
 use Rattle.pfair_ready.proofs.plain.PlainReadyReady.insert.Goals as goal
@@ -36,5 +36,4 @@ pub returns-clause-content : goal.returns-clause-content
 returns-clause-content c =
     let none : first_named c.args.key.name c.self.inside.waiting.items ≡ None =
     sym (c.find_name.ensures ∙ ap (first_named c.args.key.name) c.deref.ensures.value) ∙ nothing c.find_name.result (sym c.is_some.ensures ∙ c.if-is_some.false) in
-    ap queue_of c.in_ok-push.ensures.items ∙ queue_of_push c.self.inside.waiting.items _ none
-    ∙ ap (λ v. finmap.insert v.held c.args.key.name (c.args.release, c.args.key)) c.self.view_is
+    grind (arith, queue_of_push)

@@ -1,4 +1,4 @@
-use Rattle.std.proofs.Common.{◌≡◌, None, sym, subst}
+use Rattle.std.proofs.Common.{◌≡◌, sym, subst, arith}
 use Rattle.std.specs.FinMap as finmap
 use Rattle.pfair_ready.specs.Queue.{Queue}
 use Rattle.pfair_ready.proofs.WaitingLemmas.{held_there, none_there}
@@ -7,8 +7,7 @@ use Rattle.pfair_ready.proofs.waiting.Waiting.get.Goals as goal
 pub returns-in_err-index : goal.returns-in_err-index
 returns-in_err-index c =
     rw c.from_residual.ensures
-    (sym (subst (λ (h : Queue). finmap.get h c.args.name.now ≡ None) c.self.view_is
-    (none_there c.self.inside.entries.entries c.args.name.now c.in_err-index.ensures.unique c.in_err-index.ensures.none)))
+    (grind (arith, none_there))
 
 pub returns : goal.returns
 returns c =
