@@ -1,5 +1,5 @@
 -- Books of lags that are notified of some slots, and then of more.
-use Rattle.std.proofs.Common.{ℕ, ◌+◌, ◌-◌, ◌≤◌, ◌≡◌, refl, sym, ap, subst, ◌∙◌, arith, inl, inr, List, [], ◌∷◌, ◌++◌, length, min, take, drop, append_assoc}
+use Rattle.std.proofs.Common.{ℕ, ◌+◌, ◌-◌, ◌≤◌, ◌≡◌, refl, sym, ap, subst, ◌∙◌, arith, List, [], ◌∷◌, ◌++◌, length, min, take, drop, append_assoc}
 use Rattle.std.specs.Prelude.{max}
 use Rattle.std.proofs.Math.Seq.{take-add}
 use Rattle.std.proofs.lemmas.Bool.{cases_order}
@@ -36,10 +36,7 @@ time-told : (book : Book) (ds : List (List Decided)) (ts : List Table) → lengt
 time-told book [] [] e = omega arith
 time-told book [] (t ∷ ts) e = absurd (omega arith)
 time-told book (d ∷ ds) [] e = absurd (omega arith)
-time-told book (d ∷ ds) (t ∷ ts) e =
-    let rest = time-told (slot_told d t book) ds ts (omega arith) in
-    let one : (slot_told d t book).time ≡ book.time + 1 = ap (λ n. n + 1) (time-all_told d book) in
-    omega (arith, rest, one)
+time-told book (d ∷ ds) (t ∷ ts) e = grind (arith, time-all_told, time-told (slot_told d t book) ds ts)
 
 -- the first slots, and those from there up to a later one
 joined : {A : Type 0} (xs : List A) (early late : ℕ) → early ≤ late → take early xs ++ take (late - early) (drop early xs) ≡ take late xs
@@ -47,21 +44,10 @@ joined xs early late h = sym (take-add early (late - early) xs) ∙ ap (λ n. ta
 
 -- if no slot is behind a place, the place doesn't matter
 left_at : {A : Type 0} (xs : List A) (n slot : ℕ) → n ≡ min slot (length xs) → drop n xs ≡ drop slot xs
-left_at xs n slot e =
-    elim (cases_order slot (length xs)) [
-      | inl same ↦ ap (λ k. drop k xs) (let k : n ≡ slot = omega (arith, e, same) in k)
-      | inr (inl less) ↦ ap (λ k. drop k xs) (let k : n ≡ slot = omega (arith, e, less) in k)
-      | inr (inr more) ↦ drop_all n xs (omega (arith, e, more)) ∙ sym (drop_all slot xs (omega (arith, more)))
-    ]
+left_at xs n slot e = grind (arith, cases_order, drop_all)
 
 pub book_grown : (slot : ℕ) (ts us : List Table) (ds es : List (List Decided)) (book : Book) → length ts ≡ length ds → IsPrefixOf ts us → IsPrefixOf ds es → IsBookOf slot ts ds book → IsBookOf slot us es book
-book_grown slot ts us ds es book same more_ts more_ds b =
-    let there : book.time ≤ length ts = b.there in
-    let there' : book.time ≤ length ds = omega arith in
-    let tables : take book.time ts ≡ take book.time us = sym (take-append-le book.time ts more_ts.0 there) ∙ ap (take book.time) more_ts.1 in
-    let decided : take book.time ds ≡ take book.time es = sym (take-append-le book.time ds more_ds.0 there') ∙ ap (take book.time) more_ds.1 in
-    let long : length ts ≤ length us = longer ts us more_ts in
-    record { early = b.early; there = omega arith; told_is = b.told_is ∙ (λ i. all_slots_told empty_book (decided i) (tables i)) }
+book_grown slot ts us ds es book same more_ts more_ds b = grind (arith, take-append-le, longer)
 
 -- an entry was taken, and more is planned
 pub book_after_plans : (slot : ℕ) (d taken after : Dispatch) (book : Book) → length d.tables ≡ length d.decided → taken ≡ record d { held = taken.held } → IsGrown taken after
@@ -84,18 +70,11 @@ module _ (ds : List (List Decided)) (ts : List Table) (same : length ts ≡ leng
           ∙ (λ i. all_slots_told empty_book (joined ds early slot h i) (joined ts early slot h i))
 
   time_before : (slot : ℕ) → (book_before slot ts ds).time ≡ min slot (length ts)
-  time_before slot =
-      let n = length-take slot ds in
-      let m = length-take slot ts in
-      let t = time-told empty_book (take slot ds) (take slot ts) (omega arith) in
-      omega arith
+  time_before slot = grind (arith, length-take, time-told)
 
   -- the rows from there on
   pub rows_on : (slot : ℕ) (b1 : Book) → b1 ≡ book_before slot ts ds → rows_told b1 (drop b1.time ds) (drop b1.time ts) ≡ rows_from Lags slot ts ds
-  rows_on slot b1 e =
-      let time : b1.time ≡ min slot (length ts) = ap (λ (b : Book). b.time) e ∙ time_before slot in
-      let time' : b1.time ≡ min slot (length ds) = omega arith in
-      (λ i. rows_told (e i) (left_at ds b1.time slot time' i) (left_at ts b1.time slot time i))
+  rows_on slot b1 e = grind (arith, e, time_before, left_at)
 
   -- the book after all slots
   pub all_told_before : (slot : ℕ) → all_slots_told (book_before slot ts ds) (drop slot ds) (drop slot ts) ≡ all_slots_told empty_book ds ts
@@ -106,12 +85,4 @@ module _ (ds : List (List Decided)) (ts : List Table) (same : length ts ≡ leng
       ∙ (λ i. all_slots_told empty_book (take-append-drop slot ds i) (take-append-drop slot ts i))
 
   pub book_whole : (slot : ℕ) (b1 b2 : Book) → b1 ≡ book_before slot ts ds → b2 ≡ all_slots_told b1 (drop b1.time ds) (drop b1.time ts) → IsBookOf (max slot (length ts)) ts ds b2
-  book_whole slot b1 b2 e e' =
-      let time : b1.time ≡ min slot (length ts) = ap (λ (b : Book). b.time) e ∙ time_before slot in
-      let time' : b1.time ≡ min slot (length ds) = omega arith in
-      let whole : b2 ≡ all_slots_told empty_book ds ts = e' ∙ (λ i. all_slots_told (e i) (left_at ds b1.time slot time' i) (left_at ts b1.time slot time i)) ∙ all_told_before slot in
-      let full = time-told empty_book ds ts (sym same) in
-      let long : b2.time ≡ length ts = ap (λ (b : Book). b.time) whole ∙ full ∙ (let l : 0 + length ds ≡ length ts = omega arith in l) in
-      let decided : take b2.time ds ≡ ds = take_all b2.time ds (omega arith) in
-      let tables : take b2.time ts ≡ ts = take_all b2.time ts (omega arith) in
-      record { early = omega arith; there = omega arith; told_is = whole ∙ (λ i. all_slots_told empty_book (sym decided i) (sym tables i)) }
+  book_whole slot b1 b2 e e' = grind (arith, e, time_before, left_at, all_told_before, time-told, take_all)

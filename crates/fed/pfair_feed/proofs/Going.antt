@@ -6,22 +6,15 @@ use Rattle.std.proofs.lemmas.List.{append-nil, length-map}
 use Rattle.csv.proofs.WriteFacts.{appends-more}
 use Rattle.pfair_text.specs.Rows.{lines_text}
 use Rattle.pfair_text.proofs.RowFacts.{lines_text-append}
-use Rattle.pfair_replica.specs.HeldRows.{replica_of}
-use Rattle.pfair_table.specs.declared.pick.Decided.{Decided}
 use Rattle.pfair_table.specs.Laws.{IsPrefixOf}
-use Rattle.pfair_table.specs.Table.{Table, decisions_from, table_from}
 use Rattle.pfair_table.specs.Refinement.{Dispatch, IsWholePlan}
-use Rattle.pfair_feed.specs.declared.output.Output.{Output}
 use Rattle.pfair_feed.specs.Follow.{Follow, news}
-use Rattle.pfair_feed.specs.Rows.{rows_from}
 use Rattle.pfair_feed.proofs.RowsGoOn.{none_behind, rows_go_on}
 use Rattle.pfair_feed.proofs.Plans.{grown_same, longer, prefix_trans}
 use Rattle.pfair_feed.specs.Feeding.{HasGoneOn, IsCaughtUp}
 
 pub even : (d : Dispatch) → IsWholePlan d → length d.tables ≡ length d.decided
-even d whole =
-    ap (λ (ts : List Table). length ts) whole.tables_are ∙ length-map _ (table_from d.origin d.settings (replica_of d.held))
-    ∙ sym (length-map _ (decisions_from d.origin d.settings (replica_of d.held))) ∙ sym (ap (λ (ds : List (List Decided)). length ds) whole.decided_are)
+even d whole = grind (arith, length-map)
 
 pub keeps_all : (old new : Option (List ℕ)) (bs : List ℕ) → bs ≡ [] → Keeps old new → Appends old new bs
 keeps_all None new bs e k = tt
@@ -41,18 +34,7 @@ stays f old new caught k = record {
 
 news_more : (f g h : Follow) → g.output ≡ f.output → g.told ≡ max f.told (length g.dispatch.tables) → length g.dispatch.tables ≡ length g.dispatch.decided
     → IsPrefixOf g.dispatch.tables h.dispatch.tables → IsPrefixOf g.dispatch.decided h.dispatch.decided → news f g ++ news g h ≡ news f h
-news_more f g h output told same p q =
-    let first : List (List (List ℕ)) = rows_from f.output f.told g.dispatch.tables g.dispatch.decided in
-    ap (λ (o : Output). lines_text first ++ lines_text (rows_from o g.told h.dispatch.tables h.dispatch.decided)) output
-    ∙ ap (λ (n : ℕ). lines_text first ++ lines_text (rows_from f.output n h.dispatch.tables h.dispatch.decided)) told
-    ∙ sym (lines_text-append first (rows_from f.output (max f.told (length g.dispatch.tables)) h.dispatch.tables h.dispatch.decided))
-    ∙ ap lines_text (sym (whole h.dispatch.tables h.dispatch.decided p.1 q.1))
-  where
-    whole : (ts : List Table) (ds : List (List Decided)) → g.dispatch.tables ++ p.0 ≡ ts → g.dispatch.decided ++ q.0 ≡ ds
-        → rows_from f.output f.told ts ds ≡ rows_from f.output f.told g.dispatch.tables g.dispatch.decided ++ rows_from f.output (max f.told (length g.dispatch.tables)) ts ds
-    whole ts ds e e' = subst (λ (us : List Table). rows_from f.output f.told us ds ≡ rows_from f.output f.told g.dispatch.tables g.dispatch.decided ++ rows_from f.output (max f.told (length g.dispatch.tables)) us ds) e
-        (subst (λ (es : List (List Decided)). rows_from f.output f.told (g.dispatch.tables ++ p.0) es ≡ rows_from f.output f.told g.dispatch.tables g.dispatch.decided ++ rows_from f.output (max f.told (length g.dispatch.tables)) (g.dispatch.tables ++ p.0) es) e'
-        (rows_go_on f.output f.told g.dispatch.tables p.0 g.dispatch.decided q.0 same))
+news_more f g h output told same p q = grind (arith, lines_text-append, rows_go_on)
 
 -- one step more
 pub gone_trans : (f g h : Follow) (u v w : Option (List ℕ)) → HasGoneOn f g u v → HasGoneOn g h v w → HasGoneOn f h u w

@@ -11,12 +11,11 @@ use Rattle.std.proofs.lemmas.List.{append-nil, length-append, length-drop, lengt
 use Rattle.pfair_entry_row.specs.Laws.{RowsAreShort}
 use Rattle.pfair_replica.specs.HeldRows.{SameShape, replica_of}
 use Rattle.pfair_replica.specs.Replica.{Replica}
-use Rattle.pfair_feed.specs.Follow.{Follow, IsStopOf}
+use Rattle.pfair_feed.specs.Follow.{Follow}
 use Rattle.pfair_file.specs.ProgramFaults.{is_refusal}
 use Rattle.pfair_feed.specs.Feeding.{AreFedBytes, AreLines, AreTakenFrom, IsCaughtUp, IsFedLine, IsLeft, IsOneLine, IsStopped, IsTakenFrom, IsWelcome, ended, question}
 use Rattle.pfair_file.specs.declared.program_fault.ProgramFault.{ProgramFault}
-use Rattle.pfair_file.specs.declared.program_fault.ProgramFault.TheVariants.{Memory, ReadFailed, Row}
-use Rattle.pfair_entry_row.specs.declared.fault.RowFault.TheVariants.{NoRow}
+use Rattle.pfair_file.specs.declared.program_fault.ProgramFault.TheVariants.{ReadFailed}
 use Rattle.pfair_feed.proofs.Going.{gone_trans, stays}
 
 -- ---- how bytes are cut into lines
@@ -70,10 +69,7 @@ kept_full rest kept byte k full = k ∙ sym (take-append-le 257 rest (byte ∷ [
 module _ (short : RowsAreShort) where
   -- what is longer than any row brings nothing
   long_line : (line : List ℕ) (x : Replica) → 256 < length line → IsTakenFrom line x x
-  long_line line x long = record {
-    row = λ p n e at is. absurd (let s = short p n e at in let l = ap length is in omega (arith, s, l, long));
-    other = λ none. refl;
-  }
+  long_line line x long = grind arith
 
   -- as much is taken from a line as from what is kept of it
   taken_whole : (rest : List ℕ) (x y : Replica) → IsTakenFrom (take 257 rest) x y → IsTakenFrom rest x y
@@ -104,13 +100,8 @@ taken_more (l ∷ lines) line x y z a t = (a.0, a.1, taken_more lines line a.0 y
 
 -- if a byte was read
 not_reading : (kept : List ℕ) (byte : ℕ) (e : ProgramFault) (f g : Follow) (v w : Option (List ℕ)) → IsLeft kept (Some byte) e f g v w → e ≢ ReadFailed
-not_reading kept byte e f g v w (inl (inl (is, none), unchanged, keeps)) same = absurd (cc none)
-not_reading kept byte e f g v w (inl (inr (inl (is, other, at, inside)), unchanged, keeps)) same = absurd (let h : Memory ≡ ReadFailed = sym is ∙ same in cc h)
-not_reading kept byte e f g v w (inl (inr (inr (is, ended, long)), unchanged, keeps)) same = absurd (let h : Row NoRow ≡ ReadFailed = sym is ∙ same in cc h)
-not_reading kept byte e f g v w (inr (ended, short, failed)) same = elim failed.cause [
-  | inl row ↦ absurd (let h : Row row.0 ≡ ReadFailed = sym row.1 ∙ same in cc h)
-  | inr stopped ↦ absurd (subst (λ (d : ProgramFault). IsStopOf f g stopped.processor stopped.number stopped.entry d) same stopped.stop)
-]
+not_reading kept byte e f g v w (inl unfed) same = grind arith
+not_reading kept byte e f g v w (inr (ended, short, failed)) same = grind arith
 
 -- the next byte of those that are left
 pub next_left : (xs : List ℕ) (i : ℕ) → i < length xs → drop i xs ≡ get_or xs i 0 ∷ drop (i + 1) xs

@@ -1,29 +1,18 @@
 -- Bytes are lines in one way.
-use Rattle.std.proofs.Common.{ℕ, ◌≡◌, ◌≢◌, refl, sym, ap, ◌∙◌, List, [], ◌∷◌, ◌++◌, append_assoc, flat_map}
+use Rattle.std.proofs.Common.{arith, ℕ, ◌≡◌, ◌≢◌, refl, sym, ◌∙◌, List, [], ◌∷◌, ◌++◌, append_assoc, flat_map}
 use Rattle.pfair_feed.specs.Feeding.{IsOneLine, ended}
 use Rattle.pfair_feed.specs.Laws.{LinesAreOne}
 
 -- the head and the tail of equal lists
 pub heads : {A : Type 0} (x y : A) (xs ys : List A) → x ∷ xs ≡ y ∷ ys → (x ≡ y) × (xs ≡ ys)
-heads x y xs ys e = (ap (first x) e, ap rest e)
-  where
-    first : {A : Type 0} → A → List A → A
-    first d [] = d
-    first d (z ∷ zs) = z
-
-    rest : {A : Type 0} → List A → List A
-    rest [] = []
-    rest (z ∷ zs) = zs
+heads x y xs ys e = grind arith
 
 -- a line's end comes first where the line ends
 one_end : (a b xs ys : List ℕ) → IsOneLine a → IsOneLine b → a ++ 10 ∷ xs ≡ b ++ 10 ∷ ys → (a ≡ b) × (xs ≡ ys)
 one_end [] [] xs ys p q e = (refl, (heads 10 10 xs ys e).1)
 one_end [] (y ∷ b) xs ys p q e = absurd (q.0 (sym (heads 10 y xs (b ++ 10 ∷ ys) e).0))
 one_end (x ∷ a) [] xs ys p q e = absurd (p.0 (heads x 10 (a ++ 10 ∷ xs) ys e).0)
-one_end (x ∷ a) (y ∷ b) xs ys p q e =
-    let h = heads x y (a ++ 10 ∷ xs) (b ++ 10 ∷ ys) e in
-    let t = one_end a b xs ys p.1 q.1 h.1 in
-    (λ i. h.0 i ∷ t.0 i, t.1)
+one_end (x ∷ a) (y ∷ b) xs ys p q e = grind (arith, heads, one_end a b xs ys p.1 q.1)
 
 -- no line ends in what is none
 no_end : (a rest xs : List ℕ) → IsOneLine rest → rest ≢ a ++ 10 ∷ xs
@@ -43,10 +32,4 @@ pub lines_are_one : LinesAreOne
 lines_are_one bytes [] [] rest rest' a b = (refl, sym a.bytes_are ∙ b.bytes_are)
 lines_are_one bytes [] (m ∷ lines') rest rest' a b = absurd (no_end m rest (flat_map ended lines' ++ rest') a.open_end (sym a.bytes_are ∙ b.bytes_are ∙ first_line m lines' rest'))
 lines_are_one bytes (l ∷ lines) [] rest rest' a b = absurd (no_end l rest' (flat_map ended lines ++ rest) b.open_end (sym b.bytes_are ∙ a.bytes_are ∙ first_line l lines rest))
-lines_are_one bytes (l ∷ lines) (m ∷ lines') rest rest' a b =
-    let one = one_end l m (flat_map ended lines ++ rest) (flat_map ended lines' ++ rest') a.whole.0 b.whole.0
-    (sym (first_line l lines rest) ∙ sym a.bytes_are ∙ b.bytes_are ∙ first_line m lines' rest') in
-    let more = lines_are_one (flat_map ended lines ++ rest) lines lines' rest rest'
-    (record { bytes_are = refl; whole = a.whole.1; open_end = a.open_end })
-    (record { bytes_are = one.1; whole = b.whole.1; open_end = b.open_end }) in
-    (λ i. one.0 i ∷ more.0 i, more.1)
+lines_are_one bytes (l ∷ lines) (m ∷ lines') rest rest' a b = grind (arith, one_end, first_line, lines_are_one (flat_map ended lines ++ rest) lines lines' rest rest')

@@ -1,20 +1,20 @@
 -- The slots of a whole plan.
-use Rattle.std.proofs.Common.{ℕ, ◌≡◌, ap, ◌∙◌, List, None, length, map, min}
+use Rattle.std.proofs.Common.{arith, ℕ, ◌≡◌, ap, ◌∙◌, List, None, length, map, min, zero, suc, refl, sym, [], ◌∷◌}
 use Rattle.std.proofs.lemmas.List.{length-map}
 use Rattle.pfair_replica.specs.HeldRows.{replica_of}
-use Rattle.pfair_replica.specs.Replica.{frontier, numbers_below}
-use Rattle.pfair_table.specs.Refinement.{Dispatch, IsWholePlan}
-use Rattle.pfair_table.specs.Table.{Origin, Table, table_from, plan, plan_from, decisions, decisions_from}
+use Rattle.pfair_replica.specs.Replica.{frontier, numbers_below, empty_replica, mark}
+use Rattle.pfair_table.specs.Refinement.{Dispatch, IsWholePlan, course_of}
+use Rattle.pfair_table.specs.Table.{Origin, table_from, plan, plan_from, decisions, decisions_from, Settings}
 use Rattle.pfair_table.proofs.Runs.{length_numbers}
+use Rattle.std.specs.Prelude.{fold}
+use Rattle.pfair_table.specs.Events.{Course, start}
 
 pub so_many : {A : Type 0} (f : ℕ → A) (n : ℕ) → length (map f (numbers_below n)) ≡ n
 so_many f n = length-map (numbers_below n) f ∙ length_numbers n
 
 -- as many slots are planned as are settled
 pub planned : (d : Dispatch) → IsWholePlan d → length d.tables ≡ min (frontier (replica_of d.held)) d.settings.slots
-planned d whole =
-    ap (λ (ts : List Table). length ts) whole.tables_are
-    ∙ so_many (table_from d.origin d.settings (replica_of d.held)) (min (frontier (replica_of d.held)) d.settings.slots)
+planned d whole = grind (arith, so_many)
 
 -- the tables and the decisions of a first run's whole plan
 module _ (d : Dispatch) (first : d.origin ≡ None) (whole : IsWholePlan d) where
@@ -23,3 +23,26 @@ module _ (d : Dispatch) (first : d.origin ≡ None) (whole : IsWholePlan d) wher
 
   pub decided_first : d.decided ≡ map (decisions d.settings (replica_of d.held)) (numbers_below (min (frontier (replica_of d.held)) d.settings.slots))
   decided_first = whole.decided_are ∙ ap (λ (o : Origin). map (decisions_from o d.settings (replica_of d.held)) (numbers_below (min (frontier (replica_of d.held)) d.settings.slots))) first
+
+-- ---- a dispatcher that holds nothing has planned all that this settles: nothing
+
+mark_none : (processors capacity k : ℕ) → mark (empty_replica processors capacity) k ≡ 0
+mark_none processors zero k = refl
+mark_none processors (suc capacity) k = refl
+
+least_none : (least : ℕ) (marks : List ℕ) → least ≡ 0 → fold min least marks ≡ 0
+least_none least [] e = e
+least_none least (m ∷ marks) e = least_none (min least m) marks (omega arith)
+
+frontier_none : (processors capacity : ℕ) → frontier (empty_replica processors capacity) ≡ 0
+frontier_none processors capacity = least_none (mark (empty_replica processors capacity) 0) (map (mark (empty_replica processors capacity)) (numbers_below processors)) (mark_none processors capacity 0)
+
+pub whole_start : (d : Dispatch) (s : Settings) (capacity : ℕ) → course_of d ≡ start s capacity → IsWholePlan d
+whole_start d s capacity course =
+    let held : replica_of d.held ≡ empty_replica s.processors capacity = ap (λ (c : Course). c.held) course in
+    let settled : frontier (replica_of d.held) ≡ 0 = ap frontier held ∙ frontier_none s.processors capacity in
+    let none : min (frontier (replica_of d.held)) d.settings.slots ≡ 0 = omega (arith, settled) in
+    record {
+      tables_are = ap (λ (c : Course). c.tables) course ∙ sym (ap (λ (n : ℕ). map (table_from d.origin d.settings (replica_of d.held)) (numbers_below n)) none);
+      decided_are = ap (λ (c : Course). c.decided) course ∙ sym (ap (λ (n : ℕ). map (decisions_from d.origin d.settings (replica_of d.held)) (numbers_below n)) none);
+    }

@@ -15,19 +15,4 @@ pub longer : {A : Type 0} (xs ys : List A) → IsPrefixOf xs ys → length xs �
 longer xs ys p = let l = length-append xs p.0 in let e = ap length p.1 in omega (arith, l, e)
 
 pub grown_same : (d e : Dispatch) → e ≡ d → IsGrown d e
-grown_same d e same = record {
-  settings_are = ap (λ (x : Dispatch). x.settings) same;
-  origin_is = ap (λ (x : Dispatch). x.origin) same;
-  held_are = ap (λ (x : Dispatch). x.held) same;
-  tables_go_on = prefix_same d.tables e.tables (ap (λ (x : Dispatch). x.tables) same);
-  decided_go_on = prefix_same d.decided e.decided (ap (λ (x : Dispatch). x.decided) same);
-}
-
-pub grown_trans : (a d e : Dispatch) → IsGrown a d → IsGrown d e → IsGrown a e
-grown_trans a d e p q = record {
-  settings_are = q.settings_are ∙ p.settings_are;
-  origin_is = q.origin_is ∙ p.origin_is;
-  held_are = q.held_are ∙ p.held_are;
-  tables_go_on = prefix_trans a.tables d.tables e.tables p.tables_go_on q.tables_go_on;
-  decided_go_on = prefix_trans a.decided d.decided e.decided p.decided_go_on q.decided_go_on;
-}
+grown_same d e same = grind (arith, prefix_same)

@@ -1,20 +1,29 @@
 -- What a line that is read brings.
-use Rattle.std.proofs.Common.{ℕ, ◌≡◌, ◌≢◌, refl, sym, ap, subst, ◌∙◌, List, Option, Ok, Err, true, false, inl, inr}
-use Rattle.std.specs.Prelude.{◌⊎◌}
+use Rattle.std.proofs.Common.{arith, ℕ, ◌≡◌, ◌≢◌, refl, sym, ap, subst, ◌∙◌, List, Option, Ok, Err, true, false, inl, inr, ◌≤◌, Bool, length, min, None, Some}
+use Rattle.std.specs.Prelude.{◌⊎◌, ◌&&◌, ◌==◌, not, nat_lt, if◌then◌else◌}
 use Rattle.std.specs.Io.KnownBytes.{Keeps}
 use Rattle.pfair_text.specs.Output.{TakesPrefix}
 use Rattle.pfair_entry.specs.Entry.{Logged}
 use Rattle.pfair_entry_row.specs.Faults.{Reading}
 use Rattle.pfair_entry_row.specs.Row.{entry_row, IsEntryAt}
-use Rattle.pfair_replica.specs.HeldRows.{replica_of}
-use Rattle.pfair_replica.specs.Offered.{taken}
-use Rattle.pfair_replica.specs.Replica.{Replica}
-use Rattle.pfair_feed.specs.Follow.{Follow, IsSameRun, IsStopOf, news}
+use Rattle.pfair_replica.specs.HeldRows.{replica_of, held}
+use Rattle.pfair_replica.specs.Offered.{taken, has_key}
+use Rattle.pfair_replica.specs.Replica.{Replica, frontier, has_torn, only, with_entry}
+use Rattle.pfair_feed.specs.Follow.{Follow, IsSameRun, IsStopOf, news, IsGrown}
 use Rattle.pfair_file.specs.declared.program_fault.ProgramFault.{ProgramFault}
 use Rattle.pfair_file.specs.declared.program_fault.ProgramFault.TheVariants.{NoSuchProcessor, NumberOutOfRange, WriteFailed, Memory, Row}
 use Rattle.pfair_file.specs.ProgramFaults.{is_refusal}
 use Rattle.pfair_feed.specs.Feeding.{HasFailed, HasStood, IsCaughtUp, IsFedLine, IsTakenFrom}
 use Rattle.pfair_feed.proofs.Going.{stays}
+use Rattle.std.proofs.lemmas.Bool.{and_parts, eqb-true, ltb-true}
+use Rattle.pfair_lattice.specs.declared.flat.Flat.TheVariants.{One, Torn}
+use Rattle.pfair_lattice.specs.Held.{Held, held_join}
+use Rattle.pfair_entry.specs.Exact.{entry_exact}
+use Rattle.pfair_entry.specs.Same.{entry_eq}
+use Rattle.pfair_replica.specs.HeldAfter.{join_none}
+use Rattle.pfair_table.specs.Table.{Settings}
+use Rattle.pfair_feed.proofs.Plans.{longer}
+use Rattle.pfair_feed.proofs.Planned.{planned}
 
 -- the contents after a reading
 abbrev after_reading : Replica → Reading → Replica
@@ -24,34 +33,18 @@ after_reading x (Err fault) = x
 -- the line is an entry's row
 pub taken_from_row : (line : List ℕ) (x y : Replica) (p n : ℕ) (e : Logged) (r : Reading) → r ≡ Ok (p, n, e)
     → ((q m : ℕ) (d : Logged) → IsEntryAt q m d → line ≡ entry_row q m d → r ≡ Ok (q, m, d)) → IsEntryAt p n e → line ≡ entry_row p n e → y ≡ taken x p n e → IsTakenFrom line x y
-taken_from_row line x y p n e r ok back at row held = record {
-  row = λ q m d at' row'. held ∙ ap (after_reading x) (sym ok ∙ back q m d at' row');
-  other = λ none. absurd (none p n e at row);
-}
+taken_from_row line x y p n e r ok back at row held = grind (arith, back)
 
 -- ---- what a fault leaves
 
 -- if an allocation fails, the entry may be taken or not; otherwise it is
 held_left : (line : List ℕ) (x y z : Replica) (e : ProgramFault) → (z ≡ y → IsTakenFrom line x z) → (e ≢ Memory → z ≡ y) → (e ≡ Memory → (z ≡ x) ⊎ (z ≡ y)) → (z ≡ x) ⊎ IsTakenFrom line x z
-held_left line x y z Memory t offered wanted = elim (wanted refl) [
-  | inl same ↦ inl same
-  | inr taken ↦ inr (t taken)
-]
+held_left line x y z Memory t offered wanted = grind (arith, wanted, t)
 held_left line x y z fault t offered wanted = inr (t (offered (λ e. absurd (cc e))))
 
 stood_taken : (line : List ℕ) (f g : Follow) (p n : ℕ) (e : Logged) (fault : ProgramFault) → (replica_of g.dispatch.held ≡ taken (replica_of f.dispatch.held) p n e → IsTakenFrom line (replica_of f.dispatch.held) (replica_of g.dispatch.held))
     → IsSameRun f g → g.told ≡ f.told → IsStopOf f g p n e fault → (fault ≢ Memory → replica_of g.dispatch.held ≡ taken (replica_of f.dispatch.held) p n e) → HasStood line f g
-stood_taken line f g p n e fault row run told stop offered = record {
-  output_is = run.output_is;
-  told_is = told;
-  grown = run.grown;
-  held_is = held_left line (replica_of f.dispatch.held) (taken (replica_of f.dispatch.held) p n e) (replica_of g.dispatch.held) fault row offered
-      (λ memory. wanted (subst (λ (h : ProgramFault). IsStopOf f g p n e h) memory stop));
-}
-  where
-    wanted : IsStopOf f g p n e Memory → (replica_of g.dispatch.held ≡ replica_of f.dispatch.held) ⊎ (replica_of g.dispatch.held ≡ taken (replica_of f.dispatch.held) p n e)
-    wanted (key, inl (none, same)) = inl (ap (λ (h : Follow). replica_of h.dispatch.held) same)
-    wanted (key, inr (held, able, cause)) = inr held
+stood_taken line f g p n e fault row run told stop offered = grind (arith, held_left)
 
 -- the follower stopped at the entry whose row the line is
 pub failed_at : (line : List ℕ) (f g : Follow) (v w : Option (List ℕ)) (p n : ℕ) (e : Logged) (r : Reading) (fault : ProgramFault) → r ≡ Ok (p, n, e)
@@ -95,3 +88,55 @@ refused_line line f g v w p n e r fault caught refused ok back at row stop offer
     let stays_so : g ≡ f = unchanged f g p n e fault refused stop in
     let held : replica_of f.dispatch.held ≡ taken (replica_of f.dispatch.held) p n e = ap (λ (h : Follow). replica_of h.dispatch.held) (sym stays_so) ∙ offered (not_memory fault refused) in
     (stays_so, fed_none line f g v w caught stays_so (nothing (not_writing fault refused)) (taken_from_row line (replica_of f.dispatch.held) (replica_of f.dispatch.held) p n e r ok back at row held))
+
+-- ---- the row of an entry that is held already
+
+-- an entry that is held already changes nothing
+taken_known : (x : Replica) (k n : ℕ) (e : Logged) → x.at k n ≡ Some (One e) → taken x k n e ≡ x
+taken_known x k n e here = by (has_key x k n)
+  where
+    at_key : (a b : Bool) (h : Held Logged) → (a ≡ true → b ≡ true → h ≡ Some (One e)) → held_join entry_eq h (if a then (if b then Some (One e) else None) else None) ≡ h
+    at_key false b h known = join_none h
+    at_key true false h known = join_none h
+    at_key true true h known =
+        let is = known refl refl in
+        ap (λ (g : Held Logged). held_join entry_eq g (Some (One e))) is ∙ ap (λ (b : Bool). Some (if b then One e else Torn)) (entry_exact.itself e) ∙ sym is
+
+    each : (j m : ℕ) → held_join entry_eq (x.at j m) (only k n e j m) ≡ x.at j m
+    each j m = at_key (j == k) (m == n) (x.at j m) (λ a b. (let p = eqb-true j k a in let q = eqb-true m n b in (λ i. x.at (p i) (q i)) ∙ here))
+
+    by : (b : Bool) → (if b then with_entry x k n e else x) ≡ x
+    by false = refl
+    by true = λ i. record { processors = x.processors; capacity = x.capacity; at = λ j m. each j m i }
+
+-- as many slots are planned as the contents settle, and no fewer afterwards
+as_before : (f g : Follow) (p n : ℕ) (e : Logged) → IsCaughtUp f → held f.dispatch.held p n ≡ Some (One e) → replica_of g.dispatch.held ≡ taken (replica_of f.dispatch.held) p n e
+    → IsGrown (record f.dispatch { held = g.dispatch.held }) g.dispatch
+    → (length f.dispatch.tables ≡ min (frontier (replica_of g.dispatch.held)) g.dispatch.settings.slots) × (length f.dispatch.tables ≤ length g.dispatch.tables)
+as_before f g p n e caught here left grown =
+    let settled : frontier (replica_of g.dispatch.held) ≡ frontier (replica_of f.dispatch.held) = ap frontier (left ∙ taken_known (replica_of f.dispatch.held) p n e here) in
+    let slots : g.dispatch.settings.slots ≡ f.dispatch.settings.slots = ap (λ (s : Settings). s.slots) grown.settings_are in
+    let many = planned f.dispatch caught.whole in
+    (omega (arith, many, settled, slots), longer f.dispatch.tables g.dispatch.tables grown.tables_go_on)
+
+-- no allocation is asked for
+no_memory : (f g : Follow) (p n : ℕ) (e : Logged) → IsCaughtUp f → held f.dispatch.held p n ≡ Some (One e) → IsGrown (record f.dispatch { held = g.dispatch.held }) g.dispatch
+    → IsStopOf f g p n e Memory → ⊥
+no_memory f g p n e caught here grown (key, inl (none, rest)) = absurd (let h : None ≡ Some (One e) = sym none ∙ here in cc h)
+no_memory f g p n e caught here grown (key, inr (left, able, inl stuck)) =
+    let parts = and_parts (not (has_torn (replica_of g.dispatch.held))) (nat_lt (length g.dispatch.tables) (frontier (replica_of g.dispatch.held)) && nat_lt (length g.dispatch.tables) g.dispatch.settings.slots) stuck.1 in
+    let more = and_parts (nat_lt (length g.dispatch.tables) (frontier (replica_of g.dispatch.held))) (nat_lt (length g.dispatch.tables) g.dispatch.settings.slots) parts.1 in
+    let a = ltb-true (length g.dispatch.tables) (frontier (replica_of g.dispatch.held)) more.0 in
+    let b = ltb-true (length g.dispatch.tables) g.dispatch.settings.slots more.1 in
+    let was = as_before f g p n e caught here left grown in
+    let settled = was.0 in
+    let long = was.1 in
+    absurd (omega (arith, a, b, settled, long))
+no_memory f g p n e caught here grown (key, inr (left, able, inr due)) = grind (arith, planned, as_before)
+
+-- the entry that was read is that of the row
+pub repeat_wants_none : (line : List ℕ) (f g : Follow) (p n : ℕ) (e : Logged) (r : Reading) (fault : ProgramFault) → IsCaughtUp f → r ≡ Ok (p, n, e)
+    → ((q m : ℕ) (d : Logged) → IsEntryAt q m d → line ≡ entry_row q m d → r ≡ Ok (q, m, d))
+    → IsGrown (record f.dispatch { held = g.dispatch.held }) g.dispatch → IsStopOf f g p n e fault
+    → (q m : ℕ) (d : Logged) → IsEntryAt q m d → line ≡ entry_row q m d → held f.dispatch.held q m ≡ Some (One d) → fault ≡ Memory → ⊥
+repeat_wants_none line f g p n e r fault caught ok back grown stop q m d at row here memory = grind (arith, no_memory, back)

@@ -1,24 +1,109 @@
 -- Lines that have the rows of a script leave the script.
-use Rattle.std.proofs.Common.{ℕ, ◌+◌, ◌<◌, ◌≤◌, ◌≡◌, inl, inr, refl, sym, ap, subst, ◌∙◌, arith, Bool, true, false, List, [], ◌∷◌, map, Some, None}
-use Rattle.std.specs.Prelude.{◌⊎◌, ◌&&◌, nat_le, nat_lt, if◌then◌else◌}
+use Rattle.std.proofs.Common.{ℕ, ◌+◌, ◌<◌, ◌≤◌, ◌≡◌, inl, inr, refl, sym, ap, subst, ◌∙◌, arith, List, [], ◌∷◌, map, Some, None, ◌++◌}
+use Rattle.std.specs.Prelude.{◌⊎◌}
 use Rattle.std.specs.List.{AllByRecursion}
 use Rattle.std.proofs.lemmas.Bool.{and_parts, leb-true, ltb-true}
 use Rattle.pfair_lattice.specs.declared.flat.Flat.TheVariants.{One}
 use Rattle.pfair_lattice.specs.Held.{HeldBelow}
 use Rattle.pfair_entry.specs.Entry.{Logged}
 use Rattle.pfair_entry_row.specs.Laws.{EachEntryHasItsRow, RowsAreLines}
-use Rattle.pfair_replica.specs.Offered.{has_key, taken}
-use Rattle.pfair_replica.specs.Replica.{Below, Replica, empty_replica, with_entry}
+use Rattle.pfair_replica.specs.Offered.{taken}
+use Rattle.pfair_replica.specs.Replica.{Below, Replica, empty_replica}
 use Rattle.pfair_table.specs.EventLaws.{EventsLeaveTheLeast, IsBroughtBelow}
-use Rattle.pfair_table.specs.Events.{run_of}
-use Rattle.pfair_table.specs.Script.{LoggedRun, capacity_of, contents_of}
+use Rattle.pfair_table.specs.Events.{run_of, Course, run}
+use Rattle.pfair_table.specs.Script.{LoggedRun, capacity_of, contents_of, replica_of_logs}
 use Rattle.pfair_table.specs.Table.{Settings}
 use Rattle.pfair_feed.specs.Feeding.{AreTakenFrom, IsTakenFrom}
-use Rattle.pfair_feed.specs.Laws.{EntriesAreTheirRows, EntriesGiveTheirSchedule}
-use Rattle.pfair_feed.specs.RoundTrip.{AreAmong, BringsNothing, HasScheduleOf, IsOneOf, IsPlaced, IsScript, Placed, placed_in, replica_with_room, row_of, rows_of}
-use Rattle.pfair_feed.proofs.Orders.{all_among, all_from_map, all_of, all_to_map, event_of, held_after, run_held, same_replica, shape_after, taken_all}
+use Rattle.pfair_feed.specs.Laws.{EntriesAreTheirRows, EntriesGiveTheirSchedule, OrderIsNothing, WholeText, FedEntriesGiveTheirText}
+use Rattle.pfair_feed.specs.RoundTrip.{AreAmong, BringsNothing, HasScheduleOf, IsOneOf, IsPlaced, IsScript, Placed, placed_in, replica_with_room, row_of, rows_of, HaveTheRows}
 use Rattle.pfair_feed.proofs.ScriptRows.{all_placed, at_logs, entries_are_lines, in_logs}
 use Rattle.pfair_feed.proofs.Schedules.{schedule_with_room}
+use Rattle.pfair_lattice.specs.HeldLaws.{below_antisym}
+use Rattle.pfair_entry.specs.Same.{entry_eq}
+use Rattle.pfair_entry.specs.Exact.{entry_exact}
+use Rattle.pfair_text.specs.Rows.{line}
+use Rattle.pfair_table.specs.declared.event.Event.{Event}
+use Rattle.pfair_table.specs.declared.event.Event.TheVariants.{Take}
+use Rattle.pfair_feed.specs.declared.output.Output.{Output}
+use Rattle.pfair_feed.specs.RowLaws.{WholeRows, text_of}
+use Rattle.pfair_feed.specs.Rows.{header_of}
+use Rattle.std.specs.Io.KnownBytes.{Appends}
+use Rattle.csv.proofs.WriteFacts.{appends-more}
+use Rattle.pfair_replica.specs.HeldRows.{replica_of}
+use Rattle.pfair_feed.specs.Follow.{news}
+use Rattle.pfair_feed.proofs.OneWay.{lines_are_one}
+
+-- the contents after some entries
+abbrev pub held_after : Replica → List Placed → Replica
+held_after x [] = x
+held_after x (e ∷ es) = held_after (taken x e.0 e.1 e.2) es
+
+pub taken_all : (x y : Replica) (es : List Placed) → AllByRecursion IsPlaced es → AreTakenFrom (map row_of es) x y → y ≡ held_after x es
+taken_all x y [] all t = t
+taken_all x y (e ∷ es) all t = taken_all t.0 y es all.1 t.2 ∙ ap (λ (r : Replica). held_after r es) (t.1.row e.0 e.1 e.2 all.0 refl)
+
+abbrev pub event_of : Placed → Event
+event_of e = Take e.0 e.1 e.2
+
+pub run_held : (s : Settings) (c : Course) (es : List Placed) → (run s c (map event_of es)).held ≡ held_after c.held es
+run_held s c [] = refl
+run_held s c (e ∷ es) = run_held s (record c { held = taken c.held e.0 e.1 e.2 }) es
+
+-- ---- lists of the same entries
+
+pub all_of : (P : Placed → Type 0) (fs : List Placed) (e : Placed) → AllByRecursion P fs → IsOneOf e fs → P e
+all_of P [] e a i = absurd i
+all_of P (f ∷ fs) e a i = elim i [ inl same ↦ subst P (sym same) a.0 | inr more ↦ all_of P fs e a.1 more ]
+
+pub all_among : (P : Placed → Type 0) (es fs : List Placed) → AllByRecursion P fs → AreAmong es fs → AllByRecursion P es
+all_among P [] fs a m = tt
+all_among P (e ∷ es) fs a m = (all_of P fs e a m.0, all_among P es fs a m.1)
+
+pub all_from_map : (P : Event → Type 0) (es : List Placed) → AllByRecursion P (map event_of es) → AllByRecursion (λ e. P (event_of e)) es
+all_from_map P [] a = tt
+all_from_map P (e ∷ es) a = (a.0, all_from_map P es a.1)
+
+pub all_to_map : (P : Event → Type 0) (es : List Placed) → AllByRecursion (λ e. P (event_of e)) es → AllByRecursion P (map event_of es)
+all_to_map P [] a = tt
+all_to_map P (e ∷ es) a = (a.0, all_to_map P es a.1)
+
+-- ---- the law
+
+below_after : EventsLeaveTheLeast → (s : Settings) (capacity : ℕ) (es fs : List Placed) → AreAmong es fs
+    → Below (held_after (empty_replica s.processors capacity) es) (held_after (empty_replica s.processors capacity) fs)
+below_after least s capacity es fs among =
+    let y : Replica = (run_of s capacity (map event_of fs)).held in
+    let brought = all_from_map (IsBroughtBelow s capacity y) fs (least s capacity (map event_of fs)).0 in
+    let below : Below (run_of s capacity (map event_of es)).held y =
+    (least s capacity (map event_of es)).1 y (all_to_map (IsBroughtBelow s capacity y) es (all_among (λ e. IsBroughtBelow s capacity y (event_of e)) es fs brought among)) in
+    subst (λ (x : Replica). Below x (held_after (empty_replica s.processors capacity) fs)) (run_held s _ es)
+    (subst (λ (x : Replica). Below (run_of s capacity (map event_of es)).held x) (run_held s _ fs) below)
+
+same_shape : (x : Replica) (k n : ℕ) (e : _) → ((taken x k n e).processors ≡ x.processors) × ((taken x k n e).capacity ≡ x.capacity)
+same_shape x k n e = grind arith
+
+pub shape_after : (x : Replica) (es : List Placed) → ((held_after x es).processors ≡ x.processors) × ((held_after x es).capacity ≡ x.capacity)
+shape_after x [] = (refl, refl)
+shape_after x (e ∷ es) = grind (arith, same_shape, shape_after (taken x e.0 e.1 e.2) es)
+
+pub same_replica : (x y : Replica) → x.processors ≡ y.processors → x.capacity ≡ y.capacity → Below x y → Below y x → x ≡ y
+same_replica x y p c below above = λ i. record { processors = p i; capacity = c i; at = λ k n. below_antisym entry_eq entry_exact (x.at k n) (y.at k n) (below k n) (above k n) i }
+
+pub order_is_nothing : EventsLeaveTheLeast → OrderIsNothing
+order_is_nothing least processors capacity es fs y z all_es all_fs es_fs fs_es ty tz =
+    let s : Settings = record { processors = processors; frame = 1; slots = 1 } in
+    let start : Replica = empty_replica processors capacity in
+    let left = shape_after (empty_replica processors capacity) es in
+    let right = shape_after (empty_replica processors capacity) fs in
+    taken_all (empty_replica processors capacity) y es all_es ty
+    ∙ same_replica (held_after (empty_replica processors capacity) es) (held_after (empty_replica processors capacity) fs) (left.0 ∙ sym right.0) (left.1 ∙ sym right.1)
+    (below_after least s capacity es fs es_fs) (below_after least s capacity fs es fs_es)
+    ∙ sym (taken_all (empty_replica processors capacity) z fs all_fs tz)
+
+-- ---- the whole text
+
+pub text_is_whole : WholeRows → WholeText
+text_is_whole whole bytes rest f g old new none fed = grind (arith, whole)
 
 -- ---- what some entries leave is the least that has them
 
@@ -85,6 +170,9 @@ module _ (least : EventsLeaveTheLeast) (run : LoggedRun) (script : IsScript run)
             subst (λ h. HeldBelow h ((held_after (empty_replica run.settings.processors capacity) es).at k n)) (sym some.1) (brought key.0 key.1 key.2))
       ]
 
+  script_there : held_after (empty_replica run.settings.processors capacity) all_entries ≡ replica_with_room capacity run
+  script_there = grind (arith, held_there, each_of)
+
 -- ---- lines
 
 -- what entries leave is taken from their rows
@@ -101,12 +189,6 @@ rows_taken law x (e ∷ es) all = (
   },
   rows_taken law (taken x e.0 e.1 e.2) es all.1,
 )
-
-module _ (least : EventsLeaveTheLeast) (run : LoggedRun) (script : IsScript run) (capacity : ℕ) (room : capacity_of run.logs ≤ capacity) where
-  script_there : held_after (empty_replica run.settings.processors capacity) (placed_in 0 run.logs) ≡ replica_with_room capacity run
-  script_there =
-      let es : List Placed = placed_in 0 run.logs in
-      held_there least run script capacity room es (each_of (λ e. IsOneOf e es) es (λ e i. i)) (each_of (λ e. IsOneOf e es) es (λ e i. i))
 
 pub entries_are_their_rows : EventsLeaveTheLeast → EachEntryHasItsRow → RowsAreLines → EntriesAreTheirRows
 entries_are_their_rows least law whole run script = (
@@ -135,21 +217,7 @@ one_row e (f ∷ es) (inr i) = inr (one_row e es i)
 -- nothing is taken at another key
 taken_nowhere : (x : Replica) (k n : ℕ) (e : Logged) (processors capacity : ℕ) → x.processors ≡ processors → x.capacity ≡ capacity
     → (processors ≤ k) ⊎ ((n ≡ 0) ⊎ (capacity < n)) → taken x k n e ≡ x
-taken_nowhere x k n e processors capacity p c elsewhere = by (has_key x k n) refl
-  where
-    by : (b : Bool) → has_key x k n ≡ b → (if b then with_entry x k n e else x) ≡ x
-    by false is = refl
-    by true is =
-        let parts = and_parts (nat_lt k x.processors) (nat_lt 0 n && nat_le n x.capacity) is in
-        let more = and_parts (nat_lt 0 n) (nat_le n x.capacity) parts.1 in
-        let a = ltb-true k x.processors parts.0 in
-        let b = ltb-true 0 n more.0 in
-        let d = leb-true n x.capacity more.1 in
-        elim elsewhere [
-          | inl far ↦ absurd (omega (arith, a, p, far))
-          | inr (inl zero) ↦ absurd (omega (arith, b, zero))
-          | inr (inr past) ↦ absurd (omega (arith, d, c, past))
-        ]
+taken_nowhere x k n e processors capacity p c elsewhere = grind (arith, and_parts, ltb-true, leb-true)
 
 -- The entries whose rows some lines have: what the lines bring is what these leave.
 record AreReadAs (processors capacity : ℕ) (all : List Placed) (lines : List (List ℕ)) (x y : Replica) : Type 0 where
@@ -162,21 +230,11 @@ module _ (law : EachEntryHasItsRow) (processors capacity : ℕ) (all : List Plac
   -- no row of an entry at a key brings nothing
   brings_some : (e : Placed) → IsPlaced e → e.0 < processors → 1 ≤ e.1 → e.1 ≤ capacity → (line : List ℕ) → row_of e ≡ line → BringsNothing processors capacity line → ⊥
   brings_some e p k one many line same (inl none) = none e.0 e.1 e.2 p (sym same)
-  brings_some e p k one many line same (inr there) =
-      let f : Placed = (there.processor, there.number, there.entry) in
-      let is = same_placed law e f p there.is_entry (same ∙ there.row_is) in
-      let k_is : e.0 ≡ there.processor = ap (λ (d : Placed). d.0) is in
-      let n_is : e.1 ≡ there.number = ap (λ (d : Placed). d.1) is in
-      elim there.elsewhere [
-        | inl far ↦ absurd (omega (arith, k, k_is, far))
-        | inr (inl zero) ↦ absurd (omega (arith, one, n_is, zero))
-        | inr (inr past) ↦ absurd (omega (arith, many, n_is, past))
-      ]
+  brings_some e p k one many line same (inr there) = grind (arith, same_placed)
 
   left_nothing : (line : List ℕ) (x mid : Replica) → x.processors ≡ processors → x.capacity ≡ capacity → BringsNothing processors capacity line → IsTakenFrom line x mid → mid ≡ x
   left_nothing line x mid p c (inl none) t = t.other none
-  left_nothing line x mid p c (inr there) t =
-      t.row there.processor there.number there.entry there.is_entry there.row_is ∙ taken_nowhere x there.processor there.number there.entry processors capacity p c there.elsewhere
+  left_nothing line x mid p c (inr there) t = grind (arith, t.row, taken_nowhere)
 
   one_more : (line : List ℕ) (lines : List (List ℕ)) (x mid y : Replica) (e : Placed) → IsOneOf e all → line ≡ row_of e → mid ≡ taken x e.0 e.1 e.2
       → AreReadAs processors capacity all lines mid y → AreReadAs processors capacity all (line ∷ lines) x y
@@ -192,15 +250,7 @@ module _ (law : EachEntryHasItsRow) (processors capacity : ℕ) (all : List Plac
 
   no_more : (line : List ℕ) (lines : List (List ℕ)) (x mid y : Replica) → BringsNothing processors capacity line → mid ≡ x
       → AreReadAs processors capacity all lines mid y → AreReadAs processors capacity all (line ∷ lines) x y
-  no_more line lines x mid y nothing held rest = record {
-    es = rest.es;
-    among = rest.among;
-    left = rest.left ∙ ap (λ (r : Replica). held_after r rest.es) held;
-    there = λ f p k one many i'. (elim i' [
-      | inl is ↦ absurd (brings_some f p k one many line is nothing)
-      | inr more ↦ rest.there f p k one many more
-    ]);
-  }
+  no_more line lines x mid y nothing held rest = grind (arith, held_after, brings_some, rest.there)
 
   read_as : (lines : List (List ℕ)) (x y : Replica) → AllByRecursion (λ line. IsOneOf line (map row_of all) ⊎ BringsNothing processors capacity line) lines
       → x.processors ≡ processors → x.capacity ≡ capacity → AreTakenFrom lines x y → AreReadAs processors capacity all lines x y
@@ -237,3 +287,18 @@ entries_give_their_schedule least law run capacity lines held script room have t
 
     row_there : (e : Placed) → IsOneOf e (placed_in 0 run.logs) → IsOneOf (row_of e) lines
     row_there e i = row_in (rows_of run.logs) (row_of e) have.all (one_row e (placed_in 0 run.logs) i)
+
+-- ---- bytes that have the rows of a script give its text
+
+pub fed_entries_give_their_text : EntriesGiveTheirSchedule → WholeText → FedEntriesGiveTheirText
+fed_entries_give_their_text schedule whole run capacity bytes rest lines f g before begun after script room fresh told are have head fed =
+    let same = (lines_are_one bytes lines fed.lines rest rest are fed.are_lines).0 in
+    let gave = schedule run capacity fed.lines (replica_of g.dispatch.held) script room
+    (subst (λ (ls : List (List ℕ)). HaveTheRows run.settings.processors capacity (rows_of run.logs) ls) same have)
+    (subst (λ (x : Replica). AreTakenFrom fed.lines x (replica_of g.dispatch.held)) (ap (λ (c : Course). c.held) fresh.course_is) fed.fed.held_is) in
+    let set : g.dispatch.settings ≡ run.settings = fed.fed.gone_on.grown.settings_are ∙ fresh.settings_are in
+    let out : g.output ≡ f.output = fed.fed.gone_on.output_is in
+    let text : line (header_of f.output) ++ news f g ≡ text_of f.output run.settings (replica_of_logs run.logs) =
+    ap (λ (o : Output). line (header_of o) ++ news f g) (sym out) ∙ whole bytes rest f g begun after told fed
+    ∙ (λ i. text_of (out i) (set i) (replica_of g.dispatch.held)) ∙ gave.1.texts_are f.output in
+    (subst (λ (l : List ℕ). Appends before after l) text (appends-more before begun after (line (header_of f.output)) (news f g) head fed.fed.gone_on.written), gave.1)

@@ -1,6 +1,6 @@
 -- Two runs whose followers hold what agrees have written texts of which one begins the other.
-use Rattle.std.proofs.Common.{ℕ, ◌<◌, ◌≡◌, inl, inr, refl, sym, ap, subst, ◌∙◌, arith, List, [], ◌∷◌, ◌++◌, length, map, min, None, Some, slice_get}
-use Rattle.std.specs.Prelude.{◌⊎◌}
+use Rattle.std.proofs.Common.{ℕ, ◌<◌, ◌≡◌, inl, inr, refl, sym, ap, subst, ◌∙◌, arith, List, [], ◌∷◌, ◌++◌, length, map, None, Some, slice_get, suc, ◌≤◌}
+use Rattle.std.specs.Prelude.{◌⊎◌, max}
 use Rattle.std.specs.List.{AllByRecursion}
 use Rattle.std.proofs.lemmas.Bool.{cases_order}
 use Rattle.pfair_text.specs.Rows.{lines_text}
@@ -15,17 +15,59 @@ use Rattle.pfair_table.specs.Refinement.{Dispatch, HavePlannedAlike, IsWholePlan
 use Rattle.pfair_table.specs.Table.{Settings, Origin, Table, decisions, decisions_from, table, table_from}
 use Rattle.pfair_replica.proofs.OfferedTo.{offered_stays}
 use Rattle.pfair_feed.specs.declared.output.Output.{Output}
-use Rattle.pfair_feed.specs.Follow.{Follow, news}
+use Rattle.pfair_feed.specs.Follow.{Follow, news, HaveToldAlike}
 use Rattle.pfair_feed.specs.Rows.{rows_from}
-use Rattle.pfair_feed.proofs.Alike.{told_alike}
 use Rattle.pfair_feed.specs.Feeding.{AreTakenFrom}
 use Rattle.pfair_feed.specs.Laws.{RunsWriteAlike}
 use Rattle.pfair_feed.specs.RoundTrip.{IsNew, IsPlaced, Placed}
 use Rattle.pfair_feed.proofs.Going.{even}
 use Rattle.pfair_feed.proofs.OneWay.{heads}
-use Rattle.pfair_feed.proofs.Orders.{held_after}
+use Rattle.pfair_feed.proofs.RoundTrip.{held_after}
 use Rattle.pfair_table.proofs.Runs.{get_numbers}
 use Rattle.pfair_feed.proofs.Planned.{so_many}
+use Rattle.std.proofs.lemmas.Option.{same_Some}
+use Rattle.pfair_feed.proofs.RowsGoOn.{rows_go_on}
+
+-- a list whose elements are the first of another
+first_of_other : {A : Type 0} (xs ys : List A) → length xs ≤ length ys → ((t : ℕ) → t < length xs → slice_get xs t ≡ slice_get ys t) → IsPrefixOf xs ys
+first_of_other [] ys h same = (ys, refl)
+first_of_other (x ∷ xs) [] h same = absurd (omega arith)
+first_of_other (x ∷ xs) (y ∷ ys) h same =
+    let rest = first_of_other xs ys (omega arith) (λ t l. same (suc t) (omega arith)) in
+    let first : x ≡ y = same_Some x y (same 0 (omega arith)) in
+    (rest.0, λ i. first i ∷ rest.1 i)
+
+pub rows_of_more : (output : Output) (slot : ℕ) (ts us : List Table) (ds es : List (List Decided)) → length ts ≡ length ds → IsPrefixOf ts us → IsPrefixOf ds es
+    → IsPrefixOf (rows_from output slot ts ds) (rows_from output slot us es)
+rows_of_more output slot ts us ds es same p q =
+    (rows_from output (max slot (length ts)) (ts ++ p.0) (ds ++ q.0), sym (rows_go_on output slot ts p.0 ds q.0 same) ∙ (λ i. rows_from output slot (p.1 i) (q.1 i)))
+
+begins : (output : Output) (slot : ℕ) (ts us : List Table) (ds es : List (List Decided)) → length ts ≡ length ds → length us ≡ length es → length ts ≤ length us
+    → ((t : ℕ) → t < length ts → t < length us → slice_get ts t ≡ slice_get us t) → ((t : ℕ) → t < length ts → t < length us → slice_get ds t ≡ slice_get es t)
+    → IsPrefixOf (rows_from output slot ts ds) (rows_from output slot us es)
+begins output slot ts us ds es same same' h tables decided = grind (arith, rows_of_more, first_of_other)
+
+pub told_alike : (f g : Follow) → length f.dispatch.tables ≡ length f.dispatch.decided → length g.dispatch.tables ≡ length g.dispatch.decided → f.dispatch.origin ≡ g.dispatch.origin → HavePlannedAlike f.dispatch g.dispatch → HaveToldAlike f g
+told_alike f g same same' origins planned output settings agree slot =
+    let c = f.dispatch in
+    let d = g.dispatch in
+    elim (cases_order (length f.dispatch.tables) (length g.dispatch.tables)) [
+      | inl e ↦ inl (shorter (omega (arith, e)))
+      | inr (inl l) ↦ inl (shorter (omega (arith, l)))
+      | inr (inr m) ↦ inr (longer (omega (arith, m)))
+    ]
+  where
+    shorter : length f.dispatch.tables ≤ length g.dispatch.tables → IsPrefixOf (rows_from f.output slot f.dispatch.tables f.dispatch.decided) (rows_from g.output slot g.dispatch.tables g.dispatch.decided)
+    shorter h =
+        let p = begins f.output slot f.dispatch.tables g.dispatch.tables f.dispatch.decided g.dispatch.decided same same' h
+        (λ t l m. (let a = planned settings origins agree t l m in a.0 ∙ sym a.1)) (λ t l m. (let a = planned settings origins agree t l m in a.2 ∙ sym a.3)) in
+        (p.0, p.1 ∙ ap (λ (o : Output). rows_from o slot g.dispatch.tables g.dispatch.decided) output)
+
+    longer : length g.dispatch.tables ≤ length f.dispatch.tables → IsPrefixOf (rows_from g.output slot g.dispatch.tables g.dispatch.decided) (rows_from f.output slot f.dispatch.tables f.dispatch.decided)
+    longer h =
+        let p = begins g.output slot g.dispatch.tables f.dispatch.tables g.dispatch.decided f.dispatch.decided same' same h
+        (λ t m l. (let a = planned settings origins agree t l m in a.1 ∙ sym a.0)) (λ t m l. (let a = planned settings origins agree t l m in a.3 ∙ sym a.2)) in
+        (p.0, p.1 ∙ ap (λ (o : Output). rows_from o slot f.dispatch.tables f.dispatch.decided) (sym output))
 
 -- ---- whether one of two texts begins the other can be seen
 
@@ -69,10 +111,7 @@ of_settings s x (e ∷ es) of all =
     }) all.1
 
 of_nothing : (s : Settings) (capacity : ℕ) → IsOf s (empty_replica s.processors capacity)
-of_nothing s capacity = record {
-  replica = record { in_range = λ k n c held. absurd (cc held); stamped = λ k n e held. absurd (cc held) };
-  processors = refl;
-}
+of_nothing s capacity = grind arith
 
 -- ---- whole plans of what agrees
 
@@ -81,13 +120,7 @@ inside_of f n t xs e l = (let a = ap length e ∙ so_many f n in omega (arith, a
 
 module _ (d : Dispatch) (first : d.origin ≡ None) (whole : IsWholePlan d) (t : ℕ) where
   planned_there : t < length d.tables → (t < frontier (replica_of d.held)) × (slice_get d.tables t ≡ Some (table d.settings (replica_of d.held) t)) × (slice_get d.decided t ≡ Some (decisions d.settings (replica_of d.held) t))
-  planned_there l =
-      let n = min (frontier (replica_of d.held)) d.settings.slots in
-      let inside = inside_of (table_from d.origin d.settings (replica_of d.held)) n t d.tables whole.tables_are l in (
-        omega (arith, inside),
-        ap (λ (ts : List Table). slice_get ts t) whole.tables_are ∙ get_numbers (table_from d.origin d.settings (replica_of d.held)) n t inside ∙ ap (λ (o : Origin). Some (table_from o d.settings (replica_of d.held) t)) first,
-        ap (λ (ds : List (List Decided)). slice_get ds t) whole.decided_are ∙ get_numbers (decisions_from d.origin d.settings (replica_of d.held)) n t inside ∙ ap (λ (o : Origin). Some (decisions_from o d.settings (replica_of d.held) t)) first,
-      )
+  planned_there l = grind (arith, inside_of, get_numbers)
 
 planned_alike : OneTable → (s : Settings) (c d : Dispatch) → c.settings ≡ s → c.origin ≡ None → d.origin ≡ None → IsWholePlan c → IsWholePlan d → IsOf s (replica_of c.held) → IsOf s (replica_of d.held) → HavePlannedAlike c d
 planned_alike law s c d set first first' whole whole' of of' settings origins agree t l m =

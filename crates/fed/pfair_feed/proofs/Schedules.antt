@@ -77,13 +77,4 @@ module _ (x y : Replica) (processors : x.processors ≡ y.processors) (beginning
 
 -- a script's own schedule, whatever the room
 pub schedule_with_room : (run : LoggedRun) (capacity : ℕ) → capacity_of run.logs ≤ capacity → HasScheduleOf run (replica_with_room capacity run)
-schedule_with_room run capacity room =
-    let x = replica_with_room capacity run in
-    let y = replica_of_logs run.logs in
-    let same = same_beginning run capacity room in
-    record {
-      frontier_is = same_frontier x y refl same;
-      plan_is = same_plan x y refl same run.settings;
-      decisions_are = same_decisions x y refl same run.settings;
-      texts_are = same_text x y refl same run.settings;
-    }
+schedule_with_room run capacity room = grind (arith, same_beginning, same_frontier, same_plan, same_decisions, same_text)

@@ -1,11 +1,11 @@
 -- The entries of logs: their rows, and where they stand.
-use Rattle.std.proofs.Common.{ℕ, zero, suc, ◌+◌, ◌<◌, ◌≤◌, ◌≡◌, inl, inr, refl, sym, ap, subst, ◌∙◌, arith, true, List, [], ◌∷◌, ◌++◌, length, map, Some, None, flat_map}
+use Rattle.std.proofs.Common.{ℕ, zero, suc, ◌+◌, ◌<◌, ◌≤◌, ◌≡◌, inl, inr, refl, sym, ap, subst, ◌∙◌, arith, true, List, [], ◌∷◌, ◌++◌, length, map, Some, None, flat_map, drop, take, slice_get, append_assoc}
 use Rattle.std.specs.Prelude.{◌⊎◌}
 use Rattle.std.specs.List.{AllByRecursion, list_all}
 use Rattle.std.proofs.lemmas.Bool.{and_parts, leb-true}
 use Rattle.std.proofs.lemmas.Grind.{flat_map-append}
 use Rattle.std.proofs.lemmas.List.{append-nil, map-append}
-use Rattle.pfair_text.specs.Rows.{lines_text}
+use Rattle.pfair_text.specs.Rows.{lines_text, line}
 use Rattle.pfair_text.proofs.RowFacts.{lines_text-append}
 use Rattle.pfair_lattice.specs.declared.flat.Flat.TheVariants.{One}
 use Rattle.pfair_entry.specs.Entry.{Logged}
@@ -16,6 +16,9 @@ use Rattle.pfair_table.specs.Script.{LoggedRun, capacity_of, contents_of, entry_
 use Rattle.pfair_feed.specs.Entries.{entries_text, log_rows, numbered_from}
 use Rattle.pfair_feed.specs.Feeding.{AreLines, IsOneLine, ended}
 use Rattle.pfair_feed.specs.RoundTrip.{IsOneOf, IsPlaced, IsScript, Placed, placed_from, placed_in, row_of, rows_of}
+use Rattle.std.proofs.lemmas.Option.{same_Some}
+use Rattle.pfair_entry_row.specs.Row.{entry_fields}
+use Rattle.pfair_output.proofs.SlotFacts.{first_left}
 
 -- ---- their rows
 
@@ -25,11 +28,7 @@ log_text processor number (e ∷ log) = ap (λ text. ended (row_of (processor, n
 
 logs_text : (processor : ℕ) (logs : List (List Logged)) → lines_text (slots_from log_rows processor logs) ≡ flat_map ended (map row_of (placed_in processor logs))
 logs_text processor [] = refl
-logs_text processor (log ∷ logs) =
-    lines_text-append (log_rows processor log) (slots_from log_rows (suc processor) logs)
-    ∙ (λ i. log_text processor 1 log i ++ logs_text (suc processor) logs i)
-    ∙ sym (flat_map-append ended (map row_of (placed_from processor 1 log)) (map row_of (placed_in (suc processor) logs)))
-    ∙ ap (flat_map ended) (sym (map-append row_of (placed_from processor 1 log) (placed_in (suc processor) logs)))
+logs_text processor (log ∷ logs) = grind (arith, lines_text-append, log_text, flat_map-append, map-append, logs_text (suc processor) logs)
 
 all_append : {A : Type 0} (P : A → Type 0) (xs ys : List A) → AllByRecursion P xs → AllByRecursion P ys → AllByRecursion P (xs ++ ys)
 all_append P [] ys a b = b
@@ -38,19 +37,11 @@ all_append P (x ∷ xs) ys a b = (a.0, all_append P xs ys a.1 b)
 -- entries that a log may have, each with its number
 log_placed : (processor number : ℕ) (log : List Logged) → processor < 64 → number + length log ≤ 4097 → AllByRecursion IsLoggable log → AllByRecursion IsPlaced (placed_from processor number log)
 log_placed processor number [] p n all = tt
-log_placed processor number (e ∷ log) p n all = (
-  record { processor_fits = omega (arith, p); number_fits = omega (arith, n); loggable = all.0 },
-  log_placed processor (suc number) log p (omega (arith, n)) all.1,
-)
+log_placed processor number (e ∷ log) p n all = grind (arith, log_placed processor (suc number) log p)
 
 logs_placed : (processor : ℕ) (logs : List (List Logged)) → processor + length logs ≤ 64 → list_all is_short logs ≡ true → AllByRecursion (λ log. AllByRecursion IsLoggable log) logs → AllByRecursion IsPlaced (placed_in processor logs)
 logs_placed processor [] p short all = tt
-logs_placed processor (log ∷ logs) p short all =
-    let parts = and_parts (is_short log) (list_all is_short logs) short in
-    let few = leb-true (length log) 4096 parts.0 in
-    all_append IsPlaced (placed_from processor 1 log) (placed_in (suc processor) logs)
-    (log_placed processor 1 log (omega (arith, p)) (omega (arith, few)) all.0)
-    (logs_placed (suc processor) logs (omega (arith, p)) parts.1 all.1)
+logs_placed processor (log ∷ logs) p short all = grind (arith, and_parts, leb-true, all_append, log_placed, logs_placed (suc processor) logs)
 
 pub all_placed : (run : LoggedRun) → IsScript run → AllByRecursion IsPlaced (placed_in 0 run.logs)
 all_placed run script = logs_placed 0 run.logs (let e = script.logged.one_each in let h = script.few in omega (arith, e, h)) script.logged.short script.loggable
@@ -60,11 +51,7 @@ rows_whole law [] all = tt
 rows_whole law (e ∷ es) all = (law e.0 e.1 e.2 all.0, rows_whole law es all.1)
 
 pub entries_are_lines : RowsAreLines → (run : LoggedRun) → IsScript run → AreLines (entries_text run.logs) (rows_of run.logs) []
-entries_are_lines law run script = record {
-  bytes_are = logs_text 0 run.logs ∙ sym (append-nil (flat_map ended (rows_of run.logs)));
-  whole = rows_whole law (placed_in 0 run.logs) (all_placed run script);
-  open_end = tt;
-}
+entries_are_lines law run script = grind (arith, logs_text, append-nil, rows_whole, all_placed)
 
 -- ---- where they stand
 
@@ -86,8 +73,7 @@ one_of_second x (y ∷ xs) ys i = inr (one_of_second x xs ys i)
 in_log : (processor number : ℕ) (log : List Logged) (k n : ℕ) (e : Logged) → IsOneOf (k, n, e) (placed_from processor number log)
     → (i : ℕ) × (k ≡ processor) × (n ≡ number + i) × (i < length log) × (entry_of log (suc i) ≡ Some (One e))
 in_log processor number [] k n e i = absurd i
-in_log processor number (f ∷ log) k n e (inl same) =
-    (0, ap (λ (p : Placed). p.0) same, (let h : n ≡ number = ap (λ (p : Placed). p.1) same in omega (arith, h)), omega arith, ap (λ (p : Placed). Some (One p.2)) (sym same))
+in_log processor number (f ∷ log) k n e (inl same) = grind arith
 in_log processor number (f ∷ log) k n e (inr i) =
     let h = in_log processor (suc number) log k n e i in
     (suc h.0, h.1, (let s = h.2 in omega (arith, s)), (let l = h.3 in omega (arith, l)), h.4)
@@ -116,17 +102,8 @@ in_logs processor (log ∷ logs) k n e i = elim (one_of_both (k, n, e) (placed_f
 at_log : (processor number : ℕ) (log : List Logged) (i : ℕ) → (entry_of log (suc i) ≡ None)
     ⊎ ((e : Logged) × (entry_of log (suc i) ≡ Some (One e)) × (i < length log) × IsOneOf (processor, number + i, e) (placed_from processor number log))
 at_log processor number [] i = inl refl
-at_log processor number (f ∷ log) zero =
-    inr (f, refl, omega arith, inl (ap (λ (n : ℕ). (processor, n, f)) (let e : number + 0 ≡ number = omega arith in e)))
-at_log processor number (f ∷ log) (suc i) = elim (at_log processor (suc number) log i) [
-  | inl none ↦ inl none
-  | inr some ↦ inr (
-    some.0,
-    some.1,
-    (let l = some.2 in omega (arith, l)),
-    inr (subst (λ (n : ℕ). IsOneOf (processor, n, some.0) (placed_from processor (suc number) log)) (let e : suc number + i ≡ number + suc i = omega arith in e) some.3),
-  )
-]
+at_log processor number (f ∷ log) zero = grind arith
+at_log processor number (f ∷ log) (suc i) = grind (arith, at_log processor (suc number) log)
 
 none_at_0 : (log : List Logged) → entry_of log 0 ≡ None
 none_at_0 [] = refl
@@ -150,15 +127,30 @@ at_logs processor (log ∷ logs) zero (suc n) = elim (at_log processor 1 log n) 
         (subst (λ (m : ℕ). IsOneOf (processor, m, some.0) (placed_from processor 1 log)) (let e : 1 + n ≡ suc n = omega arith in e) some.3)),
   )
 ]
-at_logs processor (log ∷ logs) (suc j) n = elim (at_logs (suc processor) logs j n) [
-  | inl none ↦ inl none
-  | inr some ↦ inr (
-    some.0,
-    some.1,
-    (let l = some.2 in omega (arith, l)),
-    some.3,
-    (let l = some.4 in omega (arith, l)),
-    one_of_second (processor + suc j, n, some.0) (placed_from processor 1 log) (placed_in (suc processor) logs)
-        (subst (λ (p : ℕ). IsOneOf (p, n, some.0) (placed_in (suc processor) logs)) (let e : suc processor + j ≡ processor + suc j = omega arith in e) some.5),
-  )
-]
+at_logs processor (log ∷ logs) (suc j) n = grind (arith, one_of_second, at_logs (suc processor) logs j n)
+
+-- ---- texts that grow by one entry of a log after another
+
+-- one entry more
+pub entry_more : (processor : ℕ) (log : List Logged) (index : ℕ) (entry : Logged) (before after : List ℕ) → index < length log → slice_get log index ≡ Some entry
+    → after ≡ before ++ line (entry_fields processor (index + 1) entry)
+    → after ++ lines_text (numbered_from processor (index + 1 + 1) (drop (index + 1) log)) ≡ before ++ lines_text (numbered_from processor (index + 1) (drop index log))
+entry_more processor log index entry before after inside here grown =
+    let t = first_left log index inside in
+    let same : t.0 ≡ entry = same_Some _ _ (sym t.1 ∙ here) in
+    let left : List Logged = drop (index + 1) log in
+    let next : index + 1 + 1 ≡ suc (index + 1) = omega arith in
+    ap (λ text. text ++ lines_text (numbered_from processor (index + 1 + 1) left)) grown
+    ∙ append_assoc before (line (entry_fields processor (index + 1) entry)) (lines_text (numbered_from processor (index + 1 + 1) left))
+    ∙ ap (λ (n : ℕ). before ++ (line (entry_fields processor (index + 1) entry) ++ lines_text (numbered_from processor n left))) next
+    ∙ ap (λ (e : Logged). before ++ (line (entry_fields processor (index + 1) e) ++ lines_text (numbered_from processor (suc (index + 1)) left))) (sym same)
+    ∙ ap (λ rest. before ++ lines_text (numbered_from processor (index + 1) rest)) (sym t.2)
+
+-- the first ones, with one more
+pub all_next : {A : Type 0} (P : A → Type 0) (xs : List A) (index : ℕ) (x : A) → slice_get xs index ≡ Some x → AllByRecursion P (take index xs) → P x → AllByRecursion P (take (index + 1) xs)
+all_next {A} P xs index x here all p = subst (λ (n : ℕ). AllByRecursion P (take n xs)) (let e : suc index ≡ index + 1 = omega arith in e) (by xs index here all)
+  where
+    by : (ys : List A) (i : ℕ) → slice_get ys i ≡ Some x → AllByRecursion P (take i ys) → AllByRecursion P (take (suc i) ys)
+    by [] i at a = tt
+    by (y ∷ ys) zero at a = (subst P (sym (same_Some y x at)) p, tt)
+    by (y ∷ ys) (suc i) at a = (a.0, by ys i at a.1)

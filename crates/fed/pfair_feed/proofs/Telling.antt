@@ -1,16 +1,13 @@
 -- Texts that are sent piece by piece.
 use Rattle.std.proofs.Common.{ℕ, zero, suc, ◌+◌, ◌≡◌, ◌<◌, inl, inr, sym, ap, subst, ◌∙◌, arith, List, [], ◌∷◌, ◌++◌, append_assoc, flat_map, length, take, Option, Result, Ok, Err, OnErr, OnOk}
 use Rattle.std.specs.Io.KnownBytes.{Appends}
+use Rattle.std.proofs.Math.Seq.{take-append-add}
 use Rattle.std.proofs.lemmas.Bool.{cases_lt}
 use Rattle.std.proofs.lemmas.Grind.{flat_map-append}
 use Rattle.std.proofs.lemmas.List.{length-append, take-append-le, take_all}
 use Rattle.csv.proofs.WriteFacts.{appends-more}
 use Rattle.pfair_text.specs.Output.{TakesPrefix}
 use Rattle.pfair_replica.specs.Replica.{numbers_below}
-
-take_behind : (xs ys : List ℕ) (n : ℕ) → take (length xs + n) (xs ++ ys) ≡ xs ++ take n ys
-take_behind [] ys n = ap (λ k. take k ys) (let e : 0 + n ≡ n = omega arith in e)
-take_behind (x ∷ xs) ys n = ap (λ k. take k (x ∷ (xs ++ ys))) (let e : length (x ∷ xs) + n ≡ suc (length xs + n) = omega arith in e) ∙ ap (λ l. x ∷ l) (take_behind xs ys n)
 
 -- a prefix of the first part
 pub prefix_first : (old new : Option (List ℕ)) (xs ys : List ℕ) → TakesPrefix old new xs → TakesPrefix old new (xs ++ ys)
@@ -25,7 +22,7 @@ pub prefix_behind : (old mid new : Option (List ℕ)) (xs ys : List ℕ) → App
 prefix_behind old mid new xs ys first (n, few, took) = (
   length xs + n,
   (let size = length-append xs ys in omega (arith, size, few)),
-  subst (λ (l : List ℕ). Appends old new l) (sym (take_behind xs ys n)) (appends-more old mid new xs (take n ys) first took),
+  subst (λ (l : List ℕ). Appends old new l) (sym (take-append-add xs ys n)) (appends-more old mid new xs (take n ys) first took),
 )
 
 pub on_err : {T E P : Type 0} (r : Result T E) → P → OnErr r P

@@ -9,12 +9,13 @@ use Rattle.pfair_replica.specs.Offered.{taken}
 use Rattle.pfair_replica.specs.Replica.{Replica, has_torn}
 use Rattle.pfair_table.specs.Refinement.{IsWholePlan}
 use Rattle.pfair_text.specs.Output.{TakesPrefix}
+use Rattle.pfair_entry_row.specs.Faults.{IsRowFaultOf}
+use Rattle.pfair_entry_row.specs.declared.fault.RowFault.{RowFault}
 use Rattle.pfair_entry_row.specs.declared.fault.RowFault.TheVariants.{NoRow}
 use Rattle.pfair_file.specs.ProgramFaults.{is_refusal}
 use Rattle.pfair_file.specs.declared.program_fault.ProgramFault.{ProgramFault}
 use Rattle.pfair_file.specs.declared.program_fault.ProgramFault.TheVariants.{Memory, ReadFailed, Row, WriteFailed}
-use Rattle.pfair_feed.specs.Faults.{IsCauseIn}
-use Rattle.pfair_feed.specs.Follow.{Follow, IsGrown, news}
+use Rattle.pfair_feed.specs.Follow.{Follow, IsGrown, IsStopOf, news}
 
 -- ---- lines
 
@@ -100,6 +101,19 @@ pub record AreWelcome (processors capacity : ℕ) (bytes rest : List ℕ) : Type
   pub each : AllByRecursion (IsWelcome processors capacity) lines
 
 -- ---- faults
+
+-- the line is the row of an entry at which the follower stops so
+pub record IsRowOfStop (f g : Follow) (line : List ℕ) (fault : ProgramFault) : Type 0 where
+  pub processor : ℕ
+  pub number : ℕ
+  pub entry : Logged
+  pub is_entry : IsEntryAt processor number entry
+  pub row_is : line ≡ entry_row processor number entry
+  pub stop : IsStopOf f g processor number entry fault
+
+-- why a line is not taken, and what the follower is then: the line is no entry's row, or the follower stops at its entry
+abbrev pub IsCauseIn : (f g : Follow) → List ℕ → ProgramFault → Type 0
+IsCauseIn f g line e = ((fault : RowFault) × (e ≡ Row fault) × IsRowFaultOf line fault × (g ≡ f)) ⊎ IsRowOfStop f g line e
 
 -- What stands of a follower after a fault at a line: more may be planned, no row counts as told, and the contents are as before, or with the
 -- entry whose row the line is.

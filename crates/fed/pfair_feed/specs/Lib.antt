@@ -1,5 +1,4 @@
 pub mod Entries
-pub mod Faults
 pub mod Feeding
 pub mod Follow
 pub mod Laws

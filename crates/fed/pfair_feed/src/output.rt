@@ -45,23 +45,14 @@ pub(crate) fn write_header<W: Write>(
     ensures cause { IfErr result (λ e. (e ≡ WriteFailed) ⊎ (e ≡ Memory)) }
 {
     let mut text = new_text(alloc);
-    add_header(&mut text, output)?;
+    match output {
+        Output::Tables => add_replay_header(&mut text),
+        Output::PlacedTables => add_placed_header(&mut text),
+        Output::Decisions => add_decisions_header(&mut text),
+        Output::Lags => add_lags_header(&mut text),
+    }?;
     let text = finish(text)?;
     send_now(writer, text.as_slice())
-}
-
-// Adds the header.
-fn add_header(text: &mut Writer<Vec<u8>>, output: Output) -> Result<(), AllocError>
-    requires { IsOpen text.old }
-    ensures open { OnOk result (IsOpen text.new) }
-    ensures text { OnOk result (text_so_far text.new ≡ text_so_far text.old ++ line (header_of output)) }
-{
-    match output {
-        Output::Tables => add_replay_header(text),
-        Output::PlacedTables => add_placed_header(text),
-        Output::Decisions => add_decisions_header(text),
-        Output::Lags => add_lags_header(text),
-    }
 }
 
 /// Writes the rows of the slots that are planned, from a slot on, and flushes them if there are some.
@@ -91,8 +82,7 @@ pub(crate) fn write_rows<R: Ready, W: Write>(
     send_now(writer, text.as_slice())
 }
 
-// Adds the rows of the slots that are planned, from a slot on, and tells the book of lags all of
-// them.
+// Adds the rows of the slots that are planned, from a slot on, and tells the book of lags all of them.
 fn add_rows<R: Ready>(
     text: &mut Writer<Vec<u8>>,
     output: Output,
@@ -149,8 +139,5 @@ fn send_now<W: Write>(writer: &mut W, text: &[u8]) -> Result<(), ProgramFault>
         return Ok(());
     }
     send(writer, text)?;
-    match writer.flush() {
-        Ok(()) => Ok(()),
-        Err(_) => Err(ProgramFault::WriteFailed),
-    }
+    writer.flush().map_err(|_| ProgramFault::WriteFailed)
 }

@@ -13,5 +13,4 @@ short : (text : List ℕ) (sent : Result (Unit {0}) WriteFailed) (o n : Option (
 short text sent o n few told cut = (text, few, all_or_cut sent o n text told cut)
 
 pub returns : goal.returns
-returns g c =
-    short _ c.send.result (g.E.Write.contents c.args.complaints.now) (g.E.Write.contents c.send.new.writer) (omega (arith, length-take {A = ℕ}, c.saturating_sub-length.ensures)) c.send.ensures.ok c.send.ensures.failed
+returns g c = grind (arith, short, length-take)

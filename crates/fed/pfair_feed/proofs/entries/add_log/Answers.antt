@@ -1,11 +1,9 @@
-use Rattle.std.proofs.Common.{List, ◌≡◌, ◌<◌, ◌≤◌, ◌∙◌, arith, length, Some, slice_get, refl, subst}
-use Rattle.std.specs.List.{AllByRecursion}
+use Rattle.std.proofs.Common.{◌≡◌, ◌<◌, ◌∙◌, arith, length, Some, slice_get, refl}
 use Rattle.std.proofs.lemmas.List.{take_all}
-use Rattle.pfair_entry.specs.Entry.{Logged}
 use Rattle.std.proofs.lemmas.Option.{slice_get_read}
 use Rattle.pfair_text.specs.Rows.{text_so_far}
 use Rattle.pfair_entry.specs.Notice.{IsLoggable}
-use Rattle.pfair_feed.proofs.Numbered.{all_next, entry_more}
+use Rattle.pfair_feed.proofs.ScriptRows.{all_next, entry_more}
 use Rattle.pfair_feed.proofs.entries.add_log.Goals as goal
 
 pub loop-index-preserved : goal.loop-index-preserved
@@ -20,6 +18,4 @@ loop-index-preserved c =
     )
 
 pub returns-clause-entries : goal.returns-clause-entries
-returns-clause-entries c =
-    let past : length c.args.log.now ≤ c.loop-index.index = omega (arith, c.loop-index-test.false, c.loop-index.auto.index-end) in
-    subst (λ (l : List Logged). AllByRecursion IsLoggable l) (take_all c.loop-index.index c.args.log.now past) c.loop-index.invariant.2
+returns-clause-entries c = grind (arith, take_all)

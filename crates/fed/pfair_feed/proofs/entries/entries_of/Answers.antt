@@ -1,4 +1,4 @@
-use Rattle.std.proofs.Common.{ℕ, List, ◌≡◌, ◌<◌, ◌≤◌, ◌++◌, ◌∙◌, sym, ap, arith, length, subst, IfOk, OnOk, Result, Ok, Err}
+use Rattle.std.proofs.Common.{List, ◌≡◌, ◌<◌, ◌++◌, ◌∙◌, sym, ap, arith, length, subst}
 use Rattle.std.specs.List.{AllByRecursion}
 use Rattle.std.proofs.lemmas.List.{take_all}
 use Rattle.std.proofs.lemmas.Option.{same_Some}
@@ -8,8 +8,7 @@ use Rattle.pfair_table.specs.Table.{Settings}
 use Rattle.pfair_output.proofs.SlotFacts.{slot_more, slots_done}
 use Rattle.pfair_entry.specs.Notice.{IsLoggable}
 use Rattle.pfair_feed.specs.Entries.{log_rows}
-use Rattle.pfair_feed.specs.RoundTrip.{IsScript}
-use Rattle.pfair_feed.proofs.Numbered.{all_next}
+use Rattle.pfair_feed.proofs.ScriptRows.{all_next}
 use Rattle.pfair_feed.proofs.entries.entries_of.Goals as goal
 
 pub loop-processor-preserved : goal.loop-processor-preserved
@@ -25,23 +24,7 @@ loop-processor-preserved c =
     )
 
 pub returns-clause-text : goal.returns-clause-text
-returns-clause-text c =
-    let all : c.processors-processor-end.result ≡ length c.args.script.now.logs = c.processors-processor-end.ensures.value ∙ ap (λ (s : Settings). s.processors) c.settings.ensures.value ∙ sym c.settings.ensures.run.one_each in
-    let past : length c.args.script.now.logs ≤ c.loop-processor.processor = omega (arith, all, c.loop-processor-test.false) in
-    subst (λ (whole : List ℕ). IfOk c.finish.result (λ text. text.items ≡ whole))
-    (sym (slots_done log_rows c.args.script.now.logs c.loop-processor.processor (text_so_far c.loop-processor.writer) past) ∙ c.loop-processor.invariant.1) c.finish.ensures
+returns-clause-text c = grind (arith, slots_done)
 
 pub returns-clause-script : goal.returns-clause-script
-returns-clause-script c =
-    let all : c.processors-processor-end.result ≡ length c.args.script.now.logs = c.processors-processor-end.ensures.value ∙ ap (λ (s : Settings). s.processors) c.settings.ensures.value ∙ sym c.settings.ensures.run.one_each in
-    let past : length c.args.script.now.logs ≤ c.loop-processor.processor = omega (arith, all, c.loop-processor-test.false) in
-    let script : IsScript c.args.script.now = record {
-      logged = c.settings.ensures.run;
-      few = c.capacity.ensures.shape.processors_in_range;
-      loggable = subst (λ (logs : List (List Logged)). AllByRecursion (λ log. AllByRecursion IsLoggable log) logs) (take_all c.loop-processor.processor c.args.script.now.logs past) c.loop-processor.invariant.2;
-    } in
-    on_ok c.finish.result script
-  where
-    on_ok : {T E A : Type 0} (r : Result T E) → A → OnOk r A
-    on_ok (Ok x) a = a
-    on_ok (Err e) a = tt
+returns-clause-script c = grind (arith, take_all)

@@ -1,4 +1,4 @@
-use Rattle.pfair_feed.proofs.FedEntries.{fed_entries_give_their_text}
+use Rattle.pfair_feed.proofs.RoundTrip.{fed_entries_give_their_text}
 use Rattle.pfair_feed.proofs.laws.fed_entries_give_their_text.Goals as goal
 
 pub returns : goal.returns

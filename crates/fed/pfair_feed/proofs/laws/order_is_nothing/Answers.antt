@@ -1,4 +1,4 @@
-use Rattle.pfair_feed.proofs.Orders.{order_is_nothing}
+use Rattle.pfair_feed.proofs.RoundTrip.{order_is_nothing}
 use Rattle.pfair_feed.proofs.laws.order_is_nothing.Goals as goal
 
 pub returns : goal.returns

@@ -1,4 +1,4 @@
-use Rattle.pfair_feed.proofs.Orders.{text_is_whole}
+use Rattle.pfair_feed.proofs.RoundTrip.{text_is_whole}
 use Rattle.pfair_feed.proofs.laws.text_is_whole.Goals as goal
 
 pub returns : goal.returns

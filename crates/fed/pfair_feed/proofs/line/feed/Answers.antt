@@ -1,15 +1,11 @@
-use Rattle.std.proofs.Common.{◌≡◌, ap, subst, Err, rules}
-use Rattle.pfair_entry.specs.Entry.{Logged}
-use Rattle.pfair_feed.specs.Follow.{IsStopOf}
-use Rattle.pfair_feed.proofs.Reading.{failed_at, refused_line}
-use Rattle.pfair_feed.proofs.Repeats.{repeat_wants_none}
+use Rattle.std.proofs.Common.{◌≡◌, ap, Err, rules}
+use Rattle.pfair_feed.proofs.Reading.{failed_at, refused_line, repeat_wants_none}
 use Rattle.pfair_feed.proofs.line.feed.Goals as goal
 
 pub returns-in-Err-take-clause-refused : goal.returns-in-Err-take-clause-refused
 returns-in-Err-take-clause-refused g c refused =
     let same_entry : c.in-Ok.entry-in-Ok-1-own.given.0.0.2 ≡ c.in-Ok.entry = search rules in
-    let stop : IsStopOf c.args.follower.now c.take.new.self c.in-Ok.processor c.in-Ok.number c.in-Ok.entry c.in-Err-take.fault =
-    subst (λ (d : Logged). IsStopOf c.args.follower.now c.take.new.self c.in-Ok.processor c.in-Ok.number d c.in-Err-take.fault) same_entry c.in-Err-take.ensures.stopped in
+    let stop = rw same_entry at c.in-Err-take.ensures.stopped in
     refused_line c.args.line.now c.args.follower.now c.take.new.self (g.W.Write.contents c.args.writer.now) (g.W.Write.contents c.take.new.writer) c.in-Ok.processor c.in-Ok.number c.in-Ok.entry
     c.read_row.result c.in-Err-take.fault c.requires refused c.in-Ok.is c.read_row.ensures.back c.in-Ok.ensures.reading.ok.0 c.in-Ok.ensures.reading.ok.1
     stop
@@ -19,8 +15,7 @@ returns-in-Err-take-clause-refused g c refused =
 pub returns-in-Err-take-clause-failed : goal.returns-in-Err-take-clause-failed
 returns-in-Err-take-clause-failed g c =
     let same_entry : c.in-Ok.entry-in-Ok-1-own.given.0.0.2 ≡ c.in-Ok.entry = search rules in
-    let stop : IsStopOf c.args.follower.now c.take.new.self c.in-Ok.processor c.in-Ok.number c.in-Ok.entry c.in-Err-take.fault =
-    subst (λ (d : Logged). IsStopOf c.args.follower.now c.take.new.self c.in-Ok.processor c.in-Ok.number d c.in-Err-take.fault) same_entry c.in-Err-take.ensures.stopped in
+    let stop = rw same_entry at c.in-Err-take.ensures.stopped in
     failed_at c.args.line.now c.args.follower.now c.take.new.self (g.W.Write.contents c.args.writer.now) (g.W.Write.contents c.take.new.writer) c.in-Ok.processor c.in-Ok.number c.in-Ok.entry
     c.read_row.result c.in-Err-take.fault c.in-Ok.is c.read_row.ensures.back c.in-Ok.ensures.reading.ok.0 c.in-Ok.ensures.reading.ok.1
     c.in-Err-take.ensures.run c.in-Err-take.ensures.stands.0 stop
@@ -30,7 +25,6 @@ returns-in-Err-take-clause-failed g c =
 pub returns-in-Err-take-clause-repeat : goal.returns-in-Err-take-clause-repeat
 returns-in-Err-take-clause-repeat g c q m d at row here same =
     let same_entry : c.in-Ok.entry-in-Ok-1-own.given.0.0.2 ≡ c.in-Ok.entry = search rules in
-    let stop : IsStopOf c.args.follower.now c.take.new.self c.in-Ok.processor c.in-Ok.number c.in-Ok.entry c.in-Err-take.fault =
-    subst (λ (d : Logged). IsStopOf c.args.follower.now c.take.new.self c.in-Ok.processor c.in-Ok.number d c.in-Err-take.fault) same_entry c.in-Err-take.ensures.stopped in
+    let stop = rw same_entry at c.in-Err-take.ensures.stopped in
     repeat_wants_none c.args.line.now c.args.follower.now c.take.new.self c.in-Ok.processor c.in-Ok.number c.in-Ok.entry c.read_row.result c.in-Err-take.fault c.requires c.in-Ok.is c.read_row.ensures.back
     c.in-Err-take.ensures.run.grown stop q m d at row here (cc same)

@@ -1,6 +1,6 @@
 use Rattle.std.proofs.Common.{ap, length}
 use Rattle.pfair_table.specs.Events.{Course}
-use Rattle.pfair_feed.proofs.Starting.{whole_start}
+use Rattle.pfair_feed.proofs.Planned.{whole_start}
 use Rattle.pfair_feed.proofs.follower.Follower.new.Goals as goal
 
 pub returns-clause-nothing : goal.returns-clause-nothing

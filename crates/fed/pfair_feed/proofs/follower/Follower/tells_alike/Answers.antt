@@ -1,6 +1,6 @@
 use Rattle.std.proofs.Common.{◌∙◌, sym, subst}
 use Rattle.pfair_feed.specs.Follow.{Follow, HaveToldAlike}
-use Rattle.pfair_feed.proofs.Alike.{told_alike}
+use Rattle.pfair_feed.proofs.RunsAlike.{told_alike}
 use Rattle.pfair_feed.proofs.follower.Follower.tells_alike.Goals as goal
 
 pub returns : goal.returns
