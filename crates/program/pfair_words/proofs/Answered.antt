@@ -1,5 +1,5 @@
 -- What the parser makes of the words of a program gives what is answered.
-use Rattle.std.proofs.Common.{◌≡◌, subst, inl, List, Result, Ok, Err}
+use Rattle.std.proofs.Common.{arith, ◌≡◌, subst, inl, List, Result, Ok, Err}
 use Rattle.clap.specs.Words.{App, Text, subcommand_rows_of}
 use Rattle.clap.specs.declared.error.kind.ErrorKind.{ErrorKind}
 use Rattle.clap.specs.declared.parser.matches.ArgMatches.{ArgMatches}
@@ -22,6 +22,4 @@ module _ {A : Type 0} (line : App) (to_command : Named → Result A ProgramFault
 
   pub taken : (words : List Text) (app : App) (p : Parsed) (m : ArgMatches) (r : Result A ProgramFault) → app ≡ line → IsParsed app words p → p ≡ Taken m
       → ToAny line to_command to_kind (subcommand_rows_of m) r → ToWords line to_command to_kind words r
-  taken words app p m r e is at h =
-      let is_taken = parsed_at words app line p (Taken m) e is at in
-      answer words r (is_taken.0, subst (λ n. ToAny line to_command to_kind n r) is_taken.1 h)
+  taken words app p m r e is at h = grind (arith, parsed_at, answer)

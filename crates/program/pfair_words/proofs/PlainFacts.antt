@@ -6,9 +6,8 @@ use Rattle.clap.specs.declared.error.kind.ErrorKind.{ErrorKind}
 use Rattle.clap.specs.declared.error.kind.ErrorKind.TheVariants.{DisplayHelp, DisplayVersion, MissingSubcommand, ValueValidation}
 use Rattle.clap.specs.ValueTests.{accepts}
 use Rattle.clap.specs.declared.builder.value_parser.ValueParser.TheVariants.{Unsigned}
-use Rattle.std.specs.Str.Parse.{digits_value, without_leading_plus}
 use Rattle.clap.proofs.ValueTestLemmas.{Accepts-accepts}
-use Rattle.pfair_words.specs.Parse.{IsFlag, Named, Spells, SpellsIfAny}
+use Rattle.pfair_words.specs.Parse.{IsFlag, Named, Spells}
 use Rattle.pfair_words.specs.ScheduleAsked.{AskWindows, IsAnswer, IsAnswerTo, IsAnswerToAny, IsAnswerToKind, IsAnswerToTaken, IsAnswerToUntaken}
 use Rattle.pfair_words.specs.ScheduleLine.{line}
 use Rattle.pfair_words.specs.Plain.{AskNumbers, HasCount, IsDecisionsAnswer, IsLagsAnswer, IsPlain, IsPlainAnswer, IsRefusal, IsReplayAnswer, IsTextAnswer, IsWindowsAnswer}
@@ -62,9 +61,7 @@ module _ (rows : List Row) (f : Text) (file : first_of (codes "file") rows ≡ S
 -- a word that spells a number up to `most` passes
 spelled : (word : Text) (n most : ℕ) → Spells word n → n ≤ most → accepts false (Unsigned 0 most) word ≡ true
 spelled word n most h below =
-    let digits = without_leading_plus word in
-    let range : digits_value 10 digits ≤ most = omega (arith, h.1) in
-    Accepts-accepts false (Unsigned 0 most) word (h.0.0, h.0.1, omega arith, range)
+    Accepts-accepts false (Unsigned 0 most) word (h.0.0, h.0.1, omega arith, omega (arith, h.1))
 
 among_refused : (a b c : Bool) (kind : ErrorKind) → IsAmong kind (line.kinds_by a b c) → kind ≡ ValueValidation
 among_refused true true true kind h = absurd h
@@ -72,8 +69,7 @@ among_refused _ _ _ kind (inl e) = e
 among_refused _ _ _ kind (inr h) = absurd h
 
 no_text : (kind : ErrorKind) → kind ≡ ValueValidation → (kind ≡ DisplayHelp) ⊎ (kind ≡ DisplayVersion) → ⊥
-no_text kind e (inl h) = absurd (search rules)
-no_text kind e (inr h) = absurd (search rules)
+no_text kind e h = grind arith
 
 module _ (e p n : Text) (he : IsPlain e) (hp : IsPlain p) (hn : IsPlain n) where
   abbrev rows : List Row
@@ -83,31 +79,17 @@ module _ (e p n : Text) (he : IsPlain e) (hp : IsPlain p) (hn : IsPlain n) where
   words = codes "windows" ∷ e ∷ p ∷ n ∷ []
 
   to_spelled : (a b c : ℕ) → AskWindows (codes "windows", rows) a b c → AskNumbers e p n a b c
-  to_spelled a b c h = record {
-    spells_cost = subst (λ o. SpellsIfAny o a) (line.windows_cost e p n he hp hn) h.cost;
-    spells_period = subst (λ o. SpellsIfAny o b) (line.windows_period e p n he hp hn) h.period;
-    spells_count = subst (λ o. SpellsIfAny o c) (line.windows_count e p n he hp hn) h.count;
-    in_range = h.range;
-  }
+  to_spelled a b c h = grind (arith, line.windows_cost e p n he hp hn, line.windows_period e p n he hp hn, line.windows_count e p n he hp hn)
 
   to_asked : (a b c : ℕ) → AskNumbers e p n a b c → AskWindows (codes "windows", rows) a b c
-  to_asked a b c h = record {
-    name = refl;
-    cost = subst (λ o. SpellsIfAny o a) (sym (line.windows_cost e p n he hp hn)) h.spells_cost;
-    period = subst (λ o. SpellsIfAny o b) (sym (line.windows_period e p n he hp hn)) h.spells_period;
-    count = subst (λ o. SpellsIfAny o c) (sym (line.windows_count e p n he hp hn)) h.spells_count;
-    range = h.in_range;
-  }
+  to_asked a b c h = grind (arith, line.windows_cost e p n he hp hn, line.windows_period e p n he hp hn, line.windows_count e p n he hp hn)
 
   -- numbers are taken
   taken : (a b c : ℕ) → AskNumbers e p n a b c → fault_of line words ≡ []
   taken a b c h =
-      let low : a ≤ 18446744073709551615 = omega (arith, h.spells_cost.0.1, h.spells_cost.1) in
-      let mid : b ≤ 18446744073709551615 = omega (arith, h.spells_period.0.1, h.spells_period.1) in
-      line.windows_taken e p n he hp hn ∙ by (spelled e a _ h.spells_cost low) (spelled p b _ h.spells_period mid) (spelled n c 1000000 h.spells_count h.in_range)
-    where
-      by : {x y z : Bool} → x ≡ true → y ≡ true → z ≡ true → line.kinds_by x y z ≡ []
-      by ex ey ez = rw (ex, ey, ez) refl
+      let low = spelled e a 18446744073709551615 h.spells_cost (omega (arith, h.spells_cost.0.1, h.spells_cost.1)) in
+      let mid = spelled p b 18446744073709551615 h.spells_period (omega (arith, h.spells_period.0.1, h.spells_period.1)) in
+      line.windows_taken e p n he hp hn ∙ rw (low, mid, spelled n c 1000000 h.spells_count h.in_range) refl
 
   windows_answer : (r : Answer) → IsAnswerTo (codes "windows", rows) r → IsWindowsAnswer e p n r
   windows_answer (Ok (Windows w count)) h = to_spelled w.cost w.period count h
@@ -139,8 +121,7 @@ text_of kind (inr is) (Err CommandLine) h = absurd (h.1 is)
 text_of kind text _ h = absurd h
 
 refusal_of : (r : Answer) → IsAnswerToKind MissingSubcommand r → IsRefusal r
-refusal_of (Ok (Help t)) (inl e) = absurd (search rules)
-refusal_of (Ok (Help t)) (inr e) = absurd (search rules)
+refusal_of (Ok (Help t)) h = absurd (grind (arith, h))
 refusal_of (Err Memory) h = tt
 refusal_of (Err CommandLine) h = tt
 refusal_of _ h = absurd h

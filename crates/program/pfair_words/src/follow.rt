@@ -77,56 +77,25 @@ pub fn read_words(alloc: Global, words: &[String]) -> Result<Asked, ProgramFault
 fn read_matches(alloc: Global, matches: &ArgMatches<'_>) -> Result<Asked, ProgramFault>
     ensures { IsAnswerToAny (subcommand_rows_of matches.now) result }
 {
-    match matches.subcommand() {
-        Some((name, words)) => read_command(alloc, name, words),
-        None => Err(ProgramFault::CommandLine),
-    }
-}
-
-// What a command asks for.
-fn read_command(alloc: Global, name: &str, words: &ArgMatches<'_>) -> Result<Asked, ProgramFault>
-    ensures { IsAnswerTo (name.now, rows_of (found_of words.now)) result }
-{
+    let Some((name, words)) = matches.subcommand() else {
+        return Err(ProgramFault::CommandLine);
+    };
     if name == "entries" {
-        read_entries(alloc, words)
+        let file = file_name(alloc, words)?;
+        Ok(Asked::Entries { file })
     } else if name == "replay" {
-        read_replay(words)
+        let affinity = is_set(words, "affinity");
+        let run = read_run(words)?;
+        Ok(Asked::Replay { run, affinity })
     } else if name == "decisions" {
-        read_decisions(words)
+        let run = read_run(words)?;
+        Ok(Asked::Decisions { run })
     } else if name == "lags" {
-        read_lags(words)
+        let run = read_run(words)?;
+        Ok(Asked::Lags { run })
     } else {
         Err(ProgramFault::CommandLine)
     }
-}
-
-fn read_entries(alloc: Global, words: &ArgMatches<'_>) -> Result<Asked, ProgramFault>
-    ensures { IsAnswerTo (codes "entries", rows_of (found_of words.now)) result }
-{
-    let file = file_name(alloc, words)?;
-    Ok(Asked::Entries { file })
-}
-
-fn read_replay(words: &ArgMatches<'_>) -> Result<Asked, ProgramFault>
-    ensures { IsAnswerTo (codes "replay", rows_of (found_of words.now)) result }
-{
-    let affinity = is_set(words, "affinity");
-    let run = read_run(words)?;
-    Ok(Asked::Replay { run, affinity })
-}
-
-fn read_decisions(words: &ArgMatches<'_>) -> Result<Asked, ProgramFault>
-    ensures { IsAnswerTo (codes "decisions", rows_of (found_of words.now)) result }
-{
-    let run = read_run(words)?;
-    Ok(Asked::Decisions { run })
-}
-
-fn read_lags(words: &ArgMatches<'_>) -> Result<Asked, ProgramFault>
-    ensures { IsAnswerTo (codes "lags", rows_of (found_of words.now)) result }
-{
-    let run = read_run(words)?;
-    Ok(Asked::Lags { run })
 }
 
 // The run that the options tell.

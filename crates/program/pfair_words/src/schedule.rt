@@ -62,24 +62,21 @@ pub fn read_words(alloc: Global, words: &[String]) -> Result<Asked, ProgramFault
 fn read_matches(alloc: Global, matches: &ArgMatches<'_>) -> Result<Asked, ProgramFault>
     ensures { IsAnswerToAny (subcommand_rows_of matches.now) result }
 {
-    match matches.subcommand() {
-        Some((name, words)) => read_command(alloc, name, words),
-        None => Err(ProgramFault::CommandLine),
-    }
-}
-
-// What a command asks for.
-fn read_command(alloc: Global, name: &str, words: &ArgMatches<'_>) -> Result<Asked, ProgramFault>
-    ensures { IsAnswerTo (name.now, rows_of (found_of words.now)) result }
-{
+    let Some((name, words)) = matches.subcommand() else {
+        return Err(ProgramFault::CommandLine);
+    };
     if name == "windows" {
         read_windows(words)
     } else if name == "replay" {
-        read_replay(alloc, words)
+        let affinity = is_set(words, "affinity");
+        let file = file_name(alloc, words)?;
+        Ok(Asked::Replay { file, affinity })
     } else if name == "decisions" {
-        read_decisions(alloc, words)
+        let file = file_name(alloc, words)?;
+        Ok(Asked::Decisions { file })
     } else if name == "lags" {
-        read_lags(alloc, words)
+        let file = file_name(alloc, words)?;
+        Ok(Asked::Lags { file })
     } else {
         Err(ProgramFault::CommandLine)
     }
@@ -98,26 +95,4 @@ fn read_windows(words: &ArgMatches<'_>) -> Result<Asked, ProgramFault>
         Ok(weight) => Ok(Asked::Windows { weight, count }),
         Err(fault) => Err(ProgramFault::Weight(fault)),
     }
-}
-
-fn read_replay(alloc: Global, words: &ArgMatches<'_>) -> Result<Asked, ProgramFault>
-    ensures { IsAnswerTo (codes "replay", rows_of (found_of words.now)) result }
-{
-    let affinity = is_set(words, "affinity");
-    let file = file_name(alloc, words)?;
-    Ok(Asked::Replay { file, affinity })
-}
-
-fn read_decisions(alloc: Global, words: &ArgMatches<'_>) -> Result<Asked, ProgramFault>
-    ensures { IsAnswerTo (codes "decisions", rows_of (found_of words.now)) result }
-{
-    let file = file_name(alloc, words)?;
-    Ok(Asked::Decisions { file })
-}
-
-fn read_lags(alloc: Global, words: &ArgMatches<'_>) -> Result<Asked, ProgramFault>
-    ensures { IsAnswerTo (codes "lags", rows_of (found_of words.now)) result }
-{
-    let file = file_name(alloc, words)?;
-    Ok(Asked::Lags { file })
 }
