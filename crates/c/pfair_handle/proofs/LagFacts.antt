@@ -1,14 +1,14 @@
 -- A book of lags that is notified slot by slot, and its rows.
-use Rattle.std.proofs.Common.{◌≡◌, ◌∙◌, ◌+◌, ◌-◌, ℕ, zero, suc, ◌<◌, ◌≤◌, ◌++◌, ◌∷◌, [], List, length, min, take, drop, ap, sym, refl, arith}
+use Rattle.std.proofs.Common.{◌≡◌, ◌+◌, ◌-◌, ℕ, zero, suc, ◌<◌, ◌≤◌, ◌++◌, ◌∷◌, [], List, length, min, take, drop, refl, arith, ◌∙◌, ap}
 use Rattle.std.proofs.lemmas.List.{length-map}
-use Rattle.pfair_lag.specs.Book.{Book, empty_book}
+use Rattle.pfair_lag.specs.Book.{Book}
 use Rattle.pfair_table.specs.declared.pick.Decided.{Decided}
 use Rattle.pfair_table.specs.Table.{Table}
 use Rattle.pfair_output.specs.Told.{slot_told, all_slots_told}
 use Rattle.pfair_output.proofs.ToldFacts.{time-all_told}
 use Rattle.pfair_handle.specs.Rows.{rows_of, written_over}
 use Rattle.pfair_handle.specs.declared.lags.PfairLag.{PfairLag}
-use Rattle.pfair_handle.specs.Lags.{book_after, book_rows, lag_row, lags_at}
+use Rattle.pfair_handle.specs.Lags.{book_after, book_rows, lags_at}
 use Rattle.pfair_handle.proofs.SlotRows.{room-for, slot-written}
 
 -- ---- what the book is notified of
@@ -25,9 +25,7 @@ no_tables b (suc n) (d ∷ ds) = refl
 -- the slots before m, and then n more
 told_on : (ds : List (List Decided)) (ts : List Table) (b : Book) (m n k : ℕ) → k ≡ m + n
     → all_slots_told (all_slots_told b (take m ds) (take m ts)) (take n (drop m ds)) (take n (drop m ts)) ≡ all_slots_told b (take k ds) (take k ts)
-told_on ds ts b zero n k is =
-    let same : n ≡ k = omega arith in
-    ap (λ i. all_slots_told b (take i ds) (take i ts)) same
+told_on ds ts b zero n k is = grind arith
 told_on ds ts b (suc m) n zero is = absurd (omega arith)
 told_on [] ts b (suc m) n (suc k) is = no_decisions b n (take n (drop (suc m) ts))
 told_on (d ∷ ds) [] b (suc m) n (suc k) is = no_tables b n (take n (drop m ds))
@@ -38,33 +36,21 @@ time_after : (ds : List (List Decided)) (ts : List Table) (b : Book) (n : ℕ) �
 time_after ds ts b zero enough enough' = omega arith
 time_after [] ts b (suc n) enough enough' = absurd (omega arith)
 time_after (d ∷ ds) [] b (suc n) enough enough' = absurd (omega arith)
-time_after (d ∷ ds) (t ∷ ts) b (suc n) enough enough' =
-    let rest = time_after ds ts (slot_told d t b) n (omega arith) (omega arith) in
-    let here = time-all_told d b in
-    rest ∙ omega arith
+time_after (d ∷ ds) (t ∷ ts) b (suc n) enough enough' = grind (arith, time-all_told, time_after ds ts (slot_told d t b) n)
 
 pub book_time : (ds : List (List Decided)) (ts : List Table) (n : ℕ) (book : Book) → n ≤ length ds → n ≤ length ts → book ≡ book_after ds ts n → book.time ≡ n
-book_time ds ts n book enough enough' is =
-    let there = time_after ds ts empty_book n enough enough' in
-    let end : 0 + n ≡ n = omega arith in
-    ap (λ (b : Book). b.time) is ∙ there ∙ end
+book_time ds ts n book enough enough' is = grind (arith, time_after)
 
 pub next_told : (ds : List (List Decided)) (ts : List Table) (slot : ℕ) (book next : Book) → slot < length ds → slot < length ts → book ≡ book_after ds ts slot
     → next ≡ all_slots_told book (take (slot + 1 - book.time) (drop book.time ds)) (take (slot + 1 - book.time) (drop book.time ts))
     → next ≡ book_after ds ts (slot + 1)
-next_told ds ts slot book next inside inside' before is =
-    let time : book.time ≡ slot = book_time ds ts slot book (omega arith) (omega arith) before in
-    is ∙ ap (λ n. all_slots_told book (take (slot + 1 - n) (drop n ds)) (take (slot + 1 - n) (drop n ts))) time
-    ∙ ap (λ (b : Book). all_slots_told b (take (slot + 1 - slot) (drop slot ds)) (take (slot + 1 - slot) (drop slot ts))) before
-    ∙ told_on ds ts empty_book slot (slot + 1 - slot) (slot + 1) (omega arith)
+next_told ds ts slot book next inside inside' before is = grind (arith, book_time, told_on)
 
 -- ---- rows
 
 pub as-many-lags : (ds : List (List Decided)) (ts : List Table) (slot : ℕ) (book : Book) → book ≡ book_after ds ts (slot + 1)
     → length book.entered ≡ length (lags_at ds ts slot)
-as-many-lags ds ts slot book is =
-    let there : Book = book_after ds ts (slot + 1) in
-    ap (λ (b : Book). length b.entered) is ∙ sym (length-map there.entered (lag_row there.time))
+as-many-lags ds ts slot book is = grind (arith, length-map)
 
 -- no more than fit are counted
 pub counted-within : (rows more all most counted next : ℕ) → counted ≡ min rows most → next ≡ min (counted + more) most → all ≡ rows + more → next ≡ min all most

@@ -5,5 +5,4 @@ mod Onward
 mod SlotRows
 mod TakingFacts
 mod Values
-mod WindowRows
 mod Written

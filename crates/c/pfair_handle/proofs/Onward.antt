@@ -1,24 +1,18 @@
 -- One plan more.
-use Rattle.std.proofs.Common.{◌≡◌, ◌∙◌, ◌+◌, ℕ, suc, ◌<◌, ◌≤◌, ◌++◌, ◌∷◌, [], length, max, ap, subst, true, if◌then◌else◌, arith}
+use Rattle.std.proofs.Common.{◌≡◌, ◌+◌, ℕ, ◌<◌, length, arith, ◌∙◌, suc, ◌≤◌, max, ap}
 use Rattle.std.proofs.lemmas.List.{length-append}
 use Rattle.std.proofs.Math.Nat.{le-max_right}
-use Rattle.pfair_replica.specs.HeldRows.{replica_of}
 use Rattle.pfair_table.specs.declared.event.Event.TheVariants.{Plan}
 use Rattle.pfair_table.specs.declared.answer.Step.TheVariants.{Planned}
-use Rattle.pfair_table.specs.Table.{Settings, table_from}
-use Rattle.pfair_table.specs.Events.{Course, happens, with_next_slot, is_plannable}
+use Rattle.pfair_table.specs.Events.{happens, Course}
 use Rattle.pfair_table.specs.Refinement.{Dispatch, course_of, IsStepOf}
 use Rattle.pfair_handle.specs.Planning.{IsPlannedOn}
+use Rattle.pfair_table.specs.Table.{Settings}
 
 -- a plan that planned a slot has one table more
 one-longer : (m e : Dispatch) (slot : ℕ) → course_of e ≡ happens m.settings (course_of m) Plan → IsStepOf m (Planned slot)
     → length e.tables ≡ length m.tables + 1
-one-longer m e slot course step =
-    let yes : is_plannable m.settings (replica_of m.held) (length m.tables) ≡ true =
-    subst (λ t. is_plannable m.settings (replica_of m.held) t ≡ true) step.0 step.1 in
-    let grown : e.tables ≡ m.tables ++ table_from m.origin m.settings (replica_of m.held) (length m.tables) ∷ [] =
-    ap (λ (c : Course). c.tables) course ∙ ap (λ b. (if b then with_next_slot m.settings (course_of m) else course_of m).tables) yes in
-    ap length grown ∙ length-append m.tables (table_from m.origin m.settings (replica_of m.held) (length m.tables) ∷ [])
+one-longer m e slot course step = grind (arith, length-append)
 
 pub one-more-plan : (until : ℕ) (d m e : Dispatch) (slot : ℕ) → IsPlannedOn until d m → length m.tables < until
     → course_of e ≡ happens m.settings (course_of m) Plan → e ≡ record m { tables = e.tables; decided = e.decided }

@@ -1,5 +1,5 @@
 -- The quanta of several slots, row by row and slot by slot.
-use Rattle.std.proofs.Common.{◌≡◌, ◌∙◌, ◌+◌, ◌-◌, ℕ, zero, suc, ◌<◌, ◌≤◌, ◌++◌, ◌∷◌, [], List, Some, length, take, drop, set, get_or, slice_get, ap, append_assoc, sym, subst, refl, arith}
+use Rattle.std.proofs.Common.{◌≡◌, ◌+◌, ◌-◌, ℕ, zero, suc, ◌<◌, ◌≤◌, ◌++◌, ◌∷◌, [], List, Some, length, take, drop, set, get_or, slice_get, ap, subst, refl, arith, ◌∙◌, append_assoc, sym}
 use Rattle.std.specs.List.{AllByRecursion}
 use Rattle.std.proofs.lemmas.List.{length-append}
 use Rattle.std.proofs.lemmas.Option.{same_Some, none-some}
@@ -32,31 +32,20 @@ pub one-quantum-more : (places : List ℕ) (slot k : ℕ) (xs : Table) (rows : L
     → set (quanta_in places slot k (take i xs) ++ drop i rows) i (quantum_row slot j x (slice_get places j)) ≡ quanta_in places slot k (take (suc i) xs) ++ drop (suc i) rows
 one-quantum-more places slot k [] rows i j x inside room at is = absurd (omega arith)
 one-quantum-more places slot k (a ∷ xs) [] i j x inside room at is = absurd (omega arith)
-one-quantum-more places slot k (a ∷ xs) (b ∷ rows) zero j x inside room at is =
-    let here : j ≡ k = omega arith in
-    ap (λ y. quantum_row slot y x (slice_get places y) ∷ rows) here ∙ ap (λ y. quantum_row slot k y (slice_get places k) ∷ rows) is
-one-quantum-more places slot k (a ∷ xs) (b ∷ rows) (suc i) j x inside room at is =
-    ap (λ rest. quantum_row slot k a (slice_get places k) ∷ rest) (one-quantum-more places slot (suc k) xs rows i j x (omega arith) (omega arith) (omega arith) is)
+one-quantum-more places slot k (a ∷ xs) (b ∷ rows) zero j x inside room at is = grind arith
+one-quantum-more places slot k (a ∷ xs) (b ∷ rows) (suc i) j x inside room at is = grind (arith, one-quantum-more places slot (suc k) xs rows i j x)
 
 -- ---- slots
 
 pub one-slot-more : {B : Type 0} (rows_at : ℕ → List B) (from slot : ℕ) → from ≤ slot
     → rows_of rows_at from (slot + 1 - from) ≡ rows_of rows_at from (slot - from) ++ rows_at slot
-one-slot-more rows_at from slot after =
-    let next : slot + 1 - from ≡ suc (slot - from) = omega arith in
-    let here : from + (slot - from) ≡ slot = omega arith in
-    ap (rows_of rows_at from) next ∙ ap (λ t. rows_of rows_at from (slot - from) ++ rows_at t) here
+one-slot-more rows_at from slot after = grind arith
 
 -- the rows of more slots are at least as many
 longer_by : {B : Type 0} (rows_at : ℕ → List B) (from n more k : ℕ) → k ≡ n + more → length (rows_of rows_at from n) ≤ length (rows_of rows_at from k)
-longer_by rows_at from n zero k is =
-    let same : n ≡ k = omega arith in
-    subst (λ m. length (rows_of rows_at from n) ≤ length (rows_of rows_at from m)) same (le_refl (length (rows_of rows_at from n)))
+longer_by rows_at from n zero k is = grind (arith, le_refl)
 longer_by rows_at from n (suc more) zero is = absurd (omega arith)
-longer_by rows_at from n (suc more) (suc k) is =
-    let before : length (rows_of rows_at from n) ≤ length (rows_of rows_at from k) = longer_by rows_at from n more k (omega arith) in
-    let joined = length-append (rows_of rows_at from k) (rows_at (from + k)) in
-    omega arith
+longer_by rows_at from n (suc more) (suc k) is = grind (arith, length-append, longer_by rows_at from n more k)
 
 pub longer : {B : Type 0} (rows_at : ℕ → List B) (from m n : ℕ) → m ≤ n → length (rows_of rows_at from m) ≤ length (rows_of rows_at from n)
 longer rows_at from m n above = longer_by rows_at from m (n - m) n (omega arith)
@@ -64,18 +53,12 @@ longer rows_at from m n above = longer_by rows_at from m (n - m) n (omega arith)
 -- all rows of a table are written
 pub all-written : (places : List ℕ) (slot : ℕ) (table : Table) (rows old : List PfairQuantum) (row : ℕ) → row ≤ length table → length table ≤ row
     → rows ≡ quanta_in places slot 0 (take row table) ++ drop row old → rows ≡ written_over (quanta_in places slot 0 table) old
-all-written places slot table rows old row low high is =
-    let end : row ≡ length table = omega arith in
-    is ∙ ap (λ r. quanta_in places slot 0 (take r table) ++ drop r old) end
-    ∙ ap (λ (xs : Table). quanta_in places slot 0 xs ++ drop (length table) old) (take-length table)
-    ∙ ap (λ n. quanta_in places slot 0 table ++ drop n old) (sym (as-many places slot 0 table))
+all-written places slot table rows old row low high is = grind (arith, take-length, as-many)
 
 -- ---- some rows, and then others behind them
 
 further : {B : Type 0} (m n k : ℕ) (xs : List B) → k ≡ m + n → drop n (drop m xs) ≡ drop k xs
-further zero n k xs is =
-    let same : n ≡ k = omega arith in
-    ap (λ i. drop i xs) same
+further zero n k xs is = grind arith
 further (suc m) n zero xs is = absurd (omega arith)
 further (suc m) zero (suc k) [] is = refl
 further (suc m) (suc n) (suc k) [] is = refl
@@ -120,7 +103,4 @@ slot-written {B} rows_at from slot at old rows new after at_is room rows_are new
 -- how many rows are counted
 pub slot-counted : {B : Type 0} (rows_at : ℕ → List B) (from slot at more : ℕ) → from ≤ slot → at ≡ length (rows_of rows_at from (slot - from))
     → more ≡ length (rows_at slot) → at + more ≡ length (rows_of rows_at from (slot + 1 - from))
-slot-counted rows_at from slot at more after at_is more_is =
-    let here : length (rows_of rows_at from (slot + 1 - from)) ≡ length (rows_of rows_at from (slot - from)) + length (rows_at slot) =
-    ap length (one-slot-more rows_at from slot after) ∙ length-append (rows_of rows_at from (slot - from)) (rows_at slot) in
-    omega arith
+slot-counted rows_at from slot at more after at_is more_is = grind (arith, one-slot-more, length-append)

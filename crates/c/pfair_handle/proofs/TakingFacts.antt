@@ -1,12 +1,10 @@
 -- One entry more of a log is taken.
-use Rattle.std.proofs.Common.{Result, Ok, Err, IfErr, IsErrAnd, ◌≡◌, ◌∙◌, ◌+◌, ℕ, zero, suc, ◌<◌, ◌∷◌, [], List, Bool, true, false, length, take, get_or, slice_get, ap, sym, refl, subst, true≢false, arith, if◌then◌else◌}
+use Rattle.std.proofs.Common.{Result, Ok, Err, IfErr, IsErrAnd, ◌≡◌, ◌∙◌, ◌+◌, ℕ, zero, suc, ◌<◌, ◌∷◌, [], List, Bool, true, false, length, take, get_or, ap, sym, refl, subst, true≢false, arith, if◌then◌else◌, slice_get}
 use Rattle.pfair_lattice.specs.declared.flat.Flat.TheVariants.{One, Torn as TornContent}
 use Rattle.std.specs.declared.option.Option.TheVariants.{None, Some}
 use Rattle.pfair_lattice.specs.Held.{Held}
 use Rattle.std.proofs.lemmas.Option.{none-some, get_or_from_slice_get}
 use Rattle.pfair_entry.specs.Entry.{Logged}
-use Rattle.pfair_entry.specs.Same.{entry_eq}
-use Rattle.pfair_entry.specs.Exact.{entry_exact}
 use Rattle.pfair_replica.specs.Replica.{Replica, with_entry}
 use Rattle.pfair_replica.specs.HeldRows.{HeldRows}
 use Rattle.pfair_replica.specs.Offered.{has_key, taken}
@@ -17,6 +15,7 @@ use Rattle.pfair_handle.specs.Entries.{logged_of, IsMeant}
 use Rattle.pfair_handle.specs.declared.entry.PfairEntry.{PfairEntry}
 use Rattle.pfair_handle.specs.declared.taking.PfairTakenLog.{PfairTakenLog}
 use Rattle.pfair_handle.specs.TakenLog.{met, one_more, Taking, one_taken, all_taken, untaken, AreOfLog, IsRefusal, IsRefusedAt}
+use Rattle.pfair_entry.specs.Exact.{entry_exact}
 
 -- ---- keys are those of the shape, which stays
 
@@ -33,11 +32,8 @@ same-keys k n (e ∷ more) s j m = same-keys k (suc n) more (one_taken k n e s) 
 one-taken-more : (k n : ℕ) (es : List PfairEntry) (s : Taking) (i j : ℕ) (d : PfairEntry) → i < length es → j ≡ n + i
     → all_taken k n (take (suc i) es) s ≡ one_taken k j (get_or es i d) (all_taken k n (take i es) s)
 one-taken-more k n [] s i j d inside at = absurd (omega arith)
-one-taken-more k n (a ∷ es) s zero j d inside at =
-    let here : n ≡ j = omega arith in
-    ap (λ m. one_taken k m a s) here
-one-taken-more k n (a ∷ es) s (suc i) j d inside at =
-    one-taken-more k (suc n) es (one_taken k n a s) i j d (omega arith) (omega arith)
+one-taken-more k n (a ∷ es) s zero j d inside at = grind arith
+one-taken-more k n (a ∷ es) s (suc i) j d inside at = grind (arith, one-taken-more k (suc n) es (one_taken k n a s) i j d)
 
 of-log-more : (x : Replica) (k n : ℕ) (es : List PfairEntry) (i j : ℕ) (d : PfairEntry) → i < length es → j ≡ n + i
     → AreOfLog x k n (take i es) → IsMeant (get_or es i d) → has_key x k j ≡ true → AreOfLog x k n (take (suc i) es)
@@ -61,13 +57,7 @@ pub next-taking : (k first i j : ℕ) (es : List PfairEntry) (d : PfairEntry) (x
     → record { held = now; counted = c } ≡ all_taken k first (take i es) (untaken x)
     → next ≡ taken now k j (logged_of (get_or es i d)) → how ≡ met (now.at k j) (logged_of (get_or es i d)) → counted ≡ one_more how c
     → record { held = next; counted = counted } ≡ all_taken k first (take (i + 1) es) (untaken x)
-next-taking k first i j es d x now next c counted how inside at before held_is how_is counted_is =
-    let e : PfairEntry = get_or es i d in
-    ap (λ (r : Replica). record { held = r; counted = counted }) held_is
-    ∙ ap (λ (t : PfairTakenLog). record { held = taken now k j (logged_of e); counted = t }) (counted_is ∙ ap (λ h. one_more h c) how_is)
-    ∙ ap (one_taken k j e) before
-    ∙ sym (one-taken-more k first es (untaken x) i j d inside at)
-    ∙ (let further : suc i ≡ i + 1 = omega arith in ap (λ m. all_taken k first (take m es) (untaken x)) further)
+next-taking k first i j es d x now next c counted how inside at before held_is how_is counted_is = grind (arith, one-taken-more)
 
 pub same-key : (k first i j : ℕ) (es : List PfairEntry) (x now : Replica) (c : PfairTakenLog)
     → record { held = now; counted = c } ≡ all_taken k first (take i es) (untaken x)
@@ -78,13 +68,7 @@ same-key k first i j es x now c before key =
 -- one more is counted
 pub counted-more : (how : Taken) (c d : PfairTakenLog) (i : ℕ) → d ≡ one_more how c → c.taken ≡ i → c.fresh + c.known + c.torn ≡ c.taken
     → (d.taken ≡ i + 1) × (d.fresh + d.known + d.torn ≡ d.taken)
-counted-more how c d i is at sum =
-    subst (λ (t : PfairTakenLog). (t.taken ≡ i + 1) × (t.fresh + t.known + t.torn ≡ t.taken)) (sym is) (by_case how)
-  where
-    by_case : (h : Taken) → ((one_more h c).taken ≡ i + 1) × ((one_more h c).fresh + (one_more h c).known + (one_more h c).torn ≡ (one_more h c).taken)
-    by_case New = (omega arith, omega arith)
-    by_case Known = (omega arith, omega arith)
-    by_case Torn = (omega arith, omega arith)
+counted-more how c d i is at sum = grind arith
 
 -- ---- what is refused
 
@@ -126,11 +110,8 @@ pub met-is : (h : Held Logged) (e : Logged) (how : Taken) → IsTakenAs h e how 
 met-is None e New is = refl
 met-is (Some c) e New is = absurd (none-some c (sym is))
 met-is None e Known is = absurd (none-some (One e) is)
-met-is (Some (One f)) e Known is =
-    let same : f ≡ e = ap (λ (h : Held Logged). content_or h e) is in
-    known_if (entry_eq f e) (ap (λ (g : Logged). entry_eq g e) same ∙ entry_exact.itself e)
+met-is (Some (One f)) e Known is = grind (arith, known_if, entry_exact.itself)
 met-is (Some TornContent) e Known is = absurd (true≢false (sym (ap is_one is)))
 met-is None e Torn is = absurd (is.0 refl)
-met-is (Some (One f)) e Torn is =
-    torn_if (entry_eq f e) (λ same. is.1 (ap (λ (g : Logged). Some (One g)) (entry_exact.alike f e same)))
+met-is (Some (One f)) e Torn is = grind (arith, torn_if, entry_exact.alike)
 met-is (Some TornContent) e Torn is = refl

@@ -1,6 +1,6 @@
 //! The decisions of several slots, as C has them.
 ghost use Rattle.std.specs.Prelude.{◌≡◌, ◌≤◌, ◌+◌, ◌++◌, length, map, min, take, drop};
-ghost use Rattle.pfair_handle.specs.Rows.{slot_of, decided_row, decision_row, decisions_at, decisions_of, written_over};
+ghost use Rattle.pfair_handle.specs.Rows.{slot_of, decision_row, decisions_at, decisions_of, written_over};
 
 use crate::rows::{PfairDecided, decided_row};
 use pfair_ready::Ready;
@@ -71,16 +71,9 @@ fn write_rows(slot: u64, decided: &[Decided], rows: &mut [PfairDecision])
     ensures { rows.new ≡ written_over (map (decision_row slot) decided.now) rows.old }
 {
     for (row, one) in decided.iter().enumerate() {
-        rows[row] = decision_row(slot, one);
-    }
-}
-
-// The decision, with its slot.
-fn decision_row(slot: u64, one: &Decided) -> PfairDecision
-    ensures { result ≡ decision_row slot one.now }
-{
-    PfairDecision {
-        slot,
-        decided: decided_row(one),
+        rows[row] = PfairDecision {
+            slot,
+            decided: decided_row(one),
+        };
     }
 }

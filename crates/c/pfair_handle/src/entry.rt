@@ -53,14 +53,11 @@ fn read_notice(entry: &PfairEntry) -> Result<Option<Notice<'_>>, u32>
     ensures readable { OnOk result (IsInRange entry.now × IsWhole entry.now) }
     ensures err { IfErr result (IsUnreadable entry.now) }
 {
-    match read_change(entry)? {
-        None => Ok(None),
-        Some(change) => {
-            let name = read_name(&entry.name)?;
-            let at = entry.at;
-            Ok(Some(Notice { at, name, change }))
-        }
-    }
+    let Some(change) = read_change(entry)? else {
+        return Ok(None);
+    };
+    let (name, at) = (read_name(&entry.name)?, entry.at);
+    Ok(Some(Notice { at, name, change }))
 }
 
 // What is announced, if something is.

@@ -5,7 +5,7 @@ ghost use Rattle.pfair_handle.specs.Members.{member_row};
 ghost use Rattle.pfair_handle.specs.Rows.{written_over};
 
 use crate::rows::{PfairName, name_row};
-use pfair_admission::{Incarnation, Members};
+use pfair_admission::Members;
 
 /// A task that was admitted and isn't freed.
 #[repr(C)]
@@ -48,24 +48,17 @@ fn write_row(members: &Members, place: usize, rows: &mut [PfairMember])
     ensures { (member : Member) → slice_get members.now.members place ≡ Some member → rows.new ≡ set rows.old place (member_row member) }
 {
     if let Some((_, member)) = members.at(place) {
-        rows[place] = member_row(member);
-    }
-}
-
-// The member as C has it.
-fn member_row(member: &Incarnation) -> PfairMember
-    ensures { result ≡ member_row member.now }
-{
-    let weight = member.weight();
-    PfairMember {
-        name: name_row(member.name()),
-        cost: weight.cost(),
-        period: weight.period(),
-        early: if member.early() { 1 } else { 0 },
-        joined: member.joined(),
-        next: member.next(),
-        theta: member.theta(member.next()),
-        is_departing: if member.is_departing() { 1 } else { 0 },
-        freed_at: member.freed_at().unwrap_or(0),
+        let weight = member.weight();
+        rows[place] = PfairMember {
+            name: name_row(member.name()),
+            cost: weight.cost(),
+            period: weight.period(),
+            early: if member.early() { 1 } else { 0 },
+            joined: member.joined(),
+            next: member.next(),
+            theta: member.theta(member.next()),
+            is_departing: if member.is_departing() { 1 } else { 0 },
+            freed_at: member.freed_at().unwrap_or(0),
+        };
     }
 }

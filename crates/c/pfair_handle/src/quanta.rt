@@ -93,25 +93,18 @@ fn write_rows(slot: u64, table: &[Pick], places: &[u8], rows: &mut [PfairQuantum
     ensures { rows.new ≡ written_over (quanta_in places.now slot 0 table.now) rows.old }
 {
     for (row, pick) in table.iter().enumerate() {
-        rows[row] = quantum_row(slot, row, pick, row_place(places, row));
+        rows[row] = quantum_row(slot, row, pick, places);
     }
 }
 
-// The place of a table's row, if it has one.
-fn row_place(places: &[u8], row: usize) -> Option<u8>
-    ensures { result ≡ slice_get places.now row }
-{
-    places.get(row).copied()
-}
-
 // The quantum of a row, with its place.
-fn quantum_row(slot: u64, row: usize, pick: &Pick, place: Option<u8>) -> PfairQuantum
-    ensures { result ≡ quantum_row slot row pick.now place }
+fn quantum_row(slot: u64, row: usize, pick: &Pick, places: &[u8]) -> PfairQuantum
+    ensures { result ≡ quantum_row slot row pick.now (slice_get places.now row) }
 {
     PfairQuantum {
         slot,
         row: row as u64,
-        place: place.unwrap_or(0) as u64,
+        place: places.get(row).copied().unwrap_or(0) as u64,
         name: name_row(&pick.name),
         index: pick.index,
     }

@@ -66,16 +66,6 @@ pub struct PfairKey {
     pub number: u64,
 }
 
-// The quantum as C has it.
-fn pick_row(pick: &Pick) -> PfairPick
-    ensures { result ≡ pick_row pick.now }
-{
-    PfairPick {
-        name: name_row(&pick.name),
-        index: pick.index,
-    }
-}
-
 /// The decision as C has it.
 pub(crate) fn decided_row(one: &Decided) -> PfairDecided
     ensures { result ≡ decided_row one.now }
@@ -101,7 +91,10 @@ pub fn write_table(table: &[Pick], rows: &mut [PfairPick])
     ensures { rows.new ≡ written_over (map pick_row table.now) rows.old }
 {
     for (place, pick) in table.iter().enumerate() {
-        rows[place] = pick_row(pick);
+        rows[place] = PfairPick {
+            name: name_row(&pick.name),
+            index: pick.index,
+        };
     }
 }
 
@@ -123,16 +116,6 @@ pub fn write_decisions(decisions: &[Decided], rows: &mut [PfairDecided])
     }
 }
 
-// The key as C has it.
-fn key_row(key: &EntryKey) -> PfairKey
-    ensures { result ≡ key_row key.now }
-{
-    PfairKey {
-        processor: key.0 as u64,
-        number: key.1 as u64,
-    }
-}
-
 /// Writes the torn keys over the first rows, and the fallen ones behind them. O(rows).
 pub fn write_faults(faults: &Faults, rows: &mut [PfairKey])
     requires { length (faults.now.torn.items ++ faults.now.fallen.items) ≤ length rows.old }
@@ -148,6 +131,9 @@ fn write_keys(keys: &[EntryKey], rows: &mut [PfairKey])
     ensures { rows.new ≡ written_over (map key_row keys.now) rows.old }
 {
     for (place, key) in keys.iter().enumerate() {
-        rows[place] = key_row(key);
+        rows[place] = PfairKey {
+            processor: key.0 as u64,
+            number: key.1 as u64,
+        };
     }
 }

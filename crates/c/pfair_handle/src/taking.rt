@@ -91,22 +91,14 @@ fn one_more(how: Taken, counted: PfairTakenLog) -> PfairTakenLog
     requires each { counted.fresh + counted.known + counted.torn ≡ counted.taken }
     ensures { result ≡ one_more how counted }
 {
-    let counted = PfairTakenLog {
+    let mut more = PfairTakenLog {
         taken: counted.taken + 1,
         ..counted
     };
     match how {
-        Taken::New => PfairTakenLog {
-            fresh: counted.fresh + 1,
-            ..counted
-        },
-        Taken::Known => PfairTakenLog {
-            known: counted.known + 1,
-            ..counted
-        },
-        Taken::Torn => PfairTakenLog {
-            torn: counted.torn + 1,
-            ..counted
-        },
+        Taken::New => more.fresh += 1,
+        Taken::Known => more.known += 1,
+        Taken::Torn => more.torn += 1,
     }
+    more
 }

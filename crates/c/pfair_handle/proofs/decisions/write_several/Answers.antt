@@ -1,6 +1,6 @@
-use Rattle.std.proofs.Common.{◌≡◌, ◌-◌, ◌∙◌, ap, sym, arith, length, List, ℕ}
+use Rattle.std.proofs.Common.{◌≡◌, ◌∙◌, sym, arith, length, List, ℕ}
 use Rattle.std.proofs.lemmas.List.{length-map}
-use Rattle.pfair_handle.specs.Rows.{decisions_at, decision_row, rows_of, slot_of, written_over}
+use Rattle.pfair_handle.specs.Rows.{decisions_at, decision_row, slot_of}
 use Rattle.pfair_handle.specs.declared.decisions.PfairDecision.{PfairDecision}
 use Rattle.pfair_table.specs.declared.pick.Decided.{Decided}
 use Rattle.pfair_handle.proofs.SlotRows.{room-for, slot-counted, slot-written}
@@ -32,7 +32,4 @@ loop-slot-preserved g c =
     )
 
 pub returns : goal.returns
-returns g c =
-    let rows_at : ℕ → List PfairDecision = decisions_at c.args.dispatcher.now.decided in
-    let all : c.loop-slot.slot - c.args.from ≡ c.args.to - c.args.from = omega arith in
-    c.loop-slot.invariant.3 ∙ ap (λ n. written_over (rows_of rows_at c.args.from n) c.args.rows.now) all
+returns g c = grind arith

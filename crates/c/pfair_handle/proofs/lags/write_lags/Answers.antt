@@ -1,4 +1,4 @@
-use Rattle.std.proofs.Common.{◌<◌, ◌≤◌, ◌∙◌, List, length, arith}
+use Rattle.std.proofs.Common.{◌<◌, ◌∙◌, List, length, arith, ◌≤◌}
 use Rattle.pfair_table.specs.declared.pick.Decided.{Decided}
 use Rattle.pfair_table.specs.Table.{Table}
 use Rattle.pfair_handle.specs.Lags.{lags_at}

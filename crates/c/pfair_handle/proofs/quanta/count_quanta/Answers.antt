@@ -1,15 +1,11 @@
-use Rattle.std.proofs.Common.{◌≡◌, ◌-◌, ◌∙◌, ap, sym, arith, length, List, ℕ}
-use Rattle.pfair_handle.specs.Rows.{quanta_at, rows_of}
-use Rattle.pfair_handle.specs.declared.quanta.PfairQuantum.{PfairQuantum}
+use Rattle.std.proofs.Common.{◌∙◌, sym, arith, List}
+use Rattle.pfair_handle.specs.Rows.{quanta_at}
 use Rattle.pfair_table.specs.Table.{Table}
 use Rattle.pfair_handle.proofs.SlotRows.{as-many-at, slot-counted}
 use Rattle.pfair_handle.proofs.quanta.count_quanta.Goals as goal
 
 pub overflow_add-count : goal.overflow_add-count
-overflow_add-count g c =
-    let few = c.loop-slot.invariant.3 in
-    let more = c.count_slot-count.ensures.few in
-    omega arith
+overflow_add-count g c = grind arith
 
 pub loop-slot-preserved : goal.loop-slot-preserved
 loop-slot-preserved g c =
@@ -21,7 +17,4 @@ loop-slot-preserved g c =
     (omega arith, omega arith, count, omega arith)
 
 pub returns : goal.returns
-returns g c =
-    let rows_at : ℕ → List PfairQuantum = quanta_at c.args.dispatcher.now.origin c.args.dispatcher.now.tables in
-    let all : c.loop-slot.slot - c.args.from ≡ c.args.to - c.args.from = omega arith in
-    c.loop-slot.invariant.2 ∙ ap (λ n. length (rows_of rows_at c.args.from n)) all
+returns g c = grind arith

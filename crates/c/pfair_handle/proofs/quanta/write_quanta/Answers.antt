@@ -1,5 +1,5 @@
-use Rattle.std.proofs.Common.{◌≡◌, ◌-◌, ◌∙◌, ap, sym, arith, length, List, ℕ}
-use Rattle.pfair_handle.specs.Rows.{quanta_at, rows_of, slot_of, written_over}
+use Rattle.std.proofs.Common.{◌∙◌, sym, arith, length, List, ℕ}
+use Rattle.pfair_handle.specs.Rows.{quanta_at, slot_of}
 use Rattle.pfair_handle.specs.declared.quanta.PfairQuantum.{PfairQuantum}
 use Rattle.pfair_table.specs.Table.{Table}
 use Rattle.pfair_handle.proofs.SlotRows.{as-many-at, room-for, slot-counted, slot-written}
@@ -30,7 +30,4 @@ loop-slot-preserved g c =
     )
 
 pub returns : goal.returns
-returns g c =
-    let rows_at : ℕ → List PfairQuantum = quanta_at c.args.dispatcher.now.origin c.args.dispatcher.now.tables in
-    let all : c.loop-slot.slot - c.args.from ≡ c.args.to - c.args.from = omega arith in
-    c.loop-slot.invariant.3 ∙ ap (λ n. written_over (rows_of rows_at c.args.from n) c.args.rows.now) all
+returns g c = grind arith

@@ -1,5 +1,5 @@
 use Rattle.std.proofs.Common.{rules, arith, add-one}
-use Rattle.pfair_handle.proofs.WindowRows.{one-window-more, all-windows}
+use Rattle.pfair_handle.proofs.Written.{one-window-more, all-windows}
 use Rattle.pfair_handle.proofs.windows.write_windows.Goals as goal
 
 pub loop-place-preserved : goal.loop-place-preserved
