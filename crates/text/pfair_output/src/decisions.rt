@@ -1,8 +1,7 @@
 //! Decisions as rows: slot, processor, number, task, outcome, value.
 
-ghost use Rattle.std.specs.Prelude.{◌≡◌, ◌≤◌, ◌++◌, drop, map, OnOk, IsTrue, List, Some, slice_get};
+ghost use Rattle.std.specs.Prelude.{◌≡◌, ◌≤◌, ◌++◌, drop, map, OnOk, IsTrue};
 ghost use Rattle.pfair_text.specs.Rows.{IsOpen, is_plain, line, lines_text, text_so_far};
-ghost use Rattle.pfair_table.specs.declared.pick.Decided.{Decided};
 ghost use Rattle.pfair_output.specs.Slots.{slots_from};
 ghost use Rattle.pfair_output.specs.Decisions.{decided_rows, decision_row, decisions_header, outcome_of, value_of};
 
@@ -53,27 +52,12 @@ pub fn add_decisions_from<R: Ready>(
         ++ lines_text (slots_from decided_rows from (drop from dispatcher.now.decided))) }
 {
     for slot in from..dispatcher.next_slot() {
-        add_slot(writer, dispatcher, slot)?;
+        let Some(decided) = dispatcher.decisions(slot) else {
+            unreachable!()
+        };
+        add_decisions(writer, slot, decided)?;
     }
     Ok(())
-}
-
-// Adds the rows of a slot that is planned.
-fn add_slot<R: Ready>(
-    writer: &mut Writer<Vec<u8>>,
-    dispatcher: &Dispatcher<R>,
-    slot: u64,
-) -> Result<(), AllocError>
-    requires open { IsOpen writer.old }
-    requires standing { dispatcher.now.forgotten ≤ slot }
-    ensures open { OnOk result (IsOpen writer.new) }
-    ensures text { OnOk result ((decided : List Decided) → slice_get dispatcher.now.decided slot ≡ Some decided
-        → text_so_far writer.new ≡ text_so_far writer.old ++ lines_text (decided_rows slot decided)) }
-{
-    match dispatcher.decisions(slot) {
-        Some(decided) => add_decisions(writer, slot, decided),
-        None => Ok(()),
-    }
 }
 
 /// Adds a row for each announcement that was decided at the boundary of a slot: the slot, the

@@ -1,12 +1,12 @@
 //! Lags as rows: time, task, numerator, period.
 
-ghost use Rattle.std.specs.Prelude.{◌≡◌, ◌≤◌, ◌<◌, ◌-◌, ◌++◌, ◌∷◌, [], OnOk, List, Some, drop, slice_get, take, true};
+ghost use Rattle.std.specs.Prelude.{◌≡◌, ◌≤◌, ◌<◌, ◌-◌, ◌++◌, OnOk, List, Some, drop, slice_get, take, true};
 ghost use Rattle.pfair_text.specs.Rows.{is_plain, IsOpen, line, lines_text, text_so_far};
 ghost use Rattle.pfair_weight.specs.Name.{NameValue};
 ghost use Rattle.pfair_lag.specs.Book.{Tally};
 ghost use Rattle.pfair_table.specs.declared.pick.Decided.{Decided};
 ghost use Rattle.pfair_table.specs.Table.{Table};
-ghost use Rattle.std.specs.Fmt.{decimal, signed_decimal};
+ghost use Rattle.std.specs.Fmt.{decimal};
 ghost use Rattle.pfair_output.specs.Lags.{lags_header};
 ghost use Rattle.pfair_output.specs.Told.{told, all_told, slot_told, all_slots_told, tally_row, book_rows, rows_told};
 
@@ -18,7 +18,6 @@ use pfair_lag::{LagBook, MAX_HORIZON};
 use pfair_ready::Ready;
 use pfair_table::{Decided, Dispatcher, Pick};
 use pfair_text::add_row;
-use pfair_weight::TaskName;
 use std::alloc::AllocError;
 
 /// Adds the header of lags as rows.
@@ -53,7 +52,8 @@ pub fn add_lags_from<R: Ready>(
         (drop book.old.time dispatcher.now.decided) (drop book.old.time dispatcher.now.tables))) }
 {
     for slot in book.time()..dispatcher.next_slot() {
-        add_slot(writer, book, dispatcher, slot)?;
+        tell_planned(book, dispatcher, slot)?;
+        add_lags(writer, book)?;
     }
     Ok(())
 }
@@ -79,29 +79,6 @@ pub fn tell_slots<R: Ready>(
         tell_planned(book, dispatcher, slot)?;
     }
     Ok(())
-}
-
-// Records a planned slot in the book, and adds the rows after it.
-fn add_slot<R: Ready>(
-    writer: &mut Writer<Vec<u8>>,
-    book: &mut LagBook,
-    dispatcher: &Dispatcher<R>,
-    slot: u64,
-) -> Result<(), AllocError>
-    requires open { IsOpen writer.old }
-    requires room { book.old.time < MAX_HORIZON }
-    requires standing { dispatcher.now.forgotten ≤ slot }
-    ensures open { OnOk result (IsOpen writer.new) }
-    ensures book { OnOk result ((decided : List Decided) (table : Table)
-        → slice_get dispatcher.now.decided slot ≡ Some decided → slice_get dispatcher.now.tables slot ≡ Some table
-        → book.new ≡ slot_told decided table book.old) }
-    ensures text { OnOk result ((decided : List Decided) (table : Table)
-        → slice_get dispatcher.now.decided slot ≡ Some decided → slice_get dispatcher.now.tables slot ≡ Some table
-        → text_so_far writer.new ≡ text_so_far writer.old
-        ++ lines_text (book_rows (slot_told decided table book.old))) }
-{
-    tell_planned(book, dispatcher, slot)?;
-    add_lags(writer, book)
 }
 
 // Records a planned slot of a dispatcher in the book.
@@ -204,24 +181,6 @@ fn add_task(
     let Some((name, (numerator, period))) = book.row_at(place) else {
         return Ok(());
     };
-    add_lag(writer, time, name, numerator, period)?;
-    Ok(())
-}
-
-// Adds a row.
-fn add_lag(
-    writer: &mut Writer<Vec<u8>>,
-    time: &[u8],
-    name: &TaskName,
-    numerator: i64,
-    period: u64,
-) -> Result<(), AllocError>
-    requires open { IsOpen writer.old }
-    requires plain { is_plain time.now ≡ true }
-    ensures open { OnOk result (IsOpen writer.new) }
-    ensures text { OnOk result (text_so_far writer.new ≡ text_so_far writer.old
-        ++ line (time.now ∷ name.now ∷ signed_decimal numerator ∷ decimal period ∷ [])) }
-{
     add_row(
         writer,
         &[
@@ -230,5 +189,6 @@ fn add_lag(
             Buffer::new().format(numerator).as_bytes(),
             Buffer::new().format(period).as_bytes(),
         ],
-    )
+    )?;
+    Ok(())
 }

@@ -1,4 +1,5 @@
 use Rattle.std.proofs.Common.{arith, refl}
+use Rattle.std.proofs.lemmas.Grind.{common_steps}
 use Rattle.pfair_output.specs.Decisions.{decided_rows}
 use Rattle.pfair_output.proofs.SlotFacts.{at_the_end, on_the_way}
 use Rattle.pfair_output.proofs.decisions.add_decisions_from.Goals as goal
@@ -8,8 +9,8 @@ loop-slot-init g c = record { open_still = c.requires.open; whole = refl; begun 
 
 pub loop-slot-preserved : goal.loop-slot-preserved
 loop-slot-preserved g c =
-    on_the_way decided_rows c.args.dispatcher.now.decided c.args.from c.args.writer.now c.loop-slot.slot c.loop-slot.writer c.add_slot.new.writer c.loop-slot.invariant
-    (omega (arith, c.loop-slot-test.true, c.loop-slot.auto.slot-end, c.next_slot-slot-end.ensures.decided)) c.in_ok-add_slot.ensures.open c.in_ok-add_slot.ensures.text
+    on_the_way decided_rows c.args.dispatcher.now.decided c.args.from c.args.writer.now c.loop-slot.slot c.loop-slot.writer c.add_decisions.new.writer c.loop-slot.invariant
+    (omega (arith, c.loop-slot-test.true, c.loop-slot.auto.slot-end, c.next_slot-slot-end.ensures.decided)) c.in_ok-add_decisions.ensures.open (λ x at. grind (arith, common_steps))
 
 pub returns-clause-text : goal.returns-clause-text
 returns-clause-text g c =

@@ -1,5 +1,6 @@
-use Rattle.std.proofs.Common.{◌+◌, ◌<◌, ◌≤◌, ◌∙◌, sym, ap, arith, length}
-use Rattle.pfair_text.specs.Rows.{text_so_far}
+use Rattle.std.proofs.Common.{◌+◌, ◌++◌, ◌<◌, ◌≤◌, ◌∙◌, sym, ap, arith, length}
+use Rattle.pfair_text.specs.Rows.{lines_text, text_so_far}
+use Rattle.pfair_output.specs.Told.{book_rows}
 use Rattle.pfair_output.proofs.ToldFacts.{told_more, told_time, told_done, over_more, over_done}
 use Rattle.pfair_output.proofs.lags.add_lags_from.Goals as goal
 
@@ -9,11 +10,12 @@ loop-slot-preserved g c =
     let ts = c.args.dispatcher.now.tables in
     let inside : c.loop-slot.slot < length ds = omega (arith, c.loop-slot-test.true, c.loop-slot.auto.slot-end, c.next_slot-slot-end.ensures.decided) in
     let inside' : c.loop-slot.slot < length ts = omega (arith, c.loop-slot-test.true, c.loop-slot.auto.slot-end, c.next_slot-slot-end.ensures.value) in (
-      c.in_ok-add_slot.ensures.open,
-      told_more ds ts c.loop-slot.slot c.loop-slot.book c.add_slot.new.book (text_so_far c.loop-slot.writer) (text_so_far c.add_slot.new.writer) inside inside' c.in_ok-add_slot.ensures.book c.in_ok-add_slot.ensures.text
+      c.in_ok-add_lags.ensures.open,
+      told_more ds ts c.loop-slot.slot c.loop-slot.book c.tell_planned.new.book (text_so_far c.loop-slot.writer) (text_so_far c.add_lags.new.writer) inside inside' c.in_ok-tell_planned.ensures
+          (λ d t at at'. c.in_ok-add_lags.ensures.text ∙ ap (λ b. text_so_far c.loop-slot.writer ++ lines_text (book_rows b)) (c.in_ok-tell_planned.ensures d t at at'))
           ∙ c.loop-slot.invariant.1,
-      told_time ds ts c.loop-slot.slot c.loop-slot.book c.add_slot.new.book inside inside' c.in_ok-add_slot.ensures.book ∙ ap (λ n. n + 1) c.loop-slot.invariant.2,
-      over_more ds ts c.loop-slot.slot c.loop-slot.book c.add_slot.new.book inside inside' c.in_ok-add_slot.ensures.book ∙ c.loop-slot.invariant.3,
+      told_time ds ts c.loop-slot.slot c.loop-slot.book c.tell_planned.new.book inside inside' c.in_ok-tell_planned.ensures ∙ ap (λ n. n + 1) c.loop-slot.invariant.2,
+      over_more ds ts c.loop-slot.slot c.loop-slot.book c.tell_planned.new.book inside inside' c.in_ok-tell_planned.ensures ∙ c.loop-slot.invariant.3,
       omega (arith, c.loop-slot.invariant.4),
     )
 
