@@ -130,18 +130,10 @@ fn close_log(log: &mut Vec<Entry>, slots: u64) -> Result<(), AllocError>
         Some(entry) => entry.floor() < slots,
     };
     if is_open {
-        log.push(closing_entry(slots))?;
+        let Ok(entry) = Entry::new(slots, None) else {
+            unreachable!()
+        };
+        log.push(entry)?;
     }
     Ok(())
-}
-
-// The entry that closes a log of a run of so many slots.
-fn closing_entry(slots: u64) -> Entry
-    requires { slots ≤ Settings.MAX_SLOTS }
-    ensures { result ≡ record { floor = slots; said = None } }
-{
-    match Entry::new(slots, None) {
-        Ok(entry) => entry,
-        Err(_) => unreachable!(),
-    }
 }

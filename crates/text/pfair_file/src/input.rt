@@ -41,11 +41,7 @@ pub(crate) fn read_bytes<R: Read>(alloc: Global, reader: &mut R) -> Result<Vec<u
         match reader.read(&mut piece[..room]) {
             Err(_) => return Err(ProgramFault::ReadFailed),
             Ok(0) => return Ok(bytes),
-            Ok(count) => {
-                if bytes.extend_from_slice(&piece[..count]).is_err() {
-                    return Err(ProgramFault::Memory);
-                }
-            }
+            Ok(count) => bytes.extend_from_slice(&piece[..count])?,
         }
     }
     Err(ProgramFault::FileTooLong)

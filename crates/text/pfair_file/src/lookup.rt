@@ -21,40 +21,32 @@ pub fn find(table: &Table, field: Field) -> Option<&Value>
 fn value(table: &Table, place: u64, field: Field) -> Result<&Value, FileFault>
     ensures { result_map_both (λ v. view v.now) (λ e. e) result ≡ value_at (table_view table.now) place field }
 {
-    match find(table, field) {
-        None => Err(FileFault::Missing { place, field }),
-        Some(found) => Ok(found),
-    }
+    find(table, field).ok_or(FileFault::Missing { place, field })
 }
 
 /// Returns the integer at a key.
 pub fn integer(table: &Table, place: u64, field: Field) -> Result<i64, FileFault>
     ensures { result ≡ integer_at (table_view table.now) place field }
 {
-    match value(table, place, field)?.as_integer() {
-        None => Err(FileFault::WrongKind { place, field }),
-        Some(number) => Ok(number),
-    }
+    let found = value(table, place, field)?;
+    found
+        .as_integer()
+        .ok_or(FileFault::WrongKind { place, field })
 }
 
 /// Returns the text at a key.
 pub fn text(table: &Table, place: u64, field: Field) -> Result<&str, FileFault>
     ensures { result_map_both (λ t. t.now) (λ e. e) result ≡ text_at (table_view table.now) place field }
 {
-    match value(table, place, field)?.as_str() {
-        None => Err(FileFault::WrongKind { place, field }),
-        Some(text) => Ok(text),
-    }
+    let found = value(table, place, field)?;
+    found.as_str().ok_or(FileFault::WrongKind { place, field })
 }
 
 /// Returns an integer that isn't negative, or the fault.
 pub fn not_negative(value: i64, fault: FileFault) -> Result<u64, FileFault>
     ensures { result ≡ natural fault value }
 {
-    match u64::try_from(value) {
-        Ok(number) => Ok(number),
-        Err(_) => Err(fault),
-    }
+    u64::try_from(value).ok().ok_or(fault)
 }
 
 /// Returns an integer from `low` to `high`, or the fault.

@@ -1,6 +1,6 @@
 //! The entry that a table makes.
 ghost use Rattle.std.specs.Prelude.{◌≡◌, ◌≢◌, ◌≤◌, IfErr, OnOk, Ok, Err, vec_len};
-ghost use Rattle.pfair_file.specs.Entries.{longer_log, next_entry_of};
+ghost use Rattle.pfair_file.specs.Entries.{longer_log};
 ghost use Rattle.pfair_file.specs.Tables.{made_at};
 ghost use Rattle.toml.specs.View.{table_view};
 ghost use Rattle.pfair_file.specs.declared.fault.FileFault.TheVariants.{Memory};
@@ -37,27 +37,19 @@ pub fn append(
     ensures fault { IfErr result (λ f. f ≢ Memory → longer_log processor log.old.items made ≡ Err f) }
     ensures short { vec_len log.new ≤ MOST_ENTRIES }
 {
-    match next_entry(log.as_slice(), made) {
-        Ok(entry) => match log.push(entry) {
-            Ok(()) => Ok(()),
-            Err(_) => Err(FileFault::Memory),
-        },
+    let made = if log.len() >= MOST_ENTRIES {
+        Err(NoticeFault::LogFull)
+    } else {
+        made
+    };
+    match made {
+        Ok(entry) => log.push(entry).ok().ok_or(FileFault::Memory),
         Err(cause) => Err(FileFault::Entry {
             proc: processor,
             number: log.len() as u32 + 1,
             cause,
         }),
     }
-}
-
-// The next entry of a log, for which a table makes this entry or none.
-fn next_entry(log: &[Entry], made: Result<Entry, NoticeFault>) -> Result<Entry, NoticeFault>
-    ensures { result ≡ next_entry_of log.now made }
-{
-    if log.len() >= MOST_ENTRIES {
-        return Err(NoticeFault::LogFull);
-    }
-    made
 }
 
 /// Reads what a table makes, or the first fault of its keys.

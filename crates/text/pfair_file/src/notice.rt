@@ -3,7 +3,7 @@ ghost use Rattle.std.specs.Prelude.{◌≡◌, option_map};
 ghost use Rattle.std.specs.Result.{result_map_both};
 ghost use Rattle.toml.specs.View.{table_view};
 ghost use Rattle.pfair_entry.specs.Notice.{noticed};
-ghost use Rattle.pfair_file.specs.Tables.{change_at, early_at, kind_at, notice_at, notice_of};
+ghost use Rattle.pfair_file.specs.Tables.{change_at, early_at, kind_at, notice_at};
 
 use crate::fault::FileFault;
 use crate::field::Field;
@@ -16,13 +16,13 @@ use toml::Table;
 pub fn read_notice(table: &Table, place: u64, version: u64) -> Result<Option<Notice<'_>>, FileFault>
     ensures { result_map_both (option_map noticed) (λ e. e) result ≡ notice_at version place (table_view table.now) }
 {
-    match read_kind(table, place)? {
-        None => Ok(None),
-        Some(kind) => {
-            let notice = read_notice_of(table, place, version, kind)?;
-            Ok(Some(notice))
-        }
-    }
+    let Some(kind) = read_kind(table, place)? else {
+        return Ok(None);
+    };
+    let at = natural_number(table, place, Field::At)?;
+    let name = text(table, place, Field::Name)?.as_bytes();
+    let change = read_change(table, place, version, kind)?;
+    Ok(Some(Notice { at, name, change }))
 }
 
 // The kind of a table, if it has one.
@@ -33,28 +33,9 @@ fn read_kind(table: &Table, place: u64) -> Result<Option<Kind>, FileFault>
     let Some(value) = find(table, field) else {
         return Ok(None);
     };
-    let Some(name) = value.as_str() else {
-        return Err(FileFault::WrongKind { place, field });
-    };
-    match find_kind(name) {
-        None => Err(FileFault::Range { place, field }),
-        Some(kind) => Ok(Some(kind)),
-    }
-}
-
-// The keys of an announcement of this kind.
-fn read_notice_of(
-    table: &Table,
-    place: u64,
-    version: u64,
-    kind: Kind,
-) -> Result<Notice<'_>, FileFault>
-    ensures { result_map_both noticed (λ e. e) result ≡ notice_of version place kind (table_view table.now) }
-{
-    let at = natural_number(table, place, Field::At)?;
-    let name = text(table, place, Field::Name)?.as_bytes();
-    let change = read_change(table, place, version, kind)?;
-    Ok(Notice { at, name, change })
+    let name = value.as_str().ok_or(FileFault::WrongKind { place, field })?;
+    let kind = find_kind(name).ok_or(FileFault::Range { place, field })?;
+    Ok(Some(kind))
 }
 
 // The keys that a kind of announcement asks for beside those of all.
@@ -92,8 +73,5 @@ fn read_early(table: &Table, place: u64, version: u64) -> Result<bool, FileFault
     let Some(value) = find(table, field) else {
         return Ok(false);
     };
-    match value.as_bool() {
-        None => Err(FileFault::WrongKind { place, field }),
-        Some(early) => Ok(early),
-    }
+    value.as_bool().ok_or(FileFault::WrongKind { place, field })
 }

@@ -10,8 +10,8 @@ consumes-more (Some xs) None new first more a b = absurd a
 consumes-more (Some xs) (Some ys) None first more a b = absurd b
 consumes-more (Some xs) (Some ys) (Some zs) first more a b = a ∙ ap (λ rest. first ++ rest) b ∙ sym (append_assoc first more zs)
 
-pub returns-then-is_err-clause-most : goal.returns-then-is_err-clause-most
-returns-then-is_err-clause-most g c =
+pub returns-in_err-extend_from_slice-in-Ok-clause-most : goal.returns-in_err-extend_from_slice-in-Ok-clause-most
+returns-in_err-extend_from_slice-in-Ok-clause-most g c =
     let taken : length (take c.in-Ok.count c.read.new.buf) ≤ 67108865 - c.len-in-pieces.result = search rules in
     let held : length c.pieces.bytes.items ≡ c.len-in-pieces.result = search rules in
     let size = length-append c.pieces.bytes.items (take c.in-Ok.count c.read.new.buf) in
