@@ -25,10 +25,7 @@ below_one w i h bit = grind (arith, pinned, b_bit_between, lt_of_mul)
 
 -- no subtask closes before its index
 pub index_le_closing : (w : Share) (i : ℕ) → IsWeight w.cost w.period → i ≤ closing w i
-index_le_closing w i h =
-    let wide = grow w.cost w.period i h.at_most_one in
-    let below : i < closing w i + 1 = lt_of_mul i (closing w i + 1) w.cost (omega arith) in
-    omega arith
+index_le_closing w i h = grind (arith, lt_of_mul, grow w.cost w.period i h.at_most_one)
 
 pub wrapped : (w : Share) (i : ℕ) → IsWeight w.cost w.period → b_bit_of w i ≡ 1 → Wrapped w i (closing w i - i) (w.period - w.cost)
 wrapped w i h bit =
@@ -102,10 +99,7 @@ cascade_ends w i a q n h at = (from, to)
 
 -- k tight slots more push the end of a cascade past them
 pub cascade_after : (w : Share) (i k : ℕ) → IsWeight w.cost w.period → b_bit_of w i ≡ 1 → closing w (i + k) ≡ closing w i + k → b_bit_of w (i + k) ≡ 1 → closing w i + k < cascade_end w (closing w i)
-cascade_after w i k h bit tight last =
-    let here = wrapped w i h bit in
-    let there = wrapped w (i + k) h last in
-    grind (arith, cascade_ends)
+cascade_after w i k h bit tight last = grind (arith, cascade_ends, wrapped w i h bit, wrapped w (i + k) h last)
 
 -- and up to its end all slots are tight
 pub cascade_tight : (w : Share) (i k : ℕ) → IsWeight w.cost w.period → b_bit_of w i ≡ 1 → closing w i + k < cascade_end w (closing w i) → (closing w (i + k) ≡ closing w i + k) × (b_bit_of w (i + k) ≡ 1)

@@ -162,9 +162,7 @@ module _ (x : Run) (is : IsRun x) (td : ℕ) (missed : Subtask) (m : IsFirstMiss
 
   -- nothing is left over after a full slot
   none_left : (n : ℕ) → is_full x td missed n ≡ true → left_over_of_all x td missed (suc n) ≡ 0
-  none_left n full =
-      total_all_same (λ a. unit x a * carry x td missed a (suc n)) (λ _. 0) (tasks x td missed) (λ a. ap (λ (k : ℕ). unit x a * k) (carry_full x is td missed m a n full) ∙ omega arith)
-      ∙ total_none (tasks x td missed)
+  none_left n full = grind (arith, total_all_same, carry_full, total_none (tasks x td missed))
 
   -- the fluid before time n is paid for by those that came in before n, but for what is left over
   paid : (n : ℕ) → n ≤ td → fluid x td missed n + length (later x td missed n) * x.frame ≤ length (reasons x td missed) * x.frame + left_over_of_all x td missed n

@@ -15,11 +15,7 @@ fluid_none w i theta t h before = grind (arith, pinned, grow)
 
 -- a whole quantum from the deadline on
 pub fluid_whole : (w : Share) (i theta t : ℕ) → IsWeight w.cost w.period → 1 ≤ i → deadline_of w i theta ≤ t → fluid_of w i theta t ≡ w.period
-fluid_whole w i theta t h first after =
-    let ends = pinned w i h.some_cost in
-    let more = grow (closing w i) (t - theta) w.cost (omega arith) in
-    let step = one_less i w.period first in
-    omega arith
+fluid_whole w i theta t h first after = grind (arith, grow, pinned w i h.some_cost, one_less i w.period first)
 
 -- a slot gives the cost at most
 pub share_le_cost : (w : Share) (i theta v : ℕ) → share_of w i theta v ≤ w.cost
@@ -102,11 +98,4 @@ shares_fit w i j theta later v h first less after =
 -- and of subtasks that aren't neighbours one gets nothing
 pub no_three_shares : (w : Share) (i j theta later v : ℕ) → IsWeight w.cost w.period → 1 ≤ i → i + 1 < j → theta ≤ later → 0 < share_of w i theta v → share_of w j later v ≡ 0
 no_three_shares w i j theta later v h first less after some =
-    elim (cases_lt 0 (share_of w j later v)) [
-      | inr none ↦ omega arith
-      | inl more ↦ absurd (
-          let a = (share_in_window w i theta v h first).0 some in
-          let b = (share_in_window w j later v h (omega arith)).0 more in
-          let apart = not_neighbours w i j theta later h first less after in
-          omega (arith, a, b))
-    ]
+    grind (arith, cases_lt 0 (share_of w j later v), share_in_window w i theta v h first, not_neighbours w i j theta later h first less after)

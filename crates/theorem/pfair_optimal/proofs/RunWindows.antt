@@ -31,16 +31,10 @@ module _ (x : Run) (is : IsRun x) where
 
   -- releases and deadlines rise with the index
   pub releases : (a : Task) (i j : ℕ) → 1 ≤ i → i < j → release x (record { task = a; index = i }) < release x (record { task = a; index = j })
-  releases a i j first less =
-      let rises = release_rises (x.weight a) i j 0 (is.weights a) first less in
-      let moved = offsets a i j first (omega arith) in
-      omega arith
+  releases a i j first less = grind (arith, offsets, release_rises (x.weight a) i j 0 (is.weights a) first less)
 
   pub deadlines : (a : Task) (i j : ℕ) → 1 ≤ i → i < j → deadline x (record { task = a; index = i }) < deadline x (record { task = a; index = j })
-  deadlines a i j first less =
-      let rises = deadline_rises_strictly (x.weight a) i j 0 (is.weights a) less in
-      let moved = offsets a i j first (omega arith) in
-      omega arith
+  deadlines a i j first less = grind (arith, offsets, deadline_rises_strictly (x.weight a) i j 0 (is.weights a) less)
 
   pub next_deadline : (z : Subtask) → 1 ≤ z.index → deadline x z < deadline x (next_of z)
   next_deadline z first = deadlines z.task z.index (z.index + 1) first (omega arith)
