@@ -86,7 +86,9 @@ impl Board {
     {
         let mut desks = Vec::new(self.alloc);
         for processor in 0..self.processors {
-            desks.push(self.desk(processor)?)?;
+            let cells = self.cells.as_slice();
+            let desk = Desk::of(self.alloc, self.processors, self.capacity, cells, processor)?;
+            desks.push(desk)?;
         }
         Ok(desks)
     }
@@ -97,19 +99,5 @@ impl Board {
         ensures { slice_get self.now.cells place ≡ Some (cell_name result.now) }
     {
         &self.cells[place]
-    }
-
-    // The desk of one row.
-    fn desk(&self, processor: u8) -> Result<Desk, AllocError>
-        requires { processor < self.now.processors }
-        ensures { IfOk result (λ desk. state_of desk ≡ fresh_desk self.now processor) }
-    {
-        Desk::of(
-            self.alloc,
-            self.processors,
-            self.capacity,
-            self.cells.as_slice(),
-            processor,
-        )
     }
 }
