@@ -32,11 +32,25 @@ impl Hints {
     pub fn all(alloc: Global, processors: u8) -> Result<Vec<Hints>, AllocError>
         ensures { IfOk result (λ all. vec_len all ≡ processors) }
     {
-        let (senders, receivers) = channels(alloc, processors)?;
+        let mut senders = Vec::new(alloc);
+        let mut receivers = Vec::new(alloc);
+        for _ in 0..processors {
+            let (sender, receiver) = crossbeam_channel::unbounded(alloc)?;
+            senders.push(sender)?;
+            receivers.push(receiver)?;
+        }
         let mut all = Vec::new(alloc);
         for (worker, receiver) in receivers.into_iter().enumerate() {
-            let senders = senders_to_others(alloc, &senders, worker)?;
-            all.push(Hints { receiver, senders })?;
+            let mut others = Vec::new(alloc);
+            for (other, sender) in senders.iter().enumerate() {
+                if other != worker {
+                    others.push(sender.clone()?)?;
+                }
+            }
+            all.push(Hints {
+                receiver,
+                senders: others,
+            })?;
         }
         Ok(all)
     }
@@ -52,36 +66,4 @@ impl Hints {
         }
         Ok(())
     }
-}
-
-// A channel to each worker: the senders, and the receivers.
-fn channels(
-    alloc: Global,
-    processors: u8,
-) -> Result<(Vec<Sender<Hint, Global>>, Vec<Receiver<Hint, Global>>), AllocError>
-    ensures { IfOk result (λ ends. vec_len ends.1 ≡ processors) }
-{
-    let mut senders = Vec::new(alloc);
-    let mut receivers = Vec::new(alloc);
-    for _ in 0..processors {
-        let (sender, receiver) = crossbeam_channel::unbounded(alloc)?;
-        senders.push(sender)?;
-        receivers.push(receiver)?;
-    }
-    Ok((senders, receivers))
-}
-
-// A sender to each worker but one.
-fn senders_to_others(
-    alloc: Global,
-    senders: &Vec<Sender<Hint, Global>>,
-    worker: usize,
-) -> Result<Vec<Sender<Hint, Global>>, AllocError> {
-    let mut others = Vec::new(alloc);
-    for (other, sender) in senders.iter().enumerate() {
-        if other != worker {
-            others.push(sender.clone()?)?;
-        }
-    }
-    Ok(others)
 }

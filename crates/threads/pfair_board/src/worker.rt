@@ -167,7 +167,8 @@ impl<R: Ready, K: Sink> Worker<R, K> {
             let Ok(hint) = self.hints.receiver.recv(rt) else {
                 return Ok(());
             };
-            heed(desk, board, hint);
+            // what isn't learned now is learned at the refresh
+            let _ = desk.look(board, hint.proc, hint.number);
             if self.hints.receiver.is_empty() {
                 self.catch_up(rt, desk, gate)?;
             }
@@ -250,17 +251,4 @@ fn publish_log(
         }
     }
     Ok(())
-}
-
-// Looks where a hint points. What isn't learned now is learned at the refresh.
-fn heed(desk: &mut Desk, board: &Board, hint: Hint)
-    requires { IsDeskOf desk.old board.now }
-    ensures learned { HasLearned desk.old desk.new }
-    ensures own { IsDeskOf desk.new board.now }
-{
-    match desk.look(board, hint.proc, hint.number) {
-        Ok(Some(_)) => {}
-        Ok(None) => {}
-        Err(_) => {}
-    }
 }
