@@ -23,15 +23,10 @@ use Rattle.pfair_output.specs.Replay.{placed_replay_text, placed_text}
 use Rattle.pfair_file.specs.Documents.{script_of_file}
 use Rattle.pfair_reports.specs.Runs.{IsFaultOfReplay, IsOutputOf, replica_of_run, placed_replay_of_run}
 
--- the text of a script that a file holds is the file's
-pub output_made : {made : List ℕ} (text : LoggedRun → List ℕ) (given : Option (List ℕ)) (script : LoggedRun) → IfSome given (λ bytes. script_of_file bytes ≡ Ok script)
-    → script.settings.slots ≤ frontier (replica_of_run script) → made ≡ text script → IfSome given (λ bytes. IsOutputOf text bytes (λ rows. made ≡ rows))
-output_made text given script read far same = IfSome_then given read (λ bytes is. (script, is, far, same))
-
--- what is known of a text that is shown is known of the file's
-pub output_shown : {made shown : List ℕ} (text : LoggedRun → List ℕ) (given : Option (List ℕ)) → IfSome given (λ bytes. IsOutputOf text bytes (λ rows. made ≡ rows)) → shown ≡ made
-    → (P : List ℕ → Type 0) → P shown → IfSome given (λ bytes. IsOutputOf text bytes P)
-output_shown text given has equal P p = IfSome_then given has (λ bytes (run, read, far, same). (run, read, far, subst P (equal ∙ same) p))
+-- what is known of the text of a script that a file holds is known of the file's
+pub output_made : {made shown : List ℕ} (text : LoggedRun → List ℕ) (given : Option (List ℕ)) (script : LoggedRun) → IfSome given (λ bytes. script_of_file bytes ≡ Ok script)
+    → script.settings.slots ≤ frontier (replica_of_run script) → made ≡ text script → shown ≡ made → (P : List ℕ → Type 0) → P shown → IfSome given (λ bytes. IsOutputOf text bytes P)
+output_made text given script read far same equal P p = IfSome_then given read (λ bytes is. (script, is, far, subst P (equal ∙ same) p))
 
 -- the bytes are known to hold a script of whose plan this has been kept
 abbrev pub HasPlanOf : {K : Type 0} → (has : K → ℕ → List Table → Type 0) → Option (List ℕ) → K → Type 0

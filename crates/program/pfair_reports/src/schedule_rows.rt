@@ -1,9 +1,7 @@
 //! The commands `decisions` and `lags`: what one dispatcher decides of a task file, and how far its
 //! tasks are behind. One slot at a time is held.
 
-ghost use Rattle.std.specs.Prelude.{◌≡◌, IfErr, IfOk, IfSome};
 ghost use Rattle.pfair_file.specs.Commands.{IsCommandOf};
-ghost use Rattle.pfair_file.specs.Input.{TakesOneFile};
 ghost use Rattle.pfair_file.specs.Schedules.{IsRefusalOf};
 ghost use Rattle.pfair_reports.specs.Runs.{IsOutputOf, decisions_of_run, lags_of_run};
 
@@ -36,24 +34,19 @@ pub fn decisions<R: Read, W: Write>(
     ensures { IsCommandOf (IsOutputOf decisions_of_run) IsRefusalOf result
         (R.remaining reader.old) (R.remaining reader.new) (W.contents writer.old) (W.contents writer.new) }
 {
-    let text = scheduled_decisions(alloc, reader)?;
+    let script = read_script(alloc, reader)?;
+    let text = decisions_of_script::<HeapReady>(alloc, &script)?;
     Ok(send(writer, text.as_slice())?)
 }
 
 /// Writes the lags of the script that a reader's bytes hold: a header, and for each slot t, slots
 /// in order, a row for each member that isn't departing after the boundary of t, in the order of
 /// admission: the time t + 1, the task, and its lag at that time as a numerator over its period,
-/// counted from its joining slot.
-///
-/// The whole text is made before the first byte goes out; one slot at a time is held. At most
-/// 67,108,864 bytes are read, and one more if the file is too long or an allocation fails. The cost is
-/// that of reading the file, of a run of its script, and O(rows).
+/// counted from its joining slot. The bytes that are read, what is held, and the cost are as for
+/// [`decisions`].
 ///
 /// # Errors
-/// Those of [`scheduled`](pfair_file::scheduled) if the file has no schedule, and
-/// [`ProgramFault::Memory`] if an allocation fails: nothing has then been written.
-/// [`ProgramFault::WriteFailed`] if the writer answered an error, or took nothing; a prefix of the
-/// text has then gone out.
+/// Those of [`decisions`].
 pub fn lags<R: Read, W: Write>(
     alloc: Global,
     reader: &mut R,
@@ -62,26 +55,7 @@ pub fn lags<R: Read, W: Write>(
     ensures { IsCommandOf (IsOutputOf lags_of_run) IsRefusalOf result
         (R.remaining reader.old) (R.remaining reader.new) (W.contents writer.old) (W.contents writer.new) }
 {
-    let text = scheduled_lags(alloc, reader)?;
+    let script = read_script(alloc, reader)?;
+    let text = lags_of_script::<HeapReady>(alloc, &script)?;
     Ok(send(writer, text.as_slice())?)
-}
-
-// The decisions of the script that a reader's bytes hold, as rows.
-fn scheduled_decisions<R: Read>(alloc: Global, reader: &mut R) -> Result<Vec<u8>, ProgramFault>
-    ensures ok { IfOk result (λ text. IfSome (R.remaining reader.old) (λ bytes. IsOutputOf decisions_of_run bytes (λ rows. text.items ≡ rows))) }
-    ensures refused { IfErr result (IsRefusalOf (R.remaining reader.old)) }
-    ensures taken { TakesOneFile result (R.remaining reader.old) (R.remaining reader.new) }
-{
-    let script = read_script(alloc, reader)?;
-    Ok(decisions_of_script::<HeapReady>(alloc, &script)?)
-}
-
-// The lags of the script that a reader's bytes hold, as rows.
-fn scheduled_lags<R: Read>(alloc: Global, reader: &mut R) -> Result<Vec<u8>, ProgramFault>
-    ensures ok { IfOk result (λ text. IfSome (R.remaining reader.old) (λ bytes. IsOutputOf lags_of_run bytes (λ rows. text.items ≡ rows))) }
-    ensures refused { IfErr result (IsRefusalOf (R.remaining reader.old)) }
-    ensures taken { TakesOneFile result (R.remaining reader.old) (R.remaining reader.new) }
-{
-    let script = read_script(alloc, reader)?;
-    Ok(lags_of_script::<HeapReady>(alloc, &script)?)
 }
