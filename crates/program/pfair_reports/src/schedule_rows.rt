@@ -42,7 +42,7 @@ pub fn decisions<R: Read, W: Write>(
 /// Writes the lags of the script that a reader's bytes hold: a header, and for each slot t, slots
 /// in order, a row for each member that isn't departing after the boundary of t, in the order of
 /// admission: the time t + 1, the task, and its lag at that time as a numerator over its period,
-/// counted from its joining slot. The bytes that are read, what is held, and the cost are as for
+/// counted from its joining slot. The bytes that are read, the memory and the cost are as for
 /// [`decisions`].
 ///
 /// # Errors
