@@ -1,5 +1,6 @@
 -- How far the announcements of a boundary are decided, and how far delays can lead.
-use Rattle.std.proofs.Common.{◌≡◌, ℕ, zero, suc, ◌+◌, ◌-◌, ◌*◌, ◌<◌, ◌≤◌, Bool, true, false, List, [], ◌∷◌, ◌++◌, length, take, get_or, Result, Ok, Err, OnOk, OnErr, refl, sym, ap, subst, ◌∙◌, arith}
+use Rattle.std.proofs.lemmas.Grind.{common_steps}
+use Rattle.std.proofs.Common.{◌≡◌, ℕ, ◌+◌, ◌-◌, ◌*◌, ◌<◌, ◌≤◌, Bool, List, [], ◌∷◌, ◌++◌, length, take, get_or, Result, OnOk, OnErr, refl, sym, ap, subst, ◌∙◌, arith}
 use Rattle.std.specs.Prelude.{not, if◌then◌else◌}
 use Rattle.std.specs.List.{AllByRecursion}
 use Rattle.std.proofs.SliceLists.{all_by_recursion_push}
@@ -45,15 +46,13 @@ bounded_effect n t ms a d in_time limits h =
 
 -- one announcement more
 pub bounded_decided : (machine : Machine) (n t : ℕ) (ms : List Member) (a : Announcement) → t ≤ LAST_SLOT → IsWithinLimits a → EachBounded n ms → EachBounded (n + 1) (decided machine t ms a)
-bounded_decided machine n t ms a in_time limits h =
-    bounded_present (n + 1) t (effect t ms a (decision machine t ms a)) (bounded_effect n t ms a (decision machine t ms a) in_time limits h)
+bounded_decided machine n t ms a in_time limits h = grind (arith, bounded_present, bounded_effect)
 
 bounded_ran : (n : ℕ) (name : List ℕ) (ms : List Member) → EachBounded n ms → EachBounded n (ran name ms)
 bounded_ran n name ms h = bounded_change n n name with_quantum (omega arith) (λ x o. o) ms h
 
 pub bounded_run : (n : ℕ) (name : List ℕ) (ms after : List Member) (b : Bool) → after ≡ (if b then ran name ms else ms) → EachBounded n ms → EachBounded n after
-bounded_run n name ms after true is h = subst (EachBounded n) (sym is) (bounded_ran n name ms h)
-bounded_run n name ms after false is h = subst (EachBounded n) (sym is) h
+bounded_run n name ms after b is h = grind (arith, bounded_ran)
 
 -- while fewer announcements are heard than can be, each member has room for one delay more
 pub has_room : (n : ℕ) (ms : List Member) → n < MAX_HEARD → EachBounded n ms → EachHasRoom ms
@@ -106,13 +105,10 @@ room_so_far start t n m announced now all s more few h = has_room (MAX_HEARD - m
 -- ---- announcements at their places
 
 pub length_announcements : (xs : List Said) → length (announcements xs) ≡ length xs
-length_announcements [] = refl
-length_announcements (x ∷ xs) = ap suc (length_announcements xs)
+length_announcements xs = grind (arith, common_steps)
 
 said_at : (xs : List Said) (i : ℕ) (x : Said) → i < length xs → get_or (announcements xs) i x.2 ≡ (get_or xs i x).2
-said_at [] i x within = absurd (omega arith)
-said_at (y ∷ xs) zero x within = refl
-said_at (y ∷ xs) (suc i) x within = said_at xs i x (omega arith)
+said_at xs i x within = grind (arith, common_steps)
 
 pub said_item : (xs : List Said) (i : ℕ) (x : Said) → i < length xs → x ≡ get_or xs i x → get_or (announcements xs) i x.2 ≡ x.2
 said_item xs i x within is = said_at xs i x within ∙ ap (λ (a : Said). a.2) (sym is)
@@ -124,10 +120,8 @@ limits_item xs i x h within is = subst (λ (a : Said). IsWithinLimits a.2) (sym 
 
 pub swept_decided : {A E : Type 0} (r : Result A E) (t : ℕ) (announced : List Announcement) (old now : Standing) {start : Standing} {left : List Member} → start ≡ old → left ≡ now.members
     → OnOk r (now ≡ after_all t announced start) → OnOk r (left ≡ all_decided old.machine t old.members announced)
-swept_decided (Ok x) t announced old now same is all = is ∙ ap (λ (s : Standing). s.members) (all ∙ ap (after_all t announced) same)
-swept_decided (Err e) t announced old now same is all = all
+swept_decided r t announced old now same is all = grind arith
 
 pub swept_left : {A E : Type 0} (r : Result A E) (t : ℕ) (announced : List Announcement) (old now : Standing) {start : Standing} {left : List Member} → start ≡ old → left ≡ now.members
     → OnErr r ((k : ℕ) × (now ≡ after_all t (take k announced) start)) → OnErr r ((k : ℕ) × (left ≡ all_decided old.machine t old.members (take k announced)))
-swept_left (Ok x) t announced old now same is some = some
-swept_left (Err e) t announced old now same is some = (some.0, is ∙ ap (λ (s : Standing). s.members) (some.1 ∙ ap (after_all t (take some.0 announced)) same))
+swept_left r t announced old now same is some = grind arith

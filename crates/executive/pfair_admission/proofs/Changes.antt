@@ -1,15 +1,15 @@
 -- A member that is changed where it stands.
-use Rattle.std.proofs.Common.{◌≡◌, ℕ, Bool, true, false, List, Option, Some, None, Result, Ok, Err, IfOk, OnErr, refl, sym, ap, ◌∙◌}
+use Rattle.std.proofs.Common.{◌≡◌, ℕ, Bool, true, List, Option, Some, Result, IfOk, OnErr, refl, sym, ap, ◌∙◌, arith}
 use Rattle.std.specs.Prelude.{filter, if◌then◌else◌}
 use Rattle.std.specs.Map.{values_of}
 use Rattle.indexmap.specs.IndexMap.{set_value_at}
 use Rattle.std.specs.Option.{option_map, is_some}
 use Rattle.pfair_entry.specs.declared.announcement.Announcement.TheVariants.{Depart, Late}
 use Rattle.pfair_admission.specs.declared.decision.Decision.{Decision}
-use Rattle.pfair_admission.specs.declared.decision.Decision.TheVariants.{Admitted, Departing, Delayed, Refused}
+use Rattle.pfair_admission.specs.declared.decision.Decision.TheVariants.{Departing}
 use Rattle.pfair_admission.specs.declared.quantum.Quantum.{Quantum}
-use Rattle.pfair_admission.specs.Member.{Member, is_departing}
-use Rattle.pfair_admission.specs.Admission.{change, with_freeing, with_delay, with_quantum, effect, present, running, ran, quantum_of}
+use Rattle.pfair_admission.specs.Member.{Member}
+use Rattle.pfair_admission.specs.Admission.{change, effect, present, running, ran, quantum_of}
 use Rattle.pfair_admission.specs.Change.{after_departure, after_late_release, after_quantum}
 use Rattle.pfair_admission.specs.Roster.{Roster}
 use Rattle.pfair_admission.specs.Ledger.{is_there, IsOnly, Numbered}
@@ -23,26 +23,14 @@ pub record IsWritten (counts : Member → Bool) (name : List ℕ) (m n : Member)
 
 pub is_written : (counts : Member → Bool) (name : List ℕ) (es : Numbered) (place : ℕ) (m n : Member) → IsOnly counts name (values_of es) place m → counts m ≡ true
     → IsWritten counts name m n (filter counts (values_of es)) (filter counts (values_of (set_value_at es place n)))
-is_written counts name es place m n is there =
-    let ms : List Member = values_of es in
-    record {
-      stays = λ same. ap (filter counts) (values_written es place n ∙ same_written ms place m n is.at same);
-      still = filter_again counts ms;
-      changes = λ f changed. ap (filter counts) (values_written es place n) ∙ only_written counts name f ms place m n is there changed;
-    }
+is_written counts name es place m n is there = grind (arith, values_written, same_written, filter_again, only_written)
 
 pub departed : (t : ℕ) (name : List ℕ) (m n : Member) (old new : List Member) (d : Decision) → IsWritten (is_there t) name m n old new → n ≡ after_departure d m → new ≡ present t (effect t old (Depart name) d)
-departed t name m n old new (Departing slot) w is = w.changes (with_freeing slot) is
-departed t name m n old new Admitted w is = w.stays is ∙ sym w.still
-departed t name m n old new Delayed w is = w.stays is ∙ sym w.still
-departed t name m n old new (Refused r) w is = w.stays is ∙ sym w.still
+departed t name m n old new d w is = grind arith
 
 -- if it doesn't depart nothing changes
 pub not_departed : (d : Decision) (m n : Member) → ((slot : ℕ) → d ≡ Departing slot → ⊥) → n ≡ after_departure d m → n ≡ m
-not_departed (Departing slot) m n other is = absurd (other slot refl)
-not_departed Admitted m n other is = is
-not_departed Delayed m n other is = is
-not_departed (Refused r) m n other is = is
+not_departed d m n other is = grind arith
 
 -- a member that keeps its name, its weight and its freeing slot
 pub record IsLike (m n : Member) : Type 0 where
@@ -53,46 +41,23 @@ pub record IsLike (m n : Member) : Type 0 where
 pub same_like : (m n : Member) → n ≡ m → IsLike m n
 same_like m n is = record { name = ap (λ (l : Member). l.name) is; weight = ap (λ (l : Member). l.weight) is; freed_at = ap (λ (l : Member). l.freed_at) is }
 
-delayed : (t : ℕ) (name : List ℕ) (m n : Member) (old new : List Member) (d : Decision) (index by : ℕ) → IsWritten (is_there t) name m n old new → n ≡ after_late_release index by d m → new ≡ present t (effect t old (Late name index by) d)
-delayed t name m n old new Delayed index by w is = w.changes (with_delay index by) is
-delayed t name m n old new Admitted index by w is = w.stays is ∙ sym w.still
-delayed t name m n old new (Departing slot) index by w is = w.stays is ∙ sym w.still
-delayed t name m n old new (Refused r) index by w is = w.stays is ∙ sym w.still
-
-delayed_like : (d : Decision) (index by : ℕ) (m n : Member) → n ≡ after_late_release index by d m → IsLike m n
-delayed_like Delayed index by m n is = record { name = ap (λ (l : Member). l.name) is; weight = ap (λ (l : Member). l.weight) is; freed_at = ap (λ (l : Member). l.freed_at) is }
-delayed_like Admitted index by m n is = same_like m n is
-delayed_like (Departing slot) index by m n is = same_like m n is
-delayed_like (Refused r) index by m n is = same_like m n is
-
 -- what a call leaves that may be refused memory
 pub delayed_if_ok : {E : Type 0} (r : Result Decision E) (t : ℕ) (name : List ℕ) (m n : Member) (old new : List Member) (index by : ℕ) → IsWritten (is_there t) name m n old new
     → IfOk r (λ d. n ≡ after_late_release index by d m) → IfOk r (λ d. new ≡ present t (effect t old (Late name index by) d))
-delayed_if_ok (Ok d) t name m n old new index by w is = delayed t name m n old new d index by w is
-delayed_if_ok (Err e) t name m n old new index by w is = is
+delayed_if_ok r t name m n old new index by w is = grind arith
 
 pub stays_on_err : {A E : Type 0} (r : Result A E) (counts : Member → Bool) (name : List ℕ) (m n : Member) (old new : List Member) → IsWritten counts name m n old new → OnErr r (n ≡ m) → OnErr r (new ≡ old)
-stays_on_err (Ok d) counts name m n old new w same = same
-stays_on_err (Err e) counts name m n old new w same = w.stays same
+stays_on_err r counts name m n old new w same = grind arith
 
 pub late_like : {E : Type 0} (r : Result Decision E) (index by : ℕ) (m n : Member) → IfOk r (λ d. n ≡ after_late_release index by d m) → OnErr r (n ≡ m) → IsLike m n
-late_like (Ok d) index by m n is same = delayed_like d index by m n is
-late_like (Err e) index by m n is same = same_like m n same
+late_like r index by m n is same = grind (arith, same_like)
 
 pub ran_written : (name : List ℕ) (m n : Member) (old new : List Member) (r : Option Quantum) → IsWritten (λ _. true) name m n old new
     → r ≡ option_map quantum_of (running (Some m)) → n ≡ after_quantum m → new ≡ (if is_some r then ran name old else old)
-ran_written name m n old new r w answer is =
-    elim (is_departing m) as (λ b. r ≡ option_map quantum_of (if b then None else Some m) → n ≡ (if b then m else with_quantum m) → new ≡ (if is_some r then ran name old else old)) [
-      | true ↦ λ none same. w.stays same ∙ ap (λ (o : Option Quantum). if is_some o then ran name old else old) (sym none)
-      | false ↦ λ some more. w.changes with_quantum more ∙ filter_all (ran name old) ∙ ap (λ (o : Option Quantum). if is_some o then ran name old else old) (sym some)
-    ] answer is
+ran_written name m n old new r w answer is = grind (arith, filter_all)
 
 pub ran_like : (m n : Member) → n ≡ after_quantum m → IsLike m n
-ran_like m n is =
-    elim (is_departing m) as (λ b. n ≡ (if b then m else with_quantum m) → IsLike m n) [
-      | true ↦ same_like m n
-      | false ↦ λ more. record { name = ap (λ (l : Member). l.name) more; weight = ap (λ (l : Member). l.weight) more; freed_at = ap (λ (l : Member). l.freed_at) more }
-    ] is
+ran_like m n is = grind (arith, same_like)
 
 -- what a quantum leaves
 pub ran_listed : (name : List ℕ) (es : Numbered) (place : ℕ) (m n : Member) (r : Option Quantum) → IsOnly (λ _. true) name (values_of es) place m → r ≡ option_map quantum_of (running (Some m)) → n ≡ after_quantum m
@@ -104,5 +69,4 @@ ran_listed name es place m n r is answer after =
     ∙ ap (λ (ms : List Member). if is_some r then ran name ms else ms) (filter_all old)
 
 pub roster_ran : (s : Roster) (name : List ℕ) (after : List Member) (b : Bool) → after ≡ (if b then ran name s.members else s.members) → record s { members = after } ≡ (if b then record s { members = ran name s.members } else s)
-roster_ran s name after true is = ap (λ (ms : List Member). record s { members = ms }) is
-roster_ran s name after false is = ap (λ (ms : List Member). record s { members = ms }) is
+roster_ran s name after b is = grind arith

@@ -1,19 +1,18 @@
 -- The delays to come, and those that have passed, gathered one by one.
-use Rattle.std.proofs.Common.{◌≡◌, ℕ, ◌+◌, ◌*◌, ◌<◌, ◌≤◌, Bool, true, false, cond, List, [], ◌∷◌, ◌++◌, get_or, length, map, take, Option, Some, refl, sym, ap, ◌∙◌, arith}
-use Rattle.std.specs.Prelude.{nat_le, nat_lt, ◌==◌, ◌||◌, unwrap_or}
+use Rattle.std.proofs.lemmas.Grind.{common_steps}
+use Rattle.std.proofs.Common.{◌≡◌, ℕ, ◌+◌, ◌*◌, ◌<◌, ◌≤◌, true, false, cond, List, [], ◌∷◌, ◌++◌, get_or, length, map, take, Some, refl, ap, ◌∙◌, arith}
+use Rattle.std.specs.Prelude.{nat_lt, ◌==◌, ◌||◌, unwrap_or}
 use Rattle.std.specs.List.{sum_by, list_any}
 use Rattle.std.specs.Ordering.{nat_cmp}
 use Rattle.std.specs.BTreeMap as map
 use Rattle.std.specs.BTreeMap.{BTreeMap}
 use Rattle.std.proofs.lemmas.Bool.Decides.{nat_tests}
-use Rattle.std.proofs.lemmas.List.{map-append, append-nil}
-use Rattle.std.proofs.lemmas.List.Elements.{filter-append}
 use Rattle.std.proofs.lemmas.List.Sums.{sum_by_more_le}
 use Rattle.pfair_admission.specs.declared.delay.Delay.{Delay}
 use Rattle.pfair_admission.specs.Incarnation.{own_delay}
 use Rattle.pfair_admission.specs.declared.members.TheConstants.Members.{LAST_SLOT}
-use Rattle.pfair_admission.specs.Member.{Member, last_offset}
-use Rattle.pfair_admission.specs.Carried.{as_one, carried, carried_delays, coming_delays, jobs_done, lowered, passed_delays, CanBeCarried}
+use Rattle.pfair_admission.specs.Member.{Member}
+use Rattle.pfair_admission.specs.Carried.{as_one, carried, carried_delays, jobs_done, passed_delays, CanBeCarried}
 use Rattle.pfair_admission.proofs.Delays.{at_key, own_push, own_slots}
 use Rattle.pfair_admission.proofs.Sums.{sum_filter}
 
@@ -23,40 +22,16 @@ AreComing next ds coming = (i : ℕ) → next < i → map.get nat_cmp coming i �
 
 pub coming_later : (next : ℕ) (ds : List Delay) (d : Delay) (coming after : BTreeMap ℕ ℕ) → AreComing next ds coming → next < d.index
     → map.Updates nat_cmp coming after d.index (Some (unwrap_or (map.get nat_cmp coming d.index) 0 + d.by)) → AreComing next (ds ++ d ∷ []) after
-coming_later next ds d coming after h less updates i later =
-    updates.0 i ∙ ap (λ c. cond c (Some (unwrap_or (map.get nat_cmp coming d.index) 0 + d.by)) (map.get nat_cmp coming i)) (at_key d.index i)
-    ∙ by (d.index == i) refl ∙ sym (own_push ds d.index d.by i)
-  where
-    by : (c : Bool) → (d.index == i) ≡ c → cond c (Some (unwrap_or (map.get nat_cmp coming d.index) 0 + d.by)) (map.get nat_cmp coming i) ≡ cond c (Some (unwrap_or (own_delay ds i) 0 + d.by)) (own_delay ds i)
-    by true e =
-        let same : d.index ≡ i = grind (arith, nat_tests) in
-        ap (λ k. Some (unwrap_or (map.get nat_cmp coming k) 0 + d.by)) same ∙ ap (λ (o : Option ℕ). Some (unwrap_or o 0 + d.by)) (h i later)
-    by false e = h i later
+coming_later next ds d coming after h less updates i later = grind (arith, map, at_key, own_push, nat_tests, common_steps)
 
 pub coming_earlier : (next : ℕ) (ds : List Delay) (d : Delay) (coming : BTreeMap ℕ ℕ) → AreComing next ds coming → d.index ≤ next → AreComing next (ds ++ d ∷ []) coming
-coming_earlier next ds d coming h most i later =
-    let other : (d.index == i) ≡ false = grind (arith, nat_tests) in
-    h i later ∙ sym (own_push ds d.index d.by i ∙ ap (λ c. cond c (Some (unwrap_or (own_delay ds i) 0 + d.by)) (own_delay ds i)) other)
+coming_earlier next ds d coming h most i later = grind (arith, nat_tests, own_push, common_steps)
 
 -- one delay more comes to no more than all
 pub own_fits_one : (ds : List Delay) (n i : ℕ) (d : Delay) → n < length ds → unwrap_or (own_delay (take n ds) i) 0 + (get_or ds n d).by ≤ sum_by (λ d. d.by) ds
-own_fits_one ds n i d within =
-    let more = sum_by_more_le (λ (x : Delay). x.by) ds n d within in
-    let part = sum_filter (λ (x : Delay). x.by) (λ (x : Delay). x.index == i) (take n ds) in
-    omega (arith, more, part, own_slots (take n ds) i)
+own_fits_one ds n i d within = grind (arith, sum_by_more_le, sum_filter, own_slots)
 
 -- ---- the delays from `next` on, at lower indexes
-
-pub lowered_more : (next k : ℕ) (ds : List Delay) (d : Delay) → next ≤ d.index → map (lowered k) (coming_delays next (ds ++ d ∷ [])) ≡ map (lowered k) (coming_delays next ds) ++ lowered k d ∷ []
-lowered_more next k ds d h =
-    let now : nat_le next d.index ≡ true = grind (arith, nat_tests) in
-    ap (map (lowered k)) (filter-append (λ (x : Delay). nat_le next x.index) ds (d ∷ []) ∙ ap (λ c. coming_delays next ds ++ cond c (d ∷ []) []) now)
-    ∙ map-append (lowered k) (coming_delays next ds) (d ∷ [])
-
-pub lowered_less : (next k : ℕ) (ds : List Delay) (d : Delay) → d.index < next → map (lowered k) (coming_delays next (ds ++ d ∷ [])) ≡ map (lowered k) (coming_delays next ds)
-lowered_less next k ds d h =
-    let gone : nat_le next d.index ≡ false = grind (arith, nat_tests) in
-    ap (map (lowered k)) (filter-append (λ (x : Delay). nat_le next x.index) ds (d ∷ []) ∙ ap (λ c. coming_delays next ds ++ cond c (d ∷ []) []) gone ∙ append-nil (coming_delays next ds))
 
 -- ---- those that have passed
 
@@ -75,15 +50,9 @@ none_passed next ds none = ap as_one (no ds none)
 -- some have
 pub some_passed : (next : ℕ) (ds : List Delay) → list_any (λ d. nat_lt d.index next) ds ≡ true → as_one (passed_delays next ds) ≡ record { index = 1; by = sum_by (λ d. d.by) (passed_delays next ds) } ∷ []
 some_passed next [] some = absurd (cc)
-some_passed next (d ∷ ds) some =
-    (elim (nat_lt d.index next) as (λ b. (b || list_any (λ d. nat_lt d.index next) ds) ≡ true → as_one (cond b (d ∷ passed_delays next ds) (passed_delays next ds)) ≡ record { index = 1; by = sum_by (λ d. d.by) (cond b (d ∷ passed_delays next ds) (passed_delays next ds)) } ∷ []) [
-      | true ↦ λ e. refl
-      | false ↦ λ e. some_passed next ds e
-    ]) some
+some_passed next (d ∷ ds) some = grind (arith, some_passed next ds)
 
 -- ---- the offset of a member that is carried
 
 pub carried_offset : (m : Member) (jobs period joined : ℕ) (ds : List Delay) → CanBeCarried m → jobs ≡ jobs_done m → period ≡ m.weight.period → joined ≡ m.joined → ds ≡ carried_delays m → joined + jobs * period + sum_by (λ d. d.by) ds ≤ LAST_SLOT
-carried_offset m jobs period joined ds k j p o d =
-    let same : joined + jobs * period + sum_by (λ d. d.by) ds ≡ last_offset (carried m) = λ i. o i + j i * p i + sum_by (λ (x : Delay). x.by) (d i) in
-    omega (arith, same, k.offset)
+carried_offset m jobs period joined ds k j p o d = grind arith

@@ -1,8 +1,7 @@
 -- What is left when an announcement is decided.
-use Rattle.std.proofs.Common.{◌≡◌, ℕ, ◌+◌, ◌*◌, ◌%◌, ◌≤◌, Bool, true, false, cond, List, [], ◌∷◌, ◌++◌, Option, Some, None, Result, Ok, Err, IfOk, OnOk, OnErr, refl, sym, ap, subst, ◌∙◌, arith}
-use Rattle.std.specs.Prelude.{not, nat_lt, ◌==◌, is_some, if◌then◌else◌}
+use Rattle.std.proofs.Common.{◌≡◌, ℕ, ◌+◌, ◌*◌, ◌%◌, ◌≤◌, Bool, List, [], ◌∷◌, ◌++◌, Option, Some, None, Result, Ok, Err, IfOk, OnOk, OnErr, sym, ap, ◌∙◌, arith}
+use Rattle.std.specs.Prelude.{◌==◌, if◌then◌else◌}
 use Rattle.std.proofs.lemmas.List.Sums.{sum_by_push}
-use Rattle.std.proofs.Common.{inl, inr}
 use Rattle.std.proofs.lemmas.Bool.{cases_lt}
 use Rattle.std.proofs.lemmas.Bool.Decides.{nat_tests}
 use Rattle.std.proofs.lemmas.Option.{same_Some}
@@ -11,12 +10,11 @@ use Rattle.pfair_weight.specs.Share.{Share, units_of}
 use Rattle.pfair_weight.specs.declared.window.TheConstants.{MAX_OFFSET}
 use Rattle.pfair_entry.specs.declared.announcement.Announcement.TheVariants.{Arrive, Depart, Late}
 use Rattle.pfair_admission.specs.declared.decision.Decision.{Decision}
-use Rattle.pfair_admission.specs.declared.decision.Decision.TheVariants.{Admitted, Departing, Delayed, Refused}
-use Rattle.pfair_admission.specs.declared.refusal.Refusal.TheVariants.{NameTaken, PeriodOutsideFrame, NoRoom}
+use Rattle.pfair_admission.specs.declared.decision.Decision.TheVariants.{Admitted}
 use Rattle.pfair_entry.specs.declared.entry.TheConstants.Entry.{LONGEST_DELAY}
 use Rattle.pfair_admission.specs.declared.members.TheConstants.Members.{MAX_PROCESSORS, MAX_FRAME}
 use Rattle.pfair_admission.specs.Member.{Member, last_offset}
-use Rattle.pfair_admission.specs.Admission.{Machine, is_named, member_named, claimed, arrival, departure, late_release, newcomer, effect, present, decided}
+use Rattle.pfair_admission.specs.Admission.{Machine, member_named, claimed, arrival, departure, late_release, newcomer, effect, present, decided}
 use Rattle.pfair_admission.specs.Removal.{NoneFreed}
 use Rattle.pfair_admission.specs.Roster.{EachHasRoom}
 use Rattle.pfair_admission.specs.Ledger.{is_there}
@@ -31,45 +29,19 @@ product_fits p f a b = grind arith
 
 -- if a task is admitted no member has its name
 pub admitted_new : (machine : Machine) (ms : List Member) (name : List ℕ) (w : Share) → Admitted ≡ arrival machine ms name w → member_named ms name ≡ None
-admitted_new machine ms name w is =
-    nothing (member_named ms name)
-    ((elim (is_some (member_named ms name)) as (λ b. Admitted ≡ (if b then Refused NameTaken
-    else if not (machine.frame % w.period == 0) then Refused PeriodOutsideFrame
-    else if nat_lt (machine.processors * machine.frame) (claimed machine.frame ms + units_of w machine.frame) then Refused NoRoom
-    else Admitted) → b ≡ false) [
-      | true ↦ λ e. cc
-      | false ↦ λ e. refl
-    ]) is)
+admitted_new machine ms name w is = grind (arith, nothing)
 
 -- and there is room for it
 pub admitted_room : (machine : Machine) (ms : List Member) (name : List ℕ) (w : Share) → Admitted ≡ arrival machine ms name w → claimed machine.frame ms + units_of w machine.frame ≤ machine.processors * machine.frame
-admitted_room machine ms name w is =
-    elim (cases_lt (machine.processors * machine.frame) (claimed machine.frame ms + units_of w machine.frame)) [
-      | inl over ↦ absurd (no_room (is_some (member_named ms name)) (machine.frame % w.period == 0) (nat_lt (machine.processors * machine.frame) (claimed machine.frame ms + units_of w machine.frame)) (grind (arith, nat_tests)) is)
-      | inr fits ↦ fits
-    ]
-  where
-    no_room : (b c d : Bool) → d ≡ true → Admitted ≡ (if b then Refused NameTaken else if not c then Refused PeriodOutsideFrame else if d then Refused NoRoom else Admitted) → ⊥
-    no_room true c d e is = cc
-    no_room false false d e is = cc
-    no_room false true true e is = cc
-    no_room false true false e is = cc
+admitted_room machine ms name w is = grind (arith, cases_lt, nat_tests)
 
 -- a newcomer comes after all others
 pub arrived : (machine : Machine) (t : ℕ) (ms : List Member) (name : List ℕ) (w : Share) (early : Bool) → NoneFreed t ms → Admitted ≡ arrival machine ms name w → ms ++ newcomer t name w early ∷ [] ≡ decided machine t ms (Arrive name w early)
-arrived machine t ms name w early h is =
-    sym (present_all t (ms ++ newcomer t name w early ∷ []) (none_freed_push t ms (newcomer t name w early) h refl))
-    ∙ ap (λ (d : Decision). present t (effect t ms (Arrive name w early) d)) is
+arrived machine t ms name w early h is = grind (arith, present_all, none_freed_push)
 
 -- or all is as it was
 pub not_arrived : (machine : Machine) (t : ℕ) (ms : List Member) (name : List ℕ) (w : Share) (early : Bool) (d : Decision) → NoneFreed t ms → (d ≡ Admitted → ⊥) → d ≡ arrival machine ms name w → ms ≡ decided machine t ms (Arrive name w early)
-not_arrived machine t ms name w early d h other is = sym (present_all t ms h) ∙ ap (present t) (sym (unchanged d other)) ∙ ap (λ (d : Decision). present t (effect t ms (Arrive name w early) d)) is
-  where
-    unchanged : (d : Decision) → (d ≡ Admitted → ⊥) → effect t ms (Arrive name w early) d ≡ ms
-    unchanged Admitted other = absurd (other refl)
-    unchanged (Departing slot) other = refl
-    unchanged Delayed other = refl
-    unchanged (Refused r) other = refl
+not_arrived machine t ms name w early d h other is = grind (arith, present_all)
 
 pub claimed_arrived : (frame t : ℕ) (ms : List Member) (name : List ℕ) (w : Share) (early : Bool) → claimed frame (ms ++ newcomer t name w early ∷ []) ≡ claimed frame ms + units_of w frame
 claimed_arrived frame t ms name w early = sum_by_push (λ (m : Member). units_of m.weight frame) ms (newcomer t name w early)
@@ -79,11 +51,7 @@ claimed_arrived frame t ms name w early = sum_by_push (λ (m : Member). units_of
 -- the named member has room for one delay more
 pub room_of_named : (ms : List Member) (name : List ℕ) (m : Member) → EachHasRoom ms → member_named ms name ≡ Some m → last_offset m + LONGEST_DELAY ≤ MAX_OFFSET
 room_of_named [] name m h found = absurd (cc)
-room_of_named (x ∷ ms) name m h found =
-    (elim (is_named name x) as (λ b. cond b (Some x) (member_named ms name) ≡ Some m → last_offset m + LONGEST_DELAY ≤ MAX_OFFSET) [
-      | true ↦ λ e. subst (λ (l : Member). last_offset l + LONGEST_DELAY ≤ MAX_OFFSET) (same_Some x m e) h.0
-      | false ↦ λ e. room_of_named ms name m h.1 e
-    ]) found
+room_of_named (x ∷ ms) name m h found = grind (arith, same_Some, room_of_named ms name m h.1)
 
 -- ---- one machine
 
@@ -99,13 +67,11 @@ none_late t ms name index by none = sym (filter_again (is_there t) ms) ∙ ap (�
 
 -- what is decided on a late release
 pub if_decided : {E : Type 0} (r : Result Decision E) (t index : ℕ) {o p : Option Member} → o ≡ p → IfOk r (λ d. d ≡ late_release t o index) → IfOk r (λ d. d ≡ late_release t p index)
-if_decided (Ok d) t index same is = is ∙ ap (λ (o : Option Member). late_release t o index) same
-if_decided (Err e) t index same is = is
+if_decided r t index same is = grind arith
 
 pub late_decided : {E : Type 0} (r : Result Decision E) (machine : Machine) (t : ℕ) (old new : List Member) (name : List ℕ) (index by : ℕ) → IfOk r (λ d. d ≡ late_release t (member_named old name) index) → IfOk r (λ d. new ≡ present t (effect t old (Late name index by) d))
     → OnOk r (◌≡◌ {A = Standing} (record { machine = machine; members = new }) (record { machine = machine; members = decided machine t old (Late name index by) }))
-late_decided (Ok d) machine t old new name index by is changed = stood machine (changed ∙ ap (λ (d : Decision). present t (effect t old (Late name index by) d)) is)
-late_decided (Err e) machine t old new name index by is changed = is
+late_decided r machine t old new name index by is changed = grind (arith, stood)
 
 pub late_same : {A E : Type 0} (r : Result A E) (machine : Machine) (old new : List Member) → OnErr r (new ≡ old) → OnErr r (◌≡◌ {A = Standing} (record { machine = machine; members = new }) (record { machine = machine; members = old }))
 late_same (Ok d) machine old new same = same

@@ -1,5 +1,6 @@
 -- What holds of each element of a list.
-use Rattle.std.proofs.Common.{◌≡◌, ◌<◌, ℕ, zero, suc, Bool, true, false, cond, List, [], ◌∷◌, get_or, length, map, refl, arith}
+use Rattle.std.proofs.lemmas.Grind.{common_steps}
+use Rattle.std.proofs.Common.{◌≡◌, ◌<◌, ℕ, Bool, true, List, [], ◌∷◌, get_or, length, map, arith}
 use Rattle.std.specs.List.{AllByRecursion, filter}
 
 pub each : {A : Type 0} (P Q : A → Type 0) → ((x : A) → P x → Q x) → (xs : List A) → AllByRecursion P xs → AllByRecursion Q xs
@@ -17,16 +18,10 @@ both P Q R to (x ∷ xs) h g = (to x h.0 g.0, both P Q R to xs h.1 g.1)
 -- those that a test keeps pass it
 pub each_kept : {A : Type 0} (P Q : A → Type 0) (p : A → Bool) → ((x : A) → p x ≡ true → P x → Q x) → (xs : List A) → AllByRecursion P xs → AllByRecursion Q (filter p xs)
 each_kept P Q p to [] h = tt
-each_kept P Q p to (x ∷ xs) h =
-    (elim (p x) as (λ b. p x ≡ b → AllByRecursion Q (cond b (x ∷ filter p xs) (filter p xs))) [
-      | true ↦ λ passes. (to x passes h.0, each_kept P Q p to xs h.1)
-      | false ↦ λ _. each_kept P Q p to xs h.1
-    ]) refl
+each_kept P Q p to (x ∷ xs) h = grind (arith, each_kept P Q p to xs h.1)
 
 pub each_filter : {A : Type 0} (P : A → Type 0) (p : A → Bool) (xs : List A) → AllByRecursion P xs → AllByRecursion P (filter p xs)
 each_filter P p xs h = each_kept P P p (λ x _ is. is) xs h
 
 pub each_at : {A : Type 0} (P : A → Type 0) (xs : List A) (k : ℕ) (d : A) → AllByRecursion P xs → k < length xs → P (get_or xs k d)
-each_at P [] k d h within = absurd (omega arith)
-each_at P (x ∷ xs) zero d h within = h.0
-each_at P (x ∷ xs) (suc k) d h within = each_at P xs k d h.1 (omega arith)
+each_at P xs k d h within = grind (arith, common_steps)

@@ -1,12 +1,12 @@
 -- An announcement does nothing, or one of three things; and a boundary lets members go, and decides announcements.
-use Rattle.std.proofs.Common.{◌≡◌, ℕ, Bool, true, false, List, [], ◌∷◌, ◌++◌, refl}
+use Rattle.std.proofs.Common.{◌≡◌, ℕ, Bool, true, false, List, [], ◌∷◌, ◌++◌, arith}
 use Rattle.std.specs.List.{AllByRecursion}
 use Rattle.std.specs.Prelude.{if◌then◌else◌}
 use Rattle.pfair_weight.specs.Share.{Share}
 use Rattle.pfair_entry.specs.declared.announcement.Announcement.{Announcement}
 use Rattle.pfair_entry.specs.declared.announcement.Announcement.TheVariants.{Arrive, Depart, Late}
 use Rattle.pfair_admission.specs.declared.decision.Decision.{Decision}
-use Rattle.pfair_admission.specs.declared.decision.Decision.TheVariants.{Admitted, Departing, Delayed, Refused}
+use Rattle.pfair_admission.specs.declared.decision.Decision.TheVariants.{Admitted, Departing, Delayed}
 use Rattle.pfair_admission.specs.Member.{Member}
 use Rattle.pfair_admission.specs.Admission.{Machine, all_decided, boundary, change, decided, decision, effect, is_named, newcomer, present, with_delay, with_freeing}
 use Rattle.pfair_admission.proofs.Each.{each_map}
@@ -14,18 +14,7 @@ use Rattle.pfair_admission.proofs.Each.{each_map}
 module _ (P : List Member → Type 0) (t : ℕ) (ms : List Member) (h : P ms) where
   pub by_effect : (a : Announcement) (d : Decision) → ((name : List ℕ) (w : Share) (early : Bool) → a ≡ Arrive name w early → d ≡ Admitted → P (ms ++ newcomer t name w early ∷ []))
       → ((name : List ℕ) (slot : ℕ) → a ≡ Depart name → d ≡ Departing slot → P (change name (with_freeing slot) ms)) → ((name : List ℕ) (index by : ℕ) → a ≡ Late name index by → d ≡ Delayed → P (change name (with_delay index by) ms)) → P (effect t ms a d)
-  by_effect (Arrive name w early) Admitted joins frees delays = joins name w early refl refl
-  by_effect (Arrive name w early) (Departing slot) joins frees delays = h
-  by_effect (Arrive name w early) Delayed joins frees delays = h
-  by_effect (Arrive name w early) (Refused why) joins frees delays = h
-  by_effect (Depart name) Admitted joins frees delays = h
-  by_effect (Depart name) (Departing slot) joins frees delays = frees name slot refl refl
-  by_effect (Depart name) Delayed joins frees delays = h
-  by_effect (Depart name) (Refused why) joins frees delays = h
-  by_effect (Late name index by) Admitted joins frees delays = h
-  by_effect (Late name index by) (Departing slot) joins frees delays = h
-  by_effect (Late name index by) Delayed joins frees delays = delays name index by refl refl
-  by_effect (Late name index by) (Refused why) joins frees delays = h
+  by_effect a d joins frees delays = grind arith
 
 -- what leavers and each decision keep, a boundary keeps
 module _ (P : List Member → Type 0) (machine : Machine) (t : ℕ) (left : (ms : List Member) → P ms → P (present t ms)) (does : (ms : List Member) (a : Announcement) → P ms → P (effect t ms a (decision machine t ms a))) where

@@ -1,6 +1,7 @@
 -- What the ledger keeps when a member is written.
-use Rattle.std.proofs.Common.{◌≡◌, ℕ, ◌+◌, ◌≤◌, ◌<◌, Bool, true, false, cond, List, [], ◌∷◌, ◌++◌, Some, refl, sym, ap, subst, ◌∙◌, arith}
-use Rattle.std.specs.Prelude.{filter, nat_eq, nat_le, not, slice_get}
+use Rattle.std.proofs.lemmas.Grind.{common_steps}
+use Rattle.std.proofs.Common.{◌≡◌, ℕ, ◌+◌, ◌≤◌, ◌<◌, Bool, true, cond, List, [], ◌∷◌, ◌++◌, Some, refl, sym, ap, subst, ◌∙◌, arith}
+use Rattle.std.specs.Prelude.{filter, nat_eq, slice_get}
 use Rattle.std.proofs.lemmas.Bool.Decides.{nat_tests}
 use Rattle.indexmap.specs.IndexMap.{insert_entry, with_value_at}
 use Rattle.std.specs.List.{IsDistinct}
@@ -17,8 +18,9 @@ use Rattle.pfair_admission.specs.Ledger.{is_there, listed, IsLedger, IsUnswept, 
 use Rattle.pfair_admission.proofs.Changes.{IsLike}
 use Rattle.pfair_admission.proofs.Deciding.{admitted_new, admitted_room, claimed_arrived}
 use Rattle.pfair_admission.proofs.MemberLists.{claimed_present, first_earlier, first_push, not_before_right, present_all}
-use Rattle.pfair_admission.proofs.Registers.{register_less, register_more, register_written}
+use Rattle.pfair_admission.proofs.Registers.{register_more, register_written}
 use Rattle.pfair_admission.proofs.Written.{claimed_written, filter_all, first_at, first_written, values_written}
+use Rattle.pfair_admission.proofs.Each.{each}
 
 -- a member that is written, and keeps its name, its weight and its freeing slot
 pub ledger_written : (counts : Member → Bool) (a : Ledger) (place : ℕ) (m n : Member) → IsLedger counts a → slice_get (listed a) place ≡ Some m → counts m ≡ true → counts n ≡ true → IsLike m n → IsLedger counts (record a { members = with_value_at a.members place n })
@@ -55,24 +57,18 @@ ledger_left t a place slot claim m n k at there name weight freed sum =
 
 -- the units of a member that is freed at once
 pub gone_units : (t slot units : ℕ) (n : Member) → n.freed_at ≡ Some slot → slot ≤ t → cond (is_there t n) 0 units ≡ units
-gone_units t slot units n freed now =
-    let test : nat_le slot t ≡ true = grind (arith, nat_tests) in
-    ap (λ o. cond (is_there t (record n { freed_at = o })) 0 units) freed ∙ ap (λ b. cond (not b) 0 units) test
+gone_units t slot units n freed now = grind (arith, nat_tests)
 
 pub held_units : (t slot units : ℕ) (n : Member) → n.freed_at ≡ Some slot → t < slot → cond (is_there t n) 0 units ≡ 0
-held_units t slot units n freed later =
-    let test : nat_le slot t ≡ false = grind (arith, nat_tests) in
-    ap (λ o. cond (is_there t (record n { freed_at = o })) 0 units) freed ∙ ap (λ b. cond (not b) 0 units) test
+held_units t slot units n freed later = grind (arith, nat_tests)
 
 -- a newcomer
 pub values_pushed : (es : Numbered) (k : ℕ) (m : Member) → values_of (es ++ (k, m) ∷ []) ≡ values_of es ++ m ∷ []
-values_pushed [] k m = refl
-values_pushed (e ∷ es) k m = ap (λ (l : List Member). e.1 ∷ l) (values_pushed es k m)
+values_pushed es k m = grind (arith, common_steps)
 
 -- comes after those that are left
 pub present_pushed : (t : ℕ) (es es' : Numbered) (k : ℕ) (name : List ℕ) (w : Share) (early : Bool) → es' ≡ es ++ (k, newcomer t name w early) ∷ [] → present t (values_of es') ≡ present t (values_of es) ++ newcomer t name w early ∷ []
-present_pushed t es es' k name w early made =
-    ap (λ (l : Numbered). present t (values_of l)) made ∙ ap (present t) (values_pushed es k (newcomer t name w early)) ∙ filter-append (is_there t) (values_of es) (newcomer t name w early ∷ [])
+present_pushed t es es' k name w early made = grind (arith, values_pushed, filter-append)
 
 pub ledger_more : (t : ℕ) (a b : Ledger) (name : List ℕ) (w : Share) (early : Bool) → IsLedger (is_there t) a → Admitted ≡ arrival (record { processors = a.processors; frame = a.frame }) (present t (listed a)) name w
     → b.members.entries ≡ a.members.entries ++ (a.admitted, newcomer t name w early) ∷ [] → IsDistinct nat_eq (keys_of b.members.entries) → b.names.entries ≡ insert_entry name_eq a.names.entries name a.admitted
@@ -97,32 +93,12 @@ ledger_more t a b name w early k is made unique entered updates =
 
 -- if nobody is freed all count
 pub kept_less : (t : ℕ) (a : Ledger) → NoneFreed t (listed a) → IsLedger (λ _. true) a → IsLedger (is_there t) a
-kept_less t a none k = record {
-  register = register_less (is_there t) a.admitted a.members.entries a.names.entries k.register;
-  few_processors = k.few_processors;
-  short_frame = k.short_frame;
-  room = k.room;
-  total = k.total ∙ ap (claimed a.frame) (filter_all (listed a) ∙ sym (present_all t (listed a) none));
-  first = k.first;
-}
+kept_less t a none k = grind (arith, filter_all, present_all, each)
 
 -- with the claim of all
 pub unswept_all : (t : ℕ) (a : Ledger) → IsLedger (λ _. true) a → IsUnswept t a
-unswept_all t a k =
-    let all = ap (claimed a.frame) (filter_all (listed a)) in
-    let part = claimed_present a.frame t (listed a) in
-    record {
-      register = register_less (is_there t) a.admitted a.members.entries a.names.entries k.register;
-      few_processors = k.few_processors;
-      short_frame = k.short_frame;
-      room = k.room;
-      least = omega (arith, all, part, k.total);
-      most = omega (arith, all, k.total);
-      first = k.first;
-    }
+unswept_all t a k = grind (arith, filter_all, claimed_present, each)
 
 -- with the claim of those that are left
 pub unswept_rest : (t : ℕ) (a : Ledger) → IsLedger (is_there t) a → IsUnswept t a
-unswept_rest t a k =
-    let part = claimed_present a.frame t (listed a) in
-    record { register = k.register; few_processors = k.few_processors; short_frame = k.short_frame; room = k.room; least = omega (arith, k.total); most = omega (arith, part, k.total); first = k.first }
+unswept_rest t a k = grind (arith, claimed_present)

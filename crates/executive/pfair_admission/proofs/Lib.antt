@@ -1,6 +1,6 @@
+pub mod Beside
 mod Boundaries
 pub mod CarriedAgain
-pub mod CarriedWindows
 pub mod Carrying
 mod Changes
 mod Coming
@@ -10,6 +10,7 @@ pub mod Each
 pub mod Effects
 pub mod Keeping
 mod Kept
+pub mod Lowered
 mod MemberLists
 pub mod NamesKept
 mod Registers

@@ -1,12 +1,13 @@
 -- Lists of members: who is freed, and what they claim.
-use Rattle.std.proofs.Common.{◌≡◌, ℕ, zero, suc, ◌+◌, ◌<◌, ◌≤◌, true, false, cond, List, [], ◌∷◌, ◌++◌, get_or, length, take, Option, Some, None, refl, sym, ap, subst, ◌∙◌, arith}
+use Rattle.std.proofs.lemmas.Grind.{common_steps}
+use Rattle.std.proofs.Common.{◌≡◌, ℕ, zero, suc, ◌+◌, ◌<◌, ◌≤◌, false, cond, List, [], ◌∷◌, ◌++◌, get_or, length, take, Option, Some, None, refl, sym, ap, subst, ◌∙◌, arith}
 use Rattle.std.specs.Prelude.{not, slice_get}
 use Rattle.std.proofs.lemmas.Option.{same_Some, none-some, slice_get-get_or}
 use Rattle.std.proofs.lemmas.List.Sums.{sum_by-cons, sum_by_more, sum_by_more_le}
 use Rattle.std.proofs.lemmas.Bool.Decides.{nat_tests}
-use Rattle.pfair_weight.specs.Share.{Share, units_of}
+use Rattle.pfair_weight.specs.Share.{units_of}
 use Rattle.pfair_admission.specs.Member.{Member}
-use Rattle.pfair_admission.specs.Admission.{is_named, claimed, change, is_freed, present}
+use Rattle.pfair_admission.specs.Admission.{claimed, change, is_freed, present}
 use Rattle.pfair_admission.specs.Removal.{earlier_of, IsNotBefore, NoneFreedBefore, NoneFreed}
 use Rattle.pfair_admission.proofs.Sums.{sum_filter}
 
@@ -20,21 +21,14 @@ present_all t (m ∷ ms) h = ap (λ b. cond (not b) (m ∷ present t ms) (presen
 -- and none is freed of those that stay
 pub none_freed_present : (t : ℕ) (ms : List Member) → NoneFreed t (present t ms)
 none_freed_present t [] = tt
-none_freed_present t (m ∷ ms) =
-    (elim (is_freed t m.freed_at) as (λ b. is_freed t m.freed_at ≡ b → NoneFreed t (cond (not b) (m ∷ present t ms) (present t ms))) [
-      | true ↦ λ _. none_freed_present t ms
-      | false ↦ λ stays. (stays, none_freed_present t ms)
-    ]) refl
+none_freed_present t (m ∷ ms) = grind (arith, none_freed_present t ms)
 
 pub none_freed_push : (t : ℕ) (ms : List Member) (m : Member) → NoneFreed t ms → is_freed t m.freed_at ≡ false → NoneFreed t (ms ++ m ∷ [])
-none_freed_push t [] m h stays = (stays, tt)
-none_freed_push t (x ∷ ms) m h stays = (h.0, none_freed_push t ms m h.1 stays)
+none_freed_push t ms m h stays = grind (arith, common_steps)
 
 -- before the first freeing slot nobody is freed
 later_stays : (t : ℕ) (first slot : Option ℕ) → is_freed t first ≡ false → IsNotBefore first slot → is_freed t slot ≡ false
-later_stays t first None before not_before = refl
-later_stays t None (Some slot) before not_before = absurd not_before
-later_stays t (Some first) (Some slot) before not_before = grind (arith, nat_tests)
+later_stays t first slot before not_before = grind (arith, nat_tests)
 
 pub none_freed_before : (t : ℕ) (first : Option ℕ) (ms : List Member) → is_freed t first ≡ false → NoneFreedBefore first ms → NoneFreed t ms
 none_freed_before t first [] before h = tt
@@ -43,35 +37,23 @@ none_freed_before t first (m ∷ ms) before h = (later_stays t first m.freed_at 
 -- ---- the first freeing slot
 
 pub not_before_left : (first other slot : Option ℕ) → IsNotBefore first slot → IsNotBefore (earlier_of first other) slot
-not_before_left None other None h = elim other [ None ↦ tt | Some x ↦ tt ]
-not_before_left None other (Some s) h = absurd h
-not_before_left (Some f) None slot h = h
-not_before_left (Some f) (Some x) None h = tt
-not_before_left (Some f) (Some x) (Some s) h = omega arith
+not_before_left first other slot h = grind arith
 
 pub not_before_right : (first : Option ℕ) (slot : ℕ) → IsNotBefore (earlier_of first (Some slot)) (Some slot)
-not_before_right None slot = omega arith
-not_before_right (Some f) slot = omega arith
+not_before_right first slot = grind arith
 
 pub first_earlier : (first other : Option ℕ) (ms : List Member) → NoneFreedBefore first ms → NoneFreedBefore (earlier_of first other) ms
 first_earlier first other [] h = tt
 first_earlier first other (m ∷ ms) h = (not_before_left first other m.freed_at h.0, first_earlier first other ms h.1)
 
 pub first_push : (first : Option ℕ) (ms : List Member) (m : Member) → m.freed_at ≡ None → NoneFreedBefore first ms → NoneFreedBefore first (ms ++ m ∷ [])
-first_push first [] m none h = (subst (IsNotBefore first) (sym none) tt, tt)
-first_push first (x ∷ ms) m none h = (h.0, first_push first ms m none h.1)
+first_push first ms m none h = grind (arith, common_steps)
 
 -- ---- what is claimed
 
 -- a change that keeps the weight keeps the claim
 pub claimed_change : (frame : ℕ) (name : List ℕ) (f : Member → Member) → ((m : Member) → (f m).weight ≡ m.weight) → (ms : List Member) → claimed frame (change name f ms) ≡ claimed frame ms
-claimed_change frame name f keeps [] = refl
-claimed_change frame name f keeps (m ∷ ms) =
-    let one : units_of (cond (is_named name m) (f m) m).weight frame ≡ units_of m.weight frame =
-    elim (is_named name m) as (λ b. units_of (cond b (f m) m).weight frame ≡ units_of m.weight frame) [ true ↦ ap (λ (w : Share). units_of w frame) (keeps m) | false ↦ refl ] in
-    let rest : claimed frame (change name f ms) ≡ claimed frame ms = claimed_change frame name f keeps ms in
-    sum_by-cons (λ (m : Member). units_of m.weight frame) (cond (is_named name m) (f m) m) (change name f ms) ∙ ap (λ (n : ℕ). n + claimed frame (change name f ms)) one
-    ∙ ap (λ (n : ℕ). units_of m.weight frame + n) rest ∙ sym (sum_by-cons (λ (m : Member). units_of m.weight frame) m ms)
+claimed_change frame name f keeps ms = grind (arith, sum_by-cons, common_steps)
 
 pub claimed_present : (frame t : ℕ) (ms : List Member) → claimed frame (present t ms) ≤ claimed frame ms
 claimed_present frame t ms = sum_filter (λ (m : Member). units_of m.weight frame) (λ (m : Member). not (is_freed t m.freed_at)) ms

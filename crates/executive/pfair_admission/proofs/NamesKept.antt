@@ -1,5 +1,5 @@
 -- Boundaries and quanta keep the names of members apart.
-use Rattle.std.proofs.Common.{◌≡◌, ℕ, true, false, cond, List, [], ◌∷◌, None, Some, refl, sym, ap, ◌∙◌}
+use Rattle.std.proofs.Common.{◌≡◌, ℕ, true, false, cond, List, [], ◌∷◌, None, Some, refl, sym, ap, ◌∙◌, arith}
 use Rattle.std.specs.Prelude.{not, if◌then◌else◌}
 use Rattle.std.specs.List.{AllByRecursion}
 use Rattle.std.specs.Cmp.Lexicographic.{nat_list_eq_equiv}
@@ -17,10 +17,7 @@ label m = m.name
 
 -- a change that keeps the name
 pub apart_change : (name : List ℕ) (f : Member → Member) → ((m : Member) → (f m).name ≡ m.name) → (ms : List Member) → NamesApart (λ m. m.name) ms → NamesApart (λ m. m.name) (change name f ms)
-apart_change name f keeps ms h = apart_map label label (λ m. if is_named name m then f m else m) same ms h
-  where
-    same : (m : Member) → label (if is_named name m then f m else m) ≡ label m
-    same m = elim (is_named name m) as (λ b. label (if b then f m else m) ≡ label m) [ true ↦ keeps m | false ↦ refl ]
+apart_change name f keeps ms h = grind (arith, apart_map)
 
 others_named : (name : List ℕ) (ms : List Member) → member_named ms name ≡ None → AllByRecursion (λ m. name_eq m.name name ≡ false) ms
 others_named name [] none = tt

@@ -26,48 +26,24 @@ same_name name other = (bytes_decides name other).0
 
 pub lookup_append : {K V : Type 0} (test : K → Bool) (es : List (K × V)) (e : K × V) (v : V) → lookup test es ≡ Some v → lookup test (es ++ e ∷ []) ≡ Some v
 lookup_append test [] e v h = absurd (none-some v h)
-lookup_append test (x ∷ es) e v h =
-    elim (test x.0) as (λ b. cond b (Some x.1) (lookup test es) ≡ Some v → cond b (Some x.1) (lookup test (es ++ e ∷ [])) ≡ Some v) [
-      | true ↦ λ s. s
-      | false ↦ λ s. lookup_append test es e v s
-    ] h
+lookup_append test (x ∷ es) e v h = grind (arith, lookup_append test es e v)
 
 -- a number that isn't given yet
 pub fresh : (admitted : ℕ) (es : Numbered) → AllByRecursion (λ e. e.0 < admitted) es → lookup (nat_eq admitted) es ≡ None
 fresh admitted [] h = refl
-fresh admitted (e ∷ es) h =
-    let less : e.0 < admitted = h.0 in
-    let differ : nat_eq admitted e.0 ≡ false = grind (arith, nat_tests) in
-    ap (λ b. cond b (Some e.1) (lookup (nat_eq admitted) es)) differ ∙ fresh admitted es h.1
+fresh admitted (e ∷ es) h = grind (arith, nat_tests, fresh admitted es h.1)
 
 lookup_fresh : (admitted : ℕ) (m : Member) (es : Numbered) → AllByRecursion (λ e. e.0 < admitted) es → lookup (nat_eq admitted) (es ++ (admitted, m) ∷ []) ≡ Some m
 lookup_fresh admitted m [] h = let same : nat_eq admitted admitted ≡ true = grind (arith, nat_tests) in ap (λ b. cond b (Some m) None) same
-lookup_fresh admitted m (e ∷ es) h =
-    let less : e.0 < admitted = h.0 in
-    let differ : nat_eq admitted e.0 ≡ false = grind (arith, nat_tests) in
-    ap (λ b. cond b (Some e.1) (lookup (nat_eq admitted) (es ++ (admitted, m) ∷ []))) differ ∙ lookup_fresh admitted m es h.1
+lookup_fresh admitted m (e ∷ es) h = grind (arith, nat_tests, lookup_fresh admitted m es h.1)
 
 lookup_kept : (test : NameValue → Bool) (q : ℕ → Bool) (names : Names) (v : ℕ) → lookup test names ≡ Some v → q v ≡ true → lookup test (filter (λ e. q e.1) names) ≡ Some v
 lookup_kept test q [] v h kept = absurd (none-some v h)
-lookup_kept test q (e ∷ names) v h kept =
-    (elim (test e.0) as (λ b. test e.0 ≡ b → cond b (Some e.1) (lookup test names) ≡ Some v → lookup test (cond (q e.1) (e ∷ filter (λ e. q e.1) names) (filter (λ e. q e.1) names)) ≡ Some v) [
-      | true ↦ λ passes here.
-          ap (λ b. lookup test (cond b (e ∷ filter (λ e. q e.1) names) (filter (λ e. q e.1) names))) (ap q (same_Some e.1 v here) ∙ kept)
-          ∙ ap (λ b. cond b (Some e.1) (lookup test (filter (λ e. q e.1) names))) passes ∙ here
-      | false ↦ λ other there.
-          elim (q e.1) as (λ g. lookup test (cond g (e ∷ filter (λ e. q e.1) names) (filter (λ e. q e.1) names)) ≡ Some v) [
-            | true ↦ ap (λ b. cond b (Some e.1) (lookup test (filter (λ e. q e.1) names))) other ∙ lookup_kept test q names v there kept
-            | false ↦ lookup_kept test q names v there kept
-          ]
-    ]) refl h
+lookup_kept test q (e ∷ names) v h kept = grind (arith, same_Some, lookup_kept test q names v)
 
 lookup_absent : (k : ℕ) (q : ℕ × Member → Bool) (es : Numbered) → AllByRecursion (λ n. nat_eq k n ≡ false) (keys_of es) → lookup (nat_eq k) (filter q es) ≡ None
 lookup_absent k q [] h = refl
-lookup_absent k q (e ∷ es) h =
-    elim (q e) as (λ b. lookup (nat_eq k) (cond b (e ∷ filter q es) (filter q es)) ≡ None) [
-      | true ↦ ap (λ b. cond b (Some e.1) (lookup (nat_eq k) (filter q es))) h.0 ∙ lookup_absent k q es h.1
-      | false ↦ lookup_absent k q es h.1
-    ]
+lookup_absent k q (e ∷ es) h = grind (arith, lookup_absent k q es h.1)
 
 lookup_filtered : (k : ℕ) (q : ℕ × Member → Bool) (es : Numbered) (m : Member) → IsDistinct nat_eq (keys_of es) → lookup (nat_eq k) (filter q es) ≡ Some m → lookup (nat_eq k) es ≡ Some m
 unfolding IsDistinct
@@ -115,9 +91,7 @@ number_of es (e ∷ names) name number h at =
 -- the number of one that counts is that of its name
 pub number_at : (counts : Member → Bool) (names : Names) (es : Numbered) (place : ℕ) (x : Member) → AllByRecursion (IsNamedIn counts names) es → slice_get (values_of es) place ≡ Some x → counts x ≡ true → slice_get (keys_of es) place ≡ lookup (name_eq x.name) names
 number_at counts names [] place x h at there = absurd (none-some x at)
-number_at counts names (e ∷ es) zero x h at there =
-    let is : e.1 ≡ x = same_Some e.1 x at in
-    sym (ap (λ (m : Member). lookup (name_eq m.name) names) (sym is) ∙ h.0 (ap counts is ∙ there))
+number_at counts names (e ∷ es) zero x h at there = grind (arith, same_Some)
 number_at counts names (e ∷ es) (suc place) x h at there = number_at counts names es place x h.1 at there
 
 differs_at : (k : ℕ) (ns : List ℕ) (place number : ℕ) → AllByRecursion (λ n. nat_eq k n ≡ false) ns → slice_get ns place ≡ Some number → nat_eq k number ≡ false
@@ -145,8 +119,7 @@ key_at ns number place at =
     slice_get-get_or ns place number found.0 ∙ ap (λ (k : ℕ). Some k) is
 
 pub values_at : (es : Numbered) (number : ℕ) (o : Option ℕ) → IfSome o (λ i. slice_get (values_of es) i ≡ lookup (nat_eq number) es) → (i : ℕ) → o ≡ Some i → slice_get (values_of es) i ≡ lookup (nat_eq number) es
-values_at es number None at i is = absurd (none-some i is)
-values_at es number (Some j) at i is = subst (λ k. slice_get (values_of es) k ≡ lookup (nat_eq number) es) (same_Some j i is) at
+values_at es number o at i is = grind (arith, none-some, same_Some)
 
 -- what a look-up finds
 pub found_none : (counts : Member → Bool) (admitted : ℕ) (es : Numbered) (names : Names) (name : NameValue) → IsRegister counts admitted es names → lookup (name_eq name) names ≡ None → IsFound counts name (values_of es) None
@@ -184,26 +157,14 @@ parts_at (d ∷ es) (suc i) e at = parts_at es i e at
 renamed : (name : NameValue) (admitted : ℕ) (es es' : Numbered) (names : Names) → IsNumberOf es' name admitted → ((n : NameValue) (k : ℕ) → IsNumberOf es n k → IsNumberOf es' n k)
     → AllByRecursion (λ e. IsNumberOf es e.0 e.1) names → AllByRecursion (λ e. IsNumberOf es' e.0 e.1) (insert_entry name_eq names name admitted)
 renamed name admitted es es' [] new keeps h = (new, tt)
-renamed name admitted es es' (e ∷ names) new keeps h =
-    (elim (name_eq name e.0) as (λ b. name_eq name e.0 ≡ b → AllByRecursion (λ e. IsNumberOf es' e.0 e.1) (cond b ((e.0, admitted) ∷ names) (e ∷ insert_entry name_eq names name admitted))) [
-      | true ↦ λ same. (subst (λ n. IsNumberOf es' n admitted) (same_name name e.0 same) new, each (λ e. IsNumberOf es e.0 e.1) (λ e. IsNumberOf es' e.0 e.1) (λ e. keeps e.0 e.1) names h.1)
-      | false ↦ λ _. (keeps e.0 e.1 h.0, renamed name admitted es es' names new keeps h.1)
-    ]) refl
+renamed name admitted es es' (e ∷ names) new keeps h = grind (arith, same_name, each, renamed name admitted es es' names new keeps h.1)
 
 -- each name but that of the newcomer leads where it led
 still_named : (counts : Member → Bool) (name : NameValue) (admitted : ℕ) (names names' : Names) (es : Numbered)
     → ((q : NameValue) → lookup (name_eq q) names' ≡ cond (name_eq name q) (Some admitted) (lookup (name_eq q) names))
     → member_named (filter counts (values_of es)) name ≡ None → AllByRecursion (IsNamedIn counts names) es → AllByRecursion (IsNamedIn counts names') es
 still_named counts name admitted names names' [] updates none h = tt
-still_named counts name admitted names names' (e ∷ es) updates none h =
-    (elim (counts e.1) as (λ b. counts e.1 ≡ b → member_named (cond b (e.1 ∷ filter counts (values_of es)) (filter counts (values_of es))) name ≡ None → AllByRecursion (IsNamedIn counts names') (e ∷ es)) [
-      | true ↦ λ there n.
-          (elim (is_named name e.1) as (λ g. is_named name e.1 ≡ g → cond g (Some e.1) (member_named (filter counts (values_of es)) name) ≡ None → AllByRecursion (IsNamedIn counts names') (e ∷ es)) [
-            | true ↦ λ _ n. absurd (none-some e.1 (sym n))
-            | false ↦ λ other n. (λ c. updates e.1.name ∙ ap (λ b. cond b (Some admitted) (lookup (name_eq e.1.name) names)) other ∙ h.0 c, still_named counts name admitted names names' es updates n h.1)
-          ]) refl n
-      | false ↦ λ gone n. (λ c. absurd (let no = sym gone ∙ c in cc), still_named counts name admitted names names' es updates n h.1)
-    ]) refl none
+still_named counts name admitted names names' (e ∷ es) updates none h = grind (arith, none-some, still_named counts name admitted names names' es updates)
 
 -- a newcomer gets the next number
 pub register_more : (counts : Member → Bool) (admitted : ℕ) (es es' : Numbered) (names names' : Names) (m : Member) → IsRegister counts admitted es names → member_named (filter counts (values_of es)) m.name ≡ None
@@ -231,16 +192,10 @@ later es e x has = elim (nat_eq x.0 e.0) as (λ b. is_some (cond b (Some e.1) (l
 
 has_itself : (es : Numbered) → AllByRecursion (λ e. has_number e.0 es ≡ true) es
 has_itself [] = tt
-has_itself (e ∷ es) =
-    let same : nat_eq e.0 e.0 ≡ true = grind (arith, nat_tests) in (
-      ap (λ b. is_some (cond b (Some e.1) (lookup (nat_eq e.0) es))) same,
-      each (λ x. has_number x.0 es ≡ true) (λ x. has_number x.0 (e ∷ es) ≡ true) (later es e) es (has_itself es),
-    )
+has_itself (e ∷ es) = grind (arith, nat_tests, each, later, has_itself es)
 
 still_number : (counts : Member → Bool) (es : Numbered) (name : NameValue) (k : ℕ) (o : Option Member) → IsDistinct nat_eq (keys_of es) → lookup (nat_eq k) (filter (λ e. counts e.1) es) ≡ o → is_some o ≡ true → IsNumberOf es name k → IsNumberOf (filter (λ e. counts e.1) es) name k
-still_number counts es name k None unique at some is = absurd (cc)
-still_number counts es name k (Some m) unique at some is =
-    record { member = m; at = at; named = ap (λ (x : Member). x.name) (same_Some m is.member (sym (lookup_filtered k (λ e. counts e.1) es m unique at) ∙ is.at)) ∙ is.named }
+still_number counts es name k o unique at some is = grind (arith, same_Some, lookup_filtered)
 
 pub register_kept : (counts : Member → Bool) (admitted : ℕ) (es es' : Numbered) (names names' : Names) → IsRegister counts admitted es names → es' ≡ filter (λ e. counts e.1) es → IsDistinct nat_eq (keys_of es')
     → names' ≡ filter (λ e. has_number e.1 es') names → IsRegister (λ _. true) admitted es' names'
@@ -263,11 +218,7 @@ register_kept counts admitted es es' names names' r made unique entered = by (sy
 
 pub values_kept : (counts : Member → Bool) (es : Numbered) → values_of (filter (λ e. counts e.1) es) ≡ filter counts (values_of es)
 values_kept counts [] = refl
-values_kept counts (e ∷ es) =
-    elim (counts e.1) as (λ b. values_of (cond b (e ∷ filter (λ e. counts e.1) es) (filter (λ e. counts e.1) es)) ≡ cond b (e.1 ∷ filter counts (values_of es)) (filter counts (values_of es))) [
-      | true ↦ ap (λ (l : List Member). e.1 ∷ l) (values_kept counts es)
-      | false ↦ values_kept counts es
-    ]
+values_kept counts (e ∷ es) = grind (arith, values_kept counts es)
 
 -- if nobody is gone all are named
 all_named : (t : ℕ) (names : Names) (es : Numbered) → NoneFreed t (values_of es) → AllByRecursion (IsNamedIn (is_there t) names) es → AllByRecursion (IsNamedIn (λ _. true) names) es
@@ -276,10 +227,6 @@ all_named t names (e ∷ es) none h = (λ _. h.0 (ap not none.0), all_named t na
 
 pub register_all : (t admitted : ℕ) (es : Numbered) (names : Names) → NoneFreed t (values_of es) → IsRegister (is_there t) admitted es names → IsRegister (λ _. true) admitted es names
 register_all t admitted es names none r = record { numbered = r.numbered; unique = r.unique; named = r.named; found = all_named t names es none r.found }
-
--- if all are named, those that count are
-pub register_less : (counts : Member → Bool) (admitted : ℕ) (es : Numbered) (names : Names) → IsRegister (λ _. true) admitted es names → IsRegister counts admitted es names
-register_less counts admitted es names r = record { numbered = r.numbered; unique = r.unique; named = r.named; found = each (IsNamedIn (λ _. true) names) (IsNamedIn counts names) (λ e leads _. leads refl) es r.found }
 
 -- ---- one is written
 
@@ -295,22 +242,8 @@ each_written P (e ∷ es) (suc place) m n at to h = (h.0, each_written P es plac
 
 number_written : (es : Numbered) (place : ℕ) (m n : Member) (name : NameValue) (k : ℕ) → slice_get (values_of es) place ≡ Some m → n.name ≡ m.name → IsNumberOf es name k → IsNumberOf (set_value_at es place n) name k
 number_written [] place m n name k at same is = absurd (none-some m at)
-number_written (e ∷ es) zero m n name k at same is =
-    (elim (nat_eq k e.0) as (λ b. nat_eq k e.0 ≡ b → cond b (Some e.1) (lookup (nat_eq k) es) ≡ Some is.member → IsNumberOf ((e.0, n) ∷ es) name k) [
-      | true ↦ λ here found. record {
-        member = n;
-        at = ap (λ b. cond b (Some n) (lookup (nat_eq k) es)) here;
-        named = same ∙ ap (λ (x : Member). x.name) (sym (same_Some e.1 m at) ∙ same_Some e.1 is.member found) ∙ is.named;
-      }
-      | false ↦ λ other found. record { member = is.member; at = ap (λ b. cond b (Some n) (lookup (nat_eq k) es)) other ∙ found; named = is.named }
-    ]) refl is.at
-number_written (e ∷ es) (suc place) m n name k at same is =
-    (elim (nat_eq k e.0) as (λ b. nat_eq k e.0 ≡ b → cond b (Some e.1) (lookup (nat_eq k) es) ≡ Some is.member → IsNumberOf (e ∷ set_value_at es place n) name k) [
-      | true ↦ λ here found. record { member = is.member; at = ap (λ b. cond b (Some e.1) (lookup (nat_eq k) (set_value_at es place n))) here ∙ found; named = is.named }
-      | false ↦ λ other found.
-          let rest = number_written es place m n name k at same (record { member = is.member; at = found; named = is.named }) in
-          record { member = rest.member; at = ap (λ b. cond b (Some e.1) (lookup (nat_eq k) (set_value_at es place n))) other ∙ rest.at; named = rest.named }
-    ]) refl is.at
+number_written (e ∷ es) zero m n name k at same is = grind (arith, same_Some)
+number_written (e ∷ es) (suc place) m n name k at same is = grind (arith, number_written es place m n name k at same)
 
 pub register_written : (counts : Member → Bool) (admitted : ℕ) (es : Numbered) (names : Names) (place : ℕ) (m n : Member) → IsRegister counts admitted es names → slice_get (values_of es) place ≡ Some m → counts m ≡ true → n.name ≡ m.name
     → IsRegister counts admitted (set_value_at es place n) names

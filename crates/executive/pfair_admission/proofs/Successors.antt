@@ -1,8 +1,8 @@
 -- The members of a next run, numbered anew.
-use Rattle.std.proofs.Common.{◌≡◌, ℕ, zero, suc, ◌+◌, ◌*◌, ◌<◌, ◌≤◌, true, false, cond, List, [], ◌∷◌, ◌++◌, get_or, length, map, take, Some, None, refl, sym, ap, subst, ◌∙◌, arith}
+use Rattle.std.proofs.lemmas.Grind.{common_steps}
+use Rattle.std.proofs.Common.{◌≡◌, ℕ, zero, suc, ◌+◌, ◌*◌, ◌<◌, ◌≤◌, true, cond, List, [], ◌∷◌, ◌++◌, get_or, length, map, take, Some, None, refl, sym, ap, subst, ◌∙◌, arith}
 use Rattle.std.specs.Prelude.{nat_eq, filter, slice_get}
 use Rattle.std.specs.List.{AllByRecursion, IsDistinct}
-use Rattle.std.specs.Option.{option_map}
 use Rattle.std.specs.Map.{keys_of, values_of, lookup}
 use Rattle.std.proofs.SliceLists.{all_by_recursion_push}
 use Rattle.std.proofs.lemmas.List.{map-append, take_more}
@@ -10,7 +10,6 @@ use Rattle.std.proofs.lemmas.List.Sums.{sum_by-cons}
 use Rattle.std.proofs.lemmas.Option.{same_Some, none-some, slice_get-get_or}
 use Rattle.indexmap.specs.IndexMap.{insert_entry}
 use Rattle.pfair_weight.specs.Name.{NameValue, name_eq}
-use Rattle.pfair_weight.specs.Share.{units_of}
 use Rattle.pfair_entry.specs.declared.entry.TheConstants.Entry.{LONGEST_DELAY}
 use Rattle.pfair_admission.specs.declared.members.TheConstants.Members.{LAST_SLOT}
 use Rattle.pfair_admission.specs.declared.ledger.Ledger.{Ledger}
@@ -49,20 +48,11 @@ carried_from [] zero i y at = absurd (none-some y at)
 carried_from [] (suc place) i y at = absurd (none-some y at)
 carried_from (m ∷ ms) zero i y at = absurd (none-some y at)
 carried_from (m ∷ ms) (suc place) zero y at = (m, (refl, (same_Some (carried m) y at, omega arith)))
-carried_from (m ∷ ms) (suc place) (suc i) y at =
-    let rest = carried_from ms place i y at in
-    let less : i < place = rest.1.1.1 in
-    (rest.0, (rest.1.0, (rest.1.1.0, omega arith)))
+carried_from (m ∷ ms) (suc place) (suc i) y at = grind (arith, carried_from ms place i y at)
 
 unnamed : (admitted : ℕ) (es : Numbered) (names : Names) (place : ℕ) (m : Member) → IsRegister (λ _. true) admitted es names → slice_get (values_of es) place ≡ Some m
     → member_named (filter (λ _. true) (map carried (take place (values_of es)))) m.name ≡ None
-unnamed admitted es names place m r here =
-    others_named (λ _. true) m.name (map carried (take place (values_of es)))
-    (λ i y at _ named.
-    let was = carried_from (values_of es) place i y at in
-    let less : i < place = was.1.1.1 in
-    let same : i ≡ place = same_place admitted es names place i m was.0 r here was.1.0 (ap (λ (x : Member). is_named m.name x) was.1.1.0 ∙ named) in
-    omega arith)
+unnamed admitted es names place m r here = grind (arith, others_named, map, carried_from, same_place)
 
 within : (ms : List Member) (place : ℕ) (m : Member) → slice_get ms place ≡ Some m → place < length ms
 within [] place m at = absurd (none-some m at)
@@ -102,22 +92,13 @@ able_more ms place m at able before =
 
 -- all are listed
 pub all_listed : (es : Numbered) (n : ℕ) → n ≡ length es → take n (values_of es) ≡ values_of es
-all_listed es n is = ap (λ k. take k (values_of es)) is ∙ all es
-  where
-    all : (es : Numbered) → take (length es) (values_of es) ≡ values_of es
-    all [] = refl
-    all (e ∷ es) = ap (λ (l : List Member). e.1 ∷ l) (all es)
+all_listed es n is = grind (arith, common_steps)
 
 -- ---- what the ledger of a next run keeps
 
 -- they claim what they claimed
 pub claimed_carried : (frame : ℕ) (ms : List Member) → claimed frame (map carried ms) ≡ claimed frame ms
-claimed_carried frame [] = refl
-claimed_carried frame (m ∷ ms) =
-    let left = sum_by-cons (λ (x : Member). units_of x.weight frame) (carried m) (map carried ms) in
-    let right = sum_by-cons (λ (x : Member). units_of x.weight frame) m ms in
-    let rest = claimed_carried frame ms in
-    omega (arith, left, right, rest)
+claimed_carried frame ms = grind (arith, sum_by-cons, map, common_steps)
 
 pub ledger_carried : (a b : Ledger) (admitted : ℕ) → IsLedger (λ _. true) a → listed b ≡ map carried (listed a) → IsRegister (λ _. true) admitted b.members.entries b.names.entries
     → IsLedger (λ _. true) (record a { members = b.members; names = b.names; admitted = admitted })
@@ -134,19 +115,6 @@ ledger_carried a b admitted k is register =
       first = subst (NoneFreedBefore a.first_freeing) (sym is)
           (each_map (λ (m : Member). IsNotBefore a.first_freeing m.freed_at) (λ (m : Member). IsNotBefore a.first_freeing m.freed_at) carried (λ m h. h) (listed a) k.first);
     }
-
--- and are found under the same names
-pub names_carried : (ms : List Member) → map (λ m. m.name) (map carried ms) ≡ map (λ m. m.name) ms
-names_carried [] = refl
-names_carried (m ∷ ms) = ap (λ l. m.name ∷ l) (names_carried ms)
-
-pub named_carried : (ms : List Member) (name : NameValue) → member_named (map carried ms) name ≡ option_map carried (member_named ms name)
-named_carried [] name = refl
-named_carried (m ∷ ms) name =
-    elim (is_named name m) as (λ b. cond b (Some (carried m)) (member_named (map carried ms) name) ≡ option_map carried (cond b (Some m) (member_named ms name))) [
-      | true ↦ refl
-      | false ↦ named_carried ms name
-    ]
 
 -- with nothing heard the offsets are within the last slot of a boundary
 pub bounded_carried : (ms : List Member) → AllByRecursion CanBeCarried ms → EachBounded 0 (map carried ms)

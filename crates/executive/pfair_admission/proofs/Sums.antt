@@ -1,15 +1,9 @@
 -- Sums over a part of a list.
-use Rattle.std.proofs.Common.{ℕ, ◌+◌, ◌≤◌, Bool, true, false, cond, List, [], ◌∷◌, arith}
+use Rattle.std.proofs.Common.{ℕ, ◌+◌, ◌≤◌, Bool, List, [], ◌∷◌, arith}
 use Rattle.std.specs.List.{sum_by, filter}
 use Rattle.std.proofs.lemmas.List.Sums.{sum_by-cons}
 
 -- a part of the items sums to no more than all of them
 pub sum_filter : {A : Type 0} (f : A → ℕ) (p : A → Bool) (xs : List A) → sum_by f (filter p xs) ≤ sum_by f xs
 sum_filter f p [] = omega arith
-sum_filter f p (x ∷ xs) =
-    let rest : sum_by f (filter p xs) ≤ sum_by f xs = sum_filter f p xs in
-    rw (sum_by-cons f x xs)
-    (elim (p x) as (λ b. sum_by f (cond b (x ∷ filter p xs) (filter p xs)) ≤ f x + sum_by f xs) [
-      | true ↦ rw (sum_by-cons f x (filter p xs)) (omega arith)
-      | false ↦ omega arith
-    ])
+sum_filter f p (x ∷ xs) = grind (arith, sum_by-cons, sum_filter f p xs)

@@ -29,11 +29,7 @@ same_written (x ∷ ms) (suc place) m n at same = ap (λ (l : List Member). x �
 
 pub filter_again : (counts : Member → Bool) (ms : List Member) → filter counts (filter counts ms) ≡ filter counts ms
 filter_again counts [] = refl
-filter_again counts (x ∷ ms) =
-    (elim (counts x) as (λ b. counts x ≡ b → filter counts (cond b (x ∷ filter counts ms) (filter counts ms)) ≡ cond b (x ∷ filter counts ms) (filter counts ms)) [
-      | true ↦ λ there. ap (λ b. cond b (x ∷ filter counts (filter counts ms)) (filter counts (filter counts ms))) there ∙ ap (λ (l : List Member). x ∷ l) (filter_again counts ms)
-      | false ↦ λ _. filter_again counts ms
-    ]) refl
+filter_again counts (x ∷ ms) = grind (arith, filter_again counts ms)
 
 pub filter_all : (ms : List Member) → filter (λ _. true) ms ≡ ms
 filter_all [] = refl
@@ -173,5 +169,4 @@ is_there_now counts name ms place m is at = by is.0 is.1 is.2 (same_Some is.0 m 
 
 -- the name of a member that counts is taken
 pub taken : (counts : Member → Bool) (name : List ℕ) (ms : List Member) (o : Option ℕ) → is_some o ≡ true → IfSome o (λ place. IsPlace counts name ms place) → is_some (member_named (filter counts ms) name) ≡ true
-taken counts name ms None some is = absurd (cc)
-taken counts name ms (Some place) some is = ap (λ (o : Option Member). is_some o) ((is_there_now counts name ms place is.0 is is.1.at).found)
+taken counts name ms o some is = grind (arith, is_there_now)

@@ -1,12 +1,16 @@
 -- A member that is carried into a next run: whole jobs that are over are counted no more.
-use Rattle.std.specs.Prelude.{ℕ, ◌≡◌, ◌≤◌, ◌+◌, ◌-◌, ◌*◌, ◌/◌, nat_lt, nat_le, List, [], ◌∷◌, ◌++◌, map, sum_by, filter, slice_get, take, Some}
+use Rattle.std.specs.Prelude.{ℕ, ◌≡◌, ◌≤◌, ◌+◌, ◌-◌, ◌*◌, ◌/◌, nat_lt, nat_le, List, [], ◌∷◌, ◌++◌, map, sum_by, filter, slice_get, take, Option, Some, None, if◌then◌else◌}
 use Rattle.std.specs.List.{AllByRecursion}
+use Rattle.pfair_entry.specs.declared.announcement.Announcement.{Announcement}
+use Rattle.pfair_entry.specs.declared.announcement.Announcement.TheVariants.{Late}
 use Rattle.pfair_entry.specs.declared.entry.TheConstants.Entry.{LAST_INDEX}
+use Rattle.pfair_entry.specs.Said.{Said}
 use Rattle.pfair_admission.specs.declared.members.TheConstants.Members.{LAST_SLOT}
 use Rattle.pfair_admission.specs.declared.delay.Delay.{Delay}
 use Rattle.pfair_admission.specs.declared.carry_fault.CarryFault.{CarryFault}
 use Rattle.pfair_admission.specs.declared.carry_fault.CarryFault.TheVariants.{CannotCarry, Memory}
 use Rattle.pfair_admission.specs.Member.{Member, last_offset}
+use Rattle.pfair_admission.specs.Admission.{Machine, member_named, decided}
 
 -- the whole jobs before the job of the last subtask that ran
 abbrev pub jobs_done : Member → ℕ
@@ -63,3 +67,25 @@ pub record IsFirstLeft (members : List Member) (name : List ℕ) : Type 0 where
 abbrev pub IsCarryFault : List Member → CarryFault → Type 0
 IsCarryFault members (CannotCarry name) = IsFirstLeft members name
 IsCarryFault members Memory = AllByRecursion CanBeCarried members
+
+-- ---- a next run beside one long run
+
+-- the subtasks that were taken off a next run's member, if those are the members before it was carried: it was if it joined before the run began
+abbrev pub subtasks_of : Option Member → ℕ
+subtasks_of None = 0
+subtasks_of (Some m) = subtasks_done m
+
+abbrev pub taken_off : List Member → ℕ → Option Member → ℕ
+taken_off left begin None = 0
+taken_off left begin (Some m) = if nat_lt m.joined begin then subtasks_of (member_named left m.name) else 0
+
+-- what is announced to the next run's members, as it would be to those of the long run
+abbrev pub raised : List Member → ℕ → List Member → Announcement → Announcement
+raised left begin members (Late name index by) = Late name (index + taken_off left begin (member_named members name)) by
+raised left begin members a = a
+
+-- all that is said in slot t, one after the other
+abbrev pub all_raised : List Member → ℕ → Machine → ℕ → List Member → List Said → List Said
+all_raised left begin machine t members [] = []
+all_raised left begin machine t members (a ∷ more) =
+    (a.0, a.1, raised left begin members a.2) ∷ all_raised left begin machine t (decided machine t members a.2) more

@@ -5,12 +5,19 @@ use Rattle.pfair_weight.specs.Name.{NamesApart}
 use Rattle.pfair_weight.specs.Share.{IsWeight}
 use Rattle.pfair_weight.specs.Window.{release_of, deadline_of, b_bit_of, group_deadline_of, starts_job_of}
 use Rattle.pfair_entry.specs.declared.announcement.Announcement.{Announcement}
+use Rattle.pfair_entry.specs.declared.announcement.Announcement.TheVariants.{Arrive, Depart, Late}
 use Rattle.pfair_admission.specs.declared.decision.Decision.TheVariants.{Refused}
 use Rattle.pfair_admission.specs.declared.refusal.Refusal.{Refusal}
 use Rattle.pfair_admission.specs.Member.{Member, theta, busy_until, freeing_slot, is_delayed_at, eligible_from, next_key}
 use Rattle.pfair_admission.specs.Admission.{Machine, claimed, with_delay, decision, decided, boundary, boundary_decisions, ran}
 use Rattle.pfair_admission.specs.Carried.{carried, jobs_done, subtasks_done, CanBeCarried}
 use Rattle.pfair_admission.specs.Removal.{NoneFreed}
+
+-- an arrival says a weight
+abbrev pub HasWeight : Announcement → Type 0
+HasWeight (Arrive name w early) = IsWeight w.cost w.period
+HasWeight (Depart name) = Unit {0}
+HasWeight (Late name index by) = Unit {0}
 
 -- a name stands once among the members
 pub record NamesStayApart : Type 0 where

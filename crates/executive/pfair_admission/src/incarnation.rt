@@ -167,17 +167,10 @@ impl Incarnation {
             group: self.stepper.group_deadline(),
             name: self.name,
         };
-        (self.eligible_next(), key)
-    }
-
-    // The slot from which the next subtask may run.
-    fn eligible_next(&self) -> u64
-        ensures { result ≡ eligible_from self.now self.now.next }
-    {
         if self.early && !self.is_put_off && !starts_job(self.weight, self.stepper.index()) {
-            return self.joined;
+            return (self.joined, key);
         }
-        self.stepper.release()
+        (self.stepper.release(), key)
     }
 
     /// It departs at `slot`, unless that is refused. Its weight and its name are free from that
@@ -215,9 +208,7 @@ impl Incarnation {
         Ok(Decision::Delayed)
     }
 
-    // Whether subtask `index`, which is the next one or a later one, is released before `slot`. Its
-    // offset is at least that of the next one; only if the next one's would not do are the
-    // accepted delays gone through.
+    // Its offset is at least that of the next subtask, so the delays are gone through only if that is too small.
     fn is_released_before(&self, slot: u64, index: u64) -> bool
         requires later { self.now.next ≤ index }
         requires last { index ≤ MAX_INDEX }
@@ -229,8 +220,7 @@ impl Incarnation {
         release(self.weight, index, self.theta(index)) < slot
     }
 
-    // Subtask `index`, which is the next one or a later one, and all after it come so many slots
-    // later.
+    // Subtask `index` and all after it come so many slots later.
     fn put_off(&mut self, index: u64, by: u64) -> Result<(), AllocError>
         requires later { self.old.next ≤ index }
         requires room { last_offset self.old + by ≤ MAX_OFFSET }

@@ -1,12 +1,12 @@
 //! The members of a machine at the boundary of a slot, and the decisions on announcements.
-ghost use Rattle.std.specs.Prelude.{◌≡◌, ℕ, ◌≤◌, ◌<◌, ◌+◌, ◌-◌, ◌*◌, ◌^◌, Bool, true, false, [], filter, nat_eq, OnOk, OnErr, IfOk, IfSome, IfNone, None, Some, length, map, take};
+ghost use Rattle.std.specs.Prelude.{◌≡◌, ℕ, ◌≤◌, ◌<◌, ◌+◌, ◌-◌, ◌*◌, ◌^◌, Bool, true, filter, nat_eq, OnOk, OnErr, IfOk, IfSome, IfNone, None, Some, length, map, take};
 ghost use Rattle.std.specs.List.{AllByRecursion};
 ghost use Rattle.indexmap.specs.IndexMap.{values, IsUnique};
-ghost use Rattle.pfair_weight.specs.Share.{Share, units_of};
+ghost use Rattle.pfair_weight.specs.Share.{units_of};
 ghost use Rattle.pfair_entry.specs.Entry.{IsWithinLimits};
 ghost use Rattle.pfair_entry.specs.declared.announcement.Announcement.TheVariants.{Arrive, Depart, Late};
 ghost use Rattle.pfair_admission.specs.Member.{Member};
-ghost use Rattle.pfair_admission.specs.Admission.{member_named, arrival, announcements, claimed, is_freed, present};
+ghost use Rattle.pfair_admission.specs.Admission.{member_named, arrival, announcements, claimed, present};
 ghost use Rattle.pfair_admission.specs.Carried.{carried, CanBeCarried, IsFirstLeft};
 ghost use Rattle.pfair_admission.specs.Removal.{earlier_of, NoneFreed, NoneFreedBefore};
 ghost use Rattle.pfair_admission.specs.Roster.{EachBounded, EachHasRoom};
@@ -155,7 +155,6 @@ impl Ledger {
         Ok(decision)
     }
 
-    // Decides on the arrival of a task.
     fn arrival(&self, slot: u64, name: &TaskName, weight: Weight) -> Decision
         requires { IsLedger (is_there slot) self.now }
         ensures { result ≡ arrival (standing slot self.now).machine (present slot (listed self.now)) name.now weight }
@@ -274,7 +273,6 @@ impl Ledger {
     }
 }
 
-// Drops the members that are freed by `slot`.
 fn keep_present(members: &mut IndexMap<u64, Incarnation>, slot: u64)
     ensures entries { members.new.entries ≡ filter (λ e. is_there slot e.1) members.old.entries }
     ensures unique { IsUnique nat_eq members.new }
@@ -286,7 +284,6 @@ fn keep_present(members: &mut IndexMap<u64, Incarnation>, slot: u64)
     );
 }
 
-// Drops the names that have no member.
 fn keep_names(names: &mut IndexMap<TaskName, u64>, members: &IndexMap<u64, Incarnation>)
     ensures { names.new.entries ≡ filter (λ e. has_number e.1 members.now.entries) names.old.entries }
 {
@@ -297,7 +294,6 @@ fn keep_names(names: &mut IndexMap<TaskName, u64>, members: &IndexMap<u64, Incar
     );
 }
 
-// Returns the units of all members.
 fn units(members: &IndexMap<u64, Incarnation>, frame: u64) -> u64
     requires { claimed frame (values members.now) < 2 ^ 64 }
     ensures { result ≡ claimed frame (values members.now) }
@@ -309,7 +305,6 @@ fn units(members: &IndexMap<u64, Incarnation>, frame: u64) -> u64
     total
 }
 
-// Returns the first slot in which a member is freed.
 fn first_freeing(members: &IndexMap<u64, Incarnation>) -> Option<u64>
     ensures { NoneFreedBefore result (values members.now) }
 {

@@ -1,11 +1,10 @@
 //! The members of a machine from slot to slot.
-ghost use Rattle.std.specs.Prelude.{◌≡◌, ◌↔◌, IsTrue, ◌≤◌, ◌<◌, ◌+◌, ℕ, [], OnOk, OnErr, IfOk, IfErr, None, Some, is_some, length, map, slice_get, take, if◌then◌else◌};
+ghost use Rattle.std.specs.Prelude.{◌≡◌, ◌↔◌, IsTrue, ◌≤◌, ◌<◌, ◌+◌, [], OnOk, OnErr, IfOk, IfErr, None, Some, is_some, length, map, slice_get, if◌then◌else◌};
 ghost use Rattle.std.specs.List.{AllByRecursion};
 ghost use Rattle.std.specs.Option.{ForSome, option_copied, option_map};
 ghost use Rattle.pfair_entry.specs.Entry.{IsWithinLimits};
-ghost use Rattle.pfair_admission.specs.Admission.{member_named, boundary, boundary_decisions, announcements, decision, decided, all_decided, all_decisions, running, ran, quantum_of};
+ghost use Rattle.pfair_admission.specs.Admission.{member_named, boundary, boundary_decisions, announcements, decision, running, ran, quantum_of};
 ghost use Rattle.pfair_admission.specs.Carried.{carried, CanBeCarried, IsCarryFault};
-ghost use Rattle.pfair_admission.specs.Removal.{NoneFreed};
 ghost use Rattle.pfair_admission.specs.Roster.{LeavesBeginning};
 
 use crate::carry_fault::CarryFault;

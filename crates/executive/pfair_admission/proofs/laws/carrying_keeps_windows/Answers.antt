@@ -1,16 +1,27 @@
-use Rattle.pfair_admission.proofs.CarriedWindows.{b_bit_carried, busy_until_carried, deadline_carried, delayed_carried, freeing_slot_carried, group_deadline_carried, next_key_carried, release_carried, starts_job_carried, theta_carried}
+use Rattle.std.proofs.Common.{ℕ, ◌+◌, ◌-◌, ◌≤◌, arith, sym}
+use Rattle.pfair_weight.specs.JobFacts.{starts_job_repeats}
+use Rattle.pfair_admission.specs.Member.{Member}
+use Rattle.pfair_admission.specs.Carried.{jobs_done, subtasks_done, carried_delays}
+use Rattle.pfair_admission.proofs.CarriedAgain.{done_low, next_ran}
+use Rattle.pfair_admission.proofs.Lowered.{b_bit_same, busy_until_same, carried_lowered, deadline_same, freeing_slot_same, group_deadline_same, next_key_same, release_same}
 use Rattle.pfair_admission.proofs.laws.carrying_keeps_windows.Goals as goal
+
+near : (m : Member) (j : ℕ) → m.next ≤ j + subtasks_done m + 1 → m.next - subtasks_done m ≤ j + 1
+near m j reaches = omega (arith, reaches)
+
+first_left : (m : Member) → 1 ≤ m.next → 1 ≤ m.next - subtasks_done m
+first_left m some = (let low = done_low m in omega (arith, low))
 
 pub returns : goal.returns
 returns c = record {
-  offsets = theta_carried;
-  releases = release_carried;
-  deadlines = deadline_carried;
-  group_deadlines = group_deadline_carried;
-  b_bits = b_bit_carried;
-  starts = starts_job_carried;
-  delayed = delayed_carried;
-  next = next_key_carried;
-  busy = busy_until_carried;
-  freed = freeing_slot_carried;
+  offsets = λ m j first reaches. (carried_lowered m).offsets j first (near m j reaches);
+  releases = λ m j h first reaches. release_same m (jobs_done m) (carried_delays m) (m.next - subtasks_done m) (carried_lowered m) h j first (near m j reaches);
+  deadlines = λ m j h first reaches. deadline_same m (jobs_done m) (carried_delays m) (m.next - subtasks_done m) (carried_lowered m) h j first (near m j reaches);
+  group_deadlines = λ m j h first reaches. group_deadline_same m (jobs_done m) (carried_delays m) (m.next - subtasks_done m) (carried_lowered m) h j first (near m j reaches);
+  b_bits = λ m j h. b_bit_same m (jobs_done m) (carried_delays m) (m.next - subtasks_done m) (carried_lowered m) h j;
+  starts = λ m j first. sym (starts_job_repeats m.weight j (jobs_done m) first);
+  delayed = λ m j later reaches. (carried_lowered m).delayed j later (omega (arith, reaches));
+  next = λ m h some. next_key_same m (jobs_done m) (carried_delays m) (m.next - subtasks_done m) (carried_lowered m) h (first_left m some);
+  busy = λ m h ran. busy_until_same m (jobs_done m) (carried_delays m) (m.next - subtasks_done m) (carried_lowered m) h (next_ran m ran);
+  freed = λ m t h some. freeing_slot_same m (jobs_done m) (carried_delays m) (m.next - subtasks_done m) (carried_lowered m) h t (first_left m some) (next_ran m);
 }
