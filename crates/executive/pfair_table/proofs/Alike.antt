@@ -14,7 +14,6 @@ use Rattle.pfair_table.specs.Refinement.{IsPlanOf, IsKept}
 use Rattle.pfair_table.proofs.TableLaws.{one_table_from}
 use Rattle.pfair_table.proofs.Runs.{get_numbers, untorn_left, one_schedule}
 use Rattle.pfair_table.proofs.Steps.{plan_of_held}
-use Rattle.pfair_table.specs.Events.{run_of}
 use Rattle.pfair_table.specs.PlaceLaws.{OnePlacing}
 use Rattle.pfair_table.specs.Places.{table_before, places_before, places_in}
 use Rattle.pfair_table.proofs.Keeping.{tables_listed, is_of_held}
@@ -59,7 +58,4 @@ placed_alike {o} {tx} {ty} kx ky sound_x sound_y same began agree t lx ly =
 
 -- the same, after any events
 pub one_placing : OnePlacing
-one_placing s m n es fs all_es all_fs agree t lc ld =
-    places_follow_tables (run_of s m es).tables (run_of s n fs).tables t (λ u l.
-    (let alike = one_schedule s m n es fs all_es all_fs agree u (omega (arith, l, lc)) (omega (arith, l, ld)) in
-    alike.0 ∙ sym alike.1))
+one_placing s m n es fs all_es all_fs agree t lc ld = grind (arith, places_follow_tables, one_schedule)

@@ -1,5 +1,6 @@
 -- Rows found by their buckets.
-use Rattle.std.proofs.Common.{ℕ, zero, suc, ◌+◌, ◌≤◌, ◌<◌, ◌≡◌, true, false, refl, sym, ap, ◌∙◌, subst, arith, ⊎_elim, List, [], ◌∷◌, length, Some, None}
+use Rattle.std.proofs.lemmas.Grind.{common_steps}
+use Rattle.std.proofs.Common.{ℕ, zero, suc, ◌+◌, ◌≤◌, ◌<◌, ◌≡◌, false, refl, sym, ap, ◌∙◌, arith, ⊎_elim, List, [], ◌∷◌, length, Some, None}
 use Rattle.std.specs.Prelude.{◌≢◌, slice_get, slice_index, set, replicate, if◌then◌else◌}
 use Rattle.pfair_order.proofs.RankLemmas.{at_each}
 use Rattle.std.proofs.lemmas.Bool.{cases_eq, false_from_ne_true}
@@ -30,10 +31,7 @@ none_by_bucket rows ends places name of none = sym (no_place rows places name (�
 pub place_by_row : (rows : Table) (places : List ℕ) (name : Name) (r : ℕ) (p : Pick) → NamesApart (λ (p : Pick). p.name) rows → slice_get rows r ≡ Some p → p.name ≡ name → slice_get places r ≡ place_of rows places name
 place_by_row [] places name r p once h same = absurd (cc)
 place_by_row (q ∷ rows) [] name r p once h same = refl
-place_by_row (q ∷ rows) (k ∷ places) name zero p once h same =
-    let one : q ≡ p = cc in
-    let named : name ≡ q.name = sym (ap (λ (x : Pick). x.name) one ∙ same) in
-    sym (ap (λ b. if b then Some k else place_of rows places name) (subst (λ n. name_eq name n ≡ true) named (name_itself name)))
+place_by_row (q ∷ rows) (k ∷ places) name zero p once h same = grind (arith, name_itself)
 place_by_row (q ∷ rows) (k ∷ places) name (suc r) p once h same =
     let unlike : name_eq q.name p.name ≡ false = at_each (λ (x : Pick). name_eq q.name x.name ≡ false) rows r p (apart_head (λ (p : Pick). p.name) q rows once) h in
     place_by_row rows places name r p (apart_tail (λ (p : Pick). p.name) q rows once) h same
@@ -50,27 +48,10 @@ pub one_more : (rows : Table) (ends : List ℕ) (i b : ℕ) (p : Pick) → AreBu
 one_more rows ends i b p below at_i is room =
     let long = below.long in
     let inside : b < length ends = omega (arith, long, room) in
-    record {
-      long = length-set ends b (i + 1) ∙ below.long;
-      within = λ c. ⊎_elim
-          (λ same. (let here : slice_index (set ends b (i + 1)) c ≡ i + 1 = ap (slice_index (set ends b (i + 1))) same ∙ get_or-set_same ends b (i + 1) 0 inside in omega (arith, here)))
-          (λ other. (let there : slice_index (set ends b (i + 1)) c ≡ slice_index ends c = get_or-set_other ends b c (i + 1) 0 other in let le = below.within c in omega (arith, there, le)))
-          (cases_eq c b);
-      found = λ r q l h e. ⊎_elim
-          (λ same. (let here : slice_index (set ends b (i + 1)) (bucket q.name) ≡ i + 1 = ap (slice_index (set ends b (i + 1))) same ∙ get_or-set_same ends b (i + 1) 0 inside in absurd (omega (arith, here, e))))
-          (λ other.
-          (let there : slice_index (set ends b (i + 1)) (bucket q.name) ≡ slice_index ends (bucket q.name) = get_or-set_other ends b (bucket q.name) (i + 1) 0 other in
-          ⊎_elim
-          (λ last. (let at_r : slice_get rows i ≡ Some q = ap (slice_get rows) (sym last) ∙ h in let one : p ≡ q = cc in other (ap (λ (x : Pick). bucket x.name) (sym one) ∙ sym is)))
-          (λ before. below.found r q (omega (arith, l, before)) h (sym there ∙ e))
-          (cases_eq r i)))
-          (cases_eq (bucket q.name) b);
-    }
+    grind (arith, length-set, get_or-set_same, get_or-set_other, cases_eq)
 
 zeros : (n b : ℕ) → slice_index (replicate n 0) b ≡ 0
-zeros zero b = refl
-zeros (suc n) zero = refl
-zeros (suc n) (suc b) = zeros n b
+zeros n b = grind (arith, common_steps)
 
 -- no row yet
 pub no_rows_yet : (rows : Table) → AreBucketsBelow rows (replicate 256 0) 0

@@ -14,12 +14,10 @@ use Rattle.pfair_table.proofs.PlacesKept.{count_others}
 -- ---- bits
 
 is_clear : (b : Bool) (n : ℕ) → n ≡ (if b then 1 else 0) → n ≡ 0 → b ≡ false
-is_clear true n e z = absurd (omega (arith, e, z))
-is_clear false n e z = refl
+is_clear b n e z = grind arith
 
 is_set : (b : Bool) (n : ℕ) → n ≡ (if b then 1 else 0) → n ≡ 1 → b ≡ true
-is_set true n e z = refl
-is_set false n e z = absurd (omega (arith, e, z))
+is_set b n e z = grind arith
 
 pub none_in_use : AreInUse 0 []
 none_in_use k l = bit_at-zero k
@@ -39,11 +37,7 @@ pub lowest_is_free : (bits : ℕ) (used : List ℕ) → bits + 1 < 2 ^ 64 → Ar
 lowest_is_free bits used fits in_use =
     let lowest = bit_at-trailing_ones w64 bits fits in
     let k = trailing_ones w64 bits in
-    let within : k < 64 = lowest.0 in (
-      sym (free_is used k (is_clear (is_used used k) (bit_at bits k) (in_use k within) lowest.1)
-          (λ i l. is_set (is_used used i) (bit_at bits i) (in_use i (omega (arith, l, within))) (lowest.2 i l))).0,
-      within,
-    )
+    grind (arith, free_is, is_clear, is_set)
 
 pub in_use_with : (bits : ℕ) (used : List ℕ) (k : ℕ) → k < 64 → AreInUse bits used → AreInUse (bit_or bits (1 * 2 ^ k % 2 ^ 64)) (k ∷ used)
 in_use_with bits used k within in_use i l = by (k == i) refl
@@ -81,11 +75,7 @@ used_kept bits j rest kept s = record {
     swap false b c = refl
 
 pub used_end : (bits : ℕ) (kept : List (Option ℕ)) → AreUsedSoFar bits [] kept → AreInUse bits (all_kept kept)
-used_end bits kept s k l = s.in_use k l ∙ ap (λ b. if b then 1 else 0) (or_none (is_used s.used k) ∙ s.same k)
-  where
-    or_none : (b : Bool) → b ≡ (b || false)
-    or_none true = refl
-    or_none false = refl
+used_end bits kept s k l = grind arith
 
 -- ---- row after row
 
@@ -98,13 +88,7 @@ pub record AreFilledSoFar (bits : ℕ) (places : List ℕ) (rest : List (Option 
   pub room : length used + count_others rest ≤ 64
 
 pub filled_kept : (bits : ℕ) (places : List ℕ) (j : ℕ) (rest : List (Option ℕ)) (whole : List ℕ) → AreFilledSoFar bits places (Some j ∷ rest) whole → AreFilledSoFar bits (places ++ j ∷ []) rest whole
-filled_kept bits places j rest whole s = record {
-  used = s.used;
-  in_use = s.in_use;
-  fits = s.fits;
-  so_far = append_assoc places (j ∷ []) (filled s.used rest) ∙ s.so_far;
-  room = s.room;
-}
+filled_kept bits places j rest whole s = grind (arith, append_assoc)
 
 -- a row that keeps none takes the free place
 pub filled_free : (bits bits2 : ℕ) (places : List ℕ) (k : ℕ) (rest : List (Option ℕ)) (whole : List ℕ) → (s : AreFilledSoFar bits places (None ∷ rest) whole)

@@ -1,10 +1,8 @@
 -- The first keys of the ready structure are the first eligible subtasks of the members.
-use Rattle.std.proofs.Common.{ℕ, ◌<◌, ◌≡◌, refl, sym, ap, ◌∙◌, subst, inl, inr, Bool, true, false, cond, List, [], ◌∷◌, Option, Some, None}
+use Rattle.std.proofs.Common.{ℕ, ◌<◌, ◌≡◌, refl, sym, ap, ◌∙◌, subst, inl, inr, Bool, true, false, cond, List, [], ◌∷◌, Option, Some, None, arith}
 use Rattle.std.specs.Prelude.{T, IsTrue, filter, not, nat_le, if◌then◌else◌}
 use Rattle.std.specs.List.{AllByRecursion}
-use Rattle.std.specs.declared.cmp.Ordering.{Ordering}
-use Rattle.std.specs.declared.cmp.Ordering.TheVariants.{Less, Equal, Greater}
-use Rattle.std.specs.Ordering.{is_eq, is_lt, eq_by_cmp, ordering_reverse}
+use Rattle.std.specs.Ordering.{is_lt, eq_by_cmp}
 use Rattle.std.proofs.lemmas.Cmp.{nat_list_cmp_total}
 use Rattle.std.specs.FinMap as finmap
 use Rattle.std.specs.FinMap.{get-entries, entries_sorted, entries}
@@ -31,7 +29,7 @@ use Rattle.pfair_table.proofs.FirstByRank.{among_first, first_same}
 use Rattle.pfair_admission.specs.Member.{Member, is_departing, eligible_from, next_key}
 use Rattle.pfair_admission.specs.Admission.{member_named}
 use Rattle.pfair_table.specs.Table.{eligible, is_eligible}
-use Rattle.pfair_table.specs.Queue.{queued, IsQueue, IsQueueWithout, MayRun, has_key_of}
+use Rattle.pfair_table.specs.Queue.{queued, IsQueue, IsQueueWithout, MayRun}
 use Rattle.pfair_table.proofs.QueueKept.{found_named}
 use Rattle.pfair_table.proofs.TableLaws.{eligible_apart}
 
@@ -39,11 +37,7 @@ use Rattle.pfair_table.proofs.TableLaws.{eligible_apart}
 
 found_among : (members : List Member) (name : Name) (m : Member) → member_named members name ≡ Some m → Among members m
 found_among [] name m e = absurd (none-some m e)
-found_among (x ∷ members) name m e = by (name_eq name x.name) e (found_among members name m)
-  where
-    by : (b : Bool) → cond b (Some x) (member_named members name) ≡ Some m → (member_named members name ≡ Some m → Among members m) → Among (x ∷ members) m
-    by true e more = inl (sym (same_Some x m e))
-    by false e more = inr (more e)
+found_among (x ∷ members) name m e = grind (arith, same_Some, found_among members name m)
 
 pub found_own : (members : List Member) → NamesApart (λ (m : Member). m.name) members → (m : Member) → Among members m → member_named members m.name ≡ Some m
 found_own [] a m h = absurd h
@@ -65,18 +59,12 @@ abbrev next_of : Member → ℕ × Key
 next_of m = (eligible_from m m.next, next_key m)
 
 queued_is : (o : Option Member) (from : ℕ) (key : Key) → queued o ≡ Some (from, key) → IsQueued o from key
-queued_is None from key e = absurd (none-some (from, key) e)
-queued_is (Some m) from key e = by (is_departing m) refl e
-  where
-    by : (b : Bool) → is_departing m ≡ b → cond b None (Some (next_of m)) ≡ Some (from, key) → IsQueued (Some m) from key
-    by true p h = absurd (none-some (from, key) h)
-    by false p h = (let s = sym (same_Some (next_of m) (from, key) h) in record { m = m; found = refl; stays = p; from_is = ap (λ (d : ℕ × Key). d.0) s; key_is = ap (λ (d : ℕ × Key). d.1) s })
+queued_is o from key e = grind (arith, none-some, same_Some)
 
 -- ---- the entries of a finite map
 
 is_true : (b : Bool) → T b → b ≡ true
-is_true true h = refl
-is_true false h = absurd h
+is_true b h = grind arith
 
 abbrev Named_entry : Type 0
 Named_entry = Name × (ℕ × Key)
@@ -87,12 +75,7 @@ below_each name (d ∷ es) h e (inl i) = ap (λ (f : Named_entry). is_lt (name_c
 below_each name (d ∷ es) h e (inr i) = below_each name es (and_parts _ _ h).1 e i
 
 not_tied : (a b : Name) → is_lt (name_cmp a b) ≡ true → eq_by_cmp name_cmp b a ≡ false
-not_tied a b h = ap is_eq (nat_list_cmp_total.antisymm b a) ∙ less (name_cmp a b) h
-  where
-    less : (r : Ordering) → is_lt r ≡ true → is_eq (ordering_reverse r) ≡ false
-    less Less e = refl
-    less Equal e = absurd (true≢false (sym e))
-    less Greater e = absurd (true≢false (sym e))
+not_tied a b h = grind (arith, nat_list_cmp_total, true≢false)
 
 -- if each entry's key has the entry's name, no two keys have one name
 entries_apart : (es : List Named_entry) → IsTrue (listed.is_sorted name_cmp es) → ((e : Named_entry) → Among es e → e.1.1.name ≡ e.0) → NamesApart (λ (e : Named_entry). e.1.1.name) es
@@ -128,11 +111,7 @@ module _ (n : ℕ) (members : List Member) (waiting : Queue) (named : NamesApart
       (filter_among (is_eligible n) members q.m (found_among members r.name q.m q.found) (and_from (not (is_departing q.m)) (nat_le (eligible_from q.m q.m.next) n) (ap not q.stays) soon)))
 
   eligible_member : (k : Key) → Among (eligible n members) k → (m : Member) × Among members m × (k ≡ next_key m) × (is_departing m ≡ false) × (nat_le (eligible_from m m.next) n ≡ true)
-  eligible_member k h =
-      let t = among_map next_key (filter (is_eligible n) members) k h in
-      let u = among_filter (is_eligible n) members t.0 t.1 in
-      let p = and_parts (not (is_departing t.0)) (nat_le (eligible_from t.0 t.0.next) n) u.1 in
-      (t.0, u.0, t.2, not-true (is_departing t.0) p.0, p.1)
+  eligible_member k h = grind (arith, among_map, among_filter, and_parts, not-true)
 
   eligible_released : (k : Key) → Among (eligible n members) k → Among (released n waiting) k
   eligible_released k h =
@@ -151,19 +130,9 @@ module _ (n : ℕ) (members : List Member) (waiting : Queue) (named : NamesApart
   first_apart m first is = subst (NamesApart (λ (k : Key). k.name)) (sym (is ∙ first_of_queue m)) (first_names m (eligible n members) (eligible_apart n members named))
 
   pub first_may_run : (m : ℕ) (first : List Key) → first ≡ first_by_rank m (released n waiting) → AllByRecursion (λ m. m.next < MAX_INDEX) members → (k : Key) → Among first k → MayRun members k
-  first_may_run m first is few k h =
-      let i = among_first (eligible n members) (eligible_apart n members named) m k (subst (λ ks. Among ks k) (is ∙ first_of_queue m) h) in
-      let t = eligible_member k i in
-      (t.0, ap (member_named members) (ap (λ (k : Key). k.name) t.2) ∙ found_own members named t.0 t.1, t.3, among_all (λ m. m.next < MAX_INDEX) members few t.0 t.1)
+  first_may_run m first is few k h = grind (arith, among_first, eligible_apart, first_of_queue, eligible_member, found_own, among_all)
 
 -- ---- and the others wait on
 
-turned : {A : Type 0} (b : Bool) (x : Option A) → cond (not b) x None ≡ (if b then None else x)
-turned true x = refl
-turned false x = refl
-
 pub queue_without : (first : List Key) (members : List Member) (waiting : Queue) → IsQueue members waiting → IsQueueWithout first members (without first waiting)
-queue_without first members waiting queue name =
-    get_without first waiting name
-    ∙ turned (has_key_of name first) (finmap.get waiting name)
-    ∙ ap (λ o. if has_key_of name first then None else o) (queue name)
+queue_without first members waiting queue name = grind (arith, get_without)

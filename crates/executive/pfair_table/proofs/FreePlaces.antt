@@ -12,11 +12,7 @@ use Rattle.pfair_table.specs.Places.{is_used, free_place}
 
 find_left : {A : Type 0} (p : A → Bool) (xs ys : List A) (x : A) → find p xs ≡ Some x → find p (xs ++ ys) ≡ Some x
 find_left p [] ys x e = absurd (cc)
-find_left {A} p (y ∷ xs) ys x e = by (p y) refl e (find_left p xs ys x)
-  where
-    by : (b : Bool) → p y ≡ b → cond b (Some y) (find p xs) ≡ Some x → (find p xs ≡ Some x → find p (xs ++ ys) ≡ Some x) → cond b (Some y) (find p (xs ++ ys)) ≡ Some x
-    by true q e more = e
-    by false q e more = more e
+find_left {A} p (y ∷ xs) ys x e = grind (arith, find_left p xs ys x)
 
 find_right : {A : Type 0} (p : A → Bool) (xs ys : List A) → ((x : A) → Among xs x → p x ≡ false) → find p (xs ++ ys) ≡ find p ys
 find_right p [] ys none = refl
@@ -28,16 +24,11 @@ find_number p zero k l e least = absurd (omega (arith, l))
 find_number p (suc n) k l e least =
     elim (cases_lt k n) [
       | inl h ↦ find_left p (numbers_below n) (n ∷ []) k (find_number p n k h e least)
-      | inr h ↦ (let same : k ≡ n = omega (arith, l, h) in
-          find_right p (numbers_below n) (n ∷ []) (λ i a. (let b = among_below n i a in least i (omega (arith, b, same))))
-          ∙ ap (λ j. find p (j ∷ [])) (sym same) ∙ ap (λ b. cond b (Some k) None) e)
+      | inr h ↦ (grind (arith, find_right, among_below))
     ]
 
 find_no_number : (p : ℕ → Bool) (n : ℕ) → ((i : ℕ) → i < n → p i ≡ false) → find p (numbers_below n) ≡ None
-find_no_number p zero none = refl
-find_no_number p (suc n) none =
-    find_right p (numbers_below n) (n ∷ []) (λ i a. (let b = among_below n i a in none i (omega (arith, b))))
-    ∙ ap (λ b. cond b (Some n) None) (none n (omega arith))
+find_no_number p n none = grind (arith, find_right, among_below)
 
 -- ---- in use
 
@@ -52,12 +43,7 @@ among_used (j ∷ used) k (inr h) = or_right (j == k) (is_used used k) (among_us
 
 count_short : {A : Type 0} (p : A → Bool) (xs : List A) (x : A) → Among xs x → p x ≡ false → length (filter p xs) < length xs
 count_short p [] x h e = absurd h
-count_short {A} p (y ∷ ys) x h e = by (p y) refl h (λ i. count_short p ys x i e)
-  where
-    by : (b : Bool) → p y ≡ b → Among (y ∷ ys) x → (Among ys x → length (filter p ys) < length ys) → length (cond b (y ∷ filter p ys) (filter p ys)) < suc (length ys)
-    by true q (inl i) more = absurd (true≢false (sym q ∙ sym (ap p i) ∙ e))
-    by true q (inr i) more = (let m = more i in omega (arith, m))
-    by false q i more = (let m = count_by-le-length p ys in let same = length-filter p ys in omega (arith, m, same))
+count_short {A} p (y ∷ ys) x h e = grind (arith, true≢false, count_by-le-length, length-filter, count_short p ys x)
 
 -- a list that has each number below n is no shorter than n
 pub pigeons : (n : ℕ) (used : List ℕ) → ((k : ℕ) → k < n → is_used used k ≡ true) → n ≤ length used
@@ -75,8 +61,7 @@ free_is used k e least =
     let free = λ (i : ℕ). not (is_used used i) in (
       elim (cases_lt k (length used)) [
         | inl l ↦ ap (λ (o : Option ℕ). unwrap_or o (length used)) (find_number free (length used) k l (ap not e) (λ i h. ap not (least i h)))
-        | inr g ↦ (let same : length used ≡ k = omega (arith, g, le) in
-            ap (λ (o : Option ℕ). unwrap_or o (length used)) (find_no_number free (length used) (λ i h. ap not (least i (omega (arith, h, same))))) ∙ same)
+        | inr g ↦ (grind (arith, find_no_number))
       ],
       le,
     )

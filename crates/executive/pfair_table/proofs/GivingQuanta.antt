@@ -1,5 +1,5 @@
 -- The loop over the keys that have a quantum.
-use Rattle.std.proofs.Common.{ℕ, ◌+◌, ◌<◌, ◌≡◌, refl, sym, ap, ◌∙◌, subst, inl, Bool, true, false, List, [], ◌∷◌, ◌++◌, length, get_or, drop, take, Option, Some, None}
+use Rattle.std.proofs.Common.{ℕ, ◌+◌, ◌<◌, ◌≡◌, refl, sym, ap, ◌∙◌, subst, inl, Bool, true, false, List, [], ◌∷◌, ◌++◌, length, get_or, drop, take, Option, Some, None, arith}
 use Rattle.std.specs.Prelude.{◌||◌, not, map, if◌then◌else◌}
 use Rattle.std.specs.Option.{ForSome, option_map}
 use Rattle.std.specs.FinMap as finmap
@@ -61,9 +61,7 @@ rows_named members name (k ∷ keys) = ap (λ b. name_eq name k.name || b) (rows
 
 found_after : (name : Name) (picks : Table) (members : List Member) → names_task name picks ≡ false → member_named (all_ran picks members) name ≡ member_named members name
 found_after name [] members e = refl
-found_after name (p ∷ picks) members e =
-    let parts = or_parts (name_eq name p.name) (names_task name picks) e in
-    found_after name picks (ran p.name members) parts.1 ∙ found_other name p.name with_quantum (λ m. refl) parts.0 members
+found_after name (p ∷ picks) members e = grind (arith, or_parts, found_other, found_after name picks)
 
 all_ran_push : (picks : Table) (p : Pick) (members : List Member) → all_ran (picks ++ p ∷ []) members ≡ ran p.name (all_ran picks members)
 all_ran_push [] p members = refl
@@ -81,19 +79,12 @@ module _ {start : Roster} {first : List Key} {i : ℕ} {roster : Roster} {table 
 
   -- nothing waits under its name
   not_waiting : finmap.get waiting key.name ≡ None
-  not_waiting =
-      so.queue key.name
-      ∙ ap (λ (ks : List Key). if has_key_of key.name ks then None else queued (member_named roster.members key.name)) (drop_item first i key inside item)
-      ∙ ap (λ b. if b || has_key_of key.name (drop (i + 1) first) then None else queued (member_named roster.members key.name)) (name_itself key.name)
+  not_waiting = grind (arith, drop_item, name_itself)
 
   module _ (may : MayRun start.members key) where
     -- its member is as it was at the start
     still_found : member_named roster.members key.name ≡ Some may.0
-    still_found =
-        ap (λ (r : Roster). member_named r.members key.name) so.ran_are
-        ∙ found_after key.name (map (pick start.members) (take i first)) start.members
-        (rows_named start.members key.name (take i first) ∙ apart_before (take i first) key (drop (i + 1) first) split_apart)
-        ∙ may.1
+    still_found = grind (arith, found_after, rows_named, apart_before, split_apart)
 
     -- so it may run
     pub may_run : ForSome (member_named roster.members key.name) (λ m. m.next < MAX_INDEX)

@@ -1,20 +1,16 @@
 -- The dispatcher's invariant through plans.
-use Rattle.std.proofs.Common.{ℕ, zero, suc, min, ◌≤◌, ◌<◌, ◌≡◌, refl, sym, ap, ◌∙◌, subst, arith, Bool, false, List, [], ◌∷◌, ◌++◌, length, map, inl, Option, None}
+use Rattle.std.proofs.Common.{ℕ, zero, suc, min, ◌≤◌, ◌<◌, ◌≡◌, refl, sym, ap, ◌∙◌, arith, Bool, false, List, [], ◌∷◌, ◌++◌, length, map, None}
 use Rattle.std.proofs.lemmas.List.{map-append}
 use Rattle.std.proofs.lemmas.Option.{none-some}
 use Rattle.pfair_replica.specs.HeldRows.{HeldRows, replica_of}
 use Rattle.pfair_replica.specs.Replica.{Replica, IsReplica, has_torn, frontier, empty_replica, numbers_below}
-use Rattle.std.specs.Option.{ForSome}
-use Rattle.pfair_lattice.specs.declared.flat.Flat.TheVariants.{One, Torn}
-use Rattle.pfair_admission.specs.Member.{Member}
-use Rattle.pfair_weight.specs.Name.{NamesApart}
 use Rattle.pfair_table.specs.Queue.{IsQueue}
 use Rattle.pfair_table.specs.Limits.{IsOrigin}
 use Rattle.pfair_table.proofs.Members.{named_before}
 use Rattle.pfair_ready.specs.Queue.{Queue}
 use Rattle.pfair_admission.specs.Roster.{Roster}
 use Rattle.pfair_table.specs.declared.pick.Decided.{Decided}
-use Rattle.pfair_table.specs.Table.{Settings, Origin, Table, slot_of, members_before, history_from, table_from, decisions_from, plan_from}
+use Rattle.pfair_table.specs.Table.{Settings, Origin, Table, members_before, history_from, table_from, decisions_from, plan_from}
 use Rattle.pfair_table.specs.Laws.{IsOf}
 use Rattle.pfair_table.specs.Refinement.{IsPlanOf, IsInStep, IsKept, IsWholePlan}
 use Rattle.pfair_replica.proofs.TornKeys.{untorn_by_test}
@@ -55,16 +51,7 @@ module _ {o : Origin} {s : Settings} {held : Replica} {tables : List Table} {dec
     pub kept_next : {more : List Table} {more_decided : List (List Decided)} {spent2 : Bool} {roster2 : Roster} {now2 : ℕ} {waiting2 : Queue} → length tables < frontier held → length tables < s.slots
         → more ≡ tables ++ table_from o s held (length tables) ∷ [] → more_decided ≡ decided ++ decisions_from o s held (length tables) ∷ []
         → IsInStep o s held (length more) roster2 now2 waiting2 → IsKept o s held more more_decided spent2 roster2 now2 waiting2
-    kept_next {more_decided} early wanted tables_are decided_are step = record {
-      began = kept.began;
-      processors = kept.processors;
-      capacity = kept.capacity;
-      of = held;
-      room = kept.capacity;
-      plan = subst (λ (ts : List Table). IsPlanOf o s held held ts more_decided) (sym tables_are)
-          (subst (λ (ds : List (List Decided)). IsPlanOf o s held held (tables ++ table_from o s held (length tables) ∷ []) ds) (sym decided_are) (plan_next_slot plan_now early wanted));
-      step = λ _. step;
-    }
+    kept_next {more_decided} early wanted tables_are decided_are step = grind (arith, plan_next_slot, plan_now)
 
 pub whole_plan : {o : Origin} {s : Settings} {x : HeldRows} {tables : List Table} {decided : List (List Decided)} {spent : Bool} {roster : Roster} {now forgotten : ℕ} {waiting : Queue} → IsKept o s (replica_of x) tables decided spent roster now waiting
     → IsReplica (replica_of x) → has_torn (replica_of x) ≡ false → min (frontier (replica_of x)) s.slots ≤ length tables
@@ -74,39 +61,11 @@ whole_plan kept sound test enough = record { tables_are = tables_whole kept soun
 -- a new dispatcher's members and ready structure are in step
 pub start_step : {o : Origin} {s : Settings} {x : Replica} {roster : Roster} {now : ℕ} {waiting : Queue} → IsOrigin o s → roster ≡ record { machine = record { processors = s.processors; frame = s.frame }; members = members_before o; heard = 0; last_slot = None } → now ≡ 0
     → IsQueue roster.members waiting → IsInStep o s x 0 roster now waiting
-start_step {o} {s} began e now_is queue =
-    let ms = ap (λ (r : Roster). r.members) e in
-    record {
-      machine_is = ap (λ (r : Roster). r.machine) e;
-      members_are = ms;
-      heard_is = ap (λ (r : Roster). r.heard) e;
-      steady = record {
-        named = subst (NamesApart (λ (m : Member). m.name)) (sym ms) (named_before o s began);
-        queue = queue;
-        by_now = omega (arith, now_is);
-        order = subst (λ (l : Option ℕ). ForSome l (λ last. last ≤ slot_of o 0)) (sym (ap (λ (r : Roster). r.last_slot) e)) (λ y h. absurd (none-some y h));
-      };
-    }
+start_step {o} {s} began e now_is queue = grind (arith, named_before, none-some)
 
 -- nothing planned of a replica that holds nothing
 pub start_kept : {o : Origin} {s : Settings} {x : Replica} {roster : Roster} {now : ℕ} {waiting : Queue} → IsOrigin o s → x ≡ empty_replica s.processors x.capacity → x.capacity ≤ 4096 → IsInStep o s x 0 roster now waiting → IsKept o s x [] [] false roster now waiting
 start_kept {s} {x} began e few step =
     let none : (k n : ℕ) → x.at k n ≡ None = λ k n. ap (λ (r : Replica). r.at k n) e in
     let many : x.processors ≡ s.processors = ap (λ (r : Replica). r.processors) e in
-    record {
-      began = began;
-      processors = many;
-      capacity = few;
-      of = x;
-      room = few;
-      plan = record {
-        is_of = record { replica = record { in_range = λ k n c h. absurd (none-some c (sym (none k n) ∙ h)); stamped = λ k n c h. absurd (none-some (One c) (sym (none k n) ∙ h)) }; processors = many };
-        kept = λ k n c h. inl h;
-        whole = λ k n h. none-some Torn (sym (none k n) ∙ h);
-        early = omega arith;
-        wanted = omega arith;
-        tables_are = refl;
-        decided_are = refl;
-      };
-      step = λ _. step;
-    }
+    grind (arith, none-some)

@@ -1,5 +1,5 @@
 -- What events leave is the least that is above all that they bring.
-use Rattle.std.proofs.Common.{ℕ, ◌≡◌, refl, sym, ◌∙◌, subst, arith, Bool, true, false, cond, List, [], ◌∷◌, length, Some, None}
+use Rattle.std.proofs.Common.{ℕ, ◌≡◌, refl, sym, ◌∙◌, subst, arith, Bool, true, false, cond, List, [], ◌∷◌, Some}
 use Rattle.std.specs.Prelude.{◌&&◌, ◌==◌, nat_lt, nat_le, if◌then◌else◌}
 use Rattle.std.specs.List.{AllByRecursion}
 use Rattle.std.proofs.lemmas.Bool.{eqb-true, eq-eqb, ltb-true, leb-true, lt-ltb, le-leb, and_from, and_parts}
@@ -17,7 +17,7 @@ use Rattle.pfair_replica.proofs.OfferedTo.{offered_stays}
 use Rattle.pfair_table.specs.declared.event.Event.{Event}
 use Rattle.pfair_table.specs.declared.event.Event.TheVariants.{Take, Absorb, Plan}
 use Rattle.pfair_table.specs.EventLaws.{IsBroughtBelow, EventsLeaveTheLeast}
-use Rattle.pfair_table.specs.Events.{Course, start, is_plannable, with_next_slot, happens, run}
+use Rattle.pfair_table.specs.Events.{Course, start, happens, run}
 use Rattle.pfair_table.specs.Table.{Settings}
 use Rattle.pfair_table.proofs.Runs.{below_all}
 
@@ -27,32 +27,20 @@ record HasShape (s : Settings) (m : ℕ) (x : Replica) : Type 0 where
   pub capacity : x.capacity ≡ m
 
 planned_holds : (s : Settings) (c : Course) → (happens s c Plan).held ≡ c.held
-planned_holds s c = by (is_plannable s c.held (length c.tables))
-  where
-    by : (b : Bool) → (if b then with_next_slot s c else c).held ≡ c.held
-    by true = refl
-    by false = refl
+planned_holds s c = grind arith
 
 shape_stays : (s : Settings) (m : ℕ) (c : Course) (e : Event) → HasShape s m c.held → HasShape s m (happens s c e).held
-shape_stays s m c (Take k n e) shape = (let same = offered_stays.taken_shape c.held k n e in record { processors = same.0 ∙ shape.processors; capacity = same.1 ∙ shape.capacity })
-shape_stays s m c (Absorb y) shape = (let same = offered_stays.absorbed_shape c.held (replica_of y) in record { processors = same.0 ∙ shape.processors; capacity = same.1 ∙ shape.capacity })
-shape_stays s m c Plan shape = subst (HasShape s m) (sym (planned_holds s c)) shape
+shape_stays s m c e shape = grind (arith, offered_stays, planned_holds)
 
 -- what was held stays held
 step_grows : (s : Settings) (c : Course) (e : Event) → Below c.held (happens s c e).held
-step_grows s c (Take k n e) = offered_stays.taken_above c.held k n e
-step_grows s c (Absorb y) = offered_stays.absorbed_above c.held (replica_of y)
-step_grows s c Plan = subst (Below c.held) (sym (planned_holds s c)) (λ k n. below_itself (c.held.at k n))
+step_grows s c e = grind (arith, offered_stays, planned_holds, below_itself)
 
 grows : (s : Settings) (events : List Event) (c : Course) → Below c.held (run s c events).held
 grows s [] c = λ k n. below_itself (c.held.at k n)
 grows s (e ∷ events) c = below_all c.held (happens s c e).held (run s (happens s c e) events).held (step_grows s c e) (grows s events (happens s c e))
 
 -- ---- above all
-
-taken_holds : (x : Replica) (k n : ℕ) (e : Logged) → has_key x k n ≡ true → HeldBelow (Some (One e)) ((taken x k n e).at k n)
-taken_holds x k n e inside =
-    rw inside (subst (λ h. HeldBelow h ((with_entry x k n e).at k n)) (only_here k n e) (join_second entry_eq entry_exact (x.at k n) (only k n e k n)))
 
 same_keys : (s : Settings) (m : ℕ) (x : Replica) (k n : ℕ) → HasShape s m x → has_key x k n ≡ (nat_lt k s.processors && (nat_lt 0 n && nat_le n m))
 same_keys s m x k n shape = λ i. nat_lt k (shape.processors i) && (nat_lt 0 n && nat_le n (shape.capacity i))
@@ -61,11 +49,7 @@ absorbed_holds : (x y : Replica) → has_shape x y ≡ true → Below y (absorbe
 absorbed_holds x y alike = rw alike (λ k n. join_second entry_eq entry_exact (x.at k n) (y.at k n))
 
 step_brings : (s : Settings) (m : ℕ) (c : Course) (e : Event) → HasShape s m c.held → IsBroughtBelow s m (happens s c e).held e
-step_brings s m c (Take k n e) shape = λ row first last.
-    taken_holds c.held k n e (same_keys s m c.held k n shape ∙ and_from _ _ (lt-ltb k s.processors row) (and_from _ _ (lt-ltb 0 n (omega (arith, first))) (le-leb n m last)))
-step_brings s m c (Absorb y) shape = λ p q. absorbed_holds c.held (replica_of y)
-    (and_from _ _ (eq-eqb c.held.processors y.processors (shape.processors ∙ sym p)) (eq-eqb c.held.capacity y.capacity (shape.capacity ∙ sym q)))
-step_brings s m c Plan shape = tt
+step_brings s m c e shape = grind (arith, same_keys, and_from, lt-ltb, le-leb, absorbed_holds, eq-eqb, only_here, join_second, entry_exact)
 
 brought_more : (s : Settings) (m : ℕ) (x y : Replica) (e : Event) → Below x y → IsBroughtBelow s m x e → IsBroughtBelow s m y e
 brought_more s m x y (Take k n e) below brought = λ row first last. below_trans (Some (One e)) (x.at k n) (y.at k n) (brought row first last) (below k n)
@@ -81,12 +65,7 @@ above s m (e ∷ events) c shape =
 -- ---- and below whatever is above all
 
 only_below : (y : Replica) (k n : ℕ) (e : Logged) → HeldBelow (Some (One e)) (y.at k n) → (j m : ℕ) → HeldBelow (only k n e j m) (y.at j m)
-only_below y k n e below j m = by (j == k) (m == n) refl refl
-  where
-    by : (a b : Bool) → (j == k) ≡ a → (m == n) ≡ b → HeldBelow (if a then (if b then Some (One e) else None) else None) (y.at j m)
-    by true true p q = (let row = eqb-true j k p in let number = eqb-true m n q in subst (λ i. HeldBelow (Some (One e)) (y.at i m)) (sym row) (subst (λ i. HeldBelow (Some (One e)) (y.at k i)) (sym number) below))
-    by true false p q = none_below (y.at j m)
-    by false b p q = none_below (y.at j m)
+only_below y k n e below j m = grind (arith, eqb-true, none_below)
 
 taken_least : (s : Settings) (m : ℕ) (x y : Replica) (k n : ℕ) (e : Logged) → HasShape s m x → Below x y → IsBroughtBelow s m y (Take k n e) → Below (taken x k n e) y
 taken_least s m x y k n e shape below brought = by (has_key x k n) refl

@@ -1,6 +1,7 @@
 mod FirstByRank
+pub mod FirstRuns
 pub mod Members
-mod TableLaws
+pub mod TableLaws
 pub mod Runs
 pub mod NextIndexes
 mod QueueKept
@@ -17,6 +18,7 @@ mod Filling
 mod PlacesOn
 mod Alike
 mod NextRuns
+pub mod RunsOn
 mod ReadOn
 mod Bucketed
 mod Least

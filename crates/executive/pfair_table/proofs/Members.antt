@@ -1,14 +1,14 @@
 -- No two members have one name, at any slot, and how far their indexes rise.
-use Rattle.std.proofs.Common.{ℕ, zero, suc, List, [], ◌∷◌, Some, None}
+use Rattle.std.proofs.Common.{ℕ, zero, suc, List, [], ◌∷◌, Some, None, arith}
 use Rattle.pfair_weight.specs.Name.{NamesApart}
 use Rattle.pfair_weight.proofs.NamesApart.{apart_nil}
 use Rattle.pfair_entry.specs.Said.{Said}
 use Rattle.pfair_admission.specs.Member.{Member}
 use Rattle.pfair_admission.specs.Admission.{announcements, ran}
 use Rattle.pfair_admission.proofs.NamesKept.{apart_boundary, apart_ran}
-use Rattle.pfair_replica.specs.Replica.{Replica, said}
 use Rattle.pfair_table.specs.Limits.{IsOrigin}
-use Rattle.pfair_table.specs.Table.{Settings, Origin, Table, History, machine, members_at, members_before, slot_of, table_of, history_from, world_from, world, all_ran}
+use Rattle.pfair_table.specs.Table.{Settings, Origin, Table, History, machine, members_at, members_before, slot_of, all_ran, Story, history_over, world_over}
+use Rattle.pfair_table.proofs.FirstRuns.{world}
 
 abbrev pub label : Member → List ℕ
 label m = m.name
@@ -20,19 +20,17 @@ named_ran (p ∷ picks) members a = named_ran picks (ran p.name members) (apart_
 named_at : (s : Settings) (t : ℕ) (announced : List Said) (h : History) → NamesApart label h.members → NamesApart label (members_at s t announced h)
 named_at s t announced h a = apart_boundary (machine s) t h.members (announcements announced) a
 
-module _ (o : Origin) (s : Settings) (before : NamesApart label (members_before o)) (x : Replica) where
-  named_history : (t : ℕ) → NamesApart label (history_from o s x t).members
+module _ (o : Origin) (s : Settings) (before : NamesApart label (members_before o)) (x : Story) where
+  pub named_history : (t : ℕ) → NamesApart label (history_over o s x t).members
   named_history zero = before
-  named_history (suc t) =
-      let here = named_at s (slot_of o t) (said x t) (history_from o s x t) (named_history t) in
-      named_ran (table_of s (slot_of o t) (world_from o s x t)) (world_from o s x t) here
+  named_history (suc t) = grind (arith, named_at, named_ran, named_history t)
 
-  pub named_from : (t : ℕ) → NamesApart label (world_from o s x t)
-  named_from t = named_at s (slot_of o t) (said x t) (history_from o s x t) (named_history t)
+  pub named_from : (t : ℕ) → NamesApart label (world_over o s x t)
+  named_from t = named_at s (slot_of o t) (x t) (history_over o s x t) (named_history t)
 
 pub named_before : (o : Origin) (s : Settings) → IsOrigin o s → NamesApart label (members_before o)
 named_before None s began = apart_nil label
 named_before (Some c) s began = began.named
 
-pub named_world : (s : Settings) (x : Replica) (t : ℕ) → NamesApart label (world s x t)
+pub named_world : (s : Settings) (x : Story) (t : ℕ) → NamesApart label (world s x t)
 named_world s x t = named_from None s (apart_nil label) x t

@@ -13,19 +13,20 @@ use Rattle.pfair_weight.specs.Share.{Share}
 use Rattle.pfair_entry.specs.Same.{name_eq}
 use Rattle.pfair_entry.specs.declared.announcement.Announcement.{Announcement}
 use Rattle.pfair_entry.specs.Exact.{name_exact}
-use Rattle.pfair_replica.specs.Replica.{Replica, said}
+use Rattle.pfair_replica.specs.Replica.{said}
 use Rattle.pfair_entry.specs.Said.{Said}
-use Rattle.pfair_admission.specs.Admission.{Machine, is_named, decision, newcomer, is_freed, boundary, with_freeing, with_delay, ran, with_quantum}
+use Rattle.pfair_admission.specs.Admission.{Machine, is_named, newcomer, is_freed, boundary, with_freeing, with_delay, ran, with_quantum}
 use Rattle.pfair_admission.specs.Member.{Member}
 use Rattle.pfair_admission.specs.Admission.{announcements}
-use Rattle.pfair_table.specs.Table.{Settings, Origin, Table, History, machine, names_task, quanta, next_index, counted, counted_one, members_at, history, world, table, history_from, table_from, all_ran}
+use Rattle.pfair_table.specs.Table.{Settings, Origin, Table, History, machine, names_task, quanta, next_index, counted, counted_one, members_at, all_ran, Story, history_over}
 use Rattle.pfair_table.specs.declared.pick.Pick.{Pick}
 use Rattle.pfair_weight.specs.Name.{NamesApart}
-use Rattle.pfair_weight.proofs.NamesApart.{apart_head, apart_tail}
+use Rattle.pfair_weight.proofs.NamesApart.{apart_head, apart_nil, apart_tail}
 use Rattle.pfair_admission.proofs.Each.{each, each_filter, each_map}
 use Rattle.pfair_admission.proofs.Effects.{by_boundary, by_effect, each_change}
 use Rattle.pfair_table.specs.Laws.{RunsAreCounted}
-use Rattle.pfair_table.proofs.TableLaws.{tables_are_ordered}
+use Rattle.pfair_table.proofs.FirstRuns.{history, world, table}
+use Rattle.pfair_table.proofs.TableLaws.{ordered_from}
 
 -- ---- what holds of each member
 
@@ -34,10 +35,7 @@ module _ (t : ℕ) (P : Member → Type 0) (joins : (name : Name) (w : Share) (e
   pub each_boundary : (mc : Machine) (announced : List Announcement) (members : List Member) → AllByRecursion P members → AllByRecursion P (boundary mc t members announced)
   each_boundary mc announced members all =
       by_boundary (AllByRecursion P) mc t (each_filter P (λ m. not (is_freed t m.freed_at)))
-      (λ ms a h. by_effect (AllByRecursion P) t ms h a (decision mc t ms a)
-      (λ name w early is admitted. all_by_recursion_push P ms (newcomer t name w early) h (joins name w early))
-      (λ name slot is _. each_change P P name (with_freeing slot) (freed slot) (λ m p. p) ms h)
-      (λ name index by is _. each_change P P name (with_delay index by) (delayed index by) (λ m p. p) ms h)) members announced all
+      (grind (arith, by_effect, all_by_recursion_push, each_change)) members announced all
 
 -- ---- a table's rows
 
@@ -75,18 +73,13 @@ pub record IsCounted (t : ℕ) (tables : List Table) (m : Member) : Type 0 where
 
 -- who joins at t has had no quantum
 counted_at : (s : Settings) (t : ℕ) (announced : List Said) (h : History) → length h.tables ≡ t → AllByRecursion (IsCounted t h.tables) h.members → AllByRecursion (IsCounted t h.tables) (members_at s t announced h)
-counted_at s t announced h e =
-    each_boundary t (IsCounted t h.tables)
-    (λ name w early. record { by_now = omega arith; next_is = sym (ap (λ ts. 1 + count_by (names_task name) ts) (drop_all t h.tables (omega (arith, e)))) })
-    (λ slot m c. record { by_now = c.by_now; next_is = c.next_is }) (λ index by m c. record { by_now = c.by_now; next_is = c.next_is })
-    (machine s) (announcements announced) h.members
+counted_at s t announced h e = grind (arith, each_boundary, drop_all)
 
-pub long_from : (o : Origin) (s : Settings) (x : Replica) (t : ℕ) → length (history_from o s x t).tables ≡ t
+pub long_from : (o : Origin) (s : Settings) (x : Story) (t : ℕ) → length (history_over o s x t).tables ≡ t
 long_from o s x zero = refl
-long_from o s x (suc t) =
-    (let more = long_from o s x t in let sum = length-append (history_from o s x t).tables (table_from o s x t ∷ []) in omega (arith, more, sum))
+long_from o s x (suc t) = grind (arith, length-append, long_from o s x t)
 
-pub long_history : (s : Settings) (x : Replica) (t : ℕ) → length (history s x t).tables ≡ t
+pub long_history : (s : Settings) (x : Story) (t : ℕ) → length (history s x t).tables ≡ t
 long_history = long_from None
 
 -- a member, counted by one more table
@@ -107,31 +100,34 @@ still_counted : (t : ℕ) (tables : List Table) (table : Table) → length table
 still_counted t tables table e m h = (let le = h.by_now in record { by_now = omega (arith, le); next_is = refl })
 
 -- adding one for each row is counting by the tables so far
-one_on : (s : Settings) (x : Replica) (t : ℕ) → AllByRecursion (IsCounted t (history s x t).tables) (world s x t) → all_ran (table s x t) (world s x t) ≡ counted (history s x (suc t)).tables (world s x t)
+one_on : (s : Settings) (x : Story) (t : ℕ) → AllByRecursion (IsCounted t (history s x t).tables) (world s x t) → all_ran (table s x t) (world s x t) ≡ counted (history s x (suc t)).tables (world s x t)
 one_on s x t count =
     let tables = (history s x t).tables in
-    all_ran_is (table s x t) (tables_are_ordered s x t).2 (world s x t)
+    all_ran_is (table s x t) (ordered_from None s (apart_nil (λ (m : Member). m.name)) x t).2 (world s x t)
     ∙ map_same (after_table (table s x t)) (counted_one (tables ++ table s x t ∷ [])) (world s x t)
     (λ m h. one_more t tables (table s x t) (long_history s x t) m (among_all (IsCounted t tables) (world s x t) count m h))
 
-counted_history : (s : Settings) (x : Replica) (t : ℕ) → AllByRecursion (IsCounted t (history s x t).tables) (history s x t).members
+counted_history : (s : Settings) (x : Story) (t : ℕ) → AllByRecursion (IsCounted t (history s x t).tables) (history s x t).members
 counted_history s x zero = tt
 counted_history s x (suc t) =
     let tables = (history s x t).tables in
-    let count = counted_at s t (said x t) (history s x t) (long_history s x t) (counted_history s x t) in
+    let count = counted_at s t (x t) (history s x t) (long_history s x t) (counted_history s x t) in
     subst (AllByRecursion (IsCounted (suc t) (tables ++ table s x t ∷ []))) (sym (one_on s x t count))
     (each_map (IsCounted t tables) (IsCounted (suc t) (tables ++ table s x t ∷ [])) (counted_one (tables ++ table s x t ∷ []))
     (still_counted t tables (table s x t) (long_history s x t)) (world s x t) count)
 
-pub counted_world : (s : Settings) (x : Replica) (t : ℕ) → AllByRecursion (IsCounted t (history s x t).tables) (world s x t)
-counted_world s x t = counted_at s t (said x t) (history s x t) (long_history s x t) (counted_history s x t)
+pub counted_world : (s : Settings) (x : Story) (t : ℕ) → AllByRecursion (IsCounted t (history s x t).tables) (world s x t)
+counted_world s x t = counted_at s t (x t) (history s x t) (long_history s x t) (counted_history s x t)
+
+pub counted_on : (s : Settings) (x : Story) (t : ℕ) → all_ran (table s x t) (world s x t) ≡ counted (history s x (suc t)).tables (world s x t)
+counted_on s x t = one_on s x t (counted_world s x t)
 
 pub runs_are_counted : RunsAreCounted
-runs_are_counted s x t = one_on s x t (counted_world s x t)
+runs_are_counted s x t = counted_on s (said x) t
 
-pub joined_world : (s : Settings) (x : Replica) (t : ℕ) → AllByRecursion (λ m. m.joined ≤ t) (world s x t)
+pub joined_world : (s : Settings) (x : Story) (t : ℕ) → AllByRecursion (λ m. m.joined ≤ t) (world s x t)
 joined_world s x t = each (IsCounted t (history s x t).tables) (λ m. m.joined ≤ t) (λ m c. c.by_now) (world s x t) (counted_world s x t)
 
 -- so the members of the next slot follow from those of this one, counted by the tables so far
-pub world_counted : (s : Settings) (x : Replica) (t : ℕ) → world s x (suc t) ≡ boundary (machine s) (suc t) (counted (history s x (suc t)).tables (world s x t)) (announcements (said x (suc t)))
-world_counted s x t = ap (λ ms. boundary (machine s) (suc t) ms (announcements (said x (suc t)))) (runs_are_counted s x t)
+pub world_counted : (s : Settings) (x : Story) (t : ℕ) → world s x (suc t) ≡ boundary (machine s) (suc t) (counted (history s x (suc t)).tables (world s x t)) (announcements (x (suc t)))
+world_counted s x t = ap (λ ms. boundary (machine s) (suc t) ms (announcements (x (suc t)))) (counted_on s x t)

@@ -9,10 +9,9 @@ use Rattle.pfair_replica.specs.HeldRows.{HeldRows, replica_of}
 use Rattle.pfair_replica.specs.Replica.{Replica, IsReplica, has_torn, said}
 use Rattle.pfair_replica.proofs.Marks.{same_said}
 use Rattle.pfair_ready.specs.Queue.{Queue}
-use Rattle.std.specs.Prelude.{Result, Ok, Err, IfErr}
+use Rattle.std.specs.Prelude.{Result, IfErr}
 use Rattle.std.specs.Result.{IsErrAnd}
 use Rattle.pfair_admission.specs.declared.carry_fault.CarryFault.{CarryFault}
-use Rattle.pfair_admission.specs.declared.carry_fault.CarryFault.TheVariants.{CannotCarry, Memory}
 use Rattle.pfair_admission.specs.Carried.{carried, CanBeCarried, IsCarryFault}
 use Rattle.pfair_table.specs.declared.answer.NextRunFault.{NextRunFault}
 use Rattle.pfair_table.specs.Faults.{next_run_fault_of}
@@ -28,12 +27,12 @@ use Rattle.pfair_table.specs.PlaceLaws.{IsFit}
 use Rattle.pfair_table.specs.Places.{table_before, places_before, places_in}
 use Rattle.pfair_table.specs.Planned.{last_or}
 use Rattle.pfair_table.specs.Refinement.{Dispatch, IsKept, members_after}
-use Rattle.pfair_table.specs.Table.{Settings, Origin, Carried, Table, machine, slot_of, history_from}
-use Rattle.pfair_table.proofs.Alike.{kept_alike, untorn_right}
-use Rattle.pfair_table.proofs.Keeping.{is_of_held, step_now}
+use Rattle.pfair_table.specs.Table.{Settings, Origin, Carried, Table, machine, slot_of, history_from, history_over}
+use Rattle.pfair_table.proofs.Alike.{untorn_right}
+use Rattle.pfair_table.proofs.Keeping.{is_of_held, plan_now, step_now}
 use Rattle.pfair_table.proofs.Members.{label}
 use Rattle.pfair_table.proofs.PlacesOn.{below_before, fit_before, fit_plan, last_below, last_fit}
-use Rattle.pfair_table.proofs.Runs.{same_list, untorn_left}
+use Rattle.pfair_table.proofs.Runs.{untorn_left}
 use Rattle.pfair_table.proofs.Steps.{plan_of_held}
 use Rattle.pfair_table.proofs.TableLaws.{same_history}
 
@@ -44,6 +43,13 @@ module _ {o : Origin} {s : Settings} {held : Replica} {tables : List Table} {dec
       let wanted = kept.plan.wanted in
       let long : length tables ≡ s.slots = omega (arith, wanted, all) in
       (step_now kept sound test able).members_are ∙ ap (members_after o s held) long
+
+  -- and the tables are those of all slots
+  pub left_tables : tables ≡ (history_from o s held s.slots).tables
+  left_tables =
+      let wanted = kept.plan.wanted in
+      let long : length tables ≡ s.slots = omega (arith, wanted, all) in
+      (plan_now kept sound test).tables_are ∙ ap (λ n. (history_from o s held n).tables) long
 
   -- and with their jobs taken off, a next run can begin with them
   pub carried_on : (slots : ℕ) (c : Carried) → c.slot ≡ slot_of o s.slots → c.machine ≡ machine s → c.members ≡ map carried (members_after o s held s.slots) → AllByRecursion CanBeCarried (members_after o s held s.slots)
@@ -67,13 +73,11 @@ module _ {o : Origin} {s : Settings} {held : Replica} {tables : List Table} {dec
 
 -- a refusal that another one is made of
 pub refused_as : {A : Type 0} (r : Result A NextRunFault) (fault : NextRunFault) (P : NextRunFault → Type 0) → IsErrAnd r (λ e. e ≡ fault) → P fault → IfErr r P
-refused_as (Ok x) fault P is p = tt
-refused_as (Err e) fault P is p = subst P (sym is) p
+refused_as r fault P is p = grind arith
 
 -- why members aren't carried is why no next run begins
 pub not_carried : (d : Dispatch) (slots : ℕ) (fault : CarryFault) → IsFinished d → end_of d + slots ≤ LAST_SLOT → IsCarryFault (members_left d) fault → IsNextRunFault d slots (next_run_fault_of fault)
-not_carried d slots (CannotCarry name) finished within is = (finished, within, is)
-not_carried d slots Memory finished within is = (finished, within, is)
+not_carried d slots fault finished within is = grind arith
 
 -- Of finished runs that began alike and hold what agrees, a next run takes over the same.
 pub left_alike : {o q : Origin} {s r : Settings} {x y : HeldRows} {tx ty : List Table} {dx dy : List (List Decided)} {bx by : Bool} {fx fy : ℕ} {mx my : Roster} {nx ny : ℕ} {hx hy : Queue}
@@ -88,18 +92,8 @@ left_alike {o} {q} {s} {r} {x} {y} {tx} {ty} kx ky sound_x sound_y same began ag
     let processors_are = ap (λ (a : Settings). a.processors) same in
     let all_x = fx.all in
     let all_y = fy.all in
-    let long : length tx ≡ length ty = omega (arith, px.wanted, py.wanted, all_x, all_y, slots_are) in
     let said_alike : (u : ℕ) → u < s.slots → said (replica_of x) u ≡ said (replica_of y) u =
     λ u l. same_said (replica_of x) (replica_of y) sound_x sound_y (of_x.processors ∙ processors_are ∙ sym of_y.processors) agree u (omega (arith, l, px.early, all_x)) (omega (arith, l, py.early, all_y, slots_are)) in
-    let past = same_history o s (replica_of x) (replica_of y) s.slots said_alike in
-    let tables_are : tx ≡ ty = same_list tx ty long (λ t l.
-    (let alike = kept_alike kx ky sound_x sound_y same began agree t l (omega (arith, l, long)) in alike.0 ∙ sym alike.1)) in
-    let members_are : members_after o s (replica_of x) s.slots ≡ members_after q r (replica_of y) r.slots =
-    ap (λ h. h.members) past ∙ (λ i. (history_from (began i) (same i) (replica_of y) (same i).slots).members) in
-    λ i. record {
-      slot = slot_of (began i) (same i).slots;
-      machine = machine (same i);
-      members = map carried (members_are i);
-      table = last_or (table_before (began i)) (tables_are i);
-      places = last_or (places_before (began i)) (places_in (began i) (tables_are i));
-    }
+    let past : history_over o s (said (replica_of x)) s.slots ≡ history_over q r (said (replica_of y)) r.slots =
+    same_history o s (said (replica_of x)) (said (replica_of y)) s.slots said_alike ∙ (λ i. history_over (began i) (same i) (said (replica_of y)) (same i).slots) in
+    grind (arith, map)

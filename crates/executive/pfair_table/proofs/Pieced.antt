@@ -1,5 +1,6 @@
 -- What stands at an index of a list in pieces.
-use Rattle.std.proofs.Common.{ℕ, zero, suc, ◌+◌, ◌*◌, ◌-◌, ◌/◌, ◌<◌, ◌≤◌, ◌≡◌, ◌^◌, refl, sym, ap, ◌∙◌, subst, arith, List, [], ◌∷◌, ◌++◌, length, length-append, append_assoc, map, drop, Vec, Global, Option, Some, None, get_or, nat_lt}
+use Rattle.std.proofs.lemmas.Grind.{common_steps}
+use Rattle.std.proofs.Common.{ℕ, zero, suc, ◌+◌, ◌*◌, ◌-◌, ◌/◌, ◌<◌, ◌≤◌, ◌≡◌, ◌^◌, refl, sym, ap, ◌∙◌, arith, List, [], ◌∷◌, ◌++◌, length, length-append, append_assoc, map, drop, Vec, Global, Option, Some, get_or, nat_lt}
 use Rattle.std.specs.Prelude.{slice_get, is_some, IfSome}
 use Rattle.std.specs.Option.{option_map}
 use Rattle.std.specs.List.{AllByRecursion}
@@ -31,12 +32,7 @@ get_right (x ∷ xs) ys (suc i) j e = get_right xs ys i j (omega (arith, e))
 pub get_full : {A : Type 0} (pieces : List (Vec A Global)) (current : List A) (i k r : ℕ) (piece : Vec A Global) → AreWhole pieces → i ≡ k * 1024 + r → r < 1024 → slice_get pieces k ≡ Some piece
     → slice_get (joined pieces ++ current) i ≡ slice_get piece.items r
 get_full [] current i k r piece all e low at = absurd (cc)
-get_full (p ∷ ps) current i zero r piece all e low at =
-    let same : p ≡ piece = cc in
-    ap (λ (xs : List _). slice_get xs i) (append_assoc p.items (joined ps) current)
-    ∙ get_left p.items (joined ps ++ current) i (omega (arith, all.0, e, low))
-    ∙ (let same : i ≡ r = omega (arith, e) in ap (slice_get p.items) same)
-    ∙ ap (λ (q : Vec _ Global). slice_get q.items r) same
+get_full (p ∷ ps) current i zero r piece all e low at = grind (arith, append_assoc, get_left)
 get_full (p ∷ ps) current i (suc k) r piece all e low at =
     ap (λ (xs : List _). slice_get xs i) (append_assoc p.items (joined ps) current)
     ∙ get_right p.items (joined ps ++ current) i (k * 1024 + r) (omega (arith, all.0, e))
@@ -50,28 +46,18 @@ get_current pieces current i j all e = get_right (joined pieces) current i j (e 
 -- at the last index
 pub get_last : {A : Type 0} (pieces : List (Vec A Global)) (current : List A) → ArePieces pieces current
     → slice_get current (length current - 1) ≡ slice_get (joined pieces ++ current) (length (joined pieces ++ current) - 1)
-get_last [] current are = refl
-get_last (p ∷ ps) current are =
-    let begun : 0 < length current = are.begun (omega arith) in
-    let long = length-append (joined (p ∷ ps)) current in
-    let whole = joined_long (p ∷ ps) are.whole in
-    sym (get_current (p ∷ ps) current (length (joined (p ∷ ps) ++ current) - 1) (length current - 1) are.whole (omega (arith, long, whole, begun)))
+get_last pieces current are = grind (arith, length-append, joined_long, get_current, get_right)
 
 -- ---- what a reader of a slice says
 
 pub got : {R X : Type 0} (now : R → X) (xs : List X) (i : ℕ) (o : Option R) → is_some o ≡ nat_lt i (length xs) → IfSome o (λ x. now x ≡ get_or xs i (now x)) → option_map now o ≡ slice_get xs i
-got now xs i None some at = sym (slice_get_past xs i (grind (arith, nat_tests)))
-got {R} {X} now xs i (Some x) some at = let within : i < length xs = grind (arith, nat_tests) in ap (λ (y : X). Some y) at ∙ sym (slice_get-get_or xs i (now x) within)
+got now xs i o some at = grind (arith, slice_get_past, nat_tests, slice_get-get_or)
 
 -- ---- pieces of which the first ones are given back
 
 all_append : {A : Type 0} (xs ys : List (Vec A Global)) → AreWhole (xs ++ ys) → AreWhole xs × AreWhole ys
 all_append [] ys all = (tt, all)
 all_append (x ∷ xs) ys all = let rest = all_append xs ys all.1 in ((all.0, rest.0), rest.1)
-
-append_all : {A : Type 0} (xs ys : List (Vec A Global)) → AreWhole xs → AreWhole ys → AreWhole (xs ++ ys)
-append_all [] ys here there = there
-append_all (x ∷ xs) ys here there = (here.0, append_all xs ys here.1 there)
 
 pub length-pieces : {A : Type 0} (gone : List (GivenBack A)) (full : List (Vec A Global)) → length (pieces_of gone full) ≡ length gone + length full
 length-pieces gone full = length-append (map (λ (p : GivenBack _). p.was.value) gone) full ∙ ap (λ n. n + length full) (length-map gone (λ (p : GivenBack _). p.was.value))
@@ -89,11 +75,7 @@ standing_at gone full k piece le at = get_right (map (λ (p : GivenBack _). p.wa
 -- what stands is what is left without the pieces that are gone
 pub what_stands : {A : Type 0} (gone : List (GivenBack A)) (full : List (Vec A Global)) (current : List A) → AreWhole (pieces_of gone full)
     → joined full ++ current ≡ drop (length gone * 1024) (joined (pieces_of gone full) ++ current)
-what_stands gone full current all =
-    let was = map (λ (p : GivenBack _). p.was.value) gone in
-    let long : length (joined was) ≡ length gone * 1024 = joined_long was (all_append was full all).0 ∙ ap (λ n. n * 1024) (length-map gone (λ (p : GivenBack _). p.was.value)) in
-    sym (ap (λ (xs : List _). drop (length gone * 1024) xs) (ap (λ (xs : List _). xs ++ current) (flat_map-append (λ (p : Vec _ Global). p.items) was full) ∙ append_assoc (joined was) (joined full) current)
-    ∙ drop_at (joined was) (joined full ++ current) (length gone * 1024) long)
+what_stands gone full current all = grind (arith, map, joined_long, all_append, length-map, flat_map-append, append_assoc, drop_at)
 
 -- one more full piece
 pub one_full_more : {A : Type 0} (gone : List (GivenBack A)) (full : List (Vec A Global)) (piece : Vec A Global) → pieces_of gone (full ++ piece ∷ []) ≡ pieces_of gone full ++ piece ∷ []
@@ -101,23 +83,14 @@ one_full_more gone full piece = sym (append_assoc (map (λ (p : GivenBack _). p.
 
 pub are_more : {A : Type 0} (gone : List (GivenBack A)) (full : List (Vec A Global)) (piece : Vec A Global) (next : List A) → ArePieces (pieces_of gone full) piece.items → length piece.items ≡ 1024
     → length next ≡ 1 → length gone + length full < 2 ^ 53 → ArePieces (pieces_of gone (full ++ piece ∷ [])) next
-are_more gone full piece next are filled one few =
-    subst (λ (ps : List (Vec _ Global)). ArePieces ps next) (sym (one_full_more gone full piece))
-    (record {
-      whole = append_all (pieces_of gone full) (piece ∷ []) are.whole (filled, tt);
-      within = omega (arith, one);
-      begun = λ h. omega (arith, one);
-      few = omega (arith, few, length-append (pieces_of gone full) (piece ∷ []), length-pieces gone full);
-    })
+are_more gone full piece next are filled one few = grind (arith, one_full_more, length-append, length-pieces, common_steps)
 
 -- one piece given back
 pub one_gone_more : {A : Type 0} (gone : List (GivenBack A)) (back : GivenBack A) (piece : Vec A Global) (full : List (Vec A Global)) → back.was.value ≡ piece
     → pieces_of (gone ++ back ∷ []) full ≡ pieces_of gone (piece ∷ full)
-one_gone_more [] back piece full same = ap (λ (p : Vec _ Global). p ∷ full) same
-one_gone_more (x ∷ gone) back piece full same = ap (λ (ps : List (Vec _ Global)). x.was.value ∷ ps) (one_gone_more gone back piece full same)
+one_gone_more gone back piece full same = grind (arith, common_steps)
 
 -- the memory of at most 1,024 forgotten elements stands, if so many pieces are gone as can be, and in the piece that is filled are at most 1,024
 pub given_back : (before after left long current forgotten : ℕ) → HaveGivenBack before after left (forgotten / 1024) → forgotten ≤ long → long ≡ (after + left) * 1024 + current → current ≤ 1024
     → forgotten ≤ after * 1024 + 1024
-given_back before after zero long current forgotten have within all few = omega (arith, within, all, few)
-given_back before after (suc left) long current forgotten have within all few = let enough = have.0 (omega arith) in omega (arith, enough)
+given_back before after left long current forgotten have within all few = grind arith

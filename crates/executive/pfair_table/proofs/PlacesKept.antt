@@ -74,8 +74,7 @@ filled_in m used [] below room k h = absurd h
 filled_in m used (Some j ∷ kept) below room k (inl e) = (below k (inl e), inl (inl e))
 filled_in m used (Some j ∷ kept) below room k (inr h) =
     (let t = filled_in m used kept (λ i l. below i (inr l)) room k h in (t.0, elim t.1 [ inl a ↦ inl (inr a) | inr b ↦ inr b ]))
-filled_in m used (None ∷ kept) below room k (inl e) =
-    (subst (λ j. j < m) (sym e) (free_below m used (omega (arith, room))), inr (λ h. free_apart used (subst (Among used) e h)))
+filled_in m used (None ∷ kept) below room k (inl e) = grind (arith, free_below, free_apart)
 filled_in m used (None ∷ kept) below room k (inr h) =
     (let t = filled_in m (free_place used ∷ used) kept below (omega (arith, room)) k h in (t.0, elim t.1 [ inl a ↦ inl a | inr b ↦ inr (λ u. b (inr u)) ]))
 
@@ -110,11 +109,7 @@ kept_count (Some k ∷ kept) = (let more = kept_count kept in omega (arith, more
 place_among : (before : Table) (old : List ℕ) (name : Name) (k : ℕ) → place_of before old name ≡ Some k → Among old k
 place_among [] old name k e = absurd (cc)
 place_among (p ∷ picks) [] name k e = absurd (cc)
-place_among (p ∷ picks) (j ∷ old) name k e = by (name_eq name p.name) e (place_among picks old name k)
-  where
-    by : (b : Bool) → (if b then Some j else place_of picks old name) ≡ Some k → (place_of picks old name ≡ Some k → Among old k) → Among (j ∷ old) k
-    by true e more = inl (let same : k ≡ j = cc in same)
-    by false e more = inr (more e)
+place_among (p ∷ picks) (j ∷ old) name k e = grind (arith, place_among picks old name k)
 
 -- a place leads back to its task
 place_once : (before : Table) (old : List ℕ) → Differ old → (a b : Name) (k : ℕ) → place_of before old a ≡ Some k → place_of before old b ≡ Some k → a ≡ b
@@ -132,13 +127,7 @@ place_once (p ∷ picks) (j ∷ old) differ a b k e f = by (name_eq a p.name) re
 -- what is kept is the place of some row
 kept_from : (before : Table) (old : List ℕ) (now : Table) (k : ℕ) → Among (all_kept (kept_places before old now)) k → (p : Pick) × Among now p × (place_of before old p.name ≡ Some k)
 kept_from before old [] k h = absurd h
-kept_from before old (p ∷ picks) k h = by (place_of before old p.name) refl h (kept_from before old picks k)
-  where
-    by : (o : Option ℕ) → place_of before old p.name ≡ o → Among (all_kept (o ∷ kept_places before old picks)) k
-        → (Among (all_kept (kept_places before old picks)) k → (r : Pick) × Among picks r × (place_of before old r.name ≡ Some k)) → (r : Pick) × Among (p ∷ picks) r × (place_of before old r.name ≡ Some k)
-    by None e h more = (let t = more h in (t.0, inr t.1, t.2))
-    by (Some j) e (inl i) more = (p, inl refl, e ∙ ap (λ n. Some n) (sym i))
-    by (Some j) e (inr h) more = (let t = more h in (t.0, inr t.1, t.2))
+kept_from before old (p ∷ picks) k h = grind (arith, kept_from before old picks k)
 
 -- what is kept was a place before
 pub kept_among : (before : Table) (old : List ℕ) (now : Table) (k : ℕ) → Among (all_kept (kept_places before old now)) k → Among old k

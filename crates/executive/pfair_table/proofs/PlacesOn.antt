@@ -3,7 +3,7 @@ use Rattle.std.proofs.Common.{ℕ, zero, suc, ◌-◌, ◌<◌, ◌≡◌, refl,
 use Rattle.std.specs.Prelude.{slice_get}
 use Rattle.std.specs.List.{AllByRecursion}
 use Rattle.std.proofs.lemmas.Option.{slice_get-get_or}
-use Rattle.pfair_replica.specs.Replica.{Replica, numbers_below}
+use Rattle.pfair_replica.specs.Replica.{Replica, said, numbers_below}
 use Rattle.pfair_weight.proofs.NamesApart.{apart_nil}
 use Rattle.pfair_table.specs.declared.pick.Decided.{Decided}
 use Rattle.pfair_table.specs.declared.pick.Pick.{Pick}
@@ -57,9 +57,7 @@ few_below m before old below (now ∷ tables) few =
     (all_among (λ k. k < m) (places_after before old now) here.below, few_below m now (places_after before old now) here.below tables few.1)
 
 pub last_below : (m : ℕ) (o : Origin) (tables : List Table) → AllByRecursion (λ k. k < m) (places_before o) → AllByRecursion (IsFit m) tables → AllByRecursion (λ k. k < m) (last_or (places_before o) (places_in o tables))
-last_below m o tables below few =
-    last_all (λ (ps : List ℕ). AllByRecursion (λ k. k < m) ps) (places_before o) (places_in o tables) below
-    (few_below m (table_before o) (places_before o) (among_all (λ k. k < m) (places_before o) below) tables few)
+last_below m o tables below few = grind (arith, last_all, few_below, among_all)
 
 -- ---- what a dispatcher plans
 
@@ -69,7 +67,7 @@ fit_plan {o} {s} {of} {tables} began plan =
     subst (AllByRecursion (IsFit s.processors)) (sym (plan.tables_are ∙ tables_listed o s of (length tables)))
     (all_among (IsFit s.processors) (map (table_from o s of) (numbers_below (length tables)))
     (λ rows h. (let t = among_map (table_from o s of) (numbers_below (length tables)) rows h in
-    let fit = ordered_from o s (named_before o s began) of t.0 in
+    let fit = ordered_from o s (named_before o s began) (said of) t.0 in
     subst (IsFit s.processors) (sym t.2) (fit.0, fit.2))))
 
 pub last_fit : (m : ℕ) (before : Table) (tables : List Table) → IsFit m before → AllByRecursion (IsFit m) tables → IsFit m (last_or before tables)
@@ -81,5 +79,4 @@ fit_before None s began = (omega arith, apart_nil (λ (p : Pick). p.name))
 fit_before (Some c) s began = began.rows
 
 pub below_before : (o : Origin) (s : Settings) → IsOrigin o s → AllByRecursion (λ k. k < s.processors) (places_before o)
-below_before None s began = tt
-below_before (Some c) s began = began.below
+below_before o s began = grind arith

@@ -1,5 +1,5 @@
 -- The queue of the members' next subtasks, through boundaries and quanta.
-use Rattle.std.proofs.Common.{ℕ, ◌+◌, ◌<◌, ◌≡◌, refl, sym, ap, ◌∙◌, subst, Bool, true, false, cond, List, [], ◌∷◌, ◌++◌, length, get_or, drop, Option, Some, None}
+use Rattle.std.proofs.Common.{ℕ, ◌+◌, ◌<◌, ◌≡◌, refl, sym, ap, ◌∙◌, subst, Bool, true, false, cond, List, [], ◌∷◌, ◌++◌, length, get_or, drop, Option, Some, None, arith}
 use Rattle.std.specs.Prelude.{◌||◌, find, not, is_some, slice_get, if◌then◌else◌}
 use Rattle.std.specs.Ordering.{eq_by_cmp}
 use Rattle.std.proofs.lemmas.Cmp.{nat_list_cmp_total}
@@ -22,7 +22,7 @@ use Rattle.pfair_entry.specs.declared.announcement.Announcement.{Announcement}
 use Rattle.pfair_entry.specs.Exact.{name_exact, name_itself}
 use Rattle.std.proofs.lemmas.Option.{none-some, same_Some, slice_get_within, get_or_from_slice_get}
 use Rattle.pfair_ready.specs.Queue.{Queue}
-use Rattle.pfair_admission.specs.Admission.{Machine, is_named, member_named, newcomer, with_delay, with_freeing, change, effect, decision, present, is_freed, all_decided, boundary, announcements}
+use Rattle.pfair_admission.specs.Admission.{Machine, is_named, member_named, change, effect, present, is_freed, all_decided, boundary, announcements}
 use Rattle.pfair_admission.specs.Member.{Member, is_departing, eligible_from, next_key}
 use Rattle.pfair_admission.specs.declared.decision.Decision.{Decision}
 use Rattle.pfair_table.specs.Queue.{queued, IsQueue, IsQueueBesides, IsQueueBut, IsToldOf, is_of_some, is_said}
@@ -53,18 +53,12 @@ found_other name other f keeps e (m ∷ members) = by (name_eq other m.name) ref
 -- and its own member is found changed
 pub found_changed : (name : Name) (f : Member → Member) → ((m : Member) → (f m).name ≡ m.name) → (members : List Member) (m : Member) → member_named members name ≡ Some m → member_named (change name f members) name ≡ Some (f m)
 found_changed name f keeps [] m e = absurd (none-some m e)
-found_changed name f keeps (x ∷ members) m e = by (name_eq name x.name) refl e (found_changed name f keeps members m)
-  where
-    by : (b : Bool) → name_eq name x.name ≡ b → cond b (Some x) (member_named members name) ≡ Some m → (member_named members name ≡ Some m → member_named (change name f members) name ≡ Some (f m))
-        → find (is_named name) ((if b then f x else x) ∷ change name f members) ≡ Some (f m)
-    by true q e more = ap (λ b. cond b (Some (f x)) (member_named (change name f members) name)) (ap (name_eq name) (keeps x) ∙ q) ∙ ap (λ (y : Member). Some (f y)) (same_Some x m e)
-    by false q e more = ap (λ b. cond b (Some x) (member_named (change name f members) name)) q ∙ more e
+found_changed name f keeps (x ∷ members) m e = grind (arith, same_Some, found_changed name f keeps members m)
 
 -- ---- a boundary changes nothing in the queue but of those that something was said about
 
 freed_departs : (t : ℕ) (o : Option ℕ) → not (is_freed t o) ≡ false → is_some o ≡ true
-freed_departs t None e = absurd (true≢false e)
-freed_departs t (Some slot) e = refl
+freed_departs t o e = grind (arith, true≢false)
 
 quiet_present : (t : ℕ) (name : Name) (members : List Member) → NamesApart (λ (m : Member). m.name) members → queued (member_named (present t members) name) ≡ queued (member_named members name)
 quiet_present t name [] a = refl
@@ -81,29 +75,15 @@ quiet_present t name (m ∷ members) a = by (not (is_freed t m.freed_at)) (name_
     by false false p q more = more
 
 quiet_effect : (t : ℕ) (name : Name) (members : List Member) (a : Announcement) (d : Decision) → name_eq name (name_of a) ≡ false → member_named (effect t members a d) name ≡ member_named members name
-quiet_effect t name members a d e =
-    by_effect (λ ms. member_named ms name ≡ member_named members name) t members refl a d
-    (λ other w early is admitted. find_push (is_named name) members (newcomer t other w early) (other_name is))
-    (λ other slot is _. found_other name other (with_freeing slot) (λ m. refl) (other_name is) members)
-    (λ other index by is _. found_other name other (with_delay index by) (λ m. refl) (other_name is) members)
-  where
-    other_name : {b : Announcement} → a ≡ b → name_eq name (name_of b) ≡ false
-    other_name is = subst (λ b. name_eq name (name_of b) ≡ false) is e
+quiet_effect t name members a d e = grind (arith, by_effect, find_push, found_other)
 
 quiet_decided : (mc : Machine) (t : ℕ) (name : Name) (heard : List Said) (members : List Member) → NamesApart (λ (m : Member). m.name) members → is_said name heard ≡ false → queued (member_named (all_decided mc t members (announcements heard)) name) ≡ queued (member_named members name)
 quiet_decided mc t name [] members a e = refl
-quiet_decided mc t name (said ∷ heard) members a e =
-    let parts = or_parts (name_eq name (name_of said.2)) (is_said name heard) e in
-    let changed = effect t members said.2 (decision mc t members said.2) in
-    let named = apart_effect mc t members said.2 a in
-    quiet_decided mc t name heard (present t changed) (apart_present t changed named) parts.1
-    ∙ quiet_present t name changed named
-    ∙ ap queued (quiet_effect t name members said.2 (decision mc t members said.2) parts.0)
+quiet_decided mc t name (said ∷ heard) members a e = grind (arith, or_parts, apart_effect, apart_present, quiet_present, quiet_effect, quiet_decided mc t name heard)
 
 -- So a queue of the members before a boundary is one of the members after it, but for the names that something was said about.
 pub queue_after_boundary : (mc : Machine) (t : ℕ) (heard : List Said) (members : List Member) (waiting : Queue) → NamesApart (λ (m : Member). m.name) members → IsQueue members waiting → IsQueueBut heard (boundary mc t members (announcements heard)) waiting
-queue_after_boundary mc t heard members waiting named queue name e =
-    queue name ∙ sym (quiet_decided mc t name heard (present t members) (apart_present t members named) e ∙ quiet_present t name members named)
+queue_after_boundary mc t heard members waiting named queue name e = grind (arith, quiet_decided, apart_present, quiet_present)
 
 -- ---- one task's entry anew
 
@@ -177,11 +157,7 @@ told_next told members m before middle after new from key found stays from_is ke
 
 -- one name that the ready structure was notified of is one less to notify of
 pub told_one : (said : Said) (heard : List Said) (members : List Member) (before after : Queue) → IsQueueBut (said ∷ heard) members before → IsToldOf (name_of said.2) members before after → IsQueueBut heard members after
-told_one said heard members before after queue told name e = by (name_eq name (name_of said.2)) refl (told name)
-  where
-    by : (b : Bool) → name_eq name (name_of said.2) ≡ b → finmap.get after name ≡ (if b then queued (member_named members (name_of said.2)) else finmap.get before name) → finmap.get after name ≡ queued (member_named members name)
-    by true q is = is ∙ ap (λ n. queued (member_named members n)) (sym (name_exact name (name_of said.2) q))
-    by false q is = is ∙ queue name (ap (λ b. b || is_said name heard) q ∙ e)
+told_one said heard members before after queue told name e = grind (arith, name_exact)
 
 -- the item at a place of a list, and what is left from it on
 pub drop_item : {A : Type 0} (xs : List A) (i : ℕ) (x : A) → i < length xs → x ≡ get_or xs i x → drop i xs ≡ x ∷ drop (i + 1) xs
@@ -197,9 +173,7 @@ told_turn heard i said members before after l e queue told =
 
 none_named : (name : Name) (members : List Member) → is_of_some name members ≡ false → member_named members name ≡ None
 none_named name [] e = refl
-none_named name (m ∷ members) e =
-    let parts = or_parts (name_eq name m.name) (is_of_some name members) e in
-    ap (λ b. cond b (Some m) (member_named members name)) parts.0 ∙ none_named name members parts.1
+none_named name (m ∷ members) e = grind (arith, or_parts, none_named name members)
 
 -- an empty one has to be notified of all members
 pub besides_all : (members : List Member) (waiting : Queue) → waiting ≡ finmap.empty → IsQueueBesides members members waiting

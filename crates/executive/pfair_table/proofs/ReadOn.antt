@@ -8,7 +8,7 @@ use Rattle.std.proofs.Math.Seq.{take-length, take-suc}
 use Rattle.pfair_lattice.specs.declared.flat.Flat.TheVariants.{One, Torn}
 use Rattle.pfair_entry.specs.Entry.{Logged}
 use Rattle.pfair_replica.specs.Agenda.{said_at}
-use Rattle.pfair_replica.specs.Replica.{Replica, IsReplica, Below, Untorn, numbers_below, sound_beginning, said_by, said_in, said_behind, said}
+use Rattle.pfair_replica.specs.Replica.{Replica, IsReplica, Below, Untorn, numbers_below, sound_beginning, said_in, said_behind, said}
 use Rattle.pfair_replica.proofs.SoundEntries.{some_at, held_within, beginnings_grow}
 use Rattle.pfair_table.specs.declared.readings.Reading.{Reading}
 use Rattle.pfair_table.specs.Readings.{IsReadingOf, AreReadingsOf, said_by_all}
@@ -17,10 +17,7 @@ use Rattle.pfair_table.specs.Readings.{IsReadingOf, AreReadingsOf, said_by_all}
 said_split : (t k n m : ℕ) (es : List Logged) → said_in t k n (take m es) ++ said_in t k (n + m) (drop m es) ≡ said_in t k n es
 said_split t k n zero es = ap (λ j. said_in t k j es) (let none : n + 0 ≡ n = omega arith in none)
 said_split t k n (suc m) [] = refl
-said_split t k n (suc m) (e ∷ es) =
-    append_assoc (said_by t k n e.said) (said_in t k (suc n) (take m es)) (said_in t k (n + suc m) (drop m es))
-    ∙ ap (λ j. said_by t k n e.said ++ (said_in t k (suc n) (take m es) ++ said_in t k j (drop m es))) (let next : n + suc m ≡ suc n + m = omega arith in next)
-    ∙ ap (λ xs. said_by t k n e.said ++ xs) (said_split t k (suc n) m es)
+said_split t k n (suc m) (e ∷ es) = grind (arith, append_assoc, said_split t k (suc n) m es)
 
 -- what is behind the entries that were read, read too
 pub read_whole : (x : Replica) (k : ℕ) (before after : Reading) → IsReadingOf k (sound_beginning x k) before → after.count ≡ length (sound_beginning x k)

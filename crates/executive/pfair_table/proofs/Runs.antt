@@ -1,14 +1,13 @@
 -- Whatever events come, a slot that was planned has the table of a replica that is still held, and every other dispatcher
 -- that agrees has it too.
 use Rattle.pfair_replica.specs.HeldRows.{replica_of}
-use Rattle.std.proofs.Common.{ℕ, zero, suc, ◌<◌, ◌≤◌, ◌≡◌, refl, sym, ap, ◌∙◌, subst, arith, inl, inr, Bool, true, false, List, [], ◌∷◌, ◌++◌, length, min, Some}
+use Rattle.std.proofs.Common.{ℕ, zero, suc, ◌<◌, ◌≤◌, ◌≡◌, refl, sym, ◌∙◌, subst, arith, inl, inr, Bool, true, false, List, [], ◌∷◌, ◌++◌, length, min, Some}
 use Rattle.std.specs.Prelude.{◌&&◌, not, nat_lt, map, slice_get, if◌then◌else◌}
 use Rattle.std.specs.List.{AllByRecursion}
 use Rattle.std.proofs.lemmas.List.{length-map, map-append, length-append}
 use Rattle.std.proofs.lemmas.Bool.{ltb-true, and_parts, not-true, cases_lt}
 use Rattle.std.proofs.lemmas.Option.{none-some, same_Some}
-use Rattle.pfair_lattice.specs.declared.flat.Flat.TheVariants.{One, Torn}
-use Rattle.pfair_lattice.specs.Held.{held_join}
+use Rattle.pfair_lattice.specs.declared.flat.Flat.TheVariants.{Torn}
 use Rattle.pfair_lattice.specs.HeldLaws.{join_least, join_first, join_second, below_itself, below_trans}
 use Rattle.pfair_entry.specs.Entry.{Logged, IsEntry}
 use Rattle.pfair_entry.specs.Same.{entry_eq}
@@ -52,28 +51,15 @@ length_numbers (suc n) = (let more = length_numbers n in let sum = length-append
 
 pub get_numbers : {B : Type 0} (f : ℕ → B) (n t : ℕ) → t < n → slice_get (map f (numbers_below n)) t ≡ Some (f t)
 get_numbers f zero t h = absurd (omega (arith, h))
-get_numbers f (suc n) t h =
-    let long = length-map (numbers_below n) f ∙ length_numbers n in
-    ap (λ xs. slice_get xs t) (map-append f (numbers_below n) (n ∷ []))
-    ∙ elim (cases_lt t n) [
-      | inl l ↦ get_left (map f (numbers_below n)) (f n ∷ []) t (omega (arith, l, long)) ∙ get_numbers f n t l
-      | inr g ↦ (let e : t ≡ length (map f (numbers_below n)) = omega (arith, h, g, long) in
-          ap (slice_get (map f (numbers_below n) ++ f n ∷ [])) e ∙ get_last (map f (numbers_below n)) (f n) ∙ ap (λ k. Some (f k)) (let e' : n ≡ t = omega (arith, h, g) in e'))
-    ]
+get_numbers f (suc n) t h = grind (arith, length-map, length_numbers, map-append, cases_lt, get_left, get_last, get_numbers f n t)
 
 -- ---- entries that are held stay held
 
 pub taken_of : (s : Settings) (x : Replica) (k n : ℕ) (e : Logged) → IsOf s x → IsEntry e → IsOf s (taken x k n e)
-taken_of s x k n e o stamped = record {
-  replica = offered_stays.taken_replica x k n e o.replica stamped;
-  processors = (offered_stays.taken_shape x k n e).0 ∙ o.processors;
-}
+taken_of s x k n e o stamped = grind (arith, offered_stays)
 
 pub absorbed_of : (s : Settings) (x y : Replica) → IsOf s x → IsReplica y → IsOf s (absorbed x y)
-absorbed_of s x y o r = record {
-  replica = offered_stays.absorbed_replica x y o.replica r;
-  processors = (offered_stays.absorbed_shape x y).0 ∙ o.processors;
-}
+absorbed_of s x y o r = grind (arith, offered_stays)
 
 pub below_all : (x y z : Replica) → Below x y → Below y z → Below x z
 below_all x y z f g k n = below_trans (x.at k n) (y.at k n) (z.at k n) (f k n) (g k n)
@@ -133,15 +119,7 @@ sound_next s c sound ok =
         | inr new ↦ (
           c.held,
           (λ k n. below_itself (c.held.at k n)),
-          (let e : u ≡ t = omega (arith, new, l, lt) in
-              subst (WasPlanned c.origin s c.held tables decided) e (record {
-                is_of = sound.is_of;
-                whole = untorn_by_test c.held sound.is_of.replica (not-true (has_torn c.held) p.0);
-                early = ltb-true u (frontier c.held) q.0;
-                wanted = ltb-true u s.slots q.1;
-                table_is = get_last c.tables (table_from c.origin s c.held u);
-                decided_is = ap (slice_get decided) (sym same) ∙ get_last c.decided (decisions_from c.origin s c.held u);
-              })),
+          (grind (arith, untorn_by_test, not-true, ltb-true, get_last)),
         )
       ];
     }
@@ -160,33 +138,18 @@ sound_run s [] c all sound = sound
 sound_run s (e ∷ events) c all sound = sound_run s events (happens s c e) all.1 (sound_happens s c e all.0 sound)
 
 sound_start : (s : Settings) (capacity : ℕ) → IsSound s (start s capacity)
-sound_start s capacity = record {
-  is_of = record { replica = record { in_range = λ k n c h. absurd (none-some c h); stamped = λ k n e h. absurd (none-some (One e) h) }; processors = refl };
-  as_many = refl;
-  planned = λ t l. absurd (omega (arith, l));
-}
+sound_start s capacity = grind (arith, none-some)
 
 -- what is below two that agree agrees
 agree_down : (x a y b : Replica) → Below x a → Below y b → Agree a b → Agree x y
-agree_down x a y b f g agree k n torn =
-    let top = held_join entry_eq (a.at k n) (b.at k n) in
-    let below = join_least entry_eq entry_exact (x.at k n) (y.at k n) top
-    (below_trans (x.at k n) (a.at k n) top (f k n) (join_first entry_eq entry_exact (a.at k n) (b.at k n)))
-    (below_trans (y.at k n) (b.at k n) top (g k n) (join_second entry_eq entry_exact (a.at k n) (b.at k n))) in
-    elim (below Torn torn) [ inl h ↦ agree k n h | inr h ↦ agree k n h ]
+agree_down x a y b f g agree k n torn = grind (arith, join_least, entry_exact, below_trans, join_first, join_second)
 
 pub untorn_left : (x y : Replica) → Agree x y → Untorn x
 untorn_left x y agree k n torn = elim (join_first entry_eq entry_exact (x.at k n) (y.at k n) Torn torn) [ inl h ↦ agree k n h | inr h ↦ agree k n h ]
 
 -- events don't change where the run began
 origin_happens : (s : Settings) (c : Course) (e : Event) → (happens s c e).origin ≡ c.origin
-origin_happens s c (Take k n e) = refl
-origin_happens s c (Absorb y) = refl
-origin_happens s c Plan = by (is_plannable s c.held (length c.tables))
-  where
-    by : (b : Bool) → (if b then with_next_slot s c else c).origin ≡ c.origin
-    by true = refl
-    by false = refl
+origin_happens s c e = grind arith
 
 origin_stays : (s : Settings) (events : List Event) (c : Course) → (run s c events).origin ≡ c.origin
 origin_stays s [] c = refl
@@ -200,14 +163,7 @@ planned_now s c sound whole t l =
     let le = frontier_le p.0 c.held sound.is_of.replica (w.is_of.processors ∙ sym sound.is_of.processors) p.1 whole in
     let early : t < frontier c.held = omega (arith, le, w.early) in
     let same = one_table_from c.origin s p.0 c.held w.is_of sound.is_of (below_agree p.0 c.held p.1 whole) t w.early early in
-    record {
-      is_of = sound.is_of;
-      whole = whole;
-      early = early;
-      wanted = w.wanted;
-      table_is = w.table_is ∙ ap Some same.0;
-      decided_is = w.decided_is ∙ ap Some same.1;
-    }
+    grind arith
 
 pub one_schedule : OneSchedule
 one_schedule s m n es fs all_es all_fs agree t lc ld =
@@ -218,12 +174,7 @@ one_schedule s m n es fs all_es all_fs agree t lc ld =
     let w = (sound_run s fs (start s n) all_fs (sound_start s n)).planned t ld in
     let there = one_table s c.held w.0 sound.is_of w.2.is_of (agree_down c.held c.held w.0 d.held (λ k n. below_itself (c.held.at k n)) w.1 agree) t v.early w.2.early in
     let first = origin_stays s es (start s m) in
-    let other = origin_stays s fs (start s n) in (
-      v.table_is ∙ ap (λ o. Some (table_from o s c.held t)) first,
-      w.2.table_is ∙ ap (λ o. Some (table_from o s w.0 t)) other ∙ ap Some (sym there.0),
-      v.decided_is ∙ ap (λ o. Some (decisions_from o s c.held t)) first,
-      w.2.decided_is ∙ ap (λ o. Some (decisions_from o s w.0 t)) other ∙ ap Some (sym there.1),
-    )
+    grind (arith, origin_stays)
 
 -- a list of as many tables, each that of its slot, begins the plan
 begins_plan : (s : Settings) (x : Replica) (tables : List Table) → length tables ≤ min (frontier x) s.slots → ((t : ℕ) → t < length tables → slice_get tables t ≡ Some (table s x t)) → IsPrefixOf tables (plan s x)
@@ -235,13 +186,10 @@ begins_plan s x tables le each =
 
 -- each number below n is below m
 all_below : (n m : ℕ) → ((t : ℕ) → t < n → t < m) → n ≤ m
-all_below zero m h = omega arith
-all_below (suc n) m h = h n (omega arith)
+all_below n m h = grind arith
 
 pub plan_so_far : PlanSoFar
 plan_so_far s m events all untorn =
     let c = run_of s m events in
     let now = planned_now s c (sound_run s events (start s m) all (sound_start s m)) untorn in
-    begins_plan s c.held c.tables
-    (all_below (length c.tables) (min (frontier c.held) s.slots) (λ t l. (let w = now t l in omega (arith, w.early, w.wanted))))
-    (λ t l. (now t l).table_is ∙ ap (λ o. Some (table_from o s c.held t)) (origin_stays s events (start s m)))
+    grind (arith, begins_plan, all_below, origin_stays)

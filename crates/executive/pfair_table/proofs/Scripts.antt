@@ -1,14 +1,15 @@
 -- Logs as a run has them.
-use Rattle.std.proofs.Common.{ℕ, zero, suc, ◌+◌, ◌<◌, ◌≤◌, ◌≡◌, Bool, true, refl, sym, ap, ◌∙◌, arith, List, [], ◌∷◌, ◌++◌, take, Option, Some, None, Vec, Global, length, slice_get, slice_index_or}
-use Rattle.std.specs.Prelude.{◌≢◌, ◌==◌, nat_lt, nat_le, ◌&&◌, if◌then◌else◌}
+use Rattle.std.proofs.lemmas.Grind.{common_steps}
+use Rattle.std.proofs.Common.{ℕ, zero, suc, ◌+◌, ◌<◌, ◌≤◌, ◌≡◌, true, refl, sym, ap, ◌∙◌, arith, List, [], ◌∷◌, ◌++◌, take, Option, Some, None, Vec, Global, length, slice_get, slice_index_or}
+use Rattle.std.specs.Prelude.{◌≢◌, ◌==◌, ◌&&◌, if◌then◌else◌}
 use Rattle.std.proofs.lemmas.Option.{none-some, same_Some, slice_get_within, get_or_from_slice_get}
 use Rattle.std.proofs.lemmas.Bool.{leb-true, lt-ltb, le-leb, ne_eqb, and_from, and_parts}
 use Rattle.pfair_lattice.specs.declared.flat.Flat.TheVariants.{One, Torn}
 use Rattle.pfair_lattice.specs.Held.{held_join}
 use Rattle.pfair_entry.specs.Same.{entry_eq}
 use Rattle.pfair_replica.specs.HeldAfter.{join_none}
-use Rattle.pfair_replica.specs.Replica.{Untorn, only, with_entry}
-use Rattle.pfair_replica.specs.Offered.{has_key, taken}
+use Rattle.pfair_replica.specs.Replica.{Untorn, only}
+use Rattle.pfair_replica.specs.Offered.{taken}
 use Rattle.std.specs.List.{list_all}
 use Rattle.std.proofs.lemmas.List.{length-map, take_more, length-take-le}
 use Rattle.std.proofs.Math.Seq.{take-length}
@@ -16,8 +17,7 @@ use Rattle.std.proofs.Math.Dec.{eqb-suc-zero, eqb-zero-suc, eqb-suc-suc}
 use Rattle.std.proofs.lemmas.List.Folds.{list_all-map}
 use Rattle.pfair_entry.specs.Entry.{Logged}
 use Rattle.pfair_table.specs.Table.{Settings}
-use Rattle.std.specs.Prelude.{Result, Ok, Err, IsErrAnd, IfErr}
-use Rattle.std.proofs.Common.{subst}
+use Rattle.std.specs.Prelude.{Result, IsErrAnd, IfErr}
 use Rattle.pfair_replica.specs.Replica.{frontier}
 use Rattle.pfair_table.specs.declared.run_fault.RunFault.{RunFault}
 use Rattle.pfair_table.specs.declared.run_fault.RunFault.TheVariants.{Stalled}
@@ -25,10 +25,7 @@ use Rattle.pfair_table.specs.ScriptRun.{IsScriptFaultOf}
 use Rattle.pfair_table.specs.Script.{LoggedRun, IsLoggedRun, is_short, lists_of, entry_of, row_of, contents_of, held_of, replica_of_logs, capacity_of}
 
 pub logged_run : (s : Settings) (logs : List (Vec Logged Global)) → length logs ≡ s.processors → list_all (λ log. is_short log.items) logs ≡ true → IsLoggedRun (record { settings = s; logs = lists_of logs })
-logged_run s logs count short = record {
-  one_each = length-map logs (λ log. log.items) ∙ count;
-  short = list_all-map is_short (λ log. log.items) logs ∙ short;
-}
+logged_run s logs count short = grind (arith, length-map, list_all-map)
 
 pub logs_short : (s : Settings) (logs : List (Vec Logged Global)) → IsLoggedRun (record { settings = s; logs = lists_of logs }) → list_all (λ log. is_short log.items) logs ≡ true
 logs_short s logs run = sym (list_all-map is_short (λ log. log.items) logs) ∙ run.short
@@ -51,8 +48,7 @@ one_more : (logs : List (List Logged)) (log : List Logged) (i : ℕ) (e : Logged
 one_more [] log i e h zero n = entry_more log i e h n
 one_more [] log i e h (suc j) n = ap (λ b. if b then (if n == suc i then Some (One e) else None) else None) (eqb-suc-zero j)
 one_more (x ∷ logs) log i e h zero n = ap (λ b. held_join entry_eq (entry_of x n) (if b then (if n == suc i then Some (One e) else None) else None)) (eqb-zero-suc (length logs)) ∙ join_none (entry_of x n)
-one_more (x ∷ logs) log i e h (suc j) n =
-    ap (λ b. held_join entry_eq (contents_of (logs ++ take i log ∷ []) j n) (if b then (if n == suc i then Some (One e) else None) else None)) (eqb-suc-suc j (length logs)) ∙ one_more logs log i e h j n
+one_more (x ∷ logs) log i e h (suc j) n = grind (arith, eqb-suc-suc, one_more logs log i e h j n)
 
 -- an empty log more holds nothing more
 pub log_begun : (logs begun : List (List Logged)) → held_of logs begun ≡ held_of logs (begun ++ [] ∷ [])
@@ -80,27 +76,7 @@ log_at (first ∷ logs) (suc k) log h is = log_at logs k log (omega arith) is
 -- to take the next entry of a log is to hold one more
 pub taken_next : (logs : List (List Logged)) (k i : ℕ) (log : List Logged) (e : Logged) → slice_get logs k ≡ Some log → slice_get log i ≡ Some e
     → taken (held_of logs (take k logs ++ take i log ∷ [])) k (i + 1) e ≡ held_of logs (take k logs ++ take (i + 1) log ∷ [])
-taken_next logs k i log e at_k at_i =
-    ap (λ (b : Bool). if b then with_entry (held_of logs (take k logs ++ take i log ∷ [])) k (i + 1) e else held_of logs (take k logs ++ take i log ∷ [])) in_range
-    ∙ (λ x. record { processors = length logs; capacity = capacity_of logs; at = λ j n. more j n x })
-  where
-    inside : k < length logs
-    inside = slice_get_within logs k log at_k
-
-    in_range : has_key (held_of logs (take k logs ++ take i log ∷ [])) k (i + 1) ≡ true
-    in_range =
-        let place = slice_get_within log i e at_i in
-        let fits = log_fits logs k log at_k in
-        and_from (nat_lt k (length logs)) (nat_lt 0 (i + 1) && nat_le (i + 1) (capacity_of logs)) (lt-ltb k (length logs) inside)
-        (and_from (nat_lt 0 (i + 1)) (nat_le (i + 1) (capacity_of logs)) (lt-ltb 0 (i + 1) (omega arith)) (le-leb (i + 1) (capacity_of logs) (omega (arith, place, fits))))
-
-    more : (j n : ℕ) → held_join entry_eq (contents_of (take k logs ++ take i log ∷ []) j n) (only k (i + 1) e j n) ≡ contents_of (take k logs ++ take (i + 1) log ∷ []) j n
-    more j n =
-        let next : i + 1 ≡ suc i = omega arith in
-        let long : k ≡ length (take k logs) = sym (length-take-le k logs (omega (arith, inside))) in
-        (λ x. held_join entry_eq (contents_of (take k logs ++ take i log ∷ []) j n) (only (long x) (next x) e j n))
-        ∙ one_more (take k logs) log i e at_i j n
-        ∙ ap (λ m. contents_of (take k logs ++ take m log ∷ []) j n) (sym next)
+taken_next logs k i log e at_k at_i = grind (arith, slice_get_within, log_fits, and_from, lt-ltb, le-leb, length-take-le, one_more, common_steps)
 
 pub log_taken : (logs : List (List Logged)) (k : ℕ) (log : List Logged) → slice_get logs k ≡ Some log → held_of logs (take k logs ++ take (length log) log ∷ []) ≡ held_of logs (take (k + 1) logs)
 log_taken logs k log at_k =
@@ -115,11 +91,7 @@ capacity_some (log ∷ logs) = let some = capacity_some logs in omega (arith, so
 
 pub capacity_short : (logs : List (List Logged)) → list_all is_short logs ≡ true → capacity_of logs ≤ 4096
 capacity_short [] h = omega arith
-capacity_short (log ∷ logs) h =
-    let parts = and_parts (is_short log) (list_all is_short logs) h in
-    let first = leb-true (length log) 4096 parts.0 in
-    let rest = capacity_short logs parts.1 in
-    omega (arith, first, rest)
+capacity_short (log ∷ logs) h = grind (arith, and_parts, leb-true, capacity_short logs)
 
 pub log_is_short : (logs : List (List Logged)) (k : ℕ) (log : List Logged) → list_all is_short logs ≡ true → slice_get logs k ≡ Some log → length log ≤ 4096
 log_is_short logs k log short at_k = let most = capacity_short logs short in let fits = log_fits logs k log at_k in omega (arith, most, fits)
@@ -133,8 +105,7 @@ entry_whole (e ∷ log) (suc zero) h = absurd (cc)
 entry_whole (e ∷ log) (suc (suc n)) h = entry_whole log (suc n) h
 
 row_whole : (o : Option (List Logged)) (n : ℕ) → row_of o n ≢ Some Torn
-row_whole None n h = absurd (none-some Torn h)
-row_whole (Some log) n h = entry_whole log n h
+row_whole o n h = grind (arith, none-some, entry_whole)
 
 pub script_whole : (logs : List (List Logged)) → Untorn (replica_of_logs logs)
 script_whole logs k n h = row_whole (slice_get logs k) n h
@@ -144,5 +115,4 @@ script_whole logs k n h = row_whole (slice_get logs k) n h
 -- a script stalls if its frontier is too low
 pub stalls : {T : Type 0} (run : LoggedRun) (r : Result T RunFault) (fault : RunFault) (mark slots : ℕ) → IsErrAnd r (λ e. e ≡ fault) → mark ≡ frontier (replica_of_logs run.logs) → slots ≡ run.settings.slots
     → (fault ≡ Stalled mark) × (mark < slots) → IfErr r (IsScriptFaultOf run)
-stalls run (Ok x) fault mark slots own mark_is slots_are stalled = absurd own
-stalls run (Err e) fault mark slots own mark_is slots_are stalled = subst (IsScriptFaultOf run) (sym (own ∙ stalled.0)) (mark_is, (let below = stalled.1 in omega (arith, below, slots_are)))
+stalls run r fault mark slots own mark_is slots_are stalled = grind arith

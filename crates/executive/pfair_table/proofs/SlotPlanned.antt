@@ -1,7 +1,7 @@
 -- What plans slots of a replica that is handed in is in step with that.
-use Rattle.std.proofs.Common.{ℕ, suc, min, ◌+◌, ◌≤◌, ◌<◌, ◌≡◌, refl, sym, ap, ◌∙◌, subst, arith, Bool, true, false, not, List, [], ◌∷◌, ◌++◌, length}
+use Rattle.std.proofs.Common.{ℕ, suc, min, ◌+◌, ◌≤◌, ◌<◌, ◌≡◌, sym, ap, ◌∙◌, subst, arith, Bool, false, not, List, [], ◌∷◌, ◌++◌, length}
 use Rattle.std.specs.Prelude.{◌&&◌, nat_lt, IsTrue, Some, None}
-use Rattle.std.proofs.lemmas.Bool.{lt-ltb, le-ltb, and_from}
+use Rattle.std.proofs.lemmas.Bool.{le-ltb}
 use Rattle.std.proofs.lemmas.List.{length-map, map-append}
 use Rattle.pfair_replica.specs.HeldRows.{HeldRows, replica_of}
 use Rattle.pfair_replica.specs.Replica.{Replica, IsReplica, has_torn, frontier, numbers_below}
@@ -9,9 +9,8 @@ use Rattle.pfair_ready.specs.Queue.{Queue}
 use Rattle.pfair_admission.specs.Roster.{Roster}
 use Rattle.pfair_table.specs.declared.pick.Decided.{Decided}
 use Rattle.pfair_table.specs.Events.{is_plannable}
-use Rattle.pfair_table.specs.Table.{Settings, Table, table, decisions, table_from, decisions_from}
+use Rattle.pfair_table.specs.Table.{Settings, Table, table, decisions}
 use Rattle.pfair_table.specs.declared.slot.SlotPlan.{SlotPlan}
-use Rattle.pfair_table.specs.PlaceLaws.{IsFit}
 use Rattle.pfair_table.specs.Refinement.{Dispatch, IsInStep, IsKept, IsWholePlan}
 use Rattle.pfair_table.specs.SlotPlans.{tables_to, decided_to, IsNextPlan, after_plan}
 use Rattle.pfair_table.proofs.Keeping.{plan_now, step_now, kept_next, tables_listed, whole_plan}
@@ -20,19 +19,11 @@ use Rattle.pfair_table.proofs.TableLaws.{tables_are_ordered}
 
 -- ---- whether a slot can be planned
 
-plannable : (s : Settings) (x : Replica) (n : ℕ) → has_torn x ≡ false → n < frontier x → n < s.slots → is_plannable s x n ≡ true
-plannable s x n whole settled wanted =
-    and_from (not (has_torn x)) (nat_lt n (frontier x) && nat_lt n s.slots) (ap not whole)
-    (and_from (nat_lt n (frontier x)) (nat_lt n s.slots) (lt-ltb n (frontier x) settled) (lt-ltb n s.slots wanted))
-
 both_false : (a b c : Bool) → c ≡ false → (a && (b && c)) ≡ false
-both_false true true c e = e
-both_false true false c e = refl
-both_false false b c e = refl
+both_false a b c e = grind arith
 
 one_false : (a b c : Bool) → b ≡ false → (a && (b && c)) ≡ false
-one_false true b c e = ap (λ t. t && c) e
-one_false false b c e = refl
+one_false a b c e = grind arith
 
 none_left : (s : Settings) (x : Replica) (n : ℕ) → s.slots ≤ n → is_plannable s x n ≡ false
 none_left s x n le = both_false (not (has_torn x)) (nat_lt n (frontier x)) (nat_lt n s.slots) (le-ltb n s.slots le)
@@ -67,20 +58,11 @@ module _ (of : HeldRows) (n : ℕ) {s : Settings} {x : HeldRows} {spent : Bool} 
   no_slot_settled le = none_settled d.settings (replica_of d.held) (length d.tables) (omega (arith, le, planned_are))
 
   pub slot_plannable : has_torn (replica_of d.held) ≡ false → n < frontier (replica_of d.held) → n < s.slots → IsTrue (is_plannable d.settings (replica_of d.held) (length d.tables))
-  slot_plannable test early wanted =
-      plannable d.settings (replica_of d.held) (length d.tables) test (omega (arith, early, planned_are)) (omega (arith, wanted, planned_are, limit_is))
+  slot_plannable test early wanted = grind (arith, planned_are, limit_is)
 
   pub next_plan : (next : SlotPlan) → has_torn (replica_of d.held) ≡ false → n < frontier (replica_of d.held) → n < s.slots → s.processors ≤ 64
       → next.table.items ≡ table s (replica_of d.held) n → next.decided.items ≡ decisions s (replica_of d.held) n → IsNextPlan d (Some next)
-  next_plan next test early wanted most table_is decided_is =
-      let settings_are : s ≡ d.settings = ap (λ (e : Dispatch). e.settings) view in
-      let ordered = tables_are_ordered s (replica_of d.held) n in
-      let few = ordered.0 in (
-        slot_plannable test early wanted,
-        table_is ∙ (λ i. table_from ((view i).origin) (settings_are i) (replica_of d.held) (planned_are i)),
-        decided_is ∙ (λ i. decisions_from ((view i).origin) (settings_are i) (replica_of d.held) (planned_are i)),
-        subst (IsFit 64) (sym table_is) (omega (arith, few, most), ordered.2),
-      )
+  next_plan next test early wanted most table_is decided_is = grind (arith, tables_are_ordered, slot_plannable, planned_are)
 
 pub within : (of : HeldRows) (n : ℕ) {s : Settings} {x : Replica} {spent : Bool} {roster : Roster} {now : ℕ} {waiting : Queue} → IsKept None s x (tables_to s of n) (decided_to s of n) spent roster now waiting → n ≤ s.slots
 within of n {s} kept = omega (arith, kept.plan.wanted, tables_long s of n)
@@ -111,18 +93,7 @@ module _ (of : HeldRows) (n : ℕ) {s : Settings} {x : HeldRows} {spent : Bool} 
 
     pub kept_seen : {z : HeldRows} {roster2 : Roster} {now2 : ℕ} {waiting2 : Queue} → z ≡ d.held → n < frontier y → n < s.slots → IsInStep None s y (n + 1) roster2 now2 waiting2
         → IsKept None s (replica_of x) (tables_to s z (n + 1)) (decided_to s z (n + 1)) spent roster2 now2 waiting2
-    kept_seen {roster2} {now2} {waiting2} same early wanted step =
-        let long = tables_long s of n in
-        let held_is : x ≡ d.held = ap (λ (e : Dispatch). e.held) view in
-        subst (λ (h : HeldRows × HeldRows). IsKept None s (replica_of h.0) (tables_to s h.1 (n + 1)) (decided_to s h.1 (n + 1)) spent roster2 now2 waiting2) (λ i. (sym held_is i, sym same i))
-        (kept_next kept_of sound test (omega (arith, early, long)) (omega (arith, wanted, long))
-        (tables_more ∙ ap (λ k. tables_to s of n ++ table s y k ∷ []) (sym long))
-        (decided_more ∙ ap (λ k. decided_to s of n ++ decisions s y k ∷ []) (sym long))
-        (subst (λ k. IsInStep None s y k roster2 now2 waiting2) (sym (tables_long s d.held (n + 1))) step))
+    kept_seen {roster2} {now2} {waiting2} same early wanted step = grind (arith, tables_long, kept_next, kept_of, tables_more, table, decided_more)
 
     pub seen_after : {z : HeldRows} (next : SlotPlan) → z ≡ d.held → next.table.items ≡ table s y n → next.decided.items ≡ decisions s y n → at_slot s x z (n + 1) spent ≡ after_plan d (Some next)
-    seen_after next same table_is decided_is =
-        let tables_are = ap (λ h. tables_to s h (n + 1)) same ∙ tables_more ∙ (λ i. (view i).tables ++ sym table_is i ∷ []) in
-        let decided_are = ap (λ h. decided_to s h (n + 1)) same ∙ decided_more ∙ (λ i. (view i).decided ++ sym decided_is i ∷ []) in
-        let long = planned_are of n view in
-        λ i. record (view i) { tables = tables_are i; decided = decided_are i; forgotten = long i + 1 }
+    seen_after next same table_is decided_is = grind (arith, tables_more, decided_more, planned_are, tables_long, one_more, table, plan_now, kept_of, map-append)

@@ -1,7 +1,6 @@
 -- What holds before a slot holds before the next.
 use Rattle.std.proofs.Common.{ℕ, zero, suc, ◌+◌, ◌≤◌, ◌<◌, ◌≡◌, sym, subst, arith, Bool, true, false, List, Some, None}
 use Rattle.std.specs.Prelude.{if◌then◌else◌}
-use Rattle.std.specs.Option.{ForSome}
 use Rattle.std.specs.List.{AllByRecursion}
 use Rattle.pfair_entry.specs.declared.announcement.Announcement.{Announcement}
 use Rattle.pfair_entry.specs.Said.{Said}
@@ -17,7 +16,6 @@ use Rattle.pfair_table.specs.Limits.{IsOrigin}
 use Rattle.pfair_admission.specs.declared.members.TheConstants.Members.{LAST_SLOT}
 use Rattle.pfair_weight.specs.declared.window.TheConstants.{MAX_INDEX}
 use Rattle.pfair_admission.proofs.NamesKept.{apart_boundary}
-use Rattle.std.proofs.lemmas.Option.{same_Some}
 use Rattle.pfair_table.proofs.TableLaws.{ordered_from}
 use Rattle.pfair_table.proofs.Members.{label, named_before, named_ran}
 use Rattle.pfair_admission.proofs.Each.{each, each_map}
@@ -46,7 +44,7 @@ few_history o s most some named few x (suc t) =
     let world = world_from o s x t in
     let before = few_history o s most some named few x t in
     each (λ m. m.next ≤ most + t + 1) (λ m. m.next ≤ most + suc t) (λ m h. omega (arith, h)) (all_ran (table_from o s x t) world)
-    (few_ran (most + t) (table_from o s x t) (ordered_from o s named x t).2 world
+    (few_ran (most + t) (table_from o s x t) (ordered_from o s named (said x) t).2 world
     (few_boundary (most + t) (machine s) (slot_of o t) (omega (arith, some)) (announcements (said x t)) (history_from o s x t).members before))
 
 -- so in each slot that a run can have, a member can run
@@ -61,11 +59,7 @@ few_before o s began x t early =
 
 -- and its time is within that of members
 pub in_time : (o : Origin) (s : Settings) → IsOrigin o s → s.slots ≤ 1000000 → (t : ℕ) → t < s.slots → slot_of o t ≤ LAST_SLOT
-in_time None s began few t early = omega (arith, few, early)
-in_time (Some c) s began few t early = (let last = began.in_time in omega (arith, last, early))
-
-some_slot : (slot : ℕ) → ForSome (Some slot) (λ last. last ≤ slot + 1)
-some_slot slot x e = (let s = same_Some slot x e in omega (arith, s))
+in_time o s began few t early = grind arith
 
 -- after the quanta of a slot all is steady for the next
 pub steady_next : {slot now now2 : ℕ} {before after : Roster} {waiting waiting2 : Queue} (rows : Table) (heard : List Said)
@@ -73,12 +67,4 @@ pub steady_next : {slot now now2 : ℕ} {before after : Roster} {waiting waiting
     → let world = boundary before.machine slot before.members (announcements heard) in
     after.members ≡ all_ran rows world → after.last_slot ≡ Some slot → now2 ≡ slot → IsQueue after.members waiting2
     → IsSteady (slot + 1) after now2 waiting2
-steady_next {slot} {before} rows heard steady ran_are last_is now_is queue =
-    let world = boundary before.machine slot before.members (announcements heard) in
-    let named = apart_boundary before.machine slot before.members (announcements heard) steady.named in
-    record {
-      named = subst (NamesApart (λ (m : Member). m.name)) (sym ran_are) (named_ran rows world named);
-      queue = queue;
-      by_now = omega (arith, now_is);
-      order = subst (λ o. ForSome o (λ last. last ≤ slot + 1)) (sym last_is) (some_slot slot);
-    }
+steady_next {slot} {before} rows heard steady ran_are last_is now_is queue = grind (arith, apart_boundary, named_ran)

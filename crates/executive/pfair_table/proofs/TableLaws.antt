@@ -14,28 +14,21 @@ use Rattle.pfair_replica.specs.Replica.{Replica, Agree, said, frontier, numbers_
 use Rattle.pfair_replica.proofs.Marks.{same_said, mark_le, frontier_le, below_agree}
 use Rattle.pfair_admission.specs.Member.{Member, next_key}
 use Rattle.pfair_table.specs.Ranks.{first_by_rank}
-use Rattle.pfair_table.specs.Table.{Settings, Origin, eligible, is_eligible, chosen, pick, table_of, members_at, members_before, slot_of, slot_after, decided_at, history_from, world_from, table_from, decisions_from, table}
+use Rattle.pfair_table.specs.Table.{Settings, Origin, eligible, is_eligible, chosen, pick, members_before, slot_of, table_from, decisions_from, table, Story, history_over, world_over, table_over}
 use Rattle.pfair_table.specs.declared.pick.Pick.{Pick}
 use Rattle.pfair_table.specs.Laws.{IsOf, IsPrefixOf, OneTable, PlansGoOn, OnePlan, TablesAreOrdered}
 use Rattle.pfair_table.proofs.Members.{label, named_from}
 
 -- ---- one table
 
-pub same_history : (o : Origin) (s : Settings) (x y : Replica) (t : ℕ) → ((u : ℕ) → u < t → said x u ≡ said y u) → history_from o s x t ≡ history_from o s y t
+-- the past is made of what was said
+pub same_history : (o : Origin) (s : Settings) (x y : Story) (t : ℕ) → ((u : ℕ) → u < t → x u ≡ y u) → history_over o s x t ≡ history_over o s y t
 same_history o s x y zero same = refl
-same_history o s x y (suc t) same =
-    let now = same t (omega arith) in
-    let before = same_history o s x y t (λ u h. same u (omega (arith, h))) in
-    λ i. slot_after s (slot_of o t) (now i) (before i)
+same_history o s x y (suc t) same = grind (arith, same_history o s x y t)
 
 pub one_table_from : (o : Origin) (s : Settings) (x y : Replica) → IsOf s x → IsOf s y → Agree x y → (t : ℕ) → t < frontier x → t < frontier y
     → (table_from o s x t ≡ table_from o s y t) × (decisions_from o s x t ≡ decisions_from o s y t)
-one_table_from o s x y ox oy agree t h g =
-    let alike : (u : ℕ) → u < suc t → said x u ≡ said y u = λ u l. same_said x y ox.replica oy.replica (ox.processors ∙ sym oy.processors) agree u (omega (arith, h, l)) (omega (arith, g, l)) in
-    let past = same_history o s x y t (λ u l. alike u (omega (arith, l))) in
-    let now = alike t (omega arith) in
-    let at = slot_of o t in
-    (λ i. table_of s at (members_at s at (now i) (past i)), λ i. decided_at s at (now i) (past i))
+one_table_from o s x y ox oy agree t h g = grind (arith, same_said, same_history)
 
 pub one_table : OneTable
 one_table = one_table_from None
@@ -60,11 +53,7 @@ pub plans_go_on : PlansGoOn
 plans_go_on s x y ox oy below untorn =
     let same = ox.processors ∙ sym oy.processors in
     let le = frontier_le x y oy.replica same below untorn in
-    let agree = below_agree x y below untorn in (
-      mark_le x y oy.replica below untorn,
-      prefix_map (table s x) (table s y) (min (frontier x) s.slots) (min (frontier y) s.slots) (omega (arith, le))
-          (λ t l. (one_table s x y ox oy agree t (omega (arith, l)) (omega (arith, l, le))).0),
-    )
+    grind (arith, below_agree, mark_le, prefix_map, table, one_table)
 
 pub one_plan : OnePlan
 one_plan s x y ox oy agree =
@@ -85,20 +74,9 @@ pub rows_apart : (m t : ℕ) (members : List Member) → NamesApart label member
 rows_apart m t members named =
     apart_map (λ (k : Key). k.name) (λ (p : Pick). p.name) (pick members) (λ k. refl) (first_by_rank m (eligible t members)) (first_names m (eligible t members) (eligible_apart t members named))
 
-pub ordered_from : (o : Origin) (s : Settings) → NamesApart label (members_before o) → (x : Replica) (t : ℕ)
-    → (length (table_from o s x t) ≤ s.processors) × AllPairs GoesBefore (chosen s (slot_of o t) (world_from o s x t)) × NamesApart (λ p. p.name) (table_from o s x t)
-ordered_from o s before x t =
-    let members = world_from o s x t in
-    let at = slot_of o t in
-    let keys = eligible at members in
-    let named = named_from o s before x t in
-    let apart = eligible_apart at members named in
-    let few = length_first keys apart s.processors in
-    let same = length-map (chosen s at members) (pick members) in (
-      omega (arith, few, same),
-      rising_first keys apart s.processors,
-      rows_apart s.processors at members named,
-    )
+pub ordered_from : (o : Origin) (s : Settings) → NamesApart label (members_before o) → (x : Story) (t : ℕ)
+    → (length (table_over o s x t) ≤ s.processors) × AllPairs GoesBefore (chosen s (slot_of o t) (world_over o s x t)) × NamesApart (λ p. p.name) (table_over o s x t)
+ordered_from o s before x t = grind (arith, named_from, eligible_apart, length_first, length-map, rising_first, rows_apart)
 
 pub tables_are_ordered : TablesAreOrdered
-tables_are_ordered s x t = ordered_from None s (apart_nil label) x t
+tables_are_ordered s x t = ordered_from None s (apart_nil label) (said x) t

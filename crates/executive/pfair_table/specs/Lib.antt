@@ -14,6 +14,7 @@ pub mod Queue
 pub mod Faults
 pub mod Planned
 pub mod Refinement
+pub mod RunsOn
 pub mod NextRun
 pub mod PlaceLaws
 pub mod Readings

@@ -1,18 +1,17 @@
 -- What the run after a run begins with.
-use Rattle.std.specs.Prelude.{ℕ, ◌+◌, ◌≡◌, ◌≤◌, ◌<◌, true, false, List, [], length, map, Some, slice_get}
+use Rattle.std.specs.Prelude.{ℕ, ◌+◌, ◌≡◌, ◌≤◌, ◌<◌, true, false, List, [], length, Some, slice_get}
 use Rattle.std.specs.List.{AllByRecursion}
 use Rattle.pfair_replica.specs.HeldRows.{replica_of}
-use Rattle.pfair_replica.specs.Replica.{Agree, empty_replica, has_torn, torn_keys}
+use Rattle.pfair_replica.specs.Replica.{Agree, empty_replica, has_torn, said, torn_keys}
 use Rattle.pfair_admission.specs.Member.{Member}
-use Rattle.pfair_admission.specs.Carried.{carried, CanBeCarried, IsFirstLeft}
+use Rattle.pfair_admission.specs.Carried.{CanBeCarried, IsFirstLeft}
 use Rattle.pfair_admission.specs.declared.members.TheConstants.Members.{LAST_SLOT}
 use Rattle.pfair_table.specs.declared.answer.NextRunFault.{NextRunFault}
 use Rattle.pfair_table.specs.declared.answer.NextRunFault.TheVariants.{Torn, Spent, Unfinished, PastLastSlot, CannotCarry, Memory}
-use Rattle.pfair_table.specs.Table.{Carried, machine, slot_of}
-use Rattle.pfair_table.specs.Places.{table_before, places_before, places_in}
-use Rattle.pfair_table.specs.Planned.{last_or}
+use Rattle.pfair_table.specs.Table.{Carried, slot_of}
 use Rattle.pfair_table.specs.Events.{Course}
 use Rattle.pfair_table.specs.Refinement.{Dispatch, members_after}
+use Rattle.pfair_table.specs.RunsOn.{left_over}
 
 -- nothing is torn or spent, and all slots are planned
 pub record IsFinished (d : Dispatch) : Type 0 where
@@ -28,15 +27,9 @@ members_left d = members_after d.origin d.settings (replica_of d.held) d.setting
 abbrev pub end_of : Dispatch → ℕ
 end_of d = slot_of d.origin d.settings.slots
 
--- what the run after this one takes over: the members, each with the jobs that are over taken off, and the last table with its places
+-- what the run after this one takes over
 abbrev pub left_by : Dispatch → Carried
-left_by d = record {
-  slot = end_of d;
-  machine = machine d.settings;
-  members = map carried (members_left d);
-  table = last_or (table_before d.origin) d.tables;
-  places = last_or (places_before d.origin) (places_in d.origin d.tables);
-}
+left_by d = left_over d.origin d.settings (said (replica_of d.held)) d.settings.slots
 
 -- the next run at its start: with that taken over, it holds nothing and has planned nothing
 abbrev pub start_after : Dispatch → Course

@@ -121,21 +121,39 @@ with_decisions announced ds = map with_decision (zip announced ds)
 abbrev pub decided_at : Settings → ℕ → List Said → History → List Decided
 decided_at s t announced h = with_decisions announced (boundary_decisions (machine s) t h.members (announcements announced))
 
--- the slots before slot t of a run
-abbrev pub history_from : Origin → Settings → Replica → ℕ → History
-history_from o s x zero = record { members = members_before o; tables = [] }
-history_from o s x (suc t) = slot_after s (slot_of o t) (said x t) (history_from o s x t)
+-- what is said in each slot of a run
+abbrev pub Story : Type 0
+Story = ℕ → List Said
+
+-- the slots before slot t of a run in which that is said
+abbrev pub history_over : Origin → Settings → Story → ℕ → History
+history_over o s story zero = record { members = members_before o; tables = [] }
+history_over o s story (suc t) = slot_after s (slot_of o t) (story t) (history_over o s story t)
 
 -- the members in its slot t
-abbrev pub world_from : Origin → Settings → Replica → ℕ → List Member
-world_from o s x t = members_at s (slot_of o t) (said x t) (history_from o s x t)
+abbrev pub world_over : Origin → Settings → Story → ℕ → List Member
+world_over o s story t = members_at s (slot_of o t) (story t) (history_over o s story t)
 
-abbrev pub table_from : Origin → Settings → Replica → ℕ → Table
-table_from o s x t = table_of s (slot_of o t) (world_from o s x t)
+abbrev pub table_over : Origin → Settings → Story → ℕ → Table
+table_over o s story t = table_of s (slot_of o t) (world_over o s story t)
 
 -- what is decided at the boundary of its slot t, in order
+abbrev pub decisions_over : Origin → Settings → Story → ℕ → List Decided
+decisions_over o s story t = decided_at s (slot_of o t) (story t) (history_over o s story t)
+
+-- ---- as a replica has it
+
+abbrev pub history_from : Origin → Settings → Replica → ℕ → History
+history_from o s x t = history_over o s (said x) t
+
+abbrev pub world_from : Origin → Settings → Replica → ℕ → List Member
+world_from o s x t = world_over o s (said x) t
+
+abbrev pub table_from : Origin → Settings → Replica → ℕ → Table
+table_from o s x t = table_over o s (said x) t
+
 abbrev pub decisions_from : Origin → Settings → Replica → ℕ → List Decided
-decisions_from o s x t = decided_at s (slot_of o t) (said x t) (history_from o s x t)
+decisions_from o s x t = decisions_over o s (said x) t
 
 -- the tables of all slots below the frontier and the number of slots
 abbrev pub plan_from : Origin → Settings → Replica → List Table

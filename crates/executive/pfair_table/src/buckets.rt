@@ -48,7 +48,6 @@ impl Buckets {
     }
 }
 
-// The bucket that a name falls into.
 fn bucket_of(name: &TaskName) -> u8
     ensures value { result ≡ bucket name.now }
     ensures within { result < 256 }

@@ -1,15 +1,13 @@
 //! The dispatcher.
 
-ghost use Rattle.std.specs.Prelude.{◌≡◌, ◌≤◌, ◌<◌, ◌++◌, ◌∷◌, [], true, false, IfOk, IfErr, IfSome, IfNone, OnOk, OnErr, Err, None, drop, length, max, min, slice_get};
+ghost use Rattle.std.specs.Prelude.{◌≡◌, ◌≤◌, ◌<◌, true, false, IfOk, IfErr, IfSome, IfNone, OnOk, OnErr, Err, None, drop, length, max, min, slice_get};
 ghost use Rattle.std.specs.Option.{option_map};
-ghost use Rattle.pfair_replica.specs.Replica.{Untorn, has_torn};
+ghost use Rattle.pfair_replica.specs.Replica.{has_torn};
 ghost use Rattle.pfair_replica.specs.Offered.{taken, absorbed};
 ghost use Rattle.pfair_replica.specs.HeldRows.{IsShape, SameShape, held, replica_of};
 ghost use Rattle.pfair_replica.specs.Faults.{IsKeyOf, IsTakenAs, IsTakeFaultOf, IsMergeFaultOf, IsPartlyMerged};
 ghost use Rattle.pfair_table.specs.declared.event.Event.TheVariants.{Plan as PlanEvent};
 ghost use Rattle.pfair_table.specs.Events.{start, happens};
-ghost use Rattle.pfair_table.specs.Laws.{IsOf};
-ghost use Rattle.pfair_table.specs.Table.{table_from, decisions_from};
 ghost use Rattle.std.specs.List.{AllByRecursion};
 ghost use Rattle.pfair_table.specs.Planned.{as_tables, as_places};
 ghost use Rattle.pfair_table.specs.Places.{places_in};
@@ -19,7 +17,6 @@ ghost use Rattle.pfair_table.specs.NextRun.{LeaveAlike};
 ghost use Rattle.pfair_table.specs.Refinement.{AreMembersOf, course_of, members_after, IsStepOf, IsPlanFault, after_fault, IsReopenFault, IsLast, IsWholePlan, HavePlannedAlike};
 
 use crate::answer::{PlanFault, Step};
-use crate::origin::Origin;
 use crate::pick::{Decided, Pick};
 use crate::planned::{Planned, Run};
 use crate::planner::{Planner, plan_onto};
@@ -80,7 +77,7 @@ impl<R: Ready> Dispatcher<R> {
         ensures standing { IfOk result (λ d. d.forgotten ≡ 0) }
         ensures spent { IfOk result (λ d. d.spent ≡ false) }
     {
-        Dispatcher::begin(alloc, settings, capacity, Origin::first())
+        Dispatcher::begin(alloc, settings, capacity, None)
     }
 
     /// Takes entry `number` (from 1) of the log of processor `proc` (from 0), as [`Replica::take`].
@@ -130,9 +127,9 @@ impl<R: Ready> Dispatcher<R> {
     }
 
     /// States the headline of two dispatchers, whatever was called on either: if their settings are
-    /// equal, their runs began alike and their replicas agree, each slot that both have planned has the same table, which is
-    /// that of either replica, the same decisions and the same places, and what a next run takes over
-    /// is the same. It does nothing.
+    /// equal, their runs began alike and their replicas agree, each slot that both have planned has
+    /// the same table, which is that of either replica, the same decisions and the same places, and
+    /// what a next run takes over is the same. It does nothing.
     pub fn plans_alike<Q: Ready>(&self, other: &Dispatcher<Q>)
         ensures planned { HavePlannedAlike self.now other.now }
         ensures placed { HavePlacedAlike self.now other.now }

@@ -4,6 +4,7 @@
 ghost use Rattle.std.specs.Prelude.{◌≡◌};
 ghost use Rattle.pfair_table.specs.EventLaws.{EventsLeaveTheLeast};
 ghost use Rattle.pfair_table.specs.Laws.{OneTable, PlansGoOn, OnePlan, TablesAreOrdered, OneSchedule, PlanSoFar, RunsAreCounted};
+ghost use Rattle.pfair_table.specs.RunsOn.{RunsGoOn};
 ghost use Rattle.pfair_table.specs.PlaceLaws.{PlacesAreKept, PlacesFollowTables, OnePlacing};
 
 use crate::script::Script;
@@ -85,4 +86,13 @@ pub fn limits()
     ensures frame { Settings.MAX_FRAME ≡ 1000000000 }
     ensures slots { Settings.MAX_SLOTS ≡ 1000000 }
     ensures log { Script.LONGEST_LOG ≡ 4096 }
+{}
+
+/// Runs go on as one: each slot of a next run is the slot of one long run, in which all is said that is
+/// said in both, as many slots later as the first run has. It has the same table, decisions and places,
+/// and members with the same keys and freeing slots; only indexes are lower, by the subtasks of the
+/// jobs that were taken off. A next run can be followed by another.
+#[tactic(auto, using(crate::proofs::RunsOn::runs_go_on))]
+pub fn runs_go_on()
+    ensures { RunsGoOn }
 {}

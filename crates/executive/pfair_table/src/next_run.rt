@@ -13,7 +13,7 @@ ghost use Rattle.pfair_table.specs.Refinement.{course_of};
 
 use crate::answer::NextRunFault;
 use crate::dispatcher::Dispatcher;
-use crate::origin::{Carried, Origin};
+use crate::origin::{Carried, Origin, slot_of};
 use crate::planned::Planned;
 use crate::planner::Planner;
 use crate::settings::Settings;
@@ -88,14 +88,10 @@ impl<R: Ready> Dispatcher<R> {
             table: Vec::from_slice(alloc, table)?,
             places: Vec::from_slice(alloc, places)?,
         };
-        let origin = Origin {
-            carried: Some(carried),
-        };
-        Dispatcher::begin(alloc, settings, self.replica.capacity(), origin)
+        Dispatcher::begin(alloc, settings, self.replica.capacity(), Some(carried))
     }
 
-    // Returns the slot after the last of a finished run, counted from the first run's first slot, if a
-    // run of so many slots can begin there.
+    // Returns the slot after the last one of all runs so far, if a run of so many slots can begin there.
     fn end(&self, slots: u64) -> Result<u64, NextRunFault>
         requires { slots ≤ Settings.MAX_SLOTS }
         ensures slot { IfOk result (λ slot. slot ≡ end_of self.now) }
@@ -112,7 +108,7 @@ impl<R: Ready> Dispatcher<R> {
         if (self.planned.len() as u64) < self.settings.slots() {
             return Err(NextRunFault::Unfinished);
         }
-        let slot = self.planned.origin().slot_of(self.settings.slots());
+        let slot = slot_of(self.planned.origin(), self.settings.slots());
         if slot + slots > Members::LAST_SLOT {
             return Err(NextRunFault::PastLastSlot);
         }

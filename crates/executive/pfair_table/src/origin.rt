@@ -30,62 +30,46 @@ impl Model for Carried {
 }
 
 /// What a run takes over, if it isn't the first.
-#[derive(Drop)]
-pub(crate) struct Origin {
-    pub carried: Option<Carried>,
+pub(crate) type Origin = Option<Carried>;
+
+/// Returns the members before the run's first slot.
+pub(crate) fn first_members(
+    alloc: Global,
+    origin: &Origin,
+    settings: Settings,
+) -> Result<Members, AllocError>
+    requires { IsOrigin origin.now settings }
+    ensures { IfOk result (λ members. members ≡ record { machine = machine settings; members = members_before origin.now; heard = 0; last_slot = None }) }
+{
+    let Some(carried) = origin else {
+        return Ok(Members::new(alloc, settings.processors(), settings.frame()));
+    };
+    match carried.members.carried() {
+        Ok(members) => Ok(members),
+        Err(CarryFault::Memory) => Err(AllocError),
+        // members that were carried can be carried again, and stay as they are
+        Err(CarryFault::CannotCarry { .. }) => unreachable!(),
+    }
 }
 
-impl Model for Origin {
-    ghost use Rattle.pfair_table.specs.Table.{Origin as Begin};
-
-    ghost Value = { Begin };
-
-    ghost view = { λ a. a.carried };
+/// Returns slot `slot` of the run, counted from the first run's first slot.
+pub(crate) fn slot_of(origin: &Origin, slot: u64) -> u64
+    requires { slot_of origin.now slot < 2 ^ 64 }
+    ensures { result ≡ slot_of origin.now slot }
+{
+    match origin {
+        Some(carried) => carried.slot + slot,
+        None => slot,
+    }
 }
 
-impl Origin {
-    /// That of a first run.
-    pub(crate) fn first() -> Origin
-        ensures { result ≡ None }
-    {
-        Origin { carried: None }
-    }
-
-    /// Returns the members before the run's first slot.
-    pub(crate) fn members(&self, alloc: Global, settings: Settings) -> Result<Members, AllocError>
-        requires { IsOrigin self.now settings }
-        ensures { IfOk result (λ members. members ≡ record { machine = machine settings; members = members_before self.now; heard = 0; last_slot = None }) }
-    {
-        let Some(carried) = &self.carried else {
-            return Ok(Members::new(alloc, settings.processors(), settings.frame()));
-        };
-        match carried.members.carried() {
-            Ok(members) => Ok(members),
-            Err(CarryFault::Memory) => Err(AllocError),
-            // members that were carried can be carried again, and stay as they are
-            Err(CarryFault::CannotCarry { .. }) => unreachable!(),
-        }
-    }
-
-    /// Returns slot `slot` of the run, counted from the first run's first slot.
-    pub(crate) fn slot_of(&self, slot: u64) -> u64
-        requires { slot_of self.now slot < 2 ^ 64 }
-        ensures { result ≡ slot_of self.now slot }
-    {
-        match &self.carried {
-            Some(carried) => carried.slot + slot,
-            None => slot,
-        }
-    }
-
-    /// Returns the table of the slot before the run and its places, or no rows in a first run.
-    pub(crate) fn last(&self) -> (&[Pick], &[u8])
-        ensures table { result.0.now ≡ table_before self.now }
-        ensures places { result.1.now ≡ places_before self.now }
-    {
-        match &self.carried {
-            Some(carried) => (&carried.table, &carried.places),
-            None => (&[], &[]),
-        }
+/// Returns the table of the slot before the run and its places, or no rows in a first run.
+pub(crate) fn slot_before(origin: &Origin) -> (&[Pick], &[u8])
+    ensures table { result.0.now ≡ table_before origin.now }
+    ensures places { result.1.now ≡ places_before origin.now }
+{
+    match origin {
+        Some(carried) => (&carried.table, &carried.places),
+        None => (&[], &[]),
     }
 }

@@ -14,8 +14,7 @@ use std::snapshot::Snapshot;
 // The elements of a piece.
 const PIECE: usize = 1024;
 
-// The pieces for which the list of them has room from the first one on. What a dispatcher plans,
-// 1,000,000 slots at most, is in 977.
+// The room of the list of pieces at first: 1,000,000 slots, the most of a run, are in 977 pieces.
 const PIECES_AT_FIRST: usize = 1024;
 
 // The most full pieces: no memory lists so many, and their elements can still be counted.
@@ -75,14 +74,13 @@ impl<T: Drop> Pieces<T> {
         }
     }
 
-    /// How many elements there are, the forgotten ones among them.
+    /// Counts the forgotten elements too.
     pub(crate) fn len(&self) -> usize
         ensures { result ≡ length self.now.items }
     {
         (self.gone.len() + self.full.len()) * PIECE + self.current.len()
     }
 
-    /// How many elements are forgotten.
     pub(crate) fn forgotten(&self) -> usize
         ensures value { result ≡ self.now.forgotten }
         ensures within { self.now.forgotten ≤ length self.now.items }
@@ -113,10 +111,6 @@ impl<T: Drop> Pieces<T> {
         self.current.last()
     }
 
-    /// Adds an element.
-    ///
-    /// # Errors
-    /// Returns [`AllocError`] if an allocation fails; the list is then as before.
     pub(crate) fn push(&mut self, value: T) -> Result<(), AllocError>
         ensures ok { OnOk result (self.new ≡ record self.old { items = self.old.items ++ value ∷ [] }) }
         ensures err { OnErr result (self.new ≡ self.old) }
@@ -142,9 +136,6 @@ impl<T: Drop> Pieces<T> {
 
     /// Takes room for so many further elements, so that pushing them allocates nothing if they are
     /// no more than a list of 1,024 pieces has.
-    ///
-    /// # Errors
-    /// Returns [`AllocError`] if an allocation fails.
     pub(crate) fn reserve(&mut self, more: usize) -> Result<(), AllocError>
         ensures { self.new ≡ self.old }
     {
@@ -165,9 +156,6 @@ impl<T: Drop> Pieces<T> {
     }
 
     /// The elements that aren't forgotten as one list. It costs their number: each is moved.
-    ///
-    /// # Errors
-    /// Returns [`AllocError`] if an allocation fails.
     pub(crate) fn into_list(self) -> Result<Vec<T>, AllocError>
         ensures { IfOk result (λ list. list.items ≡ drop self.forgotten self.items) }
     {

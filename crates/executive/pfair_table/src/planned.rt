@@ -7,7 +7,7 @@ ghost use Rattle.pfair_table.specs.Places.{places_of, places_in, table_before, p
 ghost use Rattle.pfair_table.specs.PlaceLaws.{IsFit};
 ghost use Rattle.pfair_table.specs.Planned.{last_or, as_tables, as_places};
 
-use crate::origin::Origin;
+use crate::origin::{Origin, slot_before};
 use crate::pick::{Decided, Pick};
 use crate::pieces::Pieces;
 use crate::places::places_beside;
@@ -103,7 +103,6 @@ impl Planned {
         }
     }
 
-    /// Where the run begins.
     pub(crate) fn origin(&self) -> &Origin
         ensures { result.now ≡ self.now.origin }
     {
@@ -118,7 +117,6 @@ impl Planned {
         self.slots.len()
     }
 
-    /// How many slots are forgotten.
     pub(crate) fn forgotten(&self) -> usize
         ensures value { result ≡ self.now.forgotten }
         ensures planned { self.now.forgotten ≤ length self.now.tables }
@@ -168,14 +166,11 @@ impl Planned {
     {
         match self.slots.last() {
             Some(planned) => (&planned.plan.table, &planned.places),
-            None => self.origin.last(),
+            None => slot_before(&self.origin),
         }
     }
 
     /// Takes the room of so many further slots, of so many rows each.
-    ///
-    /// # Errors
-    /// Returns [`AllocError`] if an allocation fails.
     pub(crate) fn reserve(&mut self, slots: usize, rows: usize) -> Result<(), AllocError>
         ensures { self.new ≡ self.old }
     {
@@ -193,7 +188,6 @@ impl Planned {
         }
     }
 
-    /// Adds the next slot.
     pub(crate) fn push(&mut self, plan: SlotPlan, places: Vec<u8>) -> Result<(), AllocError>
         requires { places_in self.old.origin (self.old.tables ++ plan.table.items ∷ []) ≡ places_in self.old.origin self.old.tables ++ places.items ∷ [] }
         ensures ok { OnOk result (self.new ≡ record self.old { tables = self.old.tables ++ plan.table.items ∷ []; decided = self.old.decided ++ plan.decided.items ∷ [] }) }

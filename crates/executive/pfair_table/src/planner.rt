@@ -12,7 +12,7 @@ ghost use Rattle.pfair_table.specs.Table.{table_from, decisions_from};
 ghost use Rattle.pfair_table.specs.Readings.{AreReadingsOf};
 ghost use Rattle.pfair_table.specs.Refinement.{IsInStep};
 
-use crate::origin::Origin;
+use crate::origin::{Origin, first_members, slot_of};
 use crate::pick::Pick;
 use crate::places::places_beside;
 use crate::planned::Planned;
@@ -51,7 +51,7 @@ impl<R: Ready> Planner<R> {
         ensures readings { IfOk result (λ p. (x : Held) → x.processors ≡ settings.processors → AreReadingsOf x p.readings.by_processor.items) }
     {
         let readings = Readings::new(alloc, settings.processors())?;
-        let members = origin.members(alloc, settings)?;
+        let members = first_members(alloc, origin, settings)?;
         let ready = ready_of(alloc, &members)?;
         Ok(Planner {
             alloc,
@@ -64,9 +64,6 @@ impl<R: Ready> Planner<R> {
     }
 
     /// Takes room for slots of so many processors while no more than so many tasks are members.
-    ///
-    /// # Errors
-    /// `AllocError` if an allocation fails.
     pub(crate) fn reserve(&mut self, processors: u8, tasks: usize) -> Result<(), AllocError>
         ensures readings { self.new.readings ≡ self.old.readings }
         ensures members { self.new.members ≡ self.old.members }
@@ -108,7 +105,7 @@ impl<R: Ready> Planner<R> {
             &mut self.members,
             &mut self.ready,
             settings.processors(),
-            origin.slot_of(slot),
+            slot_of(origin, slot),
             &mut self.keys,
             room,
         )
@@ -131,7 +128,7 @@ impl<R: Ready> Planner<R> {
         ensures step { OnOk result (IsInStep origin.now settings (replica_of replica.now) slots self.new.members (R.now self.new.ready) (R.held self.new.ready)) }
         ensures readings { AreReadingsOf (replica_of replica.now) self.new.readings.by_processor.items }
     {
-        self.members = origin.members(self.alloc, settings)?;
+        self.members = first_members(self.alloc, origin, settings)?;
         self.ready = ready_of(self.alloc, &self.members)?;
         let mut room = Vec::new(self.alloc);
         for slot in 0..slots {

@@ -20,7 +20,6 @@ pub(crate) struct Reading {
 }
 
 impl Reading {
-    // Nothing was read.
     fn new(alloc: Global) -> Reading
         ensures count { result.count ≡ 0 }
         ensures nothing { (t : ℕ) → said_at result.agenda t ≡ [] }
@@ -31,8 +30,7 @@ impl Reading {
         }
     }
 
-    // Reads on in the sound beginning of a processor, from where it stood. If an allocation
-    // failed, nothing counts as read.
+    // Reads on in a sound beginning, from where it stood. After a failed allocation nothing counts as read.
     fn read_on(&mut self, alloc: Global, replica: &Replica, processor: u8) -> Result<(), AllocError>
         requires { IsReadingOf processor (sound_beginning (replica_of replica.now) processor) self.old }
         ensures reading { IsReadingOf processor (sound_beginning (replica_of replica.now) processor) self.new }

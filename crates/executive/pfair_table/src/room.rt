@@ -13,7 +13,6 @@ pub(crate) struct Room {
 }
 
 impl Room {
-    /// None yet.
     pub(crate) fn new(alloc: Global) -> Room {
         Room {
             table: Vec::new(alloc),
@@ -21,10 +20,6 @@ impl Room {
         }
     }
 
-    /// That for so many rows.
-    ///
-    /// # Errors
-    /// Returns [`AllocError`] if an allocation fails.
     pub(crate) fn for_rows(alloc: Global, rows: usize) -> Result<Room, AllocError> {
         Ok(Room {
             table: Vec::with_capacity(alloc, rows)?,
@@ -34,9 +29,6 @@ impl Room {
 }
 
 /// A list without what it has, with room for so many elements. It allocates if it has less.
-///
-/// # Errors
-/// Returns [`AllocError`] if an allocation fails; the list is then gone.
 pub(crate) fn emptied<T: Drop>(mut list: Vec<T>, count: usize) -> Result<Vec<T>, AllocError>
     ensures items { IfOk result (λ first. first.items ≡ []) }
     ensures capacity { IfOk result (λ first. count ≤ vec_capacity first) }

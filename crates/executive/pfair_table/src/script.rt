@@ -77,7 +77,6 @@ impl Script {
     }
 }
 
-// The length of the longest log, at least 1.
 fn longest(logs: &[Vec<Entry>]) -> usize
     ensures { result ≡ capacity_of (lists_of logs.now) }
 {
@@ -88,21 +87,14 @@ fn longest(logs: &[Vec<Entry>]) -> usize
     longest
 }
 
-// Whether there is one log for each processor, and none is too long.
 fn fits(settings: Settings, logs: &[Vec<Entry>]) -> bool
     ensures { IsTrue result ↔ IsLoggedRun record { settings = settings; logs = lists_of logs.now } }
 {
     logs.len() == settings.processors() as usize && are_short(logs)
 }
 
-// Whether no log is too long.
 fn are_short(logs: &[Vec<Entry>]) -> bool
     ensures { result ≡ list_all (λ log. is_short log.items) logs.now }
 {
-    for log in logs {
-        if log.len() > Script::LONGEST_LOG {
-            return false;
-        }
-    }
-    true
+    logs.iter().all(|log| log.len() <= Script::LONGEST_LOG)
 }

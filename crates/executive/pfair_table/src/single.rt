@@ -69,7 +69,6 @@ pub(crate) fn check_settled(frontier: u64, slots: u64) -> Result<(), RunFault>
     Ok(())
 }
 
-// Takes the entries of one log, in order.
 fn take_log<R: Ready>(
     dispatcher: &mut Dispatcher<R>,
     processor: u8,

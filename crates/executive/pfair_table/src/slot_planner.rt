@@ -1,19 +1,15 @@
 //! What plans slot after slot of a replica that is held elsewhere.
 
 ghost use Rattle.std.specs.Prelude.{◌≡◌, ◌≤◌, ◌<◌, ◌+◌, [], false, IfOk, IfErr, OnOk, None, length};
-ghost use Rattle.pfair_replica.specs.Replica.{Below, Untorn, has_torn};
+ghost use Rattle.pfair_replica.specs.Replica.{Below, has_torn};
 ghost use Rattle.pfair_replica.specs.HeldRows.{SameShape, replica_of};
 ghost use Rattle.pfair_table.specs.Script.{replica_of_logs};
-ghost use Rattle.pfair_table.specs.Laws.{IsOf};
-ghost use Rattle.pfair_table.specs.Limits.{IsSettings};
 ghost use Rattle.pfair_table.specs.Readings.{AreReadingsOf};
-ghost use Rattle.pfair_table.specs.Table.{table, decisions};
 ghost use Rattle.pfair_table.specs.ScriptRun.{IsBySlot, IsScriptFaultOf};
-ghost use Rattle.pfair_table.specs.Refinement.{after_fault, IsInStep, IsPlanFault, IsWholePlan};
+ghost use Rattle.pfair_table.specs.Refinement.{after_fault, IsPlanFault, IsWholePlan};
 ghost use Rattle.pfair_table.specs.SlotPlans.{IsNextPlan, after_plan, seeing};
 
 use crate::answer::PlanFault;
-use crate::origin::Origin;
 use crate::pick::Pick;
 use crate::planner::Planner;
 use crate::run_fault::RunFault;
@@ -86,7 +82,7 @@ impl<R: Ready> SlotPlanner<R> {
     {
         // the logs of a replica have at most 4,096 entries
         prove!(replica.processors() >= 1);
-        let planner = Planner::new(alloc, settings, &Origin::first())?;
+        let planner = Planner::new(alloc, settings, &None)?;
         Ok(SlotPlanner {
             settings,
             planner,
@@ -186,7 +182,7 @@ impl<R: Ready> SlotPlanner<R> {
         if slot >= replica.frontier() {
             return Ok(None);
         }
-        match plan_first(&mut self.planner, self.settings, replica, slot, room) {
+        match self.planner.plan(self.settings, &None, replica, slot, room) {
             Ok(next) => {
                 self.of = Snapshot::of(replica);
                 self.planned = slot + 1;
@@ -207,27 +203,4 @@ impl<R: Ready> SlotPlanner<R> {
     {
         self.seen = Snapshot::of(replica);
     }
-}
-
-// Plans slot n of a first run.
-fn plan_first<R: Ready>(
-    planner: &mut Planner<R>,
-    settings: Settings,
-    replica: &Replica,
-    slot: u64,
-    room: Vec<Pick>,
-) -> Result<SlotPlan, AllocError>
-    requires of { IsOf settings (replica_of replica.now) }
-    requires untorn { Untorn (replica_of replica.now) }
-    requires room { replica.now.capacity ≤ Script.LONGEST_LOG }
-    requires slot { slot < settings.slots }
-    requires readings { AreReadingsOf (replica_of replica.now) planner.old.readings.by_processor.items }
-    requires step { IsInStep None settings (replica_of replica.now) slot planner.old.members (R.now planner.old.ready) (R.held planner.old.ready) }
-    ensures table { IfOk result (λ next. next.table.items ≡ table settings (replica_of replica.now) slot) }
-    ensures decided { IfOk result (λ next. next.decided.items ≡ decisions settings (replica_of replica.now) slot) }
-    ensures step { OnOk result (IsInStep None settings (replica_of replica.now) (slot + 1) planner.new.members (R.now planner.new.ready) (R.held planner.new.ready)) }
-    ensures limits { OnOk result (IsSettings settings) }
-    ensures readings { AreReadingsOf (replica_of replica.now) planner.new.readings.by_processor.items }
-{
-    planner.plan(settings, &Origin::first(), replica, slot, room)
 }

@@ -216,14 +216,14 @@ module _ (s : Settings) (x : Replica) where
       let tables : List Table = (history s x t).tables in
       let start : List Member = (history s x t).members in
       let next : suc t ≡ t + 1 = omega arith in
-      let long = long_history s x t in
+      let long = long_history s (said x) t in
       let opened : book.entered ≡ shown_all t tables (present t start) =
       a.entered_is ∙ ap (map (shown t tables)) (sym (staying_present t start)) in
       let told : (all_told (decisions s x t) book).entered ≡ shown_all t tables (world s x t) =
       all_of_slot (machine s) t tables (said x t) (present t start) book long opened in
       let closed : (slot_told (decisions s x t) (table s x t) book).entered ≡ shown_all (t + 1) (tables ++ table s x t ∷ []) (world s x t) =
       ap (map (λ (e : NameValue × Tally). (e.0, slot_more (map (λ (p : Pick). p.name) (table s x t)) e.0 e.1))) told
-      ∙ all_recorded t tables (table s x t) (filter is_staying (world s x t)) long (each_filter (λ m. m.joined ≤ t) is_staying (world s x t) (joined_world s x t)) in
+      ∙ all_recorded t tables (table s x t) (filter is_staying (world s x t)) long (each_filter (λ m. m.joined ≤ t) is_staying (world s x t) (joined_world s (said x) t)) in
       record {
         time_is = ap (λ n. n + 1) (time-all_told (decisions s x t) book ∙ a.time_is) ∙ sym next;
         entered_is = closed ∙ ap (λ n. shown_all n (tables ++ table s x t ∷ []) (world s x t)) (sym next) ∙ sym (shown_ran (suc t) t);

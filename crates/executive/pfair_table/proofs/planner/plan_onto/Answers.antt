@@ -1,6 +1,7 @@
 use Rattle.std.proofs.Common.{ℕ, ◌<◌, ◌≤◌, ◌≡◌, ◌∙◌, ◌∷◌, [], ◌++◌, sym, ap, subst, arith, length, List}
 use Rattle.std.specs.List.{AllByRecursion}
 use Rattle.pfair_replica.specs.HeldRows.{replica_of}
+use Rattle.pfair_replica.specs.Replica.{said}
 use Rattle.pfair_table.specs.PlaceLaws.{IsFit}
 use Rattle.pfair_table.specs.Places.{places_after, places_in, table_before, places_before}
 use Rattle.pfair_table.specs.Limits.{IsOrigin}
@@ -43,7 +44,7 @@ places_beside-requires-clause-rows g c =
     let o = c.origin.result.now in
     let began = subst (λ (q : Origin). IsOrigin q c.args.settings) (sym (c.origin.ensures ∙ ap (λ (p : PlannedSlots). p.origin) c.take_room-room.ensures)) c.requires.began in
     let long = ap length (c.deref.ensures.value ∙ c.in_ok-next.ensures.table) in
-    let few = (ordered_from o c.args.settings (named_before o c.args.settings began) (replica_of c.args.replica.now) c.len-slot.result).0 in
+    let few = (ordered_from o c.args.settings (named_before o c.args.settings began) (said (replica_of c.args.replica.now)) c.len-slot.result).0 in
     let limit = c.in_ok-next.ensures.limits.processors.1 in
     omega (arith, long, few, limit)
 

@@ -1,15 +1,17 @@
-use Rattle.std.proofs.Common.{◌≡◌, ◌∙◌, [], sym, ap, subst, IfOk, Some, map}
+use Rattle.std.proofs.Common.{◌≡◌, ◌∙◌, [], sym, ap, subst, IfOk, List, Some, map}
 use Rattle.std.specs.List.{AllByRecursion}
 use Rattle.pfair_admission.specs.Carried.{carried, CanBeCarried}
-use Rattle.pfair_replica.specs.Replica.{empty_replica}
+use Rattle.pfair_replica.specs.Replica.{empty_replica, said}
 use Rattle.pfair_table.specs.Events.{Course}
 use Rattle.pfair_table.specs.Limits.{IsCarried}
 use Rattle.pfair_table.specs.NextRun.{IsFinished, end_of, members_left}
 use Rattle.pfair_table.specs.Places.{table_before, places_before, places_in}
 use Rattle.pfair_table.specs.Planned.{last_or}
 use Rattle.pfair_table.specs.Refinement.{Dispatch, course_of}
-use Rattle.pfair_table.specs.Table.{Settings, Carried, machine}
-use Rattle.pfair_table.proofs.NextRuns.{carried_on}
+use Rattle.pfair_table.specs.RunsOn.{last_places, last_table}
+use Rattle.pfair_replica.specs.HeldRows.{replica_of}
+use Rattle.pfair_table.specs.Table.{Settings, Carried, History, Table, machine, history_over}
+use Rattle.pfair_table.proofs.NextRuns.{carried_on, left_tables}
 use Rattle.pfair_table.proofs.dispatcher.Dispatcher.begin_with.Goals as goal
 
 pub begin-requires-clause-origin : goal.begin-requires-clause-origin
@@ -34,8 +36,12 @@ returns-clause-course g c =
     let view = c.self.view_is in
     let processors_are = ap (λ (s : Settings). s.processors) c.requires.settings in
     let capacity_is = c.capacity.ensures.value ∙ ap (λ (e : Dispatch). e.held.capacity) view in
-    let table_is = c.in_ok-from_slice.ensures.items ∙ c.last.ensures.table ∙ ap (λ (e : Dispatch). last_or (table_before e.origin) e.tables) view in
-    let places_are = c.in_ok-from_slice-2.ensures.items ∙ c.last.ensures.places ∙ ap (λ (e : Dispatch). last_or (places_before e.origin) (places_in e.origin e.tables)) view in
+    let finished = subst IsFinished (sym view) c.requires.finished in
+    let tables = left_tables c.self.invariant.0 c.processors.ensures.rows.entries finished.whole finished.able finished.all in
+    let o = c.self.inside.planned.origin in
+    let past : Dispatch → History = λ e. history_over e.origin e.settings (said (replica_of e.held)) e.settings.slots in
+    let table_is = c.in_ok-from_slice.ensures.items ∙ c.last.ensures.table ∙ ap (last_or (table_before o)) tables ∙ ap (λ (e : Dispatch). last_table e.origin (past e)) view in
+    let places_are = c.in_ok-from_slice-2.ensures.items ∙ c.last.ensures.places ∙ ap (λ (ts : List Table). last_or (places_before o) (places_in o ts)) tables ∙ ap (λ (e : Dispatch). last_places e.origin (past e)) view in
     subst (λ (k : Course). IfOk c.begin.result (λ next. course_of next ≡ k)) (λ i. record {
       origin = Some (record { slot = c.requires.slot i; machine = c.requires.machine i; members = c.requires.members i; table = table_is i; places = places_are i });
       held = empty_replica (processors_are i) (capacity_is i);

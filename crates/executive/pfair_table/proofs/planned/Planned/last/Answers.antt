@@ -20,11 +20,11 @@ returns-in-Some-clause-places c =
 
 pub returns-in-None-clause-table : goal.returns-in-None-clause-table
 returns-in-None-clause-table c =
-    c.last-in-None.ensures.table ∙ last_none (λ (s : PlannedSlot). s.plan.table.items) (table_before c.self.inside.origin) c.self.inside.slots.items _ refl c.in-None.ensures
+    c.slot_before.ensures.table ∙ last_none (λ (s : PlannedSlot). s.plan.table.items) (table_before c.self.inside.origin) c.self.inside.slots.items _ refl c.in-None.ensures
     ∙ ap (λ (p : PlannedSlots). last_or (table_before p.origin) p.tables) c.self.view_is
 
 pub returns-in-None-clause-places : goal.returns-in-None-clause-places
 returns-in-None-clause-places c =
-    c.last-in-None.ensures.places ∙ last_none (λ (s : PlannedSlot). s.places.items) (places_before c.self.inside.origin) c.self.inside.slots.items _ refl c.in-None.ensures
+    c.slot_before.ensures.places ∙ last_none (λ (s : PlannedSlot). s.places.items) (places_before c.self.inside.origin) c.self.inside.slots.items _ refl c.in-None.ensures
     ∙ ap (last_or (places_before c.self.inside.origin)) c.self.invariant
     ∙ ap (λ (p : PlannedSlots). last_or (places_before p.origin) (places_in p.origin p.tables)) c.self.view_is

@@ -2,8 +2,7 @@ use Rattle.std.proofs.Common.{refl, sym, subst, arith, false, [], None}
 use Rattle.std.proofs.lemmas.Option.{none-some}
 use Rattle.pfair_replica.specs.Replica.{Replica, empty_replica}
 use Rattle.pfair_replica.specs.HeldRows.{HeldRows, replica_of}
-use Rattle.pfair_table.specs.Refinement.{IsInStep, IsKept}
-use Rattle.pfair_table.specs.Table.{Origin}
+use Rattle.pfair_table.specs.Refinement.{IsKept}
 use Rattle.pfair_table.specs.Readings.{AreReadingsOf}
 use Rattle.pfair_table.proofs.Keeping.{start_kept}
 use Rattle.pfair_table.proofs.Steps.{kept_above}
@@ -18,7 +17,7 @@ invariant_of-result g c =
     let room = c.processors.ensures.rows.shape.capacity_in_range in
     let kept : IsKept None s x [] [] false p.members (g.R.Ready.now p.ready) (g.R.Ready.held p.ready) =
     kept_above
-    (start_kept {o = None} {x = nothing} tt refl (omega (arith, room)) (subst (λ (o : Origin). IsInStep o s nothing 0 p.members (g.R.Ready.now p.ready) (g.R.Ready.held p.ready)) c.first.ensures (c.in_ok-planner.ensures.step nothing)))
+    (start_kept {o = None} {x = nothing} tt refl (omega (arith, room)) (c.in_ok-planner.ensures.step nothing))
     (λ k n e h. absurd (none-some e h)) c.requires refl in (
       subst (λ (h : HeldRows). IsKept None s (replica_of h) [] [] false p.members (g.R.Ready.now p.ready) (g.R.Ready.held p.ready)) (sym c.of.ensures) kept,
       subst (λ (h : HeldRows). AreReadingsOf (replica_of h) p.readings.by_processor.items) (sym c.of.ensures) (c.in_ok-planner.ensures.readings x c.requires),

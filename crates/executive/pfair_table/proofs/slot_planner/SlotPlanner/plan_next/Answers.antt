@@ -23,18 +23,18 @@ returns-then-slot-frontier-clause-settled g c = λ last.
     subst IsWholePlan (sym c.see.ensures) (whole_seen c.self.inside.of.value c.self.inside.planned c.self.invariant.0 (c.self.view_is ∙ c.see.ensures) c.first_torn.ensures.replica
     (sym c.first_torn.ensures.some ∙ ap is_some c.in_default.is) (omega (arith, c.frontier.ensures.value, c.if-slot-frontier.true)))
 
-pub plan_first-requires-clause-untorn : goal.plan_first-requires-clause-untorn
-plan_first-requires-clause-untorn g c = untorn_by_test (replica_of c.args.replica.now) c.first_torn.ensures.replica (sym c.first_torn.ensures.some ∙ ap is_some c.in_default.is)
+pub plan-requires-clause-untorn : goal.plan-requires-clause-untorn
+plan-requires-clause-untorn g c = untorn_by_test (replica_of c.args.replica.now) c.first_torn.ensures.replica (sym c.first_torn.ensures.some ∙ ap is_some c.in_default.is)
 
-pub plan_first-requires-clause-step : goal.plan_first-requires-clause-step
-plan_first-requires-clause-step g c =
+pub plan-requires-clause-step : goal.plan-requires-clause-step
+plan-requires-clause-step g c =
     step_seen c.self.inside.of.value c.self.inside.planned c.self.invariant.0 (c.self.view_is ∙ c.see.ensures) c.first_torn.ensures.replica (sym c.first_torn.ensures.some ∙ ap is_some c.in_default.is) c.if-self.false
 
 pub invariant_of-self : goal.invariant_of-self
 invariant_of-self g c = (
   kept_seen c.self.inside.of.value c.self.inside.planned c.self.invariant.0 (c.self.view_is ∙ c.see.ensures) c.first_torn.ensures.replica (sym c.first_torn.ensures.some ∙ ap is_some c.in_default.is)
       c.of.ensures (omega (arith, c.frontier.ensures.value, c.if-slot-frontier.false)) (omega (arith, c.slots.ensures.value, c.if-slot-slots.false)) c.in-Ok.ensures.step,
-  subst (λ (h : HeldRows). AreReadingsOf (replica_of h) c.plan_first.new.planner.readings.by_processor.items) (sym (ap (λ (d : Dispatch). d.held) (c.self.view_is ∙ c.see.ensures))) c.plan_first.ensures.readings,
+  subst (λ (h : HeldRows). AreReadingsOf (replica_of h) c.plan.new.self.readings.by_processor.items) (sym (ap (λ (d : Dispatch). d.held) (c.self.view_is ∙ c.see.ensures))) c.plan.ensures.readings,
 )
 
 pub returns-in-Ok-clause-next : goal.returns-in-Ok-clause-next

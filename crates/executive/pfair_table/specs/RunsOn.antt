@@ -1,0 +1,73 @@
+-- A run and the next one, beside one long run in which all is said that is said in both.
+use Rattle.std.specs.Prelude.{ℕ, suc, ◌≡◌, ◌≤◌, ◌<◌, ◌+◌, ◌-◌, ◌*◌, nat_lt, List, map, Option, Some, if◌then◌else◌}
+use Rattle.std.specs.List.{AllByRecursion}
+use Rattle.pfair_weight.specs.Name.{NamesApart}
+use Rattle.pfair_weight.specs.Share.{IsWeight}
+use Rattle.pfair_order.specs.declared.Key.{Key}
+use Rattle.pfair_admission.specs.Member.{Member, next_key}
+use Rattle.pfair_admission.specs.Admission.{announcements, member_named, present}
+use Rattle.pfair_admission.specs.Laws.{HasWeight}
+use Rattle.pfair_admission.specs.Carried.{jobs_done, carried, taken_off, all_raised}
+use Rattle.pfair_table.specs.declared.pick.Pick.{Pick}
+use Rattle.pfair_table.specs.Table.{Settings, Carried, Origin, Story, Table, History, machine, slot_of, members_before, history_over, world_over, table_over, decisions_over}
+use Rattle.pfair_table.specs.Places.{table_before, places_before, places_in}
+use Rattle.pfair_table.specs.Planned.{last_or}
+
+-- each announced arrival says a weight, as the type of weights sees to
+abbrev pub TellsWeights : Story → Type 0
+TellsWeights story = (t : ℕ) → AllByRecursion HasWeight (announcements (story t))
+
+-- a member that has joined before a slot, and so has the job of its last subtask that ran
+pub record HasBegun (slot : ℕ) (m : Member) : Type 0 where
+  pub weighed : IsWeight m.weight.cost m.weight.period
+  pub first : 1 ≤ m.next
+  pub joined : m.joined + jobs_done m * m.weight.period < slot
+
+-- where a run can begin: as a first run does, or with members that have joined, each name once
+pub record IsBegun (o : Origin) : Type 0 where
+  pub named : NamesApart (λ m. m.name) (members_before o)
+  pub begun : AllByRecursion (HasBegun (slot_of o 0)) (members_before o)
+
+-- the last table of some slots, and its places
+abbrev pub last_table : Origin → History → Table
+last_table o h = last_or (table_before o) h.tables
+
+abbrev pub last_places : Origin → History → List ℕ
+last_places o h = last_or (places_before o) (places_in o h.tables)
+
+-- what a next run takes over from the first n slots of a run
+abbrev pub left_over : Origin → Settings → Story → ℕ → Carried
+left_over o s story n =
+    let h = history_over o s story n in
+    record { slot = slot_of o n; machine = machine s; members = map carried h.members; table = last_table o h; places = last_places o h }
+
+-- what is said in the long run: what is said in its first n slots, and then what is said in the next run, with the indexes of the long run
+abbrev pub both_stories : Origin → Settings → Story → ℕ → Story → Story
+both_stories o s first n second t =
+    let left = left_over o s first n in
+    if nat_lt t n then first t
+    else all_raised (history_over o s first n).members left.slot (machine s) (left.slot + (t - n))
+    (present (left.slot + (t - n)) (history_over (Some left) s second (t - n)).members) (second (t - n))
+
+-- a table of the next run with the indexes of the long run
+abbrev pub raised_rows : List Member → ℕ → List Member → Table → Table
+raised_rows left begin members rows = map (λ (p : Pick). record p { index = p.index + taken_off left begin (member_named members p.name) }) rows
+
+-- what of a member is the same wherever its subtasks are counted from: the key of its next subtask, and its freeing slot
+abbrev pub standing : Member → Key × Option ℕ
+standing m = (next_key m, m.freed_at)
+
+-- Slot t of the next run is slot n + t of the long run: it has the same table, but that indexes are lower by the subtasks of the jobs that
+-- were taken off, the same decisions and the same places; and before and after its quanta the members stand as they do there.
+pub record IsSlotOf (o : Origin) (s : Settings) (first : Story) (n : ℕ) (second : Story) (t : ℕ) : Type 0 where
+  pub members : map standing (world_over (Some (left_over o s first n)) s second t) ≡ map standing (world_over o s (both_stories o s first n second) (n + t))
+  pub rows : raised_rows (history_over o s first n).members (slot_of o n) (world_over (Some (left_over o s first n)) s second t) (table_over (Some (left_over o s first n)) s second t)
+      ≡ table_over o s (both_stories o s first n second) (n + t)
+  pub left : map standing (history_over (Some (left_over o s first n)) s second (suc t)).members ≡ map standing (history_over o s (both_stories o s first n second) (suc (n + t))).members
+  pub decided : map (λ d. d.decision) (decisions_over (Some (left_over o s first n)) s second t) ≡ map (λ d. d.decision) (decisions_over o s (both_stories o s first n second) (n + t))
+  pub places : last_places (Some (left_over o s first n)) (history_over (Some (left_over o s first n)) s second (suc t)) ≡ last_places o (history_over o s (both_stories o s first n second) (suc (n + t)))
+
+-- So runs go on as one: whatever is said in them, each slot of a next run is one of the long run; and a next run can be followed by another.
+pub record RunsGoOn : Type 0 where
+  pub slots : (o : Origin) (s : Settings) (first second : Story) (n t : ℕ) → IsBegun o → TellsWeights first → TellsWeights second → IsSlotOf o s first n second t
+  pub again : (o : Origin) (s : Settings) (first : Story) (n : ℕ) → IsBegun o → TellsWeights first → IsBegun (Some (left_over o s first n))
