@@ -13,18 +13,17 @@ use Rattle.pfair_entry.specs.Same.{name_eq}
 use Rattle.pfair_order.specs.declared.Key.{Key}
 use Rattle.pfair_order.proofs.NamesApart.{first_names}
 use Rattle.pfair_replica.specs.Among.{Among, among_map, map_among, among_all}
-use Rattle.pfair_replica.specs.Replica.{Replica, said}
 use Rattle.pfair_admission.specs.Member.{Member, theta, is_departing, next_key}
-use Rattle.pfair_admission.specs.Admission.{member_named, announcements}
-use Rattle.pfair_table.specs.Table.{Settings, eligible, world}
+use Rattle.pfair_admission.specs.Admission.{member_named}
+use Rattle.pfair_table.specs.Table.{Settings, eligible, Story}
 use Rattle.pfair_optimal.specs.Run.{Task, Subtask, Run, is_among, NoneTwice, same_task, same_subtask, is_row, has_run}
 use Rattle.pfair_optimal.proofs.Lists.{among_here, among_more, among_cases}
 use Rattle.pfair_optimal.proofs.Past.{task_exact, subtask_exact, ran_at}
-use Rattle.pfair_in_time.specs.Laws.{AllHaveWeights}
 use Rattle.pfair_in_time.proofs.Boundaries.{named_is}
 use Rattle.pfair_table.proofs.Members.{named_world}
-use Rattle.pfair_in_time.proofs.Worlds.{runs, on, on_next, keys_at, keys_apart, same_member, chosen_member, runs_chosen, chosen_runs, next_new, here, came_from}
+use Rattle.pfair_in_time.proofs.Worlds.{runs, on, on_next, keys_at, keys_apart, same_member, chosen_member, runs_chosen, chosen_runs, next_new, here, came_from, TellWeights}
 use Rattle.pfair_in_time.proofs.Lines.{IsLine, line_of}
+use Rattle.pfair_table.proofs.FirstRuns.{world, table}
 
 -- ---- among a list, by a test or not
 
@@ -71,7 +70,7 @@ abbrev pub or_else : Option Member → Option Member → Option Member
 or_else (Some m) rest = Some m
 or_else None rest = rest
 
-abbrev pub last_of : Settings → Replica → ℕ → Task → Option Member
+abbrev pub last_of : Settings → Story → ℕ → Task → Option Member
 last_of s x zero a = None
 last_of s x (suc n) a = or_else (find (is_task a) (world s x n)) (last_of s x n a)
 
@@ -93,7 +92,7 @@ row_of members k = row_in (member_named members k.name)
 abbrev pub is_running : Task → Member → Bool
 is_running a m = is_task a m && not (is_departing m)
 
-abbrev pub as_run : Settings → Replica → ℕ → Run
+abbrev pub as_run : Settings → Story → ℕ → Run
 as_run s x n = record {
   processors = s.processors;
   frame = s.frame;
@@ -106,21 +105,21 @@ as_run s x n = record {
 
 -- ---- rows
 
-row_is : (s : Settings) (x : Replica) (t : ℕ) (m : Member) → Among (world s x t) m → row_of (world s x t) (next_key m) ≡ subtask_of m
+row_is : (s : Settings) (x : Story) (t : ℕ) (m : Member) → Among (world s x t) m → row_of (world s x t) (next_key m) ≡ subtask_of m
 row_is s x t m h = ap row_in (named_is (world s x t) m.name m (named_world s x t) h (name_itself m.name))
 
-pub row_member : (s : Settings) (x : Replica) (n t : ℕ) (z : Subtask) → is_row (as_run s x n) t z ≡ true → (m : Member) × Among (world s x t) m × (runs s x t m ≡ true) × (z ≡ subtask_of m)
+pub row_member : (s : Settings) (x : Story) (n t : ℕ) (z : Subtask) → is_row (as_run s x n) t z ≡ true → (m : Member) × Among (world s x t) m × (runs s x t m ≡ true) × (z ≡ subtask_of m)
 row_member s x n t z row =
     let p = among_map (row_of (world s x t)) (keys_at s x t) z (among_test same_subtask subtask_exact (map (row_of (world s x t)) (keys_at s x t)) z row) in
     let q = chosen_member s x t p.0 p.1 in
     (q.0, q.1, chosen_runs s x t q.0 (subst (λ k. Among (keys_at s x t) k) q.3 p.1), p.2 ∙ ap (row_of (world s x t)) q.3 ∙ row_is s x t q.0 q.1)
 
-pub member_row : (s : Settings) (x : Replica) (n t : ℕ) (m : Member) → Among (world s x t) m → runs s x t m ≡ true → is_row (as_run s x n) t (subtask_of m) ≡ true
+pub member_row : (s : Settings) (x : Story) (n t : ℕ) (m : Member) → Among (world s x t) m → runs s x t m ≡ true → is_row (as_run s x n) t (subtask_of m) ≡ true
 member_row s x n t m h named =
     test_among same_subtask subtask_exact (map (row_of (world s x t)) (keys_at s x t)) (subtask_of m)
     (subst (λ z. Among (map (row_of (world s x t)) (keys_at s x t)) z) (row_is s x t m h) (map_among (row_of (world s x t)) (keys_at s x t) (next_key m) (runs_chosen s x t m h named).1))
 
-pub rows_apart : (s : Settings) (x : Replica) (n t : ℕ) → NoneTwice same_subtask ((as_run s x n).table t)
+pub rows_apart : (s : Settings) (x : Story) (n t : ℕ) → NoneTwice same_subtask ((as_run s x n).table t)
 rows_apart s x n t = go (keys_at s x t) (λ k h. h) (first_names s.processors (eligible t (world s x t)) (keys_apart s x t))
   where
     named : (k : Key) → Among (keys_at s x t) k → (row_of (world s x t) k).task.name ≡ k.name
@@ -140,7 +139,7 @@ rows_apart s x n t = go (keys_at s x t) (λ k h. h) (first_names s.processors (e
       go ks (λ l h. within l (inr h)) (apart_tail (λ (k : Key). k.name) k ks apart),
     )
 
-module _ (s : Settings) (x : Replica) (weights : (t : ℕ) → AllHaveWeights (announcements (said x t))) where
+module _ (s : Settings) (x : Story) (weights : TellWeights x) where
   -- ---- in the end
 
   last_line : (n u : ℕ) (m : Member) → Among (world s x u) m → u < n → (l : Member) × (v : ℕ) × (last_of s x n (task_of m) ≡ Some l) × Among (world s x v) l × (u ≤ v) × IsLine s x u v m l

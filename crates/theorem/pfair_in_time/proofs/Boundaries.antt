@@ -16,10 +16,11 @@ use Rattle.pfair_admission.specs.Admission.{Machine, is_named, member_named, cla
 use Rattle.pfair_admission.proofs.Effects.{by_effect}
 use Rattle.pfair_admission.proofs.NamesKept.{apart_effect, apart_present}
 use Rattle.pfair_table.proofs.FirstSubtasks.{found_own}
-use Rattle.pfair_in_time.specs.Descent.{Descends, IsSound, IsNew, HasWeight}
+use Rattle.pfair_in_time.specs.Descent.{Descends, IsSound, IsNew}
 use Rattle.pfair_in_time.specs.Laws.{AllSound, AllHaveWeights, IsFreed, BoundariesKeepMembers}
 use Rattle.pfair_admission.proofs.Keeping.{theta_earlier}
 use Rattle.pfair_in_time.proofs.Offsets.{release_rises, delayed_rises}
+use Rattle.pfair_admission.specs.Laws.{HasWeight}
 
 -- ---- one member
 

@@ -12,23 +12,22 @@ use Rattle.pfair_order.specs.declared.Key.{Key}
 use Rattle.pfair_order.specs.Order.{GoesBefore, earlier_deadline, greater_b_bit, later_group, smaller_name, smaller_group}
 use Rattle.pfair_order.proofs.NamesApart.{once_from_names}
 use Rattle.pfair_replica.specs.Among.{Among, among_contains, contains_among, filter_among, map_among}
-use Rattle.pfair_replica.specs.Replica.{Replica, said}
 use Rattle.pfair_admission.specs.Member.{Member, theta, is_departing, eligible_from, next_key}
-use Rattle.pfair_admission.specs.Admission.{announcements}
-use Rattle.pfair_table.specs.Table.{Settings, eligible, is_eligible, world}
+use Rattle.pfair_table.specs.Table.{Settings, eligible, is_eligible, Story}
 use Rattle.pfair_optimal.specs.Fluid.{busy_bound_of}
 use Rattle.pfair_optimal.specs.Run.{Task, Subtask, Run, is_among, same_task, release, deadline, b_bit, group_deadline, busy_bound, is_row, has_run, IsNext, GoesFirst}
 use Rattle.pfair_optimal.specs.Beginning.{IsRunBelow}
 use Rattle.pfair_optimal.proofs.Past.{task_exact, ran_by, ran_more}
 use Rattle.pfair_in_time.specs.Descent.{IsSound}
-use Rattle.pfair_in_time.specs.Laws.{AllHaveWeights}
 use Rattle.pfair_admission.proofs.Delays.{theta_rises}
-use Rattle.pfair_in_time.proofs.Worlds.{any_among, any_from_among, runs, keys_at, keys_apart, runs_chosen, chosen_runs, here}
+use Rattle.pfair_table.proofs.RunsOn.{any_among}
+use Rattle.pfair_in_time.proofs.Worlds.{any_from_among, runs, keys_at, keys_apart, runs_chosen, chosen_runs, here, TellWeights}
 use Rattle.pfair_in_time.proofs.Lines.{line_of, back_to, on_to, IsGone}
 use Rattle.pfair_in_time.proofs.AsRun.{test_among, task_of, subtask_of, is_task, last_of, or_else, weight_in, offset_in, is_running, row_of, as_run, row_member, member_row, rows_apart, IsFinal, final, next_counted, all_before_ran, none_after_ran, found_some}
 use Rattle.pfair_in_time.proofs.Room.{room_world}
 use Rattle.pfair_admission.proofs.Keeping.{eligible_no_later}
 use Rattle.pfair_in_time.proofs.Claims.{bound_le_claim, IsPast, past_first}
+use Rattle.pfair_table.proofs.FirstRuns.{world}
 
 -- ---- who goes before whom
 
@@ -67,7 +66,7 @@ sum_same f g (m ∷ ms) h =
     let rest = sum_same f g ms (λ n i. h n (inr i)) in
     omega arith
 
-module _ (s : Settings) (x : Replica) (frame : 0 < s.frame) (weights : (t : ℕ) → AllHaveWeights (announcements (said x t))) (n : ℕ) where
+module _ (s : Settings) (x : Story) (frame : 0 < s.frame) (weights : TellWeights x) (n : ℕ) where
   -- the task in the end is a member of some slot
   last_member : (k : ℕ) (a : Task) (m : Member) → last_of s x k a ≡ Some m → IsSound s.frame m × (task_of m ≡ a)
   last_member zero a m e = absurd (cc)

@@ -6,22 +6,23 @@ use Rattle.std.proofs.lemmas.Bool.{cases_lt, cases_eq, cases_Bool, and_parts, le
 use Rattle.pfair_weight.specs.Window.{release_of, deadline_of, starts_job_of}
 use Rattle.pfair_entry.specs.Exact.{name_itself}
 use Rattle.pfair_replica.specs.Among.{Among, among_map}
-use Rattle.pfair_replica.specs.Replica.{Replica}
+use Rattle.pfair_replica.specs.Replica.{said}
 use Rattle.pfair_admission.specs.Member.{Member, theta, is_departing, is_delayed_at, eligible_from, next_key}
 use Rattle.pfair_table.specs.declared.pick.Pick.{Pick}
-use Rattle.pfair_table.specs.Table.{Settings, pick, index_of, world, table}
+use Rattle.pfair_table.specs.Table.{Settings, pick, index_of, Story}
 use Rattle.pfair_optimal.specs.Run.{Task, Subtask, deadline, is_row, has_run, IsNext}
 use Rattle.pfair_optimal.proofs.Beginnings.{beginning_none_misses, beginning_in_time}
 use Rattle.pfair_optimal.proofs.Past.{task_exact, ran_at, ran_by, ran_more}
-use Rattle.pfair_in_time.specs.InTime.{SaysWeights, index_after, NoneMisses, IsInTime, EachRunsInTime}
+use Rattle.pfair_in_time.specs.InTime.{NoneMisses, IsInTime, EachRunsInTime}
 use Rattle.pfair_in_time.proofs.Boundaries.{named_is}
 use Rattle.pfair_table.proofs.Members.{named_world}
-use Rattle.pfair_in_time.proofs.Worlds.{same_member, runs, keys_at, chosen_member, chosen_runs, runs_chosen, on_next, here}
+use Rattle.pfair_in_time.proofs.Worlds.{same_member, runs, keys_at, chosen_member, chosen_runs, runs_chosen, on_next, here, TellWeights, index_after}
 use Rattle.pfair_in_time.proofs.AsRun.{task_of, subtask_of, is_task, last_of, or_else, offset_in, weight_in, as_run, row_member, member_row, found_some, found_none, next_counted, all_before_ran, none_after_ran}
 use Rattle.pfair_in_time.proofs.Executive.{is_run, member_active}
+use Rattle.pfair_table.proofs.FirstRuns.{world, table}
 
 -- up to the end of slot t a member is the last one of its task
-last_now : (s : Settings) (x : Replica) (t : ℕ) (m : Member) → Among (world s x t) m → last_of s x (suc t) (task_of m) ≡ Some m
+last_now : (s : Settings) (x : Story) (t : ℕ) (m : Member) → Among (world s x t) m → last_of s x (suc t) (task_of m) ≡ Some m
 last_now s x t m h = by (find (is_task (task_of m)) (world s x t)) refl
   where
     by : (o : Option Member) → find (is_task (task_of m)) (world s x t) ≡ o → or_else o (last_of s x t (task_of m)) ≡ Some m
@@ -31,10 +32,10 @@ last_now s x t m h = by (find (is_task (task_of m)) (world s x t)) refl
     by None e = absurd (found_none (is_task (task_of m)) (world s x t) m e h ((task_exact (task_of m) (task_of m)).1 refl))
 
 -- so its deadlines in the run are its own
-own_deadline : (s : Settings) (x : Replica) (t : ℕ) (m : Member) (i : ℕ) → Among (world s x t) m → deadline (as_run s x (suc t)) (record { task = task_of m; index = i }) ≡ deadline_of m.weight i (theta m i)
+own_deadline : (s : Settings) (x : Story) (t : ℕ) (m : Member) (i : ℕ) → Among (world s x t) m → deadline (as_run s x (suc t)) (record { task = task_of m; index = i }) ≡ deadline_of m.weight i (theta m i)
 own_deadline s x t m i h = ap (λ (o : Option Member). deadline_of (weight_in o) i (offset_in (task_of m) o i)) (last_now s x t m h)
 
-module _ (s : Settings) (x : Replica) (frame : 0 < s.frame) (weights : SaysWeights x) where
+module _ (s : Settings) (x : Story) (frame : 0 < s.frame) (weights : TellWeights x) where
   -- the next subtask after a table comes after all that ran
   next_after : (t : ℕ) (m : Member) → Among (world s x t) m → IsNext (as_run s x (suc t)) (record { task = task_of m; index = index_after s x t m }) (suc t)
   next_after t m h =
@@ -98,7 +99,7 @@ module _ (s : Settings) (x : Replica) (frame : 0 < s.frame) (weights : SaysWeigh
       let is : eligible_from m m.next ≡ release_of m.weight m.next (theta m m.next) = ap (λ b. if not b || (starts_job_of m.weight m.next || is_delayed_at m m.next) then release_of m.weight m.next (theta m m.next) else m.joined) early in
       omega arith
 
-  rows : (t : ℕ) (p : Pick) → Among (table s x t) p → (m : Member) × Among (world s x t) m × IsInTime t p m
+  pub rows : (t : ℕ) (p : Pick) → Among (table s x t) p → (m : Member) × Among (world s x t) m × IsInTime t p m
   rows t p h =
       let q = among_map (pick (world s x t)) (keys_at s x t) p h in
       let k = chosen_member s x t q.0 q.1 in
@@ -115,7 +116,7 @@ module _ (s : Settings) (x : Replica) (frame : 0 < s.frame) (weights : SaysWeigh
       )
 
 pub none_misses : NoneMisses
-none_misses s x frame weights t m h d = none s x frame weights t m h d
+none_misses s x frame weights t m h d = none s (said x) frame weights t m h d
 
 pub each_runs_in_time : EachRunsInTime
-each_runs_in_time s x frame weights t p h = rows s x frame weights t p h
+each_runs_in_time s x frame weights t p h = rows s (said x) frame weights t p h

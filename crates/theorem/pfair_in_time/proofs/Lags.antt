@@ -7,7 +7,7 @@ use Rattle.std.proofs.Math.Nat.{le_refl}
 use Rattle.pfair_lag.specs.Lag.{quanta_before, lag_numerator}
 use Rattle.pfair_lag.specs.Laws.{LagsKeepWindows, LagsKeepDeadlines}
 use Rattle.pfair_replica.specs.Among.{Among, among_filter, among_below}
-use Rattle.pfair_replica.specs.Replica.{Replica, numbers_below}
+use Rattle.pfair_replica.specs.Replica.{Replica, numbers_below, said}
 use Rattle.pfair_admission.specs.Member.{Member}
 use Rattle.pfair_table.specs.Table.{Settings, quanta, world}
 use Rattle.pfair_in_time.specs.InTime.{SaysWeights}
@@ -28,14 +28,14 @@ all_counted p (k ∷ xs) each =
 -- the lag of the row is that of the slots in which the member ran
 same_lag : (s : Settings) (x : Replica) → SaysWeights x → (t : ℕ) (m : Member) → Among (world s x t) m → lag_numerator m.weight (slots_run s x t m) (slots_since t m) ≡ lag_after s x t m
 same_lag s x weights t m h =
-    let joined = (here s x weights t m h).by_now in
+    let joined = (here s (said x) weights t m h).by_now in
     let time : slots_since t m ≡ (t + 1) - m.joined = omega arith in
     let all = all_counted (λ slot. nat_lt slot (slots_since t m)) (slots_run s x t m)
-    (λ k among. lt-ltb k (slots_since t m) (among_below (slots_since t m) k (among_filter (runs_at s x m) (numbers_below (slots_since t m)) k among).0)) in
-    let ran = quanta_passing s x m (slots_since t m) in
+    (λ k among. lt-ltb k (slots_since t m) (among_below (slots_since t m) k (among_filter (runs_at s (said x) m) (numbers_below (slots_since t m)) k among).0)) in
+    let ran = quanta_passing s (said x) m (slots_since t m) in
     let now : m.joined + slots_since t m ≡ suc t = omega arith in
-    let same = ap (λ u. quanta (tables_before s x u) m) now in
-    let quanta_are : quanta_before (slots_run s x t m) (slots_since t m) ≡ quanta (tables_before s x (suc t)) m = omega arith in
+    let same = ap (λ u. quanta (tables_before s (said x) u) m) now in
+    let quanta_are : quanta_before (slots_run s x t m) (slots_since t m) ≡ quanta (tables_before s (said x) (suc t)) m = omega arith in
     ap (λ n. pos (m.weight.cost * n) -ℤ pos (m.weight.period * quanta_before (slots_run s x t m) (slots_since t m))) time
     ∙ ap (λ n. pos (m.weight.cost * ((t + 1) - m.joined)) -ℤ pos (m.weight.period * n)) quanta_are
 

@@ -14,3 +14,4 @@ mod Lags
 mod Overload
 mod Served
 mod Repeats
+mod NextRuns

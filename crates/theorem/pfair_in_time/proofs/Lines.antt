@@ -5,16 +5,14 @@ use Rattle.std.proofs.lemmas.Bool.{cases_eq}
 use Rattle.pfair_weight.specs.Share.{Share}
 use Rattle.pfair_weight.specs.Window.{release_of}
 use Rattle.pfair_replica.specs.Among.{Among}
-use Rattle.pfair_replica.specs.Replica.{Replica, said}
 use Rattle.pfair_admission.specs.Member.{Member, theta, is_departing}
-use Rattle.pfair_admission.specs.Admission.{announcements}
-use Rattle.pfair_table.specs.Table.{Settings, world}
+use Rattle.pfair_table.specs.Table.{Settings, Story}
 use Rattle.pfair_in_time.specs.Descent.{Descends, IsSound}
-use Rattle.pfair_in_time.specs.Laws.{AllHaveWeights}
-use Rattle.pfair_in_time.proofs.Worlds.{runs, IsHere, on, on_next, same_member, here, came_from, goes_to}
+use Rattle.pfair_in_time.proofs.Worlds.{runs, IsHere, on, on_next, same_member, here, came_from, goes_to, TellWeights}
+use Rattle.pfair_table.proofs.FirstRuns.{world}
 
 -- n in slot t, or after what is decided for slot t, is the incarnation that m is in slot u
-pub record IsLine (s : Settings) (x : Replica) (u t : ℕ) (m n : Member) : Type 0 where
+pub record IsLine (s : Settings) (x : Story) (u t : ℕ) (m n : Member) : Type 0 where
   pub name : n.name ≡ m.name
   pub weight : n.weight ≡ m.weight
   pub early : n.early ≡ m.early
@@ -27,7 +25,7 @@ pub record IsLine (s : Settings) (x : Replica) (u t : ℕ) (m n : Member) : Type
   pub stays_run : (i : ℕ) → u < t → runs s x u m ≡ true → i ≤ m.next → theta n i ≡ theta m i
   pub departing : is_departing m ≡ true → is_departing n ≡ true
 
-line_itself : (s : Settings) (x : Replica) (t : ℕ) (m : Member) → IsLine s x t t m m
+line_itself : (s : Settings) (x : Story) (t : ℕ) (m : Member) → IsLine s x t t m m
 line_itself s x t m = record {
   name = refl;
   weight = refl;
@@ -42,7 +40,7 @@ line_itself s x t m = record {
 }
 
 -- over one boundary
-line_next : (s : Settings) (x : Replica) (t : ℕ) (m n : Member) → IsHere s x t m → Descends (suc t) (on s x t m) n → IsLine s x t (suc t) m n
+line_next : (s : Settings) (x : Story) (t : ℕ) (m n : Member) → IsHere s x t m → Descends (suc t) (on s x t m) n → IsLine s x t (suc t) m n
 line_next s x t m n at d = record {
   name = d.name;
   weight = d.weight;
@@ -67,7 +65,7 @@ line_next s x t m n at d = record {
     still i (inl ran) = inl (let more = on_next s x t m at in omega arith)
     still i (inr released) = inr (omega arith)
 
-line_on : (s : Settings) (x : Replica) (u v t : ℕ) (l m n : Member) → u < v → v ≤ t → IsLine s x u v l m → IsLine s x v t m n → IsLine s x u t l n
+line_on : (s : Settings) (x : Story) (u v t : ℕ) (l m n : Member) → u < v → v ≤ t → IsLine s x u v l m → IsLine s x v t m n → IsLine s x u t l n
 line_on s x u v t l m n less le a b = record {
   name = b.name ∙ a.name;
   weight = b.weight ∙ a.weight;
@@ -85,7 +83,7 @@ line_on s x u v t l m n less le a b = record {
     still i same (inl ran) = inl (let one = a.next in omega arith)
     still i same (inr released) = inr (subst (λ (w : Share). release_of w i (theta m i) ≤ v) (sym a.weight) (let e = same in omega arith))
 
-module _ (s : Settings) (x : Replica) (weights : (t : ℕ) → AllHaveWeights (announcements (said x t))) where
+module _ (s : Settings) (x : Story) (weights : TellWeights x) where
   -- back to each slot since it joined
   pub back_to : (t u : ℕ) (n : Member) → Among (world s x t) n → n.joined ≤ u → u ≤ t → (m : Member) × Among (world s x u) m × IsLine s x u t m n
   back_to zero u n h joined le = let e : 0 ≡ u = omega arith in (n, subst (λ k. Among (world s x k) n) e h, subst (λ k. IsLine s x u k n n) (sym e) (line_itself s x u n))

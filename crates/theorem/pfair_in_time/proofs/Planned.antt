@@ -23,11 +23,11 @@ use Rattle.pfair_table.specs.Table.{Settings, Origin, Table, table, table_from}
 use Rattle.pfair_table.specs.Laws.{OneSchedule}
 use Rattle.pfair_table.specs.Limits.{IsSettings}
 use Rattle.pfair_table.specs.Refinement.{Dispatch, HavePlannedAlike}
-use Rattle.pfair_in_time.specs.Descent.{HasWeight}
 use Rattle.pfair_in_time.specs.InTime.{SaysWeights}
 use Rattle.pfair_in_time.specs.Dispatched.{AnnouncesWeight, BringsWeights, IsServedSlot, DispatchersNeverMiss, RowHasWeights, NeverMisses}
 use Rattle.pfair_replica.proofs.Merging.{one_side}
 use Rattle.pfair_in_time.proofs.InTime.{none_misses, each_runs_in_time}
+use Rattle.pfair_admission.specs.Laws.{HasWeight}
 
 -- ---- the contents state weights
 

@@ -17,7 +17,7 @@ use Rattle.pfair_entry.specs.Same.{name_eq}
 use Rattle.pfair_order.specs.declared.Key.{Key}
 use Rattle.pfair_order.proofs.Later.{group_later, key_later, filter_mapped, first_later}
 use Rattle.pfair_replica.specs.Among.{Among, among_append, among_filter, among_map, map_among, map_same}
-use Rattle.pfair_replica.specs.Replica.{Replica}
+use Rattle.pfair_replica.specs.Replica.{Replica, said}
 use Rattle.pfair_admission.specs.declared.decision.Decision.{Decision}
 use Rattle.pfair_admission.specs.declared.decision.Decision.TheVariants.{Admitted, Departing, Delayed, Refused}
 use Rattle.pfair_admission.specs.Member.{Member, theta, is_departing, eligible_from, next_key}
@@ -118,29 +118,29 @@ module _ (s : Settings) (x : Replica) (arrivals : List Arrival) (frame : 0 < s.f
   is_first m among = firsts (machine s) arrivals [] (λ n no. absurd no) m (subst (λ l. Among (all_decided (machine s) 0 [] l) m) says.first among)
 
   weight_of : (m : Member) → Among (world s x 0) m → IsWeight m.weight.cost m.weight.period
-  weight_of m among = (here s x weights 0 m among).sound.weight
+  weight_of m among = (here s (said x) weights 0 m among).sound.weight
 
   -- ---- the members of each slot
 
-  world_is : (t : ℕ) → world s x t ≡ counted (tables_before s x t) (world s x 0)
+  world_is : (t : ℕ) → world s x t ≡ counted (tables_before s (said x) t) (world s x 0)
   world_is zero = sym (map_same (counted_one []) (λ m. m) (world s x 0) (λ m among. same m (is_first m among)) ∙ map-id (world s x 0))
     where
       same : (m : Member) → IsFirst m → counted_one [] m ≡ m
       same m e = ap (counted_one []) e ∙ ap (stands m.name m.weight m.early) (omega arith) ∙ sym e
   world_is (suc t) =
-      world_counted s x t
-      ∙ ap (λ l. all_decided (machine s) (suc t) (present (suc t) (counted (tables_before s x (suc t)) (world s x t))) (announcements l)) (says.later (suc t) (omega arith))
-      ∙ ap (λ ms. present (suc t) (counted (tables_before s x (suc t)) ms)) (world_is t)
-      ∙ ap (present (suc t)) (map-map (counted_one (tables_before s x (suc t))) (counted_one (tables_before s x t)) (world s x 0))
-      ∙ all_present (suc t) (counted (tables_before s x (suc t)) (world s x 0)) none_leaves
+      world_counted s (said x) t
+      ∙ ap (λ l. all_decided (machine s) (suc t) (present (suc t) (counted (tables_before s (said x) (suc t)) (world s x t))) (announcements l)) (says.later (suc t) (omega arith))
+      ∙ ap (λ ms. present (suc t) (counted (tables_before s (said x) (suc t)) ms)) (world_is t)
+      ∙ ap (present (suc t)) (map-map (counted_one (tables_before s (said x) (suc t))) (counted_one (tables_before s (said x) t)) (world s x 0))
+      ∙ all_present (suc t) (counted (tables_before s (said x) (suc t)) (world s x 0)) none_leaves
     where
-      none_leaves : NoneLeaves (counted (tables_before s x (suc t)) (world s x 0))
+      none_leaves : NoneLeaves (counted (tables_before s (said x) (suc t)) (world s x 0))
       none_leaves n among =
-          let p = among_map (counted_one (tables_before s x (suc t))) (world s x 0) n among in
+          let p = among_map (counted_one (tables_before s (said x) (suc t))) (world s x 0) n among in
           ap (λ (l : Member). l.freed_at) p.2 ∙ ap (λ (l : Member). l.freed_at) (is_first p.0 p.1)
 
-  member_at : (t : ℕ) (m : Member) → Among (world s x 0) m → Among (world s x t) (counted_one (tables_before s x t) m)
-  member_at t m among = subst (λ l. Among l (counted_one (tables_before s x t) m)) (sym (world_is t)) (map_among (counted_one (tables_before s x t)) (world s x 0) m among)
+  member_at : (t : ℕ) (m : Member) → Among (world s x 0) m → Among (world s x t) (counted_one (tables_before s (said x) t) m)
+  member_at t m among = subst (λ l. Among l (counted_one (tables_before s (said x) t) m)) (sym (world_is t)) (map_among (counted_one (tables_before s (said x) t)) (world s x 0) m among)
 
   joined_first : (m : Member) → Among (world s x 0) m → m.joined ≡ 0
   joined_first m among = ap (λ (l : Member). l.joined) (is_first m among)
@@ -163,28 +163,28 @@ module _ (s : Settings) (x : Replica) (arrivals : List Arrival) (frame : 0 < s.f
       units_are = mul_comm m.weight.cost jobs
 
       -- before it ends no task has had more quanta than it wants
-      no_more : (t : ℕ) → t ≤ h → next_index (tables_before s x t) m ≤ 1 + units_of m.weight h
-      no_more zero within = (let new = next_new s x 0 m (joined_first m among) in omega arith)
+      no_more : (t : ℕ) → t ≤ h → next_index (tables_before s (said x) t) m ≤ 1 + units_of m.weight h
+      no_more zero within = (let new = next_new s (said x) 0 m (joined_first m among) in omega arith)
       no_more (suc t) within =
           let before = no_more t (omega arith) in
           let joined = joined_first m among in
-          let more = next_more s x t m (omega arith) in
-          elim (cases_Bool (runs s x t m)) [
-            | inr rests ↦ (let c : cond {A = ℕ} (runs s x t m) 1 0 ≡ 0 = ap (λ b. cond {A = ℕ} b 1 0) rests in omega arith)
+          let more = next_more s (said x) t m (omega arith) in
+          elim (cases_Bool (runs s (said x) t m)) [
+            | inr rests ↦ (let c : cond {A = ℕ} (runs s (said x) t m) 1 0 ≡ 0 = ap (λ b. cond {A = ℕ} b 1 0) rests in omega arith)
             | inl ran ↦
-                let c : cond {A = ℕ} (runs s x t m) 1 0 ≡ 1 = ap (λ b. cond {A = ℕ} b 1 0) ran in
-                elim (cases_lt (next_index (tables_before s x t) m) (1 + units_of m.weight h)) [
+                let c : cond {A = ℕ} (runs s (said x) t m) 1 0 ≡ 1 = ap (λ b. cond {A = ℕ} b 1 0) ran in
+                elim (cases_lt (next_index (tables_before s (said x) t) m) (1 + units_of m.weight h)) [
                   | inl less ↦ omega arith
-                  | inr reached ↦ absurd (not_released t (counted_one (tables_before s x t) m) (member_at t m among) refl (omega arith) ran (omega arith))
+                  | inr reached ↦ absurd (not_released t (counted_one (tables_before s (said x) t) m) (member_at t m among) refl (omega arith) ran (omega arith))
                 ]
           ]
         where
-          not_released : (t : ℕ) (l : Member) → Among (world s x t) l → l.weight ≡ m.weight → l.next ≡ 1 + units_of m.weight h → runs s x t l ≡ true → t < h → ⊥
+          not_released : (t : ℕ) (l : Member) → Among (world s x t) l → l.weight ≡ m.weight → l.next ≡ 1 + units_of m.weight h → runs s (said x) t l ≡ true → t < h → ⊥
           not_released t l inside same next named before =
               let units = units_are in
               let at : l.next ≡ jobs * m.weight.cost + 1 = omega arith in
               let starts : starts_job_of l.weight l.next ≡ true = (λ i. starts_job_of (same i) (at i)) ∙ starts_after_jobs m.weight jobs in
-              let p = and_parts (not (is_departing l)) (nat_le (eligible_from l l.next) t) (runs_chosen s x t l inside named).0 in
+              let p = and_parts (not (is_departing l)) (nat_le (eligible_from l l.next) t) (runs_chosen s (said x) t l inside named).0 in
               let from = leb-true (eligible_from l l.next) t p.1 in
               let is = eligible_at_job l l.next starts in
               let release : release_of l.weight l.next (theta l l.next) ≡ theta l l.next + jobs * m.weight.period =
@@ -193,21 +193,21 @@ module _ (s : Settings) (x : Replica) (arrivals : List Arrival) (frame : 0 < s.f
               omega arith
 
       -- and when it has ended none has had fewer
-      no_fewer : 1 + units_of m.weight h ≤ next_index (tables_before s x h) m
-      no_fewer = elim (cases_lt (next_index (tables_before s x h) m) (1 + units_of m.weight h)) [
+      no_fewer : 1 + units_of m.weight h ≤ next_index (tables_before s (said x) h) m
+      no_fewer = elim (cases_lt (next_index (tables_before s (said x) h) m) (1 + units_of m.weight h)) [
         | inr enough ↦ enough
         | inl few ↦ absurd (
             let units = units_are in
             let whole = all_jobs in
-            let rise = deadline_rises m.weight (next_index (tables_before s x h) m) (jobs * m.weight.cost) (weight_of m among).some_cost (omega arith) in
+            let rise = deadline_rises m.weight (next_index (tables_before s (said x) h) m) (jobs * m.weight.cost) (weight_of m among).some_cost (omega arith) in
             let due = job_due m.weight jobs 0 (weight_of m among).some_cost in
             elim (cases_eq h 0) [
-              | inl nothing ↦ (let later = window_not_empty m.weight (next_index (tables_before s x h) m) 0 (weight_of m among) (omega arith) in omega arith)
+              | inl nothing ↦ (let later = window_not_empty m.weight (next_index (tables_before s (said x) h) m) 0 (weight_of m among) (omega arith) in omega arith)
               | inr some ↦
-                  let l = counted_one (tables_before s x (h - 1)) m in
-                  let late = none s x frame weights (h - 1) l (member_at (h - 1) m among) (ap is_departing (is_first m among)) in
+                  let l = counted_one (tables_before s (said x) (h - 1)) m in
+                  let late = none s (said x) frame weights (h - 1) l (member_at (h - 1) m among) (ap is_departing (is_first m among)) in
                   let at : suc (h - 1) ≡ h = omega (arith, some) in
-                  let index : index_after s x (h - 1) l ≡ next_index (tables_before s x h) m = ap (λ t. next_index (tables_before s x t) m) at in
+                  let index : index_after s x (h - 1) l ≡ next_index (tables_before s (said x) h) m = ap (λ t. next_index (tables_before s (said x) t) m) at in
                   let offset = no_offset l (index_after s x (h - 1) l) (ap (λ (n : Member). n.delays) (is_first m among)) in
                   let joined = joined_first m among in
                   let is = ap (λ i. deadline_of m.weight i 0) index in
@@ -217,35 +217,35 @@ module _ (s : Settings) (x : Replica) (arrivals : List Arrival) (frame : 0 < s.f
 
     -- the index of the next subtask is by so much greater
     abbrev IsAhead : ℕ → Type 0
-    IsAhead t = (m : Member) → Among (world s x 0) m → next_index (tables_before s x (t + h)) m ≡ next_index (tables_before s x t) m + units_of m.weight h
+    IsAhead t = (m : Member) → Among (world s x 0) m → next_index (tables_before s (said x) (t + h)) m ≡ next_index (tables_before s (said x) t) m + units_of m.weight h
 
     -- ---- then the table of the slot repeats
 
     module _ (t : ℕ) (ahead : IsAhead t) where
       -- a member in slot t, and h slots later
       abbrev now : Member → Member
-      now = counted_one (tables_before s x t)
+      now = counted_one (tables_before s (said x) t)
 
       abbrev then_ : Member → Member
-      then_ m = record m { next = next_index (tables_before s x t) m + units_of m.weight h }
+      then_ m = record m { next = next_index (tables_before s (said x) t) m + units_of m.weight h }
 
       world_later : world s x (t + h) ≡ map then_ (world s x 0)
-      world_later = world_is (t + h) ∙ map_same (counted_one (tables_before s x (t + h))) then_ (world s x 0) (λ m among. (λ i. record m { next = ahead m among i }))
+      world_later = world_is (t + h) ∙ map_same (counted_one (tables_before s (said x) (t + h))) then_ (world s x 0) (λ m among. (λ i. record m { next = ahead m among i }))
 
       eligible_one : (m : Member) → Among (world s x 0) m → is_eligible (t + h) (then_ m) ≡ is_eligible t (now m)
       eligible_one m among =
-          ap (λ (l : Member). is_eligible (t + h) (record l { next = next_index (tables_before s x t) m + units_of m.weight h })) (is_first m among)
-          ∙ (λ i. is_eligible (t + sym (all_jobs m among) i) (stands m.name m.weight m.early (next_index (tables_before s x t) m + units_are m among i)))
-          ∙ eligible_repeats m.name m.weight m.early (next_index (tables_before s x t) m) (jobs m among) (weight_of m among) (omega arith) t
-          ∙ sym (ap (λ (l : Member). is_eligible t (record l { next = next_index (tables_before s x t) m })) (is_first m among))
+          ap (λ (l : Member). is_eligible (t + h) (record l { next = next_index (tables_before s (said x) t) m + units_of m.weight h })) (is_first m among)
+          ∙ (λ i. is_eligible (t + sym (all_jobs m among) i) (stands m.name m.weight m.early (next_index (tables_before s (said x) t) m + units_are m among i)))
+          ∙ eligible_repeats m.name m.weight m.early (next_index (tables_before s (said x) t) m) (jobs m among) (weight_of m among) (omega arith) t
+          ∙ sym (ap (λ (l : Member). is_eligible t (record l { next = next_index (tables_before s (said x) t) m })) (is_first m among))
 
       key_one : (m : Member) → Among (world s x 0) m → next_key (then_ m) ≡ key_later h (next_key (now m))
       key_one m among =
-          ap (λ (l : Member). next_key (record l { next = next_index (tables_before s x t) m + units_of m.weight h })) (is_first m among)
-          ∙ (λ i. next_key (stands m.name m.weight m.early (next_index (tables_before s x t) m + units_are m among i)))
-          ∙ key_repeats m.name m.weight m.early (next_index (tables_before s x t) m) (jobs m among) (weight_of m among) (omega arith)
-          ∙ (λ i. key_later (all_jobs m among i) (next_key (stands m.name m.weight m.early (next_index (tables_before s x t) m))))
-          ∙ sym (ap (λ (l : Member). key_later h (next_key (record l { next = next_index (tables_before s x t) m }))) (is_first m among))
+          ap (λ (l : Member). next_key (record l { next = next_index (tables_before s (said x) t) m + units_of m.weight h })) (is_first m among)
+          ∙ (λ i. next_key (stands m.name m.weight m.early (next_index (tables_before s (said x) t) m + units_are m among i)))
+          ∙ key_repeats m.name m.weight m.early (next_index (tables_before s (said x) t) m) (jobs m among) (weight_of m among) (omega arith)
+          ∙ (λ i. key_later (all_jobs m among i) (next_key (stands m.name m.weight m.early (next_index (tables_before s (said x) t) m))))
+          ∙ sym (ap (λ (l : Member). key_later h (next_key (record l { next = next_index (tables_before s (said x) t) m }))) (is_first m among))
 
       eligible_later : eligible (t + h) (map then_ (world s x 0)) ≡ map (key_later h) (eligible t (map now (world s x 0)))
       eligible_later =
@@ -287,22 +287,22 @@ module _ (s : Settings) (x : Replica) (arrivals : List Arrival) (frame : 0 < s.f
 
     ahead_at : (t : ℕ) → IsAhead t
     ahead_at zero m among =
-        let new = next_new s x 0 m (joined_first m among) in
+        let new = next_new s (said x) 0 m (joined_first m among) in
         let most = no_more m among h (le_refl h) in
         let least = no_fewer m among in
         let at : 0 + h ≡ h = omega arith in
-        let same = ap (λ n. next_index (tables_before s x n) m) at in
+        let same = ap (λ n. next_index (tables_before s (said x) n) m) at in
         omega arith
     ahead_at (suc t) m among =
         let before = ahead_at t m among in
         let joined = joined_first m among in
-        let one = next_more s x (t + h) m (omega arith) in
-        let other = next_more s x t m (omega arith) in
-        let named : runs s x (t + h) m ≡ runs s x t m =
+        let one = next_more s (said x) (t + h) m (omega arith) in
+        let other = next_more s (said x) t m (omega arith) in
+        let named : runs s (said x) (t + h) m ≡ runs s (said x) t m =
         ap (names_task m.name) (repeats_if t (ahead_at t)) ∙ any_mapped (λ (r : Pick). name_eq m.name r.name) (later_row h (world s x 0)) (λ r. refl) (table s x t) in
         let c = ap (λ b. cond {A = ℕ} b 1 0) named in
         let at : suc t + h ≡ suc (t + h) = omega arith in
-        let same = ap (λ n. next_index (tables_before s x n) m) at in
+        let same = ap (λ n. next_index (tables_before s (said x) n) m) at in
         omega arith
 
     repeats : (t : ℕ) → table s x (t + h) ≡ map (later_row h (world s x 0)) (table s x t)

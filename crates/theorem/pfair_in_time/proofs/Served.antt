@@ -23,7 +23,6 @@ use Rattle.pfair_admission.specs.Admission.{Machine, is_named, member_named, cla
 use Rattle.pfair_table.specs.declared.pick.Decided.{Decided}
 use Rattle.pfair_table.specs.Table.{Settings, machine, quanta, counted_one, history, world, table, with_decisions, decisions}
 use Rattle.pfair_table.proofs.NextIndexes.{world_counted}
-use Rattle.pfair_in_time.specs.Descent.{HasWeight}
 use Rattle.pfair_in_time.specs.InTime.{SaysWeights, index_after}
 use Rattle.pfair_in_time.specs.Schedules.{Arrival, announced, AreArrivals, SaysOnly, units_wanted, quanta_before, IsServed, ServedWhereThereIsRoom}
 use Rattle.pfair_admission.proofs.Deciding.{admitted_room, claimed_arrived}
@@ -32,6 +31,7 @@ use Rattle.pfair_in_time.proofs.InTime.{none}
 use Rattle.pfair_in_time.proofs.Overload.{quanta_more}
 use Rattle.pfair_in_time.proofs.Windows.{no_offset}
 use Rattle.pfair_in_time.proofs.Worlds.{tables_before, next_more, next_new}
+use Rattle.pfair_admission.specs.Laws.{HasWeight}
 
 -- ---- those who are there
 
@@ -186,16 +186,16 @@ module _ (s : Settings) (x : Replica) (arrivals : List Arrival) (frame : 0 < s.f
       let still = p.2 in
       let among = filter_among (λ (n : Member). not (is_freed (suc t) n.freed_at)) (map (counted_one (history s x (suc t)).tables) (world s x t)) m (map_among (counted_one (history s x (suc t)).tables) (world s x t) p.0 p.1) (stays (suc t) m still.stays) in (
         m,
-        subst (λ l. Among l m) (sym (world_counted s x t))
+        subst (λ l. Among l m) (sym (world_counted s (said x) t))
             (subst (λ l. Among (all_decided (machine s) (suc t) (present (suc t) (map (counted_one (history s x (suc t)).tables) (world s x t))) (announcements l)) m) (sym (says.later (suc t) (omega arith))) among),
         record { name = still.name; weight = still.weight; joined = still.joined; delays = still.delays; stays = still.stays },
       )
 
-  own_quanta : (m : Member) → m.joined ≡ 0 → (n : ℕ) → quanta (tables_before s x n) m ≡ quanta_before (table s x) m.name n
-  own_quanta m joined zero = (let new = next_new s x 0 m joined in omega arith)
+  own_quanta : (m : Member) → m.joined ≡ 0 → (n : ℕ) → quanta (tables_before s (said x) n) m ≡ quanta_before (table s x) m.name n
+  own_quanta m joined zero = (let new = next_new s (said x) 0 m joined in omega arith)
   own_quanta m joined (suc n) =
       let before = own_quanta m joined n in
-      let more = next_more s x n m (omega arith) in
+      let more = next_more s (said x) n m (omega arith) in
       let other = quanta_more (table s x) m.name n in
       omega arith
 
@@ -217,7 +217,7 @@ module _ (s : Settings) (x : Replica) (arrivals : List Arrival) (frame : 0 < s.f
       -- after the slot before it the next subtask isn't due yet
       after : (m : Member) → Among (world s x (due - 1)) m → IsStill a m → 1 ≤ due → due < deadline_of a.weight (1 + had) 0
       after m inside still some =
-          let late = none s x frame weights (due - 1) m inside (ap is_some still.stays) in
+          let late = none s (said x) frame weights (due - 1) m inside (ap is_some still.stays) in
           let offset = no_offset m (index_after s x (due - 1) m) still.delays in
           let joined = still.joined in
           let own = own_quanta m still.joined (suc (due - 1)) in

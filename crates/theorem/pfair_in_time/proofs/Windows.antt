@@ -1,5 +1,5 @@
 -- The slots in which a member runs are in its windows.
-use Rattle.std.proofs.Common.{◌≡◌, ℕ, zero, suc, ◌+◌, ◌-◌, ◌<◌, ◌≤◌, Bool, true, false, [], length, get_or, drop, arith, ap, sym, ◌∙◌, subst, inl, inr}
+use Rattle.std.proofs.Common.{◌≡◌, ℕ, zero, suc, ◌+◌, ◌-◌, ◌<◌, ◌≤◌, Bool, true, false, List, [], length, get_or, drop, arith, ap, sym, ◌∙◌, subst, inl, inr}
 use Rattle.std.specs.Prelude.{nat_le, filter, sum_by, count_by}
 use Rattle.std.proofs.lemmas.Bool.{cases_lt}
 use Rattle.pfair_weight.specs.Share.{Share}
@@ -7,23 +7,27 @@ use Rattle.pfair_weight.specs.Window.{release_of, deadline_of}
 use Rattle.pfair_weight.specs.WindowFacts.{deadline_rises}
 use Rattle.pfair_lag.specs.Picks.{InWindows, MeetsDeadlines}
 use Rattle.pfair_replica.specs.Among.{Among}
-use Rattle.pfair_replica.specs.Replica.{Replica}
+use Rattle.pfair_replica.specs.Replica.{said}
 use Rattle.pfair_admission.specs.Member.{Member, theta, is_departing}
 use Rattle.pfair_admission.specs.declared.delay.Delay.{Delay}
-use Rattle.pfair_table.specs.Table.{Settings, names_task, quanta, next_index, world, table}
-use Rattle.pfair_in_time.specs.InTime.{SaysWeights, index_after}
-use Rattle.pfair_in_time.specs.Windows.{slots_since, slots_run, DeadlinesAreKept, WindowsAreKept}
-use Rattle.pfair_in_time.proofs.Worlds.{tables_before, runs, next_more, next_new, here}
+use Rattle.pfair_table.specs.Table.{Settings, names_task, quanta, next_index, Story}
+use Rattle.pfair_in_time.specs.Windows.{slots_since, DeadlinesAreKept, WindowsAreKept}
+use Rattle.pfair_in_time.proofs.Worlds.{tables_before, runs, next_more, next_new, here, TellWeights, index_after}
 use Rattle.pfair_in_time.proofs.Lines.{IsLine, back_to}
 use Rattle.pfair_in_time.proofs.InTime.{none, in_time, released}
 use Rattle.pfair_in_time.proofs.Passing.{passing, one_more, at_place, passing_rise}
+use Rattle.pfair_table.proofs.FirstRuns.{world, table}
 
 -- whether a member runs in a slot that is counted from its joining
-abbrev pub runs_at : Settings → Replica → Member → ℕ → Bool
+abbrev pub runs_at : Settings → Story → Member → ℕ → Bool
 runs_at s x m slot = names_task m.name (table s x (m.joined + slot))
 
+-- all such slots up to slot t
+abbrev pub slots_of : Settings → Story → ℕ → Member → List ℕ
+slots_of s x t m = passing (runs_at s x m) (slots_since t m)
+
 -- its quanta are as many as such slots
-pub quanta_passing : (s : Settings) (x : Replica) (m : Member) (slot : ℕ) → quanta (tables_before s x (m.joined + slot)) m ≡ length (passing (runs_at s x m) slot)
+pub quanta_passing : (s : Settings) (x : Story) (m : Member) (slot : ℕ) → quanta (tables_before s x (m.joined + slot)) m ≡ length (passing (runs_at s x m) slot)
 quanta_passing s x m zero = (let new = next_new s x (m.joined + 0) m (omega arith) in omega arith)
 quanta_passing s x m (suc slot) =
     let more = next_more s x (m.joined + slot) m (omega arith) in
@@ -42,7 +46,7 @@ record IsKept (m : Member) (slot index : ℕ) : Type 0 where
   before_deadline : slot < deadline_of m.weight index 0
   released : m.early ≡ false → release_of m.weight index 0 ≤ slot
 
-module _ (s : Settings) (x : Replica) (frame : 0 < s.frame) (weights : SaysWeights x) where
+module _ (s : Settings) (x : Story) (frame : 0 < s.frame) (weights : TellWeights x) where
   kept_at : (t slot : ℕ) (m l : Member) → Among (world s x (m.joined + slot)) l → IsLine s x (m.joined + slot) t l m → m.delays ≡ [] → runs_at s x m slot ≡ true
       → IsKept m slot (1 + length (passing (runs_at s x m) slot))
   kept_at t slot m l h line undelayed ran = record {
@@ -70,17 +74,17 @@ module _ (s : Settings) (x : Replica) (frame : 0 < s.frame) (weights : SaysWeigh
       next : l.next ≡ 1 + length (passing (runs_at s x m) slot)
       next = (here s x weights (m.joined + slot) l h).next ∙ own ∙ ap (λ n. 1 + n) (quanta_passing s x m slot)
 
-  kept : (t : ℕ) (m : Member) → Among (world s x t) m → m.delays ≡ [] → (i : ℕ) → 1 ≤ i → i ≤ length (slots_run s x t m) → IsKept m (get_or (slots_run s x t m) (i - 1) 0) i
+  kept : (t : ℕ) (m : Member) → Among (world s x t) m → m.delays ≡ [] → (i : ℕ) → 1 ≤ i → i ≤ length (slots_of s x t m) → IsKept m (get_or (slots_of s x t m) (i - 1) 0) i
   kept t m h undelayed i first inside =
       let p = at_place (runs_at s x m) (slots_since t m) (i - 1) (omega arith) in
       let below = p.below in
-      let q = back_to s x weights t (m.joined + get_or (slots_run s x t m) (i - 1) 0) m h (omega arith) (omega arith) in
-      let index : 1 + length (passing (runs_at s x m) (get_or (slots_run s x t m) (i - 1) 0)) ≡ i = (let before = p.before in omega arith) in
-      subst (IsKept m (get_or (slots_run s x t m) (i - 1) 0)) index (kept_at t (get_or (slots_run s x t m) (i - 1) 0) m q.0 q.1 q.2 undelayed p.passes)
+      let q = back_to s x weights t (m.joined + get_or (slots_of s x t m) (i - 1) 0) m h (omega arith) (omega arith) in
+      let index : 1 + length (passing (runs_at s x m) (get_or (slots_of s x t m) (i - 1) 0)) ≡ i = (let before = p.before in omega arith) in
+      subst (IsKept m (get_or (slots_of s x t m) (i - 1) 0)) index (kept_at t (get_or (slots_of s x t m) (i - 1) 0) m q.0 q.1 q.2 undelayed p.passes)
 
-  served : (t : ℕ) (m : Member) → Among (world s x t) m → is_departing m ≡ false → m.delays ≡ [] → (i : ℕ) → 1 ≤ i → deadline_of m.weight i 0 ≤ slots_since t m → i ≤ length (slots_run s x t m)
+  served : (t : ℕ) (m : Member) → Among (world s x t) m → is_departing m ≡ false → m.delays ≡ [] → (i : ℕ) → 1 ≤ i → deadline_of m.weight i 0 ≤ slots_since t m → i ≤ length (slots_of s x t m)
   served t m h active undelayed i first due =
-      elim (cases_lt (length (slots_run s x t m)) i) [
+      elim (cases_lt (length (slots_of s x t m)) i) [
         | inr has ↦ has
         | inl missing ↦ absurd (
             let at = here s x weights t m h in
@@ -90,19 +94,19 @@ module _ (s : Settings) (x : Replica) (frame : 0 < s.frame) (weights : SaysWeigh
             let now : m.joined + slots_since t m ≡ suc t = omega arith in
             let ran = quanta_passing s x m (slots_since t m) in
             let same = ap (λ u. quanta (tables_before s x u) m) now in
-            let index : index_after s x t m ≡ 1 + length (slots_run s x t m) = omega arith in
+            let index : index_after s x t m ≡ 1 + length (slots_of s x t m) = omega arith in
             let is = ap (λ k. deadline_of m.weight k 0) index in
-            let rise = deadline_rises m.weight (1 + length (slots_run s x t m)) i at.sound.weight.some_cost (omega arith) in
+            let rise = deadline_rises m.weight (1 + length (slots_of s x t m)) i at.sound.weight.some_cost (omega arith) in
             omega arith)
       ]
 
-  meets_deadlines : (t : ℕ) (m : Member) → Among (world s x t) m → is_departing m ≡ false → m.delays ≡ [] → MeetsDeadlines m.weight (slots_run s x t m) (slots_since t m)
+  meets_deadlines : (t : ℕ) (m : Member) → Among (world s x t) m → is_departing m ≡ false → m.delays ≡ [] → MeetsDeadlines m.weight (slots_of s x t m) (slots_since t m)
   meets_deadlines t m h active undelayed = record {
     in_time = λ i first inside. (kept t m h undelayed i first inside).before_deadline;
     served = served t m h active undelayed;
   }
 
-  in_windows : (t : ℕ) (m : Member) → Among (world s x t) m → is_departing m ≡ false → m.delays ≡ [] → m.early ≡ false → InWindows m.weight (slots_run s x t m) (slots_since t m)
+  in_windows : (t : ℕ) (m : Member) → Among (world s x t) m → is_departing m ≡ false → m.delays ≡ [] → m.early ≡ false → InWindows m.weight (slots_of s x t m) (slots_since t m)
   in_windows t m h active undelayed early = record {
     releases = λ i first inside. (kept t m h undelayed i first inside).released early;
     deadlines = meets_deadlines t m h active undelayed;
@@ -110,14 +114,14 @@ module _ (s : Settings) (x : Replica) (frame : 0 < s.frame) (weights : SaysWeigh
 
 pub deadlines_are_kept : DeadlinesAreKept
 deadlines_are_kept s x frame weights t m h active undelayed = record {
-  weight = (here s x weights t m h).sound.weight;
-  are_picks = passing_rise (runs_at s x m) (slots_since t m);
-  deadlines = meets_deadlines s x frame weights t m h active undelayed;
+  weight = (here s (said x) weights t m h).sound.weight;
+  are_picks = passing_rise (runs_at s (said x) m) (slots_since t m);
+  deadlines = meets_deadlines s (said x) frame weights t m h active undelayed;
 }
 
 pub windows_are_kept : WindowsAreKept
 windows_are_kept s x frame weights t m h active undelayed early = record {
-  weight = (here s x weights t m h).sound.weight;
-  are_picks = passing_rise (runs_at s x m) (slots_since t m);
-  windows = in_windows s x frame weights t m h active undelayed early;
+  weight = (here s (said x) weights t m h).sound.weight;
+  are_picks = passing_rise (runs_at s (said x) m) (slots_since t m);
+  windows = in_windows s (said x) frame weights t m h active undelayed early;
 }

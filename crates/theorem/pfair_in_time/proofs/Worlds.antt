@@ -18,29 +18,34 @@ use Rattle.pfair_order.proofs.InOrder.{by_rank_first}
 use Rattle.pfair_order.proofs.RankLemmas.{place_of}
 use Rattle.pfair_order.proofs.NamesApart.{once_from_names}
 use Rattle.pfair_replica.specs.Among.{Among, among_all, among_filter, among_map, map_among, among_contains, contains_among}
-use Rattle.pfair_replica.specs.Replica.{Replica, said}
+use Rattle.pfair_replica.specs.Replica.{said}
 use Rattle.pfair_admission.specs.Member.{Member, is_departing, busy_until, eligible_from, next_key}
 use Rattle.pfair_admission.specs.Admission.{announcements}
-use Rattle.pfair_table.specs.Table.{Settings, Table, machine, names_task, quanta, next_index, counted_one, counted, is_eligible, eligible, pick, chosen, history, world, table}
+use Rattle.pfair_table.specs.Table.{Settings, Table, machine, names_task, quanta, next_index, counted_one, counted, is_eligible, eligible, pick, chosen, Story}
 use Rattle.pfair_table.specs.declared.pick.Pick.{Pick}
 use Rattle.pfair_in_time.specs.Descent.{Descends, IsSound, IsNew}
 use Rattle.pfair_in_time.specs.Laws.{AllSound, AllHaveWeights, IsFreed}
 use Rattle.pfair_table.proofs.Members.{named_world}
 use Rattle.pfair_table.proofs.NextIndexes.{IsCounted, counted_world, long_history, world_counted}
+use Rattle.pfair_table.proofs.RunsOn.{any_among}
 use Rattle.pfair_in_time.proofs.Boundaries.{named_is, boundaries_keep_members}
+use Rattle.pfair_table.proofs.FirstRuns.{history, world, table}
 
--- some one passes a test
-pub any_among : {A : Type 0} (p : A → Bool) (xs : List A) → list_any p xs ≡ true → (x : A) × Among xs x × (p x ≡ true)
-any_among p [] h = absurd (false≢true h)
-any_among p (y ∷ ys) h = ⊎_elim (λ e. (y, inl refl, e)) (λ r. (let t = any_among p ys r in (t.0, inr t.1, t.2))) (or_cases (p y) (list_any p ys) h)
+-- each arrival that is said has a weight
+abbrev pub TellWeights : Story → Type 0
+TellWeights x = (t : ℕ) → AllHaveWeights (announcements (x t))
 
 -- the tables of the slots before t
-abbrev pub tables_before : Settings → Replica → ℕ → List Table
+abbrev pub tables_before : Settings → Story → ℕ → List Table
 tables_before s x t = (history s x t).tables
+
+-- the index of a member's next subtask after the table of slot t
+abbrev pub index_after : Settings → Story → ℕ → Member → ℕ
+index_after s x t m = next_index (tables_before s x (suc t)) m
 
 -- ---- names
 
-pub same_member : (s : Settings) (x : Replica) (t : ℕ) (m n : Member) → Among (world s x t) m → Among (world s x t) n → m.name ≡ n.name → m ≡ n
+pub same_member : (s : Settings) (x : Story) (t : ℕ) (m n : Member) → Among (world s x t) m → Among (world s x t) n → m.name ≡ n.name → m ≡ n
 same_member s x t m n here there e =
     let one = named_is (world s x t) m.name m (named_world s x t) here (name_itself m.name) in
     let other = named_is (world s x t) m.name n (named_world s x t) there (subst (λ k. name_eq m.name k ≡ true) e (name_itself m.name)) in
@@ -48,17 +53,17 @@ same_member s x t m n here there e =
 
 -- ---- who runs
 
-abbrev pub keys_at : Settings → Replica → ℕ → List Key
+abbrev pub keys_at : Settings → Story → ℕ → List Key
 keys_at s x t = chosen s t (world s x t)
 
-pub keys_apart : (s : Settings) (x : Replica) (t : ℕ) → NamesApart (λ (k : Key). k.name) (eligible t (world s x t))
+pub keys_apart : (s : Settings) (x : Story) (t : ℕ) → NamesApart (λ (k : Key). k.name) (eligible t (world s x t))
 keys_apart s x t = apart_map (λ (m : Member). m.name) (λ (k : Key). k.name) next_key (λ m. refl) (filter (is_eligible t) (world s x t)) (apart_filter (λ (m : Member). m.name) (is_eligible t) (world s x t) (named_world s x t))
 
-pub first_keys : (s : Settings) (x : Replica) (t : ℕ) → AreFirst pd2_cmp s.processors (eligible t (world s x t)) (keys_at s x t)
+pub first_keys : (s : Settings) (x : Story) (t : ℕ) → AreFirst pd2_cmp s.processors (eligible t (world s x t)) (keys_at s x t)
 first_keys s x t = by_rank_first keys_total s.processors (eligible t (world s x t)) (once_from_names (eligible t (world s x t)) (keys_apart s x t))
 
 -- a key that is chosen is that of an eligible member
-pub chosen_member : (s : Settings) (x : Replica) (t : ℕ) (k : Key) → Among (keys_at s x t) k → (m : Member) × Among (world s x t) m × (is_eligible t m ≡ true) × (k ≡ next_key m)
+pub chosen_member : (s : Settings) (x : Story) (t : ℕ) (k : Key) → Among (keys_at s x t) k → (m : Member) × Among (world s x t) m × (is_eligible t m ≡ true) × (k ≡ next_key m)
 chosen_member s x t k h =
     let at = place_of (keys_at s x t) k (among_contains (keys_at s x t) k h) in
     let among = contains_among (eligible t (world s x t)) k ((first_keys s x t).at_rank at.0 k at.1).0 in
@@ -66,11 +71,11 @@ chosen_member s x t k h =
     let q = among_filter (is_eligible t) (world s x t) p.0 p.1 in
     (p.0, q.0, q.1, p.2)
 
-abbrev pub runs : Settings → Replica → ℕ → Member → Bool
+abbrev pub runs : Settings → Story → ℕ → Member → Bool
 runs s x t m = names_task m.name (table s x t)
 
 -- who is named in a table is eligible, and its key is chosen
-pub runs_chosen : (s : Settings) (x : Replica) (t : ℕ) (m : Member) → Among (world s x t) m → runs s x t m ≡ true → (is_eligible t m ≡ true) × Among (keys_at s x t) (next_key m)
+pub runs_chosen : (s : Settings) (x : Story) (t : ℕ) (m : Member) → Among (world s x t) m → runs s x t m ≡ true → (is_eligible t m ≡ true) × Among (keys_at s x t) (next_key m)
 runs_chosen s x t m here named =
     let p = any_among (λ (r : Pick). name_eq m.name r.name) (table s x t) named in
     let q = among_map (pick (world s x t)) (keys_at s x t) p.0 p.1 in
@@ -92,13 +97,13 @@ any_from_among p (y ∷ ys) x (inr h) e = by (p y) (any_from_among p ys x h e)
     by true _ = refl
     by false e = e
 
-pub chosen_runs : (s : Settings) (x : Replica) (t : ℕ) (m : Member) → Among (keys_at s x t) (next_key m) → runs s x t m ≡ true
+pub chosen_runs : (s : Settings) (x : Story) (t : ℕ) (m : Member) → Among (keys_at s x t) (next_key m) → runs s x t m ≡ true
 chosen_runs s x t m h = any_from_among (λ (r : Pick). name_eq m.name r.name) (table s x t) (pick (world s x t) (next_key m)) (map_among (pick (world s x t)) (keys_at s x t) (next_key m) h) (name_itself m.name)
 
 -- ---- how far members have come
 
 -- one table more
-pub next_more : (s : Settings) (x : Replica) (t : ℕ) (m : Member) → m.joined ≤ t → next_index (tables_before s x (suc t)) m ≡ next_index (tables_before s x t) m + cond (runs s x t m) 1 0
+pub next_more : (s : Settings) (x : Story) (t : ℕ) (m : Member) → m.joined ≤ t → next_index (tables_before s x (suc t)) m ≡ next_index (tables_before s x t) m + cond (runs s x t m) 1 0
 next_more s x t m joined =
     let long = long_history s x t in
     let more : quanta (tables_before s x (suc t)) m ≡ quanta (tables_before s x t) m + cond (runs s x t m) 1 0 =
@@ -107,24 +112,24 @@ next_more s x t m joined =
     omega arith
 
 -- who joins has had no quantum
-pub next_new : (s : Settings) (x : Replica) (t : ℕ) (m : Member) → m.joined ≡ t → next_index (tables_before s x t) m ≡ 1
+pub next_new : (s : Settings) (x : Story) (t : ℕ) (m : Member) → m.joined ≡ t → next_index (tables_before s x t) m ≡ 1
 next_new s x t m e = let long = long_history s x t in ap (λ ts. 1 + count_by (names_task m.name) ts) (drop_all m.joined (tables_before s x t) (omega arith))
 
 -- what holds of each member of slot t
-pub record IsHere (s : Settings) (x : Replica) (t : ℕ) (m : Member) : Type 0 where
+pub record IsHere (s : Settings) (x : Story) (t : ℕ) (m : Member) : Type 0 where
   pub sound : IsSound s.frame m
   pub by_now : m.joined ≤ t
   pub next : m.next ≡ next_index (tables_before s x t) m
 
 -- a member after the table of slot t
-abbrev pub on : Settings → Replica → ℕ → Member → Member
+abbrev pub on : Settings → Story → ℕ → Member → Member
 on s x t m = counted_one (tables_before s x (suc t)) m
 
-pub on_next : (s : Settings) (x : Replica) (t : ℕ) (m : Member) → IsHere s x t m → (on s x t m).next ≡ m.next + cond (runs s x t m) 1 0
+pub on_next : (s : Settings) (x : Story) (t : ℕ) (m : Member) → IsHere s x t m → (on s x t m).next ≡ m.next + cond (runs s x t m) 1 0
 on_next s x t m here = let more = next_more s x t m here.by_now in let was = here.next in omega arith
 
 -- who is departing doesn't run
-pub departing_rests : (s : Settings) (x : Replica) (t : ℕ) (m : Member) → Among (world s x t) m → is_departing m ≡ true → runs s x t m ≡ false
+pub departing_rests : (s : Settings) (x : Story) (t : ℕ) (m : Member) → Among (world s x t) m → is_departing m ≡ true → runs s x t m ≡ false
 departing_rests s x t m h d = ⊎_elim
     (λ named. absurd (
     let p = and_parts (not (is_departing m)) (nat_le (eligible_from m m.next) t) (runs_chosen s x t m h named).0 in
@@ -132,7 +137,7 @@ departing_rests s x t m h d = ⊎_elim
     (λ e. e)
     (cases_Bool (runs s x t m))
 
-module _ (s : Settings) (x : Replica) (weights : (t : ℕ) → AllHaveWeights (announcements (said x t))) where
+module _ (s : Settings) (x : Story) (weights : TellWeights x) where
   on_sound : (t : ℕ) (m : Member) → Among (world s x t) m → IsHere s x t m → IsSound s.frame (on s x t m)
   on_sound t m h here = record { weight = here.sound.weight; period = here.sound.period; claim = λ slot e. kept slot e (here.sound.claim slot e) }
     where
@@ -160,9 +165,9 @@ module _ (s : Settings) (x : Replica) (weights : (t : ℕ) → AllHaveWeights (a
       record { sound = sound; by_now = c.by_now; next = c.next_is }
 
   sound_world : (t : ℕ) (m : Member) → Among (world s x t) m → IsSound s.frame m
-  sound_world zero = boundaries_keep_members.sound (machine s) 0 [] (announcements (said x 0)) (apart_nil (λ (m : Member). m.name)) (λ l none. absurd none) (weights 0)
+  sound_world zero = boundaries_keep_members.sound (machine s) 0 [] (announcements (x 0)) (apart_nil (λ (m : Member). m.name)) (λ l none. absurd none) (weights 0)
   sound_world (suc t) = subst (AllSound s.frame) (sym (world_counted s x t))
-      (boundaries_keep_members.sound (machine s) (suc t) (counted (tables_before s x (suc t)) (world s x t)) (announcements (said x (suc t))) (apart_on t) (all_on_sound t (λ m h. here_if t m h (sound_world t m h))) (weights (suc t)))
+      (boundaries_keep_members.sound (machine s) (suc t) (counted (tables_before s x (suc t)) (world s x t)) (announcements (x (suc t))) (apart_on t) (all_on_sound t (λ m h. here_if t m h (sound_world t m h))) (weights (suc t)))
 
   pub here : (t : ℕ) (m : Member) → Among (world s x t) m → IsHere s x t m
   here t m h = here_if t m h (sound_world t m h)
@@ -174,10 +179,10 @@ module _ (s : Settings) (x : Replica) (weights : (t : ℕ) → AllHaveWeights (a
       (λ (p : (l : Member) × Among (counted (tables_before s x (suc t)) (world s x t)) l × Descends (suc t) l n).
       (let q = among_map (counted_one (tables_before s x (suc t))) (world s x t) p.0 p.1 in inl (q.0, q.1, subst (λ l. Descends (suc t) l n) q.2 p.2)))
       (λ new. inr new)
-      (boundaries_keep_members.from (machine s) (suc t) (counted (tables_before s x (suc t)) (world s x t)) (announcements (said x (suc t))) (apart_on t) (all_on_sound t (here t)) (weights (suc t)) n
+      (boundaries_keep_members.from (machine s) (suc t) (counted (tables_before s x (suc t)) (world s x t)) (announcements (x (suc t))) (apart_on t) (all_on_sound t (here t)) (weights (suc t)) n
       (subst (λ ms. Among ms n) (world_counted s x t) h))
 
   pub goes_to : (t : ℕ) (m : Member) → Among (world s x t) m → ((n : Member) × Among (world s x (suc t)) n × Descends (suc t) (on s x t m) n) ⊎ ((n : Member) × IsFreed (suc t) s.frame (on s x t m) n)
   goes_to t m h = subst (λ ms. ((n : Member) × Among ms n × Descends (suc t) (on s x t m) n) ⊎ ((n : Member) × IsFreed (suc t) s.frame (on s x t m) n)) (sym (world_counted s x t))
-      (boundaries_keep_members.to (machine s) (suc t) (counted (tables_before s x (suc t)) (world s x t)) (announcements (said x (suc t))) (apart_on t) (all_on_sound t (here t)) (weights (suc t)) (on s x t m)
+      (boundaries_keep_members.to (machine s) (suc t) (counted (tables_before s x (suc t)) (world s x t)) (announcements (x (suc t))) (apart_on t) (all_on_sound t (here t)) (weights (suc t)) (on s x t m)
       (map_among (counted_one (tables_before s x (suc t))) (world s x t) m h))

@@ -28,9 +28,3 @@ pub record IsSound (frame : ℕ) (m : Member) : Type 0 where
 pub record IsNew (t : ℕ) (m : Member) : Type 0 where
   pub joined : m.joined ≡ t
   pub next : m.next ≡ 1
-
--- an arrival says a weight
-abbrev pub HasWeight : Announcement → Type 0
-HasWeight (Arrive name w early) = IsWeight w.cost w.period
-HasWeight (Depart name) = Unit {0}
-HasWeight (Late name index by) = Unit {0}

@@ -14,8 +14,8 @@ use Rattle.pfair_table.specs.declared.pick.Pick.{Pick}
 use Rattle.pfair_table.specs.Events.{IsEvent, run_of}
 use Rattle.pfair_table.specs.Refinement.{Dispatch}
 use Rattle.pfair_table.specs.Table.{Settings, Table, world, table}
-use Rattle.pfair_in_time.specs.Descent.{HasWeight}
 use Rattle.pfair_in_time.specs.InTime.{index_after, IsInTime}
+use Rattle.pfair_admission.specs.Laws.{HasWeight}
 
 -- an entry's arrival, if it announces one, says a weight
 abbrev pub AnnouncesWeight : Logged → Type 0

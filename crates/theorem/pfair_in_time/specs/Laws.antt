@@ -5,7 +5,8 @@ use Rattle.pfair_entry.specs.declared.announcement.Announcement.{Announcement}
 use Rattle.pfair_replica.specs.Among.{Among}
 use Rattle.pfair_admission.specs.Member.{Member}
 use Rattle.pfair_admission.specs.Admission.{Machine, boundary}
-use Rattle.pfair_in_time.specs.Descent.{Descends, IsSound, IsNew, HasWeight}
+use Rattle.pfair_in_time.specs.Descent.{Descends, IsSound, IsNew}
+use Rattle.pfair_admission.specs.Laws.{HasWeight}
 
 abbrev pub AllSound : ℕ → List Member → Type 0
 AllSound frame members = (m : Member) → Among members m → IsSound frame m

@@ -4,7 +4,7 @@ ghost use Rattle.pfair_lattice.specs.declared.flat.Flat.TheVariants.{One};
 ghost use Rattle.pfair_weight.specs.Share.{IsWeight};
 ghost use Rattle.pfair_entry.specs.Entry.{Logged};
 ghost use Rattle.pfair_replica.specs.HeldRows.{held};
-ghost use Rattle.pfair_in_time.specs.Descent.{HasWeight};
+ghost use Rattle.pfair_admission.specs.Laws.{HasWeight};
 ghost use Rattle.pfair_in_time.specs.Dispatched.{AnnouncesWeight, RowHasWeights, NeverMisses};
 
 use pfair_entry::{Announcement, Entry};

@@ -5,6 +5,7 @@ ghost use Rattle.pfair_in_time.specs.Dispatched.{DispatchersNeverMiss};
 ghost use Rattle.pfair_in_time.specs.InTime.{NoneMisses, EachRunsInTime};
 ghost use Rattle.pfair_in_time.specs.Lags.{LagsStayWithinOne};
 ghost use Rattle.pfair_in_time.specs.Laws.{BoundariesKeepMembers};
+ghost use Rattle.pfair_in_time.specs.NextRuns.{NextRunsAreServed};
 ghost use Rattle.pfair_in_time.specs.Repeats.{TablesRepeat, RepeatsByPeriods};
 ghost use Rattle.pfair_in_time.specs.Schedules.{ServedWhereThereIsRoom, NoneServesMore};
 ghost use Rattle.pfair_in_time.specs.Windows.{WindowsAreKept, DeadlinesAreKept};
@@ -25,6 +26,15 @@ pub fn none_misses()
 #[tactic(auto, using(crate::proofs::InTime::each_runs_in_time))]
 pub fn each_runs_in_time()
     ensures { EachRunsInTime }
+{}
+
+/// No admitted task misses its deadline however many runs follow one another, each with the members
+/// that the last one left: each row of each slot of each run is in time, and after the slot the
+/// deadline of the next subtask of each member that isn't departing is still to come. Slots count from
+/// the first run's first slot. Premises: those of [`none_misses`].
+#[tactic(auto, using(crate::proofs::NextRuns::next_runs_are_served))]
+pub fn next_runs_are_served()
+    ensures { NextRunsAreServed }
 {}
 
 /// No admitted task misses its deadline by a dispatcher's plan, whatever events the dispatcher had:
