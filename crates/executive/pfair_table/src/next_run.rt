@@ -46,6 +46,8 @@ impl<R: Ready> Dispatcher<R> {
         requires some { 1 ≤ slots }
         requires few { slots ≤ Settings.MAX_SLOTS }
         ensures finished { OnOk result (IsFinished self.now) }
+        ensures within { OnOk result (end_of self.now + slots ≤ LAST_SLOT) }
+        ensures able { OnOk result (AllByRecursion CanBeCarried (members_left self.now)) }
         ensures settings { IfOk result (λ next. next.settings ≡ record self.now.settings { slots = slots }) }
         ensures course { IfOk result (λ next. course_of next ≡ start_after self.now) }
         ensures standing { IfOk result (λ next. next.forgotten ≡ 0) }

@@ -34,3 +34,8 @@ pub begin_with-requires-clause-able : goal.begin_with-requires-clause-able
 begin_with-requires-clause-able g c =
     let finished = subst IsFinished (sym c.self.view_is) c.in_ok-slot.ensures.finished in
     subst (AllByRecursion CanBeCarried) (left_members c.self.invariant.0 c.processors.ensures.rows.entries finished.whole finished.able finished.all ∙ ap members_left c.self.view_is) c.in_ok-members.ensures.able
+
+pub returns-clause-able : goal.returns-clause-able
+returns-clause-able g c =
+    let finished = subst IsFinished (sym c.self.view_is) c.in_ok-slot.ensures.finished in
+    subst (AllByRecursion CanBeCarried) (left_members c.self.invariant.0 c.processors.ensures.rows.entries finished.whole finished.able finished.all ∙ ap members_left c.self.view_is) c.in_ok-members.ensures.able
