@@ -1,5 +1,5 @@
 -- A member that is carried twice.
-use Rattle.std.proofs.Common.{◌≡◌, ℕ, ◌+◌, ◌-◌, ◌*◌, ◌/◌, ◌%◌, ◌<◌, ◌≤◌, cond, List, [], ◌∷◌, ◌++◌, map, refl, ◌∙◌, arith}
+use Rattle.std.proofs.Common.{◌≡◌, ℕ, ◌+◌, ◌-◌, ◌<◌, ◌≤◌, cond, List, [], ◌∷◌, map, refl, arith}
 use Rattle.std.specs.Prelude.{nat_lt}
 use Rattle.std.proofs.Math.Nat.{div-eq_of_lt, div-mul-le_self, div-zero}
 use Rattle.std.proofs.lemmas.Bool.Decides.{nat_tests}
@@ -7,6 +7,7 @@ use Rattle.std.proofs.lemmas.Bool.{cases_lt}
 use Rattle.std.proofs.lemmas.List.{append-nil}
 use Rattle.std.proofs.lemmas.List.Elements.{filter-append}
 use Rattle.std.proofs.lemmas.Nat.{div-add-mod'}
+use Rattle.pfair_entry.specs.declared.entry.TheConstants.Entry.{LAST_INDEX}
 use Rattle.pfair_admission.specs.declared.delay.Delay.{Delay}
 use Rattle.pfair_admission.specs.Member.{Member}
 use Rattle.pfair_admission.specs.Carried.{jobs_done, subtasks_done, passed_delays, coming_delays, as_one, lowered, delays_from, carried, CanBeCarried}
@@ -25,6 +26,10 @@ rest_low m some = grind (arith, div-add-mod')
 
 pub next_low : (m : Member) → 1 ≤ m.weight.cost → 1 ≤ m.next → (carried m).next ≤ m.weight.cost + 1
 next_low m some first = (let rest = rest_low m some in omega (arith, rest))
+
+-- so a run has an index for it
+pub next_fits : (m : Member) → CanBeCarried m → (carried m).next ≤ LAST_INDEX + 1
+next_fits m k = (let rest = rest_low m k.cost.0 in omega (arith, rest, k.cost.1))
 
 pub none_done : (m : Member) → jobs_done (carried m) ≡ 0
 none_done m = grind (arith, cases_lt, div-eq_of_lt, rest_low, div-zero)

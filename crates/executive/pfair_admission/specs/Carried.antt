@@ -50,9 +50,9 @@ carried_delays m = delays_from m.next (subtasks_done m) m.delays
 abbrev pub carried : Member → Member
 carried m = record m { joined = m.joined + jobs_done m * m.weight.period; delays = carried_delays m; next = m.next - subtasks_done m }
 
--- it can be the member of a next run: there is a window for each of its quanta there, and its offsets leave room for delays
+-- it can be the member of a next run: a run has indexes for a whole job of it, and its offsets leave room for delays
 pub record CanBeCarried (m : Member) : Type 0 where
-  pub next : (carried m).next ≤ LAST_INDEX + 1
+  pub cost : (1 ≤ m.weight.cost) × (m.weight.cost ≤ LAST_INDEX)
   pub offset : last_offset (carried m) ≤ LAST_SLOT
 
 -- the first of the members that can't be carried has that name

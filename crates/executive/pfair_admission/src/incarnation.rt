@@ -272,16 +272,15 @@ impl Incarnation {
         })
     }
 
-    /// Returns whether it can be a member of a next run: with its indexes lowered by whole jobs its
-    /// next index is at most 1,000,001, as it always is if the cost is at most 1,000,000, and its
-    /// offset after all delays at most [`Members::LAST_SLOT`]. O(d) for d accepted delays.
+    /// Returns whether it can be a member of a next run: its cost is at most 1,000,000, and with its
+    /// indexes lowered by whole jobs its offset after all delays is at most [`Members::LAST_SLOT`].
+    /// O(d) for d accepted delays.
     pub fn can_be_carried(&self) -> bool
         ensures { IsTrue result ↔ CanBeCarried self.now }
     {
-        let jobs = self.jobs_done();
-        let next = self.next() - jobs * self.weight.cost();
-        let offset = self.joined + total_delay(&self.delays) + jobs * self.weight.period();
-        next <= Entry::LAST_INDEX + 1 && offset <= Members::LAST_SLOT
+        let periods = self.jobs_done() * self.weight.period();
+        let offset = self.joined + total_delay(&self.delays) + periods;
+        self.weight.cost() <= Entry::LAST_INDEX && offset <= Members::LAST_SLOT
     }
 
     /// The member of a next run, with its indexes lowered by whole jobs.

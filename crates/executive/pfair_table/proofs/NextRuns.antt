@@ -15,7 +15,6 @@ use Rattle.pfair_admission.specs.declared.carry_fault.CarryFault.{CarryFault}
 use Rattle.pfair_admission.specs.Carried.{carried, CanBeCarried, IsCarryFault}
 use Rattle.pfair_table.specs.declared.answer.NextRunFault.{NextRunFault}
 use Rattle.pfair_table.specs.Faults.{next_run_fault_of}
-use Rattle.pfair_admission.specs.Member.{Member}
 use Rattle.pfair_admission.specs.Roster.{Roster}
 use Rattle.pfair_admission.specs.declared.members.TheConstants.Members.{LAST_SLOT}
 use Rattle.pfair_admission.proofs.CarriedAgain.{able_again, carried_again}
@@ -63,7 +62,6 @@ module _ {o : Origin} {s : Settings} {held : Replica} {tables : List Table} {dec
         named = subst (NamesApart label) (sym members_are) (apart_map label label carried (λ m. refl) members named);
         again = ap (map carried) members_are ∙ map-map carried carried members ∙ map_same (λ m. carried (carried m)) carried members (λ m h. carried_again m) ∙ sym members_are;
         able = subst (AllByRecursion CanBeCarried) (sym members_are) (each_map CanBeCarried CanBeCarried carried able_again members can);
-        few = subst (AllByRecursion (λ (m : Member). m.next ≤ 1000001)) (sym members_are) (each_map CanBeCarried (λ m. m.next ≤ 1000001) carried (λ m h. h.next) members can);
         in_time = within;
         rows = subst (IsFit s.processors) (sym table_is) (last_fit s.processors (table_before o) tables (fit_before o s kept.began) fit);
         below = subst (AllByRecursion (λ k. k < s.processors)) (sym places_are) (last_below s.processors o tables (below_before o s kept.began) fit);

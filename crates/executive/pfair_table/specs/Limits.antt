@@ -2,7 +2,6 @@
 use Rattle.std.specs.Prelude.{◌≡◌, ◌+◌, ◌≤◌, ◌<◌, Some, None, ⊤, length, map}
 use Rattle.std.specs.List.{AllByRecursion}
 use Rattle.pfair_weight.specs.Name.{NamesApart}
-use Rattle.pfair_entry.specs.declared.entry.TheConstants.Entry.{LAST_INDEX}
 use Rattle.pfair_admission.specs.declared.members.TheConstants.Members.{LAST_SLOT}
 use Rattle.pfair_admission.specs.Carried.{carried, CanBeCarried}
 use Rattle.pfair_table.specs.Table.{Settings, Carried, Origin, machine}
@@ -13,14 +12,13 @@ pub record IsSettings (s : Settings) : Type 0 where
   pub frame : (0 < s.frame) × (s.frame ≤ MAX_FRAME)
   pub slots : (0 < s.slots) × (s.slots ≤ MAX_SLOTS)
 
--- What a run of these settings can take over: members of its machine with distinct names and low indexes, counted as a next run does, early
+-- What a run of these settings can take over: members of its machine with distinct names, counted as a next run does, early
 -- enough, and a table that a slot can have.
 pub record IsCarried (s : Settings) (c : Carried) : Type 0 where
   pub machine_is : c.machine ≡ machine s
   pub named : NamesApart (λ m. m.name) c.members
   pub again : map carried c.members ≡ c.members
   pub able : AllByRecursion CanBeCarried c.members
-  pub few : AllByRecursion (λ m. m.next ≤ LAST_INDEX + 1) c.members
   pub in_time : c.slot + s.slots ≤ LAST_SLOT
   pub rows : (length c.table ≤ s.processors) × NamesApart (λ p. p.name) c.table
   pub below : AllByRecursion (λ k. k < s.processors) c.places

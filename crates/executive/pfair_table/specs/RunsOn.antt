@@ -13,7 +13,7 @@ use Rattle.pfair_table.specs.Table.{Settings, Carried, Origin, Story, Table, His
 use Rattle.pfair_table.specs.Places.{table_before, places_before, places_in}
 use Rattle.pfair_table.specs.Planned.{last_or}
 
--- each announced arrival says a weight, as the type of weights sees to
+-- each announced arrival says a weight, as the type of weights guarantees
 abbrev pub TellsWeights : Story → Type 0
 TellsWeights story = (t : ℕ) → AllByRecursion HasWeight (announcements (story t))
 
