@@ -1,11 +1,12 @@
 -- The accounts of a book, and the book that they show.
-use Rattle.std.proofs.Common.{◌≡◌, ℕ, zero, suc, ◌+◌, ◌-◌, ◌<◌, ◌≤◌, Bool, true, false, cond, not, ◌||◌, List, [], ◌∷◌, ◌++◌, map, length, take, get_or, Option, Some, None, refl, sym, ap, subst, ◌∙◌, arith}
+use Rattle.std.proofs.Common.{◌≡◌, ℕ, zero, suc, ◌+◌, ◌-◌, ◌*◌, ◌^◌, ◌<◌, ◌≤◌, Bool, true, false, cond, not, ◌||◌, List, [], ◌∷◌, ◌++◌, map, length, take, get_or, Option, Some, None, refl, sym, ap, subst, ◌∙◌, arith}
 use Rattle.std.specs.Prelude.{slice_get, position, filter, is_some}
 use Rattle.std.specs.List.{AllByRecursion, IsDistinct}
 use Rattle.std.specs.Option.{option_map}
 use Rattle.std.specs.Map.{keys_of, values_of, lookup, remove_entry}
 use Rattle.std.specs.Cmp.Lexicographic.{bytes_decides, nat_list_eq_equiv}
 use Rattle.std.proofs.lemmas.Bool.Decides.{nat_tests}
+use Rattle.std.proofs.lemmas.Nat.{mul-le}
 use Rattle.std.proofs.lemmas.List.{take_more, map_push}
 use Rattle.std.proofs.lemmas.List.Folds.{list_any-append}
 use Rattle.std.proofs.lemmas.Option.{none-some, same_Some}
@@ -13,10 +14,13 @@ use Rattle.std.proofs.SliceLists.{all_by_recursion_push}
 use Rattle.pfair_weight.specs.Options.{nothing}
 use Rattle.indexmap.specs.IndexMap.{set_value_at}
 use Rattle.pfair_weight.specs.Share.{Share}
+use Rattle.pfair_weight.specs.declared.window.TheConstants.{MAX_INDEX}
+use Rattle.pfair_lag.specs.declared.TheConstants.{MAX_HORIZON}
+use Rattle.pfair_lag.specs.declared.book.TheConstants.{START}
 use Rattle.pfair_lag.specs.declared.book.Account.{Account}
 use Rattle.pfair_weight.specs.Name.{NameValue, name_eq, NamesApart}
 use Rattle.pfair_weight.specs.NameFacts.{name_at}
-use Rattle.pfair_lag.specs.Book.{Tally, Book, tally_of, entered_with, left, slot_more, recorded}
+use Rattle.pfair_lag.specs.Book.{Tally, Book, tally_of, entered_after, left, slot_more, recorded}
 use Rattle.pfair_lag.specs.Accounts.{tally_shown, entered_shown, IsSound, IsKept, EachFits, counted_at, with_quantum, with_quanta}
 
 abbrev pub Accounts : Type 0
@@ -24,7 +28,7 @@ Accounts = List (NameValue × Account)
 
 -- the book that accounts show at a time
 abbrev pub book_shown : ℕ → Accounts → Book
-book_shown time es = record { time = time; entered = entered_shown time es }
+book_shown time es = record { time = time - START; entered = entered_shown time es }
 
 pub is_some-map : {A B : Type 0} (f : A → B) (o : Option A) → is_some (option_map f o) ≡ is_some o
 is_some-map f None = refl
@@ -56,19 +60,24 @@ sound_found time name es a kept e = sound_at time name es a kept.each e
 
 -- ---- entering
 
-pub entered_there : (name : NameValue) (weight : Share) (book : Book) → is_some (tally_of name book) ≡ true → book ≡ entered_with name weight book
-entered_there name weight book e = grind arith
+module _ (slots ran : ℕ) (name : NameValue) (weight : Share) where
+  pub entered_there : (book : Book) → is_some (tally_of name book) ≡ true → book ≡ entered_after slots ran name weight book
+  entered_there book e = grind arith
 
-abbrev pub account_new : ℕ → Share → Account
-account_new time weight = record { weight = weight; since = time; last = time; ran = 0 }
+  abbrev pub account_new : ℕ → Account
+  account_new time = record { weight = weight; since = time - slots; last = time; ran = ran }
 
-pub entered_new : (time : ℕ) (es es' : Accounts) (name : NameValue) (weight : Share) (book : Book)
-    → book_shown time es ≡ book → is_some (tally_of name book) ≡ false → es' ≡ es ++ (name, account_new time weight) ∷ []
-    → book_shown time es' ≡ entered_with name weight book
-entered_new time es es' name weight book is none added = grind (arith, map_push)
+  pub entered_new : (time : ℕ) (es es' : Accounts) (book : Book)
+      → slots ≤ START → IsKept time es → book_shown time es ≡ book → is_some (tally_of name book) ≡ false → es' ≡ es ++ (name, account_new time) ∷ []
+      → book_shown time es' ≡ entered_after slots ran name weight book
+  entered_new time es es' book before kept is none added = grind (arith, map_push)
 
-pub kept_new : (time : ℕ) (es es' : Accounts) (name : NameValue) (weight : Share) → IsKept time es → IsDistinct name_eq (keys_of es') → es' ≡ es ++ (name, account_new time weight) ∷ [] → IsKept time es'
-kept_new time es es' name weight kept unique added = grind (arith, all_by_recursion_push)
+  sound_new : (time : ℕ) → START ≤ time → slots ≤ START → ran ≤ MAX_INDEX → weight.cost * (slots + MAX_HORIZON) < 2 ^ 63 → IsSound time (account_new time)
+  sound_new time begun before few fits = record { since = omega arith; past = omega arith; counted = omega arith; fits = (let le = mul-le weight.cost (START + MAX_HORIZON - (time - slots)) weight.cost (slots + MAX_HORIZON) (omega arith) (omega arith) in omega (arith, le, fits)) }
+
+  pub kept_new : (time : ℕ) (es es' : Accounts) → IsKept time es → slots ≤ START → ran ≤ MAX_INDEX → weight.cost * (slots + MAX_HORIZON) < 2 ^ 63
+      → IsDistinct name_eq (keys_of es') → es' ≡ es ++ (name, account_new time) ∷ [] → IsKept time es'
+  kept_new time es es' kept before few fits unique added = grind (arith, all_by_recursion_push, sound_new)
 
 -- ---- leaving
 
@@ -97,7 +106,7 @@ pub left_shown : (time : ℕ) (es es' : Accounts) (name : NameValue) (book : Boo
 left_shown time es es' name book is kept gone =
     let shown : entered_shown time es' ≡ filter (λ (e : NameValue × Tally). not (name_eq name e.0)) (entered_shown time es) =
     ap (entered_shown time) (gone ∙ removed name es kept.unique) ∙ shown_filter time (λ n. not (name_eq name n)) es in
-    let fewer : book_shown time es' ≡ left name (book_shown time es) = λ i. record { time = time; entered = shown i } in
+    let fewer : book_shown time es' ≡ left name (book_shown time es) = λ i. record { time = time - START; entered = shown i } in
     fewer ∙ ap (left name) is
 
 all_removed : (P : NameValue × Account → Type 0) (name : NameValue) (es : Accounts) → AllByRecursion P es → AllByRecursion P (remove_entry (name_eq name) es)
@@ -224,8 +233,9 @@ sound_quanta : (time : ℕ) (names : List NameValue) (es : Accounts) → AllByRe
 sound_quanta time names [] h = tt
 sound_quanta time names (e ∷ es) h = grind (arith, counted_new, sound_quanta time names es h.1)
 
-pub kept_recorded : (time : ℕ) (es es' : Accounts) (names : List NameValue) → IsKept time es → time < 1000000 → es' ≡ with_quanta (time + 1) names es → IsKept (time + 1) es'
+pub kept_recorded : (time : ℕ) (es es' : Accounts) (names : List NameValue) → IsKept time es → time - START < MAX_HORIZON → es' ≡ with_quanta (time + 1) names es → IsKept (time + 1) es'
 kept_recorded time es es' names kept room made = subst (IsKept (time + 1)) (sym made) (record {
+  begun = omega arith;
   short = omega arith;
   unique = subst (λ (ks : List NameValue). IsDistinct name_eq ks) (sym (keys_quanta (time + 1) names es)) kept.unique;
   each = sound_quanta time names es kept.each;

@@ -1,7 +1,10 @@
 -- What is kept of each task of a book.
-use Rattle.std.specs.Prelude.{ℕ, ◌+◌, ◌-◌, ◌≤◌, nat_lt, if◌then◌else◌, List, map}
+use Rattle.std.specs.Prelude.{ℕ, ◌+◌, ◌-◌, ◌*◌, ◌^◌, ◌≤◌, ◌<◌, nat_lt, if◌then◌else◌, List, map}
 use Rattle.std.specs.List.{AllByRecursion, IsDistinct}
 use Rattle.std.specs.Map.{keys_of}
+use Rattle.pfair_weight.specs.declared.window.TheConstants.{MAX_INDEX}
+use Rattle.pfair_lag.specs.declared.TheConstants.{MAX_HORIZON}
+use Rattle.pfair_lag.specs.declared.book.TheConstants.{START}
 use Rattle.pfair_lag.specs.declared.book.Account.{Account}
 use Rattle.pfair_weight.specs.Name.{NameValue, name_eq}
 use Rattle.pfair_lag.specs.Book.{Tally, has_run}
@@ -12,13 +15,17 @@ tally_shown time a = record { weight = a.weight; slots = time - a.since; ran = a
 abbrev pub entered_shown : ℕ → List (NameValue × Account) → List (NameValue × Tally)
 entered_shown time accounts = map (λ e. (e.0, tally_shown time e.1)) accounts
 
--- a task ran in slots since it was entered, the last of which is not after the time
+-- a task's slots and its last quantum aren't after the time, it had one quantum at most in each slot of the book beside those that it was
+-- entered with, and the numerators of its lags fit into 64 bits
 pub record IsSound (time : ℕ) (a : Account) : Type 0 where
-  pub counted : a.since + a.ran ≤ a.last
+  pub since : a.since ≤ time
   pub past : a.last ≤ time
+  pub counted : START + a.ran ≤ a.last + MAX_INDEX
+  pub fits : a.weight.cost * (START + MAX_HORIZON - a.since) < 2 ^ 63
 
 pub record IsKept (time : ℕ) (accounts : List (NameValue × Account)) : Type 0 where
-  pub short : time ≤ 1000000
+  pub begun : START ≤ time
+  pub short : time ≤ START + MAX_HORIZON
   pub unique : IsDistinct name_eq (keys_of accounts)
   pub each : AllByRecursion (λ e. IsSound time e.1) accounts
 

@@ -5,7 +5,7 @@ use Rattle.std.specs.Map.{lookup}
 use Rattle.pfair_weight.specs.Name.{NameValue, name_eq}
 use Rattle.pfair_weight.specs.Share.{Share}
 
--- a task's weight, how many slots were recorded since it was entered, and in how many of them it ran
+-- a task's weight, how many slots its lag counts, and in how many of them it ran
 pub record Tally : Type 0 where
   pub weight : Share
   pub slots : ℕ
@@ -30,11 +30,15 @@ lag_of t = (pos (t.weight.cost * t.slots) -ℤ pos (t.weight.period * t.ran), t.
 abbrev pub has_run : List NameValue → NameValue → Bool
 has_run names name = list_any (name_eq name) names
 
--- a task is entered, after all others, unless it is there
-abbrev pub entered_with : NameValue → Share → Book → Book
-entered_with name weight book =
+-- a task is entered, after all others, unless it is there; its lag counts some slots before, in some of which it ran
+abbrev pub entered_after : (slots ran : ℕ) → NameValue → Share → Book → Book
+entered_after slots ran name weight book =
     if is_some (tally_of name book) then book
-    else record book { entered = book.entered ++ (name, record { weight = weight; slots = 0; ran = 0 }) ∷ [] }
+    else record book { entered = book.entered ++ (name, record { weight = weight; slots = slots; ran = ran }) ∷ [] }
+
+-- a task is entered, and its lag counts no slots before
+abbrev pub entered_with : NameValue → Share → Book → Book
+entered_with name weight book = entered_after 0 0 name weight book
 
 -- a task leaves, and the others keep their order
 abbrev pub left : NameValue → Book → Book

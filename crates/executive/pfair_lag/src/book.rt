@@ -1,20 +1,23 @@
 //! A book of the lags of tasks that come and go, as slots pass.
-
-ghost use Rattle.std.specs.Prelude.{◌≡◌, ◌≤◌, ◌<◌, ◌↔◌, length, IsTrue, IfOk, OnErr, false, not, is_some, map, slice_get};
+ghost use Rattle.std.specs.Prelude.{◌≡◌, ◌+◌, ◌*◌, ◌^◌, ◌≤◌, ◌<◌, length, IsTrue, IfOk, OnErr, false, not, is_some, map, slice_get};
 ghost use Rattle.std.specs.Option.{option_map};
 ghost use Rattle.pfair_weight.specs.Name.{NamesApart};
-ghost use Rattle.pfair_lag.specs.Book.{empty_book, tally_of, lag_of, entered_with, left, recorded};
+ghost use Rattle.pfair_lag.specs.Book.{empty_book, tally_of, lag_of, entered_with, entered_after, left, recorded};
 ghost use Rattle.pfair_lag.specs.Accounts.{tally_shown, IsSound, EachFits, counted_at, with_quantum, with_quanta};
 
 use crate::MAX_HORIZON;
 use indexmap::IndexMap;
 use pfair_table::Pick;
-use pfair_weight::{TaskName, Weight};
+use pfair_weight::{MAX_INDEX, MAX_OFFSET, TaskName, Weight};
 use std::alloc::{AllocError, Global};
 use std::marker::Model;
 
-// What is kept of a task: its weight, the time at which it was entered, and how many quanta it had
-// since, the last of them in the slot that ended at the time `last`.
+// A book's time before its first slot.
+const START: u64 = MAX_OFFSET;
+
+// What is kept of a task: its weight, the time from which its slots are counted, and how many quanta
+// it had since, the last of them in the slot that ended at the time `last`. A book's time begins at
+// START, so that slots before it can be counted.
 #[derive(Clone, Copy, Debug)]
 struct Account {
     weight: Weight,
@@ -38,7 +41,7 @@ impl Account {
     // The lag at this time, as a numerator over the period.
     fn lag(&self, time: u64) -> (i64, u64)
         requires sound { IsSound time self.now }
-        requires short { time ≤ MAX_HORIZON }
+        requires short { time ≤ START + MAX_HORIZON }
         ensures { result ≡ lag_of (tally_shown time self.now) }
     {
         let due = self.weight.cost() * (time - self.since);
@@ -47,7 +50,7 @@ impl Account {
     }
 }
 
-/// The lags of some tasks, each counted from when the task was entered.
+/// The lags of some tasks, each counted from when the task was entered, or from a slot before.
 ///
 /// A book is notified of each slot that passes, with its quanta. Up to [`MAX_HORIZON`] slots
 /// can be recorded.
@@ -58,12 +61,14 @@ pub struct LagBook {
 }
 
 impl Model for LagBook {
+    ghost use Rattle.std.specs.Prelude.{◌-◌};
+    ghost use Rattle.pfair_lag.specs.declared.book.TheConstants.{START};
     ghost use Rattle.pfair_lag.specs.Book.{Book};
     ghost use Rattle.pfair_lag.specs.Accounts.{entered_shown, IsKept};
 
     ghost Value = { Book };
 
-    ghost view = { λ a. record { time = a.time; entered = entered_shown a.time a.accounts.entries } };
+    ghost view = { λ a. record { time = a.time - START; entered = entered_shown a.time a.accounts.entries } };
 
     ghost invariant = { λ a. IsKept a.time a.accounts.entries };
 }
@@ -75,7 +80,7 @@ impl LagBook {
         ensures { result ≡ empty_book }
     {
         LagBook {
-            time: 0,
+            time: START,
             accounts: IndexMap::new(alloc),
         }
     }
@@ -93,14 +98,39 @@ impl LagBook {
         ensures book { IfOk result (λ _. self.new ≡ entered_with name weight self.old) }
         ensures err { OnErr result (self.new ≡ self.old) }
     {
+        prove!(weight.cost() <= Weight::MAX_PERIOD);
+        self.enter_after(name, weight, 0, 0)
+    }
+
+    /// Enters a task as [`LagBook::enter`], but that its lag also counts `slots` slots before those
+    /// that are recorded from now on, and that it had `ran` quanta in them. The numerators of its
+    /// lags fit into 63 bits and a sign.
+    ///
+    /// # Errors
+    /// Returns [`AllocError`] if an allocation fails; nothing has changed.
+    pub fn enter_after(
+        &mut self,
+        name: TaskName,
+        weight: Weight,
+        slots: u64,
+        ran: u64,
+    ) -> Result<bool, AllocError>
+        requires slots { slots ≤ MAX_OFFSET }
+        requires ran { ran ≤ MAX_INDEX }
+        requires fits { weight.cost * (slots + MAX_HORIZON) < 2 ^ 63 }
+        ensures answer { IfOk result (λ new. new ≡ not (is_some (tally_of name self.old))) }
+        ensures there { IsTrue (is_some (tally_of name self.old)) → result ≡ Ok false }
+        ensures book { IfOk result (λ _. self.new ≡ entered_after slots ran name weight self.old) }
+        ensures err { OnErr result (self.new ≡ self.old) }
+    {
         if self.accounts.contains_key(&name) {
             return Ok(false);
         }
         let account = Account {
             weight,
-            since: self.time,
+            since: self.time - slots,
             last: self.time,
-            ran: 0,
+            ran,
         };
         self.accounts.insert(name, account)?;
         Ok(true)
@@ -132,12 +162,12 @@ impl LagBook {
         ensures value { result ≡ self.now.time }
         ensures short { result ≤ MAX_HORIZON }
     {
-        self.time
+        self.time - START
     }
 
     /// Returns the lag of a task, as a numerator over its period p: `e * t - p * A`, where e is its
     /// cost, t the number of slots recorded since it was entered, and A the number of those of them
-    /// in which it ran. `None` if it isn't there. O(1).
+    /// in which it ran, each with those that it was entered with. `None` if it isn't there. O(1).
     pub fn lag(&self, name: &TaskName) -> Option<(i64, u64)>
         ensures { result ≡ option_map lag_of (tally_of name.now self.now) }
     {
@@ -161,13 +191,6 @@ impl LagBook {
         ensures { result ≡ length self.now.entered }
     {
         self.accounts.len()
-    }
-
-    /// Returns whether no task is entered.
-    pub fn is_empty(&self) -> bool
-        ensures { IsTrue result ↔ (length self.now.entered ≡ 0) }
-    {
-        self.accounts.is_empty()
     }
 
     /// Returns the name at a place, counted from 0, in order of entering. No name stands at two

@@ -1,6 +1,5 @@
 //! Tests of a schedule by the deadlines of subtasks alone, for tasks that may run ahead of their
 //! windows.
-
 ghost use Rattle.std.specs.Prelude.{◌≤◌, ◌↔◌, IsTrue, IfOk, IfErr, OnOk, MatchOption};
 ghost use Rattle.pfair_weight.specs.Share.{IsWeight};
 ghost use Rattle.pfair_lag.specs.Picks.{ArePicks, MeetsDeadlines};

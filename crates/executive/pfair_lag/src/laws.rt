@@ -1,7 +1,6 @@
 //! Laws of lags and windows, for every weight, schedule and horizon, and of the book of lags.
 //!
 //! Each function states one law and does nothing.
-
 ghost use Rattle.std.specs.Prelude.{◌≡◌};
 ghost use Rattle.pfair_lag.specs.Laws.{LagsKeepWindows, LagsKeepDeadlines, OneFirstMiss, OneFirstLate, MissesAreOut, LateMissDeadlines};
 ghost use Rattle.pfair_lag.specs.Runs.{CountsSinceEntering};

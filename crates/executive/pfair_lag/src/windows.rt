@@ -1,5 +1,4 @@
 //! Tests of a schedule by the windows of subtasks: which subtask ran in which slot.
-
 ghost use Rattle.std.specs.Prelude.{◌≤◌, ◌↔◌, IsTrue, IfOk, IfErr, OnOk, MatchOption};
 ghost use Rattle.pfair_weight.specs.Share.{IsWeight};
 ghost use Rattle.pfair_lag.specs.Picks.{ArePicks, InWindows};

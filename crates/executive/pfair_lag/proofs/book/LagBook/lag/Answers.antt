@@ -1,5 +1,4 @@
-use Rattle.std.proofs.lemmas.Grind.{common_steps}
-use Rattle.std.proofs.Common.{Some, sym, ap, ◌∙◌, arith}
+use Rattle.std.proofs.Common.{Some, sym, ap, ◌∙◌}
 use Rattle.std.specs.Option.{option_map, option_copied}
 use Rattle.pfair_lag.specs.Book.{lag_of}
 use Rattle.pfair_lag.specs.Accounts.{tally_shown}
@@ -13,7 +12,7 @@ returns-in_err-account c =
     ∙ sym (ap (option_map lag_of) (tally_kept c.self.inside.time c.self.inside.accounts.entries c.args.name.now c.args.self.now c.self.view_is ∙ ap (option_map (tally_shown c.self.inside.time)) none))
 
 pub lag-requires-clause-sound : goal.lag-requires-clause-sound
-lag-requires-clause-sound c = grind (arith, common_steps, sound_found)
+lag-requires-clause-sound c = sound_found c.self.inside.time c.args.name.now c.self.inside.accounts.entries c.in_ok-account.account.now c.self.invariant (sym c.get.ensures.value ∙ ap option_copied c.in_ok-account.was)
 
 pub returns : goal.returns
 returns c =

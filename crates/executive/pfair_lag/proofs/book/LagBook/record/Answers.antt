@@ -1,4 +1,5 @@
-use Rattle.std.proofs.Common.{◌<◌, sym, subst}
+use Rattle.std.proofs.Common.{◌<◌, ◌-◌, sym, subst}
+use Rattle.pfair_lag.specs.declared.book.TheConstants.{START}
 use Rattle.pfair_lag.specs.Book.{Book}
 use Rattle.pfair_lag.proofs.BookLemmas.{each_fits, recorded_shown, kept_recorded}
 use Rattle.pfair_lag.proofs.book.LagBook.record.Goals as goal
@@ -8,7 +9,7 @@ count_quanta-requires c = each_fits c.self.inside.time c.self.inside.accounts.en
 
 pub invariant_of-self : goal.invariant_of-self
 invariant_of-self c =
-    let room : c.self.inside.time < 1000000 = subst (λ (b : Book). b.time < 1000000) (sym c.self.view_is) c.requires in
+    let room : c.self.inside.time - START < 1000000 = subst (λ (b : Book). b.time < 1000000) (sym c.self.view_is) c.requires in
     kept_recorded c.self.inside.time c.self.inside.accounts.entries c.count_quanta.new.accounts.entries _ c.self.invariant room c.count_quanta.ensures
 
 pub returns : goal.returns

@@ -6,8 +6,8 @@ use Rattle.pfair_weight.specs.Options.{nothing}
 use Rattle.indexmap.proofs.CallerLemmas.{insert_entry-new}
 use Rattle.pfair_lag.specs.Book.{tally_of}
 use Rattle.pfair_lag.proofs.BookLemmas.{contained, entered_there, entered_new, kept_new}
-use Rattle.pfair_lag.proofs.book.LagBook.enter.Goals as goal
-use Rattle.pfair_lag.proofs.book.LagBook.enter.Goals.{After-contains_key}
+use Rattle.pfair_lag.proofs.book.LagBook.enter_after.Goals as goal
+use Rattle.pfair_lag.proofs.book.LagBook.enter_after.Goals.{After-contains_key}
 
 there : (c : After-contains_key) → is_some (tally_of c.args.name c.args.self.now) ≡ c.contains_key.result
 there c = contained c.self.inside.time c.self.inside.accounts.entries c.args.name c.args.self.now _ c.self.view_is c.contains_key.ensures
@@ -16,7 +16,7 @@ pub returns-then-contains_key-clause-answer : goal.returns-then-contains_key-cla
 returns-then-contains_key-clause-answer c = ap not (sym (there ((goal.at.returns-then-contains_key-clause-answer c).After-contains_key) ∙ c.if-contains_key.true))
 
 pub returns-then-contains_key-clause-book : goal.returns-then-contains_key-clause-book
-returns-then-contains_key-clause-book c = entered_there c.args.name c.args.weight c.args.self.now (there ((goal.at.returns-then-contains_key-clause-book c).After-contains_key) ∙ c.if-contains_key.true)
+returns-then-contains_key-clause-book c = entered_there c.args.slots c.args.ran c.args.name c.args.weight c.args.self.now (there ((goal.at.returns-then-contains_key-clause-book c).After-contains_key) ∙ c.if-contains_key.true)
 
 pub returns-in_err-insert-clause-there : goal.returns-in_err-insert-clause-there
 returns-in_err-insert-clause-there c known = absurd (true≢false (sym known ∙ there ((goal.at.returns-in_err-insert-clause-there c).After-contains_key) ∙ c.if-contains_key.false))
