@@ -1,6 +1,5 @@
 -- What the calls tell that write rows of an open dispatcher.
-use Rattle.std.specs.Prelude.{ℕ, ◌≡◌, ◌≤◌, ◌<◌, Bool, ◌&&◌, ◌||◌, nat_eq, nat_le, nat_lt, min, if◌then◌else◌}
-use Rattle.std.specs.Prelude.{List, length, map, slice_get, Option}
+use Rattle.std.specs.Prelude.{ℕ, ◌≡◌, ◌≤◌, ◌<◌, Bool, ◌&&◌, ◌||◌, nat_eq, nat_le, nat_lt, min, if◌then◌else◌, List, length, map, slice_get, Option}
 use Rattle.std.specs.declared.option.Option.TheVariants.{None, Some}
 use Rattle.std.specs.Option.{option_map}
 use Rattle.pfair_table.specs.Places.{places_in}
@@ -75,15 +74,15 @@ decisions_between d from to =
     if are_told d.forgotten (length d.decided) from to then Some (decisions_of d.decided from to) else None
 
 -- the lags after each of the slots `from` to `to` - 1, if these are planned, and no slot is forgotten: they count from
--- slot 0 on
+-- the run's slot 0 on
 abbrev pub lags_between : Dispatch → (from to : ℕ) → Option (List PfairLag)
 lags_between d from to =
-    if are_counted d.forgotten (length d.tables) from to then Some (lags_of d.decided d.tables from to) else None
+    if are_counted d.forgotten (length d.tables) from to then Some (lags_of d from to) else None
 
 -- an allocation failed: the lags of some first slots stand over the first rows
 abbrev pub IsLaidInPart : (from to : ℕ) → (old new : List PfairLag) → Dispatch → Type 0
 IsLaidInPart from to old new d =
-    (from < to) × (to ≤ length d.tables) × (d.forgotten ≡ 0) × IsPartlyLaid d.decided d.tables from to old new
+    (from < to) × (to ≤ length d.tables) × (d.forgotten ≡ 0) × IsPartlyLaid d from to old new
 
 -- the members after the planned slots are given
 pub record AreMembersTold (d : Dispatch) (answer count : ℕ) (old new : List PfairMember) : Type 0 where

@@ -1,9 +1,10 @@
 -- Lags, as C has them.
-use Rattle.std.specs.Prelude.{ℕ, ◌+◌, ◌-◌, ◌≡◌, ◌≤◌, List, map, take}
+use Rattle.std.specs.Prelude.{ℕ, ◌+◌, ◌-◌, ◌≡◌, ◌≤◌, List, [], ◌∷◌, map, take, Some, None, if◌then◌else◌}
 use Rattle.pfair_weight.specs.Name.{NameValue}
-use Rattle.pfair_lag.specs.Book.{Tally, Book, empty_book, lag_of}
-use Rattle.pfair_table.specs.declared.pick.Decided.{Decided}
-use Rattle.pfair_table.specs.Table.{Table}
+use Rattle.pfair_admission.specs.Member.{Member, is_departing}
+use Rattle.pfair_lag.specs.Book.{Tally, Book, empty_book, entered_after, lag_of}
+use Rattle.pfair_table.specs.Table.{Origin}
+use Rattle.pfair_table.specs.Refinement.{Dispatch}
 use Rattle.pfair_output.specs.Told.{all_slots_told}
 use Rattle.pfair_handle.specs.Rows.{name_row, rows_of, written_over}
 use Rattle.pfair_handle.specs.declared.lags.PfairLag.{PfairLag}
@@ -16,18 +17,31 @@ lag_row time e = record { time = time; name = name_row e.0; numerator = (lag_of 
 abbrev pub book_rows : Book → List PfairLag
 book_rows book = map (lag_row book.time) book.entered
 
--- a book that was notified of the first t slots, and of no others
-abbrev pub book_after : List (List Decided) → List Table → ℕ → Book
-book_after decided tables t = all_slots_told empty_book (take t decided) (take t tables)
+-- a member that was carried into a run that begins at a slot: its lag goes on, unless it is departing
+abbrev pub entered_again : ℕ → Member → Book → Book
+entered_again slot m book = if is_departing m then book else entered_after (slot - m.joined) (m.next - 1) m.name m.weight book
+
+abbrev pub all_entered : ℕ → List Member → Book → Book
+all_entered slot [] book = book
+all_entered slot (m ∷ more) book = all_entered slot more (entered_again slot m book)
+
+-- the book before a run's first slot
+abbrev pub first_book : Origin → Book
+first_book None = empty_book
+first_book (Some c) = all_entered c.slot c.members empty_book
+
+-- a book that was notified of the first t slots of a dispatcher, and of no others
+abbrev pub book_after : Dispatch → ℕ → Book
+book_after d t = all_slots_told (first_book d.origin) (take t d.decided) (take t d.tables)
 
 -- the lags after slot t
-abbrev pub lags_at : List (List Decided) → List Table → ℕ → List PfairLag
-lags_at decided tables t = book_rows (book_after decided tables (t + 1))
+abbrev pub lags_at : Dispatch → ℕ → List PfairLag
+lags_at d t = book_rows (book_after d (t + 1))
 
 -- the lags after each of the slots `from` to `to` - 1
-abbrev pub lags_of : List (List Decided) → List Table → (from to : ℕ) → List PfairLag
-lags_of decided tables from to = rows_of (lags_at decided tables) from (to - from)
+abbrev pub lags_of : Dispatch → (from to : ℕ) → List PfairLag
+lags_of d from to = rows_of (lags_at d) from (to - from)
 
 -- the lags after some first of the slots `from` to `to` - 1, or after none, over the first rows
-abbrev pub IsPartlyLaid : List (List Decided) → List Table → (from to : ℕ) → (old new : List PfairLag) → Type 0
-IsPartlyLaid decided tables from to old new = (slots : ℕ) × (slots ≤ to - from) × (new ≡ written_over (rows_of (lags_at decided tables) from slots) old)
+abbrev pub IsPartlyLaid : Dispatch → (from to : ℕ) → (old new : List PfairLag) → Type 0
+IsPartlyLaid d from to old new = (slots : ℕ) × (slots ≤ to - from) × (new ≡ written_over (rows_of (lags_at d) from slots) old)

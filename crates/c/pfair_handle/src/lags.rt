@@ -1,11 +1,16 @@
 //! The lags in several slots, as C has them.
 ghost use Rattle.std.specs.Prelude.{◌≡◌, ◌≤◌, ◌+◌, ◌++◌, length, min, take, drop, set, slice_get, IfOk, OnOk, OnErr};
+ghost use Rattle.std.specs.List.{AllByRecursion};
 ghost use Rattle.pfair_weight.specs.Name.{NameValue};
 ghost use Rattle.pfair_lag.specs.Book.{Tally};
-ghost use Rattle.pfair_handle.specs.Lags.{lag_row, book_rows, lags_of, IsPartlyLaid};
+ghost use Rattle.pfair_admission.specs.declared.members.TheConstants.Members.{LAST_SLOT};
+ghost use Rattle.pfair_admission.specs.Carried.{CanBeCarried};
+ghost use Rattle.pfair_admission.specs.Member.{Member};
+ghost use Rattle.pfair_handle.specs.Lags.{lag_row, book_rows, book_after, entered_again, first_book, lags_of, IsPartlyLaid};
 ghost use Rattle.pfair_handle.specs.Rows.{written_over};
 
 use crate::rows::{PfairName, name_row};
+use pfair_admission::Members;
 use pfair_lag::LagBook;
 use pfair_output::tell_slots;
 use pfair_ready::Ready;
@@ -40,12 +45,11 @@ pub fn count_lags<R: Ready>(
     requires standing { dispatcher.now.forgotten ≡ 0 }
     requires planned { to ≤ length dispatcher.now.tables }
     requires forward { from ≤ to }
-    ensures { IfOk result (λ count. count ≡ min (length (lags_of dispatcher.now.decided dispatcher.now.tables from to)) 18446744073709551615) }
+    ensures { IfOk result (λ count. count ≡ min (length (lags_of dispatcher.now from to)) 18446744073709551615) }
 {
     // as many slots have decisions as have tables
     prove!(to <= dispatcher.next_slot());
-    let mut book = LagBook::new(alloc);
-    tell_slots(&mut book, dispatcher, from)?;
+    let mut book = book_after(alloc, dispatcher, from)?;
     let mut count: u64 = 0;
     for slot in from..to {
         tell_slots(&mut book, dispatcher, slot + 1)?;
@@ -71,18 +75,67 @@ pub fn write_lags<R: Ready>(
     requires standing { dispatcher.now.forgotten ≡ 0 }
     requires planned { to ≤ length dispatcher.now.tables }
     requires forward { from ≤ to }
-    requires room { length (lags_of dispatcher.now.decided dispatcher.now.tables from to) ≤ length rows.old }
-    ensures written { OnOk result (rows.new ≡ written_over (lags_of dispatcher.now.decided dispatcher.now.tables from to) rows.old) }
-    ensures partly { OnErr result (IsPartlyLaid dispatcher.now.decided dispatcher.now.tables from to rows.old rows.new) }
+    requires room { length (lags_of dispatcher.now from to) ≤ length rows.old }
+    ensures written { OnOk result (rows.new ≡ written_over (lags_of dispatcher.now from to) rows.old) }
+    ensures partly { OnErr result (IsPartlyLaid dispatcher.now from to rows.old rows.new) }
 {
     // as many slots have decisions as have tables
     prove!(to <= dispatcher.next_slot());
-    let mut book = LagBook::new(alloc);
-    tell_slots(&mut book, dispatcher, from)?;
+    let mut book = book_after(alloc, dispatcher, from)?;
     let mut at = 0;
     for slot in from..to {
         tell_slots(&mut book, dispatcher, slot + 1)?;
         at = write_book(&book, at, rows);
+    }
+    Ok(())
+}
+
+// The book after the first slots, as many as these.
+fn book_after<R: Ready>(
+    alloc: Global,
+    dispatcher: &Dispatcher<R>,
+    slots: u64,
+) -> Result<LagBook, AllocError>
+    requires standing { dispatcher.now.forgotten ≡ 0 }
+    ensures { IfOk result (λ book. book ≡ book_after dispatcher.now slots) }
+{
+    let mut book = first_book(alloc, dispatcher)?;
+    tell_slots(&mut book, dispatcher, slots)?;
+    Ok(book)
+}
+
+// The book before the run's first slot: the lags of the members that were carried into it.
+fn first_book<R: Ready>(alloc: Global, dispatcher: &Dispatcher<R>) -> Result<LagBook, AllocError>
+    ensures { IfOk result (λ book. book ≡ first_book dispatcher.now.origin) }
+{
+    let mut book = LagBook::new(alloc);
+    let Some((members, slot)) = dispatcher.carried() else {
+        return Ok(book);
+    };
+    for place in 0..members.len() {
+        enter_at(&mut book, members, place, slot)?;
+    }
+    Ok(book)
+}
+
+// Enters the member at a place of those that were carried into a run that begins at the slot, unless it
+// is departing.
+fn enter_at(
+    book: &mut LagBook,
+    members: &Members,
+    place: usize,
+    slot: u64,
+) -> Result<(), AllocError>
+    requires able { AllByRecursion CanBeCarried members.now.members }
+    requires slot { slot ≤ LAST_SLOT }
+    ensures { OnOk result ((member : Member) → slice_get members.now.members place ≡ Some member → book.new ≡ entered_again slot member book.old) }
+{
+    let Some((_, member)) = members.at(place) else {
+        return Ok(());
+    };
+    if !member.is_departing() {
+        let slots = slot.saturating_sub(member.joined());
+        book.enter_after(*member.name(), member.weight(), slots, member.next() - 1)?;
     }
     Ok(())
 }

@@ -1,6 +1,6 @@
 //! A run after a run, which begins with the members that the last one left.
-
-ghost use Rattle.std.specs.Prelude.{◌≡◌, ◌≤◌, ◌+◌, [], false, map, IfOk, IfErr, OnOk};
+ghost use Rattle.std.specs.Prelude.{◌≡◌, ◌≤◌, ◌+◌, [], false, map, IfOk, IfErr, IfSome, OnOk};
+ghost use Rattle.std.specs.Option.{option_map};
 ghost use Rattle.std.specs.List.{AllByRecursion};
 ghost use Rattle.pfair_replica.specs.HeldRows.{IsShape};
 ghost use Rattle.pfair_replica.specs.Replica.{empty_replica};
@@ -39,9 +39,9 @@ impl<R: Ready> Dispatcher<R> {
     /// The first that applies: [`NextRunFault::Torn`] if an entry held is torn;
     /// [`NextRunFault::Spent`] if the dispatcher is spent; [`NextRunFault::Unfinished`] if not all
     /// slots of this run are planned; [`NextRunFault::PastLastSlot`] if the next run would end after
-    /// slot [`Members::LAST_SLOT`] of all runs; [`NextRunFault::CannotCarry`] if a member's next index
-    /// would be above 1,000,001 (its period is then longer than a run can be) or its delays leave no
-    /// room for more; [`NextRunFault::Memory`] if an allocation fails.
+    /// slot [`Members::LAST_SLOT`] of all runs; [`NextRunFault::CannotCarry`] if a member's cost is
+    /// above 1,000,000 (its period is then longer than a run can be) or its delays leave no room for
+    /// more; [`NextRunFault::Memory`] if an allocation fails.
     pub fn next_run(&self, slots: u64) -> Result<Dispatcher<R>, NextRunFault>
         requires some { 1 ≤ slots }
         requires few { slots ≤ Settings.MAX_SLOTS }
@@ -59,6 +59,19 @@ impl<R: Ready> Dispatcher<R> {
         prove!(self.replica.processors() >= 1);
         let members = self.planner.members.carried()?;
         Ok(self.begin_with(self.settings.with_slots(slots), slot, members)?)
+    }
+
+    /// Returns the members with which this run began, and the slot at which it did, counted from the
+    /// first run's first slot. `None` in a first run, and only then. O(1).
+    pub fn carried(&self) -> Option<(&Members, u64)>
+        ensures members { option_map (λ began. began.0.now.members) result ≡ option_map (λ c. c.members) self.now.origin }
+        ensures slot { option_map (λ began. began.1) result ≡ option_map (λ c. c.slot) self.now.origin }
+        ensures able { IfSome result (λ began. AllByRecursion CanBeCarried began.0.now.members × (began.1 ≤ LAST_SLOT)) }
+    {
+        let Some(carried) = self.planned.origin() else {
+            return None;
+        };
+        Some((&carried.members, carried.slot))
     }
 
     // A dispatcher for the run after this one, which begins at a slot with these members.

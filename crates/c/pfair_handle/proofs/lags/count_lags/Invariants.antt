@@ -5,5 +5,5 @@ use Rattle.pfair_handle.proofs.lags.count_lags.Given as goal
 
 abbrev pub invariant-loop-slot : goal.invariant-loop-slot
 invariant-loop-slot g l =
-    (l.from ≤ l.slot) × (l.slot ≤ l.to) × (l.book ≡ book_after l.dispatcher.decided l.dispatcher.tables l.slot)
-    × (l.count ≡ min (length (rows_of (lags_at l.dispatcher.decided l.dispatcher.tables) l.from (l.slot - l.from))) 18446744073709551615)
+    (l.from ≤ l.slot) × (l.slot ≤ l.to) × (l.book ≡ book_after l.dispatcher l.slot)
+    × (l.count ≡ min (length (rows_of (lags_at l.dispatcher) l.from (l.slot - l.from))) 18446744073709551615)

@@ -5,6 +5,6 @@ use Rattle.pfair_handle.proofs.lags.write_lags.Given as goal
 
 abbrev pub invariant-loop-slot : goal.invariant-loop-slot
 invariant-loop-slot g l =
-    (l.from ≤ l.slot) × (l.slot ≤ l.to) × (l.book ≡ book_after l.dispatcher.decided l.dispatcher.tables l.slot)
-    × (l.at ≡ length (rows_of (lags_at l.dispatcher.decided l.dispatcher.tables) l.from (l.slot - l.from)))
-    × (l.rows ≡ written_over (rows_of (lags_at l.dispatcher.decided l.dispatcher.tables) l.from (l.slot - l.from)) l.initial.rows)
+    (l.from ≤ l.slot) × (l.slot ≤ l.to) × (l.book ≡ book_after l.dispatcher l.slot)
+    × (l.at ≡ length (rows_of (lags_at l.dispatcher) l.from (l.slot - l.from)))
+    × (l.rows ≡ written_over (rows_of (lags_at l.dispatcher) l.from (l.slot - l.from)) l.initial.rows)
