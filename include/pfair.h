@@ -54,12 +54,12 @@
  * archive). What malloc, realloc, free, memcpy, memmove, memset, __udivti3 and a dynamic linker use comes on top.
  *
  *      6,500  pfair_open
+ *     10,000  pfair_next_run
  *     13,500  pfair_read_file, and 4,000 for each level of nested keys; it reads at most 80 levels
- *      3,200  pfair_reopen
+ *      3,600  pfair_reopen
  *      2,300  pfair_plan_next, pfair_plan_to
  *      2,200  pfair_close
- *      1,800  pfair_take, pfair_take_log, pfair_absorb
- *      1,000  pfair_lags
+ *      1,800  pfair_take, pfair_take_log, pfair_absorb, pfair_lags
  *        450  all others
  *
  * INTERRUPTS. The code has a red zone: it writes up to 128 bytes below its stack pointer. So interrupts during a call
@@ -69,7 +69,7 @@
  * MEMORY. These calls allocate, and answer 90 if an allocation fails; all others allocate nothing:
  *
  *     pfair_open, pfair_read_file, pfair_take, pfair_take_log, pfair_absorb, pfair_faults,
- *     pfair_plan_next, pfair_plan_to, pfair_reserve, pfair_reopen, pfair_lags
+ *     pfair_plan_next, pfair_plan_to, pfair_reserve, pfair_reopen, pfair_next_run, pfair_lags
  *
  * pfair_faults and pfair_lags free all that they allocate. A dispatcher owns all other memory until pfair_close;
  * pfair_forget frees some of it earlier. The caller owns what its pointers lead to: the library copies what it needs,
@@ -148,6 +148,9 @@ enum pfair_answer {
     PFAIR_OTHER_SHAPE = 15,       /* two dispatchers with different numbers of processors, or different capacities */
     PFAIR_TORN = 30,              /* two different entries were taken for one number */
     PFAIR_SPENT = 31,             /* the dispatcher is spent: an allocation failed in a plan, and pfair_reopen helps */
+    PFAIR_UNFINISHED = 32,        /* not all slots of the run are planned */
+    PFAIR_PAST_LAST_SLOT = 33,    /* the next run would end after slot 824,633,720,832, counted over all runs */
+    PFAIR_CANNOT_CARRY = 34,      /* a member can't be taken into a next run */
     PFAIR_PICKS_NOT_RISING = 40,  /* a slot of a list isn't after the one before it */
     PFAIR_PICK_PAST_HORIZON = 41, /* a slot of a list isn't before the horizon */
     PFAIR_FILE_NOT_TOML = 60,     /* a task file is no TOML document */
@@ -547,6 +550,28 @@ uint32_t pfair_frontier(struct pfair_dispatcher *d, uint64_t *slot);
 /* Writes the slot that is planned next, which is the number of planned slots, forgotten ones included. O(1). */
 uint32_t pfair_next_slot(struct pfair_dispatcher *d, uint64_t *slot);
 
+/*
+ * Begins the next run, of 1 to 1,000,000 slots, once all slots of this one are planned. Its dispatcher takes the place of
+ * this one, which is freed: it has the same processors, frame and capacity, no entries, and no planned slots. The members
+ * stay, and a task that runs on stays on its processor. Each dispatcher can do so by itself: where all slots are planned,
+ * all know the same members.
+ *
+ * Slots, stamps and floors count from the next run's own slot 0, and entries from 1; `joined`, `theta` and `freed_at`
+ * count from slot 0 of the first run. What was announced for the last slot of this run or later isn't taken over: whoever
+ * announces says it again, in the next run's logs. Of each member the jobs before that of its last quantum are counted no
+ * more: `joined` is so many periods later, and all its indexes are so many costs lower. Its windows and lags stay.
+ *   100  the number of slots is out of its range
+ *   30   a number is torn
+ *   31   the dispatcher is spent
+ *   32   not all slots are planned
+ *   33   the next run would end after slot 824,633,720,832, counted over all runs
+ *   34   a member has a cost over 1,000,000, or so many late releases that its offset would pass that slot
+ *   90   an allocation failed
+ * Nothing has changed unless the answer is 0. O(M + n log n + l log l) for l late releases that were accepted and are
+ * still to come, and what pfair_close costs.
+ */
+uint32_t pfair_next_run(struct pfair_dispatcher *d, uint64_t slots);
+
 /* ---- what was planned: `count` is the number of rows */
 
 /* A quantum: which subtask of which task runs. */
@@ -562,7 +587,8 @@ struct pfair_decided {
     uint64_t outcome;           /* 0 admitted, 1 departing, 2 delayed, else refused:
                                    20 name taken, 21 period outside frame, 22 no room,
                                    23 no such task, 24 already departing, 25 already released */
-    uint64_t freed_at;          /* of a departure: the slot from which weight and name are free; else 0 */
+    uint64_t freed_at;          /* of a departure: the slot from which weight and name are free, counted over all runs;
+                                   else 0 */
 };
 
 /*
@@ -620,7 +646,7 @@ struct pfair_lag {
 /*
  * Writes the lags after each of the slots `from` to `to` - 1. After slot t, at the time t + 1, there is a row for each
  * member that isn't departing after the boundary of t, in the order of admission. There are none if `from` isn't below
- * `to`.
+ * `to`. In a next run the lags of members go on.
  *   104  fewer than `to` slots are planned; or `from` is below `to`, and any slot is forgotten
  *   90   an allocation failed; the rows of some first slots may be written, and `count` isn't
  *   103  there are more than `room` rows; `count` is written
@@ -634,7 +660,7 @@ struct pfair_member {
     struct pfair_name name;
     uint64_t cost, period; /* the weight */
     uint64_t early;        /* 1 if its subtasks may run early, else 0 */
-    uint64_t joined;       /* the slot at whose boundary it was admitted */
+    uint64_t joined;       /* the slot at whose boundary it was admitted; pfair_next_run moves it */
     uint64_t next;         /* its next subtask: the first that has not run */
     uint64_t theta;        /* the offset of that subtask's window, for pfair_window: `joined` plus the late releases up
                               to this subtask */

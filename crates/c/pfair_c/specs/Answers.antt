@@ -1,6 +1,7 @@
 -- What the calls of the C library answer.
 use Rattle.std.specs.Prelude.{ℕ, zero, suc, ◌+◌, ◌≡◌, ◌≤◌, false, ◌&&◌, nat_eq, nat_lt, nat_le, if◌then◌else◌}
 use Rattle.std.specs.declared.option.Option.TheVariants.{None, Some}
+use Rattle.std.specs.List.{AllByRecursion}
 use Rattle.pfair_lattice.specs.Held.{Held}
 use Rattle.pfair_entry.specs.Entry.{Logged}
 use Rattle.pfair_replica.specs.HeldRows.{held, replica_of, SameShape}
@@ -9,8 +10,12 @@ use Rattle.pfair_replica.specs.Faults.{IsKeyOf, IsTakenAs, IsTakeFaultOf, IsMerg
 use Rattle.pfair_replica.specs.declared.answer.TakeFault.{TakeFault}
 use Rattle.pfair_replica.specs.declared.answer.Taken.TheVariants.{New, Known, Torn as TornNumber}
 use Rattle.pfair_replica.specs.declared.answer.MergeFault.TheVariants.{Memory as OutOfMemory}
+use Rattle.pfair_admission.specs.declared.members.TheConstants.Members.{LAST_SLOT}
+use Rattle.pfair_admission.specs.Carried.{CanBeCarried}
 use Rattle.pfair_table.specs.Refinement.{Dispatch, course_of, IsStepOf, IsPlanFault, after_fault}
-use Rattle.pfair_table.specs.Faults.{plan_fault_number}
+use Rattle.pfair_table.specs.Faults.{plan_fault_number, next_run_fault_number}
+use Rattle.pfair_table.specs.NextRun.{IsFinished, IsNextRunFault, end_of, members_left, start_after}
+use Rattle.pfair_table.specs.declared.answer.NextRunFault.{NextRunFault}
 use Rattle.pfair_table.specs.declared.answer.Step.{Step}
 use Rattle.pfair_table.specs.declared.answer.Step.TheVariants.{Planned, Waiting, Done}
 use Rattle.pfair_table.specs.declared.answer.PlanFault.TheVariants.{Torn, Spent, Memory}
@@ -53,6 +58,21 @@ abbrev pub IsStarted : Settings → ℕ → Kept → Type 0
 IsStarted s capacity None = ⊥
 IsStarted s capacity (Some x) =
     (course_of x.dispatcher ≡ start s capacity) × (x.dispatcher.spent ≡ false) × (x.dispatcher.settings ≡ s)
+
+-- ---- the next run
+
+-- the run after that of d has begun, with so many slots, and e is its dispatcher
+pub record IsNextRunOf (slots : ℕ) (d e : Dispatch) : Type 0 where
+  pub settings : IsSettings (record d.settings { slots = slots }) × (e.settings ≡ record d.settings { slots = slots })
+  pub finished : IsFinished d
+  pub within : end_of d + slots ≤ LAST_SLOT
+  pub able : AllByRecursion CanBeCarried (members_left d)
+  pub course : course_of e ≡ start_after d
+  pub whole : (e.forgotten ≡ 0) × (e.spent ≡ false)
+
+-- the answer is why no such run begins
+abbrev pub IsNoNextRunOf : (slots answer : ℕ) → Dispatch → Type 0
+IsNoNextRunOf slots answer d = (f : NextRunFault) × (answer ≡ next_run_fault_number f) × IsNextRunFault d slots f
 
 -- ---- the contents
 

@@ -1,14 +1,15 @@
-//! Dispatchers behind handles: opened, fed and closed.
-ghost use Rattle.std.specs.Prelude.{◌≡◌, ◌⊎◌, ◌&&◌, None, true, false};
+//! Dispatchers behind handles: opened, fed, begun anew and closed.
+ghost use Rattle.std.specs.Prelude.{◌≡◌, ◌≤◌, ◌⊎◌, ◌&&◌, None, true, false};
 ghost use Rattle.pfair_replica.specs.HeldRows.{SameShape};
 ghost use Rattle.pfair_handle.specs.Kept.{is_kept};
-ghost use Rattle.pfair_handle.specs.Behind.{Between};
+ghost use Rattle.pfair_handle.specs.Behind.{Of, Between};
 ghost use Rattle.pfair_handle.specs.Entries.{IsEntryFault};
-ghost use Rattle.pfair_c.specs.Answers.{IsOpenable, IsStarted, IsTakenFor, IsRefusedFor, IsJoinedTo, IsPartlyJoinedTo};
+ghost use Rattle.pfair_c.specs.Answers.{IsOpenable, IsStarted, IsTakenFor, IsRefusedFor, IsJoinedTo, IsPartlyJoinedTo, IsNextRunOf, IsNoNextRunOf};
 
-use crate::open::put_new;
+use crate::open::{change, put_new};
 use pfair_handle::answer::{DONE, NOT_OPEN, OPEN_ALREADY, OUT_OF_RANGE};
 use pfair_handle::{Handle, PfairEntry, read_entry};
+use pfair_ready::HeapReady;
 use pfair_replica::{TakeFault, Taken};
 use pfair_table::{Dispatcher, Script, Settings};
 use std::alloc::Global;
@@ -45,6 +46,46 @@ pub extern "C" fn pfair_open(
         return OUT_OF_RANGE;
     };
     put_new(alloc, handle, Dispatcher::new(alloc, settings, capacity))
+}
+
+/// Begins the next run, of 1 to 1,000,000 slots, as [`Dispatcher::next_run`], and at its cost: its
+/// dispatcher takes the place of the present one, which is freed.
+///
+/// Answers 0; 102 if the handle has no dispatcher; 100 if the number of slots is out of its range; 30
+/// to 34 for why no run can begin; 90 if an allocation fails. Nothing changes except after 0.
+#[unsafe(no_mangle)]
+pub extern "C" fn pfair_next_run(alloc: Global, handle: &mut Handle, slots: u64) -> u32
+    ensures closed { handle.old.owner.kept ≡ None → (result ≡ 102) × (handle.new.owner.kept ≡ None) }
+    ensures open { is_kept handle.old.owner.kept ≡ true → result ≡ 102 → ⊥ }
+    ensures out_of_range { result ≡ 100 → (1 ≤ slots) × (slots ≤ Settings.MAX_SLOTS) → ⊥ }
+    ensures begun { result ≡ 0 → Between handle.old.owner.kept handle.new.owner.kept (IsNextRunOf slots) }
+    ensures refused { (result ≡ 0 → ⊥) → (result ≡ 100 → ⊥) → (result ≡ 102 → ⊥) → Of handle.old.owner.kept (IsNoNextRunOf slots result) }
+    ensures unchanged { (result ≡ 0 → ⊥) → handle.new.owner.kept ≡ handle.old.owner.kept }
+{
+    change(alloc, handle, &mut (), |dispatcher, _| {
+        if slots < 1 || slots > Settings::MAX_SLOTS {
+            return OUT_OF_RANGE;
+        }
+        go_on(dispatcher, slots)
+    })
+}
+
+// Puts the dispatcher of the next run in the place of this one, and answers as the call does.
+fn go_on(dispatcher: &mut Dispatcher<HeapReady>, slots: u64) -> u32
+    requires some { 1 ≤ slots }
+    requires few { slots ≤ Settings.MAX_SLOTS }
+    ensures begun { result ≡ 0 → IsNextRunOf slots dispatcher.old dispatcher.new }
+    ensures refused { (result ≡ 0 → ⊥) → IsNoNextRunOf slots result dispatcher.old }
+    ensures unchanged { (result ≡ 0 → ⊥) → dispatcher.new ≡ dispatcher.old }
+    ensures answer { (result ≡ 100 → ⊥) × (result ≡ 102 → ⊥) }
+{
+    match dispatcher.next_run(slots) {
+        Ok(next) => {
+            *dispatcher = next;
+            DONE
+        }
+        Err(fault) => fault.number() as u32,
+    }
 }
 
 /// Frees the dispatcher, and leaves the handle with none. O(e + n + s + q) for e entries, n members,

@@ -1,0 +1,106 @@
+/*
+ * Runs that go on: what calls answer, each allocation refused in turn, and that memory doesn't grow from run to run.
+ *
+ *   next_run_test [RUNS SLOTS]        else 12 runs of 3,000 slots each
+ */
+#include "full_set.h"
+
+/* A run without announcements is planned, slot by slot, and forgotten. */
+static void planned_on(struct pfair_dispatcher *d, uint64_t slots) {
+    uint64_t taken;
+    for (int p = 0; p < PROCESSORS; p++) ANSWERS(0, take(d, p, 1, nothing(slots), &taken));
+    for (uint64_t slot = 0; slot < slots; slot++) {
+        plan_one(d, slot);
+        ANSWERS(0, pfair_forget(d, slot + 1));
+    }
+}
+
+/* The members after the planned slots. */
+static uint64_t members_of(struct pfair_dispatcher *d, struct pfair_member *rows) {
+    uint64_t count;
+    ANSWERS(0, pfair_members(d, &count, rows, TASKS));
+    return count;
+}
+
+/* A member of a next run, beside the one that the run before left: whole jobs are taken off, and nothing else changes. */
+static void carried(const struct pfair_member *before, const struct pfair_member *after) {
+    uint64_t jobs = (after->joined - before->joined) / before->period;
+    struct pfair_member one = *after;
+    one.joined -= jobs * one.period;
+    one.theta -= jobs * one.period;
+    one.next += jobs * one.cost;
+    CHECK(!memcmp(&one, before, sizeof one), "%s isn't carried", before->name.bytes);
+    CHECK(after->next <= after->cost + 1, "subtask %" PRIu64, after->next);
+}
+
+/* Each allocation of a next run refused: then all is as before, and the call gives the next run all the same. */
+static void refused_in_turn(void) {
+    static struct pfair_member before[TASKS], after[TASKS];
+    struct pfair_dispatcher d = PFAIR_NONE;
+    filled(&d, SHORT, SHORT / 2);
+    for (uint64_t slot = 0; slot < SHORT; slot++) plan_one(&d, slot);
+    uint64_t count = members_of(&d, before), last = digest(&d, SHORT - 1);
+    long in_use = bytes, at = 0;
+    uint32_t answer = 90;
+    while (answer == 90) {
+        refuse(++at, 1);
+        answer = pfair_next_run(&d, SHORT);
+        ample();
+        if (answer == 90) CHECK(bytes == in_use && digest(&d, SHORT - 1) == last, "refused at %ld", at);
+    }
+    CHECK(answer == 0 && at > 10, "%ld allocations", at);
+    CHECK(members_of(&d, after) == count, "%" PRIu64 " members", count);
+    for (uint64_t k = 0; k < count; k++) carried(&before[k], &after[k]);
+    planned_on(&d, SHORT);
+    ANSWERS(0, pfair_close(&d));
+}
+
+/* What is wrong with a call, in the order of the checks. A spent dispatcher is refused by 31. */
+static void refusals(void) {
+    struct pfair_dispatcher d = PFAIR_NONE;
+    struct pfair_step s;
+    uint64_t taken;
+    ANSWERS(102, pfair_next_run(&d, 0));
+    filled(&d, SHORT, SHORT / 2);
+    ANSWERS(100, pfair_next_run(&d, 0));
+    ANSWERS(100, pfair_next_run(&d, 1000001));
+    ANSWERS(0, pfair_plan_to(&d, SHORT - 1, &s));
+    ANSWERS(32, pfair_next_run(&d, 5));
+    refuse_all();
+    ANSWERS(90, pfair_plan_next(&d, &s));
+    ample();
+    ANSWERS(31, pfair_next_run(&d, 5));
+    ANSWERS(0, pfair_reopen(&d));
+    ANSWERS(0, pfair_plan_to(&d, SHORT, &s));
+    ANSWERS(0, take(&d, 3, 2, nothing(5), &taken));
+    ANSWERS(30, pfair_next_run(&d, 5));
+    ANSWERS(0, pfair_close(&d));
+}
+
+/* After the first two runs, memory is what it was, run after run, but for how malloc rounds sizes. */
+static void many_runs(long runs, uint64_t slots) {
+    struct pfair_dispatcher d = PFAIR_NONE;
+    long in_use = 0;
+    filled(&d, slots, 64);
+    for (uint64_t slot = 0; slot < slots; slot++) {
+        plan_one(&d, slot);
+        ANSWERS(0, pfair_forget(&d, slot + 1));
+    }
+    for (long run = 1; run < runs; run++) {
+        ANSWERS(0, pfair_next_run(&d, slots));
+        planned_on(&d, slots);
+        if (run == 2) in_use = bytes;
+        CHECK(run < 2 || bytes <= in_use + 1024, "run %ld: %ld bytes, after two %ld", run, bytes, in_use);
+    }
+    printf("%ld runs of %" PRIu64 " slots: %ld bytes in use after each\n", runs, slots, in_use);
+    ANSWERS(0, pfair_close(&d));
+}
+
+int main(int count, char **words) {
+    long at_first = blocks;
+    refusals();
+    refused_in_turn();
+    many_runs(count > 1 ? atol(words[1]) : 12, count > 2 ? strtoull(words[2], NULL, 10) : 3000);
+    CHECK(blocks == at_first, "%ld blocks not freed", blocks - at_first);
+    return told();
+}
