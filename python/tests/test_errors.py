@@ -29,6 +29,9 @@ VALUES = {
 STATES = {
     "Torn": (30, "two different entries were taken for one number"),
     "Spent": (31, "memory was refused to a plan; reopen() helps"),
+    "Unfinished": (32, "not all slots of the run are planned"),
+    "PastLastSlot": (33, "the next run would end after slot 824,633,720,832, counted over all runs"),
+    "CannotCarry": (34, "a member can't be taken into a next run"),
     "Stalled": (52, "the logs settle fewer slots than are wanted"),
     "NotOpen": (102, "the dispatcher is closed"),
     "NotPlanned": (104, "the slot isn't planned"),

@@ -13,10 +13,10 @@ from ._cycle import NoCycle
 from ._dispatcher import Dispatcher, Planned
 from ._entries import Entry, Script, arrive, depart, late, promise, rows_of
 from ._errors import (
-    BY_NUMBER, BadDelay, BadIndex, CostOverPeriod, EntryRefused, FileTooLong, KeyMissing, KeyOutOfRange, KeyWrongKind,
-    NameBadByte, NameEmpty, NameTooLong, NoSuchNumber, NoSuchProcessor, NotOpen, NotPlanned, NotToml, OtherShape,
-    OutOfMemory, OutOfRange, PeriodTooLong, PfairError, PickPastHorizon, PicksNotRising, SlotTooFar, Spent, Stalled,
-    StampBeforeFloor, TaskFileError, Torn, UnknownVersion, ZeroCost,
+    BY_NUMBER, BadDelay, BadIndex, CannotCarry, CostOverPeriod, EntryRefused, FileTooLong, KeyMissing, KeyOutOfRange,
+    KeyWrongKind, NameBadByte, NameEmpty, NameTooLong, NoSuchNumber, NoSuchProcessor, NotOpen, NotPlanned, NotToml,
+    OtherShape, OutOfMemory, OutOfRange, PastLastSlot, PeriodTooLong, PfairError, PickPastHorizon, PicksNotRising,
+    SlotTooFar, Spent, Stalled, StampBeforeFloor, TaskFileError, Torn, Unfinished, UnknownVersion, ZeroCost,
 )
 from ._first_miss import Miss, first_late, first_miss
 from ._library import DECISION, ENTRY, LAG, MEMBER, OUTCOMES, QUANTUM, WINDOW
@@ -30,10 +30,10 @@ __all__ = [
     "BY_NUMBER", "DECISION", "ENTRY", "LAG", "MEMBER", "OUTCOMES", "QUANTUM", "WINDOW", "Counts", "Dispatcher", "Entry",
     "Faults", "Miss", "Planned", "Schedule", "Script", "TakenCounts", "Violation", "arrive", "check", "depart",
     "first_late", "first_miss", "late", "promise", "read_task_file", "rows_of", "schedule", "study", "windows",
-    "BadDelay", "BadIndex", "CostOverPeriod", "EntryRefused", "FileTooLong", "KeyMissing", "KeyOutOfRange",
-    "KeyWrongKind", "NameBadByte", "NameEmpty", "NameTooLong", "NoCycle", "NoSuchNumber", "NoSuchProcessor", "NotOpen",
-    "NotPlanned", "NotToml", "OtherShape", "OutOfMemory", "OutOfRange", "PeriodTooLong", "PfairError",
-    "PickPastHorizon", "PicksNotRising", "SlotTooFar", "Spent", "Stalled", "StampBeforeFloor", "TaskFileError", "Torn",
-    "UnknownVersion", "ZeroCost",
+    "BadDelay", "BadIndex", "CannotCarry", "CostOverPeriod", "EntryRefused", "FileTooLong", "KeyMissing",
+    "KeyOutOfRange", "KeyWrongKind", "NameBadByte", "NameEmpty", "NameTooLong", "NoCycle", "NoSuchNumber",
+    "NoSuchProcessor", "NotOpen", "NotPlanned", "NotToml", "OtherShape", "OutOfMemory", "OutOfRange", "PastLastSlot",
+    "PeriodTooLong", "PfairError", "PickPastHorizon", "PicksNotRising", "SlotTooFar", "Spent", "Stalled",
+    "StampBeforeFloor", "TaskFileError", "Torn", "Unfinished", "UnknownVersion", "ZeroCost",
 ]
 __version__ = VERSION

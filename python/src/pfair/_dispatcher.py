@@ -216,3 +216,42 @@ class Dispatcher(Tables):
         The cost of planning all slots so far.
         """
         self._call("pfair_reopen")
+
+    def next_run(self, slots: int) -> None:
+        """Begins the next run, once all slots of this one are planned.
+
+        The dispatcher then has no entries and no planned slots, and the members that the run left. Slots, stamps and
+        floors count from the next run's own slot 0, and entries from 1; in `members`, and in `freed_at` of `decisions`,
+        slots count from the first run's slot 0. What was announced for this run's last slot or later isn't taken over.
+        Of each member the jobs before that of its last quantum are counted no more: it counts as joined so many periods
+        later, and its indexes are so many costs lower. Windows and lags stay as they are, and a task that runs on stays
+        on its processor.
+
+        Parameters
+        ----------
+        slots : int
+            The number of slots of the next run, 1 to 1,000,000.
+
+        Raises
+        ------
+        OutOfRange
+            If the number is out of its range.
+        Torn
+            If a number is torn.
+        Spent
+            If an allocation failed in a plan, until `reopen`.
+        Unfinished
+            If not all slots are planned.
+        PastLastSlot
+            If the next run would end after slot 824,633,720,832, counted over all runs.
+        CannotCarry
+            If a member has a cost over 1,000,000, or so many late releases that its offset would pass that slot.
+        OutOfMemory
+            If an allocation fails.
+
+        Notes
+        -----
+        O(M + n log n + l log l) for M processors, n members and l late releases that are still to come, and the cost of
+        `close`.
+        """
+        self._call("pfair_next_run", whole(slots, 64, "slots"))

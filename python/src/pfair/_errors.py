@@ -102,6 +102,24 @@ class Spent(PfairError):
     number = 31
 
 
+class Unfinished(PfairError):
+    """not all slots of the run are planned"""
+
+    number = 32
+
+
+class PastLastSlot(PfairError):
+    """the next run would end after slot 824,633,720,832, counted over all runs"""
+
+    number = 33
+
+
+class CannotCarry(PfairError):
+    """a member can't be taken into a next run"""
+
+    number = 34
+
+
 class PicksNotRising(PfairError, ValueError):
     """a slot isn't after the one before it: found["place"] is its place, from 0"""
 
@@ -196,8 +214,9 @@ BY_NUMBER: dict[int, type[PfairError]] = {
     kind.number: kind
     for kind in (
         NameEmpty, NameTooLong, NameBadByte, ZeroCost, CostOverPeriod, PeriodTooLong, StampBeforeFloor, SlotTooFar,
-        BadDelay, BadIndex, NoSuchProcessor, NoSuchNumber, OtherShape, Torn, Spent, PicksNotRising, PickPastHorizon, Stalled, NotToml, KeyMissing, KeyWrongKind,
-        KeyOutOfRange, EntryRefused, UnknownVersion, FileTooLong, OutOfMemory, OutOfRange, NotOpen, NotPlanned,
+        BadDelay, BadIndex, NoSuchProcessor, NoSuchNumber, OtherShape, Torn, Spent, Unfinished, PastLastSlot, CannotCarry,
+        PicksNotRising, PickPastHorizon, Stalled, NotToml, KeyMissing, KeyWrongKind, KeyOutOfRange, EntryRefused,
+        UnknownVersion, FileTooLong, OutOfMemory, OutOfRange, NotOpen, NotPlanned,
     )
 }
 

@@ -103,6 +103,7 @@ _CALLS: dict[str, list[Any]] = {
     "pfair_reserve": [_handle, _u64, _u64],
     "pfair_forget": [_handle, _u64],
     "pfair_reopen": [_handle],
+    "pfair_next_run": [_handle, _u64],
     "pfair_frontier": [_handle, _number],
     "pfair_next_slot": [_handle, _number],
     "pfair_quanta": [_handle, _u64, _u64, _number, _array, _size],
