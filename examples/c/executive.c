@@ -1,12 +1,13 @@
 /*
  * An executive in small: one dispatcher thread for each processor drives real threads, quantum by quantum.
  *
- *   executive run|file [PROCESSORS [QUANTA [MICROSECONDS]]]        else 2 processors, 200 quanta of 5,000 microseconds
+ *   executive run|file [PROCESSORS [QUANTA [MICROSECONDS]]]        else 2 processors, 600 quanta of 5,000 microseconds
  *
  * No master decides. The thread of a processor keeps a dispatcher of its own, says its announcements some slots ahead,
  * and hears those of the others: late, out of order, twice, and now and then not at all (../executive/exchange.h). At
  * each quantum's boundary it plans the slot, halts the task that it ran, and lets that task run whose place is its
- * processor. ../kernel is the same executive on bare metal.
+ * processor. After each 200 quanta it begins the next run, and the rows are still those of one long run. ../kernel is the
+ * same executive on bare metal.
  *
  * `run` writes who really ran in which slot, as the tasks themselves noted it, in the form of `pfair replay --affinity`;
  * and on standard error how long planning and waking up took. `file` writes the task file of the same announcements.
@@ -29,7 +30,8 @@
 
 enum { FRAME = 60, PATIENCE = 20000000 }; /* how long a slot may wait for an entry, in microseconds */
 
-/* What is announced, in the order of the stamps. */
+/* What is announced, in the order of the stamps. Stamps and indexes are those of one long run. A late release of a later
+   run is stamped LEAD slots after that has begun, or later. */
 static const struct announcement announcements[] = {
     {0, 0, PFAIR_ARRIVE, "control", 1, 2, 0, 0, 0},   {1, 0, PFAIR_ARRIVE, "vision", 2, 3, 0, 0, 0},
     {0, 0, PFAIR_ARRIVE, "logger", 1, 5, 0, 0, 0},    {1, 0, PFAIR_ARRIVE, "radio", 2, 8, 1, 0, 0},
@@ -38,6 +40,13 @@ static const struct announcement announcements[] = {
     {1, 60, PFAIR_ARRIVE, "burst", 3, 10, 0, 0, 0},   {0, 62, PFAIR_ARRIVE, "extra", 1, 2, 0, 0, 0},
     {1, 120, PFAIR_DEPART, "burst", 0, 0, 0, 0, 0},   {0, 130, PFAIR_ARRIVE, "extra", 3, 10, 1, 0, 0},
     {0, 150, PFAIR_LATE, "vision", 0, 0, 0, 80, 2},
+    /* across the end of a run: a subtask of control is late, vision departs and is freed at 201, and logger at 400 */
+    {1, 190, PFAIR_LATE, "control", 0, 0, 0, 100, 2}, {1, 198, PFAIR_DEPART, "vision", 0, 0, 0, 0, 0},
+    {0, 200, PFAIR_ARRIVE, "vision", 1, 2, 0, 0, 0},  {0, 201, PFAIR_ARRIVE, "vision", 2, 3, 0, 0, 0},
+    {1, 250, PFAIR_LATE, "control", 0, 0, 0, 125, 1}, {1, 290, PFAIR_DEPART, "extra", 0, 0, 0, 0, 0},
+    {0, 310, PFAIR_ARRIVE, "burst", 1, 3, 1, 0, 0},   {0, 398, PFAIR_DEPART, "logger", 0, 0, 0, 0, 0},
+    {1, 400, PFAIR_ARRIVE, "logger", 1, 6, 0, 0, 0},  {0, 450, PFAIR_LATE, "vision", 0, 0, 0, 167, 3},
+    {1, 470, PFAIR_DEPART, "burst", 0, 0, 0, 0, 0},   {0, 500, PFAIR_ARRIVE, "extra", 1, 4, 0, 0, 0},
 };
 enum { ANNOUNCEMENTS = sizeof announcements / sizeof announcements[0] };
 
@@ -73,7 +82,7 @@ static struct processor {
 } processors[MOST_PROCESSORS];
 
 static unsigned machine = 2;
-static uint64_t quanta = 200, quantum = 5000;
+static uint64_t quanta = 600, quantum = 5000;
 static struct timespec begin;
 static cpu_set_t allowed;
 static atomic_uint over; /* how many processors are through with all slots */
@@ -218,25 +227,24 @@ static void await_quanta(struct processor *p, struct task *task, uint64_t count,
     for (; atomic_load(&task->had) < count; wait_for_hint(p)) serve(&p->exchange, slot + 1, slot_by_clock());
 }
 
-/* Halts the task of the slot before, and lets the task run whose place is this processor. Nothing of the slot is asked
-   again, so that its memory can be given back. */
+/* Halts the task of the slot before, and lets the task run whose place is this processor. */
 static void dispatch(struct processor *p, uint64_t slot) {
     struct pfair_dispatcher *d = &p->exchange.dispatcher;
     struct pfair_pick rows[MOST_PROCESSORS];
     uint8_t places[MOST_PROCESSORS];
     uint64_t count;
     halt_current(p);
-    must(pfair_table(d, slot, &count, rows, MOST_PROCESSORS));
-    must(pfair_places(d, slot, &count, places, MOST_PROCESSORS));
+    must(pfair_table(d, slot % RUN, &count, rows, MOST_PROCESSORS));
+    must(pfair_places(d, slot % RUN, &count, places, MOST_PROCESSORS));
     for (uint64_t row = 0; row < count; row++) {
         struct task *task = task_named(&rows[row].name);
-        uint64_t quantum_number = ++p->planned[task - tasks];
+        uint64_t quantum_number = ++p->planned[task - tasks], index = whole_index(&p->exchange, &rows[row]);
         if (places[row] != p->exchange.number) continue;
         await_quanta(p, task, quantum_number - 1, slot);
         p->current = task;
-        let_run(task, p->exchange.number, slot, row, rows[row].index);
+        let_run(task, p->exchange.number, slot, row, index);
     }
-    must(pfair_forget(d, slot + 1));
+    leave(&p->exchange, slot);
 }
 
 static void *be_processor(void *itself) {

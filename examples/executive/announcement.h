@@ -3,7 +3,7 @@
 #define ANNOUNCEMENT_H
 #include "pfair.h"
 
-enum { MOST_PROCESSORS = 8, MOST_QUANTA = 4000 }; /* of an executive */
+enum { MOST_PROCESSORS = 8, MOST_QUANTA = 4000, MOST_TASKS = 16 }; /* of an executive */
 
 struct announcement {
     unsigned processor; /* whose log has it: this number modulo the number of processors */
@@ -12,10 +12,16 @@ struct announcement {
     uint64_t cost, period, early, index, by;
 };
 
-/* The entry of a row. Its floor is one that was said before: no floor rises with an announcement. */
-static inline struct pfair_entry entry_of(const struct announcement *a, uint64_t floor) {
-    struct pfair_entry entry = {.floor = floor, .kind = a->kind, .at = a->at, .cost = a->cost, .period = a->period};
+static inline bool is_same_name(const struct pfair_name *one, const struct pfair_name *other) {
+    return __builtin_memcmp(one->bytes, other->bytes, sizeof one->bytes) == 0;
+}
+
+/* The entry of a row, in a run that begins at that slot. Its floor is one that was said before: no floor rises with an
+   announcement. */
+static inline struct pfair_entry entry_of(const struct announcement *a, uint64_t floor, uint64_t begin) {
+    struct pfair_entry entry = {.floor = floor - begin, .kind = a->kind, .at = a->at - begin, .cost = a->cost};
     entry.name = pfair_name_of(a->name);
+    entry.period = a->period;
     entry.early = a->early;
     entry.index = a->index;
     entry.by = a->by;

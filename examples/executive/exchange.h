@@ -9,6 +9,11 @@
  * FLOORS. A processor can plan slot t once each log has a floor above t. Here a processor knows LEAD slots ahead what
  * it announces, so a floor reaches LEAD slots ahead, and the next one is due FLOOR_EVERY slots later. The entries then
  * have LEAD - FLOOR_EVERY slots to arrive in. A floor in each slot would fill a log of 4,096 entries in 4,096 slots.
+ *
+ * RUNS. A run has at most 1,000,000 slots; then pfair_next_run begins the next one, with new logs. Here a run has few
+ * slots, so that the next one is seen: slot t is slot t % RUN of run t / RUN. Each processor begins a run by itself,
+ * when it has planned the one before. It plans below all floors, and so less than LEAD slots past what another has
+ * planned: the other is in the same run, the one before or the one after. Messages say of which run they are.
  */
 #ifndef EXCHANGE_H
 #define EXCHANGE_H
@@ -16,28 +21,46 @@
 #include "ring.h"
 
 enum {
+    RUN = 200, /* slots */
     LEAD = 16,
     FLOOR_EVERY = 8,
     ASK_AHEAD = 2, /* a log has to reach so many slots past the next one, else its processor is asked */
-    MOST_ENTRIES = 1024
+    MOST_ENTRIES = 64,
+    MOST_KEPT = 32
 };
+_Static_assert(RUN % FLOOR_EVERY == 0 && LEAD % FLOOR_EVERY == 0, "what is said with a floor is of one run");
+_Static_assert(RUN >= 2 * LEAD, "when the log of run r + 2 takes the place of that of run r, all are past run r");
 
 /* What the machine below gives: it wakes a processor that waits; and it ends all if something is wrong. */
 void give_hint(unsigned processor);
 _Noreturn void stop(const char *what, uint64_t number);
 
+/* What one processor said in a run. */
+struct log {
+    uint64_t run;
+    struct pfair_entry entries[MOST_ENTRIES]; /* entry n is entries[n - 1] */
+    uint64_t said_at[MOST_ENTRIES];           /* in which slot */
+    uint8_t sent_to[MOST_ENTRIES];            /* a bit for each processor */
+    uint32_t said, all_sent;                  /* how many entries; up to this one all were sent to all */
+};
+
 /* What one processor said, sent and heard. Only that processor uses it. */
 struct exchange {
     unsigned number, processors;
+    uint64_t slots; /* of all runs */
     struct pfair_dispatcher dispatcher;
-    struct pfair_entry log[MOST_ENTRIES]; /* its own: entry n is log[n - 1] */
-    uint64_t said_at[MOST_ENTRIES];       /* in which slot */
-    uint8_t sent_to[MOST_ENTRIES];        /* a bit for each processor */
-    uint32_t said, all_sent;              /* how many entries; up to this one all were sent to all */
-    uint64_t floor;                       /* everything that is stamped before this slot is said */
+    uint64_t run;                   /* that the dispatcher is in */
+    struct log logs[2];             /* its own: that of run r is logs[r % 2] */
+    struct message kept[MOST_KEPT]; /* entries of the next run */
+    unsigned kept_count;
+    struct {
+        struct pfair_name name;
+        uint64_t subtasks;
+    } taken_off[MOST_TASKS]; /* from the indexes of a task since it joined, as runs ended */
+    uint64_t floor;          /* everything that is stamped before this slot is said */
     uint64_t asked_at;
     uint32_t tries[MOST_PROCESSORS];
-    uint64_t heard, known, lost, asked;
+    uint64_t said, heard, known, lost, asked;
 };
 
 static struct ring rings[MOST_PROCESSORS][MOST_PROCESSORS]; /* [from][to] */
@@ -46,38 +69,72 @@ static void must(uint32_t answer) {
     if (answer != PFAIR_DONE) stop("a call of the library didn't answer 0", answer);
 }
 
+static uint64_t slots_of(const struct exchange *x, uint64_t run) {
+    uint64_t left = x->slots - run * RUN;
+    return left < RUN ? left : RUN;
+}
+
 static void begin_exchange(struct exchange *x, unsigned number, unsigned processors, uint64_t frame, uint64_t slots) {
     struct pfair_dispatcher none = PFAIR_NONE;
     x->number = number;
     x->processors = processors;
+    x->slots = slots;
     x->asked_at = UINT64_MAX;
     x->dispatcher = none;
-    must(pfair_open(&x->dispatcher, (uint8_t)processors, frame, slots, MOST_ENTRIES));
+    must(pfair_open(&x->dispatcher, (uint8_t)processors, frame, slots_of(x, 0), MOST_ENTRIES));
+    must(pfair_reserve(&x->dispatcher, RUN, MOST_TASKS));
+}
+
+static uint64_t *taken_off(struct exchange *x, const struct pfair_name *name) {
+    for (unsigned k = 0; k < MOST_TASKS; k++) {
+        if (x->taken_off[k].name.length == 0) x->taken_off[k].name = *name;
+        if (is_same_name(&x->taken_off[k].name, name)) return &x->taken_off[k].subtasks;
+    }
+    stop("too many tasks", MOST_TASKS);
+}
+
+/* The index of a row, counted from when the task joined. In any run only a task's first quantum has index 1. */
+static uint64_t whole_index(struct exchange *x, const struct pfair_pick *row) {
+    uint64_t *subtasks = taken_off(x, &row->name);
+    if (row->index == 1) *subtasks = 0;
+    return row->index + *subtasks;
 }
 
 /* ---- saying and sending */
 
-static void say(struct exchange *x, const struct pfair_entry *entry, uint64_t slot) {
-    uint64_t taken = PFAIR_TORN_NOW;
-    if (x->said == MOST_ENTRIES) stop("a log is full", x->said);
-    x->said_at[x->said] = slot;
-    x->log[x->said++] = *entry;
-    must(pfair_take(&x->dispatcher, (uint8_t)x->number, x->said, entry, &taken));
-    if (taken != PFAIR_NEW) stop("a number was given twice", x->said);
+/* Gives the dispatcher an entry of this run, and returns what that met. */
+static uint64_t take(struct exchange *x, unsigned from, uint32_t number, const struct pfair_entry *entry) {
+    uint64_t taken;
+    must(pfair_take(&x->dispatcher, (uint8_t)from, number, entry, &taken));
+    if (taken == PFAIR_TORN_NOW) stop("two entries came under one number", number);
+    return taken;
 }
 
-/* Says what is stamped up to LEAD slots ahead, and then the floor, if that is due. */
+static void say(struct exchange *x, uint64_t run, const struct pfair_entry *entry, uint64_t slot) {
+    struct log *log = &x->logs[run % 2];
+    if (log->run != run) *log = (struct log){.run = run};
+    if (log->said == MOST_ENTRIES) stop("a log is full", log->said);
+    log->said_at[log->said] = slot;
+    log->entries[log->said++] = *entry;
+    x->said++;
+    if (run == x->run) take(x, x->number, log->said, entry);
+}
+
+/* Says what is stamped up to LEAD slots ahead, and then the floor, if that is due. The index that a late release has in
+   its run is known only when that has begun. */
 static void announce(struct exchange *x, const struct announcement *table, unsigned rows, uint64_t slot) {
-    uint64_t floor = slot + LEAD;
-    if (floor - x->floor < FLOOR_EVERY) return;
+    uint64_t floor = slot + LEAD, run = x->floor / RUN, begin = run * RUN;
+    if (x->floor >= x->slots || floor - x->floor < FLOOR_EVERY) return;
     for (unsigned k = 0; k < rows; k++) {
         const struct announcement *a = &table[k];
         if (a->processor % x->processors != x->number || a->at < x->floor || a->at >= floor) continue;
-        struct pfair_entry entry = entry_of(a, x->floor);
-        say(x, &entry, slot);
+        struct pfair_entry entry = entry_of(a, x->floor, begin);
+        if (a->kind == PFAIR_LATE && run != x->run) stop("a late release is said before its run", a->at);
+        if (a->kind == PFAIR_LATE) entry.index -= *taken_off(x, &entry.name);
+        say(x, run, &entry, slot);
     }
-    struct pfair_entry nothing = {.floor = floor, .kind = PFAIR_NOTHING};
-    say(x, &nothing, slot);
+    struct pfair_entry nothing = {.floor = floor - begin, .kind = PFAIR_NOTHING};
+    say(x, run, &nothing, slot);
     x->floor = floor;
 }
 
@@ -96,55 +153,63 @@ static void send_one(struct exchange *x, unsigned to, const struct message *mess
     else give_hint(to);
 }
 
-static void send_entry(struct exchange *x, unsigned to, uint32_t number) {
-    struct message message = {.is_request = false, .number = number, .entry = x->log[number - 1]};
+static void send_entry(struct exchange *x, unsigned to, const struct log *log, uint32_t number) {
+    struct message message = {.from = x->number, .run = log->run, .number = number, .entry = log->entries[number - 1]};
     send_one(x, to, &message);
 }
 
-/* Sends each entry whose time has come, the last one first: after 0 to 5 slots, or 12 for one in 32; and one in 4
-   twice. What was said in slot 0 goes at once. */
-static void send_due(struct exchange *x, uint64_t slot) {
-    for (uint32_t number = x->said; number > x->all_sent; number--)
+/* Sends each entry of a log whose time has come, the last one first: after 0 to 5 slots, or 12 for one in 32; and one
+   in 4 twice. What was said in slot 0 goes at once. */
+static void send_due(struct exchange *x, struct log *log, uint64_t slot) {
+    for (uint32_t number = log->said; number > log->all_sent; number--)
         for (unsigned to = 0; to < x->processors; to++) {
-            uint64_t fate = chance(to, x->number, number) >> 8, delay = fate % 32 == 0 ? 12 : fate % 6;
-            uint64_t due = x->said_at[number - 1] == 0 ? 0 : x->said_at[number - 1] + delay;
-            if (to == x->number || x->sent_to[number - 1] >> to & 1 || due > slot) continue;
-            send_entry(x, to, number);
-            if (fate >> 8 & 1 && fate >> 9 & 1) send_entry(x, to, number);
-            x->sent_to[number - 1] |= (uint8_t)(1u << to);
+            uint64_t fate = chance(to, x->number, (uint32_t)log->run * MOST_ENTRIES + number) >> 8;
+            uint64_t delay = fate % 32 == 0 ? 12 : fate % 6;
+            uint64_t due = log->said_at[number - 1] == 0 ? 0 : log->said_at[number - 1] + delay;
+            if (to == x->number || log->sent_to[number - 1] >> to & 1 || due > slot) continue;
+            send_entry(x, to, log, number);
+            if (fate >> 8 & 1 && fate >> 9 & 1) send_entry(x, to, log, number);
+            log->sent_to[number - 1] |= (uint8_t)(1u << to);
         }
     unsigned all = (1u << x->processors) - 1 - (1u << x->number);
-    while (x->all_sent < x->said && x->sent_to[x->all_sent] == all) x->all_sent++;
+    while (log->all_sent < log->said && log->sent_to[log->all_sent] == all) log->all_sent++;
 }
 
 /* ---- hearing and asking */
 
-/* Takes what came. A request is answered with all of this log from its number on. */
+/* Answers a request with all of this log from its number on. */
+static void answer(struct exchange *x, const struct message *request) {
+    const struct log *log = &x->logs[request->run % 2];
+    if (log->run != request->run) return;
+    for (uint32_t number = request->number; number <= log->said; number++) send_entry(x, request->from, log, number);
+}
+
+/* Takes an entry of this run, and keeps one of the next run. If there is no room for it, it is asked for later. */
+static void receive(struct exchange *x, const struct message *message) {
+    if (message->run == x->run + 1 && x->kept_count < MOST_KEPT) x->kept[x->kept_count++] = *message;
+    if (message->run != x->run) return;
+    x->known += take(x, message->from, message->number, &message->entry) == PFAIR_KNOWN;
+    x->heard++;
+}
+
 static void hear(struct exchange *x) {
     struct message message;
     for (unsigned from = 0; from < x->processors; from++)
-        while (pull(&rings[from][x->number], &message)) {
-            if (message.is_request) {
-                for (uint32_t number = message.number; number <= x->said; number++) send_entry(x, from, number);
-                continue;
-            }
-            uint64_t taken;
-            must(pfair_take(&x->dispatcher, (uint8_t)from, message.number, &message.entry, &taken));
-            if (taken == PFAIR_TORN_NOW) stop("two entries came under one number", message.number);
-            x->heard++;
-            x->known += taken == PFAIR_KNOWN;
-        }
+        while (pull(&rings[from][x->number], &message))
+            if (message.is_request) answer(x, &message);
+            else receive(x, &message);
 }
 
 /* Asks each processor whose log doesn't reach far enough past this slot. What it lacks may be lost, or only late. */
 static void ask(struct exchange *x, uint64_t slot) {
+    uint64_t end = slots_of(x, x->run), wanted = slot - x->run * RUN + ASK_AHEAD + 1;
     for (unsigned from = 0; from < x->processors; from++) {
         uint64_t mark, count, missing;
         must(pfair_mark(&x->dispatcher, (uint8_t)from, &mark, &count));
-        if (from == x->number || mark > slot + ASK_AHEAD) continue;
+        if (from == x->number || mark >= wanted || mark >= end) continue;
         must(pfair_missing(&x->dispatcher, (uint8_t)from, &missing));
         if (missing == 0) continue;
-        struct message request = {.is_request = true, .number = (uint32_t)missing};
+        struct message request = {.is_request = true, .from = x->number, .run = x->run, .number = (uint32_t)missing};
         send_one(x, from, &request);
         x->asked++;
     }
@@ -153,7 +218,7 @@ static void ask(struct exchange *x, uint64_t slot) {
 /* What a processor does for the others in each slot, and again and again while it waits: `slot` is the one that it
    plans next, and `now` the one that it is by the clock. It asks once in a slot of the clock. */
 static void serve(struct exchange *x, uint64_t slot, uint64_t now) {
-    send_due(x, now);
+    for (unsigned k = 0; k < 2; k++) send_due(x, &x->logs[k], now);
     hear(x);
     if (x->asked_at == now) return;
     x->asked_at = now;
@@ -165,8 +230,34 @@ static bool is_planned(struct exchange *x, uint64_t slot) {
     struct pfair_step step;
     must(pfair_plan_next(&x->dispatcher, &step));
     if (step.kind == PFAIR_WAITING) return false;
-    if (step.kind != PFAIR_PLANNED || step.slot != slot) stop("another slot was planned", step.slot);
+    if (step.kind != PFAIR_PLANNED || x->run * RUN + step.slot != slot) stop("another slot was planned", step.slot);
     return true;
+}
+
+/* ---- the next run */
+
+/* Begins the next run, takes what was said and heard of it so far, and asks for the rest. The members before and after
+   tell how much was taken off their indexes. */
+static void begin_next_run(struct exchange *x) {
+    const struct log *log = &x->logs[++x->run % 2];
+    struct pfair_member before[MOST_TASKS], after[MOST_TASKS];
+    uint64_t members;
+    must(pfair_members(&x->dispatcher, &members, before, MOST_TASKS));
+    must(pfair_next_run(&x->dispatcher, slots_of(x, x->run)));
+    must(pfair_members(&x->dispatcher, &members, after, MOST_TASKS));
+    for (uint64_t k = 0; k < members; k++) *taken_off(x, &before[k].name) += before[k].next - after[k].next;
+    must(pfair_reserve(&x->dispatcher, RUN, MOST_TASKS));
+    for (uint32_t number = 1; number <= log->said; number++) take(x, x->number, number, &log->entries[number - 1]);
+    for (unsigned k = 0; k < x->kept_count; k++) receive(x, &x->kept[k]);
+    x->kept_count = 0;
+    ask(x, x->run * RUN);
+}
+
+/* Forgets a slot, of which nothing is asked again, so that its memory can be given back. After the last slot of a run
+   the next one begins. */
+static void leave(struct exchange *x, uint64_t slot) {
+    must(pfair_forget(&x->dispatcher, slot % RUN + 1));
+    if ((slot + 1) % RUN == 0 && slot + 1 < x->slots) begin_next_run(x);
 }
 
 #endif

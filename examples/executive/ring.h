@@ -9,9 +9,11 @@
 
 enum { RING = 256 }; /* messages; a power of two, so that the counters may wrap around */
 
-/* An entry of the sender's log under its number, or a request for entries of the receiver's log from a number on. */
+/* An entry of the sender's log of a run under its number, or a request for those of the receiver's from a number on. */
 struct message {
     bool is_request;
+    unsigned from;
+    uint64_t run;
     uint32_t number;
     struct pfair_entry entry;
 };

@@ -1,4 +1,8 @@
-/* announcements.h: what is announced, in the order of the stamps. examples/executive/announcement.h has the columns. */
+/*
+ * announcements.h: what is announced, in the order of the stamps. examples/executive/announcement.h has the columns.
+ * Stamps and indexes are those of one long run. A late release of a later run is stamped LEAD slots after that has
+ * begun, or later.
+ */
 #ifndef ANNOUNCEMENTS_H
 #define ANNOUNCEMENTS_H
 #include "../executive/announcement.h"
@@ -16,6 +20,14 @@ static const struct announcement announcements[] = {
     {2, 80, PFAIR_DEPART, "sonar", 0, 0, 0, 0, 0},  {2, 95, PFAIR_ARRIVE, "sonar", 1, 3, 0, 0, 0},
     {1, 120, PFAIR_DEPART, "burst", 0, 0, 0, 0, 0}, {0, 130, PFAIR_ARRIVE, "extra", 3, 10, 1, 0, 0},
     {0, 150, PFAIR_LATE, "vision", 0, 0, 0, 80, 2}, {3, 170, PFAIR_ARRIVE, "burst", 1, 2, 0, 0, 0},
+    /* across the end of a run: a subtask of control is late, vision departs and is freed at 201, and logger at 400 */
+    {1, 190, PFAIR_LATE, "control", 0, 0, 0, 100, 2}, {2, 198, PFAIR_DEPART, "vision", 0, 0, 0, 0, 0},
+    {3, 200, PFAIR_ARRIVE, "vision", 1, 2, 0, 0, 0},  {3, 201, PFAIR_ARRIVE, "vision", 2, 3, 0, 0, 0},
+    {0, 240, PFAIR_LATE, "audio", 0, 0, 0, 178, 4},   {1, 250, PFAIR_LATE, "control", 0, 0, 0, 125, 1},
+    {1, 290, PFAIR_DEPART, "extra", 0, 0, 0, 0, 0},   {0, 310, PFAIR_ARRIVE, "burst", 1, 3, 1, 0, 0},
+    {2, 398, PFAIR_DEPART, "logger", 0, 0, 0, 0, 0},  {2, 400, PFAIR_ARRIVE, "logger", 1, 6, 0, 0, 0},
+    {0, 450, PFAIR_LATE, "vision", 0, 0, 0, 167, 3},  {3, 470, PFAIR_DEPART, "burst", 0, 0, 0, 0, 0},
+    {2, 500, PFAIR_ARRIVE, "extra", 1, 4, 0, 0, 0},
 };
 enum { ANNOUNCEMENTS = sizeof announcements / sizeof announcements[0] };
 

@@ -86,15 +86,16 @@ static void dispatch(struct processor *p, uint64_t slot) {
     uint8_t places[PROCESSORS];
     uint64_t count;
     plan(p, slot);
-    must(pfair_table(d, slot, &count, rows, PROCESSORS));
-    must(pfair_places(d, slot, &count, places, PROCESSORS));
+    must(pfair_table(d, slot % RUN, &count, rows, PROCESSORS));
+    must(pfair_places(d, slot % RUN, &count, places, PROCESSORS));
     for (uint64_t row = 0; row < count; row++) {
         struct task *task = task_named(&rows[row].name);
         if (task == NULL) stop("a table names a stranger", row);
+        uint64_t index = whole_index(&p->exchange, &rows[row]);
         p->planned[task - tasks]++;
-        if (places[row] == p->exchange.number) let_run(p, task, slot, row, rows[row].index);
+        if (places[row] == p->exchange.number) let_run(p, task, slot, row, index);
     }
-    must(pfair_forget(d, slot + 1));
+    leave(&p->exchange, slot);
     announce(&p->exchange, announcements, ANNOUNCEMENTS, slot);
 }
 
@@ -127,7 +128,7 @@ static void print_notes(void) {
         put_out(NOTES, "processor %u: planning, cycles: ", (uint64_t)k);
         put_out(NOTES, "median %u, worst %u; ", p->planning[quanta / 2], p->planning[quanta - 1]);
         put_out(NOTES, "deepest stack, bytes: %u at the opening, %u in ticks; ", p->depth_of_opening, stack_depth(k));
-        put_out(NOTES, "entries: %u said, %u heard, %u of these again; ", (uint64_t)x->said, x->heard, x->known);
+        put_out(NOTES, "entries: %u said, %u heard, %u of these again; ", x->said, x->heard, x->known);
         put_out(NOTES, "messages: %u lost, %u requests\n", x->lost, x->asked);
     }
 }
@@ -208,7 +209,6 @@ _Noreturn void begin(const uint32_t *note, unsigned number) {
     if (number == 0) wake_others();
     paint_stack(number);
     begin_exchange(&p->exchange, number, machine, FRAME, quanta);
-    must(pfair_reserve(&p->exchange.dispatcher, quanta, MOST_TASKS));
     announce(&p->exchange, announcements, ANNOUNCEMENTS, 0);
     p->depth_of_opening = stack_depth(number);
     paint_stack(number);

@@ -11,6 +11,8 @@ struct ran ran[MOST_QUANTA][PROCESSORS];
 static void note_quantum(struct task *task) {
     uint64_t flags = interrupts_off();
     struct ran *cell = &ran[task->slot][this_processor()];
+    task->of_incarnation = task->index == 1 ? 1 : task->of_incarnation + 1;
+    if (task->of_incarnation != task->index) stop("a task counted its quanta otherwise", task->index);
     if (atomic_fetch_add(&cell->times, 1) != 0) stop("two tasks ran at once on one processor", task->slot);
     cell->name = task->name;
     cell->row = task->row;
@@ -49,7 +51,7 @@ static void make_frame(struct task *task) {
 struct task *task_named(const struct pfair_name *name) {
     for (int k = 0; k < MOST_TASKS && tasks[k].name != NULL; k++) {
         struct pfair_name other = pfair_name_of(tasks[k].name);
-        if (__builtin_memcmp(other.bytes, name->bytes, sizeof other.bytes) == 0) return &tasks[k];
+        if (is_same_name(&other, name)) return &tasks[k];
     }
     return NULL;
 }

@@ -4,7 +4,7 @@
 #include "../executive/announcement.h"
 #include "machine.h"
 
-enum { MOST_TASKS = 16, TASK_STACK = 4096 };
+enum { TASK_STACK = 4096 };
 
 struct task {
     struct frame frame; /* while it doesn't run */
@@ -12,7 +12,7 @@ struct task {
     atomic_uint_fast64_t had;         /* how many quanta it has had, over all its incarnations */
     atomic_uint_fast64_t told, noted; /* the quantum that it may have now, and the last one that it noted */
     uint64_t slot, row, index;        /* of the quantum that it may have */
-    uint64_t rounds;
+    uint64_t of_incarnation, rounds;
     uint8_t stack[TASK_STACK] __attribute__((aligned(16)));
 };
 
