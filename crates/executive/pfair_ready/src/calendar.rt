@@ -1,5 +1,4 @@
 //! When the keys that wait are released.
-
 ghost use Rattle.std.specs.Prelude.{◌≡◌, ◌≤◌, ◌<◌, ◌%◌, ◌+◌, [], Contains, IfSome, OnOk, length};
 ghost use Rattle.pfair_ready.specs.declared.far_dates.Date.{Date};
 ghost use Rattle.pfair_ready.specs.Calendar.{IsNoted, Moves};

@@ -1,5 +1,4 @@
 //! The dates that lie far ahead, or found no room among the near ones.
-
 ghost use Rattle.std.specs.Prelude.{◌≡◌, ◌≤◌, ◌<◌, ◌∷◌, ℕ, [], All, Contains, IfNone, IfSome, OnErr, OnOk, Some};
 ghost use Rattle.std.specs.BinaryHeap.{heap_items, IsHeap};
 ghost use Rattle.std.specs.FinMap as finmap;

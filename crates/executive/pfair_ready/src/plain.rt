@@ -1,5 +1,4 @@
 //! A ready structure that is one list, to compare faster ones with.
-
 ghost use Rattle.std.specs.Prelude.{◌≡◌, IfOk, map, filter, nat_le, not};
 ghost use Rattle.std.specs.List.{list_any};
 ghost use Rattle.std.specs.Vec.Iter.{into_iter_items};

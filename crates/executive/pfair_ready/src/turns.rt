@@ -1,5 +1,4 @@
 //! The turns of released keys, the first in the PD2 order first.
-
 ghost use Rattle.std.specs.Prelude.{◌≡◌, ℕ, ◌+◌, ◌∷◌, [], Contains, IfNone, IfSome, OnOk, length};
 ghost use Rattle.std.specs.List.Sorted.{IsPermutation};
 ghost use Rattle.pfair_ready.specs.Turns.{IsFirst};

@@ -1,5 +1,4 @@
 //! What waits under each name.
-
 ghost use Rattle.std.specs.Prelude.{◌≡◌, ℕ, IfOk, IfSome, IfNone, OnErr, OnOk, None, Some, false, is_some, not, if◌then◌else◌};
 ghost use Rattle.std.specs.FinMap as finmap;
 ghost use Rattle.indexmap.specs.IndexMap.{get as at_name, IsUnique, Updates};

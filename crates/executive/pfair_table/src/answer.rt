@@ -1,5 +1,4 @@
 //! What a plan answers.
-
 ghost use Rattle.std.specs.Prelude.{◌≡◌};
 ghost use Rattle.pfair_table.specs.Faults.{plan_fault_number, next_run_fault_number};
 

@@ -1,5 +1,4 @@
 //! Where a task stands in a table, found without going through its rows.
-
 ghost use Rattle.std.specs.Prelude.{◌≡◌, ◌≤◌, ◌<◌, length, slice_get};
 ghost use Rattle.pfair_weight.specs.Name.{NamesApart};
 ghost use Rattle.pfair_table.specs.Buckets.{bucket, AreBucketsOf};

@@ -1,5 +1,4 @@
 //! The dispatcher.
-
 ghost use Rattle.std.specs.Prelude.{◌≡◌, ◌≤◌, ◌<◌, true, false, IfOk, IfErr, IfSome, IfNone, OnOk, OnErr, Err, None, drop, length, max, min, slice_get};
 ghost use Rattle.std.specs.Option.{option_map};
 ghost use Rattle.pfair_replica.specs.Replica.{has_torn};

@@ -1,6 +1,5 @@
 //! The laws of agreement, over all replicas and all events. Each function does nothing: its
 //! contract is the law.
-
 ghost use Rattle.std.specs.Prelude.{◌≡◌};
 ghost use Rattle.pfair_table.specs.EventLaws.{EventsLeaveTheLeast};
 ghost use Rattle.pfair_table.specs.Laws.{OneTable, PlansGoOn, OnePlan, TablesAreOrdered, OneSchedule, PlanSoFar, RunsAreCounted};

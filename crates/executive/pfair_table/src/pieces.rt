@@ -1,5 +1,4 @@
 //! A list that grows without a copy of what it holds, and whose beginning can be forgotten.
-
 ghost use Rattle.std.specs.Prelude.{◌≡◌, ◌<◌, ◌≤◌, ◌+◌, ◌*◌, ◌-◌, ◌^◌, ◌++◌, ◌∷◌, [], IfOk, OnOk, OnErr, None, drop, length, max, min, slice_get, vec_capacity};
 ghost use Rattle.std.specs.Option.{option_copied};
 ghost use Rattle.pfair_table.specs.Pieces.{joined, pieces_of, IsGivenBack, HaveGivenBack};

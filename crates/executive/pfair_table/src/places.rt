@@ -1,6 +1,5 @@
 //! Places: which processor runs each row of a table, where a task that goes on running stays where
 //! it is.
-
 ghost use Rattle.std.specs.Prelude.{ℕ, ◌≡◌, ◌≤◌, ◌<◌, ◌+◌, ◌^◌, ◌∷◌, [], List, IfOk, OnOk, length};
 ghost use Rattle.std.specs.List.{AllByRecursion};
 ghost use Rattle.pfair_table.specs.Places.{kept_places, all_kept, free_place, filled, places_after};

@@ -1,6 +1,5 @@
 //! What is kept from slot to slot beside the replica and the tables: the members, what waits of
 //! them, and what was read of the replica.
-
 ghost use Rattle.std.specs.Prelude.{◌≡◌, ◌≤◌, ◌<◌, ◌+◌, ◌++◌, ◌∷◌, [], IfOk, OnOk, OnErr, length};
 ghost use Rattle.std.specs.List.{AllByRecursion};
 ghost use Rattle.pfair_table.specs.PlaceLaws.{IsFit};

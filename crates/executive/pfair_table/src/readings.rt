@@ -1,5 +1,4 @@
 //! What the sound beginnings of a replica say, where each entry is looked at once.
-
 ghost use Rattle.std.specs.Prelude.{◌≡◌, ℕ, [], IfOk, OnOk, length};
 ghost use Rattle.pfair_replica.specs.Agenda.{said_at};
 ghost use Rattle.pfair_replica.specs.HeldRows.{replica_of};

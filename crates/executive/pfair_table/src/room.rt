@@ -1,5 +1,4 @@
 //! Lists whose room is used again.
-
 ghost use Rattle.std.specs.Prelude.{◌≡◌, ◌≤◌, [], IfOk, vec_capacity};
 
 use crate::pick::Pick;

@@ -1,5 +1,4 @@
 //! What a list of events leaves.
-
 ghost use Rattle.std.specs.Prelude.{◌≡◌, false, IfOk, OnOk};
 ghost use Rattle.pfair_replica.specs.HeldRows.{IsShape, replica_of};
 ghost use Rattle.pfair_replica.specs.Offered.{taken};

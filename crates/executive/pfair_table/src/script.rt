@@ -1,5 +1,4 @@
 //! The logs of a run.
-
 ghost use Rattle.std.specs.Prelude.{◌≡◌, ◌<◌, ◌≤◌, ◌↔◌, IsTrue, IfOk, IfErr, Some, slice_get, length};
 ghost use Rattle.std.specs.List.{list_all};
 ghost use Rattle.pfair_replica.specs.HeldRows.{IsShape};

@@ -1,5 +1,4 @@
 //! What a run is set to.
-
 ghost use Rattle.std.specs.Prelude.{◌≡◌, ◌≤◌};
 ghost use Rattle.std.specs.Option.{SomeIff};
 ghost use Rattle.pfair_table.specs.Limits.{IsSettings};

@@ -1,5 +1,4 @@
 //! What plans slot after slot of a replica that is held elsewhere.
-
 ghost use Rattle.std.specs.Prelude.{◌≡◌, ◌≤◌, ◌<◌, ◌+◌, [], false, IfOk, IfErr, OnOk, None, length};
 ghost use Rattle.pfair_replica.specs.Replica.{Below, has_torn};
 ghost use Rattle.pfair_replica.specs.HeldRows.{SameShape, replica_of};

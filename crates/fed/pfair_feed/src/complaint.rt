@@ -1,5 +1,4 @@
 //! The complaints about refused lines, and about logs that are short.
-
 ghost use Rattle.std.specs.Prelude.{◌≡◌, ◌≢◌, ◌≤◌, ℕ, List, length, IfErr, OnErr, OnOk, true};
 ghost use Rattle.std.specs.Io.KnownBytes.{Appends};
 ghost use Rattle.pfair_text.specs.Output.{TakesPrefix};

@@ -1,5 +1,4 @@
 //! The lines of a reader, one after another.
-
 ghost use Rattle.std.specs.Prelude.{◌≡◌, ◌≢◌, ℕ, List, Some, IfErr, OnOk, false, true};
 ghost use Rattle.std.specs.Io.KnownBytes.{Consumes, IsAtEnd};
 ghost use Rattle.pfair_replica.specs.HeldRows.{SameShape};

@@ -1,6 +1,5 @@
 //! The laws of rows that are written slot after slot, and of whole inputs. Each function does
 //! nothing, or calls other laws: its contract is the law.
-
 ghost use Rattle.pfair_feed.specs.Laws.{EntriesAreTheirRows, EntriesGiveTheirSchedule, FedEntriesGiveTheirText, LinesAreOne, OrderIsNothing, RunsWriteAlike, WholeText};
 ghost use Rattle.pfair_feed.specs.RowLaws.{RowsGoOn, WholeRows};
 

@@ -1,5 +1,4 @@
 //! One line.
-
 ghost use Rattle.std.specs.Prelude.{◌≡◌, ℕ, IfErr, IsErrOf, OnOk, Some, true};
 ghost use Rattle.pfair_lattice.specs.declared.flat.Flat.TheVariants.{One};
 ghost use Rattle.pfair_entry.specs.Entry.{Logged};

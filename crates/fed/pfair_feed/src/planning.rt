@@ -1,5 +1,4 @@
 //! Planning as far as the contents settle it.
-
 ghost use Rattle.std.specs.Prelude.{◌≡◌, false, IfErr, IsErrOf, OnOk};
 ghost use Rattle.pfair_replica.specs.Replica.{has_torn};
 ghost use Rattle.pfair_replica.specs.HeldRows.{replica_of};

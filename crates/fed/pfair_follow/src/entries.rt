@@ -1,5 +1,4 @@
 //! The command `entries`: the entries of a task file as rows.
-
 ghost use Rattle.pfair_file.specs.Commands.{IsCommandOf};
 ghost use Rattle.pfair_file.specs.Schedules.{IsRefusalOf};
 ghost use Rattle.pfair_follow.specs.Entries.{IsOutputOf};

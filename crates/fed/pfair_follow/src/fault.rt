@@ -1,5 +1,4 @@
 //! The line of a fault.
-
 ghost use Rattle.std.specs.Prelude.{◌≡◌};
 ghost use Rattle.pfair_file.specs.ProgramFaults.{fault_status};
 

@@ -1,5 +1,4 @@
 //! The commands `replay`, `decisions` and `lags`: rows of a run that is fed by a reader.
-
 ghost use Rattle.std.specs.Prelude.{ℕ, List, true, false, ◌≡◌, ◌≢◌, ◌⊎◌, ◌<◌, ◌≤◌, IfErr, IsErrOf, OnOk, length};
 ghost use Rattle.std.specs.Io.KnownBytes.{Appends, Consumes, Keeps};
 ghost use Rattle.pfair_text.specs.Output.{TakesPrefix};

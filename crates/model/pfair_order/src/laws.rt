@@ -1,6 +1,5 @@
 //! Laws of the PD2 order, and of the first keys among some keys. Each function does nothing: its
 //! contract is the law.
-
 ghost use Rattle.std.specs.Prelude.{◌≡◌, ◌≤◌, ◌⊎◌, ◌↔◌, ℕ, List, length, true, AllPairs, Contains, IsPermutation};
 ghost use Rattle.std.specs.declared.cmp.Ordering.TheVariants.{Less, Equal};
 ghost use Rattle.pfair_weight.specs.Name.{NamesApart};

@@ -1,5 +1,4 @@
 //! The run of a script's dispatchers, each in a thread of its own.
-
 ghost use Rattle.std.specs.Prelude.{◌≡◌, [], Ok, IfErr, IfOk, IfSome};
 ghost use Rattle.pfair_file.specs.Input.{TakesOneFile};
 ghost use Rattle.pfair_table.specs.Script.{LoggedRun};

@@ -1,6 +1,5 @@
 //! The command `replay`: the tables of a task file, worked out by a dispatcher for each processor
 //! in a thread of its own, and with `--affinity` the processor that runs each row.
-
 ghost use Rattle.pfair_file.specs.Commands.{IsCommandOf};
 ghost use Rattle.pfair_reports.specs.Runs.{IsFaultOfReplay, IsOutputOf, placed_replay_of_run, replay_of_run};
 

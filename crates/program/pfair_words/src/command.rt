@@ -1,5 +1,4 @@
 //! What the command lines of both programs are made of.
-
 ghost use Rattle.std.specs.Prelude.{◌≡◌, IfOk, Ok, false};
 ghost use Rattle.clap.specs.Words.{AddsSubcommand, new_app, rule_of};
 ghost use Rattle.pfair_words.specs.Line as line;

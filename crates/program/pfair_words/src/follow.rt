@@ -1,5 +1,4 @@
 //! The words of `pfair_follow`.
-
 ghost use Rattle.std.specs.Prelude.{◌≡◌, MatchResult, codes};
 ghost use Rattle.clap.specs.Words.{found_of, rows_of, subcommand_rows_of};
 ghost use Rattle.pfair_words.specs.Parse.{texts};

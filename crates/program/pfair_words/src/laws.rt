@@ -1,5 +1,4 @@
 //! The limits, by their numbers.
-
 ghost use Rattle.std.specs.Prelude.{◌≡◌};
 
 use crate::schedule::MAX_COUNT;

@@ -1,5 +1,4 @@
 //! As many announcements as there may be, in one boundary, and the texts of refusals and faults.
-
 ghost use Rattle.std.specs.Prelude.{◌<◌, IfOk};
 ghost use Rattle.std.specs.List.{AllByRecursion};
 ghost use Rattle.pfair_entry.specs.Entry.{IsWithinLimits};

@@ -1,5 +1,4 @@
 //! Runs of events, by hand and by `run_events`.
-
 ghost use Rattle.std.specs.Prelude.{◌≡◌};
 
 use crate::notation::{number, push, word, words_of};

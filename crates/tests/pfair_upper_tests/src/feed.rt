@@ -1,5 +1,4 @@
 //! Runs that are fed the rows of a reader: in pieces, with refused lines and questions, over devices that fail.
-
 ghost use Rattle.pfair_feed.specs.Feeding.{IsCaughtUp};
 
 use crate::devices::{Sink, Source};

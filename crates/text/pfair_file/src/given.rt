@@ -1,5 +1,4 @@
 //! The words that a program is given.
-
 ghost use Rattle.std.specs.Prelude.{◌≡◌, ◌⊎◌, IfErr, alloc_error};
 
 use crate::memory::is_want_of_memory;

@@ -1,5 +1,4 @@
 //! Reading the whole of a reader, up to the longest file that is taken.
-
 ghost use Rattle.std.specs.Prelude.{◌≡◌, ◌≤◌, ◌<◌, ◌⊎◌, ℕ, List, length, IfErr, IfOk, IsErrOf, OnOk};
 ghost use Rattle.std.specs.Io.KnownBytes.{Consumes, IsAtEnd};
 ghost use Rattle.pfair_file.specs.Input.{HasTaken};

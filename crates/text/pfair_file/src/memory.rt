@@ -1,5 +1,4 @@
 //! Errors that mean a failed allocation.
-
 ghost use Rattle.std.specs.IoError.{error_kind};
 ghost use Rattle.std.specs.Prelude.{IsTrue, ◌≡◌, ◌↔◌};
 

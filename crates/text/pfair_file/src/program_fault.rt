@@ -1,5 +1,4 @@
 //! Why a command of a program did not succeed: numbers, texts and exit statuses.
-
 ghost use Rattle.std.specs.Prelude.{◌≡◌};
 ghost use Rattle.pfair_file.specs.ProgramFaults.{fault_number, fault_status, is_refusal, of_file, of_plan, of_run, of_take};
 ghost use Rattle.pfair_file.specs.declared.program_fault.ProgramFault.TheVariants.{Memory, WriteFailed as WriteFailure};

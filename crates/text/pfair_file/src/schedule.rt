@@ -1,5 +1,4 @@
 //! Task files, from their bytes to the schedule of all their slots.
-
 ghost use Rattle.std.specs.Prelude.{◌≡◌, ◌⊎◌, Ok, IfErr, IfOk, IfSome};
 ghost use Rattle.pfair_file.specs.Input.{TakesOneFile};
 ghost use Rattle.pfair_file.specs.Documents.{script_of_file};

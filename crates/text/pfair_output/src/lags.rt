@@ -1,5 +1,4 @@
 //! Lags as rows: time, task, numerator, period.
-
 ghost use Rattle.std.specs.Prelude.{◌≡◌, ◌≤◌, ◌<◌, ◌-◌, ◌++◌, OnOk, List, Some, drop, slice_get, take, true};
 ghost use Rattle.pfair_text.specs.Rows.{is_plain, IsOpen, line, lines_text, text_so_far};
 ghost use Rattle.pfair_weight.specs.Name.{NameValue};

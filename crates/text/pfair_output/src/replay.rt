@@ -1,5 +1,4 @@
 //! Tables as rows: slot, processor, task, index, and in a text with places the place.
-
 ghost use Rattle.std.specs.Prelude.{◌≡◌, ◌≤◌, ◌++◌, ◌∷◌, [], List, OnOk, IfOk, Some, drop, length, map, slice_get};
 ghost use Rattle.pfair_text.specs.Rows.{IsOpen, line, lines_text, text_so_far};
 ghost use Rattle.pfair_table.specs.Places.{places_in};

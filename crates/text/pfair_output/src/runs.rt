@@ -1,5 +1,4 @@
 //! The decisions and the lags of a script's run. One slot at a time is held in memory.
-
 ghost use Rattle.std.specs.Prelude.{◌≡◌, ◌≤◌, ◌<◌, ◌+◌, ◌∷◌, [], IfOk, IfErr, None, OnOk, length};
 ghost use Rattle.std.specs.List.{flat_map};
 ghost use Rattle.pfair_replica.specs.HeldRows.{replica_of};

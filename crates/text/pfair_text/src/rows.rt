@@ -1,5 +1,4 @@
 //! The text of a table, made row by row by a CSV writer in memory.
-
 ghost use Rattle.std.specs.Prelude.{◌≡◌, ◌<◌, ◌++◌, [], length, map, IsTrue, OnOk, IfOk};
 ghost use Rattle.std.specs.List.{list_all};
 ghost use Rattle.csv.specs.Writing.{writer_pending};

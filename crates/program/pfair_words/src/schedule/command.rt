@@ -1,5 +1,4 @@
 //! The command line of `pfair`, one level of commands.
-
 ghost use Rattle.std.specs.Prelude.{◌≡◌, IfOk, false};
 ghost use Rattle.clap.specs.Words.{rule_of};
 ghost use Rattle.pfair_words.specs.Line.{IsRead};
