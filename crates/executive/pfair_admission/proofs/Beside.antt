@@ -1,7 +1,7 @@
 -- The members of a next run beside those of the long run.
 use Rattle.std.proofs.lemmas.Grind.{common_steps}
 use Rattle.std.proofs.Common.{◌≡◌, ℕ, ◌+◌, ◌*◌, ◌≤◌, Bool, true, false, cond, List, [], ◌∷◌, ◌++◌, map, Option, Some, None, refl, sym, ap, ◌∙◌, arith, inl, inr}
-use Rattle.std.specs.Prelude.{not, nat_le, nat_lt, ◌==◌, ◌||◌, ◌&&◌, ◌%◌, is_some, if◌then◌else◌}
+use Rattle.std.specs.Prelude.{not, nat_le, nat_lt, ◌==◌, ◌||◌, ◌&&◌, is_some, if◌then◌else◌}
 use Rattle.std.specs.List.{AllByRecursion, filter, find}
 use Rattle.std.specs.Option.{option_map}
 use Rattle.std.proofs.lemmas.Bool.{cases_lt}

@@ -1,7 +1,7 @@
 -- The delays to come, and those that have passed, gathered one by one.
 use Rattle.std.proofs.lemmas.Grind.{common_steps}
-use Rattle.std.proofs.Common.{◌≡◌, ℕ, ◌+◌, ◌*◌, ◌<◌, ◌≤◌, true, false, cond, List, [], ◌∷◌, ◌++◌, get_or, length, map, take, Some, refl, ap, ◌∙◌, arith}
-use Rattle.std.specs.Prelude.{nat_lt, ◌==◌, ◌||◌, unwrap_or}
+use Rattle.std.proofs.Common.{◌≡◌, ℕ, ◌+◌, ◌*◌, ◌<◌, ◌≤◌, true, false, cond, List, [], ◌∷◌, ◌++◌, get_or, length, map, take, Some, refl, ap, arith}
+use Rattle.std.specs.Prelude.{nat_lt, ◌||◌, unwrap_or}
 use Rattle.std.specs.List.{sum_by, list_any}
 use Rattle.std.specs.Ordering.{nat_cmp}
 use Rattle.std.specs.BTreeMap as map
@@ -12,7 +12,7 @@ use Rattle.pfair_admission.specs.declared.delay.Delay.{Delay}
 use Rattle.pfair_admission.specs.Incarnation.{own_delay}
 use Rattle.pfair_admission.specs.declared.members.TheConstants.Members.{LAST_SLOT}
 use Rattle.pfair_admission.specs.Member.{Member}
-use Rattle.pfair_admission.specs.Carried.{as_one, carried, carried_delays, jobs_done, passed_delays, CanBeCarried}
+use Rattle.pfair_admission.specs.Carried.{as_one, carried_delays, jobs_done, passed_delays, CanBeCarried}
 use Rattle.pfair_admission.proofs.Delays.{at_key, own_push, own_slots}
 use Rattle.pfair_admission.proofs.Sums.{sum_filter}
 

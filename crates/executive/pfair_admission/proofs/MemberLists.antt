@@ -1,8 +1,8 @@
 -- Lists of members: who is freed, and what they claim.
 use Rattle.std.proofs.lemmas.Grind.{common_steps}
-use Rattle.std.proofs.Common.{◌≡◌, ℕ, zero, suc, ◌+◌, ◌<◌, ◌≤◌, false, cond, List, [], ◌∷◌, ◌++◌, get_or, length, take, Option, Some, None, refl, sym, ap, subst, ◌∙◌, arith}
+use Rattle.std.proofs.Common.{◌≡◌, ℕ, ◌+◌, ◌≤◌, false, cond, List, [], ◌∷◌, ◌++◌, get_or, take, Option, Some, None, refl, sym, ap, subst, ◌∙◌, arith}
 use Rattle.std.specs.Prelude.{not, slice_get}
-use Rattle.std.proofs.lemmas.Option.{same_Some, none-some, slice_get-get_or}
+use Rattle.std.proofs.lemmas.Option.{same_Some, slice_get-get_or, slice_get_within}
 use Rattle.std.proofs.lemmas.List.Sums.{sum_by-cons, sum_by_more, sum_by_more_le}
 use Rattle.std.proofs.lemmas.Bool.Decides.{nat_tests}
 use Rattle.pfair_weight.specs.Share.{units_of}
@@ -59,17 +59,12 @@ pub claimed_present : (frame t : ℕ) (ms : List Member) → claimed frame (pres
 claimed_present frame t ms = sum_filter (λ (m : Member). units_of m.weight frame) (λ (m : Member). not (is_freed t m.freed_at)) ms
 
 -- one member more
-inside : (ms : List Member) (place : ℕ) (m : Member) → slice_get ms place ≡ Some m → place < length ms
-inside [] place m at = absurd (none-some m at)
-inside (x ∷ ms) zero m at = omega arith
-inside (x ∷ ms) (suc place) m at = let rest = inside ms place m at in omega (arith, rest)
-
 pub claimed_more : (frame : ℕ) (ms : List Member) (place : ℕ) (m : Member) → slice_get ms place ≡ Some m → claimed frame (take (place + 1) ms) ≡ claimed frame (take place ms) + units_of m.weight frame
 claimed_more frame ms place m at =
-    let is = same_Some (get_or ms place m) m (sym (slice_get-get_or ms place m (inside ms place m at)) ∙ at) in
-    sum_by_more (λ (x : Member). units_of x.weight frame) ms place m (inside ms place m at) ∙ ap (λ (x : Member). claimed frame (take place ms) + units_of x.weight frame) is
+    let is = same_Some (get_or ms place m) m (sym (slice_get-get_or ms place m (slice_get_within ms place m at)) ∙ at) in
+    sum_by_more (λ (x : Member). units_of x.weight frame) ms place m (slice_get_within ms place m at) ∙ ap (λ (x : Member). claimed frame (take place ms) + units_of x.weight frame) is
 
 pub claimed_part : (frame : ℕ) (ms : List Member) (place : ℕ) (m : Member) → slice_get ms place ≡ Some m → claimed frame (take place ms) + units_of m.weight frame ≤ claimed frame ms
 claimed_part frame ms place m at =
-    let is = same_Some (get_or ms place m) m (sym (slice_get-get_or ms place m (inside ms place m at)) ∙ at) in
-    subst (λ (x : Member). claimed frame (take place ms) + units_of x.weight frame ≤ claimed frame ms) is (sum_by_more_le (λ (x : Member). units_of x.weight frame) ms place m (inside ms place m at))
+    let is = same_Some (get_or ms place m) m (sym (slice_get-get_or ms place m (slice_get_within ms place m at)) ∙ at) in
+    subst (λ (x : Member). claimed frame (take place ms) + units_of x.weight frame ≤ claimed frame ms) is (sum_by_more_le (λ (x : Member). units_of x.weight frame) ms place m (slice_get_within ms place m at))

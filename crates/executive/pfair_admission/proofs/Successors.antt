@@ -7,7 +7,7 @@ use Rattle.std.specs.Map.{keys_of, values_of, lookup}
 use Rattle.std.proofs.SliceLists.{all_by_recursion_push}
 use Rattle.std.proofs.lemmas.List.{map-append, take_more}
 use Rattle.std.proofs.lemmas.List.Sums.{sum_by-cons}
-use Rattle.std.proofs.lemmas.Option.{same_Some, none-some, slice_get-get_or}
+use Rattle.std.proofs.lemmas.Option.{same_Some, none-some, slice_get-get_or, slice_get_within}
 use Rattle.indexmap.specs.IndexMap.{insert_entry}
 use Rattle.pfair_weight.specs.Name.{NameValue, name_eq}
 use Rattle.pfair_entry.specs.declared.entry.TheConstants.Entry.{LONGEST_DELAY}
@@ -22,6 +22,7 @@ use Rattle.pfair_admission.specs.Roster.{EachBounded}
 use Rattle.pfair_admission.proofs.Each.{each_map}
 use Rattle.pfair_admission.proofs.Kept.{values_pushed}
 use Rattle.pfair_admission.proofs.Registers.{number_at, one_place, register_more, same_name, Names}
+use Rattle.pfair_order.proofs.RankLemmas.{at_each}
 use Rattle.pfair_admission.proofs.Written.{filter_all, others_named}
 
 -- the first members are carried, each under the number of its place
@@ -54,11 +55,6 @@ unnamed : (admitted : ℕ) (es : Numbered) (names : Names) (place : ℕ) (m : Me
     → member_named (filter (λ _. true) (map carried (take place (values_of es)))) m.name ≡ None
 unnamed admitted es names place m r here = grind (arith, others_named, map, carried_from, same_place)
 
-within : (ms : List Member) (place : ℕ) (m : Member) → slice_get ms place ≡ Some m → place < length ms
-within [] place m at = absurd (none-some m at)
-within (x ∷ ms) zero m at = omega arith
-within (x ∷ ms) (suc place) m at = (let rest = within ms place m at in omega (arith, rest))
-
 -- ---- one more is carried
 
 pub carried_more : (admitted : ℕ) (es : Numbered) (ns : Names) (place : ℕ) (m : Member) (now after : Numbered) (names names' : Names)
@@ -67,7 +63,7 @@ pub carried_more : (admitted : ℕ) (es : Numbered) (ns : Names) (place : ℕ) (
     → ((q : NameValue) → lookup (name_eq q) names' ≡ cond (name_eq m.name q) (Some place) (lookup (name_eq q) names)) → AreCarried (values_of es) (place + 1) after names'
 carried_more admitted es ns place m now after names names' r here so_far made unique entered updates =
     let ms : List Member = values_of es in
-    let inside : place < length ms = within ms place m here in
+    let inside : place < length ms = slice_get_within ms place m here in
     let is = same_Some (get_or ms place m) m (sym (slice_get-get_or ms place m inside) ∙ here) in
     let none = ap (λ (l : List Member). member_named (filter (λ _. true) l) m.name) so_far.listed ∙ unnamed admitted es ns place m r here in
     record {
@@ -80,13 +76,11 @@ carried_more admitted es ns place m now after names names' r here so_far made un
 -- ---- who can be carried
 
 pub able_at : (ms : List Member) (place : ℕ) (m : Member) → slice_get ms place ≡ Some m → AllByRecursion CanBeCarried ms → CanBeCarried m
-able_at [] place m at able = absurd (none-some m at)
-able_at (x ∷ ms) zero m at able = subst CanBeCarried (same_Some x m at) able.0
-able_at (x ∷ ms) (suc place) m at able = able_at ms place m at able.1
+able_at ms place m at able = at_each CanBeCarried ms place m able at
 
 pub able_more : (ms : List Member) (place : ℕ) (m : Member) → slice_get ms place ≡ Some m → CanBeCarried m → AllByRecursion CanBeCarried (take place ms) → AllByRecursion CanBeCarried (take (place + 1) ms)
 able_more ms place m at able before =
-    let inside = within ms place m at in
+    let inside = slice_get_within ms place m at in
     let is = same_Some (get_or ms place m) m (sym (slice_get-get_or ms place m inside) ∙ at) in
     subst (AllByRecursion CanBeCarried) (sym (take_more ms place m inside ∙ ap (λ (x : Member). take place ms ++ x ∷ []) is)) (all_by_recursion_push CanBeCarried (take place ms) m before able)
 

@@ -1,5 +1,5 @@
 //! The members of a machine from slot to slot.
-ghost use Rattle.std.specs.Prelude.{◌≡◌, ◌↔◌, IsTrue, ◌≤◌, ◌<◌, ◌+◌, [], OnOk, OnErr, IfOk, IfErr, None, Some, is_some, length, map, slice_get, if◌then◌else◌};
+ghost use Rattle.std.specs.Prelude.{◌≡◌, ◌≤◌, ◌<◌, ◌+◌, [], OnOk, OnErr, IfOk, IfErr, None, Some, is_some, length, map, slice_get, if◌then◌else◌};
 ghost use Rattle.std.specs.List.{AllByRecursion};
 ghost use Rattle.std.specs.Option.{ForSome, option_copied, option_map};
 ghost use Rattle.pfair_entry.specs.Entry.{IsWithinLimits};
@@ -194,13 +194,6 @@ impl Members {
         ensures { result ≡ length self.now.members }
     {
         self.ledger.members.len()
-    }
-
-    /// Returns whether there is no member.
-    pub fn is_empty(&self) -> bool
-        ensures { IsTrue result ↔ (self.now.members ≡ []) }
-    {
-        self.len() == 0
     }
 
     /// Returns the member at an index in the order of admission, from 0, and its name. O(1).

@@ -1,6 +1,6 @@
 -- Rows found by their buckets.
 use Rattle.std.proofs.lemmas.Grind.{common_steps}
-use Rattle.std.proofs.Common.{ℕ, zero, suc, ◌+◌, ◌≤◌, ◌<◌, ◌≡◌, false, refl, sym, ap, ◌∙◌, arith, ⊎_elim, List, [], ◌∷◌, length, Some, None}
+use Rattle.std.proofs.Common.{ℕ, zero, suc, ◌+◌, ◌≤◌, ◌<◌, ◌≡◌, false, refl, sym, ap, ◌∙◌, arith, List, [], ◌∷◌, length, Some, None}
 use Rattle.std.specs.Prelude.{◌≢◌, slice_get, slice_index, set, replicate, if◌then◌else◌}
 use Rattle.pfair_order.proofs.RankLemmas.{at_each}
 use Rattle.std.proofs.lemmas.Bool.{cases_eq, false_from_ne_true}

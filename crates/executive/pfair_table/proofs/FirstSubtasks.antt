@@ -9,9 +9,8 @@ use Rattle.std.specs.FinMap.{get-entries, entries_sorted, entries}
 use Rattle.std.specs.FinMap.Entries as listed
 use Rattle.std.proofs.lemmas.List.Sorted.{Contains-permutation}
 use Rattle.std.proofs.lemmas.Bool.{le-leb, true≢false, and_parts, and_from, not-true}
-use Rattle.pfair_ready.specs.Names.{NameValue as Name}
+use Rattle.pfair_ready.specs.Names.{NameValue as Name, name_cmp}
 use Rattle.pfair_order.specs.declared.Key.{Key}
-use Rattle.pfair_ready.specs.Names.{name_cmp}
 use Rattle.pfair_ready.proofs.Names.{tied_names}
 use Rattle.pfair_entry.specs.Same.{name_eq}
 use Rattle.pfair_entry.specs.Exact.{name_itself}

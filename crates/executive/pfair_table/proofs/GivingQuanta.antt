@@ -18,10 +18,9 @@ use Rattle.pfair_weight.specs.declared.window.TheConstants.{MAX_INDEX}
 use Rattle.pfair_weight.proofs.NamesApart.{apart_head, apart_tail}
 use Rattle.pfair_ready.specs.Queue.{Queue}
 use Rattle.pfair_admission.specs.Member.{Member}
-use Rattle.pfair_admission.specs.Admission.{member_named, ran, with_quantum, quantum_of}
+use Rattle.pfair_admission.specs.Admission.{member_named, ran, with_quantum, quantum_of, running}
 use Rattle.pfair_admission.specs.declared.quantum.Quantum.{Quantum}
 use Rattle.pfair_admission.specs.Roster.{Roster}
-use Rattle.pfair_admission.specs.Admission.{running}
 use Rattle.pfair_table.specs.declared.pick.Pick.{Pick}
 use Rattle.pfair_table.specs.Table.{Table, names_task, pick, index_of, all_ran}
 use Rattle.pfair_table.specs.Queue.{queued, IsQueueWithout, IsToldOf, MayRun, has_key_of}

@@ -1,6 +1,6 @@
 -- What events leave is the least that is above all that they bring.
 use Rattle.std.proofs.Common.{ℕ, ◌≡◌, refl, sym, ◌∙◌, subst, arith, Bool, true, false, cond, List, [], ◌∷◌, Some}
-use Rattle.std.specs.Prelude.{◌&&◌, ◌==◌, nat_lt, nat_le, if◌then◌else◌}
+use Rattle.std.specs.Prelude.{◌&&◌, ◌==◌, nat_lt, nat_le}
 use Rattle.std.specs.List.{AllByRecursion}
 use Rattle.std.proofs.lemmas.Bool.{eqb-true, eq-eqb, ltb-true, leb-true, lt-ltb, le-leb, and_from, and_parts}
 use Rattle.pfair_lattice.specs.declared.flat.Flat.TheVariants.{One}

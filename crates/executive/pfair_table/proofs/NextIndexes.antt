@@ -15,9 +15,8 @@ use Rattle.pfair_entry.specs.declared.announcement.Announcement.{Announcement}
 use Rattle.pfair_entry.specs.Exact.{name_exact}
 use Rattle.pfair_replica.specs.Replica.{said}
 use Rattle.pfair_entry.specs.Said.{Said}
-use Rattle.pfair_admission.specs.Admission.{Machine, is_named, newcomer, is_freed, boundary, with_freeing, with_delay, ran, with_quantum}
+use Rattle.pfair_admission.specs.Admission.{Machine, is_named, newcomer, is_freed, boundary, with_freeing, with_delay, ran, with_quantum, announcements}
 use Rattle.pfair_admission.specs.Member.{Member}
-use Rattle.pfair_admission.specs.Admission.{announcements}
 use Rattle.pfair_table.specs.Table.{Settings, Origin, Table, History, machine, names_task, quanta, next_index, counted, counted_one, members_at, all_ran, Story, history_over}
 use Rattle.pfair_table.specs.declared.pick.Pick.{Pick}
 use Rattle.pfair_weight.specs.Name.{NamesApart}

@@ -12,9 +12,8 @@ use Rattle.std.proofs.lemmas.List.Recursion.{found_push_other}
 use Rattle.pfair_weight.specs.Name.{NamesApart}
 use Rattle.pfair_weight.proofs.NamesApart.{apart_head, apart_tail}
 use Rattle.std.specs.List.{AllByRecursion}
-use Rattle.pfair_ready.specs.Names.{NameValue as Name}
+use Rattle.pfair_ready.specs.Names.{NameValue as Name, name_cmp}
 use Rattle.pfair_order.specs.declared.Key.{Key}
-use Rattle.pfair_ready.specs.Names.{name_cmp}
 use Rattle.pfair_entry.specs.Same.{name_eq}
 use Rattle.pfair_entry.specs.Names.{name_of}
 use Rattle.pfair_entry.specs.Said.{Said}

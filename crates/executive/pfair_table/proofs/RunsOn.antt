@@ -23,7 +23,7 @@ use Rattle.pfair_entry.specs.declared.announcement.Announcement.{Announcement}
 use Rattle.pfair_replica.specs.Among.{Among, all_among, among_all, among_map, among_filter, map_same}
 use Rattle.pfair_admission.specs.Member.{Member, theta, is_departing, eligible_from, next_key}
 use Rattle.pfair_admission.specs.declared.decision.Decision.{Decision}
-use Rattle.pfair_admission.specs.Admission.{Machine, announcements, all_decided, boundary_decisions, decided, decision, member_named, newcomer, present, ran, with_quantum}
+use Rattle.pfair_admission.specs.Admission.{Machine, announcements, all_decided, boundary_decisions, member_named, newcomer, present, ran, with_quantum}
 use Rattle.pfair_admission.specs.Laws.{HasWeight}
 use Rattle.pfair_admission.specs.Carried.{all_raised, carried, carried_delays, jobs_done, subtasks_done, subtasks_of, taken_off}
 use Rattle.pfair_admission.proofs.CarriedAgain.{done_low, next_ran, none_done}

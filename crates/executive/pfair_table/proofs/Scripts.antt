@@ -1,14 +1,14 @@
 -- Logs as a run has them.
 use Rattle.std.proofs.lemmas.Grind.{common_steps}
 use Rattle.std.proofs.Common.{ℕ, zero, suc, ◌+◌, ◌<◌, ◌≤◌, ◌≡◌, true, refl, sym, ap, ◌∙◌, arith, List, [], ◌∷◌, ◌++◌, take, Option, Some, None, Vec, Global, length, slice_get, slice_index_or}
-use Rattle.std.specs.Prelude.{◌≢◌, ◌==◌, ◌&&◌, if◌then◌else◌}
+use Rattle.std.specs.Prelude.{◌≢◌, ◌==◌, if◌then◌else◌, Result, IsErrAnd, IfErr}
 use Rattle.std.proofs.lemmas.Option.{none-some, same_Some, slice_get_within, get_or_from_slice_get}
 use Rattle.std.proofs.lemmas.Bool.{leb-true, lt-ltb, le-leb, ne_eqb, and_from, and_parts}
 use Rattle.pfair_lattice.specs.declared.flat.Flat.TheVariants.{One, Torn}
 use Rattle.pfair_lattice.specs.Held.{held_join}
 use Rattle.pfair_entry.specs.Same.{entry_eq}
 use Rattle.pfair_replica.specs.HeldAfter.{join_none}
-use Rattle.pfair_replica.specs.Replica.{Untorn, only}
+use Rattle.pfair_replica.specs.Replica.{Untorn, only, frontier}
 use Rattle.pfair_replica.specs.Offered.{taken}
 use Rattle.std.specs.List.{list_all}
 use Rattle.std.proofs.lemmas.List.{length-map, take_more, length-take-le}
@@ -17,8 +17,6 @@ use Rattle.std.proofs.Math.Dec.{eqb-suc-zero, eqb-zero-suc, eqb-suc-suc}
 use Rattle.std.proofs.lemmas.List.Folds.{list_all-map}
 use Rattle.pfair_entry.specs.Entry.{Logged}
 use Rattle.pfair_table.specs.Table.{Settings}
-use Rattle.std.specs.Prelude.{Result, IsErrAnd, IfErr}
-use Rattle.pfair_replica.specs.Replica.{frontier}
 use Rattle.pfair_table.specs.declared.run_fault.RunFault.{RunFault}
 use Rattle.pfair_table.specs.declared.run_fault.RunFault.TheVariants.{Stalled}
 use Rattle.pfair_table.specs.ScriptRun.{IsScriptFaultOf}

@@ -1,6 +1,6 @@
 -- A dispatcher's parts from one slot to the next, and from one replica to one that is above it.
 use Rattle.std.proofs.Common.{ℕ, zero, suc, ◌+◌, ◌*◌, ◌≤◌, ◌<◌, ◌≡◌, refl, sym, ◌∙◌, subst, arith, cond, Bool, false, List, [], ◌∷◌, ◌++◌, length, map, Option, Some, None}
-use Rattle.std.specs.Prelude.{flat_map, nat_lt, ◌==◌, if◌then◌else◌, Result, IfOk, OnOk}
+use Rattle.std.specs.Prelude.{flat_map, nat_lt, Result, IfOk, OnOk}
 use Rattle.std.specs.declared.alloc.AllocError.{AllocError}
 use Rattle.pfair_table.specs.declared.slot.SlotPlan.{SlotPlan}
 use Rattle.std.proofs.lemmas.List.{length-append, map-append}

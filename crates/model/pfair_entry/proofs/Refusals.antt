@@ -8,7 +8,6 @@ use Rattle.pfair_weight.specs.WeightFault.{IsFaultOf as IsWeightFaultOf}
 use Rattle.pfair_weight.specs.declared.name.NameFault.{NameFault}
 use Rattle.pfair_weight.specs.declared.name.NameFault.TheVariants as name
 use Rattle.pfair_weight.specs.declared.weight.WeightFault.{WeightFault}
-use Rattle.pfair_weight.specs.declared.weight.WeightFault.TheVariants as weight
 use Rattle.pfair_entry.specs.Entry.{Logged, IsEntry}
 use Rattle.pfair_entry.specs.EntryFault.{entry_fault}
 use Rattle.pfair_entry.specs.Notice.{announced_fault, first_failing, name_fault, refusal, weight_fault, IsLoggable, IsNamed, IsWeighed, IsWellSaid}

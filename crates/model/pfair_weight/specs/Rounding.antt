@@ -3,10 +3,9 @@ use Rattle.std.specs.Prelude.{ℕ, ◌≡◌, ◌+◌, ◌-◌, ◌*◌, ◌/◌
 use Rattle.std.specs.Int.{div_ceil}
 use Rattle.std.proofs.Common.{arith, inl, inr, ap, ◌∙◌}
 use Rattle.std.proofs.lemmas.Bool.{cases_lt}
-use Rattle.std.proofs.Math.Nat.{le_refl}
+use Rattle.std.proofs.Math.Nat.{le_refl, le-div_iff_mul-le, add-mul-div_right, add-mul-mod_self_right}
 use Rattle.std.proofs.lemmas.Grind.{div_ceil_times}
 use Rattle.std.proofs.lemmas.Nat.{mul-le}
-use Rattle.std.proofs.Math.Nat.{le-div_iff_mul-le, add-mul-div_right, add-mul-mod_self_right}
 
 -- from a product that is smaller, at one positive factor, the other factor is smaller
 pub lt_of_mul : (a b d : ℕ) → a * d < b * d → a < b

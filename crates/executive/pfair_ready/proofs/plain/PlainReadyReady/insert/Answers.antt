@@ -1,5 +1,4 @@
 use Rattle.std.proofs.Common.{◌≡◌, not, None, sym, ap, ◌∙◌, arith}
-use Rattle.std.specs.FinMap as finmap
 use Rattle.std.proofs.lemmas.Bool.{true≢false}
 use Rattle.pfair_weight.proofs.NamesApart.{apart_push}
 use Rattle.pfair_ready.specs.PlainList.{first_named}
