@@ -5,14 +5,19 @@
  */
 #include "full_set.h"
 
-/* A run without announcements is planned, slot by slot, and forgotten. */
-static void planned_on(struct pfair_dispatcher *d, uint64_t slots) {
-    uint64_t taken;
-    for (int p = 0; p < PROCESSORS; p++) ANSWERS(0, take(d, p, 1, nothing(slots), &taken));
+/* Plans a run, and forgets each slot. */
+static void planned(struct pfair_dispatcher *d, uint64_t slots) {
     for (uint64_t slot = 0; slot < slots; slot++) {
         plan_one(d, slot);
         ANSWERS(0, pfair_forget(d, slot + 1));
     }
+}
+
+/* The same of a next run, in which nothing is announced. */
+static void planned_on(struct pfair_dispatcher *d, uint64_t slots) {
+    uint64_t taken;
+    for (int p = 0; p < PROCESSORS; p++) ANSWERS(0, take(d, p, 1, nothing(slots), &taken));
+    planned(d, slots);
 }
 
 /* The members after the planned slots. */
@@ -82,10 +87,7 @@ static void many_runs(long runs, uint64_t slots) {
     struct pfair_dispatcher d = PFAIR_NONE;
     long in_use = 0;
     filled(&d, slots, 64);
-    for (uint64_t slot = 0; slot < slots; slot++) {
-        plan_one(&d, slot);
-        ANSWERS(0, pfair_forget(&d, slot + 1));
-    }
+    planned(&d, slots);
     for (long run = 1; run < runs; run++) {
         ANSWERS(0, pfair_next_run(&d, slots));
         planned_on(&d, slots);
