@@ -30,7 +30,7 @@ impl<R: Ready> Dispatcher<R> {
     /// The next run begins with the members of this one, in their order, and a task that runs on
     /// keeps its processor. Of each member the jobs before that of its last quantum are taken off: its
     /// indexes begin anew, at most one job high, and its windows stay where they are. Stamps, floors
-    /// and slots of the next run count from its own slot 0, entries from 1. Announcements at or after
+    /// and slots of the next run count from its own slot 0, entries from 1. Announcements stamped after
     /// the last slot of this run are not taken over.
     ///
     /// O(n log n + d log d) for n members with d accepted delays that are still to come.
