@@ -7,8 +7,6 @@ use Rattle.pfair_entry.specs.declared.entry.TheConstants.Entry.{LAST_INDEX}
 use Rattle.pfair_entry.specs.Said.{Said}
 use Rattle.pfair_admission.specs.declared.members.TheConstants.Members.{LAST_SLOT}
 use Rattle.pfair_admission.specs.declared.delay.Delay.{Delay}
-use Rattle.pfair_admission.specs.declared.carry_fault.CarryFault.{CarryFault}
-use Rattle.pfair_admission.specs.declared.carry_fault.CarryFault.TheVariants.{CannotCarry, Memory}
 use Rattle.pfair_admission.specs.Member.{Member, last_offset}
 use Rattle.pfair_admission.specs.Admission.{Machine, member_named, decided}
 
@@ -63,10 +61,6 @@ pub record IsFirstLeft (members : List Member) (name : List ℕ) : Type 0 where
   pub named : member.name ≡ name
   pub left : CanBeCarried member → ⊥
   pub before : AllByRecursion CanBeCarried (take place members)
-
-abbrev pub IsCarryFault : List Member → CarryFault → Type 0
-IsCarryFault members (CannotCarry name) = IsFirstLeft members name
-IsCarryFault members Memory = AllByRecursion CanBeCarried members
 
 -- ---- a next run beside one long run
 

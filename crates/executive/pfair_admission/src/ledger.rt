@@ -7,7 +7,7 @@ ghost use Rattle.pfair_entry.specs.Entry.{IsWithinLimits};
 ghost use Rattle.pfair_entry.specs.declared.announcement.Announcement.TheVariants.{Arrive, Depart, Late};
 ghost use Rattle.pfair_admission.specs.Member.{Member};
 ghost use Rattle.pfair_admission.specs.Admission.{member_named, arrival, announcements, claimed, present};
-ghost use Rattle.pfair_admission.specs.Carried.{carried, CanBeCarried, IsFirstLeft};
+ghost use Rattle.pfair_admission.specs.Carried.{carried, CanBeCarried};
 ghost use Rattle.pfair_admission.specs.Removal.{earlier_of, NoneFreed, NoneFreedBefore};
 ghost use Rattle.pfair_admission.specs.Roster.{EachBounded, EachHasRoom};
 ghost use Rattle.pfair_admission.specs.Ledger.{after, after_all, all_told, has_number, is_there, listed, standing, told, HasRegister, IsFound, IsLedger, IsPlace, IsUnswept};
@@ -225,20 +225,6 @@ impl Ledger {
             return None;
         }
         Some(place)
-    }
-
-    /// Returns the name of the first member that can't be a member of a next run.
-    pub(crate) fn first_left(&self) -> Option<TaskName>
-        ensures some { IfSome result (λ name. IsFirstLeft (listed self.now) name) }
-        ensures none { IfNone result (AllByRecursion CanBeCarried (listed self.now)) }
-    {
-        for place in 0..self.members.len() {
-            let member = &self.members[place];
-            if !member.can_be_carried() {
-                return Some(*member.name());
-            }
-        }
-        None
     }
 
     /// Creates the ledger of a next run, whose members are these, carried.

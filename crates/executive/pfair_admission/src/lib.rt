@@ -9,7 +9,6 @@
 //! lowered by whole jobs, and slots stay as they are.
 #![tactic(auto)]
 
-mod carry_fault;
 mod decision;
 mod delay;
 mod incarnation;
@@ -19,7 +18,6 @@ mod members;
 mod quantum;
 mod refusal;
 
-pub use carry_fault::CarryFault;
 pub use decision::Decision;
 pub use delay::Delay;
 pub use incarnation::Incarnation;

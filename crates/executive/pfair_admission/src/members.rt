@@ -1,13 +1,12 @@
 //! The members of a machine from slot to slot.
-ghost use Rattle.std.specs.Prelude.{◌≡◌, ◌≤◌, ◌<◌, ◌+◌, [], OnOk, OnErr, IfOk, IfErr, None, Some, is_some, length, map, slice_get, if◌then◌else◌};
+ghost use Rattle.std.specs.Prelude.{◌≡◌, ◌≤◌, ◌<◌, ◌+◌, [], OnOk, OnErr, IfOk, IfSome, IfNone, None, Some, is_some, length, map, slice_get, if◌then◌else◌};
 ghost use Rattle.std.specs.List.{AllByRecursion};
 ghost use Rattle.std.specs.Option.{ForSome, option_copied, option_map};
 ghost use Rattle.pfair_entry.specs.Entry.{IsWithinLimits};
 ghost use Rattle.pfair_admission.specs.Admission.{member_named, boundary, boundary_decisions, announcements, decision, running, ran, quantum_of};
-ghost use Rattle.pfair_admission.specs.Carried.{carried, CanBeCarried, IsCarryFault};
+ghost use Rattle.pfair_admission.specs.Carried.{carried, CanBeCarried, IsFirstLeft};
 ghost use Rattle.pfair_admission.specs.Roster.{LeavesBeginning};
 
-use crate::carry_fault::CarryFault;
 use crate::decision::Decision;
 use crate::incarnation::Incarnation;
 use crate::ledger::Ledger;
@@ -78,24 +77,36 @@ impl Members {
         }
     }
 
+    /// Returns the name of the first member, in the order of admission, that can't be a member of a
+    /// next run: for which [`Incarnation::can_be_carried`] returns `false`. O(n + d) for n members
+    /// with d accepted delays.
+    pub fn first_left_behind(&self) -> Option<TaskName>
+        ensures some { IfSome result (λ name. IsFirstLeft self.now.members name) }
+        ensures none { IfNone result (AllByRecursion CanBeCarried self.now.members) }
+    {
+        for place in 0..self.ledger.members.len() {
+            let member = &self.ledger.members[place];
+            if !member.can_be_carried() {
+                return Some(*member.name());
+            }
+        }
+        None
+    }
+
     /// Creates the members of a next run: these, with their indexes lowered by whole jobs.
     ///
     /// Of each member the jobs before that of its last quantum are counted no more, and it counts
     /// as joined as many periods later. Its accepted delays up to its last quantum become one, of
     /// subtask 1. Slots stay as they are. O(n + d log d) for n members with d accepted delays.
     ///
+    /// All of these members can be carried, as [`Members::first_left_behind`] tells.
+    ///
     /// # Errors
-    /// Returns [`CarryFault::CannotCarry`] with the name of the first member, in the order of
-    /// admission, for which [`Incarnation::can_be_carried`] returns `false`, and
-    /// [`CarryFault::Memory`] if an allocation fails.
-    pub fn carried(&self) -> Result<Members, CarryFault>
-        ensures ok { IfOk result (λ next. next ≡ record { machine = self.now.machine; members = map carried self.now.members; heard = 0; last_slot = None }) }
-        ensures able { OnOk result (AllByRecursion CanBeCarried self.now.members) }
-        ensures fault { IfErr result (IsCarryFault self.now.members) }
+    /// Returns [`AllocError`] if an allocation fails.
+    pub fn carried(&self) -> Result<Members, AllocError>
+        requires able { AllByRecursion CanBeCarried self.now.members }
+        ensures { IfOk result (λ next. next ≡ record { machine = self.now.machine; members = map carried self.now.members; heard = 0; last_slot = None }) }
     {
-        if let Some(name) = self.ledger.first_left() {
-            return Err(CarryFault::CannotCarry { name });
-        }
         Ok(Members {
             ledger: self.ledger.carried()?,
             heard: 0,

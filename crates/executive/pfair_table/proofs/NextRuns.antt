@@ -11,10 +11,9 @@ use Rattle.pfair_replica.proofs.Marks.{same_said}
 use Rattle.pfair_ready.specs.Queue.{Queue}
 use Rattle.std.specs.Prelude.{Result, IfErr}
 use Rattle.std.specs.Result.{IsErrAnd}
-use Rattle.pfair_admission.specs.declared.carry_fault.CarryFault.{CarryFault}
-use Rattle.pfair_admission.specs.Carried.{carried, CanBeCarried, IsCarryFault}
+use Rattle.pfair_admission.specs.Carried.{carried, CanBeCarried}
 use Rattle.pfair_table.specs.declared.answer.NextRunFault.{NextRunFault}
-use Rattle.pfair_table.specs.Faults.{next_run_fault_of}
+use Rattle.pfair_table.specs.declared.answer.NextRunFault.TheVariants.{Memory}
 use Rattle.pfair_admission.specs.Roster.{Roster}
 use Rattle.pfair_admission.specs.declared.members.TheConstants.Members.{LAST_SLOT}
 use Rattle.pfair_admission.proofs.CarriedAgain.{able_again, carried_again}
@@ -67,15 +66,19 @@ module _ {o : Origin} {s : Settings} {held : Replica} {tables : List Table} {dec
         below = subst (AllByRecursion (λ k. k < s.processors)) (sym places_are) (last_below s.processors o tables (below_before o s kept.began) fit);
       }
 
--- ---- refusals
+-- ---- a finished dispatcher, as it is seen
 
--- a refusal that another one is made of
-pub refused_as : {A : Type 0} (r : Result A NextRunFault) (fault : NextRunFault) (P : NextRunFault → Type 0) → IsErrAnd r (λ e. e ≡ fault) → P fault → IfErr r P
-refused_as r fault P is p = grind arith
+module _ {o : Origin} {s : Settings} {x : HeldRows} {tables : List Table} {decided : List (List Decided)} {forgotten : ℕ} {spent : Bool} {roster : Roster} {now : ℕ} {waiting : Queue} (kept : IsKept o s (replica_of x) tables decided spent roster now waiting) (sound : IsReplica (replica_of x)) (d : Dispatch) (seen : record { settings = s; origin = o; held = x; tables = tables; decided = decided; forgotten = forgotten; spent = spent } ≡ d) (finished : IsFinished d) where
+  -- its members are those left
+  pub left_seen : roster.members ≡ members_left d
+  left_seen = let inside = subst IsFinished (sym seen) finished in left_members kept sound inside.whole inside.able inside.all ∙ ap members_left seen
 
--- why members aren't carried is why no next run begins
-pub not_carried : (d : Dispatch) (slots : ℕ) (fault : CarryFault) → IsFinished d → end_of d + slots ≤ LAST_SLOT → IsCarryFault (members_left d) fault → IsNextRunFault d slots (next_run_fault_of fault)
-not_carried d slots fault finished within is = grind arith
+  pub able_seen : AllByRecursion CanBeCarried roster.members → AllByRecursion CanBeCarried (members_left d)
+  able_seen able = subst (AllByRecursion CanBeCarried) left_seen able
+
+  -- and if they can be carried, only memory can be missing
+  pub memory_seen : AllByRecursion CanBeCarried roster.members → {A : Type 0} (slots : ℕ) (r : Result A NextRunFault) → IsErrAnd r (λ e. e ≡ Memory) → end_of d + slots ≤ LAST_SLOT → IfErr r (IsNextRunFault d slots)
+  memory_seen able slots r is within = (let all = able_seen able in grind (arith, finished, within, all))
 
 -- Of finished runs that began alike and hold what agrees, a next run takes over the same.
 pub left_alike : {o q : Origin} {s r : Settings} {x y : HeldRows} {tx ty : List Table} {dx dy : List (List Decided)} {bx by : Bool} {fx fy : ℕ} {mx my : Roster} {nx ny : ℕ} {hx hy : Queue}

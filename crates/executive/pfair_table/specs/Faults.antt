@@ -4,8 +4,6 @@ use Rattle.pfair_table.specs.declared.answer.PlanFault.{PlanFault}
 use Rattle.pfair_table.specs.declared.answer.PlanFault.TheVariants.{Torn, Spent, Memory}
 use Rattle.pfair_table.specs.declared.answer.NextRunFault.{NextRunFault}
 use Rattle.pfair_table.specs.declared.answer.NextRunFault.TheVariants as next
-use Rattle.pfair_admission.specs.declared.carry_fault.CarryFault.{CarryFault}
-use Rattle.pfair_admission.specs.declared.carry_fault.CarryFault.TheVariants as carry
 use Rattle.pfair_table.specs.declared.run_fault.RunFault.{RunFault}
 use Rattle.pfair_table.specs.declared.run_fault.RunFault.TheVariants as run
 
@@ -27,7 +25,3 @@ next_run_fault_number next.Unfinished = 32
 next_run_fault_number next.PastLastSlot = 33
 next_run_fault_number (next.CannotCarry name) = 34
 next_run_fault_number next.Memory = 90
-
-abbrev pub next_run_fault_of : CarryFault → NextRunFault
-next_run_fault_of (carry.CannotCarry name) = next.CannotCarry name
-next_run_fault_of carry.Memory = next.Memory

@@ -2,7 +2,6 @@
 ghost use Rattle.std.specs.Prelude.{◌≡◌};
 ghost use Rattle.pfair_table.specs.Faults.{plan_fault_number, next_run_fault_number};
 
-use pfair_admission::CarryFault;
 use pfair_weight::TaskName;
 use std::alloc::AllocError;
 use thiserror::Error;
@@ -112,19 +111,5 @@ impl From<AllocError> for NextRunFault {
 
     fn from(_error: AllocError) -> NextRunFault {
         NextRunFault::Memory
-    }
-}
-
-impl From<CarryFault> for NextRunFault {
-    ghost use Rattle.std.specs.Prelude.{◌≡◌};
-    ghost use Rattle.pfair_table.specs.Faults.{next_run_fault_of};
-
-    ghost from_gives = { λ c e. e ≡ next_run_fault_of c };
-
-    fn from(fault: CarryFault) -> NextRunFault {
-        match fault {
-            CarryFault::CannotCarry { name } => NextRunFault::CannotCarry { name },
-            CarryFault::Memory => NextRunFault::Memory,
-        }
     }
 }

@@ -57,7 +57,11 @@ impl<R: Ready> Dispatcher<R> {
         let slot = self.end(slots)?;
         // a replica holds entries of its own logs
         prove!(self.replica.processors() >= 1);
-        let members = self.planner.members.carried()?;
+        let left = &self.planner.members;
+        if let Some(name) = left.first_left_behind() {
+            return Err(NextRunFault::CannotCarry { name });
+        }
+        let members = left.carried()?;
         Ok(self.begin_with(self.settings.with_slots(slots), slot, members)?)
     }
 

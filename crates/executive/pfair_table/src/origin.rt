@@ -6,7 +6,7 @@ ghost use Rattle.pfair_table.specs.Places.{table_before, places_before};
 
 use crate::pick::Pick;
 use crate::settings::Settings;
-use pfair_admission::{CarryFault, Members};
+use pfair_admission::Members;
 use std::alloc::{AllocError, Global};
 use std::marker::Model;
 
@@ -44,12 +44,8 @@ pub(crate) fn first_members(
     let Some(carried) = origin else {
         return Ok(Members::new(alloc, settings.processors(), settings.frame()));
     };
-    match carried.members.carried() {
-        Ok(members) => Ok(members),
-        Err(CarryFault::Memory) => Err(AllocError),
-        // members that were carried can be carried again, and stay as they are
-        Err(CarryFault::CannotCarry { .. }) => unreachable!(),
-    }
+    // members that were carried can be carried again, and stay as they are
+    carried.members.carried()
 }
 
 /// Returns slot `slot` of the run, counted from the first run's first slot.

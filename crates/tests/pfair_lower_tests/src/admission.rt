@@ -4,7 +4,7 @@ ghost use Rattle.std.specs.List.{AllByRecursion};
 ghost use Rattle.pfair_entry.specs.Entry.{IsWithinLimits};
 
 use crate::weight::assert_text;
-use pfair_admission::{CarryFault, Decision, Members, Refusal};
+use pfair_admission::{Decision, Members, Refusal};
 use pfair_entry::{Announcement, Said};
 use pfair_weight::{TaskName, Weight};
 use std::alloc::{AllocError, Global};
@@ -83,17 +83,5 @@ fn refusals_have_texts(rt: HostRuntime) {
         (Refusal::AlreadyReleased, "25 already released"),
     ] {
         assert_text(&rt, rt.alloc(), refusal.number(), &refusal, text);
-    }
-}
-
-#[test]
-fn carry_faults_have_texts(rt: HostRuntime) {
-    let name = name(&rt, 0);
-    for (fault, text) in [
-        (CarryFault::CannotCarry { name }, "cannot carry"),
-        (CarryFault::Memory, "out of memory"),
-    ] {
-        let shown = format!(in rt.alloc(); "{fault}").expect(&rt, "memory");
-        assert_eq!(&rt; shown.as_str(), text);
     }
 }

@@ -1,6 +1,8 @@
-use Rattle.std.proofs.Common.{subst, sym, arith}
+use Rattle.std.proofs.Common.{subst, sym, ap, arith}
+use Rattle.std.specs.List.{AllByRecursion}
+use Rattle.pfair_admission.specs.Carried.{CanBeCarried}
 use Rattle.pfair_admission.specs.Ledger.{listed}
-use Rattle.pfair_admission.specs.Roster.{EachBounded}
+use Rattle.pfair_admission.specs.Roster.{Roster, EachBounded}
 use Rattle.pfair_admission.proofs.Successors.{bounded_carried}
 use Rattle.pfair_admission.proofs.members.Members.carried.Goals as goal
 
@@ -8,6 +10,6 @@ pub invariant_of-result : goal.invariant_of-result
 invariant_of-result c = record {
   few_heard = omega arith;
   admitted = omega (arith, c.in_ok-carried.ensures.admitted);
-  bounded = subst (EachBounded 0) (sym c.in_ok-carried.ensures.members) (bounded_carried (listed c.self.inside.ledger) c.in_default.ensures.none);
+  bounded = subst (EachBounded 0) (sym c.in_ok-carried.ensures.members) (bounded_carried (listed c.self.inside.ledger) (subst (AllByRecursion CanBeCarried) (ap (λ (r : Roster). r.members) (sym c.self.view_is)) c.requires.able));
   kept = c.in_ok-carried.ensures.kept;
 }

@@ -1,8 +1,0 @@
-use Rattle.std.proofs.Common.{take}
-use Rattle.std.specs.List.{AllByRecursion}
-use Rattle.pfair_admission.specs.Carried.{CanBeCarried}
-use Rattle.pfair_admission.specs.Ledger.{listed}
-use Rattle.pfair_admission.proofs.ledger.Ledger.first_left.Given as goal
-
-abbrev pub invariant-loop-place : goal.invariant-loop-place
-invariant-loop-place l = AllByRecursion CanBeCarried (take l.place (listed l.self))
