@@ -5,8 +5,8 @@ use Rattle.pfair_replica.specs.Replica.{said}
 use Rattle.pfair_table.specs.PlaceLaws.{IsFit}
 use Rattle.pfair_table.specs.Places.{places_after, places_in, table_before, places_before}
 use Rattle.pfair_table.specs.Limits.{IsOrigin}
-use Rattle.pfair_table.specs.Table.{Origin, Table}
-use Rattle.pfair_table.specs.Planned.{PlannedSlots}
+use Rattle.pfair_table.specs.Table.{Settings, Origin, Table}
+use Rattle.pfair_table.specs.Planned.{PlannedSlots, last_or}
 use Rattle.pfair_admission.proofs.Each.{each}
 use Rattle.pfair_table.proofs.PlacesOn.{below_before, fit_before, last_below, last_fit, next_are}
 use Rattle.pfair_table.proofs.TableLaws.{ordered_from}
@@ -20,24 +20,25 @@ all_wider : (m : ℕ) (now before : PlannedSlots) → m ≤ 64 → now ≡ befor
 all_wider m now before le same fit =
     subst (λ (p : PlannedSlots). AllByRecursion (IsFit 64) p.tables) (sym same) (each (IsFit m) (IsFit 64) (λ rows. fit_wider m rows le) before.tables fit)
 
+-- the last table and its places are those of at most 64 processors
+last_small : (s : Settings) (now before : PlannedSlots) → s.processors ≤ 64 → now ≡ before → IsOrigin before.origin s → AllByRecursion (IsFit s.processors) before.tables
+    → IsFit 64 (last_or (table_before now.origin) now.tables) × AllByRecursion (λ k. k < 64) (last_or (places_before now.origin) (places_in now.origin now.tables))
+last_small s now before most same began fit =
+    let o = now.origin in
+    let begins = subst (λ (q : PlannedSlots). IsOrigin q.origin s) (sym same) began in
+    let wide = all_wider s.processors now before most same fit in (
+      last_fit 64 (table_before o) now.tables (fit_wider s.processors (table_before o) most (fit_before o s begins)) wide,
+      last_below 64 o now.tables (each (λ k. k < s.processors) (λ k. k < 64) (λ k less. omega (arith, less, most)) (places_before o) (below_before o s begins)) wide,
+    )
+
 pub places_beside-requires-clause-before : goal.places_beside-requires-clause-before
 places_beside-requires-clause-before g c =
-    let s = c.args.settings in
-    let most = c.in_ok-next.ensures.limits.processors.1 in
-    let p = c.take_room-room.new.self in
-    let began = subst (λ (q : PlannedSlots). IsOrigin q.origin s) (sym c.take_room-room.ensures) c.requires.began in
-    subst (IsFit 64) (sym c.last.ensures.table)
-    (last_fit 64 (table_before p.origin) p.tables (fit_wider s.processors (table_before p.origin) most (fit_before p.origin s began)) (all_wider s.processors _ _ most c.take_room-room.ensures c.requires.fit))
+    subst (IsFit 64) (sym c.last.ensures.table) (last_small c.args.settings c.take_room-room.new.self _ c.in_ok-next.ensures.limits.processors.1 c.take_room-room.ensures c.requires.began c.requires.fit).0
 
 pub places_beside-requires-clause-below : goal.places_beside-requires-clause-below
 places_beside-requires-clause-below g c =
-    let s = c.args.settings in
-    let most = c.in_ok-next.ensures.limits.processors.1 in
-    let p = c.take_room-room.new.self in
-    let began = subst (λ (q : PlannedSlots). IsOrigin q.origin s) (sym c.take_room-room.ensures) c.requires.began in
     subst (AllByRecursion (λ k. k < 64)) (sym c.last.ensures.places)
-    (last_below 64 p.origin p.tables (each (λ k. k < s.processors) (λ k. k < 64) (λ k less. omega (arith, less, most)) (places_before p.origin) (below_before p.origin s began))
-    (all_wider s.processors _ _ most c.take_room-room.ensures c.requires.fit))
+    (last_small c.args.settings c.take_room-room.new.self _ c.in_ok-next.ensures.limits.processors.1 c.take_room-room.ensures c.requires.began c.requires.fit).1
 
 pub places_beside-requires-clause-rows : goal.places_beside-requires-clause-rows
 places_beside-requires-clause-rows g c =
