@@ -9,8 +9,8 @@ use pfair_file::{Field, FileFault, ProgramFault, write_line};
 use pfair_lag::PickFault;
 use pfair_replica::{MergeFault, TakeFault};
 use pfair_reports::write_fault;
-use pfair_table::PlanFault;
-use pfair_weight::{NameFault, WeightFault};
+use pfair_table::{NextRunFault, PlanFault};
+use pfair_weight::{NameFault, TaskName, WeightFault};
 
 const OF_THE_PROGRAM: &str = "pfair: 4 zero cost
 pfair: 5 cost over period
@@ -102,6 +102,12 @@ fn refused_entries_are_lines_of_one_write(rt: HostRuntime) {
 const OF_CALLS: &str = "pfair: 30 entry 2 of processor 1 torn
 pfair: 31 spent
 pfair: 90 out of memory
+pfair: 30 entry 2 of processor 1 torn
+pfair: 31 spent
+pfair: 32 run not finished
+pfair: 33 run past the last slot
+pfair: 34 cannot carry a member
+pfair: 90 out of memory
 pfair: 11 floor fell
 pfair: 12 log full
 pfair: 9 bad delay
@@ -119,6 +125,17 @@ fn faults_of_calls_have_their_texts(rt: HostRuntime) {
     let mut text: Vec<u8> = Vec::new(rt.alloc());
     let torn = PlanFault::Torn { proc: 1, number: 2 };
     for fault in [torn, PlanFault::Spent, PlanFault::Memory] {
+        write_line("pfair", fault.number(), &fault, &mut text);
+    }
+    let name = TaskName::from_bytes(b"a").expect(&rt, "a name");
+    for fault in [
+        NextRunFault::Torn { proc: 1, number: 2 },
+        NextRunFault::Spent,
+        NextRunFault::Unfinished,
+        NextRunFault::PastLastSlot,
+        NextRunFault::CannotCarry { name },
+        NextRunFault::Memory,
+    ] {
         write_line("pfair", fault.number(), &fault, &mut text);
     }
     let refused = NoteFault::Refused(EntryFault::BadDelay);
