@@ -134,13 +134,6 @@ impl<R: Ready> SlotPlanner<R> {
         self.planned
     }
 
-    /// Returns whether an allocation failed in a plan, after which every plan is refused.
-    pub fn is_spent(&self) -> bool
-        ensures { result ≡ self.now.spent }
-    {
-        self.spent
-    }
-
     /// Plans the next slot if the replica settles it, and returns its table and its decisions. `None`
     /// if the slot isn't below the frontier or all slots of the run are planned, and only then; the
     /// planned slots are then the whole plan of the replica. The table reuses `room`, whose content is
