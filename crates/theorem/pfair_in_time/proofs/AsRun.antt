@@ -23,7 +23,7 @@ use Rattle.pfair_in_time.proofs.Boundaries.{named_is}
 use Rattle.pfair_table.proofs.Members.{named_world}
 use Rattle.pfair_in_time.proofs.Worlds.{runs, on, on_next, keys_at, keys_apart, same_member, chosen_member, runs_chosen, chosen_runs, next_new, here, came_from, TellWeights}
 use Rattle.pfair_in_time.proofs.Lines.{IsLine, line_of}
-use Rattle.pfair_table.proofs.FirstRuns.{world, table}
+use Rattle.pfair_table.proofs.FirstRuns.{world}
 
 -- ---- among a list, by a test or not
 

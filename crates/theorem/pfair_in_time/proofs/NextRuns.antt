@@ -1,5 +1,5 @@
 -- No admitted task misses in any run.
-use Rattle.std.proofs.Common.{◌≡◌, ℕ, zero, suc, ◌+◌, ◌-◌, ◌<◌, ◌≤◌, Bool, true, false, List, [], ◌∷◌, map, Option, Some, None, arith, ap, refl, sym, ◌∙◌, subst}
+use Rattle.std.proofs.Common.{◌≡◌, ℕ, suc, ◌+◌, ◌-◌, ◌<◌, Bool, true, false, List, [], ◌∷◌, map, Option, Some, None, arith, ap, sym, ◌∙◌, subst}
 use Rattle.std.specs.Prelude.{not, nat_le, nat_lt, is_some, if◌then◌else◌}
 use Rattle.std.specs.List.{AllByRecursion}
 use Rattle.std.proofs.lemmas.Bool.{and_parts, leb-true}
@@ -11,17 +11,17 @@ use Rattle.pfair_entry.specs.declared.announcement.Announcement.{Announcement}
 use Rattle.pfair_entry.specs.declared.announcement.Announcement.TheVariants.{Arrive, Depart, Late}
 use Rattle.pfair_order.specs.declared.Key.{Key}
 use Rattle.pfair_replica.specs.Among.{Among, among_all, among_map, map_among}
-use Rattle.pfair_admission.specs.Member.{Member, theta, is_departing, eligible_from, next_key}
+use Rattle.pfair_admission.specs.Member.{Member, theta, is_departing, eligible_from}
 use Rattle.pfair_admission.specs.Admission.{Machine, announcements, decided, member_named, present}
 use Rattle.pfair_admission.specs.Carried.{all_raised, raised, taken_off}
 use Rattle.pfair_admission.specs.Laws.{HasWeight}
 use Rattle.pfair_admission.proofs.Keeping.{eligible_not_early}
 use Rattle.pfair_weight.proofs.NamesApart.{apart_nil}
 use Rattle.pfair_table.specs.declared.pick.Pick.{Pick}
-use Rattle.pfair_table.specs.RunsOn.{TellsWeights, IsBegun, IsSlotOf, both_stories, left_over, raised_rows, standing}
+use Rattle.pfair_table.specs.RunsOn.{TellsWeights, IsBegun, IsSlotOf, both_stories, left_over, standing}
 use Rattle.pfair_table.specs.Table.{Settings, Origin, Story, machine, slot_of, chosen, index_of, pick, counted_one, history_over, world_over, table_over}
 use Rattle.pfair_table.proofs.FirstSubtasks.{found_own}
-use Rattle.pfair_table.proofs.FirstRuns.{history, world, table}
+use Rattle.pfair_table.proofs.FirstRuns.{world}
 use Rattle.pfair_table.proofs.Members.{label, named_from}
 use Rattle.pfair_table.proofs.NextIndexes.{counted_on}
 use Rattle.pfair_table.proofs.RunsOn.{left_begun, ran_eligible, slot_on, slot_same}

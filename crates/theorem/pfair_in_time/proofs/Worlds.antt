@@ -2,7 +2,7 @@
 use Rattle.std.proofs.Common.{◌≡◌, ℕ, zero, suc, ◌+◌, ◌-◌, ◌≤◌, Bool, true, false, cond, List, [], ◌∷◌, Some, drop, arith, ap, refl, sym, ◌∙◌, subst, inl, inr, ⊎_elim}
 use Rattle.std.specs.Prelude.{◌⊎◌, not, ◌||◌, is_some, filter, nat_le, count_by}
 use Rattle.std.specs.List.{list_any}
-use Rattle.std.proofs.lemmas.Bool.{true≢false, false≢true, cases_Bool, or_cases, and_parts, not-true}
+use Rattle.std.proofs.lemmas.Bool.{true≢false, false≢true, cases_Bool, and_parts, not-true}
 use Rattle.std.proofs.lemmas.List.{drop_all, drop-append-le}
 use Rattle.std.proofs.lemmas.List.Sums.{sum_by_push}
 use Rattle.std.proofs.lemmas.Option.{same_Some}
@@ -18,7 +18,6 @@ use Rattle.pfair_order.proofs.InOrder.{by_rank_first}
 use Rattle.pfair_order.proofs.RankLemmas.{place_of}
 use Rattle.pfair_order.proofs.NamesApart.{once_from_names}
 use Rattle.pfair_replica.specs.Among.{Among, among_all, among_filter, among_map, map_among, among_contains, contains_among}
-use Rattle.pfair_replica.specs.Replica.{said}
 use Rattle.pfair_admission.specs.Member.{Member, is_departing, busy_until, eligible_from, next_key}
 use Rattle.pfair_admission.specs.Admission.{announcements}
 use Rattle.pfair_table.specs.Table.{Settings, Table, machine, names_task, quanta, next_index, counted_one, counted, is_eligible, eligible, pick, chosen, Story}

@@ -2,8 +2,6 @@
 use Rattle.std.specs.Prelude.{ℕ, ◌≡◌, ◌-◌, ◌%◌, ◌<◌, ◌≤◌, ◌⊎◌, true, Some}
 use Rattle.pfair_weight.specs.Share.{IsWeight}
 use Rattle.pfair_weight.specs.Window.{release_of}
-use Rattle.pfair_entry.specs.declared.announcement.Announcement.{Announcement}
-use Rattle.pfair_entry.specs.declared.announcement.Announcement.TheVariants.{Arrive, Depart, Late}
 use Rattle.pfair_admission.specs.Member.{Member, theta, is_departing, busy_until}
 
 -- n is m after what is decided at slot t: offsets never fall, those of subtasks that ran or are released before t stay, and who is
