@@ -13,7 +13,7 @@ use Rattle.pfair_entry.specs.declared.announcement.Announcement.{Announcement}
 use Rattle.pfair_replica.specs.Among.{among_map, among_contains}
 use Rattle.pfair_replica.specs.HeldRows.{held, replica_of}
 use Rattle.pfair_replica.specs.Offered.{has_key, has_shape}
-use Rattle.pfair_replica.specs.Replica.{Contents, Replica, IsReplica, Untorn, Agree, contents_join, only, join, with_entry, said}
+use Rattle.pfair_replica.specs.Replica.{Contents, Replica, Untorn, Agree, contents_join, only, join, with_entry, said}
 use Rattle.pfair_replica.proofs.SaidListed.{is_said}
 use Rattle.pfair_replica.proofs.SoundEntries.{read_by_number}
 use Rattle.pfair_table.specs.declared.event.Event.{Event}
@@ -21,18 +21,13 @@ use Rattle.pfair_table.specs.declared.event.Event.TheVariants.{Take, Absorb, Pla
 use Rattle.pfair_table.specs.Events.{Course, start, is_plannable, with_next_slot, happens, run, run_of}
 use Rattle.pfair_table.specs.Table.{Settings, Origin, Table, table, table_from}
 use Rattle.pfair_table.specs.Laws.{OneSchedule}
-use Rattle.pfair_table.specs.Limits.{IsSettings}
-use Rattle.pfair_table.specs.Refinement.{Dispatch, HavePlannedAlike}
 use Rattle.pfair_in_time.specs.InTime.{SaysWeights}
-use Rattle.pfair_in_time.specs.Dispatched.{AnnouncesWeight, BringsWeights, IsServedSlot, DispatchersNeverMiss, RowHasWeights, NeverMisses}
+use Rattle.pfair_in_time.specs.Dispatched.{AnnouncesWeight, BringsWeights, IsServedSlot, DispatchersNeverMiss, HoldsWeights, NeverMisses}
 use Rattle.pfair_replica.proofs.Merging.{one_side}
 use Rattle.pfair_in_time.proofs.InTime.{none_misses, each_runs_in_time}
 use Rattle.pfair_admission.specs.Laws.{HasWeight}
 
 -- ---- the contents state weights
-
-abbrev HoldsWeights : Contents → Type 0
-HoldsWeights at = (k n : ℕ) (e : Logged) → at k n ≡ Some (One e) → AnnouncesWeight e
 
 holds_join : (x y : Contents) → HoldsWeights x → HoldsWeights y → HoldsWeights (contents_join x y)
 holds_join x y p q k n e is = ⊎_elim (λ l. p k n e l) (λ r. q k n e r) (one_side (x k n) (y k n) e is)
@@ -94,9 +89,9 @@ dispatchers_never_miss one s capacity events frame are bring untorn t planned =
     let weights = says_weights c.held (run_weights s events (start s capacity) bring (λ k n e h. absurd (none-some (One e) h))) in
     served_slot s c.held c.tables t frame weights (one s capacity capacity events events are are (agrees_alone c.held untorn) t planned planned).0
 
--- the same of one in hand, each row of which was looked at
-pub never_misses : (d : Dispatch) → IsSettings d.settings → HavePlannedAlike d d → IsReplica (replica_of d.held) → ((k : ℕ) → k < d.held.processors → RowHasWeights d.held k d.held.capacity) → NeverMisses d
-never_misses d settings alike are rows first untorn t planned =
-    let weights = says_weights (replica_of d.held) (λ k n e h. (let key = are.in_range k n (One e) h in rows k key.0 n e key.1 key.2 h)) in
-    let table_is = (alike refl refl (agrees_alone (replica_of d.held) untorn) t planned planned).0 in
-    served_slot d.settings (replica_of d.held) d.tables t settings.frame.0 weights (table_is ∙ ap (λ (o : Origin). Some (table_from o d.settings (replica_of d.held) t)) first)
+-- the same of one in hand
+pub never_misses : NeverMisses
+never_misses d hand first untorn t planned =
+    let table_is = (hand.alike refl refl (agrees_alone (replica_of d.held) untorn) t planned planned).0 in
+    served_slot d.settings (replica_of d.held) d.tables t hand.settings.frame.0 (says_weights (replica_of d.held) hand.weights)
+    (table_is ∙ ap (λ (o : Origin). Some (table_from o d.settings (replica_of d.held) t)) first)

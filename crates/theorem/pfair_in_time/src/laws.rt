@@ -1,7 +1,7 @@
 //! The laws of members over boundaries, and the theorem that no admitted task misses.
 //!
 //! Each function states one law and does nothing.
-ghost use Rattle.pfair_in_time.specs.Dispatched.{DispatchersNeverMiss};
+ghost use Rattle.pfair_in_time.specs.Dispatched.{DispatchersNeverMiss, NeverMisses};
 ghost use Rattle.pfair_in_time.specs.InTime.{NoneMisses, EachRunsInTime};
 ghost use Rattle.pfair_in_time.specs.Lags.{LagsStayWithinOne};
 ghost use Rattle.pfair_in_time.specs.Laws.{BoundariesKeepMembers};
@@ -49,6 +49,18 @@ pub fn dispatchers_never_miss()
     // a dispatcher is alike to itself
     one_schedule();
 }
+
+/// No admitted task misses its deadline by what a dispatcher in hand has planned, whatever was called
+/// on it, if its run is a first run, which begins without members: while its replica has nothing torn,
+/// each of these slots has the table that follows from the replica, each row of it is in time, and the
+/// deadline of the next subtask of each member that isn't departing is later.
+///
+/// Premises: what the calls of each dispatcher ensure of it, and weights in the arrivals that it holds,
+/// as their types guarantee.
+#[tactic(auto, using(crate::proofs::Planned::never_misses))]
+pub fn never_misses()
+    ensures { NeverMisses }
+{}
 
 /// If a member isn't departing, isn't early and has no delay, each of its subtasks that has run did so
 /// in its window, counted from the member's joining, and each that was due has run. So its lag stays

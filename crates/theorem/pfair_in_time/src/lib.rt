@@ -1,5 +1,4 @@
-//! No admitted task misses its deadline: laws, and one function that exists for its contract. No
-//! program calls any of them.
+//! No admitted task misses its deadline: laws, which no program calls.
 //!
 //! `pfair_optimal` has the theorem of a run as plain data. Here the tables, the members and the
 //! offsets that follow from what a replica holds, up to any slot, are the beginning of such a run.
@@ -16,7 +15,7 @@
 //!   have room, claims are held past busy bounds, and a released subtask without a row sees a full
 //!   table of rows that go before it (`is_run`).
 //! - **In time** (`proofs/InTime.antt`). The theorem in the executive's own words.
-//! - **By dispatchers** (`proofs/Planned.antt`, `src/dispatched.rt`). Arrivals with weights are all that
+//! - **By dispatchers** (`proofs/Planned.antt`). Arrivals with weights are all that
 //!   any events bring, and what was planned has the tables of the contents (`served_slot`).
 //! - **In windows** (`proofs/Passing.antt`, `proofs/Windows.antt`). The slots in which a member without
 //!   delays runs, counted from its joining, are in its windows, and none that was due is missing.
@@ -32,7 +31,4 @@
 //!   keeps the order of keys (`later_same` of `pfair_order`), and so the tables (`repeats_if`).
 #![tactic(auto)]
 
-mod dispatched;
 pub mod laws;
-
-pub use dispatched::never_misses;
