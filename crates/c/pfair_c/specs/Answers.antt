@@ -21,6 +21,7 @@ use Rattle.pfair_table.specs.declared.answer.Step.TheVariants.{Planned, Waiting,
 use Rattle.pfair_table.specs.declared.answer.PlanFault.TheVariants.{Torn, Spent, Memory}
 use Rattle.pfair_table.specs.declared.answer.PlanFault.{PlanFault}
 use Rattle.pfair_table.specs.declared.event.Event.TheVariants.{Plan}
+use Rattle.pfair_table.specs.declared.settings.TheConstants.Settings.{MAX_SLOTS}
 use Rattle.pfair_table.specs.Table.{Settings}
 use Rattle.pfair_table.specs.Limits.{IsSettings}
 use Rattle.pfair_table.specs.Events.{start, happens}
@@ -70,9 +71,9 @@ pub record IsNextRunOf (slots : ℕ) (d e : Dispatch) : Type 0 where
   pub course : course_of e ≡ start_after d
   pub whole : (e.forgotten ≡ 0) × (e.spent ≡ false)
 
--- the answer is why no such run begins
+-- a run can have so many slots, and the answer is why none begins
 abbrev pub IsNoNextRunOf : (slots answer : ℕ) → Dispatch → Type 0
-IsNoNextRunOf slots answer d = (f : NextRunFault) × (answer ≡ next_run_fault_number f) × IsNextRunFault d slots f
+IsNoNextRunOf slots answer d = (1 ≤ slots) × (slots ≤ MAX_SLOTS) × (f : NextRunFault) × (answer ≡ next_run_fault_number f) × IsNextRunFault d slots f
 
 -- ---- the contents
 
