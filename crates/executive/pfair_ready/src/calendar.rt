@@ -1,7 +1,7 @@
 //! When the keys that wait are released.
-ghost use Rattle.std.specs.Prelude.{◌≡◌, ◌≤◌, ◌<◌, ◌%◌, ◌+◌, [], Contains, IfSome, OnOk, length};
+ghost use Rattle.std.specs.Prelude.{◌≡◌, ◌≤◌, ◌<◌, ◌%◌, ◌+◌, [], Contains, IfSome, OnOk, OnSome, length};
 ghost use Rattle.pfair_ready.specs.declared.far_dates.Date.{Date};
-ghost use Rattle.pfair_ready.specs.Calendar.{IsNoted, Moves};
+ghost use Rattle.pfair_ready.specs.Calendar.{IsNoted, Moves, under};
 
 use crate::far_dates::{Date, FarDates};
 use crate::turns::Turns;
@@ -64,7 +64,8 @@ impl Calendar {
 
     // The list of a slot if that is near and the list not full.
     fn bucket_of(&self, slot: u64) -> Option<usize>
-        ensures { IfSome result (λ bucket. (bucket ≡ slot % 64) × (bucket < length self.now.near.items) × (self.now.turned < slot) × (slot ≤ self.now.turned + 64)) }
+        ensures near { IfSome result (λ bucket. (bucket ≡ slot % 64) × (bucket < length self.now.near.items) × (self.now.turned < slot) × (slot ≤ self.now.turned + 64)) }
+        ensures room { OnSome result (length (under self.now.near.items slot) < 256) }
     {
         let bucket = (slot % NEAR) as usize;
         let is_near = self.turned < slot && slot - self.turned <= NEAR;

@@ -1,33 +1,34 @@
-use Rattle.std.proofs.Common.{◌∷◌, [], inr, refl, sym, ap, subst, ◌∙◌, List, length, arith}
+use Rattle.std.proofs.Common.{◌∷◌, [], inl, inr, refl, sym, ap, subst, ◌∙◌, List, length, arith}
 use Rattle.std.specs.Prelude.{Contains}
 use Rattle.std.specs.Vec.{with_item}
 use Rattle.std.proofs.lemmas.Option.{slice_get_read}
-use Rattle.std.proofs.lemmas.List.Elements.{Contains-append_left}
+use Rattle.std.proofs.lemmas.List.Elements.{Contains-append_left, Contains-append_right}
 use Rattle.pfair_ready.specs.declared.calendar.Calendar.{Calendar}
 use Rattle.pfair_ready.specs.declared.far_dates.Date.{Date}
 use Rattle.pfair_ready.specs.Calendar.{in_bucket}
 use Rattle.pfair_ready.proofs.HeapLemmas.{pushed_more, pushed_top}
-use Rattle.pfair_ready.proofs.CalendarLemmas.{at_set, noted_far, noted_near}
+use Rattle.pfair_ready.proofs.CalendarLemmas.{near_there, noted_far, noted_near}
 use Rattle.pfair_ready.proofs.calendar.Calendar.note.Goals as goal
 
 pub returns-in_err-push-in-Some-clause-kept : goal.returns-in_err-push-in-Some-clause-kept
 returns-in_err-push-in-Some-clause-kept c =
     let made : Calendar = c.make_near.new.self in
-    let here = ap in_bucket (slice_get_read made.near.items (length made.near.items) c.in-Some.bucket c.index_mut.result.now refl c.in-Some.ensures.1 c.index_mut.ensures.value) in
+    let here = ap in_bucket (slice_get_read made.near.items (length made.near.items) c.in-Some.bucket c.index_mut.result.now refl c.in-Some.ensures.near.1 c.index_mut.ensures.value) in
     λ d noted. noted_near made (record { turned = made.turned; near = with_item made.near c.in-Some.bucket c.push.new.self; far = made.far }) c.in-Some.bucket c.push.new.self (λ d' h. subst (λ (l : List Date). Contains l d') (here ∙ sym c.in_err-push-in-Some.ensures.items) h) refl refl refl d (c.make_near.ensures.kept d noted)
 
 pub returns-in_ok-push-in-Some-clause-kept : goal.returns-in_ok-push-in-Some-clause-kept
 returns-in_ok-push-in-Some-clause-kept c =
     let made : Calendar = c.make_near.new.self in
-    let here = ap in_bucket (slice_get_read made.near.items (length made.near.items) c.in-Some.bucket c.index_mut.result.now refl c.in-Some.ensures.1 c.index_mut.ensures.value) in
+    let here = ap in_bucket (slice_get_read made.near.items (length made.near.items) c.in-Some.bucket c.index_mut.result.now refl c.in-Some.ensures.near.1 c.index_mut.ensures.value) in
     λ d noted. noted_near made (record { turned = made.turned; near = with_item made.near c.in-Some.bucket c.push.new.self; far = made.far }) c.in-Some.bucket c.push.new.self
     (λ d' h. subst (λ (l : List Date). Contains l d') (sym c.in_ok-push-in-Some.ensures.items) (Contains-append_left c.index_mut.result.now.items (c.args.date ∷ []) d' (subst (λ (l : List Date). Contains l d') here h))) refl refl refl d (c.make_near.ensures.kept d noted)
 
 pub returns-in_ok-push-in-Some-clause-there : goal.returns-in_ok-push-in-Some-clause-there
 returns-in_ok-push-in-Some-clause-there c =
     let made : Calendar = c.make_near.new.self in
-    let bucket = c.in-Some.ensures in
-    grind (arith, at_set)
+    let near = c.in-Some.ensures.near in
+    inl (near_there made.turned made.near.items c.in-Some.bucket c.push.new.self c.args.date near.0 near.1 near.2 near.3
+    (subst (λ (l : List Date). Contains l c.args.date) (sym c.in_ok-push-in-Some.ensures.items) (Contains-append_right c.index_mut.result.now.items (c.args.date ∷ []) c.args.date (0, omega (arith), refl))))
 
 pub returns-in_err-push-in-None-clause-kept : goal.returns-in_err-push-in-None-clause-kept
 returns-in_err-push-in-None-clause-kept c =
