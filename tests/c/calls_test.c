@@ -75,6 +75,7 @@ static void looked(int line, look *call, uint32_t wanted, uint64_t kind, uint64_
 
 static void misses(void) {
     static const uint64_t picks[] = {0, 2, 4}, twice[] = {0, 2, 2}, falling[] = {0, 2, 1, 0}, far[] = {0, 2, 1000000};
+    static const uint64_t tardy[] = {3, 5, 5}, shared[] = {1, 1};
     REFUSED(4, 6, 0, 2, 1000001, falling, 4);
     REFUSED(4, 6, 0, 0, 4, NULL, 0);
     REFUSED(5, 6, 3, 2, 1000001, falling, 4);
@@ -84,6 +85,8 @@ static void misses(void) {
     REFUSED(100, 6, 1, 2, UINT64_MAX, NULL, 0);
     REFUSED(40, 2, 1, 2, 6, twice, 3);
     REFUSED(40, 2, 1, 2, 6, falling, 4);
+    REFUSED(40, 2, 1, 2, 9, tardy, 3);
+    REFUSED(40, 1, 8, 11, 9, shared, 2);
     REFUSED(41, 2, 1, 2, 4, picks, 3);
     REFUSED(41, 1, 1, 2, 1, falling, 4);
     REFUSED(41, 0, 1, 2, 0, picks, 1);

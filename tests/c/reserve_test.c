@@ -155,7 +155,56 @@ static void of_any_dispatcher(void) {
     ANSWERS(0, pfair_close(&d));
 }
 
-/* Of 130 tasks 50 come and go, each time at a slot of its own: such a slot asks for little, and no other asks. */
+/* Each of 120 tasks is put off once, at a slot of its own: the releases that are left behind have their room too. */
+static void with_all_put_off(void) {
+    enum { SLOTS = 700, FIRST = 100, BY = 200, PERIOD = 240, LOG = 2 * TASKS / PROCESSORS + 1 };
+    struct pfair_dispatcher d = PFAIR_NONE;
+    struct pfair_pick picks[PROCESSORS];
+    uint64_t taken, count;
+    char name[20];
+    ANSWERS(0, pfair_open(&d, PROCESSORS, FRAME, SLOTS, LOG));
+    for (int k = 0; k < 2 * TASKS; k++) {
+        int task = k % TASKS;
+        snprintf(name, sizeof name, "t%d", task);
+        struct pfair_entry e = k < TASKS ? arrive(name, 1, PERIOD, 0) : late(name, 2, BY, FIRST + task);
+        ANSWERS(0, take(&d, k % PROCESSORS, k / PROCESSORS + 1, e, &taken));
+    }
+    for (int p = 0; p < PROCESSORS; p++) ANSWERS(0, take(&d, p, LOG, nothing(SLOTS), &taken));
+    plan_one(&d, 0);
+    ANSWERS(0, pfair_reserve(&d, SLOTS, TASKS));
+    plan_without(&d, 1, FIRST - 1);
+    largest = 0;
+    for (uint64_t slot = FIRST; slot < FIRST + TASKS; slot++) plan_one(&d, slot);
+    CHECK(largest > 0 && largest <= 4096, "%zu bytes", largest);
+    plan_without(&d, FIRST + TASKS, SLOTS - FIRST - TASKS);
+    ANSWERS(0, pfair_table(&d, PERIOD, &count, picks, PROCESSORS));
+    CHECK(count == 0, "%" PRIu64 " rows at the old releases", count);
+    ANSWERS(0, pfair_table(&d, PERIOD + BY, &count, picks, PROCESSORS));
+    CHECK(count == PROCESSORS, "%" PRIu64 " rows at the new ones", count);
+    ANSWERS(0, pfair_close(&d));
+}
+
+/* 300 subtasks are released at one slot, less than 64 slots after those before them have run. */
+static void with_one_release(void) {
+    enum { MANY = 300, PERIOD = 64, SLOTS = 4 * PERIOD, LOG = MANY / PROCESSORS + 2 };
+    struct pfair_dispatcher d = PFAIR_NONE;
+    uint32_t numbers[PROCESSORS] = {0};
+    uint64_t taken;
+    char name[20];
+    ANSWERS(0, pfair_open(&d, PROCESSORS, PERIOD, SLOTS, LOG));
+    for (int k = 0; k < MANY; k++) {
+        snprintf(name, sizeof name, "t%d", k);
+        ANSWERS(0, take(&d, k % PROCESSORS, ++numbers[k % PROCESSORS], arrive(name, 1, PERIOD, 0), &taken));
+    }
+    for (int p = 0; p < PROCESSORS; p++) ANSWERS(0, take(&d, p, ++numbers[p], nothing(SLOTS), &taken));
+    plan_one(&d, 0);
+    ANSWERS(0, pfair_reserve(&d, SLOTS, MANY));
+    plan_without(&d, 1, SLOTS - 1);
+    ANSWERS(0, pfair_close(&d));
+}
+
+/* Of 130 tasks 50 come and go, each time at a slot of its own: such a slot asks for little, and no other asks. Every
+   other guest comes under a new name each time. */
 static void with_guests(uint64_t slots) {
     enum { GUESTS = 50, STAYING = 80, ROUND = 2000 };
     struct pfair_dispatcher d = PFAIR_NONE;
@@ -170,7 +219,7 @@ static void with_guests(uint64_t slots) {
     }
     for (uint64_t at = 20; at < slots; at += 20) {
         int k = (int)(at / 20 % GUESTS), is_coming = at % ROUND < ROUND / 2;
-        snprintf(name, sizeof name, "g%d", k);
+        snprintf(name, sizeof name, "g%d", k % 2 ? k : (int)(at / ROUND) * GUESTS + k);
         struct pfair_entry guest = is_coming ? arrive(name, 1, 60, at) : depart(name, at);
         ANSWERS(0, take(&d, k % PROCESSORS, ++numbers[k % PROCESSORS], guest, &taken));
         is_announced[at] = 1;
@@ -234,6 +283,8 @@ int main(int count, char **words) {
     reserved_first();
     reserved_after_forgetting();
     reserved_for_all_rows();
+    with_all_put_off();
+    with_one_release();
     with_guests(quick ? 6000 : 100000);
     CHECK(blocks == at_first, "%ld blocks not freed", blocks - at_first);
     return told();

@@ -32,8 +32,12 @@ fn read(stepper: &Stepper) -> Window {
 }
 
 #[test]
-fn the_last_window_of_the_longest_period(rt: HostRuntime) {
+fn late_windows_of_the_longest_period(rt: HostRuntime) {
     let weight = Weight::new(1, 1_000_000_000).expect(&rt, "a weight");
+    assert_eq!(&rt;
+        window(weight, 1_000_001, 0),
+        (1_000_000_000_000_000, 1_000_001_000_000_000, 0, 0)
+    );
     assert_eq!(&rt;
         window(weight, 2_000_001, 0),
         (2_000_000_000_000_000, 2_000_001_000_000_000, 0, 0)

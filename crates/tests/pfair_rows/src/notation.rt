@@ -4,7 +4,8 @@
 //! of a is stamped 2. The others are `0 1 0 0 arrive a 1 2`, a weight of 1/2, `0 1 0 0 early a 1
 //! 2`, where it may run ahead of its windows, and `1 3 3 4 late b 4 2`, subtask 4 by 2 slots; `1 4
 //! 5` says nothing. `plan 3` asks for three slots. `absorb`, before events with a `,` between them,
-//! is the coming of what another dispatcher holds to which these came.
+//! is the coming of what another dispatcher holds to which these came; if its machine is another, that
+//! stands before them with a `:`.
 
 use pfair_entry::{Announcement, Entry};
 use pfair_table::Event;

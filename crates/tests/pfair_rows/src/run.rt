@@ -81,7 +81,8 @@ fn events_of(rt: &impl Abort, alloc: Global, run: Run<'_>) -> Vec<Event> {
     for part in run.events.split(';') {
         match part.trim().strip_prefix("absorb ") {
             Some(others) => {
-                let held = held(rt, alloc, run.machine, others, ',');
+                let (machine, others) = others.split_once(':').unwrap_or((run.machine, others));
+                let held = held(rt, alloc, machine, others, ',');
                 events.push(Event::Absorb(held)).expect(rt, "memory");
             }
             None => push(rt, &mut events, &words_of(rt, alloc, part)),

@@ -84,6 +84,13 @@ new, slot 0, slot 1, slot 2, new, merged, fault 30 at 0.2
 [][][]
 [][][]
 
+a refused event is passed over
+1 2 2
+1 1 2; 0 0 2; 0 257 2; absorb 2 2 2: 0 1 2; absorb 1 2 2: 0 1 0 0 arrive a 1 2, 0 2 2; plan 3
+fault 13, fault 14, fault 14, fault 15, merged, slot 0, slot 1, done
+[a1][]
+[0.1 a admitted][]
+
 a leaver keeps its weight until its group deadline has passed
 1 2 4
 0 1 0 0 arrive a 1 2; 0 2 1 1 depart a; 0 3 2 2 arrive b 1 1; 0 4 3 3 arrive b 1 1; 0 5 4; plan 5

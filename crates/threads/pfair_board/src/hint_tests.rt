@@ -7,9 +7,9 @@ use pfair_entry::{Announcement, Entry};
 use pfair_ready::HeapReady;
 use pfair_table::Settings;
 use pfair_weight::{TaskName, Weight};
-use std::alloc::AllocError;
+use std::alloc::{AllocError, Global};
 use std::process::Abort;
-use std::test::Fail;
+use std::sync::Wait;
 
 // The desk of a row, one of a new set.
 fn row(board: &Board, processor: u8) -> Result<Desk, AllocError>
@@ -61,25 +61,38 @@ fn first_log(rt: &impl Abort) -> [Entry; 5] {
     ]
 }
 
-#[test]
-fn a_worker_tells_the_others_of_its_log(rt: HostRuntime) -> Result<(), Fail> {
-    let alloc = rt.alloc();
-    let board = Board::new(alloc, 2, 5)?;
-    let mut desk = row(&board, 0)?;
-    let mut all = Hints::all(alloc, 2)?;
-    let Hints { receiver, senders } = all.pop().expect(&rt, "hints");
-    drop(senders);
-    let hints = all.pop().expect(&rt, "hints");
-    let settings = Settings::new(2, 6, 6).expect(&rt, "settings");
-    let log = first_log(&rt);
-    let run = run_worker::<HeapReady, _>(
-        &rt, alloc, settings, &mut desk, &board, &log, hints, &OpenGate,
-    )?;
-    assert!(&rt; run.tables.is_empty());
-    for number in 1..6 {
-        let hint = receiver.recv(&rt).expect(&rt, "a hint");
-        assert!(&rt; hint.proc == 0 && hint.number == number);
+// A worker of three publishes its log, and each of the others waits for a hint of each entry. Once
+// the worker has told of all, no hint can come any more.
+fn assert_told<P: Abort + Wait>(rt: &P, alloc: Global, teller: u8)
+    requires { teller < 3 }
+{
+    let board = Board::new(alloc, 3, 5).expect(rt, "memory");
+    let mut desk = row(&board, teller).expect(rt, "memory");
+    let mut all = Hints::all(alloc, 3).expect(rt, "memory");
+    let hints = all.remove(teller as usize);
+    let mut receivers = Vec::new(alloc);
+    for Hints { receiver, senders } in all {
+        drop(senders);
+        receivers.push(receiver).expect(rt, "memory");
     }
-    assert!(&rt; receiver.recv(&rt).is_err());
-    Ok(())
+    let settings = Settings::new(3, 6, 6).expect(rt, "settings");
+    let log = first_log(rt);
+    let run = run_worker::<HeapReady, _>(
+        rt, alloc, settings, &mut desk, &board, &log, hints, &OpenGate,
+    );
+    assert!(rt; run.expect(rt, "a run").tables.is_empty());
+    for receiver in &receivers {
+        for number in 1..6 {
+            let hint = receiver.recv(rt).expect(rt, "a hint");
+            assert!(rt; hint.proc == teller && hint.number == number);
+        }
+        assert!(rt; receiver.recv(rt).is_err());
+    }
+}
+
+#[test]
+fn a_worker_tells_each_other_of_its_log(rt: HostRuntime) {
+    for teller in 0..3 {
+        assert_told(&rt, rt.alloc(), teller);
+    }
 }
