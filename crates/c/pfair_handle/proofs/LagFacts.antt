@@ -8,13 +8,14 @@ use Rattle.pfair_table.specs.declared.pick.Decided.{Decided}
 use Rattle.pfair_admission.specs.Member.{Member}
 use Rattle.pfair_table.specs.Table.{Table, Origin}
 use Rattle.pfair_table.specs.Refinement.{Dispatch}
-use Rattle.pfair_output.specs.Told.{slot_told, all_slots_told}
+use Rattle.pfair_output.proofs.WorldFacts.{entered_time}
+use Rattle.pfair_output.specs.Told.{slot_told, all_slots_told, all_entered, entered_again, first_book}
 use Rattle.std.proofs.lemmas.Option.{none-some, same_Some}
 use Rattle.pfair_output.proofs.SlotFacts.{first_left}
 use Rattle.pfair_output.proofs.ToldFacts.{time-all_told}
 use Rattle.pfair_handle.specs.Rows.{rows_of, written_over}
 use Rattle.pfair_handle.specs.declared.lags.PfairLag.{PfairLag}
-use Rattle.pfair_handle.specs.Lags.{all_entered, book_after, book_rows, entered_again, first_book, lags_at}
+use Rattle.pfair_handle.specs.Lags.{book_after, book_rows, lags_at}
 use Rattle.pfair_handle.proofs.SlotRows.{room-for, slot-written}
 
 -- ---- what it begins with
@@ -30,10 +31,6 @@ pub entered_next : (slot : ℕ) (ms : List Member) (place : ℕ) (before after :
 entered_next slot ms place before after inside is next =
     let here = first_left ms place inside in
     next here.0 here.1 ∙ ap (entered_again slot here.0) is ∙ sym (entered_more slot ms place here.0 empty_book here.1)
-
-entered_time : (slot : ℕ) (ms : List Member) (b : Book) → (all_entered slot ms b).time ≡ b.time
-entered_time slot [] b = refl
-entered_time slot (m ∷ ms) b = grind (arith, entered_time slot ms (entered_again slot m b))
 
 pub first_time : (o : Origin) → (first_book o).time ≡ 0
 first_time None = refl

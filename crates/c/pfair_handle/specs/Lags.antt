@@ -1,11 +1,9 @@
 -- Lags, as C has them.
-use Rattle.std.specs.Prelude.{ℕ, ◌+◌, ◌-◌, ◌≡◌, ◌≤◌, List, [], ◌∷◌, map, take, Some, None, if◌then◌else◌}
+use Rattle.std.specs.Prelude.{ℕ, ◌+◌, ◌-◌, ◌≡◌, ◌≤◌, List, map, take}
 use Rattle.pfair_weight.specs.Name.{NameValue}
-use Rattle.pfair_admission.specs.Member.{Member, is_departing}
-use Rattle.pfair_lag.specs.Book.{Tally, Book, empty_book, entered_after, lag_of}
-use Rattle.pfair_table.specs.Table.{Origin}
+use Rattle.pfair_lag.specs.Book.{Tally, Book, lag_of}
 use Rattle.pfair_table.specs.Refinement.{Dispatch}
-use Rattle.pfair_output.specs.Told.{all_slots_told}
+use Rattle.pfair_output.specs.Told.{all_slots_told, first_book}
 use Rattle.pfair_handle.specs.Rows.{name_row, rows_of, written_over}
 use Rattle.pfair_handle.specs.declared.lags.PfairLag.{PfairLag}
 
@@ -16,19 +14,6 @@ lag_row time e = record { time = time; name = name_row e.0; numerator = (lag_of 
 -- the lags of a book, in order of entering
 abbrev pub book_rows : Book → List PfairLag
 book_rows book = map (lag_row book.time) book.entered
-
--- a member that was carried into a run that begins at a slot: its lag goes on, unless it is departing
-abbrev pub entered_again : ℕ → Member → Book → Book
-entered_again slot m book = if is_departing m then book else entered_after (slot - m.joined) (m.next - 1) m.name m.weight book
-
-abbrev pub all_entered : ℕ → List Member → Book → Book
-all_entered slot [] book = book
-all_entered slot (m ∷ more) book = all_entered slot more (entered_again slot m book)
-
--- the book before a run's first slot
-abbrev pub first_book : Origin → Book
-first_book None = empty_book
-first_book (Some c) = all_entered c.slot c.members empty_book
 
 -- a book that was notified of the first t slots of a dispatcher, and of no others
 abbrev pub book_after : Dispatch → ℕ → Book

@@ -6,7 +6,8 @@ ghost use Rattle.pfair_lag.specs.Book.{Tally};
 ghost use Rattle.pfair_admission.specs.declared.members.TheConstants.Members.{LAST_SLOT};
 ghost use Rattle.pfair_admission.specs.Carried.{CanBeCarried};
 ghost use Rattle.pfair_admission.specs.Member.{Member};
-ghost use Rattle.pfair_handle.specs.Lags.{lag_row, book_rows, book_after, entered_again, first_book, lags_of, IsPartlyLaid};
+ghost use Rattle.pfair_output.specs.Told.{entered_again, first_book};
+ghost use Rattle.pfair_handle.specs.Lags.{lag_row, book_rows, book_after, lags_of, IsPartlyLaid};
 ghost use Rattle.pfair_handle.specs.Rows.{written_over};
 
 use crate::rows::{PfairName, name_row};

@@ -1,16 +1,18 @@
 -- The members of a next run beside those of the long run.
 use Rattle.std.proofs.lemmas.Grind.{common_steps}
-use Rattle.std.proofs.Common.{◌≡◌, ℕ, ◌+◌, ◌*◌, ◌≤◌, Bool, true, false, cond, List, [], ◌∷◌, ◌++◌, map, Option, Some, None, refl, sym, ap, ◌∙◌, arith, inl, inr}
-use Rattle.std.specs.Prelude.{not, nat_le, nat_lt, ◌==◌, ◌||◌, ◌&&◌, is_some, if◌then◌else◌}
+use Rattle.std.proofs.Common.{◌≡◌, ℕ, ◌+◌, ◌-◌, ◌*◌, ◌≤◌, Bool, true, false, cond, List, [], ◌∷◌, ◌++◌, map, Option, Some, None, refl, sym, ap, ◌∙◌, arith, inl, inr}
+use Rattle.std.specs.Prelude.{pos, ◌-ℤ◌, not, nat_le, nat_lt, ◌==◌, ◌||◌, ◌&&◌, is_some, if◌then◌else◌}
 use Rattle.std.specs.List.{AllByRecursion, filter, find}
 use Rattle.std.specs.Option.{option_map}
 use Rattle.std.proofs.lemmas.Bool.{cases_lt}
 use Rattle.std.proofs.lemmas.Bool.Decides.{nat_tests}
+use Rattle.std.proofs.lemmas.Int.{ints}
 use Rattle.std.proofs.lemmas.List.{map-append}
 use Rattle.std.proofs.lemmas.List.Folds.{list_any-append}
 use Rattle.std.proofs.lemmas.List.Sums.{sum_by-cons}
 use Rattle.std.proofs.lemmas.Simd.{map-map}
 use Rattle.std.proofs.Math.Bool.{or-true}
+use Rattle.std.proofs.Math.Nat.{mul-add, mul_assoc, mul_comm}
 use Rattle.pfair_weight.specs.Name.{NamesApart}
 use Rattle.pfair_weight.proofs.NamesApart.{apart_head, apart_tail}
 use Rattle.pfair_weight.specs.Share.{Share, IsWeight}
@@ -22,13 +24,13 @@ use Rattle.pfair_entry.specs.Same.{name_eq}
 use Rattle.pfair_entry.specs.Said.{Said}
 use Rattle.pfair_entry.specs.declared.announcement.Announcement.{Announcement}
 use Rattle.pfair_entry.specs.declared.announcement.Announcement.TheVariants.{Arrive, Depart, Late}
+use Rattle.pfair_entry.specs.Entry.{IsWeighed}
 use Rattle.pfair_admission.specs.declared.decision.Decision.{Decision}
 use Rattle.pfair_admission.specs.declared.decision.Decision.TheVariants.{Admitted, Departing, Delayed, Refused}
 use Rattle.pfair_admission.specs.declared.refusal.Refusal.TheVariants.{AlreadyDeparting, AlreadyReleased}
 use Rattle.pfair_admission.specs.declared.delay.Delay.{Delay}
-use Rattle.pfair_admission.specs.Member.{Member, theta, is_departing, eligible_from, next_key}
+use Rattle.pfair_admission.specs.Member.{Member, theta, is_departing, eligible_from, next_key, lag_at}
 use Rattle.pfair_admission.specs.Admission.{Machine, is_named, member_named, claimed, arrival, departure, late_release, decision, newcomer, with_freeing, with_delay, with_quantum, change, effect, is_freed, present, decided, all_decided, all_decisions, announcements}
-use Rattle.pfair_admission.specs.Laws.{HasWeight}
 use Rattle.pfair_admission.specs.Carried.{subtasks_of, taken_off, raised, all_raised}
 use Rattle.pfair_admission.proofs.Keeping.{theta_earlier, theta_later}
 use Rattle.pfair_admission.proofs.Lowered.{IsLowered, counted_from, eligible_same, freeing_slot_same, next_key_same, release_same}
@@ -36,6 +38,9 @@ use Rattle.pfair_admission.proofs.NamesKept.{apart_effect, apart_present}
 
 abbrev label : Member → List ℕ
 label m = m.name
+
+both_more : (a b c : ℕ) → pos (a + c) -ℤ pos (b + c) ≡ pos a -ℤ pos b
+both_more a b c = omega (arith, ints)
 
 module _ (left : List Member) (begin : ℕ) where
   -- a member of the long run, and the same one in the next run, which by slot t has joined in both
@@ -131,6 +136,17 @@ module _ (left : List Member) (begin : ℕ) where
         by_now = omega arith;
         taken = (let late : nat_lt (t + 0 * w.period) begin ≡ false = grind (arith, nat_tests, none) in ap (λ b. if b then subtasks_of (member_named left name) else 0) late ∙ omega arith);
       }
+
+  pub lag_same : {t : ℕ} (time : ℕ) (p : Pair t) → p.long.joined + p.jobs * p.long.weight.period ≤ time → lag_at time (short_of p) ≡ lag_at time p.long
+  lag_same time p now =
+      let w = p.long.weight in
+      let late = time - (p.long.joined + p.jobs * w.period) in
+      let due : w.cost * (time - p.long.joined) ≡ w.cost * late + w.cost * (p.jobs * w.period) =
+      ap (λ n. w.cost * n) (let e : time - p.long.joined ≡ late + p.jobs * w.period = omega (arith, now) in e) ∙ mul-add w.cost late (p.jobs * w.period) in
+      let had : w.period * (p.long.next - 1) ≡ w.period * (p.next - 1) + w.period * (p.jobs * w.cost) =
+      ap (λ n. w.period * n) (let e : p.long.next - 1 ≡ p.next - 1 + p.jobs * w.cost = omega (arith, p.is.next_is, p.first) in e) ∙ mul-add w.period (p.next - 1) (p.jobs * w.cost) in
+      let same : w.cost * (p.jobs * w.period) ≡ w.period * (p.jobs * w.cost) = sym (mul_assoc w.cost p.jobs w.period) ∙ ap (λ n. n * w.period) (mul_comm w.cost p.jobs) ∙ mul_comm (p.jobs * w.cost) w.period in
+      sym ((λ i. pos (due i) -ℤ pos (had i)) ∙ ap (λ n. pos (w.cost * late + w.cost * (p.jobs * w.period)) -ℤ pos (w.period * (p.next - 1) + n)) (sym same) ∙ both_more (w.cost * late) (w.period * (p.next - 1)) (w.cost * (p.jobs * w.period)))
 
   -- ---- all pairs
 
@@ -247,7 +263,7 @@ module _ (left : List Member) (begin : ℕ) where
 
   -- ---- and what it does
 
-  effect_paired : {t : ℕ} → begin ≤ t → (ps : List (Pair t)) → NamesApart label (shorts ps) → (a : Announcement) → HasWeight a → (d : Decision) → ArePaired t (effect t (longs ps) (raised left begin (shorts ps) a) d) (effect t (shorts ps) a d)
+  effect_paired : {t : ℕ} → begin ≤ t → (ps : List (Pair t)) → NamesApart label (shorts ps) → (a : Announcement) → IsWeighed a → (d : Decision) → ArePaired t (effect t (longs ps) (raised left begin (shorts ps) a) d) (effect t (shorts ps) a d)
   unfolding joins leaves waits_longer
   effect_paired {t} now ps apart (Arrive name w early) h Admitted =
       let p = joins t now name w early h in
@@ -275,7 +291,7 @@ module _ (left : List Member) (begin : ℕ) where
   effect_paired now ps apart (Late name index by) h (Departing slot) = record { pairs = ps; longs_are = refl; shorts_are = refl }
   effect_paired now ps apart (Late name index by) h (Refused why) = record { pairs = ps; longs_are = refl; shorts_are = refl }
 
-  decided_paired : {t : ℕ} → begin ≤ t → (machine : Machine) (ps : List (Pair t)) → NamesApart label (shorts ps) → (a : Announcement) → HasWeight a
+  decided_paired : {t : ℕ} → begin ≤ t → (machine : Machine) (ps : List (Pair t)) → NamesApart label (shorts ps) → (a : Announcement) → IsWeighed a
       → ArePaired t (decided machine t (longs ps) (raised left begin (shorts ps) a)) (decided machine t (shorts ps) a)
   decided_paired {t} now machine ps apart a h = grind (arith, present_paired, decision_same, effect_paired)
 
@@ -284,7 +300,7 @@ module _ (left : List Member) (begin : ℕ) where
     pub members : ArePaired t (all_decided machine t L (announcements (all_raised left begin machine t S told))) (all_decided machine t S (announcements told))
     pub decisions : all_decisions machine t L (announcements (all_raised left begin machine t S told)) ≡ all_decisions machine t S (announcements told)
 
-  pub all_paired : {t : ℕ} → begin ≤ t → (machine : Machine) (told : List Said) → AllByRecursion HasWeight (announcements told) → (L S : List Member) → ArePaired t L S → NamesApart label S → AreDecided machine t L S told
+  pub all_paired : {t : ℕ} → begin ≤ t → (machine : Machine) (told : List Said) → AllByRecursion IsWeighed (announcements told) → (L S : List Member) → ArePaired t L S → NamesApart label S → AreDecided machine t L S told
   all_paired now machine [] h L S a apart = record { members = a; decisions = refl }
   all_paired {t} now machine (s ∷ told) h L S a apart = grind (arith, decided_paired, decision_same, apart_present, apart_effect, all_paired now machine told h.1)
 
@@ -308,6 +324,14 @@ module _ (left : List Member) (begin : ℕ) where
       all : (ps : List (Pair t)) → map given (shorts ps) ≡ map given (longs ps)
       all [] = refl
       all (p ∷ ps) = (let key = next_key_same p.long p.jobs p.delays p.next p.is p.weighed p.first in λ i. f (key i) p.long.freed_at ∷ all ps i)
+
+  -- and the lags, once both have joined
+  pub lags_paired : {t : ℕ} (time : ℕ) → t ≤ time → (L S : List Member) → ArePaired t L S → map (lag_at time) S ≡ map (lag_at time) L
+  lags_paired {t} time now L S a = ap (map (lag_at time)) (sym a.shorts_are) ∙ all a.pairs ∙ ap (map (lag_at time)) a.longs_are
+    where
+      all : (ps : List (Pair t)) → map (lag_at time) (shorts ps) ≡ map (lag_at time) (longs ps)
+      all [] = refl
+      all (p ∷ ps) = (λ i. lag_same time p (omega (arith, now, p.by_now)) i ∷ all ps i)
 
   -- those that may run in slot t
   pub eligible_paired : (t : ℕ) (L S : List Member) → ArePaired t L S

@@ -13,12 +13,6 @@ use Rattle.pfair_admission.specs.Admission.{Machine, claimed, with_delay, decisi
 use Rattle.pfair_admission.specs.Carried.{carried, jobs_done, subtasks_done, CanBeCarried}
 use Rattle.pfair_admission.specs.Removal.{NoneFreed}
 
--- an arrival says a weight
-abbrev pub HasWeight : Announcement → Type 0
-HasWeight (Arrive name w early) = IsWeight w.cost w.period
-HasWeight (Depart name) = Unit {0}
-HasWeight (Late name index by) = Unit {0}
-
 -- a name stands once among the members
 pub record NamesStayApart : Type 0 where
   pub boundaries : (machine : Machine) (t : ℕ) (members : List Member) (announced : List Announcement) → NamesApart (λ m. m.name) members → NamesApart (λ m. m.name) (boundary machine t members announced)

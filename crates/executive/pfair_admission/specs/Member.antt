@@ -1,5 +1,5 @@
 -- A member: a task from its joining slot to its freeing slot.
-use Rattle.std.specs.Prelude.{ℕ, ◌≤◌, ◌+◌, ◌-◌, ◌*◌, ◌||◌, max, Bool, not, nat_le, nat_lt, ◌==◌, List, sum_by, filter, Option, is_some, if◌then◌else◌}
+use Rattle.std.specs.Prelude.{ℕ, ℤ, pos, ◌≤◌, ◌+◌, ◌-◌, ◌-ℤ◌, ◌*◌, ◌||◌, max, Bool, not, nat_le, nat_lt, ◌==◌, List, sum_by, filter, Option, is_some, if◌then◌else◌}
 use Rattle.std.specs.List.{list_any}
 use Rattle.pfair_weight.specs.Share.{Share}
 use Rattle.pfair_weight.specs.Window.{release_of, deadline_of, b_bit_of, group_deadline_of, starts_job_of}
@@ -33,6 +33,10 @@ theta m i = m.joined + sum_by (λ d. d.by) (filter (λ d. nat_le d.index i) m.de
 
 abbrev pub is_departing : Member → Bool
 is_departing m = is_some m.freed_at
+
+-- its lag at a time that isn't before it joined, as a numerator over the period: the share of the slots since then less its quanta
+abbrev pub lag_at : ℕ → Member → ℤ
+lag_at time m = pos (m.weight.cost * (time - m.joined)) -ℤ pos (m.weight.period * (m.next - 1))
 
 -- ---- when its weight is free
 

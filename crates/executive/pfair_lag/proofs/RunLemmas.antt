@@ -1,5 +1,5 @@
 -- A book counts for each task the slots since it was entered.
-use Rattle.std.proofs.Common.{◌≡◌, ◌+◌, Bool, true, false, cond, not, ◌&&◌, List, [], ◌∷◌, ◌++◌, map, length, Option, Some, None, refl, sym, ap, ◌∙◌, arith}
+use Rattle.std.proofs.Common.{◌≡◌, ℕ, ◌+◌, Bool, true, false, cond, not, ◌&&◌, List, [], ◌∷◌, ◌++◌, map, length, Option, Some, None, refl, sym, ap, ◌∙◌, arith}
 use Rattle.std.specs.Prelude.{filter, is_some, count_by}
 use Rattle.std.specs.Option.{option_map}
 use Rattle.std.specs.Map.{lookup}
@@ -8,7 +8,7 @@ use Rattle.std.proofs.lemmas.Bool.{true≢false}
 use Rattle.std.proofs.lemmas.List.Sums.{sum_by-cons}
 use Rattle.pfair_weight.specs.Share.{Share}
 use Rattle.pfair_weight.specs.Name.{NameValue, name_eq}
-use Rattle.pfair_lag.specs.Book.{Tally, Book, tally_of, has_run, entered_with, slot_more}
+use Rattle.pfair_lag.specs.Book.{Tally, Book, tally_of, has_run, entered_after, slot_more}
 use Rattle.pfair_lag.specs.Runs.{Enter, Leave, Record, Stay, slot_passed, tally_in, CountsSinceEntering}
 use Rattle.pfair_lag.proofs.BookLemmas.{is_some-map}
 
@@ -21,8 +21,8 @@ found_push : (name other : NameValue) (t : Tally) (es : Entries) → lookup (nam
 found_push name other t [] = refl
 found_push name other t (e ∷ es) = grind (arith, found_push name other t es)
 
-abbrev fresh : Share → Tally
-fresh weight = record { weight = weight; slots = 0; ran = 0 }
+abbrev fresh : (slots ran : ℕ) → Share → Tally
+fresh slots ran weight = record { weight = weight; slots = slots; ran = ran }
 
 found_or_new : (o : Option Tally) (b : Bool) (t : Tally) → cond (is_some o) o (cond b (Some t) None) ≡ cond (b && not (is_some o)) (Some t) o
 found_or_new None true t = refl
@@ -40,8 +40,9 @@ there_already name other book t there =
       | false ↦ λ _. refl
     ] refl
 
-found_entered : (name other : NameValue) (weight : Share) (book : Book) → tally_of name (entered_with other weight book) ≡ cond (name_eq name other && not (is_some (tally_of name book))) (Some (fresh weight)) (tally_of name book)
-found_entered name other weight book = grind (arith, there_already, found_push, found_or_new)
+found_entered : (name other : NameValue) (slots ran : ℕ) (weight : Share) (book : Book)
+    → tally_of name (entered_after slots ran other weight book) ≡ cond (name_eq name other && not (is_some (tally_of name book))) (Some (fresh slots ran weight)) (tally_of name book)
+found_entered name other slots ran weight book = grind (arith, there_already, found_push, found_or_new)
 
 -- ---- leaving
 
@@ -80,9 +81,9 @@ found_recorded names name (e ∷ es) =
 
 slot_counted : (names : List NameValue) (name : NameValue) (s : Stay) → slot_more names name (tally_in name s) ≡ tally_in name (slot_passed names s)
 slot_counted names name s =
-    let slots : length s.slots + 1 ≡ length (names ∷ s.slots) = omega arith in
+    let slots : s.slots_before + length s.slots + 1 ≡ s.slots_before + length (names ∷ s.slots) = omega arith in
     let cons : count_by (λ l. has_run l name) (names ∷ s.slots) ≡ cond (has_run names name) 1 0 + count_by (λ l. has_run l name) s.slots = sum_by-cons (λ l. cond (has_run l name) 1 0) names s.slots in
-    let ran : count_by (λ l. has_run l name) s.slots + cond (has_run names name) 1 0 ≡ count_by (λ l. has_run l name) (names ∷ s.slots) = omega arith in
+    let ran : s.ran_before + count_by (λ l. has_run l name) s.slots + cond (has_run names name) 1 0 ≡ s.ran_before + count_by (λ l. has_run l name) (names ∷ s.slots) = omega arith in
     λ i. record { weight = s.weight; slots = slots i; ran = ran i }
 
 counted_slot : (names : List NameValue) (name : NameValue) (o : Option Stay) → option_map (slot_more names name) (option_map (tally_in name) o) ≡ option_map (tally_in name) (option_map (slot_passed names) o)
@@ -91,9 +92,13 @@ counted_slot names name (Some s) = ap Some (slot_counted names name s)
 
 -- ---- any calls
 
-new_stay : (name : NameValue) (b : Bool) (weight : Share) (o : Option Stay) → cond b (Some (fresh weight)) (option_map (tally_in name) o) ≡ option_map (tally_in name) (cond b (Some (record { weight = weight; slots = [] })) o)
-new_stay name true weight o = refl
-new_stay name false weight o = refl
+new_stay : (name : NameValue) (b : Bool) (slots ran : ℕ) (weight : Share) (o : Option Stay)
+    → cond b (Some (fresh slots ran weight)) (option_map (tally_in name) o) ≡ option_map (tally_in name) (cond b (Some (record { weight = weight; slots_before = slots; ran_before = ran; slots = [] })) o)
+new_stay name true slots ran weight o =
+    let slots_are : slots ≡ slots + length {A = List NameValue} [] = omega arith in
+    let ran_is : ran ≡ ran + count_by (λ (l : List NameValue). has_run l name) [] = omega arith in
+    λ i. Some (record { weight = weight; slots = slots_are i; ran = ran_is i })
+new_stay name false slots ran weight o = refl
 
 no_stay : (name : NameValue) (b : Bool) (o : Option Stay) → cond b None (option_map (tally_in name) o) ≡ option_map (tally_in name) (cond b None o)
 no_stay name true o = refl
@@ -101,7 +106,7 @@ no_stay name false o = refl
 
 pub counts_since_entering : CountsSinceEntering
 counts_since_entering name [] = refl
-counts_since_entering name (Enter other weight ∷ before) =
+counts_since_entering name (Enter slots ran other weight ∷ before) =
     grind (arith, is_some-map, found_entered, new_stay, counts_since_entering name before)
 counts_since_entering name (Leave other ∷ before) =
     grind (arith, found_left, no_stay, counts_since_entering name before)

@@ -58,4 +58,4 @@ placed_alike {o} {tx} {ty} kx ky sound_x sound_y same began agree t lx ly =
 
 -- the same, after any events
 pub one_placing : OnePlacing
-one_placing s m n es fs all_es all_fs agree t lc ld = grind (arith, places_follow_tables, one_schedule)
+one_placing o s m n es fs all_es all_fs agree t lc ld = grind (arith, places_follow_tables, one_schedule)

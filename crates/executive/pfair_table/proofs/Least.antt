@@ -17,7 +17,7 @@ use Rattle.pfair_replica.proofs.OfferedTo.{offered_stays}
 use Rattle.pfair_table.specs.declared.event.Event.{Event}
 use Rattle.pfair_table.specs.declared.event.Event.TheVariants.{Take, Absorb, Plan}
 use Rattle.pfair_table.specs.EventLaws.{IsBroughtBelow, EventsLeaveTheLeast}
-use Rattle.pfair_table.specs.Events.{Course, start, happens, run}
+use Rattle.pfair_table.specs.Events.{Course, begin_at, happens, run}
 use Rattle.pfair_table.specs.Table.{Settings}
 use Rattle.pfair_table.proofs.Runs.{below_all}
 
@@ -97,6 +97,6 @@ least s m y [] c shape below all = below
 least s m y (e ∷ events) c shape below all = least s m y events (happens s c e) (shape_stays s m c e shape) (step_least s m c y e shape below all.0) all.1
 
 pub events_leave_the_least : EventsLeaveTheLeast
-events_leave_the_least s m events =
-    let shape : HasShape s m (start s m).held = record { processors = refl; capacity = refl } in
-    (above s m events (start s m) shape, (λ y all. least s m y events (start s m) shape (λ k n. none_below (y.at k n)) all))
+events_leave_the_least o s m events =
+    let shape : HasShape s m (begin_at o s m).held = record { processors = refl; capacity = refl } in
+    (above s m events (begin_at o s m) shape, (λ y all. least s m y events (begin_at o s m) shape (λ k n. none_below (y.at k n)) all))

@@ -11,7 +11,7 @@ mod Slots
 mod Steps
 mod Keeping
 pub mod Scripts
-mod Within
+pub mod Within
 mod FreePlaces
 mod PlacesKept
 mod Filling

@@ -102,7 +102,7 @@ still_counted t tables table e m h = (let le = h.by_now in record { by_now = ome
 one_on : (s : Settings) (x : Story) (t : ℕ) → AllByRecursion (IsCounted t (history s x t).tables) (world s x t) → all_ran (table s x t) (world s x t) ≡ counted (history s x (suc t)).tables (world s x t)
 one_on s x t count =
     let tables = (history s x t).tables in
-    all_ran_is (table s x t) (ordered_from None s (apart_nil (λ (m : Member). m.name)) x t).2 (world s x t)
+    all_ran_is (table s x t) (ordered_from None s (apart_nil (λ (m : Member). m.name)) x t).0.1 (world s x t)
     ∙ map_same (after_table (table s x t)) (counted_one (tables ++ table s x t ∷ [])) (world s x t)
     (λ m h. one_more t tables (table s x t) (long_history s x t) m (among_all (IsCounted t tables) (world s x t) count m h))
 

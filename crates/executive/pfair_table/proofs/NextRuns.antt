@@ -21,15 +21,15 @@ use Rattle.pfair_admission.proofs.Each.{each_map}
 use Rattle.pfair_table.specs.declared.pick.Decided.{Decided}
 use Rattle.pfair_table.specs.Limits.{IsCarried}
 use Rattle.pfair_table.specs.NextRun.{IsFinished, IsNextRunFault, LeaveAlike, end_of, members_left}
-use Rattle.pfair_table.specs.PlaceLaws.{IsFit}
-use Rattle.pfair_table.specs.Places.{table_before, places_before, places_in}
+use Rattle.pfair_table.specs.Places.{table_before, places_before, places_in, IsFit, ArePlacesOf}
 use Rattle.pfair_table.specs.Planned.{last_or}
 use Rattle.pfair_table.specs.Refinement.{Dispatch, IsKept, members_after}
 use Rattle.pfair_table.specs.Table.{Settings, Origin, Carried, Table, machine, slot_of, history_from, history_over}
 use Rattle.pfair_table.proofs.Alike.{untorn_right}
 use Rattle.pfair_table.proofs.Keeping.{is_of_held, plan_now, step_now}
 use Rattle.pfair_table.proofs.Members.{label}
-use Rattle.pfair_table.proofs.PlacesOn.{below_before, fit_before, fit_plan, last_below, last_fit}
+use Rattle.pfair_table.proofs.PlacesKept.{places_before_are}
+use Rattle.pfair_table.proofs.PlacesOn.{fit_before, fit_plan, last_fit, last_places}
 use Rattle.pfair_table.proofs.Runs.{untorn_left}
 use Rattle.pfair_table.proofs.Steps.{plan_of_held}
 use Rattle.pfair_table.proofs.TableLaws.{same_history}
@@ -63,7 +63,7 @@ module _ {o : Origin} {s : Settings} {held : Replica} {tables : List Table} {dec
         able = subst (AllByRecursion CanBeCarried) (sym members_are) (each_map CanBeCarried CanBeCarried carried able_again members can);
         in_time = within;
         rows = subst (IsFit s.processors) (sym table_is) (last_fit s.processors (table_before o) tables (fit_before o s kept.began) fit);
-        below = subst (AllByRecursion (λ k. k < s.processors)) (sym places_are) (last_below s.processors o tables (below_before o s kept.began) fit);
+        places = subst (λ (p : Table × List ℕ). ArePlacesOf s.processors p.0 p.1) (λ i. (sym table_is i, sym places_are i)) (last_places s.processors (table_before o) (places_before o) (places_before_are o s kept.began) tables fit);
       }
 
 -- ---- a finished dispatcher, as it is seen

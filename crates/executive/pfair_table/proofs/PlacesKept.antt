@@ -7,12 +7,13 @@ use Rattle.std.proofs.lemmas.List.{length-map}
 use Rattle.pfair_ready.specs.Names.{NameValue as Name}
 use Rattle.pfair_entry.specs.Same.{name_eq}
 use Rattle.pfair_entry.specs.Exact.{name_exact, name_itself}
-use Rattle.pfair_table.specs.Table.{Table, names_task}
+use Rattle.pfair_table.specs.Table.{Settings, Origin, Table, names_task}
 use Rattle.pfair_table.specs.declared.pick.Pick.{Pick}
 use Rattle.pfair_weight.specs.Name.{NamesApart}
 use Rattle.pfair_weight.proofs.NamesApart.{apart_head, apart_tail}
-use Rattle.pfair_table.specs.Places.{place_of, kept_places, all_kept, free_place, filled, places_after, places_from}
-use Rattle.pfair_table.specs.PlaceLaws.{IsFit, AllDiffer, ArePlacesOf, PlacesAreKept, PlacesFollowTables}
+use Rattle.pfair_table.specs.Places.{place_of, kept_places, all_kept, free_place, filled, places_after, places_before, places_from, table_before, IsFit, AllDiffer, ArePlacesOf}
+use Rattle.pfair_table.specs.Limits.{IsOrigin}
+use Rattle.pfair_table.specs.PlaceLaws.{KeepPlace, PlacesAreKept, PlacesFollowTables}
 use Rattle.pfair_replica.specs.Among.{Among, all_among, among_all}
 use Rattle.std.proofs.lemmas.Option.{none-some, same_Some}
 use Rattle.pfair_table.proofs.FreePlaces.{among_used, free_place_is_free}
@@ -173,46 +174,59 @@ all_differ : (places : List ℕ) → Differ places → AllDiffer places
 all_differ [] d = tt
 all_differ (k ∷ places) d = (all_among (λ j. k ≢ j) places d.0, all_differ places d.1)
 
-are_places : (m : ℕ) (before : Table) (old : List ℕ) (now : Table) → ((k : ℕ) → Among old k → k < m) → Differ old → IsFit m now → ArePlacesOf m now (places_after before old now)
-are_places m before old now below differ fit =
+differ_all : (places : List ℕ) → AllDiffer places → Differ places
+differ_all [] d = tt
+differ_all (k ∷ places) d = (among_all (λ j. k ≢ j) places d.0, differ_all places d.1)
+
+-- the places of the next table are such as those before it
+pub next_places : (m : ℕ) (before : Table) (old : List ℕ) → ArePlacesOf m before old → (now : Table) → IsFit m now → ArePlacesOf m now (places_after before old now)
+next_places m before old are now fit =
+    let below = among_all (λ k. k < m) old are.below in
     let here = below_after m before old now below fit.0 in
     record {
       one_each = here.one_each;
       below = all_among (λ k. k < m) (places_after before old now) here.below;
-      differ = all_differ (places_after before old now) (differ_after m before old now below differ fit);
+      differ = all_differ (places_after before old now) (differ_after m before old now below (differ_all old are.differ) fit);
     }
 
--- the law, from any table on
-kept_on : (m : ℕ) (before : Table) (old : List ℕ) → ((k : ℕ) → Among old k → k < m) → Differ old → (tables : List Table) → AllByRecursion (IsFit m) tables
-    → (t : ℕ) (rows : Table) (places : List ℕ) → slice_get tables t ≡ Some rows → slice_get (places_from before old tables) t ≡ Some places
-    → ArePlacesOf m rows places
-    × ((next : Table) (there : List ℕ) → slice_get tables (suc t) ≡ Some next → slice_get (places_from before old tables) (suc t) ≡ Some there
-    → (name : Name) → names_task name rows ≡ true → names_task name next ≡ true → place_of rows places name ≡ place_of next there name)
-kept_on m before old below differ [] fit t rows places e f = absurd (cc)
-kept_on m before old below differ (now ∷ tables) fit zero rows places e f =
-    let here = places_after before old now in
-    let same : now ≡ rows = same_Some now rows e in
-    let alike : here ≡ places = same_Some here places f in
-    let are : ArePlacesOf m now here = are_places m before old now below differ fit.0 in (
-      subst (λ (p : Table × List ℕ). ArePlacesOf m p.0 p.1) (λ i. (same i, alike i)) are,
-      stays_first now rows here places same alike are.one_each tables,
-    )
-  where
-    stays_first : (now rows : Table) (here places : List ℕ) → now ≡ rows → here ≡ places → length here ≡ length now
-        → (tables : List Table) (next : Table) (there : List ℕ) → slice_get tables zero ≡ Some next → slice_get (places_from now here tables) zero ≡ Some there
-        → (name : Name) → names_task name rows ≡ true → names_task name next ≡ true → place_of rows places name ≡ place_of next there name
-    stays_first now rows here places was had long [] next there e f name h g = absurd (cc)
-    stays_first now rows here places was had long (x ∷ tables) next there e f name h g =
-        let same : x ≡ next = same_Some x next e in
-        let alike : places_after now here x ≡ there = same_Some (places_after now here x) there f in
-        let t = has_place now here long name (ap (names_task name) was ∙ h) in
-        (λ i. place_of (sym was i) (sym had i) name)
-        ∙ t.1 ∙ sym (kept_place (all_kept (kept_places now here x)) now here x name t.0 t.1 (ap (names_task name) same ∙ g)) ∙ (λ i. place_of (same i) (alike i) name)
-kept_on m before old below differ (now ∷ tables) fit (suc t) rows places e f =
-    kept_on m now (places_after before old now) (below_after m before old now below fit.0.0).below (differ_after m before old now below differ fit.0) tables fit.1 t rows places e f
+stays : (before : Table) (old : List ℕ) → length old ≡ length before → (now : Table) → KeepPlace before old now (places_after before old now)
+stays before old long now name h g = let t = has_place before old long name h in t.1 ∙ sym (kept_place (all_kept (kept_places before old now)) before old now name t.0 t.1 g)
+
+-- ---- the law, from any table on
+
+each_on : (m : ℕ) (before : Table) (old : List ℕ) → ArePlacesOf m before old → (tables : List Table) → AllByRecursion (IsFit m) tables
+    → (t : ℕ) (rows : Table) (places : List ℕ) → slice_get tables t ≡ Some rows → slice_get (places_from before old tables) t ≡ Some places → ArePlacesOf m rows places
+each_on m before old are [] fit t rows places e f = absurd (cc)
+each_on m before old are (now ∷ tables) fit zero rows places e f =
+    subst (λ (p : Table × List ℕ). ArePlacesOf m p.0 p.1) (λ i. (same_Some now rows e i, same_Some (places_after before old now) places f i)) (next_places m before old are now fit.0)
+each_on m before old are (now ∷ tables) fit (suc t) rows places e f = each_on m now (places_after before old now) (next_places m before old are now fit.0) tables fit.1 t rows places e f
+
+first_on : (before : Table) (old : List ℕ) → length old ≡ length before → (tables : List Table) (next : Table) (there : List ℕ)
+    → slice_get tables 0 ≡ Some next → slice_get (places_from before old tables) 0 ≡ Some there → KeepPlace before old next there
+first_on before old long [] next there e f = absurd (cc)
+first_on before old long (now ∷ tables) next there e f =
+    subst (λ (p : Table × List ℕ). KeepPlace before old p.0 p.1) (λ i. (same_Some now next e i, same_Some (places_after before old now) there f i)) (stays before old long now)
+
+slots_on : (m : ℕ) (before : Table) (old : List ℕ) → ArePlacesOf m before old → (tables : List Table) → AllByRecursion (IsFit m) tables
+    → (t : ℕ) (rows next : Table) (places there : List ℕ) → slice_get tables t ≡ Some rows → slice_get (places_from before old tables) t ≡ Some places
+    → slice_get tables (suc t) ≡ Some next → slice_get (places_from before old tables) (suc t) ≡ Some there → KeepPlace rows places next there
+slots_on m before old are [] fit t rows next places there e f g h = absurd (cc)
+slots_on m before old are (now ∷ tables) fit zero rows next places there e f g h =
+    subst (λ (p : Table × List ℕ). KeepPlace p.0 p.1 next there) (λ i. (same_Some now rows e i, same_Some (places_after before old now) places f i))
+    (first_on now (places_after before old now) (next_places m before old are now fit.0).one_each tables next there g h)
+slots_on m before old are (now ∷ tables) fit (suc t) rows next places there e f g h =
+    slots_on m now (places_after before old now) (next_places m before old are now fit.0) tables fit.1 t rows next places there e f g h
+
+pub places_before_are : (o : Origin) (s : Settings) → IsOrigin o s → ArePlacesOf s.processors (table_before o) (places_before o)
+places_before_are None s began = record { one_each = refl; below = tt; differ = tt }
+places_before_are (Some c) s began = began.places
 
 pub places_are_kept : PlacesAreKept
-places_are_kept m tables fit = kept_on m [] [] (λ k h. absurd h) tt tables fit
+places_are_kept = record {
+  each = λ o s tables began fit. each_on s.processors (table_before o) (places_before o) (places_before_are o s began) tables fit;
+  slots = λ o s tables began fit. slots_on s.processors (table_before o) (places_before o) (places_before_are o s began) tables fit;
+  runs = λ o s tables began. first_on (table_before o) (places_before o) (places_before_are o s began).one_each tables;
+}
 
 -- ---- the places follow from the tables
 
@@ -229,4 +243,4 @@ follow_on before old (x ∷ xs) (y ∷ ys) (suc t) same =
     ∙ follow_on y (places_after before old y) xs ys t (λ u l. same (suc u) (omega (arith, l)))
 
 pub places_follow_tables : PlacesFollowTables
-places_follow_tables xs ys t same = follow_on [] [] xs ys t same
+places_follow_tables o xs ys t same = follow_on (table_before o) (places_before o) xs ys t same

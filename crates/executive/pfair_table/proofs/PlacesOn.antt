@@ -8,16 +8,15 @@ use Rattle.pfair_weight.proofs.NamesApart.{apart_nil}
 use Rattle.pfair_table.specs.declared.pick.Decided.{Decided}
 use Rattle.pfair_table.specs.declared.pick.Pick.{Pick}
 use Rattle.pfair_table.specs.Table.{Settings, Origin, Table, table_from}
-use Rattle.pfair_table.specs.Places.{places_after, places_from, places_in, table_before, places_before}
-use Rattle.pfair_table.specs.PlaceLaws.{IsFit}
+use Rattle.pfair_table.specs.Places.{places_after, places_from, places_in, table_before, places_before, IsFit, ArePlacesOf}
 use Rattle.pfair_table.specs.Planned.{last_or}
 use Rattle.pfair_table.specs.Refinement.{IsPlanOf}
-use Rattle.pfair_replica.specs.Among.{Among, all_among, among_all, among_map}
+use Rattle.pfair_replica.specs.Among.{all_among, among_map}
 use Rattle.pfair_table.proofs.TableLaws.{ordered_from}
 use Rattle.pfair_table.proofs.Members.{named_before}
 use Rattle.pfair_table.specs.Limits.{IsOrigin}
 use Rattle.pfair_table.proofs.Keeping.{tables_listed}
-use Rattle.pfair_table.proofs.PlacesKept.{below_after}
+use Rattle.pfair_table.proofs.PlacesKept.{next_places}
 
 -- ---- the last of a list
 
@@ -47,17 +46,11 @@ pub next_are : (o : Origin) (tables : List Table) (now : Table)
     → places_in o (tables ++ now ∷ []) ≡ places_in o tables ++ places_after (last_or (table_before o) tables) (last_or (places_before o) (places_in o tables)) now ∷ []
 next_are o tables now = places_more (table_before o) (places_before o) tables now
 
--- ---- places are processors, if tables have no more rows
+-- ---- the last places
 
-few_below : (m : ℕ) (before : Table) (old : List ℕ) → ((k : ℕ) → Among old k → k < m) → (tables : List Table) → AllByRecursion (IsFit m) tables
-    → AllByRecursion (λ (ps : List ℕ). AllByRecursion (λ k. k < m) ps) (places_from before old tables)
-few_below m before old below [] few = tt
-few_below m before old below (now ∷ tables) few =
-    let here = below_after m before old now below few.0.0 in
-    (all_among (λ k. k < m) (places_after before old now) here.below, few_below m now (places_after before old now) here.below tables few.1)
-
-pub last_below : (m : ℕ) (o : Origin) (tables : List Table) → AllByRecursion (λ k. k < m) (places_before o) → AllByRecursion (IsFit m) tables → AllByRecursion (λ k. k < m) (last_or (places_before o) (places_in o tables))
-last_below m o tables below few = grind (arith, last_all, few_below, among_all)
+pub last_places : (m : ℕ) (before : Table) (old : List ℕ) → ArePlacesOf m before old → (tables : List Table) → AllByRecursion (IsFit m) tables → ArePlacesOf m (last_or before tables) (last_or old (places_from before old tables))
+last_places m before old are [] fit = are
+last_places m before old are (now ∷ tables) fit = last_places m now (places_after before old now) (next_places m before old are now fit.0) tables fit.1
 
 -- ---- what a dispatcher plans
 
@@ -68,7 +61,7 @@ fit_plan {o} {s} {of} {tables} began plan =
     (all_among (IsFit s.processors) (map (table_from o s of) (numbers_below (length tables)))
     (λ rows h. (let t = among_map (table_from o s of) (numbers_below (length tables)) rows h in
     let fit = ordered_from o s (named_before o s began) (said of) t.0 in
-    subst (IsFit s.processors) (sym t.2) (fit.0, fit.2))))
+    subst (IsFit s.processors) (sym t.2) fit.0)))
 
 pub last_fit : (m : ℕ) (before : Table) (tables : List Table) → IsFit m before → AllByRecursion (IsFit m) tables → IsFit m (last_or before tables)
 last_fit m before tables = last_all (IsFit m) before tables
@@ -77,6 +70,3 @@ last_fit m before tables = last_all (IsFit m) before tables
 pub fit_before : (o : Origin) (s : Settings) → IsOrigin o s → IsFit s.processors (table_before o)
 fit_before None s began = (omega arith, apart_nil (λ (p : Pick). p.name))
 fit_before (Some c) s began = began.rows
-
-pub below_before : (o : Origin) (s : Settings) → IsOrigin o s → AllByRecursion (λ k. k < s.processors) (places_before o)
-below_before o s began = grind arith

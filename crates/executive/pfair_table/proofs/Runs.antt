@@ -16,12 +16,12 @@ use Rattle.pfair_replica.specs.Replica.{Replica, IsReplica, Below, Untorn, Agree
 use Rattle.pfair_replica.proofs.Marks.{below_agree, frontier_le}
 use Rattle.pfair_replica.proofs.OfferedTo.{offered_stays}
 use Rattle.pfair_replica.proofs.TornKeys.{untorn_by_test}
-use Rattle.pfair_table.specs.Table.{Settings, Origin, Table, table, table_from, decisions_from, plan}
+use Rattle.pfair_table.specs.Table.{Settings, Origin, Table, table_from, decisions_from, plan_from}
 use Rattle.pfair_table.specs.declared.pick.Decided.{Decided}
 use Rattle.pfair_replica.specs.Offered.{taken, absorbed}
 use Rattle.pfair_table.specs.declared.event.Event.{Event}
 use Rattle.pfair_table.specs.declared.event.Event.TheVariants.{Take, Absorb, Plan}
-use Rattle.pfair_table.specs.Events.{IsEvent, Course, start, is_plannable, with_next_slot, happens, run, run_of}
+use Rattle.pfair_table.specs.Events.{IsEvent, Course, begin_at, is_plannable, with_next_slot, happens, run}
 use Rattle.pfair_table.specs.Laws.{IsOf, IsPrefixOf, OneSchedule, PlanSoFar}
 use Rattle.pfair_table.proofs.TableLaws.{one_table, one_table_from, prefix_map}
 
@@ -67,7 +67,7 @@ below_all x y z f g k n = below_trans (x.at k n) (y.at k n) (z.at k n) (f k n) (
 -- ---- what was planned
 
 -- slot t was planned of this replica
-record WasPlanned (o : Origin) (s : Settings) (of : Replica) (tables : List Table) (decided : List (List Decided)) (t : ℕ) : Type 0 where
+pub record WasPlanned (o : Origin) (s : Settings) (of : Replica) (tables : List Table) (decided : List (List Decided)) (t : ℕ) : Type 0 where
   pub is_of : IsOf s of
   pub whole : Untorn of
   pub early : t < frontier of
@@ -76,7 +76,7 @@ record WasPlanned (o : Origin) (s : Settings) (of : Replica) (tables : List Tabl
   pub decided_is : slice_get decided t ≡ Some (decisions_from o s of t)
 
 -- each slot was planned of a replica that is still held
-record IsSound (s : Settings) (c : Course) : Type 0 where
+pub record IsSound (s : Settings) (c : Course) : Type 0 where
   pub is_of : IsOf s c.held
   pub as_many : length c.decided ≡ length c.tables
   pub planned : (t : ℕ) → t < length c.tables → (of : Replica) × Below of c.held × WasPlanned c.origin s of c.tables c.decided t
@@ -133,12 +133,12 @@ sound_happens s c Plan ok sound = by (is_plannable s c.held (length c.tables)) r
     by true p = sound_next s c sound p
     by false p = sound
 
-sound_run : (s : Settings) (events : List Event) (c : Course) → AllByRecursion IsEvent events → IsSound s c → IsSound s (run s c events)
+pub sound_run : (s : Settings) (events : List Event) (c : Course) → AllByRecursion IsEvent events → IsSound s c → IsSound s (run s c events)
 sound_run s [] c all sound = sound
 sound_run s (e ∷ events) c all sound = sound_run s events (happens s c e) all.1 (sound_happens s c e all.0 sound)
 
-sound_start : (s : Settings) (capacity : ℕ) → IsSound s (start s capacity)
-sound_start s capacity = grind (arith, none-some)
+pub sound_start : (o : Origin) (s : Settings) (capacity : ℕ) → IsSound s (begin_at o s capacity)
+sound_start o s capacity = grind (arith, none-some)
 
 -- what is below two that agree agrees
 agree_down : (x a y b : Replica) → Below x a → Below y b → Agree a b → Agree x y
@@ -166,30 +166,30 @@ planned_now s c sound whole t l =
     grind arith
 
 pub one_schedule : OneSchedule
-one_schedule s m n es fs all_es all_fs agree t lc ld =
-    let c = run_of s m es in
-    let d = run_of s n fs in
-    let sound = sound_run s es (start s m) all_es (sound_start s m) in
+one_schedule o s m n es fs all_es all_fs agree t lc ld =
+    let c = run s (begin_at o s m) es in
+    let d = run s (begin_at o s n) fs in
+    let sound = sound_run s es (begin_at o s m) all_es (sound_start o s m) in
     let v = planned_now s c sound (untorn_left c.held d.held agree) t lc in
-    let w = (sound_run s fs (start s n) all_fs (sound_start s n)).planned t ld in
-    let there = one_table s c.held w.0 sound.is_of w.2.is_of (agree_down c.held c.held w.0 d.held (λ k n. below_itself (c.held.at k n)) w.1 agree) t v.early w.2.early in
-    let first = origin_stays s es (start s m) in
+    let w = (sound_run s fs (begin_at o s n) all_fs (sound_start o s n)).planned t ld in
+    let there = one_table o s c.held w.0 sound.is_of w.2.is_of (agree_down c.held c.held w.0 d.held (λ k n. below_itself (c.held.at k n)) w.1 agree) t v.early w.2.early in
+    let first = origin_stays s es (begin_at o s m) in
     grind (arith, origin_stays)
 
 -- a list of as many tables, each that of its slot, begins the plan
-begins_plan : (s : Settings) (x : Replica) (tables : List Table) → length tables ≤ min (frontier x) s.slots → ((t : ℕ) → t < length tables → slice_get tables t ≡ Some (table s x t)) → IsPrefixOf tables (plan s x)
-begins_plan s x tables le each =
+begins_plan : (o : Origin) (s : Settings) (x : Replica) (tables : List Table) → length tables ≤ min (frontier x) s.slots → ((t : ℕ) → t < length tables → slice_get tables t ≡ Some (table_from o s x t)) → IsPrefixOf tables (plan_from o s x)
+begins_plan o s x tables le each =
     let n = length tables in
-    let long = length-map (numbers_below n) (table s x) ∙ length_numbers n in
-    let is = same_list tables (map (table s x) (numbers_below n)) (sym long) (λ t l. each t l ∙ sym (get_numbers (table s x) n t l)) in
-    subst (λ (ts : List Table). IsPrefixOf ts (plan s x)) (sym is) (prefix_map (table s x) (table s x) n (min (frontier x) s.slots) le (λ t l. refl))
+    let long = length-map (numbers_below n) (table_from o s x) ∙ length_numbers n in
+    let is = same_list tables (map (table_from o s x) (numbers_below n)) (sym long) (λ t l. each t l ∙ sym (get_numbers (table_from o s x) n t l)) in
+    subst (λ (ts : List Table). IsPrefixOf ts (plan_from o s x)) (sym is) (prefix_map (table_from o s x) (table_from o s x) n (min (frontier x) s.slots) le (λ t l. refl))
 
 -- each number below n is below m
 all_below : (n m : ℕ) → ((t : ℕ) → t < n → t < m) → n ≤ m
 all_below n m h = grind arith
 
 pub plan_so_far : PlanSoFar
-plan_so_far s m events all untorn =
-    let c = run_of s m events in
-    let now = planned_now s c (sound_run s events (start s m) all (sound_start s m)) untorn in
+plan_so_far o s m events all untorn =
+    let c = run s (begin_at o s m) events in
+    let now = planned_now s c (sound_run s events (begin_at o s m) all (sound_start o s m)) untorn in
     grind (arith, begins_plan, all_below, origin_stays)

@@ -20,14 +20,14 @@ use Rattle.pfair_entry.specs.Exact.{name_exact}
 use Rattle.pfair_entry.specs.Same.{name_eq}
 use Rattle.pfair_entry.specs.Said.{Said}
 use Rattle.pfair_entry.specs.declared.announcement.Announcement.{Announcement}
+use Rattle.pfair_entry.specs.Entry.{IsWeighed}
 use Rattle.pfair_replica.specs.Among.{Among, all_among, among_all, among_map, among_filter, map_same}
 use Rattle.pfair_admission.specs.Member.{Member, theta, is_departing, eligible_from, next_key}
 use Rattle.pfair_admission.specs.declared.decision.Decision.{Decision}
 use Rattle.pfair_admission.specs.Admission.{Machine, announcements, all_decided, boundary_decisions, member_named, newcomer, present, ran, with_quantum}
-use Rattle.pfair_admission.specs.Laws.{HasWeight}
 use Rattle.pfair_admission.specs.Carried.{all_raised, carried, carried_delays, jobs_done, subtasks_done, subtasks_of, taken_off}
 use Rattle.pfair_admission.proofs.CarriedAgain.{done_low, next_ran, none_done}
-use Rattle.pfair_admission.proofs.Beside.{AreDecided, ArePaired, Pair, all_paired, eligible_paired, index_paired, standing_paired, later_paired, present_paired, ran_paired}
+use Rattle.pfair_admission.proofs.Beside.{AreDecided, ArePaired, Pair, all_paired, eligible_paired, index_paired, lags_paired, standing_paired, later_paired, present_paired, ran_paired}
 use Rattle.pfair_admission.proofs.Each.{each, each_filter, each_map}
 use Rattle.pfair_admission.proofs.Effects.{by_effect, each_change}
 use Rattle.pfair_admission.proofs.Keeping.{eligible_at_job, one_each}
@@ -83,7 +83,7 @@ module _ (slot : ℕ) where
   begun_joins : (name : List ℕ) (w : Share) (early : Bool) → IsWeight w.cost w.period → HasBegun (suc slot) (newcomer slot name w early)
   begun_joins name w early h = grind (arith, div-eq_of_lt)
 
-  begun_decided : (machine : Machine) (told : List Announcement) → AllByRecursion HasWeight told → (members : List Member) → AllByRecursion (HasBegun (suc slot)) members → AllByRecursion (HasBegun (suc slot)) (all_decided machine slot members told)
+  begun_decided : (machine : Machine) (told : List Announcement) → AllByRecursion IsWeighed told → (members : List Member) → AllByRecursion (HasBegun (suc slot)) members → AllByRecursion (HasBegun (suc slot)) (all_decided machine slot members told)
   begun_decided machine [] h members all = all
   begun_decided machine (a ∷ told) h members all = grind (arith, each_filter, by_effect, all_by_recursion_push, begun_joins, each_change, begun_decided machine told h.1)
 
@@ -163,7 +163,7 @@ module _ (o : Origin) (s : Settings) (began : IsBegun o) where
 
 -- ---- places follow from names
 
-abbrev names_of : Table → List Name
+abbrev pub names_of : Table → List Name
 names_of rows = map (λ p. p.name) rows
 
 abbrev place_named : List Name → List ℕ → Name → Option ℕ
@@ -218,7 +218,7 @@ module _ (o : Origin) (s : Settings) (first : Story) (n : ℕ) (began : IsBegun 
   abbrev pub raised_at : ℕ → List Said
   raised_at t = all_raised left begin (machine s) (begin + t) (present (begin + t) (history_over next s second t).members) (second t)
 
-  long_early : (u : ℕ) → u < n → long u ≡ first u
+  pub long_early : (u : ℕ) → u < n → long u ≡ first u
   long_early u h = (let early : nat_lt u n ≡ true = grind (arith, nat_tests) in ap (λ b. if b then first u else raised_at (u - n)) early)
 
   long_late : (t k : ℕ) → k ≡ n + t → long k ≡ raised_at t
@@ -280,7 +280,7 @@ module _ (o : Origin) (s : Settings) (first : Story) (n : ℕ) (began : IsBegun 
   past : history_over o s long n ≡ history_over o s first n
   past = same_history o s long first n long_early
 
-  members_paired : (t k : ℕ) → k ≡ n + t → ArePaired left begin (begin + t) (history_over o s long k).members (history_over next s second t).members
+  pub members_paired : (t k : ℕ) → k ≡ n + t → ArePaired left begin (begin + t) (history_over o s long k).members (history_over next s second t).members
   members_paired zero k e =
       let now : k ≡ n = omega (arith, e) in
       let none : begin + 0 ≡ begin = omega arith in
@@ -297,10 +297,10 @@ module _ (o : Origin) (s : Settings) (first : Story) (n : ℕ) (began : IsBegun 
       subst (λ u. ArePaired left begin u (history_over o s long (suc k)).members (history_over next s second (suc t)).members) later
       (grind (arith, later_paired, map, chosen_same))
 
-  world_at : (t k : ℕ) → k ≡ n + t → ArePaired left begin (begin + t) (world_over o s long k) (world_over next s second t)
+  pub world_at : (t k : ℕ) → k ≡ n + t → ArePaired left begin (begin + t) (world_over o s long k) (world_over next s second t)
   world_at t k e = world_paired t k e (members_paired t k e)
 
-  names_same : (t k : ℕ) → k ≡ n + t → names_of (table_over next s second t) ≡ names_of (table_over o s long k)
+  pub names_same : (t k : ℕ) → k ≡ n + t → names_of (table_over next s second t) ≡ names_of (table_over o s long k)
   names_same t k e =
       let L = world_over o s long k in
       let S = world_over next s second t in
@@ -357,6 +357,8 @@ module _ (o : Origin) (s : Settings) (first : Story) (n : ℕ) (began : IsBegun 
   slot_same t = record {
     members = standing_paired left begin (λ key freed. (key, freed)) (world_over o s long (n + t)) (world_over next s second t) (world_at t (n + t) refl);
     left = standing_paired left begin (λ key freed. (key, freed)) (history_over o s long (suc (n + t))).members (history_over next s second (suc t)).members (members_paired (suc t) (suc (n + t)) (omega arith));
+    lags = (let paired = members_paired (suc t) (suc (n + t)) (omega arith) in
+        lags_paired left begin (slot_of o (suc (n + t))) (let at = slot_at (suc t) (suc (n + t)) (omega arith) in omega (arith, at)) (history_over o s long (suc (n + t))).members (history_over next s second (suc t)).members paired);
     rows = rows_same t (n + t) refl;
     decided = decided_same t (n + t) refl;
     places = (last_same (suc t) (suc (n + t)) (omega arith)).places;

@@ -3,6 +3,7 @@ use Rattle.std.proofs.Common.{ℕ, suc, min, ◌+◌, ◌≤◌, ◌<◌, ◌≡
 use Rattle.std.specs.Prelude.{◌&&◌, nat_lt, IsTrue, Some, None}
 use Rattle.std.proofs.lemmas.Bool.{le-ltb}
 use Rattle.std.proofs.lemmas.List.{length-map, map-append}
+use Rattle.pfair_weight.proofs.NamesApart.{apart_nil}
 use Rattle.pfair_replica.specs.HeldRows.{HeldRows, replica_of}
 use Rattle.pfair_replica.specs.Replica.{Replica, IsReplica, has_torn, frontier, numbers_below}
 use Rattle.pfair_ready.specs.Queue.{Queue}
@@ -15,6 +16,7 @@ use Rattle.pfair_table.specs.Refinement.{Dispatch, IsInStep, IsKept, IsWholePlan
 use Rattle.pfair_table.specs.SlotPlans.{tables_to, decided_to, IsNextPlan, after_plan}
 use Rattle.pfair_table.proofs.Keeping.{plan_now, step_now, kept_next, tables_listed, whole_plan}
 use Rattle.pfair_table.proofs.Runs.{length_numbers}
+use Rattle.pfair_table.proofs.Members.{label}
 use Rattle.pfair_table.proofs.TableLaws.{tables_are_ordered}
 
 -- ---- whether a slot can be planned
@@ -62,7 +64,9 @@ module _ (of : HeldRows) (n : ℕ) {s : Settings} {x : HeldRows} {spent : Bool} 
 
   pub next_plan : (next : SlotPlan) → has_torn (replica_of d.held) ≡ false → n < frontier (replica_of d.held) → n < s.slots → s.processors ≤ 64
       → next.table.items ≡ table s (replica_of d.held) n → next.decided.items ≡ decisions s (replica_of d.held) n → IsNextPlan d (Some next)
-  next_plan next test early wanted most table_is decided_is = grind (arith, tables_are_ordered, slot_plannable, planned_are)
+  next_plan next test early wanted most table_is decided_is =
+      let fit = (tables_are_ordered None s (replica_of d.held) n (apart_nil label)).0 in
+      grind (arith, fit, slot_plannable, planned_are)
 
 pub within : (of : HeldRows) (n : ℕ) {s : Settings} {x : Replica} {spent : Bool} {roster : Roster} {now : ℕ} {waiting : Queue} → IsKept None s x (tables_to s of n) (decided_to s of n) spent roster now waiting → n ≤ s.slots
 within of n {s} kept = omega (arith, kept.plan.wanted, tables_long s of n)

@@ -46,7 +46,7 @@ few_history o s most some named few x (suc t) =
     let world = world_from o s x t in
     let before = few_history o s most some named few x t in
     each (λ m. m.next ≤ most + t + 1) (λ m. m.next ≤ most + suc t) (λ m h. omega (arith, h)) (all_ran (table_from o s x t) world)
-    (few_ran (most + t) (table_from o s x t) (ordered_from o s named (said x) t).2 world
+    (few_ran (most + t) (table_from o s x t) (ordered_from o s named (said x) t).0.1 world
     (few_boundary (most + t) (machine s) (slot_of o t) (omega (arith, some)) (announcements (said x t)) (history_from o s x t).members before))
 
 -- so in each slot that a run can have, a member can run

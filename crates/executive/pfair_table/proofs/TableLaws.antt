@@ -1,5 +1,5 @@
 -- The proofs of the laws of tables and plans.
-use Rattle.std.proofs.Common.{ℕ, zero, suc, ◌<◌, ◌≤◌, ◌≡◌, refl, sym, ap, ◌∙◌, arith, inl, inr, None, length, List, [], ◌∷◌, ◌++◌, min}
+use Rattle.std.proofs.Common.{ℕ, zero, suc, ◌<◌, ◌≤◌, ◌≡◌, refl, sym, ap, ◌∙◌, arith, inl, inr, length, List, [], ◌∷◌, ◌++◌, min}
 use Rattle.std.specs.Prelude.{map, filter, AllPairs}
 use Rattle.pfair_order.specs.Order.{GoesBefore}
 use Rattle.std.proofs.lemmas.List.{length-map, map-append, append_assoc, append-nil}
@@ -7,15 +7,16 @@ use Rattle.std.proofs.lemmas.Bool.{cases_order}
 use Rattle.pfair_order.specs.declared.Key.{Key}
 use Rattle.pfair_replica.specs.Among.{among_below, map_same}
 use Rattle.pfair_weight.specs.Name.{NamesApart}
-use Rattle.pfair_weight.proofs.NamesApart.{apart_filter, apart_map, apart_nil}
+use Rattle.pfair_weight.proofs.NamesApart.{apart_filter, apart_map}
 use Rattle.pfair_order.proofs.NamesApart.{first_names}
 use Rattle.pfair_table.proofs.FirstByRank.{length_first, rising_first}
 use Rattle.pfair_replica.specs.Replica.{Replica, Agree, said, frontier, numbers_below}
 use Rattle.pfair_replica.proofs.Marks.{same_said, mark_le, frontier_le, below_agree}
 use Rattle.pfair_admission.specs.Member.{Member, next_key}
 use Rattle.pfair_table.specs.Ranks.{first_by_rank}
-use Rattle.pfair_table.specs.Table.{Settings, Origin, eligible, is_eligible, chosen, pick, members_before, slot_of, table_from, decisions_from, table, Story, history_over, world_over, table_over}
+use Rattle.pfair_table.specs.Table.{Settings, Origin, eligible, is_eligible, chosen, pick, members_before, slot_of, table_from, decisions_from, Story, history_over, world_over, table_over}
 use Rattle.pfair_table.specs.declared.pick.Pick.{Pick}
+use Rattle.pfair_table.specs.Places.{IsFit}
 use Rattle.pfair_table.specs.Laws.{IsOf, IsPrefixOf, OneTable, PlansGoOn, OnePlan, TablesAreOrdered}
 use Rattle.pfair_table.proofs.Members.{label, named_from}
 
@@ -31,7 +32,7 @@ pub one_table_from : (o : Origin) (s : Settings) (x y : Replica) → IsOf s x �
 one_table_from o s x y ox oy agree t h g = grind (arith, same_said, same_history)
 
 pub one_table : OneTable
-one_table = one_table_from None
+one_table = one_table_from
 
 -- ---- plans go on
 
@@ -50,19 +51,21 @@ prefix_map f g m n le same =
     (map g t.0, ap (λ xs. xs ++ map g t.0) (map_same f g (numbers_below m) (λ k i. same k (among_below m k i))) ∙ sym (map-append g (numbers_below m) t.0) ∙ ap (map g) t.1)
 
 pub plans_go_on : PlansGoOn
-plans_go_on s x y ox oy below untorn =
+plans_go_on o s x y ox oy below untorn =
     let same = ox.processors ∙ sym oy.processors in
     let le = frontier_le x y oy.replica same below untorn in
-    grind (arith, below_agree, mark_le, prefix_map, table, one_table)
+    grind (arith, below_agree, mark_le, prefix_map, one_table)
 
 pub one_plan : OnePlan
-one_plan s x y ox oy agree =
+one_plan o s x y ox oy agree =
     let m = min (frontier x) s.slots in
     let n = min (frontier y) s.slots in
+    let X = table_from o s x in
+    let Y = table_from o s y in
     elim (cases_order m n) [
-      | inl e ↦ inl (prefix_map (table s x) (table s y) m n (omega (arith, e)) (λ t l. (one_table s x y ox oy agree t (omega (arith, l)) (omega (arith, l, e))).0))
-      | inr (inl less) ↦ inl (prefix_map (table s x) (table s y) m n (omega (arith, less)) (λ t l. (one_table s x y ox oy agree t (omega (arith, l)) (omega (arith, l, less))).0))
-      | inr (inr more) ↦ inr (prefix_map (table s y) (table s x) n m (omega (arith, more)) (λ t l. sym (one_table s x y ox oy agree t (omega (arith, l, more)) (omega (arith, l))).0))
+      | inl e ↦ inl (prefix_map X Y m n (omega (arith, e)) (λ t l. (one_table o s x y ox oy agree t (omega (arith, l)) (omega (arith, l, e))).0))
+      | inr (inl less) ↦ inl (prefix_map X Y m n (omega (arith, less)) (λ t l. (one_table o s x y ox oy agree t (omega (arith, l)) (omega (arith, l, less))).0))
+      | inr (inr more) ↦ inr (prefix_map Y X n m (omega (arith, more)) (λ t l. sym (one_table o s x y ox oy agree t (omega (arith, l, more)) (omega (arith, l))).0))
     ]
 
 -- ---- tables are ordered
@@ -75,8 +78,8 @@ rows_apart m t members named =
     apart_map (λ (k : Key). k.name) (λ (p : Pick). p.name) (pick members) (λ k. refl) (first_by_rank m (eligible t members)) (first_names m (eligible t members) (eligible_apart t members named))
 
 pub ordered_from : (o : Origin) (s : Settings) → NamesApart label (members_before o) → (x : Story) (t : ℕ)
-    → (length (table_over o s x t) ≤ s.processors) × AllPairs GoesBefore (chosen s (slot_of o t) (world_over o s x t)) × NamesApart (λ p. p.name) (table_over o s x t)
+    → IsFit s.processors (table_over o s x t) × AllPairs GoesBefore (chosen s (slot_of o t) (world_over o s x t))
 ordered_from o s before x t = grind (arith, named_from, eligible_apart, length_first, length-map, rising_first, rows_apart)
 
 pub tables_are_ordered : TablesAreOrdered
-tables_are_ordered s x t = ordered_from None s (apart_nil label) (said x) t
+tables_are_ordered o s x t before = ordered_from o s before (said x) t

@@ -1,11 +1,12 @@
 -- What is said is within the limits of announcements.
-use Rattle.std.proofs.Common.{ℕ, ◌+◌, subst, List, Option}
+use Rattle.std.proofs.Common.{ℕ, ◌+◌, subst, sym, List, Option}
 use Rattle.std.specs.Prelude.{IfSome}
 use Rattle.std.specs.List.{AllByRecursion}
 use Rattle.pfair_entry.specs.declared.announcement.Announcement.{Announcement}
 use Rattle.pfair_entry.specs.Said.{Said}
-use Rattle.pfair_entry.specs.Entry.{IsWithinLimits}
-use Rattle.pfair_replica.specs.Among.{all_among, among_contains}
+use Rattle.pfair_entry.specs.Entry.{IsWithinLimits, IsWeighed}
+use Rattle.pfair_admission.specs.Admission.{announcements}
+use Rattle.pfair_replica.specs.Among.{all_among, among_contains, among_map}
 use Rattle.pfair_replica.specs.Replica.{Replica, IsReplica, said}
 use Rattle.pfair_replica.proofs.SoundEntries.{read_by_number}
 use Rattle.pfair_replica.proofs.SaidListed.{is_said}
@@ -19,3 +20,11 @@ said_within x sound t = all_among (λ a. IsWithinLimits a.2) (said x t) (λ a h.
     (let at = ((is_said.members x t a).0 (among_contains (said x t) a h)).1 in
     let entry = sound.stamped a.0 (at.0 + 1) at.1 (read_by_number.entry x a.0 at.0 at.1 at.3) in
     subst (λ (o : Option (ℕ × Announcement)). IfSome o (λ s. IsWithinLimits s.1)) at.4 entry.within_limits))
+
+-- and each arrival among them has a weight
+pub said_weighed : (x : Replica) → IsReplica x → (t : ℕ) → AllByRecursion IsWeighed (announcements (said x t))
+said_weighed x sound t = all_among IsWeighed (announcements (said x t)) (λ a h.
+    (let p = among_map (λ (q : Said). q.2) (said x t) a h in
+    let at = ((is_said.members x t p.0).0 (among_contains (said x t) p.0 p.1)).1 in
+    let entry = sound.stamped p.0.0 (at.0 + 1) at.1 (read_by_number.entry x p.0.0 at.0 at.1 at.3) in
+    subst IsWeighed (sym p.2) (subst (λ (o : Option (ℕ × Announcement)). IfSome o (λ s. IsWeighed s.1)) at.4 entry.weighed)))

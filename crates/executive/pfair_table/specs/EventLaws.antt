@@ -7,8 +7,8 @@ use Rattle.pfair_replica.specs.HeldRows.{replica_of}
 use Rattle.pfair_replica.specs.Replica.{Replica, Below}
 use Rattle.pfair_table.specs.declared.event.Event.{Event}
 use Rattle.pfair_table.specs.declared.event.Event.TheVariants.{Take, Absorb, Plan}
-use Rattle.pfair_table.specs.Events.{run_of}
-use Rattle.pfair_table.specs.Table.{Settings}
+use Rattle.pfair_table.specs.Events.{begin_at, run}
+use Rattle.pfair_table.specs.Table.{Settings, Origin}
 
 -- what the event brings is below y: an entry at one of the keys of these processors and this capacity, or a replica of this shape
 abbrev pub IsBroughtBelow : Settings → ℕ → Replica → Event → Type 0
@@ -19,7 +19,7 @@ IsBroughtBelow s capacity y Plan = ⊤
 -- What a list of events leaves is above each entry taken and each replica absorbed, and below whatever is above all of them.
 abbrev pub EventsLeaveTheLeast : Type 0
 EventsLeaveTheLeast =
-    (s : Settings) (capacity : ℕ) (events : List Event)
-    → let x = (run_of s capacity events).held in
+    (o : Origin) (s : Settings) (capacity : ℕ) (events : List Event)
+    → let x = (run s (begin_at o s capacity) events).held in
     AllByRecursion (IsBroughtBelow s capacity x) events
     × ((y : Replica) → AllByRecursion (IsBroughtBelow s capacity y) events → Below x y)

@@ -24,8 +24,13 @@ pub record Course : Type 0 where
   pub tables : List Table
   pub decided : List (List Decided)
 
+-- a run at its start: it holds nothing and has planned nothing
+abbrev pub begin_at : Origin → Settings → ℕ → Course
+begin_at o s capacity = record { origin = o; held = empty_replica s.processors capacity; tables = []; decided = [] }
+
+-- a first run
 abbrev pub start : Settings → ℕ → Course
-start s capacity = record { origin = None; held = empty_replica s.processors capacity; tables = []; decided = [] }
+start s capacity = begin_at None s capacity
 
 -- slot n can be planned of x
 abbrev pub is_plannable : Settings → Replica → ℕ → Bool

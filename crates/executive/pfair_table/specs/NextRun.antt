@@ -1,15 +1,15 @@
 -- What the run after a run begins with.
-use Rattle.std.specs.Prelude.{ℕ, ◌+◌, ◌≡◌, ◌≤◌, ◌<◌, true, false, List, [], length, Some, slice_get}
+use Rattle.std.specs.Prelude.{ℕ, ◌+◌, ◌≡◌, ◌≤◌, ◌<◌, true, false, List, length, Some, slice_get}
 use Rattle.std.specs.List.{AllByRecursion}
 use Rattle.pfair_replica.specs.HeldRows.{replica_of}
-use Rattle.pfair_replica.specs.Replica.{Agree, empty_replica, has_torn, said, torn_keys}
+use Rattle.pfair_replica.specs.Replica.{Agree, has_torn, said, torn_keys}
 use Rattle.pfair_admission.specs.Member.{Member}
 use Rattle.pfair_admission.specs.Carried.{CanBeCarried, IsFirstLeft}
 use Rattle.pfair_admission.specs.declared.members.TheConstants.Members.{LAST_SLOT}
 use Rattle.pfair_table.specs.declared.answer.NextRunFault.{NextRunFault}
 use Rattle.pfair_table.specs.declared.answer.NextRunFault.TheVariants.{Torn, Spent, Unfinished, PastLastSlot, CannotCarry, Memory}
 use Rattle.pfair_table.specs.Table.{Carried, slot_of}
-use Rattle.pfair_table.specs.Events.{Course}
+use Rattle.pfair_table.specs.Events.{Course, begin_at}
 use Rattle.pfair_table.specs.Refinement.{Dispatch, members_after}
 use Rattle.pfair_table.specs.RunsOn.{left_over}
 
@@ -33,7 +33,7 @@ left_by d = left_over d.origin d.settings (said (replica_of d.held)) d.settings.
 
 -- the next run at its start: with that taken over, it holds nothing and has planned nothing
 abbrev pub start_after : Dispatch → Course
-start_after d = record { origin = Some (left_by d); held = empty_replica d.settings.processors d.held.capacity; tables = []; decided = [] }
+start_after d = begin_at (Some (left_by d)) d.settings d.held.capacity
 
 -- why no run of so many slots begins after this one, by the first cause that applies
 abbrev pub IsNextRunFault : Dispatch → ℕ → NextRunFault → Type 0

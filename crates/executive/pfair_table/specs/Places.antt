@@ -1,6 +1,7 @@
 -- Which processor runs each row of a table, where a task that goes on running stays where it is.
-use Rattle.std.specs.Prelude.{ℕ, Bool, not, ◌==◌, List, [], ◌∷◌, length, map, find, Option, Some, None, unwrap_or, if◌then◌else◌}
-use Rattle.std.specs.List.{list_any}
+use Rattle.std.specs.Prelude.{ℕ, ◌≡◌, ◌≢◌, ◌≤◌, ◌<◌, Bool, not, ◌==◌, List, [], ◌∷◌, length, map, find, Option, Some, None, unwrap_or, if◌then◌else◌, ⊤}
+use Rattle.std.specs.List.{AllByRecursion, list_any}
+use Rattle.pfair_weight.specs.Name.{NamesApart}
 use Rattle.pfair_ready.specs.Names.{NameValue as Name}
 use Rattle.pfair_entry.specs.Same.{name_eq}
 use Rattle.pfair_replica.specs.Replica.{numbers_below}
@@ -58,3 +59,20 @@ places_in o tables = places_from (table_before o) (places_before o) tables
 -- the places of some tables, of one slot after another: the first table keeps none
 abbrev pub places_of : List Table → List (List ℕ)
 places_of tables = places_in None tables
+
+-- ---- what places have to be
+
+-- no more rows than that, and each name once
+abbrev pub IsFit : ℕ → Table → Type 0
+IsFit processors rows = (length rows ≤ processors) × NamesApart (λ p. p.name) rows
+
+-- no two are equal
+abbrev pub AllDiffer : List ℕ → Type 0
+AllDiffer [] = ⊤
+AllDiffer (k ∷ places) = AllByRecursion (λ j. k ≢ j) places × AllDiffer places
+
+-- one place for each row, each a processor, and no two equal
+pub record ArePlacesOf (processors : ℕ) (rows : Table) (places : List ℕ) : Type 0 where
+  pub one_each : length places ≡ length rows
+  pub below : AllByRecursion (λ k. k < processors) places
+  pub differ : AllDiffer places

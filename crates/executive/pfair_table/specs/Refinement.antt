@@ -2,6 +2,9 @@
 use Rattle.std.specs.Prelude.{ℕ, zero, suc, ◌+◌, ◌≡◌, ◌≤◌, ◌<◌, Bool, true, false, IsTrue, List, length, map, min, Some, slice_get}
 use Rattle.pfair_replica.specs.HeldRows.{HeldRows, replica_of}
 use Rattle.pfair_replica.specs.Replica.{Replica, Below, Untorn, Agree, frontier, has_torn, torn_keys, said, numbers_below}
+use Rattle.pfair_replica.specs.Faults.{IsTakeFaultOf, IsMergeFaultOf}
+use Rattle.pfair_replica.specs.declared.answer.TakeFault.TheVariants as take
+use Rattle.pfair_replica.specs.declared.answer.MergeFault.TheVariants as merge
 use Rattle.pfair_ready.specs.Queue.{Queue}
 use Rattle.pfair_admission.specs.Member.{Member}
 use Rattle.pfair_admission.specs.Roster.{Roster}
@@ -11,6 +14,8 @@ use Rattle.pfair_table.specs.declared.answer.Step.TheVariants.{Planned, Waiting,
 use Rattle.pfair_table.specs.declared.answer.PlanFault.{PlanFault}
 use Rattle.pfair_table.specs.declared.answer.PlanFault.TheVariants.{Torn, Spent, Memory}
 use Rattle.pfair_table.specs.Table.{Settings, Origin, Table, machine, slot_of, history_from, table_from, decisions_from, plan_from}
+use Rattle.pfair_table.specs.declared.event.Event.{Event}
+use Rattle.pfair_table.specs.declared.event.Event.TheVariants.{Take, Absorb, Plan}
 use Rattle.pfair_table.specs.Events.{Course, is_plannable}
 use Rattle.pfair_table.specs.Limits.{IsOrigin}
 use Rattle.pfair_table.specs.Laws.{IsOf}
@@ -43,6 +48,12 @@ abbrev pub IsPlanFault : Dispatch → PlanFault → Type 0
 IsPlanFault d (Torn proc number) = (has_torn (replica_of d.held) ≡ true) × (slice_get (torn_keys (replica_of d.held)) 0 ≡ Some (proc, number))
 IsPlanFault d Spent = (has_torn (replica_of d.held) ≡ false) × (d.spent ≡ true)
 IsPlanFault d Memory = (d.spent ≡ false) × IsTrue (is_plannable d.settings (replica_of d.held) (length d.tables))
+
+-- at such an event an allocation can fail: it brings something for a key without contents, or a slot can be planned
+abbrev pub CanFail : Dispatch → Event → Type 0
+CanFail d (Take proc number entry) = IsTakeFaultOf d.held proc number take.Memory
+CanFail d (Absorb other) = IsMergeFaultOf d.held other merge.Memory
+CanFail d Plan = IsPlanFault d Memory
 
 -- what stands after that
 abbrev pub after_fault : Dispatch → PlanFault → Dispatch

@@ -4,9 +4,9 @@ use Rattle.std.specs.List.{AllByRecursion}
 use Rattle.pfair_weight.specs.Name.{NamesApart}
 use Rattle.pfair_weight.specs.Share.{IsWeight}
 use Rattle.pfair_order.specs.declared.Key.{Key}
-use Rattle.pfair_admission.specs.Member.{Member, next_key}
+use Rattle.pfair_entry.specs.Entry.{IsWeighed}
+use Rattle.pfair_admission.specs.Member.{Member, lag_at, next_key}
 use Rattle.pfair_admission.specs.Admission.{announcements, member_named, present}
-use Rattle.pfair_admission.specs.Laws.{HasWeight}
 use Rattle.pfair_admission.specs.Carried.{jobs_done, carried, taken_off, all_raised}
 use Rattle.pfair_table.specs.declared.pick.Pick.{Pick}
 use Rattle.pfair_table.specs.Table.{Settings, Carried, Origin, Story, Table, History, machine, slot_of, members_before, history_over, world_over, table_over, decisions_over}
@@ -15,7 +15,7 @@ use Rattle.pfair_table.specs.Planned.{last_or}
 
 -- each announced arrival says a weight, as the type of weights guarantees
 abbrev pub TellsWeights : Story → Type 0
-TellsWeights story = (t : ℕ) → AllByRecursion HasWeight (announcements (story t))
+TellsWeights story = (t : ℕ) → AllByRecursion IsWeighed (announcements (story t))
 
 -- a member that has joined before a slot, and so has the job of its last subtask that ran
 pub record HasBegun (slot : ℕ) (m : Member) : Type 0 where
@@ -58,11 +58,13 @@ abbrev pub standing : Member → Key × Option ℕ
 standing m = (next_key m, m.freed_at)
 
 -- Slot t of the next run is slot n + t of the long run: it has the same table, but that indexes are lower by the subtasks of the jobs that
--- were taken off, the same decisions and the same places; and before and after its quanta the members stand as they do there.
+-- were taken off, the same decisions and the same places; before and after its quanta the members stand as they do there, and after
+-- them they have the same lags.
 pub record IsSlotOf (o : Origin) (s : Settings) (first : Story) (n : ℕ) (second : Story) (t : ℕ) : Type 0 where
   pub members : map standing (world_over (Some (left_over o s first n)) s second t) ≡ map standing (world_over o s (both_stories o s first n second) (n + t))
   pub rows : raised_rows (history_over o s first n).members (slot_of o n) (world_over (Some (left_over o s first n)) s second t) (table_over (Some (left_over o s first n)) s second t)
       ≡ table_over o s (both_stories o s first n second) (n + t)
+  pub lags : map (lag_at (slot_of o (suc (n + t)))) (history_over (Some (left_over o s first n)) s second (suc t)).members ≡ map (lag_at (slot_of o (suc (n + t)))) (history_over o s (both_stories o s first n second) (suc (n + t))).members
   pub left : map standing (history_over (Some (left_over o s first n)) s second (suc t)).members ≡ map standing (history_over o s (both_stories o s first n second) (suc (n + t))).members
   pub decided : map (λ d. d.decision) (decisions_over (Some (left_over o s first n)) s second t) ≡ map (λ d. d.decision) (decisions_over o s (both_stories o s first n second) (n + t))
   pub places : last_places (Some (left_over o s first n)) (history_over (Some (left_over o s first n)) s second (suc t)) ≡ last_places o (history_over o s (both_stories o s first n second) (suc (n + t)))

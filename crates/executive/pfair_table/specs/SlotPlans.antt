@@ -8,7 +8,7 @@ use Rattle.pfair_table.specs.declared.slot.SlotPlan.{SlotPlan}
 use Rattle.pfair_table.specs.Table.{Settings, Table, history, decisions, table_from, decisions_from}
 use Rattle.pfair_table.specs.Events.{is_plannable}
 use Rattle.pfair_table.specs.Refinement.{Dispatch}
-use Rattle.pfair_table.specs.PlaceLaws.{IsFit}
+use Rattle.pfair_table.specs.Places.{IsFit}
 
 -- the tables of slots 0 to n - 1 of a replica
 abbrev pub tables_to : Settings → HeldRows → ℕ → List Table

@@ -9,8 +9,8 @@ ghost use Rattle.pfair_table.specs.declared.event.Event.TheVariants.{Plan as Pla
 ghost use Rattle.pfair_table.specs.Events.{start, happens};
 ghost use Rattle.std.specs.List.{AllByRecursion};
 ghost use Rattle.pfair_table.specs.Planned.{as_tables, as_places};
-ghost use Rattle.pfair_table.specs.Places.{places_in};
-ghost use Rattle.pfair_table.specs.PlaceLaws.{IsFit, HavePlacedAlike};
+ghost use Rattle.pfair_table.specs.Places.{places_in, IsFit};
+ghost use Rattle.pfair_table.specs.PlaceLaws.{HavePlacedAlike};
 ghost use Rattle.pfair_table.specs.Readings.{AreReadingsOf};
 ghost use Rattle.pfair_table.specs.NextRun.{LeaveAlike};
 ghost use Rattle.pfair_table.specs.Refinement.{AreMembersOf, course_of, members_after, IsStepOf, IsPlanFault, after_fault, IsReopenFault, IsLast, IsWholePlan, HavePlannedAlike};

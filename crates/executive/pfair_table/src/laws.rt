@@ -1,5 +1,5 @@
-//! The laws of agreement, over all replicas and all events. Each function does nothing: its
-//! contract is the law.
+//! The laws of agreement, over all replicas and all events, of a first run and of each run that
+//! follows. Each function does nothing: its contract is the law.
 ghost use Rattle.std.specs.Prelude.{◌≡◌};
 ghost use Rattle.pfair_table.specs.EventLaws.{EventsLeaveTheLeast};
 ghost use Rattle.pfair_table.specs.Laws.{OneTable, PlansGoOn, OnePlan, TablesAreOrdered, OneSchedule, PlanSoFar, RunsAreCounted};
@@ -10,7 +10,7 @@ use crate::script::Script;
 use crate::settings::Settings;
 
 /// Agreement: two replicas that agree give every slot below both frontiers one table and the same
-/// decisions.
+/// decisions, wherever the run began.
 pub fn one_table()
     ensures { OneTable }
 {}
@@ -27,13 +27,13 @@ pub fn one_plan()
 {}
 
 /// A table has at most as many rows as there are processors, rising in the PD2 order, and each task
-/// once.
+/// once. Premise: the run begins without members, or with members of distinct names.
 pub fn tables_are_ordered()
     ensures { TablesAreOrdered }
 {}
 
-/// The headline: if two dispatchers have equal settings and, after any events, replicas that agree,
-/// each slot that both have planned has one table and the same decisions.
+/// The headline: if two dispatchers have equal settings, runs that began alike and, after any events,
+/// replicas that agree, each slot that both have planned has one table and the same decisions.
 pub fn one_schedule()
     ensures { OneSchedule }
 {}
@@ -51,8 +51,8 @@ pub fn plan_so_far()
     ensures { PlanSoFar }
 {}
 
-/// Adding one to the next index of each task of a table gives the indexes that are counted over all
-/// tables.
+/// In a first run, adding one to the next index of each task of a table gives the indexes that are
+/// counted over all tables.
 #[tactic(auto, using(crate::proofs::NextIndexes::runs_are_counted))]
 pub fn runs_are_counted()
     ensures { RunsAreCounted }
@@ -60,7 +60,8 @@ pub fn runs_are_counted()
 
 /// If tables have at most as many rows as there are processors, and each task once, then each row has
 /// a place, which is a processor, no two rows of a table have the same, and a task that is in two
-/// consecutive tables has one place in both.
+/// consecutive tables has one place in both: also if one is the last table of a run, and the other the
+/// first table of the run that follows.
 pub fn places_are_kept()
     ensures { PlacesAreKept }
 {}
@@ -71,8 +72,8 @@ pub fn places_follow_tables()
     ensures { PlacesFollowTables }
 {}
 
-/// The headline for places: if two dispatchers have equal settings and, after any events, replicas
-/// that agree, each slot that both have planned has the same places.
+/// The headline for places: if two dispatchers have equal settings, runs that began alike and, after
+/// any events, replicas that agree, each slot that both have planned has the same places.
 #[tactic(auto, using(crate::proofs::Alike::one_placing))]
 pub fn one_placing()
     ensures { OnePlacing }
@@ -89,8 +90,9 @@ pub fn limits()
 
 /// Runs go on as one: each slot of a next run is the slot of one long run, in which all is said that is
 /// said in both, as many slots later as the first run has. It has the same table, decisions and places,
-/// and members with the same keys and freeing slots; only indexes are lower, by the subtasks of the
-/// jobs that were taken off. A next run can be followed by another.
+/// and members with the same keys, freeing slots and lags; only indexes are lower, by the subtasks of
+/// the jobs that were taken off. So the long run is notified of the next run's late releases with
+/// indexes that are greater by as much. A next run can be followed by another.
 #[tactic(auto, using(crate::proofs::RunsOn::runs_go_on))]
 pub fn runs_go_on()
     ensures { RunsGoOn }

@@ -2,8 +2,7 @@
 //! it is.
 ghost use Rattle.std.specs.Prelude.{ℕ, ◌≡◌, ◌≤◌, ◌<◌, ◌+◌, ◌^◌, ◌∷◌, [], List, IfOk, OnOk, length};
 ghost use Rattle.std.specs.List.{AllByRecursion};
-ghost use Rattle.pfair_table.specs.Places.{kept_places, all_kept, free_place, filled, places_after};
-ghost use Rattle.pfair_table.specs.PlaceLaws.{IsFit};
+ghost use Rattle.pfair_table.specs.Places.{kept_places, all_kept, free_place, filled, places_after, IsFit};
 ghost use Rattle.pfair_table.specs.PlacesInUse.{AreInUse};
 
 use crate::buckets::{Buckets, find_place};

@@ -2,8 +2,7 @@
 ghost use Rattle.std.specs.Prelude.{◌≡◌, ◌<◌, ◌≤◌, ◌++◌, ◌∷◌, [], IfOk, OnOk, OnErr, None, drop, length, map, max, min, slice_get};
 ghost use Rattle.std.specs.Option.{option_map};
 ghost use Rattle.std.specs.List.{AllByRecursion};
-ghost use Rattle.pfair_table.specs.Places.{places_of, places_in, table_before, places_before};
-ghost use Rattle.pfair_table.specs.PlaceLaws.{IsFit};
+ghost use Rattle.pfair_table.specs.Places.{places_of, places_in, table_before, places_before, IsFit};
 ghost use Rattle.pfair_table.specs.Planned.{last_or, as_tables, as_places};
 
 use crate::origin::{Origin, slot_before};

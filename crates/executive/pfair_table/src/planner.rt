@@ -2,7 +2,7 @@
 //! them, and what was read of the replica.
 ghost use Rattle.std.specs.Prelude.{◌≡◌, ◌≤◌, ◌<◌, ◌+◌, ◌++◌, ◌∷◌, [], IfOk, OnOk, OnErr, length};
 ghost use Rattle.std.specs.List.{AllByRecursion};
-ghost use Rattle.pfair_table.specs.PlaceLaws.{IsFit};
+ghost use Rattle.pfair_table.specs.Places.{IsFit};
 ghost use Rattle.pfair_replica.specs.Replica.{Replica as Held, Untorn};
 ghost use Rattle.pfair_replica.specs.HeldRows.{replica_of};
 ghost use Rattle.pfair_table.specs.Laws.{IsOf};

@@ -1,10 +1,12 @@
 //! What a list of events leaves.
-ghost use Rattle.std.specs.Prelude.{◌≡◌, false, IfOk, OnOk};
+ghost use Rattle.std.specs.Prelude.{◌≡◌, false, IfOk, OnErr, OnOk};
 ghost use Rattle.pfair_replica.specs.HeldRows.{IsShape, replica_of};
+ghost use Rattle.pfair_replica.specs.Faults.{IsTakeFaultOf};
+ghost use Rattle.pfair_replica.specs.declared.answer.TakeFault.TheVariants.{Memory};
 ghost use Rattle.pfair_replica.specs.Offered.{taken};
 ghost use Rattle.std.specs.List.{AllByRecursion};
 ghost use Rattle.pfair_table.specs.Events.{IsEvent, happens, run_of};
-ghost use Rattle.pfair_table.specs.Refinement.{course_of};
+ghost use Rattle.pfair_table.specs.Refinement.{CanFail, course_of};
 
 use crate::answer::PlanFault;
 use crate::dispatcher::Dispatcher;
@@ -48,6 +50,7 @@ fn happen<R: Ready>(dispatcher: &mut Dispatcher<R>, event: &Event) -> Result<(),
     ensures standing { dispatcher.new.forgotten ≡ dispatcher.old.forgotten }
     ensures spent { OnOk result (dispatcher.new.spent ≡ false) }
     ensures event { IsEvent event.now }
+    ensures memory { OnErr result (CanFail dispatcher.old event.now) }
 {
     match event {
         Event::Take {
@@ -83,6 +86,7 @@ pub(crate) fn offer<R: Ready>(
 ) -> Result<(), AllocError>
     ensures held { OnOk result (replica_of dispatcher.new.held ≡ taken (replica_of dispatcher.old.held) processor number entry) }
     ensures rest { dispatcher.new ≡ record dispatcher.old { held = dispatcher.new.held } }
+    ensures memory { OnErr result (IsTakeFaultOf dispatcher.old.held processor number Memory) }
 {
     match dispatcher.take(processor, number, entry) {
         Err(TakeFault::Memory) => Err(AllocError),

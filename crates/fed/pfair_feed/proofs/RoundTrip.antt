@@ -73,9 +73,9 @@ below_after : EventsLeaveTheLeast → (s : Settings) (capacity : ℕ) (es fs : L
     → Below (held_after (empty_replica s.processors capacity) es) (held_after (empty_replica s.processors capacity) fs)
 below_after least s capacity es fs among =
     let y : Replica = (run_of s capacity (map event_of fs)).held in
-    let brought = all_from_map (IsBroughtBelow s capacity y) fs (least s capacity (map event_of fs)).0 in
+    let brought = all_from_map (IsBroughtBelow s capacity y) fs (least None s capacity (map event_of fs)).0 in
     let below : Below (run_of s capacity (map event_of es)).held y =
-    (least s capacity (map event_of es)).1 y (all_to_map (IsBroughtBelow s capacity y) es (all_among (λ e. IsBroughtBelow s capacity y (event_of e)) es fs brought among)) in
+    (least None s capacity (map event_of es)).1 y (all_to_map (IsBroughtBelow s capacity y) es (all_among (λ e. IsBroughtBelow s capacity y (event_of e)) es fs brought among)) in
     subst (λ (x : Replica). Below x (held_after (empty_replica s.processors capacity) fs)) (run_held s _ es)
     (subst (λ (x : Replica). Below (run_of s capacity (map event_of es)).held x) (run_held s _ fs) below)
 
@@ -111,11 +111,11 @@ module _ (least : EventsLeaveTheLeast) (s : Settings) (capacity : ℕ) (es : Lis
   pub brought_all : AllByRecursion (λ e. IsBroughtBelow s capacity (held_after (empty_replica s.processors capacity) es) (event_of e)) es
   brought_all =
       subst (λ (x : Replica). AllByRecursion (λ e. IsBroughtBelow s capacity x (event_of e)) es) (run_held s _ es)
-      (all_from_map (IsBroughtBelow s capacity (run_of s capacity (map event_of es)).held) es (least s capacity (map event_of es)).0)
+      (all_from_map (IsBroughtBelow s capacity (run_of s capacity (map event_of es)).held) es (least None s capacity (map event_of es)).0)
 
   pub below_all : (y : Replica) → AllByRecursion (λ e. IsBroughtBelow s capacity y (event_of e)) es → Below (held_after (empty_replica s.processors capacity) es) y
   below_all y brought =
-      subst (λ (x : Replica). Below x y) (run_held s _ es) ((least s capacity (map event_of es)).1 y (all_to_map (IsBroughtBelow s capacity y) es brought))
+      subst (λ (x : Replica). Below x y) (run_held s _ es) ((least None s capacity (map event_of es)).1 y (all_to_map (IsBroughtBelow s capacity y) es brought))
 
 -- ---- entries that are those of a script
 

@@ -127,7 +127,7 @@ planned_alike law s c d set first first' whole whole' of of' settings origins ag
     let here = planned_there c first whole t l in
     let there = planned_there d first' whole' t m in
     let set' : d.settings ≡ s = sym settings ∙ set in
-    let same = law s (replica_of c.held) (replica_of d.held) of of' agree t here.0 there.0 in
+    let same = law None s (replica_of c.held) (replica_of d.held) of of' agree t here.0 there.0 in
     let tables : table d.settings (replica_of d.held) t ≡ table c.settings (replica_of c.held) t = ap (λ (r : Settings). table r (replica_of d.held) t) set' ∙ sym same.0 ∙ ap (λ (r : Settings). table r (replica_of c.held) t) (sym set) in
     let decided : decisions d.settings (replica_of d.held) t ≡ decisions c.settings (replica_of c.held) t = ap (λ (r : Settings). decisions r (replica_of d.held) t) set' ∙ sym same.1 ∙ ap (λ (r : Settings). decisions r (replica_of c.held) t) (sym set) in
     let own = ap (λ (o : Origin). Some (table_from o c.settings (replica_of c.held) t)) (sym first) in

@@ -67,7 +67,7 @@ module _ (x y : Replica) (processors : x.processors ≡ y.processors) (beginning
     same_plan = λ i. map (λ t. same_table t i) (numbers_below (min (same_frontier i) s.slots))
 
     same_lags : (t : ℕ) → lag_rows s x t ≡ lag_rows s y t
-    same_lags t = λ i. map (lag_row (same_history (suc t) i).tables (t + 1)) (filter is_staying (same_world t i))
+    same_lags t = λ i. map (lag_row (t + 1)) (filter is_staying (same_history (suc t) i).members)
 
     same_text : (output : Output) → text_of output s x ≡ text_of output s y
     same_text Tables = ap replay_text same_plan

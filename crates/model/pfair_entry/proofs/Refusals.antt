@@ -8,9 +8,9 @@ use Rattle.pfair_weight.specs.WeightFault.{IsFaultOf as IsWeightFaultOf}
 use Rattle.pfair_weight.specs.declared.name.NameFault.{NameFault}
 use Rattle.pfair_weight.specs.declared.name.NameFault.TheVariants as name
 use Rattle.pfair_weight.specs.declared.weight.WeightFault.{WeightFault}
-use Rattle.pfair_entry.specs.Entry.{Logged, IsEntry}
+use Rattle.pfair_entry.specs.Entry.{Logged, IsEntry, IsWeighed}
 use Rattle.pfair_entry.specs.EntryFault.{entry_fault}
-use Rattle.pfair_entry.specs.Notice.{announced_fault, first_failing, name_fault, refusal, weight_fault, IsLoggable, IsNamed, IsWeighed, IsWellSaid}
+use Rattle.pfair_entry.specs.Notice.{announced_fault, first_failing, name_fault, refusal, weight_fault, IsLoggable, IsNamed, IsWellSaid}
 use Rattle.pfair_entry.specs.declared.announcement.Announcement.{Announcement}
 use Rattle.pfair_entry.specs.declared.entry.EntryFault.{EntryFault}
 use Rattle.pfair_entry.specs.declared.notice.NoticeFault.TheVariants.{Entry}

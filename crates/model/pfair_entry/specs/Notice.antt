@@ -1,15 +1,14 @@
 -- Entries before they are checked, and the first rule that refuses one: of names, of weights, of entries.
-use Rattle.std.specs.Prelude.{ℕ, suc, ⊤, ◌==◌, nat_lt, if◌then◌else◌, Bool, List, [], ◌∷◌, length, Option, None, Some, option_map, option_and_then, Result, Ok, Err, IfSome}
+use Rattle.std.specs.Prelude.{ℕ, suc, ◌==◌, nat_lt, if◌then◌else◌, Bool, List, [], ◌∷◌, length, Option, None, Some, option_map, option_and_then, Result, Ok, Err, IfSome}
 use Rattle.std.specs.Option.{option_or, option_map_or}
 use Rattle.pfair_weight.specs.Name.{may_stand, IsTaskName}
-use Rattle.pfair_weight.specs.Share.{IsWeight}
 use Rattle.pfair_weight.specs.NameFault.{name_fault_number}
 use Rattle.pfair_weight.specs.WeightFault.{weight_fault_number}
 use Rattle.pfair_weight.specs.declared.name.NameFault.{NameFault}
 use Rattle.pfair_weight.specs.declared.name.NameFault.TheVariants as name
 use Rattle.pfair_weight.specs.declared.weight.WeightFault.{WeightFault}
 use Rattle.pfair_weight.specs.declared.weight.WeightFault.TheVariants as weight
-use Rattle.pfair_entry.specs.Entry.{Logged, IsEntry}
+use Rattle.pfair_entry.specs.Entry.{Logged, IsEntry, IsWeighed}
 use Rattle.pfair_entry.specs.EntryFault.{entry_fault, entry_fault_number}
 use Rattle.pfair_entry.specs.Names.{name_of}
 use Rattle.pfair_entry.specs.declared.announcement.Announcement.{Announcement}
@@ -38,11 +37,6 @@ unchecked floor notice = record { floor = floor; said = option_map noticed notic
 
 abbrev pub IsNamed : Announcement → Type 0
 IsNamed a = IsTaskName (name_of a)
-
-abbrev pub IsWeighed : Announcement → Type 0
-IsWeighed (said.Arrive name share early) = IsWeight share.cost share.period
-IsWeighed (said.Depart name) = ⊤
-IsWeighed (said.Late name index by) = ⊤
 
 -- a task's name and a weight, if something is announced
 abbrev pub IsWellSaid : Option (ℕ × Announcement) → Type 0

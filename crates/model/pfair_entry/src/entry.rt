@@ -99,12 +99,17 @@ impl Entry {
         if *stamp < floor {
             return Err(EntryFault::StampBeforeFloor);
         }
-        if let Announcement::Late { index, by, .. } = announcement {
-            if *index == 0 || *index > Entry::LAST_INDEX {
-                return Err(EntryFault::BadIndex);
-            }
-            if *by == 0 || *by > Entry::LONGEST_DELAY {
-                return Err(EntryFault::BadDelay);
+        match announcement {
+            // a weight is within its limits
+            Announcement::Arrive { weight, .. } => prove!(weight.cost() >= 1),
+            Announcement::Depart { .. } => {}
+            Announcement::Late { index, by, .. } => {
+                if *index == 0 || *index > Entry::LAST_INDEX {
+                    return Err(EntryFault::BadIndex);
+                }
+                if *by == 0 || *by > Entry::LONGEST_DELAY {
+                    return Err(EntryFault::BadDelay);
+                }
             }
         }
         Ok(Entry { floor, said })

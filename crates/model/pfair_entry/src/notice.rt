@@ -1,6 +1,7 @@
 //! Announcements before they are checked, as a file, a row or C has them.
 ghost use Rattle.std.specs.Prelude.{◌≡◌, Some, IfOk, IfErr};
-ghost use Rattle.pfair_entry.specs.Notice.{announced_fault, checked, noticed, notice_fault_number, unchecked, IsLoggable, IsNamed, IsWeighed};
+ghost use Rattle.pfair_entry.specs.Notice.{announced_fault, checked, noticed, notice_fault_number, unchecked, IsLoggable, IsNamed};
+ghost use Rattle.pfair_entry.specs.Entry.{IsWeighed};
 
 use crate::announcement::Announcement;
 use crate::entry::{Entry, EntryFault};

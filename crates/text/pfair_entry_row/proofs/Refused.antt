@@ -1,8 +1,8 @@
 -- What a log may have is refused by no rule.
 use Rattle.std.proofs.Common.{ℕ, ◌≡◌, arith, Option, None, Some, Ok}
 use Rattle.std.proofs.lemmas.Bool.Decides.{nat_tests}
-use Rattle.pfair_entry.specs.Entry.{Logged, IsEntry}
-use Rattle.pfair_entry.specs.Notice.{IsNamed, IsWeighed, IsWellSaid}
+use Rattle.pfair_entry.specs.Entry.{Logged, IsEntry, IsWeighed}
+use Rattle.pfair_entry.specs.Notice.{IsNamed, IsWellSaid}
 use Rattle.pfair_entry.proofs.Refusals.{no_refusal}
 use Rattle.pfair_entry.specs.declared.announcement.Announcement.{Announcement}
 use Rattle.pfair_entry.specs.declared.announcement.Announcement.TheVariants.{Arrive, Depart, Late}

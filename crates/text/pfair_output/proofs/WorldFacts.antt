@@ -1,50 +1,49 @@
--- A book that is notified of a whole plan has the members that stay, with their lags.
-use Rattle.std.proofs.Common.{ℕ, zero, suc, ◌+◌, ◌-◌, ◌≤◌, ◌≡◌, refl, sym, ap, ◌∙◌, arith, Bool, true, false, cond, not, ◌||◌, List, [], ◌∷◌, ◌++◌, Option, Some, None, map, length, drop, append_assoc}
-use Rattle.std.specs.Prelude.{is_some, filter, count_by, min, nat_le}
+-- A book that is notified of a run's slots has the members that stay, with their lags.
+use Rattle.std.proofs.Common.{ℕ, zero, suc, ◌+◌, ◌-◌, ◌≤◌, ◌≡◌, refl, sym, ap, ◌∙◌, arith, subst, inl, inr, Bool, true, false, cond, not, ◌||◌, List, [], ◌∷◌, ◌++◌, Option, Some, None, map, length, append_assoc}
+use Rattle.std.specs.Prelude.{is_some, filter, min, nat_le, if◌then◌else◌}
 use Rattle.std.specs.List.{AllByRecursion, flat_map}
+use Rattle.std.specs.Cmp.Lexicographic.{nat_list_eq_equiv}
 use Rattle.std.specs.Map.{lookup}
-use Rattle.std.proofs.lemmas.List.{map-append, drop-append-le, drop_all, append-nil}
-use Rattle.std.proofs.lemmas.List.Sums.{sum_by-append, sum_by-cons}
+use Rattle.std.proofs.lemmas.List.{map-append, append-nil}
 use Rattle.std.proofs.lemmas.Grind.{flat_map-append}
+use Rattle.std.proofs.lemmas.Simd.{map-map}
+use Rattle.pfair_weight.specs.Name.{NameValue, NamesApart, name_eq}
 use Rattle.pfair_weight.specs.Share.{Share}
+use Rattle.pfair_weight.proofs.NamesApart.{apart_head, apart_nil, apart_tail}
+use Rattle.pfair_entry.specs.Exact.{name_exact}
 use Rattle.pfair_entry.specs.declared.announcement.Announcement.{Announcement}
 use Rattle.pfair_entry.specs.declared.announcement.Announcement.TheVariants.{Arrive, Depart, Late}
 use Rattle.pfair_entry.specs.Said.{Said}
+use Rattle.pfair_replica.specs.Among.{Among, among_all, map_same}
 use Rattle.pfair_replica.specs.Replica.{Replica, frontier, said, numbers_below}
 use Rattle.pfair_replica.specs.HeldRows.{replica_of}
 use Rattle.pfair_table.specs.Refinement.{Dispatch, IsWholePlan}
 use Rattle.pfair_admission.specs.declared.decision.Decision.{Decision}
 use Rattle.pfair_admission.specs.declared.decision.Decision.TheVariants.{Admitted, Departing, Delayed, Refused}
-use Rattle.pfair_admission.specs.Member.{Member}
-use Rattle.pfair_admission.specs.Admission.{Machine, member_named, decision, newcomer, with_freeing, with_delay, change, effect, is_freed, present, all_decided, all_decisions, announcements}
+use Rattle.pfair_admission.specs.Member.{Member, is_departing}
+use Rattle.pfair_admission.specs.Admission.{Machine, member_named, decision, newcomer, with_freeing, with_delay, with_quantum, change, effect, is_freed, present, all_decided, all_decisions, announcements}
 use Rattle.pfair_table.specs.declared.pick.Pick.{Pick}
 use Rattle.pfair_table.specs.declared.pick.Decided.{Decided}
-use Rattle.pfair_table.specs.Table.{Settings, Origin, Table, machine, names_task, quanta, counted, history, world, table, with_decisions, decisions, decisions_from, plan_from}
-use Rattle.pfair_weight.specs.Name.{NameValue, name_eq}
-use Rattle.pfair_lag.specs.Book.{Tally, Book, empty_book, tally_of, has_run, entered_with, slot_more}
+use Rattle.pfair_table.specs.Table.{Settings, Origin, Story, Table, machine, members_before, names_task, slot_of, history_over, world_over, table_over, decisions_over, table, with_decisions, decisions, decisions_from, plan_from}
+use Rattle.pfair_lag.specs.Book.{Tally, Book, empty_book, tally_of, has_run, entered_after, entered_with, slot_more}
 use Rattle.pfair_output.specs.Lags.{is_staying, lag_row, lag_rows}
-use Rattle.pfair_output.specs.Told.{told, all_told, slot_told, all_slots_told, tally_row, book_rows, rows_told}
+use Rattle.pfair_output.specs.Told.{told, all_told, slot_told, all_slots_told, tally_row, book_rows, rows_told, all_entered, entered_again, first_book}
 use Rattle.pfair_admission.proofs.Deciding.{admitted_new}
-use Rattle.pfair_admission.proofs.Each.{each_filter}
-use Rattle.pfair_table.proofs.NextIndexes.{joined_world, long_history, runs_are_counted}
+use Rattle.pfair_admission.proofs.Each.{each, each_filter, each_map}
+use Rattle.pfair_table.proofs.Members.{label, named_from}
+use Rattle.pfair_table.proofs.NextIndexes.{after_table, all_ran_is, each_boundary}
+use Rattle.pfair_table.proofs.RunsOn.{slot_more as slot_later}
+use Rattle.pfair_table.proofs.TableLaws.{rows_apart}
 use Rattle.pfair_output.proofs.ToldFacts.{time-all_told}
 
 -- what a book has of a member
-abbrev pub shown : ℕ → List Table → Member → NameValue × Tally
-shown time tables m = (m.name, record { weight = m.weight; slots = time - m.joined; ran = quanta tables m })
+abbrev pub shown : ℕ → Member → NameValue × Tally
+shown time m = (m.name, record { weight = m.weight; slots = time - m.joined; ran = m.next - 1 })
 
-abbrev pub shown_all : ℕ → List Table → List Member → List (NameValue × Tally)
-shown_all time tables ms = map (shown time tables) (filter is_staying ms)
+abbrev pub shown_all : ℕ → List Member → List (NameValue × Tally)
+shown_all time ms = map (shown time) (filter is_staying ms)
 
--- ---- what the boundary does not change
-
-shown_counted : (time : ℕ) (tables : List Table) (ms : List Member) → shown_all time tables (counted tables ms) ≡ shown_all time tables ms
-shown_counted time tables [] = refl
-shown_counted time tables (m ∷ ms) =
-    elim (is_staying m) as (λ b. map (shown time tables) (cond b (record m { next = 1 + quanta tables m } ∷ filter is_staying (counted tables ms)) (filter is_staying (counted tables ms))) ≡ map (shown time tables) (cond b (m ∷ filter is_staying ms) (filter is_staying ms))) [
-      | true ↦ ap (λ l. shown time tables m ∷ l) (shown_counted time tables ms)
-      | false ↦ shown_counted time tables ms
-    ]
+-- ---- who is present
 
 stays_present : (t : ℕ) (m : Member) (rest kept : List Member) (o : Option ℕ) → filter is_staying kept ≡ rest
     → filter is_staying (cond (not (is_freed t o)) (record m { freed_at = o } ∷ kept) kept) ≡ cond (not (is_some o)) (record m { freed_at = o } ∷ rest) rest
@@ -58,15 +57,15 @@ staying_present t (m ∷ ms) = stays_present t m (filter is_staying ms) (present
 
 -- ---- who enters
 
-no_entry : (time : ℕ) (tables : List Table) (name : NameValue) (ms : List Member) → member_named ms name ≡ None → lookup (name_eq name) (shown_all time tables ms) ≡ None
-no_entry time tables name [] none = refl
-no_entry time tables name (m ∷ ms) none =
-    elim (name_eq name m.name) as (λ b. name_eq name m.name ≡ b → cond b (Some m) (member_named ms name) ≡ None → lookup (name_eq name) (shown_all time tables (m ∷ ms)) ≡ None) [
+no_entry : (time : ℕ) (name : NameValue) (ms : List Member) → member_named ms name ≡ None → lookup (name_eq name) (shown_all time ms) ≡ None
+no_entry time name [] none = refl
+no_entry time name (m ∷ ms) none =
+    elim (name_eq name m.name) as (λ b. name_eq name m.name ≡ b → cond b (Some m) (member_named ms name) ≡ None → lookup (name_eq name) (shown_all time (m ∷ ms)) ≡ None) [
       | true ↦ λ _ n. absurd (some_none m n)
       | false ↦ λ e n.
-          let rest : lookup (name_eq name) (shown_all time tables ms) ≡ None = no_entry time tables name ms n in
-          elim (is_staying m) as (λ b. lookup (name_eq name) (map (shown time tables) (cond b (m ∷ filter is_staying ms) (filter is_staying ms))) ≡ None) [
-            | true ↦ ap (λ b. cond b (Some (shown time tables m).1) (lookup (name_eq name) (shown_all time tables ms))) e ∙ rest
+          let rest : lookup (name_eq name) (shown_all time ms) ≡ None = no_entry time name ms n in
+          elim (is_staying m) as (λ b. lookup (name_eq name) (map (shown time) (cond b (m ∷ filter is_staying ms) (filter is_staying ms))) ≡ None) [
+            | true ↦ ap (λ b. cond b (Some (shown time m).1) (lookup (name_eq name) (shown_all time ms))) e ∙ rest
             | false ↦ rest
           ]
     ] refl none
@@ -83,86 +82,83 @@ staying_push (x ∷ ms) m e =
     ]
 
 -- a newcomer has had no slot and no quantum
-new_shown : (t : ℕ) (tables : List Table) (name : NameValue) (w : Share) (early : Bool) → length tables ≡ t → shown t tables (newcomer t name w early) ≡ (name, record { weight = w; slots = 0; ran = 0 })
-new_shown t tables name w early long =
-    let slots : t - t ≡ 0 = omega arith in
-    let ran : count_by (names_task name) (drop t tables) ≡ 0 = ap (λ l. count_by (names_task name) l) (drop_all t tables (omega arith)) in
-    λ i. (name, record { weight = w; slots = slots i; ran = ran i })
+new_shown : (t : ℕ) (name : NameValue) (w : Share) (early : Bool) → shown t (newcomer t name w early) ≡ (name, record { weight = w; slots = 0; ran = 0 })
+new_shown t name w early = (let slots : t - t ≡ 0 = omega arith in λ i. (name, record { weight = w; slots = slots i; ran = 0 }))
 
-entered_new : (t : ℕ) (tables : List Table) (ms : List Member) (name : NameValue) (w : Share) (early : Bool) (book : Book)
-    → length tables ≡ t → book.entered ≡ shown_all t tables ms → member_named ms name ≡ None
-    → (entered_with name w book).entered ≡ shown_all t tables (ms ++ newcomer t name w early ∷ [])
-entered_new t tables ms name w early book long is none =
-    let fresh : is_some (tally_of name book) ≡ false = ap is_some (ap (lookup (name_eq name)) is ∙ no_entry t tables name ms none) in
+entered_new : (t : ℕ) (ms : List Member) (name : NameValue) (w : Share) (early : Bool) (book : Book)
+    → book.entered ≡ shown_all t ms → member_named ms name ≡ None
+    → (entered_with name w book).entered ≡ shown_all t (ms ++ newcomer t name w early ∷ [])
+entered_new t ms name w early book is none =
+    let fresh : is_some (tally_of name book) ≡ false = ap is_some (ap (lookup (name_eq name)) is ∙ no_entry t name ms none) in
     ap (λ b. (cond b book (record book { entered = book.entered ++ (name, record { weight = w; slots = 0; ran = 0 }) ∷ [] })).entered) fresh
     ∙ ap (λ (l : List (NameValue × Tally)). l ++ (name, record { weight = w; slots = 0; ran = 0 }) ∷ []) is
-    ∙ ap (λ (e : NameValue × Tally). shown_all t tables ms ++ e ∷ []) (sym (new_shown t tables name w early long))
-    ∙ sym (ap (map (shown t tables)) (staying_push ms (newcomer t name w early) refl) ∙ map-append (shown t tables) (filter is_staying ms) (newcomer t name w early ∷ []))
+    ∙ ap (λ (e : NameValue × Tally). shown_all t ms ++ e ∷ []) (sym (new_shown t name w early))
+    ∙ sym (ap (map (shown t)) (staying_push ms (newcomer t name w early) refl) ∙ map-append (shown t) (filter is_staying ms) (newcomer t name w early ∷ []))
 
 -- ---- who leaves
 
-shown_left : (t : ℕ) (tables : List Table) (name : NameValue) (slot : ℕ) (ms : List Member) → filter (λ (e : NameValue × Tally). not (name_eq name e.0)) (shown_all t tables ms) ≡ shown_all t tables (change name (with_freeing slot) ms)
-shown_left t tables name slot [] = refl
-shown_left t tables name slot (m ∷ ms) =
+shown_left : (t : ℕ) (name : NameValue) (slot : ℕ) (ms : List Member) → filter (λ (e : NameValue × Tally). not (name_eq name e.0)) (shown_all t ms) ≡ shown_all t (change name (with_freeing slot) ms)
+shown_left t name slot [] = refl
+shown_left t name slot (m ∷ ms) =
     let others : NameValue × Tally → Bool = λ e. not (name_eq name e.0) in
-    let rest : filter others (shown_all t tables ms) ≡ shown_all t tables (change name (with_freeing slot) ms) = shown_left t tables name slot ms in
-    elim (name_eq name m.name) as (λ b. name_eq name m.name ≡ b → filter others (shown_all t tables (m ∷ ms)) ≡ shown_all t tables (cond b (with_freeing slot m) m ∷ change name (with_freeing slot) ms)) [
-      | true ↦ λ e. elim (is_staying m) as (λ s. filter others (map (shown t tables) (cond s (m ∷ filter is_staying ms) (filter is_staying ms))) ≡ shown_all t tables (change name (with_freeing slot) ms)) [
-        | true ↦ ap (λ b. cond (not b) (shown t tables m ∷ filter others (shown_all t tables ms)) (filter others (shown_all t tables ms))) e ∙ rest
+    let rest : filter others (shown_all t ms) ≡ shown_all t (change name (with_freeing slot) ms) = shown_left t name slot ms in
+    elim (name_eq name m.name) as (λ b. name_eq name m.name ≡ b → filter others (shown_all t (m ∷ ms)) ≡ shown_all t (cond b (with_freeing slot m) m ∷ change name (with_freeing slot) ms)) [
+      | true ↦ λ e. elim (is_staying m) as (λ s. filter others (map (shown t) (cond s (m ∷ filter is_staying ms) (filter is_staying ms))) ≡ shown_all t (change name (with_freeing slot) ms)) [
+        | true ↦ ap (λ b. cond (not b) (shown t m ∷ filter others (shown_all t ms)) (filter others (shown_all t ms))) e ∙ rest
         | false ↦ rest
       ]
-      | false ↦ λ e. elim (is_staying m) as (λ s. filter others (map (shown t tables) (cond s (m ∷ filter is_staying ms) (filter is_staying ms))) ≡ map (shown t tables) (cond s (m ∷ filter is_staying (change name (with_freeing slot) ms)) (filter is_staying (change name (with_freeing slot) ms)))) [
-        | true ↦ ap (λ b. cond (not b) (shown t tables m ∷ filter others (shown_all t tables ms)) (filter others (shown_all t tables ms))) e ∙ ap (λ l. shown t tables m ∷ l) rest
+      | false ↦ λ e. elim (is_staying m) as (λ s. filter others (map (shown t) (cond s (m ∷ filter is_staying ms) (filter is_staying ms))) ≡ map (shown t) (cond s (m ∷ filter is_staying (change name (with_freeing slot) ms)) (filter is_staying (change name (with_freeing slot) ms)))) [
+        | true ↦ ap (λ b. cond (not b) (shown t m ∷ filter others (shown_all t ms)) (filter others (shown_all t ms))) e ∙ ap (λ l. shown t m ∷ l) rest
         | false ↦ rest
       ]
     ] refl
 
 -- ---- who is late
 
-shown_late : (t : ℕ) (tables : List Table) (name : NameValue) (index by : ℕ) (ms : List Member) → shown_all t tables (change name (with_delay index by) ms) ≡ shown_all t tables ms
-shown_late t tables name index by [] = refl
-shown_late t tables name index by (m ∷ ms) =
-    let rest : shown_all t tables (change name (with_delay index by) ms) ≡ shown_all t tables ms = shown_late t tables name index by ms in
-    elim (name_eq name m.name) as (λ b. shown_all t tables (cond b (with_delay index by m) m ∷ change name (with_delay index by) ms) ≡ shown_all t tables (m ∷ ms)) [
-      | true ↦ elim (is_staying m) as (λ s. map (shown t tables) (cond s (with_delay index by m ∷ filter is_staying (change name (with_delay index by) ms)) (filter is_staying (change name (with_delay index by) ms))) ≡ map (shown t tables) (cond s (m ∷ filter is_staying ms) (filter is_staying ms))) [
-        | true ↦ ap (λ l. shown t tables m ∷ l) rest
+shown_late : (t : ℕ) (name : NameValue) (index by : ℕ) (ms : List Member) → shown_all t (change name (with_delay index by) ms) ≡ shown_all t ms
+shown_late t name index by [] = refl
+shown_late t name index by (m ∷ ms) =
+    let rest : shown_all t (change name (with_delay index by) ms) ≡ shown_all t ms = shown_late t name index by ms in
+    elim (name_eq name m.name) as (λ b. shown_all t (cond b (with_delay index by m) m ∷ change name (with_delay index by) ms) ≡ shown_all t (m ∷ ms)) [
+      | true ↦ elim (is_staying m) as (λ s. map (shown t) (cond s (with_delay index by m ∷ filter is_staying (change name (with_delay index by) ms)) (filter is_staying (change name (with_delay index by) ms))) ≡ map (shown t) (cond s (m ∷ filter is_staying ms) (filter is_staying ms))) [
+        | true ↦ ap (λ l. shown t m ∷ l) rest
         | false ↦ rest
       ]
-      | false ↦ elim (is_staying m) as (λ s. map (shown t tables) (cond s (m ∷ filter is_staying (change name (with_delay index by) ms)) (filter is_staying (change name (with_delay index by) ms))) ≡ map (shown t tables) (cond s (m ∷ filter is_staying ms) (filter is_staying ms))) [
-        | true ↦ ap (λ l. shown t tables m ∷ l) rest
+      | false ↦ elim (is_staying m) as (λ s. map (shown t) (cond s (m ∷ filter is_staying (change name (with_delay index by) ms)) (filter is_staying (change name (with_delay index by) ms))) ≡ map (shown t) (cond s (m ∷ filter is_staying ms) (filter is_staying ms))) [
+        | true ↦ ap (λ l. shown t m ∷ l) rest
         | false ↦ rest
       ]
     ]
 
 -- ---- one announcement
 
-one_told : (machine : Machine) (t : ℕ) (tables : List Table) (ms : List Member) (a : Announcement) (d : Decision) (book : Book)
-    → length tables ≡ t → d ≡ decision machine t ms a → book.entered ≡ shown_all t tables ms
-    → (told a d book).entered ≡ shown_all t tables (effect t ms a d)
-one_told machine t tables ms (Arrive name w early) Admitted book long is at = entered_new t tables ms name w early book long at (admitted_new machine ms name w is)
-one_told machine t tables ms (Arrive name w early) (Departing slot) book long is at = at
-one_told machine t tables ms (Arrive name w early) Delayed book long is at = at
-one_told machine t tables ms (Arrive name w early) (Refused why) book long is at = at
-one_told machine t tables ms (Depart name) Admitted book long is at = at
-one_told machine t tables ms (Depart name) (Departing slot) book long is at = ap (filter (λ (e : NameValue × Tally). not (name_eq name e.0))) at ∙ shown_left t tables name slot ms
-one_told machine t tables ms (Depart name) Delayed book long is at = at
-one_told machine t tables ms (Depart name) (Refused why) book long is at = at
-one_told machine t tables ms (Late name index by) Admitted book long is at = at
-one_told machine t tables ms (Late name index by) (Departing slot) book long is at = at
-one_told machine t tables ms (Late name index by) Delayed book long is at = at ∙ sym (shown_late t tables name index by ms)
-one_told machine t tables ms (Late name index by) (Refused why) book long is at = at
+one_told : (machine : Machine) (t : ℕ) (ms : List Member) (a : Announcement) (d : Decision) (book : Book)
+    → d ≡ decision machine t ms a → book.entered ≡ shown_all t ms
+    → (told a d book).entered ≡ shown_all t (effect t ms a d)
+one_told machine t ms (Arrive name w early) Admitted book is at = entered_new t ms name w early book at (admitted_new machine ms name w is)
+one_told machine t ms (Arrive name w early) (Departing slot) book is at = at
+one_told machine t ms (Arrive name w early) Delayed book is at = at
+one_told machine t ms (Arrive name w early) (Refused why) book is at = at
+one_told machine t ms (Depart name) Admitted book is at = at
+one_told machine t ms (Depart name) (Departing slot) book is at = ap (filter (λ (e : NameValue × Tally). not (name_eq name e.0))) at ∙ shown_left t name slot ms
+one_told machine t ms (Depart name) Delayed book is at = at
+one_told machine t ms (Depart name) (Refused why) book is at = at
+one_told machine t ms (Late name index by) Admitted book is at = at
+one_told machine t ms (Late name index by) (Departing slot) book is at = at
+one_told machine t ms (Late name index by) Delayed book is at = at ∙ sym (shown_late t name index by ms)
+one_told machine t ms (Late name index by) (Refused why) book is at = at
 
 -- ---- all of a slot
 
-all_of_slot : (machine : Machine) (t : ℕ) (tables : List Table) (heard : List Said) (ms : List Member) (book : Book)
-    → length tables ≡ t → book.entered ≡ shown_all t tables ms
-    → (all_told (with_decisions heard (all_decisions machine t ms (announcements heard))) book).entered ≡ shown_all t tables (all_decided machine t ms (announcements heard))
-all_of_slot machine t tables [] ms book long at = at
-all_of_slot machine t tables (a ∷ more) ms book long at =
+all_of_slot : (machine : Machine) (t : ℕ) (heard : List Said) (ms : List Member) (book : Book)
+    → book.entered ≡ shown_all t ms
+    → (all_told (with_decisions heard (all_decisions machine t ms (announcements heard))) book).entered ≡ shown_all t (all_decided machine t ms (announcements heard))
+all_of_slot machine t [] ms book at = at
+all_of_slot machine t (a ∷ more) ms book at =
     let d : Decision = decision machine t ms a.2 in
     let after : List Member = effect t ms a.2 d in
-    let one : (told a.2 d book).entered ≡ shown_all t tables after = one_told machine t tables ms a.2 d book long refl at in
-    all_of_slot machine t tables more (present t after) (told a.2 d book) long (one ∙ ap (map (shown t tables)) (sym (staying_present t after)))
+    let one : (told a.2 d book).entered ≡ shown_all t after = one_told machine t ms a.2 d book refl at in
+    all_of_slot machine t more (present t after) (told a.2 d book) (one ∙ ap (map (shown t)) (sym (staying_present t after)))
 
 -- ---- the table of a slot
 
@@ -170,82 +166,152 @@ any_of_names : (name : NameValue) (table : Table) → has_run (map (λ (p : Pick
 any_of_names name [] = refl
 any_of_names name (p ∷ table) = ap (λ b. name_eq name p.name || b) (any_of_names name table)
 
-count_one : {A : Type 0} (p : A → Bool) (x : A) → count_by p (x ∷ []) ≡ cond (p x) 1 0
-count_one p x = sum_by-cons (λ y. cond (p y) 1 0) x [] ∙ (let e : cond (p x) 1 0 + 0 ≡ cond (p x) 1 0 = omega arith in e)
+turned : (a b : NameValue) → name_eq a b ≡ false → name_eq b a ≡ false
+turned a b e = nat_list_eq_equiv.symm b a ∙ e
 
-more_quanta : (tables : List Table) (table : Table) (m : Member) → m.joined ≤ length tables → quanta (tables ++ table ∷ []) m ≡ quanta tables m + cond (names_task m.name table) 1 0
-more_quanta tables table m within =
-    ap (count_by (names_task m.name)) (drop-append-le m.joined tables (table ∷ []) within)
-    ∙ sum_by-append (λ x. cond (names_task m.name x) 1 0) (drop m.joined tables) (table ∷ [])
-    ∙ ap (λ n. quanta tables m + n) (count_one (names_task m.name) table)
+-- a member has joined by that slot, and its subtasks count from 1
+abbrev pub HasJoined : ℕ → Member → Type 0
+HasJoined slot m = (m.joined ≤ slot) × (1 ≤ m.next)
 
-shown_more : (t : ℕ) (tables : List Table) (table : Table) (m : Member) → length tables ≡ t → m.joined ≤ t
-    → slot_more (map (λ (p : Pick). p.name) table) m.name (shown t tables m).1 ≡ (shown (t + 1) (tables ++ table ∷ []) m).1
-shown_more t tables table m long joined =
-    let slots : t - m.joined + 1 ≡ t + 1 - m.joined = omega arith in
-    let ran : quanta tables m + cond (has_run (map (λ (p : Pick). p.name) table) m.name) 1 0 ≡ quanta (tables ++ table ∷ []) m =
-    ap (λ b. quanta tables m + cond b 1 0) (any_of_names m.name table) ∙ sym (more_quanta tables table m (omega arith)) in
-    λ i. record { weight = m.weight; slots = slots i; ran = ran i }
+shown_more : (slot : ℕ) (rows : Table) (m : Member) → HasJoined slot m → (m.name, slot_more (map (λ (p : Pick). p.name) rows) m.name (shown slot m).1) ≡ shown (slot + 1) (after_table rows m)
+shown_more slot rows m h =
+    ap (λ b. (m.name, record { weight = m.weight; slots = slot - m.joined + 1; ran = m.next - 1 + cond b 1 0 })) (any_of_names m.name rows) ∙ by (names_task m.name rows)
+  where
+    by : (b : Bool) → (m.name, record { weight = m.weight; slots = slot - m.joined + 1; ran = m.next - 1 + cond b 1 0 }) ≡ shown (slot + 1) (if b then with_quantum m else m)
+    by true = (let slots : slot - m.joined + 1 ≡ slot + 1 - m.joined = omega (arith, h) in let ran : m.next - 1 + 1 ≡ m.next + 1 - 1 = omega (arith, h) in λ i. (m.name, record { weight = m.weight; slots = slots i; ran = ran i }))
+    by false = (let slots : slot - m.joined + 1 ≡ slot + 1 - m.joined = omega (arith, h) in let ran : m.next - 1 + 0 ≡ m.next - 1 = omega arith in λ i. (m.name, record { weight = m.weight; slots = slots i; ran = ran i }))
 
-all_recorded : (t : ℕ) (tables : List Table) (table : Table) (ms : List Member) → length tables ≡ t → AllByRecursion (λ m. m.joined ≤ t) ms
-    → map (λ (e : NameValue × Tally). (e.0, slot_more (map (λ (p : Pick). p.name) table) e.0 e.1)) (map (shown t tables) ms) ≡ map (shown (t + 1) (tables ++ table ∷ [])) ms
-all_recorded t tables table [] long j = refl
-all_recorded t tables table (m ∷ ms) long j =
-    ap (λ (y : Tally). (m.name, y) ∷ map (λ (e : NameValue × Tally). (e.0, slot_more (map (λ (p : Pick). p.name) table) e.0 e.1)) (map (shown t tables) ms)) (shown_more t tables table m long j.0)
-    ∙ ap (λ l. shown (t + 1) (tables ++ table ∷ []) m ∷ l) (all_recorded t tables table ms long j.1)
+stays_after : (rows : Table) (m : Member) → is_staying (after_table rows m) ≡ is_staying m
+stays_after rows m = (elim (names_task m.name rows) as (λ b. is_staying (if b then with_quantum m else m) ≡ is_staying m) [ true ↦ refl | false ↦ refl ])
+
+all_recorded : (slot : ℕ) (rows : Table) (ms : List Member) → AllByRecursion (HasJoined slot) ms
+    → map (λ (e : NameValue × Tally). (e.0, slot_more (map (λ (p : Pick). p.name) rows) e.0 e.1)) (shown_all slot ms) ≡ shown_all (slot + 1) (map (after_table rows) ms)
+all_recorded slot rows [] j = refl
+all_recorded slot rows (m ∷ ms) j =
+    let more : NameValue × Tally → NameValue × Tally = λ e. (e.0, slot_more (map (λ (p : Pick). p.name) rows) e.0 e.1) in
+    let rest : map more (shown_all slot ms) ≡ shown_all (slot + 1) (map (after_table rows) ms) = all_recorded slot rows ms j.1 in
+    (elim (is_staying m) as (λ b. map more (map (shown slot) (cond b (m ∷ filter is_staying ms) (filter is_staying ms))) ≡ map (shown (slot + 1)) (cond b (after_table rows m ∷ filter is_staying (map (after_table rows) ms)) (filter is_staying (map (after_table rows) ms)))) [
+      | true ↦ (λ i. shown_more slot rows m j.0 i ∷ rest i)
+      | false ↦ rest
+    ])
+    ∙ ap (λ b. map (shown (slot + 1)) (cond b (after_table rows m ∷ filter is_staying (map (after_table rows) ms)) (filter is_staying (map (after_table rows) ms)))) (sym (stays_after rows m))
 
 -- ---- slot after slot
 
-module _ (s : Settings) (x : Replica) where
-  -- the book after so many slots
-  abbrev pub book_after : ℕ → Book
-  book_after zero = empty_book
-  book_after (suc t) = slot_told (decisions s x t) (table s x t) (book_after t)
+module _ (o : Origin) (s : Settings) (x : Story) (named : NamesApart label (members_before o)) (begun : AllByRecursion (HasJoined (slot_of o 0)) (members_before o)) where
+  joined_at : (slot : ℕ) (told : List Said) (members : List Member) → AllByRecursion (HasJoined slot) members → AllByRecursion (HasJoined slot) (all_decided (machine s) slot (present slot members) (announcements told))
+  joined_at slot told members all =
+      each_boundary slot (HasJoined slot) (λ name w early. (omega arith, omega arith)) (λ freed m h. h) (λ index by m h. h) (machine s) (announcements told) members all
+
+  ran_is : (t : ℕ) → (history_over o s x (suc t)).members ≡ map (after_table (table_over o s x t)) (world_over o s x t)
+  ran_is t = all_ran_is (table_over o s x t) (rows_apart s.processors (slot_of o t) (world_over o s x t) (named_from o s named x t)) (world_over o s x t)
+
+  joined_ran : (slot : ℕ) (rows : Table) (m : Member) → HasJoined slot m → HasJoined (suc slot) (after_table rows m)
+  joined_ran slot rows m h = (elim (names_task m.name rows) as (λ b. HasJoined (suc slot) (if b then with_quantum m else m)) [ true ↦ (omega (arith, h), omega arith) | false ↦ (omega (arith, h), h.1) ])
+
+  joined_history : (t : ℕ) → AllByRecursion (HasJoined (slot_of o t)) (history_over o s x t).members
+  joined_history zero = begun
+  joined_history (suc t) =
+      subst (λ (q : ℕ × List Member). AllByRecursion (HasJoined q.0) q.1) (λ i. (sym (slot_later o t) i, sym (ran_is t) i))
+      (each_map (HasJoined (slot_of o t)) (HasJoined (suc (slot_of o t))) (after_table (table_over o s x t)) (joined_ran (slot_of o t) (table_over o s x t)) (world_over o s x t) (joined_at (slot_of o t) (x t) (history_over o s x t).members (joined_history t)))
+
+  -- a book that was notified of so many slots
+  abbrev pub book_over : Book → ℕ → Book
+  book_over book zero = book
+  book_over book (suc t) = slot_told (decisions_over o s x t) (table_over o s x t) (book_over book t)
 
   pub record IsAfter (t : ℕ) (book : Book) : Type 0 where
     pub time_is : book.time ≡ t
-    pub entered_is : book.entered ≡ shown_all t (history s x t).tables (history s x t).members
-
-  -- the quanta of a slot change nothing of it
-  shown_ran : (time t : ℕ) → shown_all time (history s x (suc t)).tables (history s x (suc t)).members ≡ shown_all time (history s x (suc t)).tables (world s x t)
-  shown_ran time t = ap (shown_all time (history s x (suc t)).tables) (runs_are_counted s x t) ∙ shown_counted time (history s x (suc t)).tables (world s x t)
+    pub entered_is : book.entered ≡ shown_all (slot_of o t) (history_over o s x t).members
 
   -- a slot more
-  after_more : (t : ℕ) (book : Book) → IsAfter t book → IsAfter (suc t) (slot_told (decisions s x t) (table s x t) book)
+  after_more : (t : ℕ) (book : Book) → IsAfter t book → IsAfter (suc t) (slot_told (decisions_over o s x t) (table_over o s x t) book)
   after_more t book a =
-      let tables : List Table = (history s x t).tables in
-      let start : List Member = (history s x t).members in
-      let next : suc t ≡ t + 1 = omega arith in
-      let long = long_history s (said x) t in
-      let opened : book.entered ≡ shown_all t tables (present t start) =
-      a.entered_is ∙ ap (map (shown t tables)) (sym (staying_present t start)) in
-      let told : (all_told (decisions s x t) book).entered ≡ shown_all t tables (world s x t) =
-      all_of_slot (machine s) t tables (said x t) (present t start) book long opened in
-      let closed : (slot_told (decisions s x t) (table s x t) book).entered ≡ shown_all (t + 1) (tables ++ table s x t ∷ []) (world s x t) =
-      ap (map (λ (e : NameValue × Tally). (e.0, slot_more (map (λ (p : Pick). p.name) (table s x t)) e.0 e.1))) told
-      ∙ all_recorded t tables (table s x t) (filter is_staying (world s x t)) long (each_filter (λ m. m.joined ≤ t) is_staying (world s x t) (joined_world s (said x) t)) in
+      let slot = slot_of o t in
+      let start = (history_over o s x t).members in
+      let world = world_over o s x t in
+      let rows = table_over o s x t in
+      let next : suc slot ≡ slot + 1 = omega arith in
+      let opened : book.entered ≡ shown_all slot (present slot start) = a.entered_is ∙ ap (map (shown slot)) (sym (staying_present slot start)) in
+      let told : (all_told (decisions_over o s x t) book).entered ≡ shown_all slot world = all_of_slot (machine s) slot (x t) (present slot start) book opened in
+      let closed : (slot_told (decisions_over o s x t) rows book).entered ≡ shown_all (slot + 1) (map (after_table rows) world) =
+      ap (map (λ (e : NameValue × Tally). (e.0, slot_more (map (λ (p : Pick). p.name) rows) e.0 e.1))) told ∙ all_recorded slot rows world (joined_at slot (x t) start (joined_history t)) in
+      let now : t + 1 ≡ suc t = omega arith in
       record {
-        time_is = ap (λ n. n + 1) (time-all_told (decisions s x t) book ∙ a.time_is) ∙ sym next;
-        entered_is = closed ∙ ap (λ n. shown_all n (tables ++ table s x t ∷ []) (world s x t)) (sym next) ∙ sym (shown_ran (suc t) t);
+        time_is = ap (λ n. n + 1) (time-all_told (decisions_over o s x t) book ∙ a.time_is) ∙ now;
+        entered_is = closed ∙ (λ i. shown_all ((sym next ∙ sym (slot_later o t)) i) (sym (ran_is t) i));
       }
 
-  pub after_all : (t : ℕ) → IsAfter t (book_after t)
-  after_all zero = record { time_is = refl; entered_is = refl }
-  after_all (suc t) = after_more t (book_after t) (after_all t)
+  pub after_all : (book : Book) → IsAfter 0 book → (t : ℕ) → IsAfter t (book_over book t)
+  after_all book a zero = a
+  after_all book a (suc t) = after_more t (book_over book t) (after_all book a t)
 
-  same_rows : (time : ℕ) (tables : List Table) (ms : List Member) → map (tally_row time) (map (shown time tables) ms) ≡ map (lag_row tables time) ms
-  same_rows time tables [] = refl
-  same_rows time tables (m ∷ ms) = ap (λ l. lag_row tables time m ∷ l) (same_rows time tables ms)
+-- ---- where a run begins
+
+lookup_push : (name other : NameValue) (t : Tally) (es : List (NameValue × Tally)) → lookup (name_eq name) es ≡ None → name_eq name other ≡ false → lookup (name_eq name) (es ++ (other, t) ∷ []) ≡ None
+lookup_push name other t [] none differ = ap (λ b. cond b (Some t) None) differ
+lookup_push name other t (e ∷ es) none differ = grind (arith, lookup_push name other t es)
+
+all_entered_are : (slot : ℕ) (ms : List Member) (book : Book) → NamesApart label ms → AllByRecursion (λ m. tally_of m.name book ≡ None) ms → (all_entered slot ms book).entered ≡ book.entered ++ shown_all slot ms
+all_entered_are slot [] book apart none = sym (append-nil book.entered)
+all_entered_are slot (m ∷ ms) book apart none =
+    by (is_departing m) (all_entered_are slot ms book (apart_tail label m ms apart) none.1) (all_entered_are slot ms grown (apart_tail label m ms apart) (others ms (apart_head label m ms apart) none.1))
+  where
+    entry : NameValue × Tally
+    entry = shown slot m
+
+    grown : Book
+    grown = record book { entered = book.entered ++ entry ∷ [] }
+
+    fresh : entered_after (slot - m.joined) (m.next - 1) m.name m.weight book ≡ grown
+    fresh = ap (λ b. if b then book else grown) (ap is_some none.0)
+
+    others : (ns : List Member) → AllByRecursion (λ (n : Member). name_eq m.name n.name ≡ false) ns → AllByRecursion (λ (n : Member). tally_of n.name book ≡ None) ns → AllByRecursion (λ (n : Member). tally_of n.name grown ≡ None) ns
+    others [] differ gone = tt
+    others (n ∷ ns) differ gone = (lookup_push n.name m.name entry.1 book.entered gone.0 (turned m.name n.name differ.0), others ns differ.1 gone.1)
+
+    by : (b : Bool) → (all_entered slot ms book).entered ≡ book.entered ++ shown_all slot ms → (all_entered slot ms grown).entered ≡ grown.entered ++ shown_all slot ms
+        → (all_entered slot ms (if b then book else entered_after (slot - m.joined) (m.next - 1) m.name m.weight book)).entered ≡ book.entered ++ map (shown slot) (cond (not b) (m ∷ filter is_staying ms) (filter is_staying ms))
+    by true same more = same
+    by false same more =
+        ap (λ b. (all_entered slot ms b).entered) fresh ∙ more
+        ∙ append_assoc book.entered (entry ∷ []) (shown_all slot ms)
+
+none_entered : (ms : List Member) → AllByRecursion (λ (m : Member). tally_of m.name empty_book ≡ None) ms
+none_entered [] = tt
+none_entered (m ∷ ms) = (refl, none_entered ms)
+
+pub entered_time : (slot : ℕ) (ms : List Member) (book : Book) → (all_entered slot ms book).time ≡ book.time
+entered_time slot [] book = refl
+entered_time slot (m ∷ ms) book = grind (arith, entered_time slot ms (entered_again slot m book))
+
+pub begins_after : (o : Origin) (s : Settings) (x : Story) (named : NamesApart label (members_before o)) (begun : AllByRecursion (HasJoined (slot_of o 0)) (members_before o)) → IsAfter o s x named begun 0 (first_book o)
+begins_after None s x named begun = record { time_is = refl; entered_is = refl }
+begins_after (Some c) s x named begun =
+    let at : c.slot ≡ c.slot + 0 = omega arith in
+    record { time_is = entered_time c.slot c.members empty_book; entered_is = all_entered_are c.slot c.members empty_book named (none_entered c.members) ∙ ap (λ slot. shown_all slot c.members) at }
+
+-- ---- a first run
+
+module _ (s : Settings) (x : Replica) where
+  abbrev pub book_after : ℕ → Book
+  book_after t = book_over None s (said x) (apart_nil label) tt empty_book t
+
+  pub after_first : (t : ℕ) → IsAfter None s (said x) (apart_nil label) tt t (book_after t)
+  after_first t = after_all None s (said x) (apart_nil label) tt empty_book (record { time_is = refl; entered_is = refl }) t
+
+  same_rows : (time : ℕ) (ms : List Member) → map (tally_row time) (map (shown time) ms) ≡ map (lag_row time) ms
+  same_rows time [] = refl
+  same_rows time (m ∷ ms) = ap (λ l. lag_row time m ∷ l) (same_rows time ms)
 
   -- the rows after a slot
   pub rows_after : (t : ℕ) → book_rows (book_after (suc t)) ≡ lag_rows s x t
   rows_after t =
-      let a : IsAfter (suc t) (book_after (suc t)) = after_all (suc t) in
+      let a = after_first (suc t) in
+      let members = (history_over None s (said x) (suc t)).members in
       let next : suc t ≡ t + 1 = omega arith in
-      ap (λ n. map (tally_row n) (book_after (suc t)).entered) a.time_is
-      ∙ ap (map (tally_row (suc t))) (a.entered_is ∙ shown_ran (suc t) t)
-      ∙ same_rows (suc t) (history s x (suc t)).tables (filter is_staying (world s x t))
-      ∙ ap (λ n. map (lag_row (history s x (suc t)).tables n) (filter is_staying (world s x t))) next
+      ap (λ n. map (tally_row n) (book_after (suc t)).entered) a.time_is ∙ ap (map (tally_row (suc t))) a.entered_is
+      ∙ same_rows (suc t) (filter is_staying members) ∙ ap (λ n. map (lag_row n) (filter is_staying members)) next
 
 -- ---- the whole
 
@@ -269,13 +335,16 @@ same_length : {A B C : Type 0} (f : A → B) (g : A → C) (xs : List A) → len
 same_length f g [] = refl
 same_length f g (y ∷ ys) = ap suc (same_length f g ys)
 
-module _ (s : Settings) (x : Replica) where
-  over_slots : (n : ℕ) → all_slots_told empty_book (map (decisions s x) (numbers_below n)) (map (table s x) (numbers_below n)) ≡ book_after s x n
+module _ (o : Origin) (s : Settings) (x : Story) (named : NamesApart label (members_before o)) (begun : AllByRecursion (HasJoined (slot_of o 0)) (members_before o)) (book : Book) where
+  pub over_slots : (n : ℕ) → all_slots_told book (map (decisions_over o s x) (numbers_below n)) (map (table_over o s x) (numbers_below n)) ≡ book_over o s x named begun book n
   over_slots zero = refl
   over_slots (suc n) =
-      let more = over_push empty_book (map (decisions s x) (numbers_below n)) (map (table s x) (numbers_below n)) (decisions s x n) (table s x n) (same_length (decisions s x) (table s x) (numbers_below n)) in
-      rw (map-append (decisions s x) (numbers_below n) (n ∷ []), map-append (table s x) (numbers_below n) (n ∷ []), more, over_slots n) refl
+      let ds = decisions_over o s x in
+      let ts = table_over o s x in
+      let more = over_push book (map ds (numbers_below n)) (map ts (numbers_below n)) (ds n) (ts n) (same_length ds ts (numbers_below n)) in
+      rw (map-append ds (numbers_below n) (n ∷ []), map-append ts (numbers_below n) (n ∷ []), more, over_slots n) refl
 
+module _ (s : Settings) (x : Replica) where
   -- the rows of the book that is notified of the first n slots are those of the members
   pub rows_of_slots : (n : ℕ) → rows_told empty_book (map (decisions s x) (numbers_below n)) (map (table s x) (numbers_below n)) ≡ flat_map (lag_rows s x) (numbers_below n)
   rows_of_slots zero = refl
@@ -286,7 +355,7 @@ module _ (s : Settings) (x : Replica) where
       ∙ ap (rows_told empty_book (ds ++ decisions s x n ∷ [])) (map-append (table s x) (numbers_below n) (n ∷ []))
       ∙ rows_push empty_book ds ts (decisions s x n) (table s x n) (same_length (decisions s x) (table s x) (numbers_below n))
       ∙ ap (λ l. l ++ book_rows (slot_told (decisions s x n) (table s x n) (all_slots_told empty_book ds ts))) (rows_of_slots n)
-      ∙ ap (λ (b : Book). flat_map (lag_rows s x) (numbers_below n) ++ book_rows (slot_told (decisions s x n) (table s x n) b)) (over_slots n)
+      ∙ ap (λ (b : Book). flat_map (lag_rows s x) (numbers_below n) ++ book_rows (slot_told (decisions s x n) (table s x n) b)) (over_slots None s (said x) (apart_nil label) tt empty_book n)
       ∙ ap (λ l. flat_map (lag_rows s x) (numbers_below n) ++ l) (rows_after s x n ∙ sym (append-nil (lag_rows s x n)))
       ∙ sym (flat_map-append (lag_rows s x) (numbers_below n) (n ∷ []))
 

@@ -1,28 +1,25 @@
 -- What is written of the lags of a run.
-use Rattle.std.specs.Prelude.{ℕ, suc, ◌+◌, ◌-◌, ◌*◌, ℤ, pos, ◌-ℤ◌, Bool, not, min, List, [], ◌∷◌, map, filter, codes}
+use Rattle.std.specs.Prelude.{ℕ, suc, ◌+◌, Bool, not, min, List, [], ◌∷◌, map, filter, codes}
 use Rattle.std.specs.List.{flat_map}
 use Rattle.std.specs.Fmt.{decimal, signed_decimal}
 use Rattle.pfair_text.specs.Rows.{lines_text}
 use Rattle.pfair_replica.specs.Replica.{Replica, frontier, numbers_below}
-use Rattle.pfair_admission.specs.Member.{Member, is_departing}
-use Rattle.pfair_table.specs.Table.{Settings, Table, quanta, history, world}
+use Rattle.pfair_admission.specs.Member.{Member, is_departing, lag_at}
+use Rattle.pfair_table.specs.Table.{Settings, history}
 
 abbrev pub lags_header : List (List ℕ)
 lags_header = codes "time" ∷ codes "task" ∷ codes "numerator" ∷ codes "period" ∷ []
 
--- a member's lag at a time, by the tables up to it: the share of the slots since it joined less the quanta that it had
-abbrev pub member_lag : List Table → ℕ → Member → ℤ
-member_lag tables time m = pos (m.weight.cost * (time - m.joined)) -ℤ pos (m.weight.period * quanta tables m)
-
-abbrev pub lag_row : List Table → ℕ → Member → List (List ℕ)
-lag_row tables time m = decimal time ∷ m.name ∷ signed_decimal (member_lag tables time m) ∷ decimal m.weight.period ∷ []
+-- a member's lag at a time
+abbrev pub lag_row : ℕ → Member → List (List ℕ)
+lag_row time m = decimal time ∷ m.name ∷ signed_decimal (lag_at time m) ∷ decimal m.weight.period ∷ []
 
 abbrev pub is_staying : Member → Bool
 is_staying m = not (is_departing m)
 
 -- after slot t: a row for each member that isn't departing, in the order of admission
 abbrev pub lag_rows : Settings → Replica → ℕ → List (List (List ℕ))
-lag_rows s x t = map (lag_row (history s x (suc t)).tables (t + 1)) (filter is_staying (world s x t))
+lag_rows s x t = map (lag_row (t + 1)) (filter is_staying (history s x (suc t)).members)
 
 -- a header, and these rows for each slot that is planned of the contents
 abbrev pub lags_text : Settings → Replica → List ℕ

@@ -1,14 +1,15 @@
 -- A book of lags that is notified of what was planned, slot by slot, and its rows.
-use Rattle.std.specs.Prelude.{ℕ, Bool, true, false, if◌then◌else◌, List, [], ◌∷◌, ◌++◌, map}
+use Rattle.std.specs.Prelude.{ℕ, ◌-◌, None, Some, Bool, true, false, if◌then◌else◌, List, [], ◌∷◌, ◌++◌, map}
 use Rattle.std.specs.Fmt.{decimal, signed_decimal}
 use Rattle.pfair_entry.specs.declared.announcement.Announcement.{Announcement}
 use Rattle.pfair_entry.specs.declared.announcement.Announcement.TheVariants.{Arrive, Depart, Late}
 use Rattle.pfair_admission.specs.declared.decision.Decision.{Decision}
 use Rattle.pfair_admission.specs.declared.decision.Decision.TheVariants.{Admitted, Departing, Delayed, Refused}
 use Rattle.pfair_table.specs.declared.pick.Decided.{Decided}
-use Rattle.pfair_table.specs.Table.{Table}
+use Rattle.pfair_admission.specs.Member.{Member, is_departing}
+use Rattle.pfair_table.specs.Table.{Origin, Table}
 use Rattle.pfair_weight.specs.Name.{NameValue}
-use Rattle.pfair_lag.specs.Book.{Tally, Book, lag_of, entered_with, left, recorded}
+use Rattle.pfair_lag.specs.Book.{Tally, Book, empty_book, entered_after, entered_with, lag_of, left, recorded}
 
 abbrev pub is_admitted : Decision → Bool
 is_admitted Admitted = true
@@ -36,7 +37,23 @@ all_told (d ∷ more) book = all_told more (told d.announcement d.decision book)
 abbrev pub slot_told : List Decided → Table → Book → Book
 slot_told decided table book = recorded (map (λ p. p.name) table) (all_told decided book)
 
--- slot after slot
+-- ---- where a run begins
+
+-- a member that was carried into a run that begins at a slot: its lag goes on, unless it is departing
+abbrev pub entered_again : ℕ → Member → Book → Book
+entered_again slot m book = if is_departing m then book else entered_after (slot - m.joined) (m.next - 1) m.name m.weight book
+
+abbrev pub all_entered : ℕ → List Member → Book → Book
+all_entered slot [] book = book
+all_entered slot (m ∷ more) book = all_entered slot more (entered_again slot m book)
+
+-- the book before a run's first slot
+abbrev pub first_book : Origin → Book
+first_book None = empty_book
+first_book (Some c) = all_entered c.slot c.members empty_book
+
+-- ---- slot after slot
+
 abbrev pub all_slots_told : Book → List (List Decided) → List Table → Book
 all_slots_told book [] tables = book
 all_slots_told book (d ∷ ds) [] = book

@@ -8,6 +8,7 @@ use Rattle.pfair_weight.specs.Share.{Share, IsWeight, units_of}
 use Rattle.pfair_weight.specs.Window.{release_of}
 use Rattle.pfair_entry.specs.Exact.{name_exact}
 use Rattle.pfair_entry.specs.declared.announcement.Announcement.{Announcement}
+use Rattle.pfair_entry.specs.Entry.{IsWeighed}
 use Rattle.pfair_replica.specs.Among.{Among, among_left, among_append, among_filter, filter_among, among_map, map_among}
 use Rattle.pfair_admission.specs.declared.decision.Decision.TheVariants.{Admitted, Departing, Delayed, Refused}
 use Rattle.pfair_admission.specs.declared.refusal.Refusal.TheVariants.{NameTaken, PeriodOutsideFrame, NoRoom, AlreadyDeparting, AlreadyReleased}
@@ -20,7 +21,6 @@ use Rattle.pfair_in_time.specs.Descent.{Descends, IsSound, IsNew}
 use Rattle.pfair_in_time.specs.Laws.{AllSound, AllHaveWeights, IsFreed, BoundariesKeepMembers}
 use Rattle.pfair_admission.proofs.Keeping.{theta_earlier}
 use Rattle.pfair_in_time.proofs.Offsets.{release_rises, delayed_rises}
-use Rattle.pfair_admission.specs.Laws.{HasWeight}
 
 -- ---- one member
 
@@ -156,10 +156,10 @@ joins machine t ms name w early sound weight period = record {
     new : IsSound machine.frame (newcomer t name w early)
     new = record { weight = weight; period = period; claim = λ slot e. absurd (cc) }
 
-effect_step : (machine : Machine) (t : ℕ) (ms : List Member) (a : Announcement) → NamesApart (λ (m : Member). m.name) ms → AllSound machine.frame ms → HasWeight a → Step machine t ms (effect t ms a (decision machine t ms a))
+effect_step : (machine : Machine) (t : ℕ) (ms : List Member) (a : Announcement) → NamesApart (λ (m : Member). m.name) ms → AllSound machine.frame ms → IsWeighed a → Step machine t ms (effect t ms a (decision machine t ms a))
 effect_step machine t ms a apart sound weight =
     by_effect (Step machine t ms) t ms (nothing_changes machine t ms sound) a (decision machine t ms a)
-    (λ name w early is admitted. joins machine t ms name w early sound (subst HasWeight is weight) (fits_frame machine ms name w (ap (decision machine t ms) (sym is) ∙ admitted)))
+    (λ name w early is admitted. joins machine t ms name w early sound (subst IsWeighed is weight) (fits_frame machine ms name w (ap (decision machine t ms) (sym is) ∙ admitted)))
     (λ name slot is leaves. one_changes machine t ms name (with_freeing slot) sound (λ m h e.
     (let p = departs t (member_named ms name) slot (ap (decision machine t ms) (sym is) ∙ leaves) in
     let same : p.0 ≡ m = same_Some p.0 m (sym p.1 ∙ named_is ms name m apart h e) in

@@ -6,14 +6,14 @@ use Rattle.std.proofs.lemmas.Bool.{cases_lt, cases_eq, cases_Bool, and_parts, le
 use Rattle.pfair_weight.specs.Window.{release_of, deadline_of, starts_job_of}
 use Rattle.pfair_entry.specs.Exact.{name_itself}
 use Rattle.pfair_replica.specs.Among.{Among, among_map}
-use Rattle.pfair_replica.specs.Replica.{said}
 use Rattle.pfair_admission.specs.Member.{Member, theta, is_departing, is_delayed_at, eligible_from, next_key}
 use Rattle.pfair_table.specs.declared.pick.Pick.{Pick}
+use Rattle.pfair_admission.proofs.Keeping.{eligible_at_job}
 use Rattle.pfair_table.specs.Table.{Settings, pick, index_of, Story}
 use Rattle.pfair_optimal.specs.Run.{Task, Subtask, deadline, is_row, has_run, IsNext}
 use Rattle.pfair_optimal.proofs.Beginnings.{beginning_none_misses, beginning_in_time}
 use Rattle.pfair_optimal.proofs.Past.{task_exact, ran_at, ran_by, ran_more}
-use Rattle.pfair_in_time.specs.InTime.{NoneMisses, IsInTime, EachRunsInTime}
+use Rattle.pfair_in_time.specs.InTime.{IsInTime}
 use Rattle.pfair_in_time.proofs.Boundaries.{named_is}
 use Rattle.pfair_table.proofs.Members.{named_world}
 use Rattle.pfair_in_time.proofs.Worlds.{same_member, runs, keys_at, chosen_member, chosen_runs, runs_chosen, on_next, here, TellWeights, index_after}
@@ -99,6 +99,14 @@ module _ (s : Settings) (x : Story) (frame : 0 < s.frame) (weights : TellWeights
       let is : eligible_from m m.next ≡ release_of m.weight m.next (theta m m.next) = ap (λ b. if not b || (starts_job_of m.weight m.next || is_delayed_at m m.next) then release_of m.weight m.next (theta m m.next) else m.joined) early in
       omega arith
 
+  -- a subtask that starts a job runs from its release on, early or not
+  pub started : (t : ℕ) (m : Member) → Among (world s x t) m → runs s x t m ≡ true → starts_job_of m.weight m.next ≡ true → release_of m.weight m.next (theta m m.next) ≤ t
+  started t m h named starts =
+      let p = and_parts (not (is_departing m)) (nat_le (eligible_from m m.next) t) (runs_chosen s x t m h named).0 in
+      let from = leb-true (eligible_from m m.next) t p.1 in
+      let is = eligible_at_job m m.next starts in
+      omega arith
+
   pub rows : (t : ℕ) (p : Pick) → Among (table s x t) p → (m : Member) × Among (world s x t) m × IsInTime t p m
   rows t p h =
       let q = among_map (pick (world s x t)) (keys_at s x t) p h in
@@ -114,9 +122,3 @@ module _ (s : Settings) (x : Story) (frame : 0 < s.frame) (weights : TellWeights
           released = released t k.0 k.1 named;
         },
       )
-
-pub none_misses : NoneMisses
-none_misses s x frame weights t m h d = none s (said x) frame weights t m h d
-
-pub each_runs_in_time : EachRunsInTime
-each_runs_in_time s x frame weights t p h = rows s (said x) frame weights t p h

@@ -15,3 +15,5 @@ mod Overload
 mod Served
 mod Repeats
 mod NextRuns
+mod LongRun
+mod ThroughRuns

@@ -9,12 +9,12 @@ use Rattle.pfair_entry.specs.Same.{name_eq}
 use Rattle.pfair_entry.specs.Said.{Said}
 use Rattle.pfair_entry.specs.declared.announcement.Announcement.{Announcement}
 use Rattle.pfair_entry.specs.declared.announcement.Announcement.TheVariants.{Arrive, Depart, Late}
+use Rattle.pfair_entry.specs.Entry.{IsWeighed}
 use Rattle.pfair_order.specs.declared.Key.{Key}
 use Rattle.pfair_replica.specs.Among.{Among, among_all, among_map, map_among}
 use Rattle.pfair_admission.specs.Member.{Member, theta, is_departing, eligible_from}
 use Rattle.pfair_admission.specs.Admission.{Machine, announcements, decided, member_named, present}
 use Rattle.pfair_admission.specs.Carried.{all_raised, raised, taken_off}
-use Rattle.pfair_admission.specs.Laws.{HasWeight}
 use Rattle.pfair_admission.proofs.Keeping.{eligible_not_early}
 use Rattle.pfair_weight.proofs.NamesApart.{apart_nil}
 use Rattle.pfair_table.specs.declared.pick.Pick.{Pick}
@@ -26,16 +26,16 @@ use Rattle.pfair_table.proofs.Members.{label, named_from}
 use Rattle.pfair_table.proofs.NextIndexes.{counted_on}
 use Rattle.pfair_table.proofs.RunsOn.{left_begun, ran_eligible, slot_on, slot_same}
 use Rattle.pfair_in_time.specs.InTime.{IsInTime}
-use Rattle.pfair_in_time.specs.NextRuns.{Past, origin_after, IsServedIn, NextRunsAreServed}
+use Rattle.pfair_in_time.specs.Runs.{IsServed}
 use Rattle.pfair_in_time.proofs.InTime.{none, rows}
 use Rattle.pfair_in_time.proofs.Worlds.{TellWeights, any_from_among, tables_before}
 
 -- ---- a first run
 
-each_weight : (story : Story) → TellsWeights story → TellWeights story
-each_weight story weights t = among_all HasWeight (announcements (story t)) (weights t)
+pub each_weight : (story : Story) → TellsWeights story → TellWeights story
+each_weight story weights t = among_all IsWeighed (announcements (story t)) (weights t)
 
-first_run : (s : Settings) (story : Story) → 0 < s.frame → TellsWeights story → (t : ℕ) → IsServedIn None s story t
+first_run : (s : Settings) (story : Story) → 0 < s.frame → TellsWeights story → (t : ℕ) → IsServed None s story t
 first_run s story frame weights t = record {
   rows_in_time = rows s story frame (each_weight story weights) t;
   none_misses = λ m h active.
@@ -47,16 +47,16 @@ first_run s story frame weights t = record {
 
 -- ---- what is said in the long run
 
-raised_weight : (left : List Member) (begin : ℕ) (members : List Member) (a : Announcement) → HasWeight a → HasWeight (raised left begin members a)
+raised_weight : (left : List Member) (begin : ℕ) (members : List Member) (a : Announcement) → IsWeighed a → IsWeighed (raised left begin members a)
 raised_weight left begin members (Arrive name w early) h = h
 raised_weight left begin members (Depart name) h = h
 raised_weight left begin members (Late name index by) h = h
 
-raised_weights : (left : List Member) (begin : ℕ) (machine : Machine) (t : ℕ) (members : List Member) (told : List Said) → AllByRecursion HasWeight (announcements told) → AllByRecursion HasWeight (announcements (all_raised left begin machine t members told))
+raised_weights : (left : List Member) (begin : ℕ) (machine : Machine) (t : ℕ) (members : List Member) (told : List Said) → AllByRecursion IsWeighed (announcements told) → AllByRecursion IsWeighed (announcements (all_raised left begin machine t members told))
 raised_weights left begin machine t members [] h = tt
 raised_weights left begin machine t members (a ∷ told) h = (raised_weight left begin members a.2 h.0, raised_weights left begin machine t (decided machine t members a.2) told h.1)
 
-both_weights : (o : Origin) (s : Settings) (first : Story) (n : ℕ) (second : Story) → TellsWeights first → TellsWeights second → TellsWeights (both_stories o s first n second)
+pub both_weights : (o : Origin) (s : Settings) (first : Story) (n : ℕ) (second : Story) → TellsWeights first → TellsWeights second → TellsWeights (both_stories o s first n second)
 both_weights o s first n second before after t = by (nat_lt t n)
   where
     left : List Member
@@ -65,13 +65,13 @@ both_weights o s first n second before after t = by (nat_lt t n)
     late : List Said
     late = all_raised left (slot_of o n) (machine s) (slot_of o n + (t - n)) (present (slot_of o n + (t - n)) (history_over (Some (left_over o s first n)) s second (t - n)).members) (second (t - n))
 
-    by : (b : Bool) → AllByRecursion HasWeight (announcements (if b then first t else late))
+    by : (b : Bool) → AllByRecursion IsWeighed (announcements (if b then first t else late))
     by true = before t
     by false = raised_weights left (slot_of o n) (machine s) (slot_of o n + (t - n)) (present (slot_of o n + (t - n)) (history_over (Some (left_over o s first n)) s second (t - n)).members) (second (t - n)) (after (t - n))
 
 -- ---- a next run
 
-module _ (o : Origin) (s : Settings) (first : Story) (n : ℕ) (began : IsBegun o) (weights : TellsWeights first) (second : Story) (more : TellsWeights second) (long_run : (t : ℕ) → IsServedIn o s (both_stories o s first n second) t) where
+module _ (o : Origin) (s : Settings) (first : Story) (n : ℕ) (began : IsBegun o) (weights : TellsWeights first) (second : Story) (more : TellsWeights second) (long_run : (t : ℕ) → IsServed o s (both_stories o s first n second) t) where
   abbrev next : Origin
   next = Some (left_over o s first n)
 
@@ -82,7 +82,7 @@ module _ (o : Origin) (s : Settings) (first : Story) (n : ℕ) (began : IsBegun 
   alike : (these those : List Member) → map standing these ≡ map standing those → (m : Member) → Among these m → (l : Member) × Among those l × (standing m ≡ standing l)
   alike these those same m h = among_map standing those (standing m) (subst (λ ks. Among ks (standing m)) same (map_among standing these m h))
 
-  next_served : (t : ℕ) → IsServedIn next s second t
+  next_served : (t : ℕ) → IsServed next s second t
   next_served t = record { rows_in_time = in_time; none_misses = none_late }
     where
       slot : IsSlotOf o s first n second t
@@ -127,13 +127,26 @@ module _ (o : Origin) (s : Settings) (first : Story) (n : ℕ) (began : IsBegun 
 
 -- ---- any run
 
-begun_after : (s : Settings) (earlier : List Past) → AllByRecursion (λ r. TellsWeights r.story) earlier → IsBegun (origin_after s earlier)
-begun_after s [] h = record { named = apart_nil label; begun = tt }
-begun_after s (r ∷ earlier) h = left_begun (origin_after s earlier) s (begun_after s earlier h.1) r.story h.0 r.slots
+-- a run that is over: how many slots it had, and what was said in them
+pub record Told : Type 0 where
+  pub slots : ℕ
+  pub story : Story
 
-pub next_runs_are_served : NextRunsAreServed
-next_runs_are_served s [] story frame h weights t = first_run s story frame weights t
-next_runs_are_served s (r ∷ earlier) story frame h weights t =
-    let o = origin_after s earlier in
+abbrev pub TellWeight : List Told → Type 0
+TellWeight earlier = AllByRecursion (λ r. TellsWeights r.story) earlier
+
+-- where the run after these begins, the last one first
+abbrev pub origin_told : Settings → List Told → Origin
+origin_told s [] = None
+origin_told s (r ∷ earlier) = Some (left_over (origin_told s earlier) s r.story r.slots)
+
+pub begun_after : (s : Settings) (earlier : List Told) → TellWeight earlier → IsBegun (origin_told s earlier)
+begun_after s [] h = record { named = apart_nil label; begun = tt }
+begun_after s (r ∷ earlier) h = left_begun (origin_told s earlier) s (begun_after s earlier h.1) r.story h.0 r.slots
+
+pub all_served : (s : Settings) (earlier : List Told) (story : Story) → 0 < s.frame → TellWeight earlier → TellsWeights story → (t : ℕ) → IsServed (origin_told s earlier) s story t
+all_served s [] story frame h weights t = first_run s story frame weights t
+all_served s (r ∷ earlier) story frame h weights t =
+    let o = origin_told s earlier in
     next_served o s r.story r.slots (begun_after s earlier h.1) h.0 story weights
-    (next_runs_are_served s earlier (both_stories o s r.story r.slots story) frame h.1 (both_weights o s r.story r.slots story h.0 weights)) t
+    (all_served s earlier (both_stories o s r.story r.slots story) frame h.1 (both_weights o s r.story r.slots story h.0 weights)) t

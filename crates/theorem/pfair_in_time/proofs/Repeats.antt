@@ -27,13 +27,12 @@ use Rattle.pfair_table.specs.declared.pick.Pick.{Pick}
 use Rattle.pfair_table.specs.Ranks.{first_by_rank}
 use Rattle.pfair_table.specs.Table.{Settings, machine, names_task, next_index, counted_one, counted, is_eligible, eligible, index_of, pick, chosen, table_of, world, table}
 use Rattle.pfair_table.proofs.NextIndexes.{world_counted}
-use Rattle.pfair_in_time.specs.InTime.{SaysWeights, index_after}
 use Rattle.pfair_in_time.specs.Schedules.{Arrival, announced, SaysOnly}
 use Rattle.pfair_in_time.specs.Repeats.{IsCommonMultiple, quanta_in, later_row, TablesRepeat, RepeatsByPeriods}
 use Rattle.pfair_in_time.proofs.InTime.{none}
 use Rattle.pfair_in_time.proofs.Served.{NoneLeaves, all_present, says_weights}
 use Rattle.pfair_in_time.proofs.Windows.{no_offset}
-use Rattle.pfair_in_time.proofs.Worlds.{tables_before, runs, runs_chosen, next_more, next_new, here}
+use Rattle.pfair_in_time.proofs.Worlds.{tables_before, runs, runs_chosen, next_more, next_new, here, TellWeights, index_after}
 
 -- ---- lists
 
@@ -111,7 +110,7 @@ firsts mc (a ∷ more) ms all m h = firsts mc more (decided mc 0 ms (announced a
     one (Refused refusal) n among = all n among
 
 module _ (s : Settings) (x : Replica) (arrivals : List Arrival) (frame : 0 < s.frame) (says : SaysOnly x arrivals) (are : AllByRecursion (λ (a : Arrival). IsWeight a.weight.cost a.weight.period) arrivals) where
-  weights : SaysWeights x
+  weights : TellWeights (said x)
   weights = says_weights x arrivals says are
 
   is_first : (m : Member) → Among (world s x 0) m → IsFirst m
@@ -207,8 +206,8 @@ module _ (s : Settings) (x : Replica) (arrivals : List Arrival) (frame : 0 < s.f
                   let l = counted_one (tables_before s (said x) (h - 1)) m in
                   let late = none s (said x) frame weights (h - 1) l (member_at (h - 1) m among) (ap is_departing (is_first m among)) in
                   let at : suc (h - 1) ≡ h = omega (arith, some) in
-                  let index : index_after s x (h - 1) l ≡ next_index (tables_before s (said x) h) m = ap (λ t. next_index (tables_before s (said x) t) m) at in
-                  let offset = no_offset l (index_after s x (h - 1) l) (ap (λ (n : Member). n.delays) (is_first m among)) in
+                  let index : index_after s (said x) (h - 1) l ≡ next_index (tables_before s (said x) h) m = ap (λ t. next_index (tables_before s (said x) t) m) at in
+                  let offset = no_offset l (index_after s (said x) (h - 1) l) (ap (λ (n : Member). n.delays) (is_first m among)) in
                   let joined = joined_first m among in
                   let is = ap (λ i. deadline_of m.weight i 0) index in
                   omega arith

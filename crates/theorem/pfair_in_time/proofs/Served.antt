@@ -13,6 +13,7 @@ use Rattle.pfair_weight.proofs.NamesApart.{apart_head, apart_tail}
 use Rattle.pfair_entry.specs.Exact.{name_exact, name_itself}
 use Rattle.pfair_entry.specs.Said.{Said}
 use Rattle.pfair_entry.specs.Same.{name_eq}
+use Rattle.pfair_entry.specs.Entry.{IsWeighed}
 use Rattle.pfair_replica.specs.Among.{Among, among_append, among_all, filter_among, among_map, map_among}
 use Rattle.pfair_replica.specs.Replica.{Replica, said}
 use Rattle.pfair_admission.specs.declared.decision.Decision.{Decision}
@@ -23,15 +24,13 @@ use Rattle.pfair_admission.specs.Admission.{Machine, is_named, member_named, cla
 use Rattle.pfair_table.specs.declared.pick.Decided.{Decided}
 use Rattle.pfair_table.specs.Table.{Settings, machine, quanta, counted_one, history, world, table, with_decisions, decisions}
 use Rattle.pfair_table.proofs.NextIndexes.{world_counted}
-use Rattle.pfair_in_time.specs.InTime.{SaysWeights, index_after}
 use Rattle.pfair_in_time.specs.Schedules.{Arrival, announced, AreArrivals, SaysOnly, units_wanted, quanta_before, IsServed, ServedWhereThereIsRoom}
 use Rattle.pfair_admission.proofs.Deciding.{admitted_room, claimed_arrived}
 use Rattle.pfair_admission.proofs.Keeping.{one_each}
 use Rattle.pfair_in_time.proofs.InTime.{none}
 use Rattle.pfair_in_time.proofs.Overload.{quanta_more}
 use Rattle.pfair_in_time.proofs.Windows.{no_offset}
-use Rattle.pfair_in_time.proofs.Worlds.{tables_before, next_more, next_new}
-use Rattle.pfair_admission.specs.Laws.{HasWeight}
+use Rattle.pfair_in_time.proofs.Worlds.{tables_before, next_more, next_new, TellWeights, index_after}
 
 -- ---- those who are there
 
@@ -144,14 +143,14 @@ record IsStill (a : Arrival) (m : Member) : Type 0 where
   stays : m.freed_at ≡ None
 
 -- such arrivals are all that has to have weights
-pub says_weights : (x : Replica) (arrivals : List Arrival) → SaysOnly x arrivals → AllByRecursion (λ (a : Arrival). IsWeight a.weight.cost a.weight.period) arrivals → SaysWeights x
+pub says_weights : (x : Replica) (arrivals : List Arrival) → SaysOnly x arrivals → AllByRecursion (λ (a : Arrival). IsWeight a.weight.cost a.weight.period) arrivals → TellWeights (said x)
 says_weights x arrivals says weights zero a h =
     let p = among_map announced arrivals a (subst (λ l. Among l a) says.first h) in
-    subst HasWeight (sym p.2) (among_all (λ (b : Arrival). IsWeight b.weight.cost b.weight.period) arrivals weights p.0 p.1)
+    subst IsWeighed (sym p.2) (among_all (λ (b : Arrival). IsWeight b.weight.cost b.weight.period) arrivals weights p.0 p.1)
 says_weights x arrivals says weights (suc t) a h = absurd (subst (λ l. Among (announcements l) a) (says.later (suc t) (omega arith)) h)
 
 module _ (s : Settings) (x : Replica) (arrivals : List Arrival) (frame : 0 < s.frame) (are : AreArrivals s.frame arrivals) (says : SaysOnly x arrivals) where
-  weights : SaysWeights x
+  weights : TellWeights (said x)
   weights = says_weights x arrivals says are.weights
 
   decisions_are : decisions s x 0 ≡ with_decisions (said x 0) (all_decisions (machine s) 0 [] (map announced arrivals))
@@ -218,13 +217,13 @@ module _ (s : Settings) (x : Replica) (arrivals : List Arrival) (frame : 0 < s.f
       after : (m : Member) → Among (world s x (due - 1)) m → IsStill a m → 1 ≤ due → due < deadline_of a.weight (1 + had) 0
       after m inside still some =
           let late = none s (said x) frame weights (due - 1) m inside (ap is_some still.stays) in
-          let offset = no_offset m (index_after s x (due - 1) m) still.delays in
+          let offset = no_offset m (index_after s (said x) (due - 1) m) still.delays in
           let joined = still.joined in
           let own = own_quanta m still.joined (suc (due - 1)) in
           let at : suc (due - 1) ≡ due = omega arith in
           let same = ap (λ n. quanta_before (table s x) n (suc (due - 1))) still.name ∙ ap (λ u. quanta_before (table s x) a.name u) at in
-          let index : index_after s x (due - 1) m ≡ 1 + had = omega arith in
-          let is = ap (λ (w : Share). deadline_of w (index_after s x (due - 1) m) 0) still.weight ∙ ap (λ k. deadline_of a.weight k 0) index in
+          let index : index_after s (said x) (due - 1) m ≡ 1 + had = omega arith in
+          let is = ap (λ (w : Share). deadline_of w (index_after s (said x) (due - 1) m) 0) still.weight ∙ ap (λ k. deadline_of a.weight k 0) index in
           omega arith
 
       by_deadline : 1 ≤ i → i ≤ had

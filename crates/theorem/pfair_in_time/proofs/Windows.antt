@@ -3,19 +3,17 @@ use Rattle.std.proofs.Common.{◌≡◌, ℕ, zero, suc, ◌+◌, ◌-◌, ◌<�
 use Rattle.std.specs.Prelude.{nat_le, filter, sum_by, count_by}
 use Rattle.std.proofs.lemmas.Bool.{cases_lt}
 use Rattle.pfair_weight.specs.Share.{Share}
-use Rattle.pfair_weight.specs.Window.{release_of, deadline_of}
+use Rattle.pfair_weight.specs.Window.{release_of, deadline_of, starts_job_of}
 use Rattle.pfair_weight.specs.WindowFacts.{deadline_rises}
-use Rattle.pfair_lag.specs.Picks.{InWindows, MeetsDeadlines}
 use Rattle.pfair_replica.specs.Among.{Among}
-use Rattle.pfair_replica.specs.Replica.{said}
 use Rattle.pfair_admission.specs.Member.{Member, theta, is_departing}
 use Rattle.pfair_admission.specs.declared.delay.Delay.{Delay}
 use Rattle.pfair_table.specs.Table.{Settings, names_task, quanta, next_index, Story}
-use Rattle.pfair_in_time.specs.Windows.{slots_since, DeadlinesAreKept, WindowsAreKept}
+use Rattle.pfair_in_time.specs.Windows.{slots_since}
 use Rattle.pfair_in_time.proofs.Worlds.{tables_before, runs, next_more, next_new, here, TellWeights, index_after}
 use Rattle.pfair_in_time.proofs.Lines.{IsLine, back_to}
-use Rattle.pfair_in_time.proofs.InTime.{none, in_time, released}
-use Rattle.pfair_in_time.proofs.Passing.{passing, one_more, at_place, passing_rise}
+use Rattle.pfair_in_time.proofs.InTime.{none, in_time, released, started}
+use Rattle.pfair_in_time.proofs.Passing.{passing, one_more}
 use Rattle.pfair_table.proofs.FirstRuns.{world, table}
 
 -- whether a member runs in a slot that is counted from its joining
@@ -41,13 +39,21 @@ quanta_passing s x m (suc slot) =
 pub no_offset : (m : Member) (i : ℕ) → m.delays ≡ [] → theta m i ≡ m.joined
 no_offset m i e = ap (λ ds. m.joined + sum_by (λ (d : Delay). d.by) (filter (λ (d : Delay). nat_le d.index i) ds)) e ∙ omega arith
 
+-- all its subtasks have that offset
+abbrev pub IsUndelayed : Member → Type 0
+IsUndelayed m = (i : ℕ) → theta m i ≡ m.joined
+
+pub no_offset_all : (m : Member) → m.delays ≡ [] → IsUndelayed m
+no_offset_all m e i = no_offset m i e
+
 -- a subtask that runs in a slot counted from the joining does so in its window
-record IsKept (m : Member) (slot index : ℕ) : Type 0 where
-  before_deadline : slot < deadline_of m.weight index 0
-  released : m.early ≡ false → release_of m.weight index 0 ≤ slot
+pub record IsKept (m : Member) (slot index : ℕ) : Type 0 where
+  pub before_deadline : slot < deadline_of m.weight index 0
+  pub released : m.early ≡ false → release_of m.weight index 0 ≤ slot
+  pub started : starts_job_of m.weight index ≡ true → release_of m.weight index 0 ≤ slot
 
 module _ (s : Settings) (x : Story) (frame : 0 < s.frame) (weights : TellWeights x) where
-  kept_at : (t slot : ℕ) (m l : Member) → Among (world s x (m.joined + slot)) l → IsLine s x (m.joined + slot) t l m → m.delays ≡ [] → runs_at s x m slot ≡ true
+  pub kept_at : (t slot : ℕ) (m l : Member) → Among (world s x (m.joined + slot)) l → IsLine s x (m.joined + slot) t l m → IsUndelayed m → runs_at s x m slot ≡ true
       → IsKept m slot (1 + length (passing (runs_at s x m) slot))
   kept_at t slot m l h line undelayed ran = record {
     before_deadline = (
@@ -55,14 +61,10 @@ module _ (s : Settings) (x : Story) (frame : 0 < s.frame) (weights : TellWeights
         let same = ap (λ (w : Share). deadline_of w l.next (theta l l.next)) line.weight in
         let is = ap (λ i. deadline_of m.weight i 0) next in
         let up = line.rises l.next in
-        let offset = no_offset m l.next undelayed in
+        let offset = undelayed l.next in
         omega arith);
-    released = λ e. (
-        let from = released s x frame weights (m.joined + slot) l h named (sym line.early ∙ e) in
-        let same = ap (λ (w : Share). release_of w l.next (theta l l.next)) line.weight in
-        let is = ap (λ i. release_of m.weight i 0) next in
-        let joined = line.joined in
-        omega arith);
+    released = λ e. from (released s x frame weights (m.joined + slot) l h named (sym line.early ∙ e));
+    started = λ e. from (started s x frame weights (m.joined + slot) l h named ((λ i. starts_job_of (sym line.weight i) (next i)) ∙ e));
   }
     where
       named : runs s x (m.joined + slot) l ≡ true
@@ -74,15 +76,14 @@ module _ (s : Settings) (x : Story) (frame : 0 < s.frame) (weights : TellWeights
       next : l.next ≡ 1 + length (passing (runs_at s x m) slot)
       next = (here s x weights (m.joined + slot) l h).next ∙ own ∙ ap (λ n. 1 + n) (quanta_passing s x m slot)
 
-  kept : (t : ℕ) (m : Member) → Among (world s x t) m → m.delays ≡ [] → (i : ℕ) → 1 ≤ i → i ≤ length (slots_of s x t m) → IsKept m (get_or (slots_of s x t m) (i - 1) 0) i
-  kept t m h undelayed i first inside =
-      let p = at_place (runs_at s x m) (slots_since t m) (i - 1) (omega arith) in
-      let below = p.below in
-      let q = back_to s x weights t (m.joined + get_or (slots_of s x t m) (i - 1) 0) m h (omega arith) (omega arith) in
-      let index : 1 + length (passing (runs_at s x m) (get_or (slots_of s x t m) (i - 1) 0)) ≡ i = (let before = p.before in omega arith) in
-      subst (IsKept m (get_or (slots_of s x t m) (i - 1) 0)) index (kept_at t (get_or (slots_of s x t m) (i - 1) 0) m q.0 q.1 q.2 undelayed p.passes)
+      from : release_of l.weight l.next (theta l l.next) ≤ m.joined + slot → release_of m.weight (1 + length (passing (runs_at s x m) slot)) 0 ≤ slot
+      from since =
+          let same = ap (λ (w : Share). release_of w l.next (theta l l.next)) line.weight in
+          let is = ap (λ i. release_of m.weight i 0) next in
+          let joined = line.joined in
+          omega arith
 
-  served : (t : ℕ) (m : Member) → Among (world s x t) m → is_departing m ≡ false → m.delays ≡ [] → (i : ℕ) → 1 ≤ i → deadline_of m.weight i 0 ≤ slots_since t m → i ≤ length (slots_of s x t m)
+  pub served : (t : ℕ) (m : Member) → Among (world s x t) m → is_departing m ≡ false → IsUndelayed m → (i : ℕ) → 1 ≤ i → deadline_of m.weight i 0 ≤ slots_since t m → i ≤ length (slots_of s x t m)
   served t m h active undelayed i first due =
       elim (cases_lt (length (slots_of s x t m)) i) [
         | inr has ↦ has
@@ -90,7 +91,7 @@ module _ (s : Settings) (x : Story) (frame : 0 < s.frame) (weights : TellWeights
             let at = here s x weights t m h in
             let joined = at.by_now in
             let late = none s x frame weights t m h active in
-            let offset = no_offset m (index_after s x t m) undelayed in
+            let offset = undelayed (index_after s x t m) in
             let now : m.joined + slots_since t m ≡ suc t = omega arith in
             let ran = quanta_passing s x m (slots_since t m) in
             let same = ap (λ u. quanta (tables_before s x u) m) now in
@@ -99,29 +100,3 @@ module _ (s : Settings) (x : Story) (frame : 0 < s.frame) (weights : TellWeights
             let rise = deadline_rises m.weight (1 + length (slots_of s x t m)) i at.sound.weight.some_cost (omega arith) in
             omega arith)
       ]
-
-  meets_deadlines : (t : ℕ) (m : Member) → Among (world s x t) m → is_departing m ≡ false → m.delays ≡ [] → MeetsDeadlines m.weight (slots_of s x t m) (slots_since t m)
-  meets_deadlines t m h active undelayed = record {
-    in_time = λ i first inside. (kept t m h undelayed i first inside).before_deadline;
-    served = served t m h active undelayed;
-  }
-
-  in_windows : (t : ℕ) (m : Member) → Among (world s x t) m → is_departing m ≡ false → m.delays ≡ [] → m.early ≡ false → InWindows m.weight (slots_of s x t m) (slots_since t m)
-  in_windows t m h active undelayed early = record {
-    releases = λ i first inside. (kept t m h undelayed i first inside).released early;
-    deadlines = meets_deadlines t m h active undelayed;
-  }
-
-pub deadlines_are_kept : DeadlinesAreKept
-deadlines_are_kept s x frame weights t m h active undelayed = record {
-  weight = (here s (said x) weights t m h).sound.weight;
-  are_picks = passing_rise (runs_at s (said x) m) (slots_since t m);
-  deadlines = meets_deadlines s (said x) frame weights t m h active undelayed;
-}
-
-pub windows_are_kept : WindowsAreKept
-windows_are_kept s x frame weights t m h active undelayed early = record {
-  weight = (here s (said x) weights t m h).sound.weight;
-  are_picks = passing_rise (runs_at s (said x) m) (slots_since t m);
-  windows = in_windows s (said x) frame weights t m h active undelayed early;
-}

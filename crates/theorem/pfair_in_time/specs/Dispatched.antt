@@ -1,58 +1,56 @@
--- That no admitted task misses by what a dispatcher has planned, whatever events have come.
-use Rattle.std.specs.Prelude.{ℕ, suc, ◌≡◌, ◌<◌, false, List, length, Some, None, IfSome, ⊤, slice_get}
+-- That no admitted task misses by what a dispatcher has planned, in whichever run it is.
+use Rattle.std.specs.Prelude.{ℕ, ◌≡◌, ◌<◌, List, [], ◌∷◌, length, map, Some, None, slice_get}
 use Rattle.std.specs.List.{AllByRecursion}
-use Rattle.pfair_lattice.specs.declared.flat.Flat.TheVariants.{One}
-use Rattle.pfair_weight.specs.Window.{deadline_of}
-use Rattle.pfair_entry.specs.Entry.{Logged}
-use Rattle.pfair_replica.specs.Among.{Among}
-use Rattle.pfair_replica.specs.HeldRows.{held, replica_of}
-use Rattle.pfair_replica.specs.Replica.{Contents, Replica, IsReplica, Untorn}
-use Rattle.pfair_admission.specs.Member.{Member, theta, is_departing}
+use Rattle.pfair_replica.specs.HeldRows.{replica_of}
+use Rattle.pfair_replica.specs.Replica.{Replica, IsReplica, Untorn, said}
 use Rattle.pfair_table.specs.declared.event.Event.{Event}
-use Rattle.pfair_table.specs.declared.event.Event.TheVariants.{Take, Absorb, Plan}
-use Rattle.pfair_table.specs.declared.pick.Pick.{Pick}
-use Rattle.pfair_table.specs.Events.{IsEvent, run_of}
+use Rattle.pfair_table.specs.Events.{IsEvent, begin_at, run}
 use Rattle.pfair_table.specs.Limits.{IsSettings}
+use Rattle.pfair_table.specs.NextRun.{left_by}
 use Rattle.pfair_table.specs.Refinement.{Dispatch, HavePlannedAlike}
-use Rattle.pfair_table.specs.Table.{Settings, Table, world, table}
-use Rattle.pfair_in_time.specs.InTime.{index_after, IsInTime}
-use Rattle.pfair_admission.specs.Laws.{HasWeight}
+use Rattle.pfair_table.specs.Table.{Settings, Origin, Table, table_from}
+use Rattle.pfair_in_time.specs.Runs.{Past, origin_after, IsServed}
 
--- an entry's arrival, if it announces one, says a weight
-abbrev pub AnnouncesWeight : Logged → Type 0
-AnnouncesWeight e = IfSome e.said (λ s. HasWeight s.1)
+-- slot t was planned by the contents, and no member misses in it
+pub record IsServedSlot (o : Origin) (s : Settings) (x : Replica) (tables : List Table) (t : ℕ) : Type 0 where
+  pub table_is : slice_get tables t ≡ Some (table_from o s x t)
+  pub served : IsServed o s (said x) t
 
--- each arrival that is held says one, as the type of weights sees to
-abbrev pub HoldsWeights : Contents → Type 0
-HoldsWeights x = (k n : ℕ) (e : Logged) → x k n ≡ Some (One e) → AnnouncesWeight e
-
--- and each that comes by the event
-abbrev pub BringsWeights : Event → Type 0
-BringsWeights (Take k n e) = AnnouncesWeight e
-BringsWeights (Absorb x) = HoldsWeights (held x)
-BringsWeights Plan = ⊤
-
--- slot t was planned by the contents, each of its rows is in time, and after it no member that isn't departing has missed
-pub record IsServedSlot (s : Settings) (x : Replica) (tables : List Table) (t : ℕ) : Type 0 where
-  pub table_is : slice_get tables t ≡ Some (table s x t)
-  pub rows_in_time : (p : Pick) → Among (table s x t) p → (m : Member) × Among (world s x t) m × IsInTime t p m
-  pub none_misses : (m : Member) → Among (world s x t) m → is_departing m ≡ false
-      → suc t < deadline_of m.weight (index_after s x t m) (theta m (index_after s x t m))
-
--- Dispatchers never miss: of settings with a frame, after any events, while nothing that is held is torn, so is each slot that was planned.
+-- Dispatchers never miss: after any runs, of settings with a frame, after any events, while nothing that is held is torn, so is each slot
+-- that was planned.
 abbrev pub DispatchersNeverMiss : Type 0
 DispatchersNeverMiss =
-    (s : Settings) (capacity : ℕ) (events : List Event) → 0 < s.frame → AllByRecursion IsEvent events → AllByRecursion BringsWeights events
-    → let c = run_of s capacity events in
-    Untorn c.held → (t : ℕ) → t < length c.tables → IsServedSlot s c.held c.tables t
+    (earlier : List Past) (s : Settings) (capacity : ℕ) (events : List Event) → 0 < s.frame → AllByRecursion (λ r. IsReplica r.contents) earlier → AllByRecursion IsEvent events
+    → let o = origin_after s earlier in let c = run s (begin_at o s capacity) events in
+    Untorn c.held → (t : ℕ) → t < length c.tables → IsServedSlot o s c.held c.tables t
 
--- what the calls of a dispatcher in hand ensure, and weights
+-- what the calls of a dispatcher in hand ensure
 pub record IsInHand (d : Dispatch) : Type 0 where
   pub settings : IsSettings d.settings  -- Settings::frame
   pub replica : IsReplica (replica_of d.held)  -- Replica::processors
   pub alike : HavePlannedAlike d d  -- Dispatcher::plans_alike, with itself
-  pub weights : HoldsWeights (held d.held)
 
--- Of a dispatcher in hand of a first run, whatever was called on it: while nothing that it holds is torn, so is each slot that it has planned.
+-- `next_run` of e made the dispatcher that is d now, and all else that it ensures is what every call keeps
+pub record IsHandedOn (e d : Dispatch) : Type 0 where
+  pub settings : d.settings ≡ record e.settings { slots = d.settings.slots }  -- next_run's clause `settings`
+  pub origin : d.origin ≡ Some (left_by e)  -- and its clause `course`
+  pub replica : IsReplica (replica_of e.held)
+
+-- d is in its first run, or was handed on from one dispatcher to the next, of which the last one stands first
+abbrev pub HandedOn : List Dispatch → Dispatch → Type 0
+HandedOn [] d = d.origin ≡ None
+HandedOn (e ∷ earlier) d = IsHandedOn e d × HandedOn earlier e
+
+-- Of a dispatcher in hand in any run, whatever was called on it: while nothing that it holds is torn, so is each slot that it has planned.
 abbrev pub NeverMisses : Type 0
-NeverMisses = (d : Dispatch) → IsInHand d → d.origin ≡ None → Untorn (replica_of d.held) → (t : ℕ) → t < length d.tables → IsServedSlot d.settings (replica_of d.held) d.tables t
+NeverMisses =
+    (earlier : List Dispatch) (d : Dispatch) → IsInHand d → HandedOn earlier d → Untorn (replica_of d.held) → (t : ℕ) → t < length d.tables
+    → IsServedSlot d.origin d.settings (replica_of d.held) d.tables t
+
+-- the run of a dispatcher, once it is over
+abbrev pub past_of : Dispatch → Past
+past_of e = record { slots = e.settings.slots; contents = replica_of e.held }
+
+-- What was handed on from run to run is a run after those runs, so that all laws of runs speak of it.
+abbrev pub DispatchersRunOn : Type 0
+DispatchersRunOn = (earlier : List Dispatch) (d : Dispatch) → HandedOn earlier d → (d.origin ≡ origin_after d.settings (map past_of earlier)) × AllByRecursion (λ r. IsReplica r.contents) (map past_of earlier)

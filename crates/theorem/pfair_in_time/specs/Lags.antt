@@ -1,23 +1,40 @@
--- How far the lags go that are reported of a run.
-use Rattle.std.specs.Prelude.{ℕ, suc, ◌≡◌, ◌+◌, ◌<◌, false, [], ℤ, pos, neg_ℤ, ◌<ℤ◌}
+-- How far the lags of members go.
+use Rattle.std.specs.Prelude.{ℕ, ℤ, suc, ◌≡◌, false, List, [], map, filter, pos, neg_ℤ, ◌<ℤ◌}
+use Rattle.pfair_weight.specs.Name.{NameValue}
 use Rattle.pfair_replica.specs.Among.{Among}
-use Rattle.pfair_replica.specs.Replica.{Replica}
-use Rattle.pfair_admission.specs.Member.{Member, is_departing}
-use Rattle.pfair_output.specs.Lags.{member_lag}
-use Rattle.pfair_table.specs.Table.{Settings, history, world}
-use Rattle.pfair_in_time.specs.InTime.{SaysWeights}
+use Rattle.pfair_replica.specs.Replica.{Replica, said, numbers_below}
+use Rattle.pfair_admission.specs.Member.{Member, is_departing, lag_at}
+use Rattle.pfair_lag.specs.Book.{Tally, lag_of}
+use Rattle.pfair_output.specs.Lags.{is_staying}
+use Rattle.pfair_output.specs.Told.{all_slots_told, first_book}
+use Rattle.pfair_table.specs.Table.{Settings, slot_of, history_over, table_over, decisions_over}
+use Rattle.pfair_in_time.specs.Runs.{Past, origin_after, IsRunAfter}
 
--- a member's lag in the row that is reported after slot t, as a numerator over its period
-abbrev pub lag_after : Settings → Replica → ℕ → Member → ℤ
-lag_after s x t m = member_lag (history s x (suc t)).tables (t + 1) m
+-- a member's lag at a time is below one quantum and, unless the task is early, above minus one
+pub record IsWithinOne (time : ℕ) (m : Member) : Type 0 where
+  pub below : lag_at time m <ℤ pos m.weight.period
+  pub above : m.early ≡ false → neg_ℤ (pos m.weight.period) <ℤ lag_at time m
 
--- it is below the period and, unless the task is early, above minus the period
-pub record IsWithinOne (s : Settings) (x : Replica) (t : ℕ) (m : Member) : Type 0 where
-  pub below : lag_after s x t m <ℤ pos m.weight.period
-  pub above : m.early ≡ false → neg_ℤ (pos m.weight.period) <ℤ lag_after s x t m
-
--- Lags stay within one: in the rows of a member that isn't departing and has no delay.
+-- Lags stay within one, in any run: after each slot, those of members that aren't departing and have no delay.
 abbrev pub LagsStayWithinOne : Type 0
 LagsStayWithinOne =
-    (s : Settings) (x : Replica) → 0 < s.frame → SaysWeights x → (t : ℕ) (m : Member) → Among (world s x t) m → is_departing m ≡ false → m.delays ≡ []
-    → IsWithinOne s x t m
+    (earlier : List Past) (s : Settings) (x : Replica) → IsRunAfter earlier s x → (t : ℕ)
+    → let o = origin_after s earlier in
+    (m : Member) → Among (history_over o s (said x) (suc t)).members m → is_departing m ≡ false → m.delays ≡ []
+    → IsWithinOne (suc (slot_of o t)) m
+
+-- what a book has of a task, and what it is of a member: the name, the lag and the period
+abbrev pub lag_shown : NameValue × Tally → NameValue × ℤ × ℕ
+lag_shown e = (e.0, (lag_of e.1).0, (lag_of e.1).1)
+
+abbrev pub member_lag : ℕ → Member → NameValue × ℤ × ℕ
+member_lag time m = (m.name, lag_at time m, m.weight.period)
+
+-- Books show lags: one that begins as a run does, and is notified of the decisions and the tables of its first slots, has the members that
+-- stay, in their order, each with its lag and its period.
+abbrev pub BooksShowLags : Type 0
+BooksShowLags =
+    (earlier : List Past) (s : Settings) (x : Replica) → IsRunAfter earlier s x → (t : ℕ)
+    → let o = origin_after s earlier in
+    map lag_shown (all_slots_told (first_book o) (map (decisions_over o s (said x)) (numbers_below t)) (map (table_over o s (said x)) (numbers_below t))).entered
+    ≡ map (member_lag (slot_of o t)) (filter is_staying (history_over o s (said x) t).members)

@@ -2,17 +2,17 @@
 use Rattle.std.specs.Prelude.{ℕ, ◌≡◌, ◌≤◌, ◌⊎◌, List, Some}
 use Rattle.pfair_weight.specs.Name.{NamesApart}
 use Rattle.pfair_entry.specs.declared.announcement.Announcement.{Announcement}
+use Rattle.pfair_entry.specs.Entry.{IsWeighed}
 use Rattle.pfair_replica.specs.Among.{Among}
 use Rattle.pfair_admission.specs.Member.{Member}
 use Rattle.pfair_admission.specs.Admission.{Machine, boundary}
 use Rattle.pfair_in_time.specs.Descent.{Descends, IsSound, IsNew}
-use Rattle.pfair_admission.specs.Laws.{HasWeight}
 
 abbrev pub AllSound : ℕ → List Member → Type 0
 AllSound frame members = (m : Member) → Among members m → IsSound frame m
 
 abbrev pub AllHaveWeights : List Announcement → Type 0
-AllHaveWeights announced = (a : Announcement) → Among announced a → HasWeight a
+AllHaveWeights announced = (a : Announcement) → Among announced a → IsWeighed a
 
 -- what is left of a member is freed by slot t
 pub record IsFreed (t : ℕ) (frame : ℕ) (m n : Member) : Type 0 where

@@ -3,7 +3,7 @@ pub mod Dispatched
 pub mod InTime
 pub mod Lags
 pub mod Laws
-pub mod NextRuns
 pub mod Repeats
+pub mod Runs
 pub mod Schedules
 pub mod Windows

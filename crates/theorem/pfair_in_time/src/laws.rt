@@ -1,12 +1,13 @@
 //! The laws of members over boundaries, and the theorem that no admitted task misses.
 //!
-//! Each function states one law and does nothing.
-ghost use Rattle.pfair_in_time.specs.Dispatched.{DispatchersNeverMiss, NeverMisses};
-ghost use Rattle.pfair_in_time.specs.InTime.{NoneMisses, EachRunsInTime};
-ghost use Rattle.pfair_in_time.specs.Lags.{LagsStayWithinOne};
+//! Each function states one law and does nothing. Slots count from the first run's first slot, and
+//! each law holds of a first run and of each run that follows, with the members that the last one
+//! left, whatever the numbers of slots of the runs before.
+ghost use Rattle.pfair_in_time.specs.Dispatched.{DispatchersNeverMiss, DispatchersRunOn, NeverMisses};
+ghost use Rattle.pfair_in_time.specs.Lags.{BooksShowLags, LagsStayWithinOne};
 ghost use Rattle.pfair_in_time.specs.Laws.{BoundariesKeepMembers};
-ghost use Rattle.pfair_in_time.specs.NextRuns.{NextRunsAreServed};
 ghost use Rattle.pfair_in_time.specs.Repeats.{TablesRepeat, RepeatsByPeriods};
+ghost use Rattle.pfair_in_time.specs.Runs.{NoneMisses};
 ghost use Rattle.pfair_in_time.specs.Schedules.{ServedWhereThereIsRoom, NoneServesMore};
 ghost use Rattle.pfair_in_time.specs.Windows.{WindowsAreKept, DeadlinesAreKept};
 
@@ -14,35 +15,18 @@ use pfair_lag::laws::{lags_keep_deadlines, lags_keep_windows};
 use pfair_table::laws::one_schedule;
 
 /// No admitted task misses its deadline. Whatever a replica holds, by the tables that follow from it,
-/// after each slot the deadline of the next subtask of each member that isn't departing is still to
-/// come. Premises: a frame of at least one slot, and a weight in each announced arrival.
-#[tactic(auto, using(crate::proofs::InTime::none_misses))]
+/// each row of a slot is that of a member's next subtask, before its deadline and, unless the task may
+/// run early, from its release on; and after the slot the deadline of the next subtask of each member
+/// that isn't departing is still to come. Premises: a frame of at least one slot, and replicas that
+/// hold what their contracts say, for this run and for those before it.
+#[tactic(auto, using(crate::proofs::ThroughRuns::none_misses))]
 pub fn none_misses()
     ensures { NoneMisses }
 {}
 
-/// Each row of a table is that of a member's next subtask, in a slot before its deadline and, unless
-/// the task may run early, from its release on.
-#[tactic(auto, using(crate::proofs::InTime::each_runs_in_time))]
-pub fn each_runs_in_time()
-    ensures { EachRunsInTime }
-{}
-
-/// No admitted task misses its deadline however many runs follow one another, each with the members
-/// that the last one left: each row of each slot of each run is in time, and after the slot the
-/// deadline of the next subtask of each member that isn't departing is still to come. Slots count from
-/// the first run's first slot. Premises: those of [`none_misses`].
-#[tactic(auto, using(crate::proofs::NextRuns::next_runs_are_served))]
-pub fn next_runs_are_served()
-    ensures { NextRunsAreServed }
-{}
-
 /// No admitted task misses its deadline by a dispatcher's plan, whatever events the dispatcher had:
 /// while its replica has nothing torn, each slot that it has planned has the table that follows from
-/// the replica, each row of it is in time, and after it the deadline of the next subtask of each
-/// member that isn't departing is still to come.
-///
-/// Premise: events bring entries and replicas whose arrivals have weights, as their types guarantee.
+/// the replica, and is served as [`none_misses`] says.
 pub fn dispatchers_never_miss()
     ensures { DispatchersNeverMiss }
 {
@@ -51,21 +35,29 @@ pub fn dispatchers_never_miss()
 }
 
 /// No admitted task misses its deadline by what a dispatcher in hand has planned, whatever was called
-/// on it, if its run is a first run, which begins without members: while its replica has nothing torn,
-/// each of these slots has the table that follows from the replica, each row of it is in time, and the
-/// deadline of the next subtask of each member that isn't departing is later.
+/// on it: while its replica has nothing torn, each of these slots has the table that follows from the
+/// replica, and is served as [`none_misses`] says.
 ///
-/// Premises: what the calls of each dispatcher ensure of it, and weights in the arrivals that it holds,
-/// as their types guarantee.
+/// Premises: what the calls of each dispatcher ensure of it. If its run isn't the first, the
+/// dispatchers of the runs before, each of which was handed on by
+/// [`next_run`](pfair_table::Dispatcher::next_run).
 #[tactic(auto, using(crate::proofs::Planned::never_misses))]
 pub fn never_misses()
     ensures { NeverMisses }
 {}
 
+/// A dispatcher that was handed on from run to run is in a run after those of the dispatchers before
+/// it, so that all laws of runs speak of it.
+#[tactic(auto, using(crate::proofs::Planned::dispatchers_run_on))]
+pub fn dispatchers_run_on()
+    ensures { DispatchersRunOn }
+{}
+
 /// If a member isn't departing, isn't early and has no delay, each of its subtasks that has run did so
-/// in its window, counted from the member's joining, and each that was due has run. So its lag stays
-/// strictly between -1 and 1 (`lags_keep_windows` of `pfair_lag`).
-#[tactic(auto, using(crate::proofs::Windows::windows_are_kept))]
+/// in its window, counted from the slot from which its subtasks count, and each that was due has run,
+/// in whichever run that was. So its lag stays strictly between -1 and 1 (`lags_keep_windows` of
+/// `pfair_lag`).
+#[tactic(auto, using(crate::proofs::ThroughRuns::windows_are_kept))]
 pub fn windows_are_kept()
     ensures { WindowsAreKept }
 {}
@@ -73,19 +65,29 @@ pub fn windows_are_kept()
 /// If a member isn't departing and has no delay, early or not, each of its subtasks that has run did
 /// so before its deadline, and each that was due has run. So its lag stays below 1
 /// (`lags_keep_deadlines` of `pfair_lag`).
-#[tactic(auto, using(crate::proofs::Windows::deadlines_are_kept))]
+#[tactic(auto, using(crate::proofs::ThroughRuns::deadlines_are_kept))]
 pub fn deadlines_are_kept()
     ensures { DeadlinesAreKept }
 {}
 
-/// In the reported rows of lags, each numerator of a member that isn't departing and has no delay is
-/// less than the period and, unless the task is early, greater than minus the period.
+/// The lag of a member that isn't departing and has no delay is below one quantum after each slot and,
+/// unless the task is early, above minus one: as a numerator, less than the period, and greater than
+/// minus the period.
 pub fn lags_stay_within_one()
     ensures { LagsStayWithinOne }
 {
     lags_keep_windows();
     lags_keep_deadlines();
 }
+
+/// Lags go on from run to run: a book that begins with the members of a run, each with the slots and
+/// quanta that it had before, and is notified of the run's slots, has after each of them the members
+/// that stay, each with its lag. By `runs_go_on` of `pfair_table` these are the lags that they have in
+/// the one long run.
+#[tactic(auto, using(crate::proofs::Lags::books_show_lags))]
+pub fn books_show_lags()
+    ensures { BooksShowLags }
+{}
 
 /// A set that starts together and fits is served: let nothing be announced but arrivals at slot 0,
 /// under distinct names and with periods that divide the frame. All are admitted exactly if in a frame

@@ -14,13 +14,19 @@
 //! - **The premises** (`proofs/Room.antt`, `proofs/Claims.antt`, `proofs/Executive.antt`). The weights
 //!   have room, claims are held past busy bounds, and a released subtask without a row sees a full
 //!   table of rows that go before it (`is_run`).
-//! - **In time** (`proofs/InTime.antt`). The theorem in the executive's own words.
-//! - **By dispatchers** (`proofs/Planned.antt`). Arrivals with weights are all that
-//!   any events bring, and what was planned has the tables of the contents (`served_slot`).
-//! - **In windows** (`proofs/Passing.antt`, `proofs/Windows.antt`). The slots in which a member without
-//!   delays runs, counted from its joining, are in its windows, and none that was due is missing.
-//! - **In the rows of lags** (`proofs/Lags.antt`). The lag that is reported is that of these slots
-//!   (`same_lag`), and so within one.
+//! - **In time** (`proofs/InTime.antt`). The theorem of a first run in the executive's own words.
+//! - **From run to run** (`proofs/NextRuns.antt`, `proofs/LongRun.antt`). Runs that follow one another
+//!   go on as one long run (`runs_go_on` of `pfair_table`), in which all is announced that was announced
+//!   in them. A member of a later run is one of the long run, of which whole jobs were taken off
+//!   (`IsLater`), and both run in the same slots (`runs_long`).
+//! - **In windows** (`proofs/Passing.antt`, `proofs/Windows.antt`, `proofs/ThroughRuns.antt`). The slots
+//!   of all runs in which a member without delays runs, counted from the slot from which its subtasks
+//!   count, are in its windows, and none that was due is missing: in the long run, exactly the subtasks
+//!   of the jobs that were taken off ran before that slot (`exactly`).
+//! - **Lags** (`proofs/Lags.antt`). A member's lag is that of these slots (`same_lag`), and so within
+//!   one; and a book that begins as a run does has the lags of its members (`books_show_lags`).
+//! - **By dispatchers** (`proofs/Planned.antt`). What was planned has the tables of the contents; and
+//!   dispatchers that were handed on from run to run are in such runs (`dispatchers_run_on`).
 //! - **Who can be served** (`proofs/Served.antt`, `proofs/Overload.antt`). Arrivals at slot 0 for which
 //!   there is room are all admitted (`all_join`), and stay (`there`); and each has its last deadline of
 //!   a frame at the frame's end (`last_due`), by which no tables give more quanta than they have rows

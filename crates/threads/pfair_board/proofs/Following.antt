@@ -1,5 +1,5 @@
 -- What desks plan follows from what they hold.
-use Rattle.std.proofs.Common.{ℕ, refl, List}
+use Rattle.std.proofs.Common.{ℕ, refl, List, None}
 use Rattle.std.specs.List.{AllByRecursion}
 use Rattle.pfair_table.specs.Laws.{IsOf, OnePlan, OneTable}
 use Rattle.pfair_table.specs.Table.{Settings}
@@ -15,13 +15,13 @@ desk_is_of replicas s capacity steps all c = record { replica = replicas s.proce
 pub desks_plan_alike : DesksAgree → DesksHoldReplicas → OneTable → DesksPlanAlike
 desks_plan_alike agree replicas one_table s capacity steps all c d t h g =
     let b = after_steps steps empty_board in
-    (one_table s (desk_replica s.processors capacity b c) (desk_replica s.processors capacity b d)
+    (one_table None s (desk_replica s.processors capacity b c) (desk_replica s.processors capacity b d)
     (desk_is_of replicas s capacity steps all c) (desk_is_of replicas s capacity steps all d)
     (agree steps c d s.processors capacity) t h g).0
 
 pub desks_share_a_plan : DesksAgree → DesksHoldReplicas → OnePlan → DesksShareAPlan
 desks_share_a_plan agree replicas one_plan s capacity steps all c d =
     let b = after_steps steps empty_board in
-    one_plan s (desk_replica s.processors capacity b c) (desk_replica s.processors capacity b d)
+    one_plan None s (desk_replica s.processors capacity b c) (desk_replica s.processors capacity b d)
     (desk_is_of replicas s capacity steps all c) (desk_is_of replicas s capacity steps all d)
     (agree steps c d s.processors capacity)

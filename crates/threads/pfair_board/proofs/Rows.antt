@@ -4,7 +4,7 @@ use Rattle.std.proofs.lemmas.Bool.{true≢false}
 use Rattle.pfair_replica.specs.Replica.{Replica, Below}
 use Rattle.pfair_replica.specs.Laws.{IsLeastJoin}
 use Rattle.std.specs.List.{AllByRecursion}
-use Rattle.pfair_table.specs.PlaceLaws.{IsFit}
+use Rattle.pfair_table.specs.Places.{IsFit}
 use Rattle.pfair_table.specs.Planned.{as_tables}
 use Rattle.pfair_table.specs.Table.{Table, plan}
 use Rattle.pfair_table.specs.Script.{LoggedRun, replica_of_logs}

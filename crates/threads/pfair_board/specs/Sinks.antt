@@ -4,7 +4,7 @@ use Rattle.std.specs.List.{AllByRecursion}
 use Rattle.std.specs.declared.alloc.Global.{Global}
 use Rattle.pfair_table.specs.declared.pick.Pick.{Pick}
 use Rattle.pfair_table.specs.declared.settings.TheConstants.Settings.{MAX_PROCESSORS}
-use Rattle.pfair_table.specs.PlaceLaws.{IsFit}
+use Rattle.pfair_table.specs.Places.{IsFit}
 use Rattle.pfair_table.specs.Planned.{as_tables}
 use Rattle.pfair_table.specs.Table.{Table}
 

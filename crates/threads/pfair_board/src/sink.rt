@@ -1,7 +1,7 @@
 //! What takes the tables of a worker's slots.
 ghost use Rattle.std.specs.Prelude.{ℕ, ◌≡◌, ◌++◌, ◌∷◌, [], List, OnOk, length};
 ghost use Rattle.pfair_table.specs.Table.{Table};
-ghost use Rattle.pfair_table.specs.PlaceLaws.{IsFit};
+ghost use Rattle.pfair_table.specs.Places.{IsFit};
 
 use pfair_table::{Pick, Settings};
 use std::alloc::AllocError;

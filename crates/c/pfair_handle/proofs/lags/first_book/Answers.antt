@@ -2,7 +2,7 @@ use Rattle.std.proofs.Common.{◌<◌, ◌≡◌, ◌∙◌, List, length, take,
 use Rattle.std.proofs.Math.Seq.{take-length}
 use Rattle.pfair_admission.specs.Member.{Member}
 use Rattle.pfair_lag.specs.Book.{empty_book}
-use Rattle.pfair_handle.specs.Lags.{all_entered}
+use Rattle.pfair_output.specs.Told.{all_entered}
 use Rattle.pfair_handle.proofs.LagFacts.{begun_with, entered_next}
 use Rattle.pfair_handle.proofs.lags.first_book.Goals as goal
 

@@ -2,13 +2,13 @@ use Rattle.std.proofs.Common.{ℕ, ◌<◌, ◌≤◌, ◌≡◌, ◌∙◌, ◌
 use Rattle.std.specs.List.{AllByRecursion}
 use Rattle.pfair_replica.specs.HeldRows.{replica_of}
 use Rattle.pfair_replica.specs.Replica.{said}
-use Rattle.pfair_table.specs.PlaceLaws.{IsFit}
-use Rattle.pfair_table.specs.Places.{places_after, places_in, table_before, places_before}
+use Rattle.pfair_table.specs.Places.{places_after, places_in, table_before, places_before, IsFit}
 use Rattle.pfair_table.specs.Limits.{IsOrigin}
 use Rattle.pfair_table.specs.Table.{Settings, Origin, Table}
 use Rattle.pfair_table.specs.Planned.{PlannedSlots, last_or}
 use Rattle.pfair_admission.proofs.Each.{each}
-use Rattle.pfair_table.proofs.PlacesOn.{below_before, fit_before, last_below, last_fit, next_are}
+use Rattle.pfair_table.proofs.PlacesOn.{fit_before, last_fit, last_places, next_are}
+use Rattle.pfair_table.proofs.PlacesKept.{places_before_are}
 use Rattle.pfair_table.proofs.TableLaws.{ordered_from}
 use Rattle.pfair_table.proofs.Members.{named_before}
 use Rattle.pfair_table.proofs.planner.plan_onto.Goals as goal
@@ -28,7 +28,8 @@ last_small s now before most same began fit =
     let begins = subst (λ (q : PlannedSlots). IsOrigin q.origin s) (sym same) began in
     let wide = all_wider s.processors now before most same fit in (
       last_fit 64 (table_before o) now.tables (fit_wider s.processors (table_before o) most (fit_before o s begins)) wide,
-      last_below 64 o now.tables (each (λ k. k < s.processors) (λ k. k < 64) (λ k less. omega (arith, less, most)) (places_before o) (below_before o s begins)) wide,
+      each (λ k. k < s.processors) (λ k. k < 64) (λ k less. omega (arith, less, most)) (last_or (places_before o) (places_in o now.tables))
+      (last_places s.processors (table_before o) (places_before o) (places_before_are o s begins) now.tables (subst (λ (p : PlannedSlots). AllByRecursion (IsFit s.processors) p.tables) (sym same) fit)).below,
     )
 
 pub places_beside-requires-clause-before : goal.places_beside-requires-clause-before
@@ -45,7 +46,7 @@ places_beside-requires-clause-rows g c =
     let o = c.origin.result.now in
     let began = subst (λ (q : Origin). IsOrigin q c.args.settings) (sym (c.origin.ensures ∙ ap (λ (p : PlannedSlots). p.origin) c.take_room-room.ensures)) c.requires.began in
     let long = ap length (c.deref.ensures.value ∙ c.in_ok-next.ensures.table) in
-    let few = (ordered_from o c.args.settings (named_before o c.args.settings began) (said (replica_of c.args.replica.now)) c.len-slot.result).0 in
+    let few = (ordered_from o c.args.settings (named_before o c.args.settings began) (said (replica_of c.args.replica.now)) c.len-slot.result).0.0 in
     let limit = c.in_ok-next.ensures.limits.processors.1 in
     omega (arith, long, few, limit)
 

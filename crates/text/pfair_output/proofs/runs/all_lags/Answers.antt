@@ -7,12 +7,12 @@ use Rattle.pfair_text.specs.Rows.{line, text_so_far}
 use Rattle.pfair_output.specs.Lags.{lags_header}
 use Rattle.pfair_output.specs.Told.{slot_told}
 use Rattle.pfair_output.proofs.RunFacts.{book_more, lags_more}
-use Rattle.pfair_output.proofs.WorldFacts.{after_all}
+use Rattle.pfair_output.proofs.WorldFacts.{after_first}
 use Rattle.pfair_output.proofs.runs.all_lags.Goals as goal
 
 pub tell_slot-requires : goal.tell_slot-requires
 tell_slot-requires g c =
-    let time = ap (λ (b : Book). b.time) c.slots.invariant.book ∙ (after_all c.args.planner.now.settings (replica_of c.args.replica.now) c.slots.slot).time_is in
+    let time = ap (λ (b : Book). b.time) c.slots.invariant.book ∙ (after_first c.args.planner.now.settings (replica_of c.args.replica.now) c.slots.slot).time_is in
     omega (arith, time)
 
 pub slots-preserved : goal.slots-preserved

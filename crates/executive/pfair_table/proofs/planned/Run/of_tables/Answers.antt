@@ -1,13 +1,12 @@
-use Rattle.std.proofs.Common.{ℕ, zero, suc, ◌<◌, ◌≤◌, ◌≡◌, ◌∙◌, sym, ap, subst, arith, get_or, List, [], ◌∷◌, ◌++◌, length, map, rules, take, vec_len, Vec, Global, None}
+use Rattle.std.proofs.Common.{ℕ, zero, suc, ◌<◌, ◌≤◌, ◌≡◌, ◌∙◌, refl, sym, ap, subst, arith, get_or, List, [], ◌∷◌, ◌++◌, length, map, rules, take, vec_len, Vec, Global, None}
 use Rattle.std.specs.List.{AllByRecursion}
 use Rattle.std.proofs.lemmas.List.{get_or-map, length-map, map-append, take-map, take_more}
 use Rattle.pfair_table.specs.declared.pick.Pick.{Pick}
-use Rattle.pfair_table.specs.PlaceLaws.{IsFit}
-use Rattle.pfair_table.specs.Places.{places_after, places_of}
+use Rattle.pfair_table.specs.Places.{places_after, places_of, IsFit}
 use Rattle.pfair_table.specs.Planned.{as_tables, last_or}
 use Rattle.pfair_table.specs.Table.{Table}
 use Rattle.pfair_weight.proofs.NamesApart.{apart_nil}
-use Rattle.pfair_table.proofs.PlacesOn.{last_below, last_fit, next_are}
+use Rattle.pfair_table.proofs.PlacesOn.{last_fit, last_places, next_are}
 use Rattle.pfair_table.proofs.planned.Run.of_tables.Goals.{After-new}
 use Rattle.pfair_table.proofs.planned.Run.of_tables.Goals as goal
 
@@ -54,7 +53,7 @@ pub places_beside-requires-clause-before : goal.places_beside-requires-clause-be
 places_beside-requires-clause-before c = subst (IsFit 64) (sym (before c)) (last_fit 64 [] (sofar c) (omega arith, apart_nil (λ (p : Pick). p.name)) (fit c))
 
 pub places_beside-requires-clause-below : goal.places_beside-requires-clause-below
-places_beside-requires-clause-below c = subst (AllByRecursion (λ k. k < 64)) (sym (there c)) (last_below 64 None (sofar c) tt (fit c))
+places_beside-requires-clause-below c = subst (AllByRecursion (λ k. k < 64)) (sym (there c)) (last_places 64 [] [] (record { one_each = refl; below = tt; differ = tt }) (sofar c) (fit c)).below
 
 pub places_beside-requires-clause-rows : goal.places_beside-requires-clause-rows
 places_beside-requires-clause-rows c = subst (λ (rows : Table). length rows ≤ 64) (sym (here c)) (all_at (IsFit 64) c.loop-slot.slot (all c) [] (within c) c.requires).0

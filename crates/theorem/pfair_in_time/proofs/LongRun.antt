@@ -1,0 +1,210 @@
+-- Runs that follow one another, beside the one long run.
+use Rattle.std.proofs.Common.{◌≡◌, ℕ, ◌+◌, ◌-◌, ◌*◌, ◌<◌, ◌≤◌, List, [], ◌∷◌, map, None, arith, refl, ap, sym, ◌∙◌, subst, inl, inr}
+use Rattle.std.specs.Prelude.{◌||◌, nat_lt, if◌then◌else◌}
+use Rattle.std.specs.List.{AllByRecursion, list_any}
+use Rattle.std.proofs.lemmas.Bool.{cases_lt, lt-ltb, le-ltb}
+use Rattle.pfair_weight.specs.Share.{Share}
+use Rattle.pfair_entry.specs.Same.{name_eq}
+use Rattle.pfair_ready.specs.Names.{NameValue as Name}
+use Rattle.pfair_replica.specs.Among.{Among, among_all, among_map, map_among}
+use Rattle.pfair_admission.specs.Member.{Member, theta, lag_at}
+use Rattle.pfair_admission.proofs.Beside.{ArePaired, Pair, lag_same, long_of, short_of}
+use Rattle.pfair_table.specs.RunsOn.{HasBegun, TellsWeights, both_stories}
+use Rattle.pfair_table.specs.Table.{Settings, Origin, Story, Table, names_task, slot_of, history_over, world_over, table_over}
+use Rattle.pfair_table.proofs.RunsOn.{begun_over, long_early, members_paired, names_of, names_same, slot_on, world_at}
+use Rattle.pfair_table.proofs.TableLaws.{same_history}
+use Rattle.pfair_in_time.proofs.NextRuns.{Told, TellWeight, begun_after, both_weights, each_weight, origin_told}
+use Rattle.pfair_in_time.proofs.Worlds.{here}
+
+-- ---- a member of a run, and the same one in a run before which some jobs of it were not taken off
+
+pub record IsLater (slot jobs : ℕ) (l m : Member) : Type 0 where
+  pub name : m.name ≡ l.name
+  pub weight : m.weight ≡ l.weight
+  pub early : m.early ≡ l.early
+  pub freed : m.freed_at ≡ l.freed_at
+  pub joined : m.joined ≡ l.joined + jobs * l.weight.period
+  pub by_now : m.joined ≤ slot
+  pub next : l.next ≡ m.next + jobs * l.weight.cost
+  pub offsets : (j : ℕ) → 1 ≤ j → m.next ≤ j + 1 → theta m j ≡ theta l (j + jobs * l.weight.cost) + jobs * l.weight.period
+  pub lag : (time : ℕ) → slot ≤ time → lag_at time m ≡ lag_at time l
+
+pub itself : (slot : ℕ) (m : Member) → m.joined ≤ slot → IsLater slot 0 m m
+itself slot m joined = record {
+  name = refl;
+  weight = refl;
+  early = refl;
+  freed = refl;
+  joined = omega arith;
+  by_now = joined;
+  next = omega arith;
+  offsets = λ j first reaches. (let none : j + 0 * m.weight.cost ≡ j = omega arith in let same = ap (theta m) none in omega (arith, same));
+  lag = λ time now. refl;
+}
+
+-- a pair's members are so
+paired_later : (left : List Member) (begin slot : ℕ) (p : Pair left begin slot) → IsLater slot p.jobs p.long (short_of left begin p)
+paired_later left begin slot p = record {
+  name = refl;
+  weight = refl;
+  early = refl;
+  freed = refl;
+  joined = refl;
+  by_now = p.by_now;
+  next = p.is.next_is;
+  offsets = p.is.offsets;
+  lag = λ time now. lag_same left begin time p (let by = p.by_now in omega (arith, by, now));
+}
+
+-- and once more
+later_on : (slot j k : ℕ) (l m n : Member) → IsLater slot j l m → IsLater slot k m n → IsLater slot (j + k) l n
+later_on slot j k l m n a b = record {
+  name = b.name ∙ a.name;
+  weight = b.weight ∙ a.weight;
+  early = b.early ∙ a.early;
+  freed = b.freed ∙ a.freed;
+  joined = (let was = a.joined in let is = b.joined in let more = ap (λ (w : Share). k * w.period) a.weight in omega (arith, was, is, more));
+  by_now = b.by_now;
+  next = (let was = a.next in let is = b.next in let more = ap (λ (w : Share). k * w.cost) a.weight in omega (arith, was, is, more));
+  offsets = λ i first reaches.
+      (let cost = ap (λ (w : Share). k * w.cost) a.weight in
+      let period = ap (λ (w : Share). k * w.period) a.weight in
+      let next = b.next in
+      let near = b.offsets i first reaches in
+      let far = a.offsets (i + k * m.weight.cost) (omega (arith, first)) (omega (arith, reaches, next)) in
+      let index : i + k * m.weight.cost + j * l.weight.cost ≡ i + (j + k) * l.weight.cost = omega (arith, cost) in
+      let same = ap (theta l) index in
+      omega (arith, near, far, same, period));
+  lag = λ time now. b.lag time now ∙ a.lag time now;
+}
+
+-- a member of the shorter list, with the one that it is of the longer
+pub record HasLater (slot : ℕ) (longs : List Member) (m : Member) : Type 0 where
+  pub jobs : ℕ
+  pub long : Member
+  pub among : Among longs long
+  pub later : IsLater slot jobs long m
+
+paired : (left : List Member) (begin slot : ℕ) (L S : List Member) → ArePaired left begin slot L S → (m : Member) → Among S m → HasLater slot L m
+paired left begin slot L S a m h =
+    let p = among_map (short_of left begin) a.pairs m (subst (λ ms. Among ms m) (sym a.shorts_are) h) in
+    record {
+      jobs = p.0.jobs;
+      long = p.0.long;
+      among = subst (λ ms. Among ms p.0.long) a.longs_are (map_among (long_of left begin) a.pairs p.0 p.1);
+      later = subst (IsLater slot p.0.jobs p.0.long) (sym p.2) (paired_later left begin slot p.0);
+    }
+
+further : (slot : ℕ) (L : List Member) (l m : Member) (jobs : ℕ) → IsLater slot jobs l m → HasLater slot L l → HasLater slot L m
+further slot L l m jobs later h = record { jobs = h.jobs + jobs; long = h.long; among = h.among; later = later_on slot h.jobs jobs h.long l m h.later later }
+
+-- ---- the long run
+
+-- what is said in it
+abbrev pub long_story : Settings → List Told → Story → Story
+long_story s [] story = story
+long_story s (r ∷ earlier) story = long_story s earlier (both_stories (origin_told s earlier) s r.story r.slots story)
+
+pub long_weights : (s : Settings) (earlier : List Told) (story : Story) → TellWeight earlier → TellsWeights story → TellsWeights (long_story s earlier story)
+long_weights s [] story h weights = weights
+long_weights s (r ∷ earlier) story h weights =
+    long_weights s earlier (both_stories (origin_told s earlier) s r.story r.slots story) h.1 (both_weights (origin_told s earlier) s r.story r.slots story h.0 weights)
+
+-- each member of a slot's world is one of the long run's
+pub world_long : (s : Settings) (earlier : List Told) (story : Story) → TellWeight earlier → TellsWeights story → (t : ℕ) (m : Member) → Among (world_over (origin_told s earlier) s story t) m
+    → HasLater (slot_of (origin_told s earlier) t) (world_over None s (long_story s earlier story) (slot_of (origin_told s earlier) t)) m
+world_long s [] story h weights t m among = record { jobs = 0; long = m; among = among; later = itself t m (here s story (each_weight story weights) t m among).by_now }
+world_long s (r ∷ earlier) story h weights t m among =
+    let o = origin_told s earlier in
+    let both = both_stories o s r.story r.slots story in
+    let left = (history_over o s r.story r.slots).members in
+    let p = paired left (slot_of o r.slots) (slot_of o r.slots + t) (world_over o s both (r.slots + t)) (world_over (origin_told s (r ∷ earlier)) s story t)
+        (world_at o s r.story r.slots (begun_after s earlier h.1) h.0 story weights t (r.slots + t) refl) m among in
+    let before = world_long s earlier both h.1 (both_weights o s r.story r.slots story h.0 weights) (r.slots + t) p.long p.among in
+    let at : slot_of o (r.slots + t) ≡ slot_of o r.slots + t = slot_on o r.slots t in
+    further (slot_of o r.slots + t) (world_over None s (long_story s earlier both) (slot_of o r.slots + t)) p.long m p.jobs p.later
+    (subst (λ u. HasLater u (world_over None s (long_story s earlier both) u) p.long) at before)
+
+-- and so after its quanta
+pub history_long : (s : Settings) (earlier : List Told) (story : Story) → TellWeight earlier → TellsWeights story → (t : ℕ) (m : Member) → Among (history_over (origin_told s earlier) s story t).members m
+    → HasLater (slot_of (origin_told s earlier) t) (history_over None s (long_story s earlier story) (slot_of (origin_told s earlier) t)).members m
+history_long s [] story h weights t m among =
+    let b = among_all (HasBegun t) (history_over None s story t).members (begun_over None s (begun_after s [] tt) story weights t) m among in
+    let joined = b.joined in
+    record { jobs = 0; long = m; among = among; later = itself t m (omega (arith, joined)) }
+history_long s (r ∷ earlier) story h weights t m among =
+    let o = origin_told s earlier in
+    let both = both_stories o s r.story r.slots story in
+    let left = (history_over o s r.story r.slots).members in
+    let p = paired left (slot_of o r.slots) (slot_of o r.slots + t) (history_over o s both (r.slots + t)).members (history_over (origin_told s (r ∷ earlier)) s story t).members
+        (members_paired o s r.story r.slots (begun_after s earlier h.1) h.0 story weights t (r.slots + t) refl) m among in
+    let before = history_long s earlier both h.1 (both_weights o s r.story r.slots story h.0 weights) (r.slots + t) p.long p.among in
+    let at : slot_of o (r.slots + t) ≡ slot_of o r.slots + t = slot_on o r.slots t in
+    further (slot_of o r.slots + t) (history_over None s (long_story s earlier both) (slot_of o r.slots + t)).members p.long m p.jobs p.later
+    (subst (λ u. HasLater u (history_over None s (long_story s earlier both) u).members p.long) at before)
+
+-- ---- who runs
+
+-- the table of a slot of all runs
+abbrev pub told_through : Settings → List Told → Story → ℕ → Table
+told_through s [] story u = table_over None s story u
+told_through s (r ∷ earlier) story u =
+    let o = origin_told s (r ∷ earlier) in
+    if nat_lt u (slot_of o 0) then told_through s earlier r.story u else table_over o s story (u - slot_of o 0)
+
+-- in the last of them
+through_late : (s : Settings) (earlier : List Told) (story : Story) (u : ℕ) → slot_of (origin_told s earlier) 0 ≤ u → told_through s earlier story u ≡ table_over (origin_told s earlier) s story (u - slot_of (origin_told s earlier) 0)
+through_late s [] story u le = ap (table_over None s story) (let e : u ≡ u - 0 = omega arith in e)
+through_late s (r ∷ earlier) story u le =
+    let o = origin_told s (r ∷ earlier) in
+    ap (λ b. if b then told_through s earlier r.story u else table_over o s story (u - slot_of o 0)) (le-ltb u (slot_of o 0) le)
+
+-- stories that begin alike have the same tables there
+table_alike : (o : Origin) (s : Settings) (one other : Story) (n t : ℕ) → ((u : ℕ) → u < n → one u ≡ other u) → t < n → table_over o s one t ≡ table_over o s other t
+table_alike o s one other n t same less =
+    let past = same_history o s one other t (λ u l. same u (omega (arith, l, less))) in
+    let now = same t less in
+    grind (arith, past, now)
+
+through_alike : (s : Settings) (earlier : List Told) (one other : Story) (n u : ℕ) → ((k : ℕ) → k < n → one k ≡ other k) → u < slot_of (origin_told s earlier) n → told_through s earlier one u ≡ told_through s earlier other u
+through_alike s [] one other n u same less = table_alike None s one other n u same less
+through_alike s (r ∷ earlier) one other n u same less =
+    let o = origin_told s (r ∷ earlier) in
+    elim (cases_lt u (slot_of o 0)) [
+      | inl before ↦
+          let test = lt-ltb u (slot_of o 0) before in
+          ap (λ b. if b then told_through s earlier r.story u else table_over o s one (u - slot_of o 0)) test ∙ sym (ap (λ b. if b then told_through s earlier r.story u else table_over o s other (u - slot_of o 0)) test)
+      | inr late ↦
+          through_late s (r ∷ earlier) one u late ∙ table_alike o s one other n (u - slot_of o 0) same (omega (arith, less, late)) ∙ sym (through_late s (r ∷ earlier) other u late)
+    ]
+
+names_long : (s : Settings) (earlier : List Told) (story : Story) → TellWeight earlier → TellsWeights story → (u : ℕ) → names_of (told_through s earlier story u) ≡ names_of (table_over None s (long_story s earlier story) u)
+names_long s [] story h weights u = refl
+names_long s (r ∷ earlier) story h weights u =
+    let o = origin_told s earlier in
+    let next = origin_told s (r ∷ earlier) in
+    let both = both_stories o s r.story r.slots story in
+    let rest = names_long s earlier both h.1 (both_weights o s r.story r.slots story h.0 weights) u in
+    elim (cases_lt u (slot_of next 0)) [
+      | inl before ↦
+          let test = lt-ltb u (slot_of next 0) before in
+          ap (λ b. names_of (if b then told_through s earlier r.story u else table_over next s story (u - slot_of next 0))) test
+          ∙ ap names_of (through_alike s earlier r.story both r.slots u (λ k l. sym (long_early o s r.story r.slots (begun_after s earlier h.1) h.0 story weights k l)) (let base : slot_of next 0 ≡ slot_of o r.slots + 0 = refl in omega (arith, before, base))) ∙ rest
+      | inr late ↦
+          let from : slot_of o 0 ≤ slot_of o r.slots = grind arith in
+          let on : slot_of o r.slots ≡ slot_of o 0 + r.slots = ap (slot_of o) (let e : r.slots ≡ 0 + r.slots = omega arith in e) ∙ slot_on o 0 r.slots in
+          let base : slot_of next 0 ≡ slot_of o r.slots + 0 = refl in
+          let at : u - slot_of o 0 ≡ r.slots + (u - slot_of next 0) = omega (arith, late, on, base) in
+          ap names_of (through_late s (r ∷ earlier) story u late)
+          ∙ names_same o s r.story r.slots (begun_after s earlier h.1) h.0 story weights (u - slot_of next 0) (u - slot_of o 0) at
+          ∙ sym (ap names_of (through_late s earlier both u (omega (arith, late, from, base)))) ∙ rest
+    ]
+
+by_names : (name : Name) (rows : Table) → names_task name rows ≡ list_any (λ n. name_eq name n) (names_of rows)
+by_names name [] = refl
+by_names name (p ∷ rows) = ap (λ b. name_eq name p.name || b) (by_names name rows)
+
+-- a task runs in a slot of all runs if it does so in the long run
+pub runs_long : (s : Settings) (earlier : List Told) (story : Story) → TellWeight earlier → TellsWeights story → (name : Name) (u : ℕ) → names_task name (told_through s earlier story u) ≡ names_task name (table_over None s (long_story s earlier story) u)
+runs_long s earlier story h weights name u =
+    by_names name (told_through s earlier story u) ∙ ap (λ ns. list_any (λ n. name_eq name n) ns) (names_long s earlier story h weights u) ∙ sym (by_names name (table_over None s (long_story s earlier story) u))
