@@ -554,7 +554,7 @@ uint32_t pfair_next_slot(struct pfair_dispatcher *d, uint64_t *slot);
  * Begins the next run, of 1 to 1,000,000 slots, once all slots of this one are planned. Its dispatcher takes the place of
  * this one, which is freed: it has the same processors, frame and capacity, no entries, and no planned slots. The members
  * stay, and a task that runs on stays on its processor. Each dispatcher can do so by itself: once all slots are planned,
- * all know the same members.
+ * those whose runs began alike, with entries that agree, know the same members.
  *
  * Slots, stamps and floors count from the next run's own slot 0, and entries from 1; `joined`, `theta` and `freed_at`
  * count from slot 0 of the first run. What is stamped after the last slot of this run isn't taken over: whoever announced
