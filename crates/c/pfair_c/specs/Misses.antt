@@ -1,6 +1,7 @@
 -- What the calls answer that look for the first subtask out of its window.
 use Rattle.std.specs.Prelude.{ℕ, ◌≡◌, List, Option, MatchOption, nat_eq, nat_lt, nat_le, if◌then◌else◌}
 use Rattle.pfair_weight.specs.Share.{Share}
+use Rattle.pfair_lag.specs.Picks.{ArePicks}
 use Rattle.pfair_lag.specs.PickFault.{IsFaultOf, pick_fault_number}
 use Rattle.pfair_lag.specs.declared.fault.PickFault.{PickFault}
 use Rattle.pfair_lag.specs.declared.fault.PickFault.TheVariants.{PicksNotRising, PickPastHorizon}
@@ -30,10 +31,11 @@ abbrev pub IsPickFaultAs : (picks : List ℕ) → (horizon answer place : ℕ) �
 IsPickFaultAs picks horizon answer place =
     (f : PickFault) × (answer ≡ pick_fault_number f) × (place ≡ fault_place f) × IsFaultOf picks horizon f
 
--- what is answered about the picks of a weight cost/period up to a horizon: that all is well, or the first miss, in the row `miss`; or why
--- the weight and the horizon are refused, or the picks, and these with the place at fault
+-- what is answered about the picks of a weight cost/period up to a horizon: that all is well, or the first miss, in the row `miss`, and then
+-- the picks rise and end before the horizon; or why the weight and the horizon are refused, or the picks, and these with the place at fault
 pub record IsMissAnswer (AllIsWell : Share → List ℕ → ℕ → Type 0) (IsFirst : Share → List ℕ → ℕ → Miss → Type 0) (cost period horizon : ℕ) (picks : List ℕ)
     (answer : ℕ) (miss miss' : PfairMiss) (place place' : ℕ) : Type 0 where
+  pub valid : answer ≡ 0 → ArePicks picks horizon
   pub asked : (asked_answer cost period horizon ≡ 0 → ⊥) → answer ≡ asked_answer cost period horizon
   pub found : answer ≡ 0 → IsFoundAs miss' (AllIsWell (record { cost = cost; period = period }) picks horizon) (IsFirst (record { cost = cost; period = period }) picks horizon)
   pub fault : asked_answer cost period horizon ≡ 0 → (answer ≡ 0 → ⊥) → IsPickFaultAs picks horizon answer place'
