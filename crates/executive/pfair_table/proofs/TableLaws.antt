@@ -1,5 +1,5 @@
 -- The proofs of the laws of tables and plans.
-use Rattle.std.proofs.Common.{ℕ, zero, suc, ◌<◌, ◌≤◌, ◌≡◌, refl, sym, ap, ◌∙◌, arith, inl, inr, length, List, [], ◌∷◌, ◌++◌, min}
+use Rattle.std.proofs.Common.{ℕ, zero, suc, ◌<◌, ◌≤◌, ◌≡◌, refl, sym, ap, ◌∙◌, arith, inl, inr, List, [], ◌∷◌, ◌++◌, min}
 use Rattle.std.specs.Prelude.{map, filter, AllPairs}
 use Rattle.pfair_order.specs.Order.{GoesBefore}
 use Rattle.std.proofs.lemmas.List.{length-map, map-append, append_assoc, append-nil}

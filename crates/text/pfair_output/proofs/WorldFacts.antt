@@ -1,20 +1,17 @@
 -- A book that is notified of a run's slots has the members that stay, with their lags.
-use Rattle.std.proofs.Common.{ℕ, zero, suc, ◌+◌, ◌-◌, ◌≤◌, ◌≡◌, refl, sym, ap, ◌∙◌, arith, subst, inl, inr, Bool, true, false, cond, not, ◌||◌, List, [], ◌∷◌, ◌++◌, Option, Some, None, map, length, append_assoc}
+use Rattle.std.proofs.Common.{ℕ, zero, suc, ◌+◌, ◌-◌, ◌≤◌, ◌≡◌, refl, sym, ap, ◌∙◌, arith, subst, Bool, true, false, cond, not, ◌||◌, List, [], ◌∷◌, ◌++◌, Option, Some, None, map, length, append_assoc}
 use Rattle.std.specs.Prelude.{is_some, filter, min, nat_le, if◌then◌else◌}
 use Rattle.std.specs.List.{AllByRecursion, flat_map}
 use Rattle.std.specs.Cmp.Lexicographic.{nat_list_eq_equiv}
 use Rattle.std.specs.Map.{lookup}
 use Rattle.std.proofs.lemmas.List.{map-append, append-nil}
 use Rattle.std.proofs.lemmas.Grind.{flat_map-append}
-use Rattle.std.proofs.lemmas.Simd.{map-map}
 use Rattle.pfair_weight.specs.Name.{NameValue, NamesApart, name_eq}
 use Rattle.pfair_weight.specs.Share.{Share}
 use Rattle.pfair_weight.proofs.NamesApart.{apart_head, apart_nil, apart_tail}
-use Rattle.pfair_entry.specs.Exact.{name_exact}
 use Rattle.pfair_entry.specs.declared.announcement.Announcement.{Announcement}
 use Rattle.pfair_entry.specs.declared.announcement.Announcement.TheVariants.{Arrive, Depart, Late}
 use Rattle.pfair_entry.specs.Said.{Said}
-use Rattle.pfair_replica.specs.Among.{Among, among_all, map_same}
 use Rattle.pfair_replica.specs.Replica.{Replica, frontier, said, numbers_below}
 use Rattle.pfair_replica.specs.HeldRows.{replica_of}
 use Rattle.pfair_table.specs.Refinement.{Dispatch, IsWholePlan}
@@ -29,7 +26,7 @@ use Rattle.pfair_lag.specs.Book.{Tally, Book, empty_book, tally_of, has_run, ent
 use Rattle.pfair_output.specs.Lags.{is_staying, lag_row, lag_rows}
 use Rattle.pfair_output.specs.Told.{told, all_told, slot_told, all_slots_told, tally_row, book_rows, rows_told, all_entered, entered_again, first_book}
 use Rattle.pfair_admission.proofs.Deciding.{admitted_new}
-use Rattle.pfair_admission.proofs.Each.{each, each_filter, each_map}
+use Rattle.pfair_admission.proofs.Each.{each_map}
 use Rattle.pfair_table.proofs.Members.{label, named_from}
 use Rattle.pfair_table.proofs.NextIndexes.{after_table, all_ran_is, each_boundary}
 use Rattle.pfair_table.proofs.RunsOn.{slot_more as slot_later}

@@ -1,7 +1,7 @@
 -- Runs that follow one another, beside the one long run.
-use Rattle.std.proofs.Common.{◌≡◌, ℕ, ◌+◌, ◌-◌, ◌*◌, ◌<◌, ◌≤◌, List, [], ◌∷◌, map, None, arith, refl, ap, sym, ◌∙◌, subst, inl, inr}
+use Rattle.std.proofs.Common.{◌≡◌, ℕ, ◌+◌, ◌-◌, ◌*◌, ◌<◌, ◌≤◌, List, [], ◌∷◌, None, arith, refl, ap, sym, ◌∙◌, subst, inl, inr}
 use Rattle.std.specs.Prelude.{◌||◌, nat_lt, if◌then◌else◌}
-use Rattle.std.specs.List.{AllByRecursion, list_any}
+use Rattle.std.specs.List.{list_any}
 use Rattle.std.proofs.lemmas.Bool.{cases_lt, lt-ltb, le-ltb}
 use Rattle.pfair_weight.specs.Share.{Share}
 use Rattle.pfair_entry.specs.Same.{name_eq}
@@ -119,7 +119,7 @@ world_long s (r ∷ earlier) story h weights t m among =
     let both = both_stories o s r.story r.slots story in
     let left = (history_over o s r.story r.slots).members in
     let p = paired left (slot_of o r.slots) (slot_of o r.slots + t) (world_over o s both (r.slots + t)) (world_over (origin_told s (r ∷ earlier)) s story t)
-        (world_at o s r.story r.slots (begun_after s earlier h.1) h.0 story weights t (r.slots + t) refl) m among in
+    (world_at o s r.story r.slots (begun_after s earlier h.1) h.0 story weights t (r.slots + t) refl) m among in
     let before = world_long s earlier both h.1 (both_weights o s r.story r.slots story h.0 weights) (r.slots + t) p.long p.among in
     let at : slot_of o (r.slots + t) ≡ slot_of o r.slots + t = slot_on o r.slots t in
     further (slot_of o r.slots + t) (world_over None s (long_story s earlier both) (slot_of o r.slots + t)) p.long m p.jobs p.later
@@ -137,7 +137,7 @@ history_long s (r ∷ earlier) story h weights t m among =
     let both = both_stories o s r.story r.slots story in
     let left = (history_over o s r.story r.slots).members in
     let p = paired left (slot_of o r.slots) (slot_of o r.slots + t) (history_over o s both (r.slots + t)).members (history_over (origin_told s (r ∷ earlier)) s story t).members
-        (members_paired o s r.story r.slots (begun_after s earlier h.1) h.0 story weights t (r.slots + t) refl) m among in
+    (members_paired o s r.story r.slots (begun_after s earlier h.1) h.0 story weights t (r.slots + t) refl) m among in
     let before = history_long s earlier both h.1 (both_weights o s r.story r.slots story h.0 weights) (r.slots + t) p.long p.among in
     let at : slot_of o (r.slots + t) ≡ slot_of o r.slots + t = slot_on o r.slots t in
     further (slot_of o r.slots + t) (history_over None s (long_story s earlier both) (slot_of o r.slots + t)).members p.long m p.jobs p.later

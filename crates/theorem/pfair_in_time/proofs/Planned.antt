@@ -59,9 +59,9 @@ dispatchers_run_on [] d on = (on, tt)
 dispatchers_run_on (e ∷ earlier) d (on, before) =
     let r = dispatchers_run_on earlier e before in (
       on.origin
-      ∙ ap (λ o. Some (left_over o e.settings (said (replica_of e.held)) e.settings.slots)) r.0
-      ∙ same_after e.settings d.settings.slots (past_of e ∷ map past_of earlier)
-      ∙ ap (λ s. origin_after s (past_of e ∷ map past_of earlier)) (sym on.settings),
+          ∙ ap (λ o. Some (left_over o e.settings (said (replica_of e.held)) e.settings.slots)) r.0
+          ∙ same_after e.settings d.settings.slots (past_of e ∷ map past_of earlier)
+          ∙ ap (λ s. origin_after s (past_of e ∷ map past_of earlier)) (sym on.settings),
       (on.replica, r.1),
     )
 

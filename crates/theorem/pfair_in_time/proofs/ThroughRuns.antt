@@ -93,10 +93,10 @@ module _ (s : Settings) (x : Story) (frame : 0 < s.frame) (weights : TellWeights
           let same_offset : IsUndelayed n = λ i. (let up = line.rises i in let there = still i in let same = line.joined in let low = theta_low n i in omega (arith, up, there, same, low)) in
           let since : slots_since (l.joined + (before - 1)) n ≡ before = (let same = line.joined in omega (arith, same, later_one)) in
           let due : deadline_of n.weight (k * l.weight.cost) 0 ≤ slots_since (l.joined + (before - 1)) n =
-              (let is = ap (λ (w : Share). deadline_of w (k * l.weight.cost) 0) (sym line.weight) ∙ job_due l.weight k 0 some in omega (arith, is, since)) in
+          (let is = ap (λ (w : Share). deadline_of w (k * l.weight.cost) 0) (sym line.weight) ∙ job_due l.weight k 0 some in omega (arith, is, since)) in
           let many = served s x frame weights (l.joined + (before - 1)) n p.1 staying same_offset (k * l.weight.cost) (some_subtask other) due in
           let alike : length (slots_of s x (l.joined + (before - 1)) n) ≡ ran_in before =
-              ap (λ slots. length (passing (runs_at s x n) slots)) since ∙ ap (λ (a : Name × ℕ). length (passing (λ slot. names_task a.0 (table_over None s x (a.1 + slot))) before)) (λ i. (sym line.name i, sym line.joined i)) in
+          ap (λ slots. length (passing (runs_at s x n) slots)) since ∙ ap (λ (a : Name × ℕ). length (passing (λ slot. names_task a.0 (table_over None s x (a.1 + slot))) before)) (λ i. (sym line.name i, sym line.joined i)) in
           omega (arith, many, alike)
     ]
   ]

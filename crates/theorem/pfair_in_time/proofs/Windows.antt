@@ -1,5 +1,5 @@
 -- The slots in which a member runs are in its windows.
-use Rattle.std.proofs.Common.{◌≡◌, ℕ, zero, suc, ◌+◌, ◌-◌, ◌<◌, ◌≤◌, Bool, true, false, List, [], length, get_or, drop, arith, ap, sym, ◌∙◌, subst, inl, inr}
+use Rattle.std.proofs.Common.{◌≡◌, ℕ, zero, suc, ◌+◌, ◌<◌, ◌≤◌, Bool, true, false, List, [], length, drop, arith, ap, sym, ◌∙◌, inl, inr}
 use Rattle.std.specs.Prelude.{nat_le, filter, sum_by, count_by}
 use Rattle.std.proofs.lemmas.Bool.{cases_lt}
 use Rattle.pfair_weight.specs.Share.{Share}
@@ -11,7 +11,7 @@ use Rattle.pfair_admission.specs.declared.delay.Delay.{Delay}
 use Rattle.pfair_table.specs.Table.{Settings, names_task, quanta, next_index, Story}
 use Rattle.pfair_in_time.specs.Windows.{slots_since}
 use Rattle.pfair_in_time.proofs.Worlds.{tables_before, runs, next_more, next_new, here, TellWeights, index_after}
-use Rattle.pfair_in_time.proofs.Lines.{IsLine, back_to}
+use Rattle.pfair_in_time.proofs.Lines.{IsLine}
 use Rattle.pfair_in_time.proofs.InTime.{none, in_time, released, started}
 use Rattle.pfair_in_time.proofs.Passing.{passing, one_more}
 use Rattle.pfair_table.proofs.FirstRuns.{world, table}

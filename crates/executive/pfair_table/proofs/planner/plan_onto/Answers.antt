@@ -29,7 +29,7 @@ last_small s now before most same began fit =
     let wide = all_wider s.processors now before most same fit in (
       last_fit 64 (table_before o) now.tables (fit_wider s.processors (table_before o) most (fit_before o s begins)) wide,
       each (λ k. k < s.processors) (λ k. k < 64) (λ k less. omega (arith, less, most)) (last_or (places_before o) (places_in o now.tables))
-      (last_places s.processors (table_before o) (places_before o) (places_before_are o s begins) now.tables (subst (λ (p : PlannedSlots). AllByRecursion (IsFit s.processors) p.tables) (sym same) fit)).below,
+          (last_places s.processors (table_before o) (places_before o) (places_before_are o s begins) now.tables (subst (λ (p : PlannedSlots). AllByRecursion (IsFit s.processors) p.tables) (sym same) fit)).below,
     )
 
 pub places_beside-requires-clause-before : goal.places_beside-requires-clause-before
