@@ -42,6 +42,7 @@ fn main(rt: HostRuntime) -> ExitCode {
         tell(&rt, "", &lattice::looks(alloc)),
         tell(&rt, "over lists, ", &ready::looks::<PlainReady>(alloc)),
         tell(&rt, "over heaps, ", &ready::looks::<HeapReady>(alloc)),
+        tell(&rt, "over heaps, ", &ready::reserved::<HeapReady>(alloc)),
         tell(&rt, "", &replica::looks(alloc)),
         tell(&rt, "", &admission::looks(alloc)),
         tell(&rt, "over lists, ", &table::looks::<PlainReady>(alloc)),
