@@ -189,12 +189,18 @@ def test_task_files(call, stand_in, tmp_path, monkeypatch):
     monkeypatch.setenv("PATH", f"{stand_in(answers).parent}:{path}")
     assert call(MISSES, file) == (0, HEAD + text, "")
     assert (tmp_path / "calls").read_text() == f"decisions {file}\nlags {file}\n"
-    stand_in(answers).unlink()
-    monkeypatch.setattr(MISSES.shutil, "which", lambda name: None)
-    monkeypatch.setattr(MISSES, "TOP", tmp_path)
-    (tmp_path / "scripts").mkdir()
-    stand_in(answers).rename(tmp_path / "scripts" / "pfair")
+    beside = str(stand_in(answers, "beside"))
+    monkeypatch.setattr(MISSES, "program", lambda: beside)
     assert call(MISSES, file) == (0, HEAD + text, "")
+
+
+def test_a_program_that_cant_be_built(call, tmp_path, monkeypatch):
+    def fails():
+        raise ImportError("build failed")
+
+    (tmp_path / "tasks.toml").touch()
+    monkeypatch.setattr(MISSES, "program", fails)
+    assert call(MISSES, tmp_path / "tasks.toml") == (2, "", "scripts/misses: build failed\n")
 
 
 def test_refused_task_files(call, stand_in, tmp_path, monkeypatch):

@@ -74,7 +74,7 @@ def test_events(call, stand_in, file, tmp_path):
 
 def test_words(call, stand_in, file, monkeypatch):
     program = stand_in(ANSWERS)
-    monkeypatch.setattr(TRACE.shutil, "which", lambda name: str(program) if name == "pfair" else None)
+    monkeypatch.setattr(TRACE, "program", lambda: str(program))
     assert call(TRACE, file).out == call(TRACE, "--format", "json", "--slot", "1", "--program", program, file).out
     dump = call(TRACE, "--format", "vcd", "--slot", "0.5", file)
     assert (
@@ -83,19 +83,18 @@ def test_words(call, stand_in, file, monkeypatch):
         and dump.out.endswith('\n#2500\nsa_2 "\n1$\n#3000\n')
     )
     refused = call(TRACE, "--format", "svg", file)
-    usage = "[--slot MILLISECONDS] [--program PROGRAM] FILE script_trace: error"
+    usage = "[--slot MILLISECONDS] [--program PATH] FILE script_trace: error"
     assert refused.status == 2 and "choose from 'json', 'vcd'" in refused.err and usage in " ".join(refused.err.split())
     assert call(TRACE).status == 2
     assert call(TRACE, "--slot", "0", file) == (1, "", "scripts/trace: a slot is 0.001 to 1000000 milliseconds\n")
 
 
-def test_program_beside(call, stand_in, file, monkeypatch, tmp_path):
-    """Where `pfair` isn't on the path, the rows are those of the script beside."""
-    (tmp_path / "scripts").mkdir()
-    stand_in(ANSWERS).rename(tmp_path / "scripts" / "pfair")
-    monkeypatch.setattr(TRACE.shutil, "which", lambda name: None)
-    monkeypatch.setattr(TRACE, "TOP", tmp_path)
-    assert call(TRACE, file).status == 0
+def test_a_program_that_cant_be_built(call, file, monkeypatch):
+    def fails():
+        raise ImportError("build failed")
+
+    monkeypatch.setattr(TRACE, "program", fails)
+    assert call(TRACE, file) == (1, "", "scripts/trace: build failed\n")
 
 
 @pytest.mark.parametrize(
