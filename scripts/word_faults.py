@@ -1,0 +1,180 @@
+"""What is wrong with the words of `pfair` and `pfair_follow`, in words for a person."""
+import difflib
+import os
+import re
+
+FILE = ("FILE",)
+SETTINGS = {"--processors": (1, 64), "--frame": (1, 10**9), "--slots": (1, 10**6)}
+RUN = {**SETTINGS, "--from": (0, 10**6), "--strict": None}
+# of each command its words, and its flags: None, or the least and the greatest number behind one
+COMMANDS = {
+    "pfair": {
+        "windows": (("E", "P", "COUNT"), {}),
+        "replay": (FILE, {"--affinity": None}),
+        "decisions": (FILE, {}),
+        "lags": (FILE, {}),
+    },
+    "pfair_follow": {
+        "entries": (FILE, {}),
+        "replay": ((), {**RUN, "--affinity": None}),
+        "decisions": ((), RUN),
+        "lags": ((), RUN),
+    },
+}
+HELP = ("--help", "-h")
+MOST_SUBTASKS = 10**6
+LONGEST_PERIOD = 10**9
+
+
+def near(word, known):
+    """A question that names the known word that is most like this one."""
+    found = difflib.get_close_matches(word, known, 1)
+    return f"; did you mean {found[0]}?" if found else ""
+
+
+def listed(words):
+    """Words with commas and an `and`."""
+    return " and ".join(filter(None, (", ".join(words[:-1]), words[-1])))
+
+
+def is_number(text):
+    """Whether a word is a number as the programs read one."""
+    return re.fullmatch(r"\+?[0-9]+", text) is not None and int(text) < 2**64
+
+
+def wrong_command(name, words):
+    """What is wrong with the first word, or nothing."""
+    commands = COMMANDS[name]
+    known = ", ".join(commands)
+    if not words:
+        return f"a command is missing: {known}, or --help"
+    word = words[0]
+    if word in commands or word in (*HELP, "--version"):
+        return ""
+    if word.startswith("-"):
+        flags = [flag for _, flags in commands.values() for flag in flags]
+        if word.partition("=")[0] in flags:
+            command = next((other for other in words if other in commands), "COMMAND")
+            return f"the command stands before {word}: {name} {command} {word} .."
+        return f"a command comes first, one of {known}; {word} is no flag of {name}{near(word, (*HELP, '--version'))}"
+    for other, others in COMMANDS.items():
+        if word in others:
+            return f"'{word}' is a command of {other}: {other} {word} --help"
+    if f"--{word}" in (*HELP, "--version"):
+        return f"a flag has two dashes: --{word}"
+    if word and os.path.exists(word):
+        likely = next(command for command, (given, _) in commands.items() if given == FILE)
+        return f"a command stands before the file: {name} {likely} {word}"
+    return f"the commands are {known}, and not '{word}'{near(word, commands)}"
+
+
+class Line:
+    """The words behind a command, as they are read one by one; `why` is the first thing that is wrong."""
+
+    def __init__(self, name, command, words):
+        self.name, self.command, self.why = name, command, ""
+        self.wanted, self.flags = COMMANDS[name][command]
+        self.given, self.numbers, self.asks_help = [], {}, False
+        rest = list(words)
+        while rest and not self.why and not self.asks_help:
+            word = rest.pop(0)
+            if word in HELP:
+                self.asks_help = True
+            elif word == "--":
+                while rest and not self.why:
+                    self.take(rest.pop(0), words)
+            elif word.startswith("-") and word != "-":
+                self.flag(word, rest)
+            else:
+                self.take(word, words)
+        if not self.why and not self.asks_help:
+            self.why = self.missing() or self.beyond()
+
+    def take(self, word, words):
+        if len(self.given) < len(self.wanted):
+            self.given.append(word)
+        elif not self.wanted:
+            way = "its entries come on standard input: < FILE, or pfair_follow entries FILE |"
+            self.why = f"{self.command} takes no '{word}'; {way}"
+        elif os.path.exists(whole := " ".join(words)):
+            self.why = f"a name with a blank is one word in quotes: '{whole}'"
+        else:
+            self.why = f"'{word}' is a word too many: {self.name} {self.command} {' '.join(self.wanted)}"
+
+    def flag(self, word, rest):
+        key, equals, value = word.partition("=")
+        if key not in self.flags:
+            self.why = self.unknown(key)
+        elif key in self.numbers:
+            self.why = f"{key} stands twice"
+        elif self.flags[key] is None:
+            self.numbers[key] = None
+            self.why = f"{key} has no value" if equals else ""
+        elif not equals and not rest:
+            self.why = f"a number is missing behind {key}"
+        else:
+            self.numbers[key] = value if equals else rest.pop(0)
+            least, most = self.flags[key]
+            if not (is_number(self.numbers[key]) and least <= int(self.numbers[key]) <= most):
+                self.why = f"{key} is a number from {least} to {most}, and not '{self.numbers[key]}'"
+
+    def unknown(self, key):
+        if self.command == "windows" and re.fullmatch(r"-[0-9]+", key):
+            return f"{key} is below zero: E, P and COUNT are whole numbers"
+        if f"-{key}" in self.flags or f"-{key}" in (*HELP, "--version"):
+            return f"a flag has two dashes: -{key}"
+        if key in SETTINGS and "FILE" in self.wanted:
+            return f"{self.command} has no {key}: the file says it, by the key {key[2:]}"
+        others = [one for one in COMMANDS[self.name] if key in COMMANDS[self.name][one][1]]
+        if others:
+            return f"{self.command} has no {key}, which is a flag of {listed(others)}"
+        known = [*self.flags, "--help"]
+        return f"{self.command} has no flag {key}{near(key, known) or '; its flags are ' + ', '.join(known)}"
+
+    def missing(self):
+        """Which word or flag is missing, or nothing."""
+        lacks = [f"{flag} NUMBER" for flag in SETTINGS if flag in self.flags and flag not in self.numbers]
+        if lacks:
+            return f"{listed(lacks)} {'is' if len(lacks) == 1 else 'are'} missing"
+        if len(self.given) < len(self.wanted):
+            line = f"{self.name} {self.command} {' '.join(self.wanted)}"
+            return f"{self.wanted[len(self.given)]} is missing: {line}"
+        return ""
+
+    def beyond(self):
+        """Which word of `windows` is no number or too large, or nothing."""
+        for what, word in zip(self.wanted, self.given) if self.command == "windows" else ():
+            if not is_number(word):
+                return f"{what} is a whole number, and not '{word}'"
+        if self.command == "windows" and int(self.given[2]) > MOST_SUBTASKS:
+            return f"COUNT is at most {MOST_SUBTASKS}, and not {self.given[2]}"
+        return ""
+
+
+def wrong_words(name, words):
+    """Why the program refuses these words (80), or nothing."""
+    why = wrong_command(name, words)
+    return why if why or words[0].startswith("-") else Line(name, words[0], words[1:]).why
+
+
+def wrong_weight(words):
+    """The fault of a weight of `windows` and why, or nothing, of words that are taken."""
+    if words[:1] != ["windows"] or set(words) & set(HELP):
+        return ()
+    cost, period = (int(word) for word in Line("pfair", "windows", words[1:]).given[:2])
+    if cost == 0:
+        return "4 zero cost", "E is the cost, at least 1: the quanta in each period of P slots"
+    if cost > period:
+        why = f"E is the cost and P the period, in this order, and {cost} quanta don't fit into {period} slots"
+        return "5 cost over period", why
+    if period > LONGEST_PERIOD:
+        return "6 period too long", f"P is at most {LONGEST_PERIOD}"
+    return ()
+
+
+def file_of(name, words):
+    """The task file that these words name, or None, of words that are taken."""
+    if not words or words[0] not in COMMANDS[name] or "FILE" not in COMMANDS[name][words[0]][0]:
+        return None
+    line = Line(name, words[0], words[1:])
+    return None if line.asks_help or line.why else line.given[0]
