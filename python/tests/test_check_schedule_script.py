@@ -82,12 +82,31 @@ def test_as_a_program():
 
 
 def test_package_that_cant_be_made(call, monkeypatch):
-    def fails(*words, **how):
-        raise subprocess.CalledProcessError(1, "make_library")
+    def fails():
+        raise ImportError("make_library failed")
 
     monkeypatch.setattr(CHECK, "package", fails)
     done = call(CHECK, TASKS, ROWS)
-    assert done == (2, "", "scripts/check_schedule: pfair: Command 'make_library' returned non-zero exit status 1.\n")
+    assert done == (2, "", "scripts/check_schedule: pfair: make_library failed\n")
+
+
+def test_comment_lines(call, tmp_path):
+    """They are passed over, wherever they are, and the other lines keep their numbers."""
+    rows, plain = tmp_path / "rows.csv", ROWS.read_text()
+    header, *lines = plain.splitlines(keepends=True)
+    for text in (
+        f"# full.csv\n#\n{plain}",
+        f"{header}# first\n{''.join(lines)}# last",
+        header + "".join(f"#{place},x,y\n{line}" for place, line in enumerate(lines)),
+        f"#{plain.strip()}".replace("\n", "\n#") + f"\n{plain}".rstrip("\n"),
+    ):
+        rows.write_text(text)
+        assert call(CHECK, TASKS, rows) == (0, "nothing is wrong\n", "")
+        assert run(TASKS, "-", rows=text.encode()) == (0, "nothing is wrong\n", "")
+    rows.write_text(f"# one\n# two\nslot,task\n0,a\n# five\n# six\n1,?\n")
+    assert call(CHECK, TASKS, rows) == (2, "", f"scripts/check_schedule: {rows}: line 7: '?' is no task's name\n")
+    rows.write_text("slot,task\n0,#a\n")
+    assert call(CHECK, TASKS, rows) == (2, "", f"scripts/check_schedule: {rows}: line 2: '#a' is no task's name\n")
 
 
 def test_a_reader_that_ends(call, monkeypatch):
