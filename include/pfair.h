@@ -123,8 +123,8 @@
 #include <stdint.h>
 
 /* The version of this header, as text and as a number. */
-#define PFAIR_VERSION "0.4.0"
-#define PFAIR_VERSION_NUMBER 400
+#define PFAIR_VERSION "0.5.0"
+#define PFAIR_VERSION_NUMBER 500
 
 #ifdef __cplusplus
 extern "C" {
