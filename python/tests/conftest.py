@@ -5,17 +5,21 @@ import io
 import os
 import pathlib
 import sys
+import tempfile
 import tomllib
 from typing import NamedTuple
 
 import pytest
-from hypothesis import settings
+from hypothesis import configuration, settings
 
 TOP = pathlib.Path(__file__).resolve().parents[2]
 EXAMPLES = pathlib.Path(os.environ.get("PFAIR_EXAMPLES", TOP / "examples"))
 SCRIPTS = pathlib.Path(os.environ.get("PFAIR_SCRIPTS", TOP / "scripts"))
 # what the scripts share
 sys.path.append(str(SCRIPTS))
+# hypothesis keeps tables of its own, which don't belong into the tree
+STORAGE = tempfile.TemporaryDirectory()
+configuration.set_hypothesis_home_dir(STORAGE.name)
 # each run tries the same examples, however long one takes
 settings.register_profile("steady", derandomize=True, deadline=None, database=None)
 settings.load_profile("steady")
