@@ -21,52 +21,20 @@ late, 1, 2, 5
  first ,3,4
 second,1,2,0
 """
-FILE_OF_LIST = """version = 1
-processors = 2
-frame = 4
-slots = 9
+# processor, slot, kind, name, and of an arrival the weight
+OF_LIST = [
+    (0, 0, "arrive", "first", 3, 4), (1, 0, "arrive", "second", 1, 2), (0, 5, "arrive", "late", 1, 2),
+    (1, 7, "depart", "first"), (0, 8, "depart", "second"),
+]
 
-[[entry]]
-processor = 0
-floor = 0
-kind = "arrive"
-at = 0
-name = "first"
-cost = 3
-period = 4
 
-[[entry]]
-processor = 1
-floor = 0
-kind = "arrive"
-at = 0
-name = "second"
-cost = 1
-period = 2
-
-[[entry]]
-processor = 0
-floor = 5
-kind = "arrive"
-at = 5
-name = "late"
-cost = 1
-period = 2
-
-[[entry]]
-processor = 1
-floor = 7
-kind = "depart"
-at = 7
-name = "first"
-
-[[entry]]
-processor = 0
-floor = 8
-kind = "depart"
-at = 8
-name = "second"
-"""
+def text_of(entries, **head):
+    """The text of a task file, line by line."""
+    lines = [f"{key} = {value}" for key, value in head.items()]
+    for processor, slot, kind, name, *weight in entries:
+        lines += ["", "[[entry]]", f"processor = {processor}", f"floor = {slot}", f'kind = "{kind}"', f"at = {slot}"]
+        lines += [f'name = "{name}"', *(f"{key} = {value}" for key, value in zip(("cost", "period"), weight))]
+    return "\n".join([*lines, ""])
 
 
 @pytest.fixture
@@ -84,15 +52,14 @@ def listing(call, tmp_path):
 def test_text_of_a_list(listing):
     """Entries in the order of slots, dealt to the processors in turn, without comments, blank lines and the head."""
     words = ("--processors", "2", "--slots", "9", "--leave", "second=8", "--leave", "first=7")
-    assert listing(LISTED, *words) == (0, FILE_OF_LIST, "")
+    assert listing(LISTED, *words) == (0, text_of(OF_LIST, version=1, processors=2, frame=4, slots=9), "")
 
 
 def test_early(listing):
     done = listing("a,1,2\nb,1,3\n", "--early", *ONE)
     told = tomllib.loads(done.out)
-    assert (told["version"], told["frame"], told["slots"]) == (2, 6, 6) and [
-        entry["early"] for entry in told["entry"]
-    ] == [True, True]
+    assert (told["version"], told["frame"], told["slots"]) == (2, 6, 6)
+    assert [entry["early"] for entry in told["entry"]] == [True, True]
     assert done.out.count("early = true\n") == 2 and "early" not in listing("a,1,2\n", *ONE).out
 
 
@@ -117,11 +84,7 @@ PAST_LIMITS = [
     ("a,1,1000000001\n", "task a: the period 1000000001 is over 1000000000"),
     ("a,1,2,1000001\n", "task a: it arrives at 1000001, which is not from 0 to 1000000"),
     ("a,1,2,-1\n", "task a: it arrives at -1, which is not from 0 to 1000000"),
-    ("abcdefghijklmnopq,1,2\n", f"'abcdefghijklmnopq' {NO_NAME}"),
-    ("0a,1,2\n", f"'0a' {NO_NAME}"),
-    ("aB,1,2\n", f"'aB' {NO_NAME}"),
-    (",1,2\n", f"'' {NO_NAME}"),
-    ("_a,1,2\n", f"'_a' {NO_NAME}"),
+    *((f"{name},1,2\n", f"'{name}' {NO_NAME}") for name in ("abcdefghijklmnopq", "0a", "aB", "", "_a")),
     ("a,1\n", "line 1: 'a,1' is not name,cost,period or name,cost,period,slot"),
     ("\n# c\n a,1,2,3,4\n", "line 3: 'a,1,2,3,4' is not name,cost,period or name,cost,period,slot"),
     ("a,1,2\nb,one,2\n", "line 2: 'one' is no whole number"),
@@ -150,6 +113,9 @@ def test_limits_of_files(listing, call, tmp_path):
         (("--processors", "65"), "65 processors are not 1 to 64"),
         ((*ONE, "--slots", "1000001"), "1000001 slots are not 1 to 1000000"),
         ((*ONE, "--slots", "-1"), "-1 slots are not 1 to 1000000"),
+        ((*ONE, "--slots", "0"), "0 slots are not 1 to 1000000"),
+        ((*ONE, "--leave", "a=-5"), "--leave a=-5: -5 is not from 0 to 1000000"),
+        ((*ONE, "--leave", "a=1000001"), "--leave a=1000001: 1000001 is not from 0 to 1000000"),
         ((*ONE, "--leave", "b=1"), "--leave b=1: no task has this name"),
         ((*ONE, "--leave", "a=x"), "--leave a=x: 'x' is no whole number"),
     ):
@@ -157,6 +123,12 @@ def test_limits_of_files(listing, call, tmp_path):
         assert (done.status, done.out) == (1, "") and done.err.endswith(f"scripts/task_file: {complaint}\n")
     done = call(TASK_FILE, "list", tmp_path / "none", *ONE)
     assert done.status == 1 and done.err.startswith("scripts/task_file: ") and "none" in done.err
+    assert listing("a,1,2\n", *ONE, "--leave", "a=1000000").status == 0
+    file = tmp_path / "tasks.csv"
+    for text, status in ((b"# \xfc\na,1,2\n", 1), ("\ufeff# \u00fc\na,1,2\n".encode(), 0), (b"\xef\xbb\xbfa,1,2\n", 0)):
+        file.write_bytes(text)
+        done = call(TASK_FILE, "list", file, *ONE)
+        assert (done.status, done.err) == (status, status * f"scripts/task_file: {file} is not in UTF-8\n")
 
 
 def test_longest_logs(listing):
@@ -195,13 +167,8 @@ def test_warnings(listing, text, words, warning):
 
 
 def random_words(tasks, load, processors, periods, seed, *more):
-    given = {
-        "tasks": tasks,
-        "load": load,
-        "processors": processors,
-        "periods": ",".join(map(str, periods)),
-        "seed": seed,
-    }
+    given = {"tasks": tasks, "load": load, "processors": processors, "seed": seed}
+    given["periods"] = ",".join(map(str, periods))
     return ["random", *(f"--{key}={value}" for key, value in given.items()), *more]
 
 
@@ -305,22 +272,22 @@ def test_text_at_random(call):
     words = random_words(9, 100, 3, (8, 12, 24), 5)
     done = call(TASK_FILE, *words)
     told, again = tomllib.loads(done.out), call(TASK_FILE, *random_words(9, 100, 3, (8, 12, 24), 6))
-    assert (told["version"], told["processors"], told["frame"], told["slots"]) == (
-        1,
-        3,
-        24,
-        24,
-    ) and "early" not in done.out
+    assert [told[key] for key in ("version", "processors", "frame", "slots")] == [1, 3, 24, 24]
+    assert "early" not in done.out
     assert call(TASK_FILE, *words) == done != again and len(told["entry"]) == 9 and (done.status, done.err) == (0, "")
     assert sum(Fraction(entry["cost"], entry["period"]) for entry in told["entry"]) == 3
     assert tomllib.loads(call(TASK_FILE, *words, "--slots", "7").out)["slots"] == 7
     assert tomllib.loads(call(TASK_FILE, *random_words(1, 50, 1, (1_999_966,), 1)).out)["slots"] == 1_000_000
     done = call(TASK_FILE, *random_words(2, 100, 3, (8,), 5))
     assert done == (1, "", "scripts/task_file: 2 tasks can't have a load of 3 processors\n")
-    assert (
-        call(TASK_FILE, *random_words(2, 50, 1, ("8", "x"), 5)).err
-        == "scripts/task_file: --periods: 'x' is no whole number\n"
-    )
+    for periods, words, said in (
+        (("8", "x"), (), "--periods: 'x' is no whole number"),
+        ((8, 0), (), "--periods: 0 is not from 1 to 1000000000"),
+        ((8,), ("--churn", "-1"), "-1 of 2 tasks can't depart"),
+        ((8,), ("--slots", "-3", "--churn", "1"), "-3 slots are not 1 to 1000000"),
+    ):
+        done = call(TASK_FILE, *random_words(2, 50, 1, periods, 5, *words))
+        assert done == (1, "", f"scripts/task_file: {said}\n")
 
 
 def test_churn(call):
@@ -333,11 +300,8 @@ def test_churn(call):
     for name, slot in left.items():
         new, old = came[f"n{name}"], came[name]
         assert (new["cost"], new["period"]) == (old["cost"], old["period"]) and slot <= new["at"] < min(slot + 10, 50)
-    assert (
-        [entry["at"] for entry in entries]
-        == sorted(entry["at"] for entry in entries)
-        == [entry["floor"] for entry in entries]
-    )
+    stamps = [entry["at"] for entry in entries]
+    assert stamps == sorted(stamps) == [entry["floor"] for entry in entries]
     assert [entry["processor"] for entry in entries] == [place % 2 for place in range(len(entries))]
     assert call(TASK_FILE, *random_words(3, 60, 1, (12,), 3, "--churn", "3")).status == 0
     done = call(TASK_FILE, *random_words(3, 60, 1, (12,), 3, "--churn", "4"))
