@@ -37,9 +37,18 @@
  * static one, libpfair.a.
  *
  * WITHOUT A C LIBRARY. This header includes only <stdbool.h>, <stddef.h> and <stdint.h>, which every compiler brings.
- * libpfair.a needs malloc, realloc, free, memcpy, memmove, memset, and __udivti3 of libgcc. The archive that rt builds,
- * libpfair_c.a, needs rattle_alloc, rattle_realloc and rattle_dealloc in place of the first three; those of the kit's
- * c/liblibc_c.a call them. Each function has a section of its own, so -Wl,--gc-sections drops what isn't called.
+ * libpfair.a needs malloc, realloc, free, memcpy, memmove, memset, and __udivti3 of libgcc. Each function has a section
+ * of its own, so -Wl,--gc-sections drops what isn't called. The archive that rt builds, build/libpfair_c.a, needs these
+ * in place of the first three; those of the kit's c/liblibc_c.a call malloc, realloc and free:
+ *
+ *     struct tried { bool ok; void *p; };
+ *     struct tried rattle_alloc(size_t size, size_t align);
+ *     struct tried rattle_realloc(void *p, size_t kept, size_t size, size_t align);
+ *     void rattle_dealloc(void *p);
+ *
+ * `align` divides 16, and `size` may be 0. If an allocation fails, `ok` is false, `p` is any pointer but NULL, and
+ * rattle_realloc leaves the block as it was. Else `p` is a block of that size and alignment. That of rattle_realloc has
+ * the first `kept` bytes of the old one, which is freed if it moved.
  *
  * X86-64. The code needs x86-64-v2, with the SSE registers enabled. No call checks for it: an older processor meets an
  * invalid instruction. A program for Linux asks __builtin_cpu_supports("x86-64-v2"). A kernel asks CPUID: leaf 1 has to
@@ -74,6 +83,9 @@
  * pfair_faults and pfair_lags free all that they allocate. A dispatcher owns all other memory until pfair_close;
  * pfair_forget frees some of it earlier. The caller owns what its pointers lead to: the library copies what it needs,
  * and keeps no pointer of the caller's after a call.
+ *
+ * The calendar of releases takes 920 KB of each dispatcher, in blocks of at most 14 KB. The plan that admits the first
+ * task allocates it, or pfair_reserve before that.
  *
  * pfair_reserve allocates ahead for plans, and not for takes. An entry needs up to 190 bytes on average. Of 8 takes of
  * new entries one allocates, or fewer if they come out of order: in at most 3 calls of malloc, for blocks of at most
@@ -525,6 +537,10 @@ uint32_t pfair_reserve(struct pfair_dispatcher *d, uint64_t slots, uint64_t task
 /*
  * Forgets the tables, places and decisions of all slots below `slots`, or of all that are planned if these are fewer.
  * Calls answer 104 for these slots from now on. Plans, members and entries are as if they were still there.
+ *
+ * pfair_lags then answers 104 for all slots of the run, since it counts from slot 0 on. After t slots, counted over all
+ * runs, the lag of a member (pfair_members) that isn't departing is its period-th part of
+ * cost * (t - joined) - period * (next - 1).
  *
  * The call frees memory in blocks of 1,024 slots, counted from slot 0: those of which all slots are forgotten and a
  * later slot is planned. Of each block 16 bytes stay. So the memory of a run hardly grows if this is called again and
