@@ -16,7 +16,7 @@ def drawn(processors, load, seed):
     for place in rng.choice(len(tasks), processors + 1, replace=False):
         task, leaves = tasks[place], int(rng.integers(SLOTS))
         comes = min(leaves + int(rng.integers(10)), SLOTS - 1)
-        said += [pfair.depart(task.name, leaves, leaves), pfair.arrive("n" + task.name, task.cost, task.period, comes, comes)]
+        said += [pfair.depart(task.name, at=leaves, floor=leaves), pfair.arrive("n" + task.name, task.cost, task.period, at=comes, floor=comes)]
     for place, entry in enumerate(sorted(said, key=lambda entry: entry.at)):
         script.logs[place % processors].append(entry)
     return script

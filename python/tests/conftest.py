@@ -1,9 +1,11 @@
 """What the tests share: task files as scripts by Python's own reader, and the scripts of the repository."""
+import atexit
 import importlib.machinery
 import importlib.util
 import io
 import os
 import pathlib
+import signal
 import sys
 import tempfile
 import tomllib
@@ -17,8 +19,11 @@ EXAMPLES = pathlib.Path(os.environ.get("PFAIR_EXAMPLES", TOP / "examples"))
 SCRIPTS = pathlib.Path(os.environ.get("PFAIR_SCRIPTS", TOP / "scripts"))
 # what the scripts share
 sys.path.append(str(SCRIPTS))
+# the most that a test may take
+SECONDS = 120
 # hypothesis keeps tables of its own, which don't belong into the tree
 STORAGE = tempfile.TemporaryDirectory()
+atexit.register(STORAGE.cleanup)
 configuration.set_hypothesis_home_dir(STORAGE.name)
 # each run tries the same examples, however long one takes
 settings.register_profile("steady", derandomize=True, deadline=None, database=None)
@@ -50,6 +55,14 @@ def refusal(kind, text, call, *words, **named):
     return getattr(refused.value, "found", None)
 
 
+def outside(name, number, call, *words, least=0, most=2**64 - 1):
+    """Makes a call that has to refuse a number, by its name and with its range."""
+    import pfair
+
+    text = f"a number is out of its range: {name} = {number}, and not {least:,} to {most:,}"
+    refusal(pfair.OutOfRange, text, call, *words)
+
+
 def module_of(name):
     """A script of the repository as a module."""
     sys.dont_write_bytecode = True
@@ -57,6 +70,64 @@ def module_of(name):
     module = importlib.util.module_from_spec(importlib.util.spec_from_loader(loader.name, loader))
     loader.exec_module(module)
     return module
+
+
+def pytest_runtest_call(item):
+    """A test that hangs, such as one that waits for a lock, fails after some time."""
+
+    def late(*_):
+        pytest.fail(f"over {SECONDS} seconds", pytrace=True)
+
+    if not any(signal.getitimer(signal.ITIMER_REAL)):
+        signal.signal(signal.SIGALRM, late)
+        signal.alarm(SECONDS)
+        item.addfinalizer(lambda: signal.alarm(0))
+
+
+class Guarded:
+    """The shared library, each of whose calls on a dispatcher has to hold the lock of that dispatcher."""
+
+    def __init__(self, library, locks):
+        self.library, self.locks = library, locks
+
+    def __getattr__(self, name):
+        from pfair._library import Handle
+
+        call = getattr(self.library, name)
+
+        def guarded(*given):
+            for handle in given:
+                assert not isinstance(handle, Handle) or self.locks[id(handle)]._is_owned(), f"{name} without a lock"
+            return call(*given)
+
+        setattr(self, name, guarded)
+        return guarded
+
+
+@pytest.fixture(autouse=True, scope="session")
+def locks():
+    """Looks in each test that calls of the library hold the locks of their dispatchers."""
+    from pfair import _dispatcher
+
+    locks, begin = {}, _dispatcher.Dispatcher._begin
+
+    def begun(self):
+        begin(self)
+        locks[id(self._handle)] = self._lock
+
+    with pytest.MonkeyPatch.context() as patch:
+        patch.setattr(_dispatcher.Dispatcher, "_begin", begun)
+        patch.setattr(_dispatcher, "library", Guarded(_dispatcher.library, locks))
+        yield
+
+
+def assert_plain(value):
+    """Numbers of Python and no others, as json and any program take them."""
+    if isinstance(value, (tuple, list)):
+        for part in value:
+            assert_plain(part)
+    else:
+        assert value is None or type(value) in (bool, int, str), repr(value)
 
 
 class Done(NamedTuple):

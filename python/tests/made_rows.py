@@ -4,7 +4,7 @@ import random
 from pfair import _rows, _trace
 
 
-class Rows(_rows.Rows):
+class Rows(_rows.PictureRows):
     """Rows that are made up: of tasks that come, leave and run as the caller says."""
 
     def __init__(self, processors=1, slots=14, frame=12):

@@ -70,14 +70,14 @@ def drawn(rng):
         left -= Fraction(cost, period)
         at, log = rng.choice((0, 0, 0, rng.randint(0, slots // 2))), rng.choice(logs)
         name = f"t{place}"
-        log.append(pfair.arrive(name, cost, period, at, early=rng.random() < 0.3))
+        log.append(pfair.arrive(name, cost, period, at=at, early=rng.random() < 0.3))
         for _ in range(rng.choice((0, 0, 1, 2))):
-            log.append(pfair.late(name, rng.randint(1, 6), rng.randint(1, 9), rng.randint(at, slots - 1)))
+            log.append(pfair.late(name, rng.randint(1, 6), rng.randint(1, 9), at=rng.randint(at, slots - 1)))
         if rng.random() < 0.3:
             stamp = rng.randint(at, slots - 1)
-            log.append(pfair.depart(name, stamp))
+            log.append(pfair.depart(name, at=stamp))
             if rng.random() < 0.5:
-                log.append(pfair.arrive(name, 1, 6, rng.randint(stamp, slots - 1)))
+                log.append(pfair.arrive(name, 1, 6, at=rng.randint(stamp, slots - 1)))
     return pfair.Script(processors, 24, slots, logs)
 
 

@@ -279,7 +279,7 @@ def test_order_of_light_tasks_and_later_incarnations():
     script = pfair.Script(1, 12, 12, [[pfair.arrive("a", 1, 2), pfair.arrive("w", 1, 12)]])
     found = pfair.check(script, [(0, "w"), (1, "a"), *((slot, "a") for slot in range(2, 12, 2))], order=True)
     assert found == [(0, "order", "w", 1, "subtask 1 of a goes before it, by its deadline, 2 against 12")]
-    log = [pfair.arrive("a", 1, 3), pfair.arrive("c", 1, 2), pfair.depart("a", 6, 6), pfair.arrive("a", 1, 3, 9, 9)]
+    log = [pfair.arrive("a", 1, 3), pfair.arrive("c", 1, 2), pfair.depart("a", at=6, floor=6), pfair.arrive("a", 1, 3, at=9, floor=9)]
     script = pfair.Script(1, 6, 12, [log])
     rows = [row[:2] for row in rows_of(pfair.schedule(script).quanta)]
     wrong = [row for row in rows if row[0] < 10] + [[10, "a"], [11, "c"]]
@@ -405,7 +405,7 @@ def test_left_at_the_end():
 
 
 def test_refused_tasks(tmp_path):
-    refusal(pfair.NotToml, "not a TOML document", pfair.check, b"version = \n", "slot,task\n")
+    refusal(pfair.NotToml, pfair.NotToml.text, pfair.check, b"version = \n", "slot,task\n")
     stalled = pfair.Script(1, 6, 9, [[pfair.promise(5), pfair.promise(4)]])
     with pytest.raises(pfair.Stalled):
         pfair.check(stalled, b"slot,task\n")

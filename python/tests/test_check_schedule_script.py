@@ -57,14 +57,14 @@ def test_refused(call, tmp_path):
     rows = tmp_path / "rows"
     rows.write_text("slot,task\n0,a\n1,?\n")
     for words, said in (
-        ((bad, ROWS), f"{bad}: the file's version is none of 1 and 2"),
+        ((bad, ROWS), f"{bad}: the file's version is neither 1 nor 2"),
         ((none, ROWS), f"{none}: [Errno 2] No such file or directory: '{none}'"),
         ((TASKS, none), f"{none}: [Errno 2] No such file or directory: '{none}'"),
         ((TASKS, tmp_path), f"{tmp_path}: [Errno 21] Is a directory: '{tmp_path}'"),
         ((TASKS, rows), f"{rows}: line 3: '?' is no task's name"),
         (
             (stalled, ROWS),
-            f"{stalled}: {pfair.Stalled.__doc__}: 5",
+            f"{stalled}: {pfair.Stalled.text}: slot 5",
         ),
     ):
         assert call(CHECK, *words) == (2, "", f"scripts/check_schedule: {said}\n")

@@ -77,7 +77,7 @@ def test_the_number_of_slots_does_not_matter():
 def test_what_is_announced_but_arrivals():
     """Floors change nothing, nor does a log past the last processor. The script isn't changed."""
     promises = [pfair.promise(0), pfair.Entry(at=3, name="a")]
-    logs = [[*promises, pfair.arrive("a", 1, 2), pfair.promise(900)], [], [pfair.depart("a", 3)]]
+    logs = [[*promises, pfair.arrive("a", 1, 2), pfair.promise(900)], [], [pfair.depart("a", at=3)]]
     script = pfair.Script(2, 2, 9, logs)
     assert script.cycle().script.slots == 2 and script == pfair.Script(2, 2, 9, logs)
     assert pfair.Script(2, 2, 9).cycle().script.slots == 1
@@ -90,12 +90,12 @@ def test_a_full_log():
 
 
 CHANGES = {
-    "b departs at slot 1 (entry 3 of processor 1)": [pfair.promise(0), pfair.depart("b", 1), pfair.depart("b", 2)],
-    "a departs at slot 0 (entry 2 of processor 1)": [pfair.depart("a", 0)],
-    "b comes late at slot 0 (entry 2 of processor 1)": [pfair.late("b", 2, 1, 0)],
-    "b comes late at slot 7 (entry 2 of processor 1)": [pfair.late("b", 2, 1, 7, 3)],
-    "c arrives at slot 1 (entry 2 of processor 1)": [pfair.arrive("c", 1, 6, 1)],
-    "c arrives at slot 900000 (entry 3 of processor 1)": [pfair.arrive("d", 1, 6), pfair.arrive("c", 1, 6, 900_000)],
+    "b departs at slot 1 (entry 3 of processor 1)": [pfair.promise(0), *(pfair.depart("b", at=at) for at in (1, 2))],
+    "a departs at slot 0 (entry 2 of processor 1)": [pfair.depart("a", at=0)],
+    "b comes late at slot 0 (entry 2 of processor 1)": [pfair.late("b", 2, 1, at=0)],
+    "b comes late at slot 7 (entry 2 of processor 1)": [pfair.late("b", 2, 1, at=7, floor=3)],
+    "c arrives at slot 1 (entry 2 of processor 1)": [pfair.arrive("c", 1, 6, at=1)],
+    "c arrives at slot 900000 (entry 3 of processor 1)": [pfair.arrive("d", 1, 6), pfair.arrive("c", 1, 6, at=900_000)],
 }
 
 
@@ -105,7 +105,7 @@ def test_changes(told):
     refusal(pfair.NoCycle, f"{told}, and a cycle needs tasks that arrive at slot 0 and never change", script.cycle)
     assert pfair.NoCycle.__bases__ == (ValueError,)
     with pytest.raises(pfair.NoCycle, match="^a departs at slot 0 .entry 1 of processor 0."):
-        replace(script, logs=[[pfair.depart("a", 0)], *script.logs[1:]]).cycle()
+        replace(script, logs=[[pfair.depart("a", at=0)], *script.logs[1:]]).cycle()
 
 
 def test_the_longest_cycle():
@@ -123,17 +123,15 @@ def test_the_longest_cycle():
 def test_what_the_library_refuses():
     """As a schedule is refused, and before anything that changes is looked at."""
     for script in (
-        pfair.Script(0, 6, 6),
-        pfair.Script(1, 0, 6),
-        pfair.Script(1, 6, 6, [[pfair.Entry(kind="leave", at=3)]]),
-        pfair.Script(1, 6, 6, [[pfair.depart("a", 3), pfair.arrive("b", 1, 6, 2, floor=3)]]),
+        pfair.Script(0, 6, 6), pfair.Script(1, 0, 6), pfair.Script(1, 6, 6, [[pfair.Entry(kind="leave", at=3)]]),
+        pfair.Script(1, 6, 6, [[pfair.depart("a", at=3), pfair.Entry(3, "arrive", 2, "b", 1, 6)]]),
     ):
         with pytest.raises(pfair.PfairError) as wanted:
             pfair.schedule(script)
         refusal(type(wanted.value), str(wanted.value), script.cycle)
     # floors that fall: the run would stall in the cycle, or behind it
     fallen = [pfair.arrive("a", 1, 6), pfair.promise(5), pfair.promise(3)]
-    found = refusal(pfair.Stalled, f"{pfair.Stalled.__doc__}: 5", pfair.Script(1, 6, 3, [fallen]).cycle)
+    found = refusal(pfair.Stalled, f"{pfair.Stalled.text}: slot 5", pfair.Script(1, 6, 3, [fallen]).cycle)
     assert found == {"frontier": 5}
     assert pfair.Script(1, 5, 3, [[pfair.arrive("a", 1, 5), *fallen[1:]]]).cycle().script.slots == 5
 

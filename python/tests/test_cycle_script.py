@@ -235,10 +235,10 @@ def test_refused(call, tmp_path):
     bad.write_text("version = 3\n")
     stalled.write_text(pfair.Script(1, 9, 9, [[pfair.arrive("a", 1, 9), pfair.promise(5), pfair.promise(4)]]).text())
     for file, said in (
-        (bad, "the file's version is none of 1 and 2"),
+        (bad, "the file's version is neither 1 nor 2"),
         (none, f"[Errno 2] No such file or directory: '{none}'"),
         (tmp_path, f"[Errno 21] Is a directory: '{tmp_path}'"),
-        (stalled, f"{pfair.Stalled.__doc__}: 5"),
+        (stalled, f"{pfair.Stalled.text}: slot 5"),
     ):
         assert call(CYCLE, file) == (2, "", f"scripts/cycle: {file}: {said}\n")
 

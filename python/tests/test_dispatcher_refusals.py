@@ -1,11 +1,12 @@
 """Dispatchers: each refusal with its words, and memory that is refused or taken ahead."""
+import array
 import copy
 import pickle
 import subprocess
 import sys
 
 import pytest
-from conftest import refusal
+from conftest import outside, refusal
 
 import pfair
 from pfair import _dispatcher
@@ -30,7 +31,7 @@ def refused(kind, call, *words):
     try:
         call(*words)
     except pfair.PfairError as raised:
-        assert type(raised) is kind and str(raised) == kind.__doc__, raised
+        assert type(raised) is kind and str(raised) == kind.text, raised
     else:
         raise AssertionError("it was not refused")
 """
@@ -75,35 +76,20 @@ def test_closing():
     with one as entered:
         assert entered is one
     one.close()
-    calls = [
-        one.plan,
-        one.quanta,
-        one.decisions,
-        one.lags,
-        one.faults,
-        one.members,
-        one.reopen,
-        lambda: one.reserve(1, 1),
-        lambda: one.forget(1),
-        lambda: one.take(0, 1, pfair.promise(1)),
-        lambda: one.take_log(0, []),
-        lambda: one.held(0, 1),
-        lambda: one.mark(0),
-        lambda: one.missing(0),
-        lambda: one.table(0),
-        lambda: one.places(0),
-        lambda: one.absorb(other),
-        lambda: other.absorb(one),
-        lambda: one.is_below(other),
-        lambda: other.is_below(one),
-    ]
-    calls += [
-        lambda name=name: getattr(one, name)
-        for name in ("processors", "frame", "slots", "capacity", "planned", "frontier")
-    ]
-    for call in calls:
+    words = {"reserve": (1, 1), "take": (0, 1, pfair.promise(1)), "take_log": (0, []), "held": (0, 1)}
+    words |= {name: (1,) for name in ("forget", "next_run", "mark", "missing", "table", "places")}
+    words |= {name: (other,) for name in ("absorb", "is_below")}
+    calls = {name for name in dir(one) if name[0] != "_"} - {"close", "of_file"}
+    assert len(calls) == 25
+    for name in calls:
         with pytest.raises(pfair.NotOpen, match="^the dispatcher is closed"):
-            call()
+            getattr(one, name)(*words.get(name, ()))
+    for call in (other.absorb, other.is_below):
+        refusal(pfair.NotOpen, "the dispatcher is closed", call, one)
+    assert repr(one) == "<Dispatcher: closed>"
+    with pfair.Dispatcher(1, 6, 6) as another:
+        assert repr(another) == "<Dispatcher: processors=1, frame=6, slots=6, capacity=4096, 0 slots planned>"
+    refusal(pfair.NotOpen, "the dispatcher is closed", another.plan)
     for copied in (copy.copy, copy.deepcopy, pickle.dumps):
         with pytest.raises(TypeError, match="^a Dispatcher can't be copied or pickled$"):
             copied(other)
@@ -116,98 +102,95 @@ def test_one_that_was_never_made():
         pfair.Dispatcher()
 
 
+def one_of(**sizes):
+    """A dispatcher with these sizes, else as small as can be."""
+    return pfair.Dispatcher(**{"processors": 1, "frame": 1, "slots": 1, "capacity": 1, **sizes})
+
+
+def windows_of(**words):
+    return pfair.windows(**{"cost": 1, "period": 2, "count": 1, **words})
+
+
+ANY, BYTE, SHORT = (0, 2**64 - 1), (0, 255), (0, 2**32 - 1)
+# each number that a call takes, with its range; None if the library refuses some that are in it
 RANGES = [
-    (0, 1, 1),
-    (65, 1, 1),
-    (1, 0, 1),
-    (1, 10**9 + 1, 1),
-    (1, 1, 0),
-    (1, 1, 10**6 + 1),
-    (1, 1, 1, 0),
-    (1, 1, 1, 4097),
-]
-WHOLES = [
-    ("processors", 256, (256, 1, 1)),
-    ("processors", -1, (-1, 1, 1)),
-    ("frame", 2**64, (1, 2**64, 1)),
-    ("slots", 2**64, (1, 1, 2**64)),
-    ("capacity", 2**32, (1, 1, 1, 2**32)),
-]
-WINDOWED = [
-    ("cost", -1, (-1, 2, 1)),
-    ("cost", 2**64, (2**64, 2, 1)),
-    ("period", 2**64, (1, 2**64, 1)),
-    ("count", -1, (1, 2, -1)),
-    ("count", 2**32, (1, 2, 2**32)),
-    ("first", 2**64, (1, 2, 1, 2**64)),
-    ("theta", 2**64, (1, 2, 1, 1, 2**64)),
+    (one_of, {"processors": (1, 64), "frame": (1, 10**9), "slots": (1, 10**6), "capacity": (1, 4096)}, True),
+    (windows_of, {"count": (0, 1_000_001), "first": (1, 1_000_001), "theta": (0, 2**40)}, True),
+    (windows_of, {"cost": ANY, "period": ANY}, False),
+    (lambda until: one_of().plan(until), {"until": (1, 2**64 - 1)}, True),
+    (lambda slots=0, tasks=0: one_of().reserve(slots, tasks), {"slots": ANY, "tasks": ANY}, True),
+    (lambda slots: one_of().forget(slots), {"slots": ANY}, True),
+    (lambda slots: one_of().next_run(slots), {"slots": (1, 10**6)}, False),
+    (lambda processor=0, number=1: one_of().held(processor, number), {"processor": BYTE, "number": SHORT}, False),
+    (
+        lambda processor=0, number=1: one_of().take(processor, number, pfair.promise(1)),
+        {"processor": BYTE, "number": SHORT},
+        False,
+    ),
+    (lambda processor=0, first=1: one_of().take_log(processor, [], first), {"processor": BYTE, "first": SHORT}, False),
+    (lambda processor: one_of().mark(processor), {"processor": BYTE}, False),
+    (lambda processor: one_of().missing(processor), {"processor": BYTE}, False),
+    (lambda start=0, stop=0: one_of().quanta(start, stop), {"start": ANY, "stop": ANY}, False),
+    (lambda start=0, stop=0: one_of().decisions(start, stop), {"start": ANY, "stop": ANY}, False),
+    (lambda start=0, stop=0: one_of().lags(start, stop), {"start": ANY, "stop": ANY}, False),
 ]
 
 
-def test_numbers_out_of_range():
-    for given_ in RANGES:
-        refusal(pfair.OutOfRange, "a number is out of its range", pfair.Dispatcher, *given_)
-    for what, number, given_ in WHOLES:
-        refusal(pfair.OutOfRange, f"a number is out of its range: {what} = {number}", pfair.Dispatcher, *given_)
-    for what, number, given_ in WINDOWED:
-        refusal(pfair.OutOfRange, f"a number is out of its range: {what} = {number}", pfair.windows, *given_)
-    for given_ in ((1, 2, 1, 0), (1, 2, 2, 1_000_001), (1, 2, 1, 1, 2**40 + 1)):
-        refusal(pfair.OutOfRange, "a number is out of its range: 1/2", pfair.windows, *given_)
+@pytest.mark.parametrize("call,ranges,is_taken", RANGES)
+def test_ranges(call, ranges, is_taken):
+    """A number out of its range is refused by its name, and so is what is no whole number."""
+    for name, (least, most) in ranges.items():
+        for number in (least - 1, most + 1):
+            outside(name, number, lambda: call(**{name: number}), least=least, most=most)
+        for number in (least, most) if is_taken else ():
+            call(**{name: number})
+        for wrong in (1.5, "1"):
+            refusal(TypeError, f"{name} = {wrong!r} is no whole number", lambda: call(**{name: wrong}))
+
+
+def test_weights_of_windows():
+    outside("count", 1_000_000, pfair.windows, 1, 2, 1_000_000, 3, most=999_999)
     for kind, (cost, period) in (
         (pfair.ZeroCost, (0, 1)),
         (pfair.CostOverPeriod, (2, 1)),
         (pfair.PeriodTooLong, (1, 10**9 + 1)),
     ):
-        refusal(kind, f"{kind.__doc__}: {cost}/{period}", pfair.windows, cost, period, 1)
-    for wrong in (1.5, "1", None):
-        with pytest.raises(TypeError):
-            pfair.windows(1, 2, wrong)
-
-
-ENTRIES = [
-    (pfair.NameEmpty, pfair.arrive("", 1, 2)),
-    (pfair.NameTooLong, pfair.arrive("a" * 17, 1, 2)),
-    (pfair.NameBadByte, pfair.arrive("A", 1, 2)),
-    (pfair.NameBadByte, pfair.arrive("\u00e9", 1, 2)),
-    (pfair.ZeroCost, pfair.arrive("a", 0, 2)),
-    (pfair.CostOverPeriod, pfair.arrive("a", 3, 2)),
-    (pfair.PeriodTooLong, pfair.arrive("a", 1, 10**9 + 1)),
-    (pfair.StampBeforeFloor, pfair.arrive("a", 1, 2, at=1, floor=2)),
-    (pfair.SlotTooFar, pfair.promise(10**6 + 1)),
-    (pfair.BadDelay, pfair.late("a", 1, 0, at=1)),
-    (pfair.BadIndex, pfair.late("a", 0, 1, at=1)),
-]
+        refusal(kind, f"{kind.text}: {cost}/{period}", pfair.windows, cost, period, 1)
 
 
 def test_refused_entries():
+    """Nothing is taken of an entry that is wrong, or that has no place; which are wrong is in test_entries.py."""
     one = pfair.Dispatcher(2, 6, 6, 5)
-    for kind, entry in ENTRIES:
-        refusal(kind, f"{kind.__doc__}: entry 3 of processor 1", one.take, 1, 3, entry)
+    for kind, entry in (
+        (pfair.NameEmpty, pfair.Entry(kind="arrive", cost=1, period=2)),
+        (pfair.StampBeforeFloor, pfair.Entry(2, "depart", 1, "a")),
+        (pfair.SlotTooFar, pfair.Entry(10**6 + 1)),
+    ):
+        refusal(kind, f"{kind.text}: entry 3 of processor 1", one.take, 1, 3, entry)
         assert one.held(1, 3) is None
-    for kind, entry in ((pfair.OutOfRange, pfair.promise(-1)), (pfair.OutOfRange, pfair.Entry(0, "leave", 0, "a"))):
-        with pytest.raises(kind):
+    for entry in (pfair.Entry(-1), pfair.Entry(0, "leave", 0, "a")):
+        with pytest.raises(pfair.OutOfRange):
             one.take(1, 3, entry)
     for kind, processor, number in (
         (pfair.NoSuchProcessor, 2, 1),
         (pfair.NoSuchNumber, 0, 0),
         (pfair.NoSuchNumber, 0, 6),
     ):
-        where = f"{kind.__doc__}: entry {number} of processor {processor}"
+        where = f"{kind.text}: entry {number} of processor {processor}"
         refusal(kind, where, one.take, processor, number, pfair.promise(1))
-        refusal(kind, kind.__doc__, one.held, processor, number)
+        refusal(kind, where, one.held, processor, number)
         for entries in ([], [pfair.promise(1)]):
             found = refusal(kind, where, one.take_log, processor, entries, number)
             assert found == {"processor": processor, "number": number}
     for call in (one.mark, one.missing):
-        refusal(pfair.NoSuchProcessor, pfair.NoSuchProcessor.__doc__, call, 2)
-        refusal(pfair.OutOfRange, "a number is out of its range: processor = 256", call, 256)
-    for call, *more in ((one.take, pfair.promise(1)), (one.held,)):
-        refusal(pfair.OutOfRange, "a number is out of its range: processor = 256", call, 256, 1, *more)
-        refusal(pfair.OutOfRange, f"a number is out of its range: number = {2**32}", call, 0, 2**32, *more)
-    for wrong in (-1, 256):
-        refusal(pfair.OutOfRange, f"a number is out of its range: processor = {wrong}", one.take_log, wrong, [])
-    refusal(pfair.OutOfRange, f"a number is out of its range: first = {2**32}", one.take_log, 0, [], 2**32)
-    refusal(pfair.OutOfRange, f"a number is out of its range: until = {2**64}", one.plan, 2**64)
+        refusal(pfair.NoSuchProcessor, f"{pfair.NoSuchProcessor.text}: processor 2", call, 2)
+
+
+def test_what_is_no_dispatcher():
+    one = pfair.Dispatcher(1, 6, 6)
+    for other in (3, None, pfair.Script(1, 6, 6)):
+        for call in (one.absorb, one.is_below):
+            refusal(TypeError, f"other = {other!r} is no Dispatcher", call, other)
 
 
 HEAD = b"version = 1\nprocessors = 2\nframe = 6\nslots = 6\n"
@@ -233,10 +216,8 @@ FAULTS += [
     (pfair.KeyOutOfRange, "kind at 1", HEAD + ENTRY + b"kind = 'leave'\n", {"place": 1}),
     (pfair.KeyOutOfRange, "processors at 0", HEAD.replace(b"2", b"65"), {"place": 0}),
     (
-        pfair.EntryRefused,
-        "entry 2 of processor 1 for 7",
-        HEAD + ENTRY + ENTRY + b"kind = 'depart'\nat = 2\nname = 'a'\n",
-        {"processor": 1, "number": 2, "cause": 7},
+        pfair.EntryRefused, "entry 2 of processor 1 for 7",
+        HEAD + ENTRY + ENTRY + b"kind = 'depart'\nat = 2\nname = 'a'\n", {"processor": 1, "number": 2, "cause": 7},
     ),
     (pfair.NotToml, "", b"version = ", {}),
     (pfair.UnknownVersion, "", HEAD.replace(b"1", b"3"), {}),
@@ -246,8 +227,25 @@ FAULTS += [
 
 @pytest.mark.parametrize("kind,where,text,found", FAULTS, ids=lambda given_: getattr(given_, "__name__", ""))
 def test_faults_of_files(kind, where, text, found):
-    said = (kind.__doc__.partition(": found")[0]) + (f": {where}" if where else "")
+    said = kind.text + (f": {where}" if where else "")
     assert refusal(kind, said, pfair.Dispatcher.of_file, text) == found and issubclass(kind, pfair.TaskFileError)
+
+
+def test_buffers_of_files():
+    """Any buffer is read, and another thing is refused by its name."""
+    for text in (HEAD, bytearray(HEAD), memoryview(b"x" + HEAD)[1:], array.array("b", HEAD)):
+        assert pfair.Dispatcher.of_file(text).processors == 2
+    said = "text has to be the contents of a task file, bytes or another buffer, and not a "
+    for text in (HEAD.decode(), 3, None):
+        refusal(TypeError, said + type(text).__name__, pfair.Dispatcher.of_file, text)
+
+
+def test_subclasses():
+    class Own(pfair.Dispatcher):
+        pass
+
+    for one in (Own(1, 6, 6), Own.of_file(HEAD)):
+        assert type(one) is Own and repr(one).startswith("<Own: processors=")
 
 
 def test_longest_file():

@@ -1,5 +1,6 @@
 """Entries and scripts: their rows, their texts, their defaults and their limits."""
 import dataclasses
+import re
 import tomllib
 
 import numpy as np
@@ -8,23 +9,16 @@ from hypothesis import given, settings
 from hypothesis import strategies as some
 
 import pfair
-from pfair import _entries
-from pfair._entries import entry_of, whole
+from conftest import outside, refusal
+from pfair._entries import entry_of
+from pfair._numbers import whole
 
 KINDS = {None: 0, "arrive": 1, "depart": 2, "late": 3}
 KEYS = ["floor", "kind", "at", "name", "length", "cost", "period", "early", "index", "by"]
 NUMBERS = some.integers(0, 2**64 - 1)
 NAMES = some.text("abcdefghijklmnopqrstuvwxyz_0123456789", max_size=16)
 ANY = some.builds(
-    pfair.Entry,
-    NUMBERS,
-    some.sampled_from(list(KINDS)),
-    NUMBERS,
-    NAMES,
-    NUMBERS,
-    NUMBERS,
-    some.booleans(),
-    NUMBERS,
+    pfair.Entry, NUMBERS, some.sampled_from(list(KINDS)), NUMBERS, NAMES, NUMBERS, NUMBERS, some.booleans(), NUMBERS,
     NUMBERS,
 )
 
@@ -37,13 +31,7 @@ def test_rows_of_entries(entries):
     assert rows.dtype == pfair.ENTRY and rows.shape == (len(entries),)
     for row, entry in zip(rows, entries):
         wanted = [
-            entry.floor,
-            KINDS[entry.kind],
-            entry.at,
-            entry.name.encode(),
-            len(entry.name),
-            entry.cost,
-            entry.period,
+            entry.floor, KINDS[entry.kind], entry.at, entry.name.encode(), len(entry.name), entry.cost, entry.period,
         ]
         assert [row[key].item() for key in KEYS] == [*wanted, int(entry.early), entry.index, entry.by]
         back = entry_of(row)
@@ -52,16 +40,11 @@ def test_rows_of_entries(entries):
 
 def test_names_in_rows():
     """A name keeps its first 16 bytes, and its whole length, by which the library refuses it."""
-    rows = pfair.rows_of([pfair.depart("abcdefgh" * 3, 0), pfair.depart("é" * 9, 0), pfair.depart("a" * 16, 0)])
-    assert rows["name"].tolist() == [b"abcdefgh" * 2, "é".encode() * 8, b"a" * 16] and rows["length"].tolist() == [
-        24,
-        18,
-        16,
-    ]
-    with pytest.raises(
-        pfair.NameBadByte, match=r"^a name is a letter a-z, then letters a-z, digits and underscores: 'a\\x00b'$"
-    ):
-        pfair.rows_of([pfair.depart("a\0b", 0)])
+    rows = pfair.rows_of([pfair.Entry(name=name) for name in ("abcdefgh" * 3, "é" * 9, "a" * 16)])
+    assert rows["name"].tolist() == [b"abcdefgh" * 2, "é".encode() * 8, b"a" * 16]
+    assert rows["length"].tolist() == [24, 18, 16]
+    text = f"{pfair.NameBadByte.text}: name = 'a\\x00b'"
+    refusal(pfair.NameBadByte, text, pfair.rows_of, [pfair.Entry(name="a\0b")])
 
 
 def test_numbers_in_rows():
@@ -69,12 +52,11 @@ def test_numbers_in_rows():
         entry = dataclasses.replace(pfair.Entry(), **{key: 2**64 - 1})
         assert int(pfair.rows_of([entry])[key][0]) == 2**64 - 1
         for wrong in (-1, 2**64):
-            with pytest.raises(pfair.OutOfRange, match=f"^a number is out of its range: {key} = {wrong}$"):
-                pfair.rows_of([dataclasses.replace(entry, **{key: wrong})])
-        with pytest.raises(TypeError):
-            pfair.rows_of([dataclasses.replace(entry, **{key: 1.0})])
-    with pytest.raises(pfair.OutOfRange, match="^a number is out of its range: kind = 'leave'$"):
-        pfair.rows_of([pfair.Entry(kind="leave")])
+            outside(key, wrong, pfair.rows_of, [dataclasses.replace(entry, **{key: wrong})])
+        text = f"{key} = 1.0 is no whole number"
+        refusal(TypeError, text, pfair.rows_of, [dataclasses.replace(entry, **{key: 1.0})])
+    text = "a number is out of its range: kind = 'leave'"
+    refusal(pfair.OutOfRange, text, pfair.rows_of, [pfair.Entry(kind="leave")])
 
 
 def test_rows_that_are_an_array():
@@ -90,66 +72,102 @@ def test_rows_that_are_an_array():
             pfair.rows_of(wrong)
 
 
-@given(some.integers(1, 64), some.integers(-(2**70), 2**70))
-def test_whole(bits, number):
-    if 0 <= number <= 2**bits - 1:
-        assert whole(number, bits, "it") == number
+@given(some.integers(-9, 9), some.integers(0, 2**70), some.integers(-(2**71), 2**71))
+def test_whole(least, more, number):
+    if least <= number <= least + more:
+        assert whole(number, "it", least, least + more) == number
     else:
-        with pytest.raises(pfair.OutOfRange, match=f"^a number is out of its range: it = {number}$"):
-            whole(number, bits, "it")
+        outside("it", number, whole, number, "it", least, least + more, least=least, most=least + more)
 
 
 def test_whole_takes_whole_numbers_alone():
-    assert whole(np.uint64(7), 8, "it") == 7 and type(whole(np.uint64(7), 8, "it")) is int and whole(True, 1, "it") == 1
-    assert whole(255, 8, "it") == 255 and whole(0, 8, "it") == 0
+    for number in (np.uint64(1), np.int8(1), True, 1):
+        assert whole(number, "it") == 1 and type(whole(number, "it")) in (int, bool)
     for wrong in (1.0, "1", None):
-        with pytest.raises(TypeError):
-            whole(wrong, 8, "it")
+        refusal(TypeError, f"it = {wrong!r} is no whole number", whole, wrong, "it")
 
 
-EMPTY = {"floor": 0, "kind": None, "at": 0, "name": "", "cost": 0, "period": 0, "early": False, "index": 0, "by": 0}
-MADE = [
-    (pfair.Entry(), {}),
-    (pfair.promise(5), {"floor": 5}),
-    (pfair.arrive("a", 2, 3), {"kind": "arrive", "name": "a", "cost": 2, "period": 3}),
-    (
-        pfair.arrive("a", 2, 3, 4, 1, True),
-        {"kind": "arrive", "name": "a", "cost": 2, "period": 3, "at": 4, "floor": 1, "early": True},
+# ---- entries that are made
+
+
+NAME = some.one_of(some.sampled_from(["", "a", "a" * 16, "a" * 17, "é" * 8, "é" * 9, "A", "_a", "1a", "a-"]), NAMES)
+
+
+def near(*bounds):
+    """Numbers near these, and some others."""
+    edges = [bound + more for bound in bounds for more in (-1, 0, 1)]
+    return some.one_of(some.sampled_from([*edges, 2**64]), some.integers(0, 9))
+
+
+SLOTS = near(0, 10**6)
+FIELDS = {
+    "arrive": {"name": NAME, "cost": near(0, 10**9), "period": near(0, 10**9), "early": some.sampled_from((0, 1, 2))},
+    "depart": {"name": NAME},
+    "late": {"name": NAME, "index": near(0, 10**6), "by": near(0, 2**20)},
+}
+# the fields of each kind, with its slots; a promise has a floor alone
+ENTRIES = some.one_of(
+    some.tuples(some.just(None), some.fixed_dictionaries({"floor": SLOTS})),
+    *(
+        some.tuples(some.just(kind), some.fixed_dictionaries({**fields, "at": SLOTS, "floor": SLOTS}))
+        for kind, fields in FIELDS.items()
     ),
-    (pfair.arrive("a", 2, 3, at=9), {"kind": "arrive", "name": "a", "cost": 2, "period": 3, "at": 9}),
-    (pfair.depart("b", 7), {"kind": "depart", "name": "b", "at": 7}),
-    (pfair.depart("b", 7, 6), {"kind": "depart", "name": "b", "at": 7, "floor": 6}),
-    (pfair.late("c", 2, 3, 9), {"kind": "late", "name": "c", "index": 2, "by": 3, "at": 9}),
-    (pfair.late("c", 2, 3, 9, 8), {"kind": "late", "name": "c", "index": 2, "by": 3, "at": 9, "floor": 8}),
-]
+)
+MAKERS = {None: pfair.promise, "arrive": pfair.arrive, "depart": pfair.depart, "late": pfair.late}
 
 
-@pytest.mark.parametrize("entry,given", MADE)
-def test_makers(entry, given):
-    """Each argument goes to its own field, and what isn't given has its default."""
-    assert dataclasses.asdict(entry) == {**EMPTY, **given}
+def outcome(call, *words, **fields):
+    try:
+        return call(*words, **fields)
+    except pfair.PfairError as refused:
+        return refused
+
+
+@settings(max_examples=1000)
+@given(ENTRIES)
+def test_makers(drawn):
+    """They make the entry of these fields, or refuse what a dispatcher would, and name fields that are wrong."""
+    kind, fields = drawn
+    entry = pfair.Entry(kind=kind, **fields)
+    made, taken = outcome(MAKERS[kind], **fields), outcome(pfair.Dispatcher(1, 1, 1, 1).take, 0, 1, entry)
+    if taken == "new":
+        assert made == entry and type(made.early) is bool
+    else:
+        assert type(made) is type(taken)
+        named = dict(re.findall(r"(\w+) = ('.*'|-?\d+)", str(made)))
+        assert named and all(repr(fields[key]) == value for key, value in named.items())
+
+
+def test_forms_of_makers():
+    """Slots are given by their names alone. Numbers of numpy are taken, and nothing else is."""
+    whole_ones = pfair.arrive("a", np.int8(1), np.uint64(2), at=np.int32(3), early=np.True_)
+    assert whole_ones == pfair.Entry(0, "arrive", 3, "a", 1, 2, True)
+    assert {type(getattr(whole_ones, key)) for key in ("at", "cost", "period")} == {int} and whole_ones.early is True
+    assert pfair.late("a", 2, 3, at=4) == pfair.Entry(0, "late", 4, "a", index=2, by=3)
+    assert pfair.depart("a", at=4, floor=1) == pfair.Entry(1, "depart", 4, "a") and pfair.promise(5) == pfair.Entry(5)
+    for words in ((pfair.arrive, "a", 1, 2, 3), (pfair.depart, "a", 3), (pfair.late, "a", 1, 2, 3)):
+        with pytest.raises(TypeError, match="positional argument"):
+            words[0](*words[1:])
+    for text, words in (
+        ("name = 3 is no str", (pfair.depart, 3)),
+        ("name = b'a' is no str", (pfair.depart, b"a")),
+        ("cost = 1.5 is no whole number", (pfair.arrive, "a", 1.5, 2)),
+        ("index = None is no whole number", (pfair.late, "a", None, 2)),
+    ):
+        refusal(TypeError, text, *words, at=0)
+    refusal(TypeError, "floor = 2.0 is no whole number", pfair.promise, 2.0)
     with pytest.raises(dataclasses.FrozenInstanceError):
-        entry.floor = 1
+        whole_ones.floor = 1
 
 
 def test_order_of_fields():
-    assert dataclasses.asdict(pfair.Entry(1, "late", 2, "n", 3, 4, True, 5, 6)) == {
-        "floor": 1,
-        "kind": "late",
-        "at": 2,
-        "name": "n",
-        "cost": 3,
-        "period": 4,
-        "early": True,
-        "index": 5,
-        "by": 6,
-    }
+    """That of the rows of the library, and of pfair.h."""
+    assert [field.name for field in dataclasses.fields(pfair.Entry)] == [key for key in KEYS if key != "length"]
+    assert pfair.Entry() == pfair.Entry(0, None, 0, "", 0, 0, False, 0, 0)
 
 
 LOG = [
-    pfair.arrive("a", 1, 2, early=True),
-    pfair.late("a", 2, 3, at=1, floor=1),
-    pfair.depart("a", 4, floor=3),
+    pfair.arrive("a", 1, 2, early=True), pfair.late("a", 2, 3, at=1, floor=1), pfair.depart("a", at=4, floor=3),
     pfair.promise(5),
 ]
 TEXT = """version = 2
@@ -174,7 +192,7 @@ def test_text_of_a_script():
 
 def test_text_of_what_announces_nothing():
     """Its other fields aren't told; a name of no bytes is."""
-    script = pfair.Script(1, 2, 3, [[pfair.Entry(5, name="a", cost=1), pfair.depart("", 2)]])
+    script = pfair.Script(1, 2, 3, [[pfair.Entry(5, name="a", cost=1), pfair.Entry(0, "depart", 2)]])
     lines = ["{ processor = 0, floor = 5 },", '{ processor = 0, floor = 0, kind = "depart", at = 2, name = "" },']
     assert script.text().splitlines()[5:7] == [f"    {line}" for line in lines]
 
@@ -182,10 +200,10 @@ def test_text_of_what_announces_nothing():
 def test_logs_of_a_script():
     script = pfair.Script(3, 6, 8, [LOG, [], [pfair.promise(8)]])
     assert [script.log(processor) for processor in range(4)] == [LOG, [], [pfair.promise(8)], []]
+    outside("processor", -1, script.log, -1)
     # closed by a promise for all slots, unless the log's last floor is that already
-    assert script.closed(0) == [*LOG, pfair.promise(8)] and script.closed(1) == [pfair.promise(8)] == script.closed(
-        2
-    ) == script.closed(3)
+    assert script.closed(0) == [*LOG, pfair.promise(8)]
+    assert script.closed(1) == script.closed(2) == script.closed(3) == [pfair.promise(8)]
     past = pfair.Script(1, 6, 8, [[pfair.promise(8), pfair.promise(7)]])
     assert past.closed(0) == [pfair.promise(8), pfair.promise(7), pfair.promise(8)]
     assert pfair.Script(1, 6, 8, [[pfair.promise(9)]]).closed(0) == [pfair.promise(9)]
@@ -194,9 +212,7 @@ def test_logs_of_a_script():
 
 def test_settings_of_a_script():
     one, other = pfair.Script(1, 2, 3), pfair.Script(1, 2, 3)
-    assert (
-        (one.processors, one.frame, one.slots, one.logs) == (1, 2, 3, [])
-        and one == other
-        and one.logs is not other.logs
-    )
-    assert _entries.KINDS == (None, "arrive", "depart", "late")
+    assert (one.processors, one.frame, one.slots, one.logs) == (1, 2, 3, [])
+    assert one == other and one.logs is not other.logs
+    script = pfair.Script(2, 6, 8, [LOG, [pfair.promise(8)]])
+    assert repr(script) == "<Script: processors=2, frame=6, slots=8, 5 entries>"

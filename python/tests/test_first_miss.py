@@ -4,7 +4,7 @@ from fractions import Fraction
 
 import numpy as np
 import pytest
-from conftest import refusal
+from conftest import outside, refusal
 from recorded import Stay
 
 import pfair
@@ -17,13 +17,9 @@ def wanted(cost, period, picks, horizon, may_be_early):
         stay = Stay("", 0, horizon, cost, period, True, [])
         late = [(slot, index) for index, slot in enumerate(picks, 1) if slot >= stay.deadline(index)]
         behind = stay.deadline(len(picks) + 1)
-        return (
-            Miss("tardy", late[0][1], late[0][0])
-            if late
-            else Miss("unserved", len(picks) + 1, None)
-            if behind <= horizon
-            else None
-        )
+        if late:
+            return Miss("tardy", late[0][1], late[0][0])
+        return Miss("unserved", len(picks) + 1, None) if behind <= horizon else None
     return miss and Miss(miss[1], miss[3], None if miss[1] == "unserved" else miss[0])
 
 
@@ -56,23 +52,28 @@ def test_forms(kind):
 
 def test_refusals():
     for call in (pfair.first_miss, pfair.first_late):
-        refusal(pfair.ZeroCost, "a weight of cost 0: 0/2", call, 0, 2, [], 9)
-        refusal(pfair.CostOverPeriod, "a weight of more than a whole processor: 3/2", call, 3, 2, [], 9)
-        refusal(
-            pfair.PeriodTooLong, "a period of more than 1,000,000,000 slots: 1/1000000001", call, 1, 10**9 + 1, [], 9
-        )
-        refusal(pfair.OutOfRange, "a number is out of its range: 1/2", call, 1, 2, [], 1_000_001)
-        refusal(pfair.OutOfRange, "a number is out of its range: horizon = -1", call, 1, 2, [], -1)
-        refusal(pfair.OutOfRange, "a number is out of its range: cost = -1", call, -1, 2, [], 1)
-        refusal(pfair.OutOfRange, "a number is out of its range: period = -2", call, 1, -2, [], 1)
-        refusal(pfair.OutOfRange, "a number is out of its range: pick = -3", call, 1, 2, [0, -3], 9)
-        for place, name in ((0, "cost"), (1, "period"), (3, "horizon")):
-            words = [1, 2, [], 9]
-            words[place] = 2**64
-            refusal(pfair.OutOfRange, f"a number is out of its range: {name} = {2**64}", call, *words)
-        said = "a slot isn't after the one before it: 4 at 2"
+        for kind, cost, period in (
+            (pfair.ZeroCost, 0, 2),
+            (pfair.CostOverPeriod, 3, 2),
+            (pfair.PeriodTooLong, 1, 10**9 + 1),
+        ):
+            refusal(kind, f"{kind.text}: {cost}/{period}", call, cost, period, [], 9)
+        for wrong in (-1, 1_000_001):
+            outside("horizon", wrong, call, 1, 2, [], wrong, most=1_000_000)
+        for wrong in (-1, 2**64):
+            outside("cost", wrong, call, wrong, 2, [], 1)
+            outside("period", wrong, call, 1, wrong, [], 1)
+        outside("pick", -3, call, 1, 2, [0, -3], 9)
+        said = f"{pfair.PicksNotRising.text}: 4 at 2"
         assert refusal(pfair.PicksNotRising, said, call, 1, 2, [0, 4, 4], 9) == {"place": 2}
-        said = "a slot isn't before the horizon: 9 at 1"
+        said = f"{pfair.PickPastHorizon.text}: 9 at 1"
         assert refusal(pfair.PickPastHorizon, said, call, 1, 2, [0, 9, 4], 9) == {"place": 1}
-        for picks in ([0.0], [[0]], ["a"]):
-            refusal(TypeError, "picks are a list of whole numbers", call, 1, 2, picks, 9)
+        for picks in ([0.0], [[0]], ["a"], [[0], [1, 2]], 3, None, [True, False], (slot for slot in (0, 2))):
+            said = f"picks have to be a list or an array of whole numbers, and not {picks!r:.60}"
+            refusal(TypeError, said, call, 1, 2, picks, 9)
+
+
+def test_picks_of_a_schedule():
+    """The slots of a schedule's own rows, which lie apart in memory."""
+    schedule = pfair.schedule(pfair.Script(1, 4, 40, [[pfair.arrive("a", 1, 4)]]))
+    assert pfair.first_miss(1, 4, schedule.quanta["slot"], 40) is None and len(schedule.quanta) == 10

@@ -6,7 +6,7 @@ import pfair
 
 TYPES = "Counts Dispatcher Entry Faults Miss Planned Schedule Script TakenCounts Violation"
 CALLS = "arrive check depart first_late first_miss late promise read_task_file rows_of schedule windows"
-TABLES = "BY_NUMBER DECISION ENTRY LAG MEMBER OUTCOMES QUANTUM WINDOW study"
+TABLES = "BY_NUMBER DECISION ENTRY LAG MEMBER OUTCOMES QUANTUM WINDOW errors study"
 
 
 def test_public_names():
@@ -19,7 +19,8 @@ def test_public_names():
     assert wanted <= set(names)
     # each name without an underscore is public, but those of modules and the version, which is __version__
     plain = {name for name, value in vars(pfair).items() if name[0] != "_" and not isinstance(value, types.ModuleType)}
-    assert plain - {"VERSION"} == set(pfair.__all__) - {"study"}
+    assert plain == set(pfair.__all__) - {"errors", "study"}
+    assert errors == {name for name in vars(pfair.errors) if name in errors} | {"NoCycle"}
 
 
 def test_types_are_shipped():

@@ -1,78 +1,76 @@
-"""The shared library as the package sees it: layouts of rows, the version, and which file is taken."""
+"""The shared library as the package sees it, beside its header: rows, structs, calls, the version, and which file."""
 import ctypes
 import importlib.util
 import pathlib
+import re
 
 import numpy as np
 import pytest
 
 import pfair
-from pfair import _library
+from conftest import EXAMPLES
+from pfair import _dispatcher, _entries, _library, _plans, _take
 
-NUMBER, NAME, SIGNED = (np.dtype("u8"), 8), (np.dtype("S16"), 24), (np.dtype("i8"), 8)
-# the structs of include/pfair.h, in which a name is 16 bytes and its length
-ROWS = {
-    "WINDOW": {"release": NUMBER, "deadline": NUMBER, "b_bit": NUMBER, "group_deadline": NUMBER},
-    "QUANTUM": {"slot": NUMBER, "row": NUMBER, "place": NUMBER, "task": NAME, "index": NUMBER},
-    "DECISION": {
-        "slot": NUMBER,
-        "task": NAME,
-        "processor": NUMBER,
-        "number": NUMBER,
-        "outcome": NUMBER,
-        "freed_at": NUMBER,
-    },
-    "LAG": {"time": NUMBER, "task": NAME, "numerator": SIGNED, "period": NUMBER},
-    "MEMBER": {
-        "task": NAME,
-        "cost": NUMBER,
-        "period": NUMBER,
-        "early": NUMBER,
-        "joined": NUMBER,
-        "next": NUMBER,
-        "theta": NUMBER,
-        "is_departing": NUMBER,
-        "freed_at": NUMBER,
-    },
-    "ENTRY": {
-        "floor": NUMBER,
-        "kind": NUMBER,
-        "at": NUMBER,
-        "name": (np.dtype("S16"), 16),
-        "length": NUMBER,
-        "cost": NUMBER,
-        "period": NUMBER,
-        "early": NUMBER,
-        "index": NUMBER,
-        "by": NUMBER,
-    },
-    "KEY": {"processor": NUMBER, "number": NUMBER},
-}
-STRUCTS = {
-    "Handle": (["is_open", "at"], 16),
-    "Step": (["kind", "slot", "processor", "number"], 32),
-    "Settings": (["processors", "frame", "slots", "capacity"], 32),
-    "TakenLog": (["taken", "fresh", "known", "torn"], 32),
-    "Miss": (["kind", "index", "slot"], 24),
-    "FileFault": (["place", "field", "processor", "number", "cause"], 40),
-}
+TEXT = (EXAMPLES.parent / "include" / "pfair.h").read_text()
+HEADER = re.sub(r"/\*.*?\*/", "", TEXT, flags=re.S)
+STRUCTS = {name: body for name, body in re.findall(r"struct pfair_(\w+) \{(.*?)\n\};", HEADER, re.S)}
+SIMPLE = {"uint64_t": "u8", "int64_t": "i8"}
+# names of the package for those of the header
+ROWS = {name: name.upper() for name in ("quantum", "decision", "lag", "member", "window", "entry", "key")}
+KEPT = {"dispatcher": "Handle", "step": "Step", "settings": "Settings", "taken_log": "TakenLog", "miss": "Miss"}
+KEPT["file_fault"] = "FileFault"
 
 
-@pytest.mark.parametrize("name", ROWS)
-def test_layout_of_rows(name):
-    dtype, end = getattr(_library, name), 0
-    assert list(dtype.names) == list(ROWS[name])
-    for field, (kind, size) in ROWS[name].items():
-        assert dtype.fields[field][:2] == (kind, end)
-        end += size
-    assert dtype.itemsize == end
+def fields_of(struct):
+    """The fields of a struct of the header: the type and the name of each."""
+    for declared in STRUCTS[struct].split(";")[:-1]:
+        *kind, first = declared.split(",")[0].split()
+        for name in (first, *declared.split(",")[1:]):
+            if kind[0] == "struct" and kind[1] != "pfair_name":
+                yield from fields_of(kind[1].removeprefix("pfair_"))
+            else:
+                yield kind[-1], name.strip()
 
 
-@pytest.mark.parametrize("name", STRUCTS)
-def test_layout_of_structs(name):
-    struct, (fields, size) = getattr(_library, name), STRUCTS[name]
-    assert [field for field, _ in struct._fields_] == fields and ctypes.sizeof(struct) == size
-    assert [getattr(struct, field).offset for field in fields] == [8 * place for place in range(len(fields))]
+@pytest.mark.parametrize("struct", ROWS)
+def test_layout_of_rows(struct):
+    """A name is 16 bytes and its length, which users see in entries alone."""
+    dtype, end = getattr(_library, ROWS[struct]), 0
+    names = []
+    for kind, name in fields_of(struct):
+        is_name = kind == "pfair_name"
+        names.append(name if struct == "entry" or not is_name else "task")
+        wanted = np.dtype("S16") if is_name else np.dtype(SIMPLE[kind])
+        assert dtype.fields[names[-1]][:2] == (wanted, end)
+        names += ["length"] if struct == "entry" and is_name else []
+        end += 24 if is_name else 8
+    assert list(dtype.names) == names and dtype.itemsize == end
+
+
+@pytest.mark.parametrize("struct", KEPT)
+def test_layout_of_structs(struct):
+    kind, named = getattr(_library, KEPT[struct]), [name.strip("*") for _, name in fields_of(struct)]
+    assert [field for field, _ in kind._fields_] == named and ctypes.sizeof(kind) == 8 * len(named)
+    assert [getattr(kind, field).offset for field in named] == [8 * place for place in range(len(named))]
+
+
+def test_numbers_of_the_header():
+    """The outcomes of decisions, the keys of a task file, and what is found and done."""
+    told = re.search(r"uint64_t outcome; +/\* (.*?);", TEXT, re.S)[1]
+    outcomes = re.findall(r"(\d+) ([a-z ]+?)(?:,|$| \*/)", " ".join(told.split()))
+    assert pfair.OUTCOMES == {int(number): words for number, words in outcomes}
+
+    def enum(name):
+        body = re.search(rf"enum pfair_{name} {{(.*?)}}", HEADER, re.S)[1]
+        return {int(number): word for word, number in re.findall(r"PFAIR_(\w+) = (\d+)", body)}
+
+    assert enum("key_of_file") == {place: f"KEY_{key.upper()}" for place, key in enumerate(_dispatcher._KEYS) if key}
+    assert enum("taken") == {0: "NEW", 1: "KNOWN", 2: "TORN_NOW"} and _take.TAKEN == ("new", "known", "torn")
+    assert enum("step_kind") == {0: "PLANNED", 1: "WAITING", 2: "ALL_PLANNED"}
+    assert _plans.STEPS == ("planned", "waiting", "done")
+    assert enum("kind") == {0: "NOTHING", 1: "ARRIVE", 2: "DEPART", 3: "LATE"}
+    assert _entries.KINDS == (None, "arrive", "depart", "late")
+    assert enum("miss_kind") == {0: "NO_MISS", 1: "EARLY", 2: "TARDY", 3: "UNSERVED"}
 
 
 class Fake:
@@ -126,43 +124,28 @@ def test_version(monkeypatch):
             loaded(monkeypatch, version)
 
 
-# each call with what it takes, by include/pfair.h: a byte for a processor, four bytes for the number of an entry
-BYTE, SHORT, LONG, SIZE, ROW = ctypes.c_uint8, ctypes.c_uint32, ctypes.c_uint64, ctypes.c_size_t, ctypes.c_void_p
+# a byte for a processor, four bytes for the number of an entry
+NUMBERS = {f"uint{bits}_t": getattr(ctypes, f"c_uint{bits}") for bits in (8, 32, 64)} | {"size_t": ctypes.c_size_t}
+
+
+def type_of(declared, module):
+    """The type that ctypes has to know for an argument of the header."""
+    *words, name = declared.split()
+    if name[0] != "*":
+        return NUMBERS[words[-1]]
+    if words[0] == "const":
+        return ctypes.c_char_p if words[1] == "uint8_t" else ctypes.c_void_p
+    if words[0] == "struct":
+        struct = KEPT.get(words[1].removeprefix("pfair_"))
+        return ctypes.POINTER(getattr(module, struct)) if struct else ctypes.c_void_p
+    return ctypes.POINTER(NUMBERS[words[0]])
 
 
 def test_types_of_calls(monkeypatch):
     module, _ = loaded(monkeypatch, NUMBER_OF_VERSION)
-    library = module.library
-    handle, number, step = (ctypes.POINTER(kind) for kind in (module.Handle, LONG, module.Step))
-    several = [handle, LONG, LONG, number, ROW, SIZE]
-    wanted = {
-        "version": [],
-        "windows": [LONG, LONG, LONG, LONG, LONG, ROW, SIZE],
-        "first_miss": [LONG, LONG, LONG, ctypes.POINTER(module.Miss), number, ROW, SIZE],
-        "first_late": [LONG, LONG, LONG, ctypes.POINTER(module.Miss), number, ROW, SIZE],
-        "open": [handle, BYTE, LONG, LONG, SHORT],
-        "read_file": [handle, ctypes.POINTER(module.FileFault), ctypes.c_char_p, SIZE],
-        "close": [handle],
-        "settings": [handle, ctypes.POINTER(module.Settings)],
-        "take": [handle, BYTE, SHORT, ROW, number],
-        "take_log": [handle, BYTE, SHORT, ctypes.POINTER(module.TakenLog), ROW, SIZE],
-        "absorb": [handle, handle],
-        "held": [handle, BYTE, SHORT, number, ROW],
-        "mark": [handle, BYTE, number, number],
-        "missing": [handle, BYTE, number],
-        "faults": [handle, number, number, ROW, SIZE],
-        "below": [handle, handle, number],
-        "plan_to": [handle, LONG, step],
-        "reserve": [handle, LONG, LONG],
-        "forget": [handle, LONG],
-        "reopen": [handle],
-        "frontier": [handle, number],
-        "next_slot": [handle, number],
-        "quanta": several,
-        "decisions_of": several,
-        "lags": several,
-        "members": [handle, number, ROW, SIZE],
-    }
-    for name, types in wanted.items():
-        call = getattr(library, f"pfair_{name}")
-        assert (call.argtypes, call.restype) == (types, SHORT)
+    declared = dict(re.findall(r"^uint32_t (pfair_\w+)\(([^)]*)\);", HEADER, re.M))
+    assert len(module._CALLS) == 27 and set(module._CALLS) <= set(declared)
+    for name in module._CALLS:
+        types = [type_of(one, module) for one in declared[name].split(",") if one != "void"]
+        call = getattr(module.library, name)
+        assert (call.argtypes, call.restype) == (types, ctypes.c_uint32), name

@@ -64,19 +64,12 @@ def test_metadata(wheel):
         told = email.message_from_string(packed.read(f"{ABOUT}/METADATA").decode())
         tags = email.message_from_string(packed.read(f"{ABOUT}/WHEEL").decode())
     assert told.items() == [
-        ("Metadata-Version", "2.1"),
-        ("Name", "ramluhay"),
-        ("Version", VERSION),
+        ("Metadata-Version", "2.1"), ("Name", "ramluhay"), ("Version", VERSION),
         ("Summary", "A proved Pfair (PD2) multiprocessor executive, for studies of schedulability"),
-        ("Classifier", "Typing :: Typed"),
-        ("Classifier", "Operating System :: POSIX :: Linux"),
-        ("Classifier", "Programming Language :: Python :: 3"),
-        ("Requires-Python", ">=3.9"),
-        ("Description-Content-Type", "text/markdown"),
-        ("Requires-Dist", "numpy>=1.22"),
-        ("Provides-Extra", "tables"),
-        ("Requires-Dist", "pandas>=1.5 ; extra == 'tables'"),
-        ("Provides-Extra", "plots"),
+        ("Classifier", "Typing :: Typed"), ("Classifier", "Operating System :: POSIX :: Linux"),
+        ("Classifier", "Programming Language :: Python :: 3"), ("Requires-Python", ">=3.9"),
+        ("Description-Content-Type", "text/markdown"), ("Requires-Dist", "numpy>=1.22"), ("Provides-Extra", "tables"),
+        ("Requires-Dist", "pandas>=1.5 ; extra == 'tables'"), ("Provides-Extra", "plots"),
         ("Requires-Dist", "matplotlib>=3.5 ; extra == 'plots'"),
     ]
     assert told.get_payload() == (PACKAGE / "README.md").read_text()

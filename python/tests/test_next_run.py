@@ -6,7 +6,7 @@ import random
 
 import numpy as np
 import pytest
-from conftest import refusal
+from conftest import outside, refusal
 
 import pfair
 
@@ -24,11 +24,11 @@ def announcements_of(chance, processors):
         name, kind = chance.choice(names), chance.random()
         if kind < 0.5:
             period = chance.choice(PERIODS)
-            entry = pfair.arrive(name, chance.randint(1, period), period, at, at, chance.random() < 0.3)
+            entry = pfair.arrive(name, chance.randint(1, period), period, at=at, floor=at, early=chance.random() < 0.3)
         elif kind < 0.7:
-            entry = pfair.depart(name, at, at)
+            entry = pfair.depart(name, at=at, floor=at)
         else:
-            entry = pfair.late(name, chance.randint(1, 1 + at), chance.choice((1, 2, 7, 40)), at, at)
+            entry = pfair.late(name, chance.randint(1, 1 + at), chance.choice((1, 2, 7, 40)), at=at, floor=at)
         said.append((chance.randrange(processors), entry))
         at += chance.choice((0, 0, 1, 2, 5, 17, 60))
     return sorted(said, key=lambda one: (one[1].at, one[0]))
@@ -154,7 +154,7 @@ def begun(*entries, slots=4):
 def test_a_next_run_is_refused():
     one = begun(pfair.arrive("a", 1, 2))
     for slots in (0, 1_000_001):
-        refusal(pfair.OutOfRange, "a number is out of its range", one.next_run, slots)
+        outside("slots", slots, one.next_run, slots, least=1, most=1_000_000)
     refusal(pfair.Unfinished, "not all slots of the run are planned", one.next_run, 4)
     one.plan(3)
     refusal(pfair.Unfinished, "not all slots of the run are planned", one.next_run, 4)
@@ -174,7 +174,7 @@ def test_a_member_of_too_great_a_cost_is_not_carried():
 
 
 def test_what_a_next_run_begins_with():
-    one = begun(pfair.arrive("a", 1, 2), pfair.arrive("b", 1, 4), pfair.depart("b", 2), slots=5)
+    one = begun(pfair.arrive("a", 1, 2), pfair.arrive("b", 1, 4), pfair.depart("b", at=2), slots=5)
     one.plan()
     before = one.members()
     one.forget(5)
@@ -183,4 +183,4 @@ def test_what_a_next_run_begins_with():
     after = one.members()
     assert before["joined"].tolist() == [0] and after["joined"].tolist() == [4]
     assert before["next"].tolist() == [4] and after["next"].tolist() == [2]
-    refusal(pfair.NotPlanned, "the slot isn't planned: slot 0", one.quanta, 0, 1)
+    refusal(pfair.NotPlanned, "the slot isn't planned, or is forgotten: slot 0", one.quanta, 0, 1)

@@ -199,9 +199,9 @@ def test_pictures_of_legal_scripts(seed, slots, processors):
     rng, logs = random.Random(seed), [[] for _ in range(processors)]
     for slot in sorted(rng.randrange(slots) for _ in range(rng.randrange(12))):
         name, period = rng.choice("abcd"), rng.choice((1, 2, 3, 4, 6, 12, 5))
-        arrival = pfair.arrive(name, rng.randrange(1, period + 1), period, slot)
-        late = pfair.late(name, rng.randrange(1, 9), rng.randrange(1, 5), slot)
-        rng.choice(logs).append(rng.choice((arrival, late, pfair.depart(name, slot))))
+        arrival = pfair.arrive(name, rng.randrange(1, period + 1), period, at=slot)
+        late = pfair.late(name, rng.randrange(1, 9), rng.randrange(1, 5), at=slot)
+        rng.choice(logs).append(rng.choice((arrival, late, pfair.depart(name, at=slot))))
     schedule = pfair.schedule(pfair.Script(processors, 12, slots, logs))
     drawn = schedule.svg()
     assert_inside(drawn)

@@ -1,18 +1,21 @@
 """Schedules of scripts and task files: rows, counts, tables for pandas, traces, and files as they are read."""
+import concurrent.futures
+import copy
 import io
-import json
+import multiprocessing
 import pathlib
+import pickle
 import sys
 import types
 
 import numpy as np
 import pytest
-from conftest import EXAMPLES, refusal, script_of
+from conftest import EXAMPLES, outside, refusal, script_of
 from hypothesis import given, settings
 from hypothesis import strategies as some
 
 import pfair
-from pfair import _schedule
+from pfair import _names, _program, _schedule, _source, _trace
 
 FILES = sorted(EXAMPLES.glob("*.toml"))
 NAMED = {0: "admitted", 1: "departing", 2: "delayed"}
@@ -33,14 +36,7 @@ def decisions_of(decisions):
     for row in decisions:
         outcome = int(row["outcome"])
         value = row["freed_at"] if outcome == 1 else "-" if outcome in NAMED else outcome
-        told = [
-            row["slot"],
-            row["processor"],
-            row["number"],
-            row["task"].decode(),
-            NAMED.get(outcome, "refused"),
-            value,
-        ]
+        told = row["slot"], row["processor"], row["number"], row["task"].decode(), NAMED.get(outcome, "refused"), value
         lines.append(",".join(map(str, told)))
     return lines
 
@@ -98,7 +94,7 @@ def test_capacity_is_that_of_the_longest_log():
 
 def test_a_log_that_stalls():
     script = pfair.Script(1, 6, 6, [[pfair.promise(4), pfair.promise(2)]])
-    text = f"{pfair.Stalled.__doc__}: 4"
+    text = f"{pfair.Stalled.text}: slot 4"
     assert refusal(pfair.Stalled, text, pfair.schedule, script) == {"frontier": 4}
 
 
@@ -130,13 +126,9 @@ def counts_by_a_loop(script):
 
 
 AGAIN = [
-    pfair.arrive("a", 1, 3),
-    pfair.arrive("b", 2, 3),
-    pfair.depart("a", 10),
-    pfair.arrive("a", 1, 6, at=20, floor=20),
-    pfair.arrive("c", 1, 5, at=21, floor=21),
-    pfair.depart("x", 22, floor=22),
-    pfair.late("b", 20, 5, at=23, floor=23),
+    pfair.arrive("a", 1, 3), pfair.arrive("b", 2, 3), pfair.depart("a", at=10),
+    pfair.arrive("a", 1, 6, at=20, floor=20), pfair.arrive("c", 1, 5, at=21, floor=21),
+    pfair.depart("x", at=22, floor=22), pfair.late("b", 20, 5, at=23, floor=23),
 ]
 
 
@@ -183,14 +175,14 @@ def test_numbers_of_names(boxes, names):
     """Names of more than 8 bytes with one beginning are apart, also where they end alike behind another beginning."""
     with pytest.MonkeyPatch.context() as patch:
         if boxes == 1:  # all names are in one box
-            patch.setattr(_schedule, "_MIXED", np.array([0, 0, 0], np.uint64))
+            patch.setattr(_names, "_MIXED", np.array([0, 0, 0], np.uint64))
         check_numbers(names)
 
 
 def check_numbers(names):
     rows = np.zeros(len(names), pfair.QUANTUM)
     rows["task"] = names
-    codes, known = _schedule.numbered(rows["task"])
+    codes, known = _names.numbered(rows["task"])
     assert [known[code] for code in codes] == names and len(known) == len(set(names)) and set(known) == set(names)
 
 
@@ -208,18 +200,38 @@ def test_long_names_with_one_beginning():
 
 
 def test_pandas():
+    """Tasks in the order of their names, outcomes in words, and numbers whose differences don't wrap around."""
     pandas = pytest.importorskip("pandas")
     script = pfair.Script(2, 12, 60, [[pfair.arrive("beginning_b", 5, 12), pfair.arrive("beginning_a", 1, 3)], AGAIN])
     schedule = pfair.schedule(script)
-    for frame, rows in zip(schedule.to_pandas(), (schedule.quanta, schedule.decisions)):
+    frames = schedule.to_pandas(lags=True)
+    assert len(schedule.to_pandas()) == 2
+    for frame, rows in zip(frames, (schedule.quanta, schedule.decisions, schedule.lags())):
         others = [name for name in rows.dtype.names if name != "task"]
         assert list(frame.columns) == ["task", *others] and len(frame) == len(rows) > 5
         assert list(frame["task"]) == [name.decode() for name in rows["task"]]
-        assert isinstance(frame["task"].dtype, pandas.CategoricalDtype) and sorted(
-            frame["task"].cat.categories
-        ) == sorted(set(frame["task"]))
+        assert list(frame["task"].cat.categories) == sorted(set(frame["task"])) and not frame["task"].cat.ordered
         for name in others:
-            assert frame[name].dtype == np.uint64 and (frame[name].to_numpy() == rows[name]).all()
+            if name == "outcome":
+                assert list(frame[name]) == [pfair.OUTCOMES[outcome] for outcome in rows[name].tolist()]
+            else:
+                assert frame[name].dtype == np.int64 and frame[name].tolist() == rows[name].tolist()
+    assert isinstance(frames[1]["outcome"].dtype, pandas.CategoricalDtype)
+    assert set(frames[1]["outcome"]) == {"admitted", "departing", "delayed", "period outside frame", "no such task"}
+
+
+def test_schedules_can_be_pickled():
+    """What comes back has the same rows and counts, and plans again once its lags are asked for."""
+    schedule = pfair.schedule(drawn(5))
+    for again in (pickle.loads(pickle.dumps(schedule)), copy.deepcopy(schedule), copy.copy(schedule)):
+        assert again.script == schedule.script and "_dispatcher" not in vars(again)
+        assert (again.quanta == schedule.quanta).all() and (again.decisions == schedule.decisions).all()
+        assert "_dispatcher" not in vars(again) and again.counts() == schedule.counts()
+        assert (again.lags() == schedule.lags()).all() and again.svg(picture="lags") == schedule.svg(picture="lags")
+    with concurrent.futures.ProcessPoolExecutor(1, multiprocessing.get_context("fork")) as processes:
+        (made,) = pfair.study.run([schedule.script], pfair.schedule, processes)
+    assert type(made) is pfair.Schedule and (made.quanta == schedule.quanta).all()
+    assert repr(made) == f"<Schedule: processors=4, frame=240, slots=200, {len(made.quanta)} quanta>"
 
 
 @pytest.mark.parametrize("file", FILES, ids=lambda file: file.stem)
@@ -227,9 +239,8 @@ def test_text_and_back(file, tmp_path):
     script = script_of(file)
     again = tmp_path / "again.toml"
     again.write_text(script.text())
-    assert script_of(again) == script and pfair.read_task_file(file) == script == pfair.read_task_file(
-        script.text().encode()
-    )
+    for given_ in (file, again, script.text().encode()):
+        assert pfair.read_task_file(given_) == script == script_of(again)
 
 
 def test_what_a_schedule_is_made_of():
@@ -255,68 +266,62 @@ def test_a_file_one_byte_too_long(tmp_path):
             assert isinstance(refused.value, pfair.FileTooLong) == (size == 67_108_865)
 
 
+def test_a_file_without_an_end():
+    """No more is read than is needed to refuse it."""
+    refusal(pfair.FileTooLong, pfair.FileTooLong.text, pfair.read_task_file, "/dev/zero")
+
+
 def test_logs_of_files():
     """A log is as the file has it, without the promise that closes it; another last promise stands."""
     text = HEAD + ARRIVE + b"[[entry]]\nprocessor = 1\nfloor = 5\n" + b"[[entry]]\nprocessor = 0\nfloor = 6\n"
-    assert pfair.read_task_file(text) == pfair.Script(
-        2, 6, 6, [[], [pfair.arrive("a", 1, 2, at=4, floor=3), pfair.promise(5)]]
-    )
+    logs = [[], [pfair.arrive("a", 1, 2, at=4, floor=3), pfair.promise(5)]]
+    assert pfair.read_task_file(text) == pfair.Script(2, 6, 6, logs)
 
 
-def events_of(schedule, **how):
+def trace_of(schedule, *how):
     out = io.StringIO()
-    schedule.write_trace(out, **how)
-    return out.getvalue(), json.loads(out.getvalue())["traceEvents"]
+    schedule.write_trace(out, *how)
+    return out.getvalue()
 
 
-LOG = [
-    pfair.arrive("b", 1, 2),
-    pfair.arrive("a", 1, 3),
-    pfair.arrive("c", 1, 2),
-    pfair.late("a", 2, 2, at=1, floor=1),
-    pfair.depart("b", 4, floor=4),
-    pfair.arrive("b", 1, 3, at=8, floor=8),
-    pfair.arrive("b", 1, 6, at=9, floor=9),
-]
-# of each entry what is said, on which track, and at which slot
-TOLD = [
-    ("b joins with 1/2", 1, 0),
-    ("a joins with 1/3", 2, 0),
-    ("arrive c refused: 22", 0, 0),
-    ("a: subtask 2 and later ones put off by 2", 2, 1),
-    ("b departs, free at 5", 1, 4),
-    ("b joins with 1/3", 1, 8),
-    ("arrive b refused: 20", 1, 9),
-]
-WINDOWS = {("b1", "0 to 1"), ("a1", "0 to 2"), ("b2", "2 to 3"), ("a2", "5 to 7"), ("a3", "8 to 10"), ("b1", "8 to 10")}
+@pytest.mark.parametrize("file", FILES, ids=lambda file: file.stem)
+def test_traces_of_the_examples(file, stand_in):
+    """Those of the rows that a program prints, which test_program.py and test_trace.py look at."""
+    schedule = pfair.schedule(file)
+    rows = {"decisions": decisions_of(schedule.decisions), "replay": rows_of_table(schedule.quanta, "place")}
+    rows["lags"] = lags_of(schedule.lags())
+    program = stand_in({command: "\n".join([*lines, ""]) for command, lines in rows.items()})
+    for format, slot in (("json", 1.0), ("json", 0.25), ("vcd", 2.0)):
+        out = io.StringIO()
+        _trace.write_trace(_program.Program(file, program), format, slot, out)
+        assert trace_of(schedule, format, slot) == out.getvalue() and len(out.getvalue()) > 400
+    assert trace_of(schedule) == trace_of(schedule, "json", 1.0)
 
 
-def test_traces():
-    """The words of each decision, the windows of each quantum, and the lags, by hand."""
-    schedule = pfair.schedule(pfair.Script(1, 6, 10, [LOG]))
-    text, events = events_of(schedule)
-    assert text == events_of(schedule, format="json", slot=1.0)[0]
-    instants = [(e["name"], e["tid"], e["ts"] / 1000, e["args"]) for e in events if e["ph"] == "i"]
-    assert instants == [(*told, {"processor": 0, "number": number}) for number, told in enumerate(TOLD, 1)]
-    quanta = [e for e in events if e["ph"] == "X"]
-    assert {(e["name"], e["args"]["window"]) for e in quanta} == WINDOWS and quanta[-1]["ts"] == 9000
-    assert all(e["args"]["deadline"] == int(e["args"]["window"].split()[2]) + 1 for e in quanta)
-    counters = [(e["name"], e["ts"] / 1000, e["args"]["lag"]) for e in events if e["ph"] == "C"]
-    lags = [
-        (row["task"].decode(), *(int(row[key]) for key in ("time", "numerator", "period"))) for row in schedule.lags()
-    ]
-    assert counters == [(f"lag of {task}", time, numerator / period) for task, time, numerator, period in lags]
-    tracks = [(e["pid"], e["tid"], e["args"]["name"]) for e in events if e["name"] == "thread_name"]
-    assert tracks == [(1, 1, "processor 0"), (2, 1, "b"), (2, 2, "a")]
-
-
-def test_dumps():
+def test_dumps(tmp_path):
     schedule, out = pfair.schedule(EXAMPLES / "two_processors.toml"), io.StringIO()
     schedule.write_trace(out, "vcd", 0.5)
     text = out.getvalue()
     assert text.startswith("$timescale 1 us $end\n") and text.endswith(f"\n#{500 * schedule.script.slots}\n")
     with pytest.raises(ValueError, match="^a trace is json or vcd, and not svg$"):
         schedule.write_trace(out, "svg")
+    file = tmp_path / "trace.vcd"
+    for path in (file, str(file)):
+        schedule.write_trace(path, "vcd", 0.5)
+        assert file.read_text() == text
+    # what is refused leaves the file as it was
+    with pytest.raises(ValueError, match="milliseconds$"):
+        schedule.write_trace(file, "vcd", 0)
+    assert file.read_text() == text
+
+
+def test_traces_in_pieces(monkeypatch):
+    """However many rows are read at once."""
+    schedule = pfair.schedule(drawn(4, 2, 60))
+    whole = trace_of(schedule), schedule.svg(picture="lags")
+    for size in (1, 7):
+        monkeypatch.setattr(_source, "_READ_AT_ONCE", size)
+        assert (trace_of(schedule), schedule.svg(picture="lags")) == whole
 
 
 def test_paths_of_all_kinds():
@@ -343,18 +348,15 @@ def test_slots_of_pictures():
     schedule = pfair.schedule(ONE)
     assert schedule._repr_svg_() == schedule.svg(0, 400) == schedule.svg(stop=400)
     assert len(schedule.svg(900, 4996)) > 1 << 18 and schedule.svg(7, 9, "lags") != schedule.svg(7, 10, "lags")
-    for slots, text in (
-        ((0, None), "slots 0 to 4999"),
-        ((903, 5000), "slots 903 to 4999"),
-        ((7, 7), "slots 7 to 6"),
-        ((8, 7), "slots 8 to 6"),
-        ((-1, None), "start = -1"),
-        ((2**64, 2**64), f"start = {2**64}"),
-        ((0, 2**64), f"stop = {2**64}"),
-    ):
-        refusal(pfair.OutOfRange, f"a number is out of its range: {text}", schedule.svg, *slots)
-    refusal(pfair.NotPlanned, "the slot isn't planned: slot 5000", schedule.svg, 4999, 5001)
-    refusal(ValueError, "no such picture: table", schedule.svg, picture="table")
+    refused = {(0, None): "0 to 4999", (903, 5000): "903 to 4999", (7, 7): "7 to 6", (8, 7): "8 to 6"}
+    for slots, shown in refused.items():
+        text = f"a number is out of its range: slots {shown}: a picture has 1 to 4,096 slots, by start and stop"
+        refusal(pfair.OutOfRange, text, schedule.svg, *slots)
+    for wrong in (-1, 2**64):
+        outside("start", wrong, schedule.svg, wrong)
+        outside("stop", wrong, schedule.svg, 0, wrong)
+    refusal(pfair.NotPlanned, f"{pfair.NotPlanned.text}: slot 5000", schedule.svg, 4999, 5001)
+    refusal(ValueError, "no such picture: table, and not schedule or lags", schedule.svg, picture="table")
 
 
 def test_plots_are_made_of_the_picture(monkeypatch):

@@ -150,7 +150,7 @@ def test_early_sets_are_planned():
 
 
 def test_weights_of_sets():
-    log = [pfair.arrive("a", 1, 2), pfair.depart("a", 3), pfair.arrive("b", 2, 6, at=4, floor=4)]
+    log = [pfair.arrive("a", 1, 2), pfair.depart("a", at=3), pfair.arrive("b", 2, 6, at=4, floor=4)]
     assert study.weights_of(pfair.Script(2, 6, 9, [log, [pfair.arrive("c", 3, 4)]])) == [
         Fraction(1, 2),
         Fraction(1, 3),

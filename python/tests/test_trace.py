@@ -53,15 +53,8 @@ def complete(pid, tid, name, ts, dur, subtask, window, deadline, slack, processo
 
 
 def instant(name, tid, ts, processor, number):
-    return {
-        "ph": "i",
-        "s": "t",
-        "name": name,
-        "pid": 2,
-        "tid": tid,
-        "ts": ts,
-        "args": {"processor": processor, "number": number},
-    }
+    args = {"processor": processor, "number": number}
+    return {"ph": "i", "s": "t", "name": name, "pid": 2, "tid": tid, "ts": ts, "args": args}
 
 
 def counter(task, ts, lag):
@@ -69,13 +62,9 @@ def counter(task, ts, lag):
 
 
 EVENTS = [
-    named(1, 0, "processors", "process_name"),
-    named(2, 0, "tasks", "process_name"),
-    named(3, 0, "lags", "process_name"),
-    named(1, 1, "processor 0"),
-    named(1, 2, "processor 1"),
-    named(2, 1, "a"),
-    named(2, 2, "b2"),
+    *(named(pid, 0, name, "process_name") for pid, name in enumerate(("processors", "tasks", "lags"), 1)),
+    *(named(1, place + 1, f"processor {place}") for place in (0, 1)),
+    *(named(2, tid, name) for tid, name in ((1, "a"), (2, "b2"))),
     # a task that never joined has no track
     instant("a joins", 1, 0, 1, 2),
     instant("b2 joins", 2, 0, 0, 1),
@@ -84,20 +73,15 @@ EVENTS = [
     *(complete(pid, tid, "b2 1", 0, 250, 1, "0 to 2", 3, 2, 1) for pid, tid in ((1, 2), (2, 2))),
     *(complete(pid, tid, "a2", 250, 250, 2, "1 to 3", 4, 2, 0) for pid, tid in ((1, 1), (2, 1))),
     *(complete(pid, tid, "b2 2", 750, 250, 2, "3 to 5", 6, 2, 1) for pid, tid in ((1, 2), (2, 2))),
-    counter("a", 250, -0.5),
-    counter("b2", 250, 0.75),
-    counter("a", 500, 0.0),
+    *(counter(*lag) for lag in (("a", 250, -0.5), ("b2", 250, 0.75), ("a", 500, 0.0))),
 ]
 
 
 def test_events():
     text = written(SMALL, "json", 0.25)
     assert json.loads(text) == {"displayTimeUnit": "ms", "traceEvents": EVENTS}
-    assert (
-        text.startswith('{"displayTimeUnit":"ms","traceEvents":[\n{"ph":"M",')
-        and text.endswith("}\n]}\n")
-        and ", " not in text
-    )
+    assert text.startswith('{"displayTimeUnit":"ms","traceEvents":[\n{"ph":"M",') and text.endswith("}\n]}\n")
+    assert ", " not in text
     assert text.count("\n") == len(EVENTS) + 2 and text.count("},\n{") == len(EVENTS) - 1
 
 
@@ -109,59 +93,24 @@ def test_times_of_events():
         assert (event["ts"], event["dur"]) == (begins, lasts)
 
 
-DUMP = """$timescale 1 us $end
-$scope module pfair $end
-$scope module processors $end
-$var string 1 ! processor_0 $end
-$var string 1 " processor_1 $end
-$upscope $end
-$scope module tasks $end
-$var wire 1 # a $end
-$var wire 1 $ b2 $end
-$upscope $end
-$upscope $end
-$enddefinitions $end
-#0
-$dumpvars
-s- !
-s- "
-0#
-0$
-$end
-#0
-sa_1 !
-sb2_1 "
-1#
-1$
-#250
-sa_2 !
-s- "
-0$
-#500
-s- !
-0#
-#750
-sb2_2 "
-1$
-#1000
-s- "
-0$
-#1500
+# lines, parted by a stroke
+DUMP = """$timescale 1 us $end|$scope module pfair $end|$scope module processors $end|
+$var string 1 ! processor_0 $end|$var string 1 " processor_1 $end|$upscope $end|$scope module tasks $end|
+$var wire 1 # a $end|$var wire 1 $ b2 $end|$upscope $end|$upscope $end|$enddefinitions $end|
+#0|$dumpvars|s- !|s- "|0#|0$|$end|#0|sa_1 !|sb2_1 "|1#|1$|#250|sa_2 !|s- "|0$|#500|s- !|0#|#750|sb2_2 "|1$|
+#1000|s- "|0$|#1500|
 """
 
 
 def test_dump():
-    assert written(SMALL, "vcd", 0.25) == DUMP
+    assert written(SMALL, "vcd", 0.25) == DUMP.replace("\n", "").replace("|", "\n")
     ends = Rows(1, 2, ["a_1"], [(0, 0, "a_1", 1, 0, 1), (1, 0, "a_1", 2, 1, 2)])
-    assert (
-        written(ends, "vcd").partition("$dumpvars\n")[2] == 's- !\n0"\n$end\n#0\nsa_1_1 !\n1"\n#1000\nsa_1_2 !\n#2000\n'
-    )
+    wanted = 's- !\n0"\n$end\n#0\nsa_1_1 !\n1"\n#1000\nsa_1_2 !\n#2000\n'
+    assert written(ends, "vcd").partition("$dumpvars\n")[2] == wanted
     assert written(Rows(1, 3, []), "vcd", 0.0012345).endswith("$dumpvars\ns- !\n$end\n#4\n")
     after = Rows(1, 9, ["a"], [(2, 0, "a", 1, 0, 9)])
-    assert (
-        written(after, "vcd").partition("$end\n#0\n$dumpvars")[2]
-        == '\ns- !\n0"\n$end\n#2000\nsa_1 !\n1"\n#3000\ns- !\n0"\n#9000\n'
-    )
+    wanted = '\ns- !\n0"\n$end\n#2000\nsa_1 !\n1"\n#3000\ns- !\n0"\n#9000\n'
+    assert written(after, "vcd").partition("$end\n#0\n$dumpvars")[2] == wanted
 
 
 RUN = some.lists(some.dictionaries(some.integers(0, 3), some.integers(0, 119), max_size=4), max_size=12)
@@ -172,14 +121,12 @@ RUN = some.lists(some.dictionaries(some.integers(0, 3), some.integers(0, 119), m
 def test_dumps_read_back(run):
     """Of 4 processors and 120 tasks, which is more signals than one byte has codes for: what runs in each slot."""
     slots = [{place: task for place, task in row.items() if list(row.values()).count(task) == 1} for row in run]
-    quanta = [
-        (slot, place, f"t{task}", slot + 1, 0, 9) for slot, row in enumerate(slots) for place, task in row.items()
-    ]
-    text = written(Rows(4, len(run) + 2, [f"t{task}" for task in range(120)], quanta), "vcd")
+    ran = ((slot, place, task) for slot, row in enumerate(slots) for place, task in row.items())
+    quanta = [(slot, place, f"t{task}", slot + 1, 0, 9) for slot, place, task in ran]
+    names = [f"t{task}" for task in range(120)]
+    text = written(Rows(4, len(run) + 2, names, quanta), "vcd")
     codes = dict(re.findall(r"\$var (?:string|wire) 1 (\S+) (\w+) \$end", text))
-    assert len(codes) == 124 and set(codes.values()) == {f"processor_{place}" for place in range(4)} | {
-        f"t{k}" for k in range(120)
-    }
+    assert len(codes) == 124 and set(codes.values()) == {*(f"processor_{place}" for place in range(4)), *names}
     now, seen, time = {}, {}, 0
     for line in text.partition("$dumpvars\n")[2].replace("$end\n", "").splitlines():
         if line[0] == "#":
@@ -214,9 +161,7 @@ def test_words():
 
 @settings(max_examples=100)
 @given(
-    some.integers(1, 9),
-    some.integers(0, 5),
-    some.integers(0, 9),
+    some.integers(1, 9), some.integers(0, 5), some.integers(0, 9),
     some.lists(some.tuples(some.integers(1, 9), some.integers(1, 5))),
 )
 def test_windows(cost, more, joined, delays):
@@ -236,12 +181,8 @@ def test_decisions_before_quanta():
     """What is decided at a slot holds from its quanta on, and a name that joins again is a new task."""
     half, third = {"cost": 1, "period": 2}, {"cost": 1, "period": 3}
     decisions = [
-        (0, "a", "admitted", half),
-        (1, "b", "refused", third),
-        (2, "a", "delayed", {"index": 2, "by": 4}),
-        (8, "a", "departing", {}),
-        (9, "a", "admitted", third),
-        (30, "a", "delayed", {"index": 1, "by": 7}),
+        (0, "a", "admitted", half), (1, "b", "refused", third), (2, "a", "delayed", {"index": 2, "by": 4}),
+        (8, "a", "departing", {}), (9, "a", "admitted", third), (30, "a", "delayed", {"index": 1, "by": 7}),
     ]
     rows = [(0, 0, "a", 1), (1, 0, "a", 2), (2, 1, "a", 2), (9, 0, "a", 1), (29, 0, "a", 2), (31, 0, "a", 2)]
     windows = [(quantum.release, quantum.deadline) for quantum in trace.quanta_of(rows, decisions)]

@@ -6,9 +6,9 @@ SWAPS |= {ast.Add: ast.Sub, ast.Mult: ast.FloorDiv, ast.BitAnd: ast.BitOr, ast.U
 SWAPS |= {new: old for old, new in SWAPS.items()} | {ast.Div: ast.Mult, ast.Mod: ast.FloorDiv, ast.Pow: ast.Mult}
 
 
-def nodes_of(tree, has_texts):
-    """The nodes that do something: neither types nor documentation, unless a class's is the text of an exception."""
-    documented = (ast.Module, ast.FunctionDef) if has_texts else (ast.Module, ast.FunctionDef, ast.ClassDef)
+def nodes_of(tree):
+    """The nodes that do something: neither types nor documentation."""
+    documented = (ast.Module, ast.FunctionDef, ast.ClassDef)
     skipped = set()
     for node in ast.walk(tree):
         text = node.body[:1] if isinstance(node, documented) and ast.get_docstring(node) is not None else []
@@ -32,9 +32,9 @@ def named(nodes):
             yield node, (name, next((other for other in others if other > value), others[0]))
 
 
-def changes(tree, has_texts):
+def changes(tree):
     """Each change as a node, the name of what changes in it, and the new value."""
-    nodes = nodes_of(tree, has_texts)
+    nodes = nodes_of(tree)
     others = dict(named(nodes))
     for node in nodes:
         if isinstance(node, ast.Compare):
@@ -59,7 +59,7 @@ def mutants_of(file, source):
     """The mutants of a file: its new text, and by what it is known: the file, and the line in it that is new."""
     tree = ast.parse(source)
     lines = ast.unparse(tree).splitlines()
-    for node, name, new in changes(tree, file.endswith("_errors.py")):
+    for node, name, new in changes(tree):
         old = getattr(node, name)
         setattr(node, name, new)
         text = ast.unparse(tree)

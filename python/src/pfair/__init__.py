@@ -5,14 +5,17 @@ Varvel; it does not execute tasks. What plans is a library in C whose every call
 are in slots, and each quantum is one slot of one processor.
 
 Slots and counts are whole numbers, as `operator.index` takes them: any other type raises TypeError. Refusals by the
-library are exceptions below `PfairError`: `number` is the library's answer, and `found` says where, by names.
+library are exceptions below `PfairError`: `number` is the library's answer, and `found` says where, by names. The
+module `errors` has them all.
 """
+from . import errors as errors
 from . import study as study
 from ._check import Violation, check
+from ._contents import Faults
 from ._cycle import NoCycle
-from ._dispatcher import Dispatcher, Planned
+from ._dispatcher import Dispatcher
 from ._entries import Entry, Script, arrive, depart, late, promise, rows_of
-from ._errors import (
+from .errors import (
     BY_NUMBER, BadDelay, BadIndex, CannotCarry, CostOverPeriod, EntryRefused, FileTooLong, KeyMissing, KeyOutOfRange,
     KeyWrongKind, NameBadByte, NameEmpty, NameTooLong, NoSuchNumber, NoSuchProcessor, NotOpen, NotPlanned, NotToml,
     OtherShape, OutOfMemory, OutOfRange, PastLastSlot, PeriodTooLong, PfairError, PickPastHorizon, PicksNotRising,
@@ -20,20 +23,21 @@ from ._errors import (
 )
 from ._first_miss import Miss, first_late, first_miss
 from ._library import DECISION, ENTRY, LAG, MEMBER, OUTCOMES, QUANTUM, WINDOW
-from ._logs import Faults, TakenCounts
+from ._plans import Planned
 from ._schedule import Counts, Schedule, schedule
+from ._take import TakenCounts
 from ._task_file import read_task_file
-from ._version import VERSION
+from ._version import VERSION as __version__
 from ._windows import windows
 
 __all__ = [
     "BY_NUMBER", "DECISION", "ENTRY", "LAG", "MEMBER", "OUTCOMES", "QUANTUM", "WINDOW", "Counts", "Dispatcher", "Entry",
     "Faults", "Miss", "Planned", "Schedule", "Script", "TakenCounts", "Violation", "arrive", "check", "depart",
-    "first_late", "first_miss", "late", "promise", "read_task_file", "rows_of", "schedule", "study", "windows",
+    "errors", "first_late", "first_miss", "late", "promise", "read_task_file", "rows_of", "schedule", "study",
+    "windows",
     "BadDelay", "BadIndex", "CannotCarry", "CostOverPeriod", "EntryRefused", "FileTooLong", "KeyMissing",
     "KeyOutOfRange", "KeyWrongKind", "NameBadByte", "NameEmpty", "NameTooLong", "NoCycle", "NoSuchNumber",
     "NoSuchProcessor", "NotOpen", "NotPlanned", "NotToml", "OtherShape", "OutOfMemory", "OutOfRange", "PastLastSlot",
     "PeriodTooLong", "PfairError", "PickPastHorizon", "PicksNotRising", "SlotTooFar", "Spent", "Stalled",
     "StampBeforeFloor", "TaskFileError", "Torn", "Unfinished", "UnknownVersion", "ZeroCost",
 ]
-__version__ = VERSION

@@ -11,7 +11,8 @@ import numpy.typing as npt
 from ._entries import Rows, Script
 from ._first_miss import first_miss
 from ._record import Given, Numbers, Record, read_record
-from ._schedule import numbered, opened, plan_to
+from ._names import numbered
+from ._schedule import opened, plan_to
 from ._task_file import read_task_file
 from ._windows import windows
 

@@ -1,15 +1,18 @@
 """Dispatchers: they take entries and plan slots."""
 from __future__ import annotations
 
-from typing import NamedTuple, Optional
+import ctypes as c
+import threading
+from contextlib import ExitStack
+from types import TracebackType
+from typing import Any, Optional, TypeVar, Union
 
-from ._entries import whole
-from ._errors import check
-from ._library import FileFault, Step, library
-from ._tables import Tables
+from . import _contents, _planned, _plans, _take
+from .errors import check
+from ._library import FileFault, Handle, Settings, library
+from ._numbers import whole
 
-STEPS = ("planned", "waiting", "done")
-
+Own = TypeVar("Own", bound="Dispatcher")
 # in bytes: the library refuses a longer task file
 LONGEST_FILE = 67_108_864
 # the fields of a file's fault that are set, by the answer
@@ -20,24 +23,7 @@ _KEYS = (
 )
 
 
-class Planned(NamedTuple):
-    """How far a call of `Dispatcher.plan` came.
-
-    Attributes
-    ----------
-    kind : str
-        "planned": as many slots are planned as were asked for. "waiting": the next slot isn't settled. "done": all
-        slots of the run are planned, and more were asked for.
-    slot : int
-        For "planned", the last slot that was asked for; for "waiting", the frontier, the first slot that isn't settled;
-        for "done", 0.
-    """
-
-    kind: str
-    slot: int
-
-
-class Dispatcher(Tables):
+class Dispatcher:
     """Takes entries of the processors' logs, in any order, and plans the slots that they settle.
 
     Parameters
@@ -69,12 +55,13 @@ class Dispatcher(Tables):
     """
 
     def __init__(self, processors: int, frame: int, slots: int, capacity: int = 4096) -> None:
-        super().__init__()
-        sizes = whole(processors, 8, "processors"), whole(frame, 64, "frame"), whole(slots, 64, "slots")
-        self._call("pfair_open", *sizes, whole(capacity, 32, "capacity"))
+        sizes = whole(processors, "processors", 1, 64), whole(frame, "frame", 1, 1_000_000_000)
+        lengths = whole(slots, "slots", 1, 1_000_000), whole(capacity, "capacity", 1, 4_096)
+        self._begin()
+        self._call("pfair_open", *sizes, *lengths)
 
     @classmethod
-    def of_file(cls, text: bytes) -> "Dispatcher":
+    def of_file(cls: type[Own], text: Union[bytes, bytearray, memoryview]) -> Own:
         """Makes a dispatcher with the settings and the entries of a task file, and plans nothing.
 
         Each log that is empty, or whose last floor is below the number of slots, gets a closing entry whose floor is
@@ -82,7 +69,7 @@ class Dispatcher(Tables):
 
         Parameters
         ----------
-        text : bytes
+        text : bytes, bytearray, memoryview or another buffer
             The contents of the file, at most 67,108,864 bytes.
 
         Returns
@@ -96,14 +83,17 @@ class Dispatcher(Tables):
             One of its subclasses, for the first fault of the file.
         OutOfMemory
             If an allocation fails.
+        TypeError
+            If `text` is no buffer.
 
         Notes
         -----
         O(b) for b bytes, and for each entry the cost of `take`.
         """
+        content = _bytes_of(text)
         made, fault = cls.__new__(cls), FileFault()
-        Tables.__init__(made)
-        answer = library.pfair_read_file(made._handle, fault, text, len(text))
+        made._begin()
+        answer = made._answer("pfair_read_file", fault, content, len(content))
         found = {name: int(getattr(fault, name)) for name in _WHERE.get(answer, ())}
         where = f"{_KEYS[fault.field]} at {fault.place}" if found else ""
         if fault.cause:
@@ -111,147 +101,134 @@ class Dispatcher(Tables):
         check(answer, where, **found)
         return made
 
-    def plan(self, until: Optional[int] = None) -> Planned:
-        """Plans slots until `until` of them are planned, or the next one isn't settled, or none is left.
+    def _begin(self) -> None:
+        """Makes the handle that a dispatcher is opened with, and the lock that goes with it."""
+        self._handle, self._lock = Handle(False, None), threading.RLock()
 
-        Parameters
-        ----------
-        until : int, optional
-            The number of slots to have planned, from 1; by default all slots of the run.
+    def __enter__(self: Own) -> Own:
+        return self
 
-        Returns
-        -------
-        Planned
-            How far the plan came.
+    def __exit__(
+        self, kind: Optional[type[BaseException]], value: Optional[BaseException], trace: Optional[TracebackType]
+    ) -> None:
+        self.close()
 
-        Raises
-        ------
-        Torn
-            If fewer than `until` slots are planned, and a number is torn; found["processor"] and found["number"] name
-            the least. No slot is planned.
-        OutOfMemory
-            If an allocation fails. Slots planned before that stay, and the dispatcher is spent.
-        Spent
-            If fewer than `until` slots are planned, and an allocation failed in an earlier plan. `reopen` helps.
-        OutOfRange
-            If `until` is 0, negative, or too large for its type in C.
+    def __del__(self) -> None:
+        if hasattr(self, "_lock"):
+            self.close()
 
-        Notes
-        -----
-        For each slot O((M + r) log n + a + l), for M processors, n members, r releases that come at the slot, a
-        announcements at it and l late releases accepted of the tasks that these name; O(n) more if a member is freed;
-        and a look-up for each entry taken since the last plan. The order is PD2, of Anderson and Srinivasan.
-        """
-        step = Step()
+    def __reduce__(self) -> Any:
+        raise TypeError("a Dispatcher can't be copied or pickled")
+
+    def __repr__(self) -> str:
         with self._lock:
-            end = self.slots if until is None else whole(until, 64, "until")
-            answer = library.pfair_plan_to(self._handle, end, step)
-        where = f"entry {step.number} of processor {step.processor}" if answer == 30 else ""
-        check(answer, where, processor=step.processor, number=step.number)
-        return Planned(STEPS[step.kind], step.slot)
+            if not self._handle.is_open:
+                return f"<{type(self).__name__}: closed>"
+            sizes = self._settings()
+            told = ", ".join(f"{name}={getattr(sizes, name)}" for name, _ in Settings._fields_)
+            return f"<{type(self).__name__}: {told}, {self.planned} slots planned>"
 
-    def reserve(self, slots: int, tasks: int) -> None:
-        """Allocates ahead what the plans of the next slots need.
+    def _answer(self, name: str, *given: Any) -> int:
+        """Makes a call of the library on this dispatcher, and returns its answer."""
+        with self._lock:
+            return int(getattr(library, name)(self._handle, *given))
 
-        The plan of such a slot then allocates nothing, if no announcement is decided at it, no entry came since the
-        slot before, and there are at most `tasks` members.
+    def _call(self, name: str, *given: Any, where: str = "") -> None:
+        check(self._answer(name, *given), where)
 
-        Parameters
-        ----------
-        slots : int
-            The number of slots, from the next one to plan on; all that are left if these are fewer.
-        tasks : int
-            The number of members at one time, or as many as the logs have room for entries if these are fewer.
+    def _number(self, name: str, *given: Any, where: str = "") -> int:
+        number = c.c_uint64()
+        self._call(name, *given, number, where=where)
+        return number.value
 
-        Raises
-        ------
-        OutOfMemory
-            If an allocation fails. Contents and planned slots stay, and plans go on with what was allocated.
-        OutOfRange
-            If a number is negative or too large for its type in C.
+    def _both(self, other: Dispatcher) -> ExitStack:
+        """Returns what holds the locks of both dispatchers, which any two calls take in one order."""
+        if not isinstance(other, Dispatcher):
+            raise TypeError(f"other = {other!r} is no Dispatcher")
+        stack = ExitStack()
+        for one in sorted((self, other), key=id):
+            stack.enter_context(one._lock)
+        return stack
 
-        Notes
-        -----
-        O(s M + t) for s slots and t tasks that have no memory yet, and M processors.
-        """
-        self._call("pfair_reserve", whole(slots, 64, "slots"), whole(tasks, 64, "tasks"))
-
-    def forget(self, slots: int) -> None:
-        """Forgets the tables, places and decisions of all planned slots below `slots`.
-
-        Later plans and `members` are as if these slots were still there. Their memory is freed 1,024 slots at a time,
-        as soon as a later slot is planned, so the memory of a long run hardly grows.
-
-        Parameters
-        ----------
-        slots : int
-            The first slot to keep; all planned slots are forgotten if it is past them.
-
-        Raises
-        ------
-        OutOfRange
-            If the number is negative or too large for its type in C.
+    def close(self) -> None:
+        """Frees the dispatcher; a second call does nothing.
 
         Notes
         -----
-        O(s) for s slots whose memory is freed. From then on calls for forgotten slots raise `NotPlanned`, and
-        `lags` does so for any slots, since lags count from slot 0 on.
+        O(e + t + r) for e entries, t tasks, and r quanta and decisions of the planned slots.
         """
-        self._call("pfair_forget", whole(slots, 64, "slots"))
+        with self._lock:
+            if self._handle.is_open:
+                self._call("pfair_close")
 
-    def reopen(self) -> None:
-        """Rebuilds what plans need from the entries, after an allocation failed in a plan.
+    def _settings(self) -> Settings:
+        settings = Settings()
+        self._call("pfair_settings", settings)
+        return settings
 
-        Plans then go on as if no allocation had failed; forgotten slots stay forgotten.
+    @property
+    def processors(self) -> int:
+        """The number of processors."""
+        return int(self._settings().processors)
 
-        Raises
-        ------
-        Torn
-            If a number is torn; nothing has changed.
-        OutOfMemory
-            If an allocation fails; plans raise `Spent` until it is called again.
+    @property
+    def frame(self) -> int:
+        """The frame, in slots."""
+        return int(self._settings().frame)
 
-        Notes
-        -----
-        The cost of planning all slots so far.
+    @property
+    def slots(self) -> int:
+        """The number of slots to plan."""
+        return int(self._settings().slots)
+
+    @property
+    def capacity(self) -> int:
+        """The most entries of a log."""
+        return int(self._settings().capacity)
+
+    # ---- calls: what they do is in the modules that have them
+
+    take = _take.take
+    take_log = _take.take_log
+    absorb = _take.absorb
+    is_below = _take.is_below
+
+    held = _contents.held
+    mark = _contents.mark
+    missing = _contents.missing
+    faults = _contents.faults
+
+    @property
+    def frontier(self) -> int:
+        """The frontier, the least mark of all processors: every announcement stamped below this slot is known.
+
+        It falls if an entry of a sound beginning is torn. O(M) for M processors.
         """
-        self._call("pfair_reopen")
+        return self._number("pfair_frontier")
 
-    def next_run(self, slots: int) -> None:
-        """Begins the next run, once all slots of this one are planned.
+    plan = _plans.plan
+    reserve = _plans.reserve
+    forget = _plans.forget
+    reopen = _plans.reopen
+    next_run = _plans.next_run
 
-        The dispatcher then has no entries and no planned slots, and the members that the run left. Slots, stamps and
-        floors count from the next run's own slot 0, and entries from 1; in `members`, and in `freed_at` of `decisions`,
-        slots count from the first run's slot 0. What is stamped after this run's last slot isn't taken over. Of each
-        member the jobs before that of its last quantum are counted no more: it counts as joined so many periods later,
-        and its indexes are so many costs lower. Windows and lags stay as they are, and a task that runs on stays on its
-        processor.
+    @property
+    def planned(self) -> int:
+        """The number of planned slots, which is also the next slot to plan."""
+        return self._number("pfair_next_slot")
 
-        Parameters
-        ----------
-        slots : int
-            The number of slots of the next run, 1 to 1,000,000.
+    quanta = _planned.quanta
+    decisions = _planned.decisions
+    lags = _planned.lags
+    members = _planned.members
+    table = _planned.table
+    places = _planned.places
 
-        Raises
-        ------
-        OutOfRange
-            If the number is out of its range.
-        Torn
-            If a number is torn.
-        Spent
-            If an allocation failed in a plan, until `reopen`.
-        Unfinished
-            If not all slots are planned.
-        PastLastSlot
-            If the next run would end after slot 824,633,720,832, counted over all runs.
-        CannotCarry
-            If a member has a cost over 1,000,000, or so many late releases that its offset would pass that slot.
-        OutOfMemory
-            If an allocation fails.
 
-        Notes
-        -----
-        O(M + n log n + l log l) for M processors, n members and l late releases that are still to come, and the cost of
-        `close`.
-        """
-        self._call("pfair_next_run", whole(slots, 64, "slots"))
+def _bytes_of(text: Union[bytes, bytearray, memoryview]) -> bytes:
+    """Returns the contents of a buffer."""
+    try:
+        return text if isinstance(text, bytes) else bytes(memoryview(text))
+    except TypeError:
+        told = "text has to be the contents of a task file, bytes or another buffer"
+        raise TypeError(f"{told}, and not a {type(text).__name__}") from None

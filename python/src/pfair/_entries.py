@@ -1,36 +1,33 @@
 """Entries of logs, and scripts: the settings of a run with the logs of all its processors."""
 from __future__ import annotations
 
-import operator
+import re
 from dataclasses import dataclass, field
-from typing import TYPE_CHECKING, Any, Optional, Sequence, Union
+from typing import TYPE_CHECKING, Any, Callable, Literal, Optional, Sequence, Union
 
 import numpy as np
 import numpy.typing as npt
 
-from ._errors import NameBadByte, OutOfRange
+from . import errors
 from ._library import ENTRY
+from ._numbers import whole
 
 if TYPE_CHECKING:
     from ._schedule import Schedule
 
 Rows = npt.NDArray[np.void]
-KINDS = (None, "arrive", "depart", "late")
-
-
-def whole(number: Any, bits: int, what: str) -> int:
-    """Returns the number, or refuses one that doesn't fit so many bits: ctypes would truncate it."""
-    given = operator.index(number)
-    if not 0 <= given < 1 << bits:
-        raise OutOfRange(f"{OutOfRange.__doc__}: {what} = {given}")
-    return given
+Kind = Literal["arrive", "depart", "late"]
+KINDS: tuple[Optional[Kind], ...] = (None, "arrive", "depart", "late")
+_NUMBERS = ("floor", "at", "cost", "period", "early", "index", "by")
+_LAST_SLOT, _LONGEST_PERIOD, _LAST_INDEX, _LONGEST_DELAY = 1_000_000, 1_000_000_000, 1_000_000, 1_048_576
 
 
 @dataclass(frozen=True)
 class Entry:
     """An entry of a processor's log, with the keys of a task file.
 
-    Nothing is checked until a dispatcher takes it; fields that its kind doesn't need are ignored there.
+    Nothing is checked until a dispatcher takes it; fields that its kind doesn't need are ignored there. `arrive`,
+    `depart`, `late` and `promise` make entries and check them at once.
 
     Attributes
     ----------
@@ -53,7 +50,7 @@ class Entry:
     """
 
     floor: int = 0
-    kind: Optional[str] = None
+    kind: Optional[Kind] = None
     at: int = 0
     name: str = ""
     cost: int = 0
@@ -63,72 +60,90 @@ class Entry:
     by: int = 0
 
 
-def arrive(name: str, cost: int, period: int, at: int = 0, floor: int = 0, early: bool = False) -> Entry:
+def arrive(name: str, cost: int, period: int, *, at: int = 0, floor: int = 0, early: bool = False) -> Entry:
     """Returns an entry that announces the arrival of a task.
 
     Parameters
     ----------
     name : str
-        The task.
+        The task: 1 to 16 bytes, a letter a-z, then letters a-z, digits and underscores.
     cost, period : int
-        Its weight: `cost` quanta in each `period` slots.
+        Its weight: `cost` quanta in each `period` slots, 1 <= cost <= period <= 1,000,000,000.
     at : int
-        The slot in which it joins, if it is admitted.
+        The slot in which it joins, if it is admitted: `floor` to 1,000,000.
     floor : int
-        The entry's floor, a slot.
+        The entry's floor, a slot, 0 to 1,000,000.
     early : bool
         Whether a subtask may run before its release, as soon as the one before it in the same job has run (ERfair).
 
     Returns
     -------
     Entry
-        Its ranges are those of `Entry`, and are checked when it is taken.
+
+    Raises
+    ------
+    NameEmpty, NameTooLong, NameBadByte, ZeroCost, CostOverPeriod, PeriodTooLong, SlotTooFar, StampBeforeFloor
+        If a field is out of its range; the text names it.
+    OutOfRange
+        If a number is negative or at least 2**64.
+    TypeError
+        If `name` isn't a str, or a number isn't whole.
     """
-    return Entry(floor, "arrive", at, name, cost, period, early)
+    return _made("arrive", name, at=at, floor=floor, cost=cost, period=period, early=early)
 
 
-def depart(name: str, at: int, floor: int = 0) -> Entry:
+def depart(name: str, *, at: int, floor: int = 0) -> Entry:
     """Returns an entry that announces the departure of a task.
 
     Parameters
     ----------
     name : str
-        The task.
+        The task, as in `arrive`.
     at : int
-        The slot from which on it gets no quantum.
+        The slot from which on it gets no quantum: `floor` to 1,000,000.
     floor : int
-        The entry's floor, a slot.
+        The entry's floor, a slot, 0 to 1,000,000.
 
     Returns
     -------
     Entry
-        Its ranges are those of `Entry`, and are checked when it is taken.
+
+    Raises
+    ------
+    PfairError, TypeError
+        As `arrive`.
     """
-    return Entry(floor, "depart", at, name)
+    return _made("depart", name, at=at, floor=floor)
 
 
-def late(name: str, index: int, by: int, at: int, floor: int = 0) -> Entry:
+def late(name: str, index: int, by: int, *, at: int, floor: int = 0) -> Entry:
     """Returns an entry that announces a late release (an intra-sporadic task).
 
     Parameters
     ----------
     name : str
-        The task.
+        The task, as in `arrive`.
     index : int
-        The first subtask that is late, from 1; all later ones are too.
+        The first subtask that is late, 1 to 1,000,000; all later ones are too.
     by : int
-        The delay, in slots.
+        The delay in slots, 1 to 1,048,576.
     at : int
-        The slot at whose boundary it is decided.
+        The slot at whose boundary it is decided: `floor` to 1,000,000.
     floor : int
-        The entry's floor, a slot.
+        The entry's floor, a slot, 0 to 1,000,000.
 
     Returns
     -------
     Entry
-        Its ranges are those of `Entry`, and are checked when it is taken.
+
+    Raises
+    ------
+    BadIndex, BadDelay
+        If the subtask or the delay is out of its range; the text names it.
+    PfairError, TypeError
+        As `arrive`.
     """
-    return Entry(floor, "late", at, name, index=index, by=by)
+    return _made("late", name, at=at, floor=floor, index=index, by=by)
 
 
 def promise(floor: int) -> Entry:
@@ -137,14 +152,49 @@ def promise(floor: int) -> Entry:
     Parameters
     ----------
     floor : int
-        The slot before which nothing that follows in the log is stamped.
+        The slot before which nothing that follows in the log is stamped, 0 to 1,000,000.
 
     Returns
     -------
     Entry
-        Its ranges are those of `Entry`, and are checked when it is taken.
+
+    Raises
+    ------
+    SlotTooFar, OutOfRange, TypeError
+        As `arrive`.
     """
-    return Entry(floor)
+    return _made(None, "", floor=floor)
+
+
+# what can be wrong with an entry, in the order in which the library looks: of which kinds, by which fields, and whether
+_Fault = tuple[type[errors.PfairError], tuple[Optional[Kind], ...], tuple[str, ...], Callable[[Entry], bool]]
+_NAMED = KINDS[1:]
+_FAULTS: tuple[_Fault, ...] = (
+    (errors.NameEmpty, _NAMED, ("name",), lambda entry: not entry.name),
+    (errors.NameTooLong, _NAMED, ("name",), lambda entry: len(entry.name.encode(errors="replace")) > 16),
+    (errors.NameBadByte, _NAMED, ("name",), lambda entry: not re.fullmatch("[a-z][a-z0-9_]*", entry.name)),
+    (errors.ZeroCost, ("arrive",), ("cost",), lambda entry: entry.cost == 0),
+    (errors.CostOverPeriod, ("arrive",), ("cost", "period"), lambda entry: entry.cost > entry.period),
+    (errors.PeriodTooLong, ("arrive",), ("period",), lambda entry: entry.period > _LONGEST_PERIOD),
+    (errors.SlotTooFar, KINDS, ("floor",), lambda entry: entry.floor > _LAST_SLOT),
+    (errors.SlotTooFar, _NAMED, ("at",), lambda entry: entry.at > _LAST_SLOT),
+    (errors.StampBeforeFloor, _NAMED, ("at", "floor"), lambda entry: entry.at < entry.floor),
+    (errors.BadIndex, ("late",), ("index",), lambda entry: not 1 <= entry.index <= _LAST_INDEX),
+    (errors.BadDelay, ("late",), ("by",), lambda entry: not 1 <= entry.by <= _LONGEST_DELAY),
+)
+
+
+def _made(kind: Optional[Kind], name: str, early: Any = False, **numbers: Any) -> Entry:
+    """Returns an entry that a dispatcher takes, or refuses it as that would, with the fields that are wrong."""
+    if not isinstance(name, str):
+        raise TypeError(f"name = {name!r} is no str")
+    is_early = bool(early if isinstance(early, np.bool_) else whole(early, "early", 0, 1))
+    fields = {key: whole(number, key) for key, number in numbers.items()}
+    entry = Entry(kind=kind, name=name, early=is_early, **fields)
+    for fault, kinds, keys, is_wrong in _FAULTS:
+        if kind in kinds and is_wrong(entry):
+            raise fault(f"{fault.text}: {', '.join(f'{key} = {getattr(entry, key)!r}' for key in keys)}")
+    return entry
 
 
 def rows_of(entries: Union[Sequence[Entry], Rows]) -> Rows:
@@ -174,31 +224,31 @@ def rows_of(entries: Union[Sequence[Entry], Rows]) -> Rows:
     """
     if isinstance(entries, np.ndarray):
         if entries.dtype != ENTRY or entries.ndim != 1:
-            raise TypeError(f"an array of {entries.ndim} dimensions and the dtype {entries.dtype} isn't a list of rows of the dtype ENTRY")
+            told = f"an array of {entries.ndim} dimensions and the dtype {entries.dtype}"
+            raise TypeError(f"{told} isn't a list of rows of the dtype ENTRY")
         return np.ascontiguousarray(entries)
     rows = np.zeros(len(entries), ENTRY)
     for row, entry in zip(rows, entries):
         if entry.kind not in KINDS:
-            raise OutOfRange(f"{OutOfRange.__doc__}: kind = {entry.kind!r}")
+            raise errors.OutOfRange(f"{errors.OutOfRange.text}: kind = {entry.kind!r}")
         name = entry.name.encode()
         if b"\0" in name:
-            raise NameBadByte(f"{NameBadByte.__doc__}: {entry.name!r}")
+            raise errors.NameBadByte(f"{errors.NameBadByte.text}: name = {entry.name!r}")
         row["name"], row["length"] = name[:16], len(name)
         row["kind"] = KINDS.index(entry.kind)
-        for key in ("floor", "at", "cost", "period", "early", "index", "by"):
-            row[key] = whole(getattr(entry, key), 64, key)
+        for key in _NUMBERS:
+            row[key] = whole(getattr(entry, key), key)
     return rows
 
 
 def entry_of(row: Any) -> Entry:
     """Returns the entry of a row that the library wrote."""
-    return Entry(
-        int(row["floor"]), KINDS[int(row["kind"])], int(row["at"]), bytes(row["name"]).decode(), int(row["cost"]), int(row["period"]),
-        bool(row["early"]), int(row["index"]), int(row["by"]),
-    )
+    floor, at, cost, period, early, index, by = (int(row[key]) for key in _NUMBERS)
+    name = bytes(row["name"]).decode()
+    return Entry(floor, KINDS[int(row["kind"])], at, name, cost, period, bool(early), index, by)
 
 
-@dataclass
+@dataclass(repr=False)
 class Script:
     """The settings of a run, and the log of each processor: the contents of a task file.
 
@@ -221,6 +271,10 @@ class Script:
     slots: int
     logs: list[list[Entry]] = field(default_factory=list)
 
+    def __repr__(self) -> str:
+        told = f"processors={self.processors}, frame={self.frame}, slots={self.slots}"
+        return f"<Script: {told}, {sum(map(len, self.logs))} entries>"
+
     def log(self, processor: int) -> list[Entry]:
         """Returns the log of a processor.
 
@@ -233,8 +287,13 @@ class Script:
         -------
         list of Entry
             The list itself, and not a copy; an empty one if `logs` has none for the processor.
+
+        Raises
+        ------
+        OutOfRange
+            If the processor is negative.
         """
-        return self.logs[processor] if processor < len(self.logs) else []
+        return self.logs[processor] if whole(processor, "processor") < len(self.logs) else []
 
     def closed(self, processor: int) -> list[Entry]:
         """Returns the log of a processor, closed as the reader of task files does it.
@@ -250,7 +309,7 @@ class Script:
             The log, with `promise(slots)` behind it if it is empty or its last floor is below `slots`.
         """
         log = self.log(processor)
-        return [*log] if log and log[-1].floor >= self.slots else [*log, promise(self.slots)]
+        return [*log] if log and log[-1].floor >= self.slots else [*log, Entry(self.slots)]
 
     def cycle(self) -> Schedule:
         """Plans one cycle of a static schedule: of tasks that all arrive at slot 0 and never change.
@@ -294,7 +353,8 @@ class Script:
         KeyError
             If an entry's kind is unknown.
         """
-        lines = ["version = 2", f"processors = {self.processors}", f"frame = {self.frame}", f"slots = {self.slots}", "entry = ["]
+        lines = ["version = 2", f"processors = {self.processors}", f"frame = {self.frame}", f"slots = {self.slots}"]
+        lines.append("entry = [")
         for processor, log in enumerate(self.logs):
             lines += [f"    {{ {_fields(processor, entry)} }}," for entry in log]
         return "\n".join([*lines, "]", ""])

@@ -3,7 +3,7 @@ from __future__ import annotations
 
 from typing import Callable, Iterator, NamedTuple, Optional
 
-from ._rows import Decision, Rows
+from ._rows import Decision, PictureRows
 from ._svg import bar, document, line, text
 from ._trace import Member
 
@@ -103,7 +103,7 @@ class Figure:
 
     title = ""
 
-    def __init__(self, source: Rows, start: int, stop: int, names: list[str], sizes: Sizes, processors: int) -> None:
+    def __init__(self, source: PictureRows, start: int, stop: int, names: list[str], sizes: Sizes, processors: int) -> None:
         self.start, self.stop, self.names, self.sizes, self.processors = start, stop, names, sizes, processors
         self.row_of = {name: row for row, name in enumerate(names)}
         self.left = max(LEFT, 64 + max(map(name_width, names), default=0))

@@ -2,17 +2,18 @@
 from __future__ import annotations
 
 import ctypes as c
-from typing import NamedTuple, Optional, Sequence, Union
+from typing import Literal, NamedTuple, Optional, Sequence, Union
 
 import numpy as np
 import numpy.typing as npt
 
-from ._entries import whole
-from ._errors import OutOfRange, check
+from .errors import check
 from ._library import Miss as _Miss
 from ._library import library
+from ._numbers import whole
 
-_KINDS = ("", "early", "tardy", "unserved")
+MissKind = Literal["early", "tardy", "unserved"]
+_KINDS: tuple[MissKind, ...] = ("early", "tardy", "unserved")
 Picks = Union[Sequence[int], npt.NDArray[np.int64], npt.NDArray[np.uint64]]
 
 
@@ -21,7 +22,7 @@ class Miss(NamedTuple):
 
     Attributes
     ----------
-    kind : str
+    kind : {"early", "tardy", "unserved"}
         "early": it ran before its release. "tardy": it ran at its deadline or later. "unserved": its deadline is at
         most the horizon, and it did not run.
     subtask : int
@@ -30,7 +31,7 @@ class Miss(NamedTuple):
         The slot in which it ran; None if it did not.
     """
 
-    kind: str
+    kind: MissKind
     subtask: int
     slot: Optional[int]
 
@@ -98,22 +99,24 @@ def first_late(cost: int, period: int, picks: Picks, horizon: int) -> Optional[M
 
 
 def _first(call: str, cost: int, period: int, picks: Picks, horizon: int) -> Optional[Miss]:
-    slots = np.asarray(picks)
-    if len(slots) and (slots.ndim != 1 or slots.dtype.kind not in ("u", "i")):
-        raise TypeError("picks are a list of whole numbers")
-    if len(slots) and int(slots.min()) < 0:
-        raise OutOfRange(f"{OutOfRange.__doc__}: pick = {int(slots.min())}")
+    slots = _slots_of(picks)
     rows, miss, place = np.ascontiguousarray(slots, np.uint64), _Miss(), c.c_uint64()
-    answer = getattr(library, call)(
-        whole(cost, 64, "cost"),
-        whole(period, 64, "period"),
-        whole(horizon, 64, "horizon"),
-        miss,
-        place,
-        rows.ctypes.data,
-        len(rows),
-    )
+    given = whole(cost, "cost"), whole(period, "period"), whole(horizon, "horizon", 0, 1_000_000)
+    answer = getattr(library, call)(*given, miss, place, rows.ctypes.data, len(rows))
     if answer in (40, 41):
         check(answer, f"{int(rows[place.value])} at {place.value}", place=place.value)
     check(answer, f"{cost}/{period}")
-    return Miss(_KINDS[miss.kind], miss.index, None if miss.kind == 3 else miss.slot) if miss.kind else None
+    return Miss(_KINDS[miss.kind - 1], miss.index, None if miss.kind == 3 else miss.slot) if miss.kind else None
+
+
+def _slots_of(picks: Picks) -> npt.NDArray[np.int64]:
+    """Returns the picks as an array of whole numbers, none of which is negative."""
+    try:
+        slots = np.asarray(picks)
+    except ValueError:
+        slots = np.zeros((0, 0))
+    if slots.ndim != 1 or len(slots) and slots.dtype.kind not in ("u", "i"):
+        raise TypeError(f"picks have to be a list or an array of whole numbers, and not {picks!r:.60}")
+    if len(slots):
+        whole(slots.min(), "pick")
+    return slots

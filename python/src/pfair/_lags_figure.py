@@ -4,7 +4,7 @@ from __future__ import annotations
 from typing import Callable
 
 from ._figure import LAST, Figure, Sizes, across, blank, lives_of, slot_width
-from ._rows import Rows
+from ._rows import PictureRows
 from ._svg import bar, group, line, mark, step, text
 from ._trace import Lag
 
@@ -22,7 +22,7 @@ class LagsFigure(Figure):
 
     title = "Lags"
 
-    def __init__(self, source: Rows, start: int, stop: int) -> None:
+    def __init__(self, source: PictureRows, start: int, stop: int) -> None:
         lives = lives_of([row for row in source.decided() if row.slot < stop])
         names = list(dict.fromkeys(life.name for life in lives))
         super().__init__(source, start, stop, names, lag_sizes(stop - start, len(names)), 0)
@@ -43,7 +43,7 @@ class LagsFigure(Figure):
         self.parts += [line(self.left, y, right, y, "bound") for y in (zero - lane, zero + lane)]
         self.kinds.add("bounds")
 
-    def steps(self, source: Rows, joined: set[tuple[str, int]]) -> None:
+    def steps(self, source: PictureRows, joined: set[tuple[str, int]]) -> None:
         """Draws a step for each lag in sight, from the one before it: 0 if the task has just joined."""
         last: dict[str, tuple[int, bool]] = {}
         time = x1 = x2 = -1

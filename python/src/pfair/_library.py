@@ -32,7 +32,7 @@ class Miss(c.Structure):
 
 
 class FileFault(c.Structure):
-    _fields_ = [("place", c.c_uint64), ("field", c.c_uint64), ("processor", c.c_uint64), ("number", c.c_uint64), ("cause", c.c_uint64)]
+    _fields_ = [(name, c.c_uint64) for name in ("place", "field", "processor", "number", "cause")]
 
 
 # Arrays have the layout of the library's structs. A name is 16 bytes and its length, which users don't see: zeros
@@ -46,7 +46,8 @@ def _rows(**fields: tuple[str, int]) -> np.dtype[Any]:
     for _, size in fields.values():
         offsets.append(end)
         end += size
-    return np.dtype({"names": list(fields), "formats": [kind for kind, _ in fields.values()], "offsets": offsets, "itemsize": end})
+    formats = [kind for kind, _ in fields.values()]
+    return np.dtype({"names": list(fields), "formats": formats, "offsets": offsets, "itemsize": end})
 
 
 #: The window of a subtask, from slot `release` to before slot `deadline`; `b_bit` 0 or 1; `group_deadline` a slot, or 0
@@ -69,12 +70,14 @@ LAG = _rows(time=_NUMBER, task=_NAME, numerator=("i8", 8), period=_NUMBER)
 #: it was admitted; `next` its next subtask, from 1; `theta` the offset of that one's window, in slots; `is_departing` 0
 #: or 1; `freed_at` as in DECISION.
 MEMBER = _rows(
-    task=_NAME, cost=_NUMBER, period=_NUMBER, early=_NUMBER, joined=_NUMBER, next=_NUMBER, theta=_NUMBER, is_departing=_NUMBER, freed_at=_NUMBER
+    task=_NAME, cost=_NUMBER, period=_NUMBER, early=_NUMBER, joined=_NUMBER, next=_NUMBER, theta=_NUMBER,
+    is_departing=_NUMBER, freed_at=_NUMBER,
 )
 #: An entry as the library reads it: `kind` 0 for no announcement, 1 for an arrival, 2 for a departure, 3 for a late
 #: release; `name` with zeros behind it, and `length` its length; the rest as in `Entry`.
-ENTRY = np.dtype(
-    [("floor", "u8"), ("kind", "u8"), ("at", "u8"), ("name", "S16"), ("length", "u8"), ("cost", "u8"), ("period", "u8"), ("early", "u8"), ("index", "u8"), ("by", "u8")]
+ENTRY = _rows(
+    floor=_NUMBER, kind=_NUMBER, at=_NUMBER, name=("S16", 16), length=_NUMBER, cost=_NUMBER, period=_NUMBER,
+    early=_NUMBER, index=_NUMBER, by=_NUMBER,
 )
 KEY = _rows(processor=_NUMBER, number=_NUMBER)
 

@@ -9,7 +9,7 @@ import subprocess
 import tempfile
 from typing import Any, Iterator, Union
 
-from ._rows import Decision, Rows
+from ._rows import Decision, PictureRows
 from ._trace import Decided, Lag, Quantum, quanta_of, words_of
 
 
@@ -21,7 +21,7 @@ class Refused(Exception):
         self.status = status
 
 
-class Program(Rows):
+class Program(PictureRows):
     """A task file, its decisions, and the rows of its slots, read as the program prints them."""
 
     def __init__(self, path: Union[str, "os.PathLike[str]"], program: Union[str, "os.PathLike[str]"]) -> None:

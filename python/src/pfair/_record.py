@@ -11,7 +11,7 @@ import numpy as np
 import numpy.typing as npt
 
 from ._entries import Rows
-from ._schedule import numbered
+from ._names import numbered
 
 Numbers = npt.NDArray[np.int64]
 Words = npt.NDArray[np.uint64]

@@ -16,7 +16,7 @@ class Decision(NamedTuple):
     entry: Mapping[str, Any]
 
 
-class Rows(Source):
+class PictureRows(Source):
     """A source of pictures: rows in the order of slots."""
 
     frame: int

@@ -112,14 +112,23 @@ class JsonTrace:
         out.write('{"displayTimeUnit":"ms","traceEvents":[\n')
         self.tracks(names)
         for row in source.decisions():
-            self.event(ph="i", s="t", name=row.text, pid=TASKS, tid=track.get(row.task, 0), ts=self.at(row.slot), args={"processor": row.processor, "number": row.number})
-        for slot, place, task, index, release, deadline in source.quanta():
-            said = {"subtask": index, "window": f"{release} to {deadline - 1}", "deadline": deadline, "slack": deadline - slot - 1, "processor": place}
-            for process, thread in ((PROCESSORS, place + 1), (TASKS, track[task])):
-                self.event(ph="X", name=f"{task}{index}" if task[-1].isalpha() else f"{task} {index}", pid=process, tid=thread, ts=self.at(slot), dur=self.at(1), args=said)
+            where, key = track.get(row.task, 0), {"processor": row.processor, "number": row.number}
+            self.event(ph="i", s="t", name=row.text, pid=TASKS, tid=where, ts=self.at(row.slot), args=key)
+        for quantum in source.quanta():
+            self.quantum(quantum, track[quantum.task])
         for lag in source.lags():
-            self.event(ph="C", name=f"lag of {lag.task}", pid=LAGS, tid=0, ts=self.at(lag.time), args={"lag": lag.numerator / lag.period})
+            value = {"lag": lag.numerator / lag.period}
+            self.event(ph="C", name=f"lag of {lag.task}", pid=LAGS, tid=0, ts=self.at(lag.time), args=value)
         out.write("\n]}\n")
+
+    def quantum(self, quantum: Quantum, track: int) -> None:
+        """Writes a quantum on the track of its processor, and on that of its task."""
+        slot, place, task, index, release, deadline = quantum
+        name = f"{task}{index}" if task[-1].isalpha() else f"{task} {index}"
+        said = {"subtask": index, "window": f"{release} to {deadline - 1}", "deadline": deadline}
+        said |= {"slack": deadline - slot - 1, "processor": place}
+        for process, thread in ((PROCESSORS, place + 1), (TASKS, track)):
+            self.event(ph="X", name=name, pid=process, tid=thread, ts=self.at(slot), dur=self.at(1), args=said)
 
 
 class VcdTrace:
@@ -161,8 +170,10 @@ class VcdTrace:
     def change(self, slot: int, now: dict[int, str]) -> None:
         """Writes the signals that differ from before."""
         running, named = ({text.rpartition("_")[0] for text in on.values()} for on in (self.on, now))
-        changes = [f"s{now.get(place, '-')} {code}\n" for place, code in self.places.items() if now.get(place) != self.on.get(place)]
-        changes += [f"1{self.tasks[name]}\n" for name in sorted(named - running)] + [f"0{self.tasks[name]}\n" for name in sorted(running - named)]
+        moved = ((place, code) for place, code in self.places.items() if now.get(place) != self.on.get(place))
+        changes = [f"s{now.get(place, '-')} {code}\n" for place, code in moved]
+        changes += [f"1{self.tasks[name]}\n" for name in sorted(named - running)]
+        changes += [f"0{self.tasks[name]}\n" for name in sorted(running - named)]
         if changes:
             self.out.write(f"#{self.at(slot)}\n")
             self.out.writelines(changes)
@@ -179,7 +190,9 @@ def code_of(number: int) -> str:
             return code
 
 
-def quanta_of(rows: Iterable[tuple[int, int, str, int]], decisions: Iterable[tuple[int, str, str, Any]]) -> Iterator[Quantum]:
+def quanta_of(
+    rows: Iterable[tuple[int, int, str, int]], decisions: Iterable[tuple[int, str, str, Any]]
+) -> Iterator[Quantum]:
     """Yields quanta with windows, from (slot, place, task, index) and (slot, task, outcome, entry), both by slot."""
     members: dict[str, Member] = {}
     waiting = iter(decisions)
@@ -198,10 +211,15 @@ def quanta_of(rows: Iterable[tuple[int, int, str, int]], decisions: Iterable[tup
 FORMATS: dict[str, Union[type[JsonTrace], type[VcdTrace]]] = {"json": JsonTrace, "vcd": VcdTrace}
 
 
-def write_trace(source: Source, format: str, slot: float, out: TextIO) -> None:
-    """Writes a trace, "json" or "vcd", in which a slot takes `slot` milliseconds."""
+def check(format: str, slot: float) -> None:
+    """Refuses a format that no trace has, or a length of a slot out of its range."""
     if format not in FORMATS:
         raise ValueError(f"a trace is {' or '.join(FORMATS)}, and not {format}")
     if not 0.001 <= slot <= 1_000_000:
         raise ValueError("a slot is 0.001 to 1000000 milliseconds")
+
+
+def write_trace(source: Source, format: str, slot: float, out: TextIO) -> None:
+    """Writes a trace, "json" or "vcd", in which a slot takes `slot` milliseconds."""
+    check(format, slot)
     FORMATS[format](source, slot, out).write()

@@ -3,9 +3,12 @@ from __future__ import annotations
 
 import numpy as np
 
-from ._entries import Rows, whole
-from ._errors import check
+from ._entries import Rows
+from .errors import check
 from ._library import WINDOW, library
+from ._numbers import whole
+
+_LAST_INDEX, _MOST_THETA = 1_000_001, 2**40
 
 
 def windows(cost: int, period: int, count: int, first: int = 1, theta: int = 0) -> Rows:
@@ -16,9 +19,9 @@ def windows(cost: int, period: int, count: int, first: int = 1, theta: int = 0) 
     cost, period : int
         The weight: `cost` quanta in each `period` slots, with 1 <= cost <= period <= 1,000,000,000.
     count : int
-        The number of windows, from 0.
+        The number of windows, from 0; the last subtask is at most 1,000,001.
     first : int
-        The first subtask, from 1; the last one is at most 1,000,001.
+        The first subtask, 1 to 1,000,001.
     theta : int
         The offset in slots, 0 to 2**40: the slot in which the task joined, plus the delays of its late releases.
 
@@ -40,9 +43,8 @@ def windows(cost: int, period: int, count: int, first: int = 1, theta: int = 0) 
     O(count). Releases and deadlines are those of Baruah, Cohen, Plaxton and Varvel; the b-bit and the group deadline
     are those of Anderson and Srinivasan.
     """
-    rows = np.zeros(whole(count, 32, "count"), WINDOW)
-    weight = whole(cost, 64, "cost"), whole(period, 64, "period")
-    shift = whole(first, 64, "first"), len(rows), whole(theta, 64, "theta")
-    answer = library.pfair_windows(*weight, *shift, rows.ctypes.data, len(rows))
-    check(answer, f"{cost}/{period}")
+    begin = whole(first, "first", 1, _LAST_INDEX)
+    rows = np.zeros(whole(count, "count", 0, _LAST_INDEX + 1 - begin), WINDOW)
+    given = whole(cost, "cost"), whole(period, "period"), begin, len(rows), whole(theta, "theta", 0, _MOST_THETA)
+    check(library.pfair_windows(*given, rows.ctypes.data, len(rows)), f"{cost}/{period}")
     return rows

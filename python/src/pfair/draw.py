@@ -17,7 +17,7 @@ from typing import NoReturn, Optional
 
 from . import picture
 from ._program import Program, Refused
-from ._rows import Rows
+from ._rows import PictureRows
 from ._version import VERSION
 
 NAME = "pfair_picture"
@@ -107,22 +107,23 @@ def words_of(argv: Optional[list[str]]) -> argparse.Namespace:
     return words
 
 
-def source_of(file: str, program: Optional[str]) -> Rows:
+def source_of(file: str, program: Optional[str]) -> PictureRows:
     """Returns the rows of a task file, from the program or from the library."""
     if program is not None:
         return Program(file, program)
-    from ._errors import PfairError, Stalled, TaskFileError
-    from ._schedule import Schedule, _Source
+    from .errors import PfairError, Stalled, TaskFileError
+    from ._schedule import Schedule
+    from ._source import ScheduleSource
     from ._task_file import read_task_file
 
     try:
-        return _Source(Schedule(read_task_file(file)))
+        return ScheduleSource(Schedule(read_task_file(file)))
     except PfairError as fault:
         status = 2 if isinstance(fault, TaskFileError) else 3 if isinstance(fault, Stalled) else 4
         raise Fault(f"{fault.number} {fault}", status) from None
 
 
-def drawn(words: argparse.Namespace, source: Rows) -> bytes:
+def drawn(words: argparse.Namespace, source: PictureRows) -> bytes:
     """Returns the bytes of the picture."""
     start, stop = words.slots or (0, source.slots)
     if refused := picture.refusal(start, stop, source.slots):

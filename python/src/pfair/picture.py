@@ -11,7 +11,7 @@ from typing import Iterator, Optional
 
 from ._figure import LAST, MOST_SLOTS, Figure, Life, Sizes, across, blank, lives_of, name_width, slot_width
 from ._lags_figure import LagsFigure
-from ._rows import Decision, Rows
+from ._rows import Decision, PictureRows
 from ._svg import COLOURS, arrow, bar, group, layer, line, mark, style_on, swatch, text
 from ._trace import Quantum
 
@@ -63,7 +63,7 @@ class ScheduleFigure(Figure):
 
     title = "Schedule"
 
-    def __init__(self, source: Rows, start: int, stop: int) -> None:
+    def __init__(self, source: PictureRows, start: int, stop: int) -> None:
         decided = [row for row in source.decided() if row.slot < stop]
         names = list(dict.fromkeys(row.task for row in decided))
         super().__init__(source, start, stop, names, schedule_sizes(stop - start, len(names)), source.processors)
@@ -79,7 +79,7 @@ class ScheduleFigure(Figure):
         self.refusals(decided)
         self.keys({quantum.place for quantum in quanta})
 
-    def ran(self, source: Rows) -> list[Quantum]:
+    def ran(self, source: PictureRows) -> list[Quantum]:
         """Returns the quanta in sight, and sets the last subtask that ran of each task."""
         waiting: dict[str, list[Life]] = {}
         for life in reversed(self.lives):
@@ -269,12 +269,12 @@ def refusal(start: int, stop: int, slots: int) -> str:
     return ""
 
 
-def svg(source: Rows, picture: str = "schedule", start: int = 0, stop: Optional[int] = None) -> str:
+def svg(source: PictureRows, picture: str = "schedule", start: int = 0, stop: Optional[int] = None) -> str:
     """Returns a picture of slots `start` to `stop - 1` in SVG.
 
     Parameters
     ----------
-    source : Rows
+    source : PictureRows
         The rows of a run.
     picture : str
         "schedule" or "lags".
