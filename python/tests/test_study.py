@@ -6,7 +6,7 @@ from fractions import Fraction
 
 import numpy as np
 import pytest
-from conftest import refusal
+from conftest import outside, refusal
 from hypothesis import given, settings
 from hypothesis import strategies as some
 
@@ -36,9 +36,8 @@ def test_uunifast_by_hand():
     assert np.allclose(study.uunifast_discard(3, 0.9, Draws(0.25, 0.5)), [0.45, 0.225, 0.225])
     # a weight over 1 is drawn anew, one of 1 isn't
     assert np.allclose(study.uunifast_discard(2, 1.5, Draws(0.25, 0.5)), [0.75, 0.75])
-    assert study.uunifast_discard(2, 1.25, Draws(0.2, 0.5)).tolist() == [1.0, 0.25] and study.uunifast_discard(
-        1, 0.7, Draws()
-    ).tolist() == [0.7]
+    assert study.uunifast_discard(2, 1.25, Draws(0.2, 0.5)).tolist() == [1.0, 0.25]
+    assert study.uunifast_discard(1, 0.7, Draws()).tolist() == [0.7]
 
 
 def test_uunifast_is_given_up(monkeypatch):
@@ -52,14 +51,8 @@ def test_uunifast_is_given_up(monkeypatch):
 def test_loads_out_of_range():
     for draw in (study.uunifast_discard, study.rand_fixed_sum):
         for load in (0, -1, 5.5):
-            refusal(
-                ValueError,
-                f"a load of {load} isn't in 0 .. 5, the number of tasks",
-                draw,
-                5,
-                load,
-                np.random.default_rng(3),
-            )
+            said = f"a load of {load} isn't in 0 .. 5, the number of tasks"
+            refusal(ValueError, said, draw, 5, load, np.random.default_rng(3))
         assert draw(1, 1, np.random.default_rng(3)).tolist() == [1]
     assert np.allclose(study.rand_fixed_sum(5, 5, np.random.default_rng(3)), 1)
 
@@ -96,7 +89,7 @@ def test_costs(drawn_):
     weights, periods = [number / 1000 for number, _ in drawn_], [period for _, period in drawn_]
     total = sum(Fraction(number, 1000) for number, _ in drawn_)
     if total < sum(Fraction(1, period) for period in periods):
-        text = f"{len(periods)} tasks of cost 1 are already over this load: longer periods are wanted"
+        text = f"{len(periods)} tasks of cost 1 are already over this load: longer periods are needed"
         refusal(ValueError, text, study._costs, weights, periods)
         return
     costs = study._costs(weights, periods)
@@ -117,16 +110,15 @@ def test_costs_by_hand():
     # ten floats of 0.1 add to a little less than 1; what is less by more than a billionth is less
     assert sum([0.1] * 10) < 1 and study._costs([0.1] * 10, [10] * 10) == [1] * 10
     assert study._costs([0.1] * 9 + [0.1 - 0.9e-9], [10] * 10) == [1] * 10
-    text = "10 tasks of cost 1 are already over this load: longer periods are wanted"
+    text = "10 tasks of cost 1 are already over this load: longer periods are needed"
     refusal(ValueError, text, study._costs, [0.1] * 9 + [0.1 - 1.5e-9], [10] * 10)
 
 
 def test_sets():
     """The tasks are dealt to the logs in turn, all at slot 0; the frame is the least common multiple of the periods."""
     script = study.task_set([0.5, 0.25, 0.75], 2, 77, Draws(periods=[4, 6, 8]), (4, 6, 8))
-    assert script == pfair.Script(
-        2, 24, 77, [[pfair.arrive("t0", 2, 4), pfair.arrive("t2", 6, 8)], [pfair.arrive("t1", 1, 6)]]
-    )
+    logs = [[pfair.arrive("t0", 2, 4), pfair.arrive("t2", 6, 8)], [pfair.arrive("t1", 1, 6)]]
+    assert script == pfair.Script(2, 24, 77, logs)
     early = study.task_set([0.5, 0.25], 1, 9, Draws(periods=[4, 6]), early=True)
     assert early.logs == [[pfair.arrive("t0", 2, 4, early=True), pfair.arrive("t1", 1, 6, early=True)]]
     rng, asked = np.random.default_rng(1), []
@@ -137,25 +129,62 @@ def test_sets():
     assert set(asked) == set(study.PERIODS) and study.PERIODS == (8, 10, 12, 15, 16, 20, 24, 30, 40, 48, 60)
 
 
+def test_sets_that_make_no_sense():
+    rng, words = np.random.default_rng(1), {"processors": 2, "slots": 9}
+
+    def made(weights=(0.5,), **more):
+        return study.task_set(weights, rng=rng, **{**words, **more})
+
+    for weight in (0, -0.5, 1.5, float("nan"), Fraction(3, 2)):
+        said = f"weights[1] = {weight} isn't above 0 and at most 1, a share of a processor"
+        refusal(ValueError, said, made, [0.5, weight])
+    for weight in ("1", None, 1j):
+        refusal(TypeError, f"weights[0] = {weight!r} is no number", made, [weight])
+    for wrong in (0, 65):
+        outside("processors", wrong, lambda: made(processors=wrong), least=1, most=64)
+    for wrong in (0, 1_000_001):
+        outside("slots", wrong, lambda: made(slots=wrong), least=1, most=1_000_000)
+        outside("periods[1]", -wrong, lambda: made(periods=[8, -wrong]), least=1, most=10**9)
+    refusal(ValueError, "periods: there are none to draw from", lambda: made(periods=[]))
+    refusal(TypeError, "periods[0] = 8.0 is no whole number", lambda: made(periods=[8.0]))
+    assert made([1, np.float32(0.5), Fraction(1, 2)]).processors == 2 and made([]).logs == [[], []]
+
+
+def test_periods_may_be_repeated():
+    """What is drawn from is as it was given: a period that is there twice comes twice as often."""
+
+    class Keeps(Draws):
+        def choice(self, periods, size):
+            self.asked = list(periods)
+            return super().choice(periods, size)
+
+    rng = Keeps(periods=[60])
+    study.task_set([0.5], 1, 9, rng, [8, 8, 60, 8])
+    assert rng.asked == [8, 8, 60, 8]
+
+
+def test_public_names():
+    """What the module defines, and not what it needs."""
+    own = {name for name, value in vars(study).items() if getattr(value, "__module__", "") == study.__name__}
+    own = {name for name in own if callable(getattr(study, name)) and name != "Summary"}
+    assert {name for name in own if name[0] != "_"} | {"PERIODS"} == set(study.__all__)
+
+
 def test_early_sets_are_planned():
     """Early tasks run ahead of their fluid share: some lag is -1 or less, which none is without."""
     for early in (False, True):
         rng = np.random.default_rng(7)
         script = study.task_set(study.rand_fixed_sum(5, 1.2, rng), 2, 200, rng, early=early)
         lags = pfair.schedule(script).lags()
-        assert (
-            bool((lags["numerator"] <= -lags["period"].astype(np.int64)).any()) == early
-            and pfair.schedule(script).counts().behind == 0
-        )
+        assert bool((lags["numerator"] <= -lags["period"].astype(np.int64)).any()) == early
+        assert pfair.schedule(script).counts().behind == 0
 
 
 def test_weights_of_sets():
     log = [pfair.arrive("a", 1, 2), pfair.depart("a", at=3), pfair.arrive("b", 2, 6, at=4, floor=4)]
-    assert study.weights_of(pfair.Script(2, 6, 9, [log, [pfair.arrive("c", 3, 4)]])) == [
-        Fraction(1, 2),
-        Fraction(1, 3),
-        Fraction(3, 4),
-    ]
+    # a log past the processors counts for nothing
+    script = pfair.Script(2, 6, 9, [log, [pfair.arrive("c", 3, 4)], [pfair.arrive("d", 1, 1)]])
+    assert study.weights_of(script) == [Fraction(1, 2), Fraction(1, 3), Fraction(3, 4)]
     for seed in range(40):
         rng = np.random.default_rng(seed)
         script = study.task_set(study.rand_fixed_sum(9, 2.55, rng), 3, 100, rng)
@@ -175,6 +204,12 @@ def test_fits_by_hand():
     tenths = [Fraction(tenth, 10) for tenth in (3, 3, 7, 7)]
     assert study.fits_partitioned_edf(tenths, 2) and not study.fits_partitioned_edf([*tenths, Fraction(1, 100)], 2)
     assert not study.fits_partitioned_edf([Fraction(tenth, 10) for tenth in (6, 5, 4, 3, 2, 1)][:5], 1)
+    # the first one that has room, where the fullest one would do
+    best = [Fraction(*weight) for weight in ((23, 30), (2, 3), (2, 5), (2, 5), (3, 10), (1, 5), (2, 15), (1, 10))]
+    assert not study.fits_partitioned_edf(best, 3)
+    # at the bound itself, where sums of floats are above it
+    assert study.fits_partitioned_edf([Fraction(1, 5), Fraction(23, 30), Fraction(1, 30)], 1)
+    assert study.fits_global_edf([Fraction(3, 10), Fraction(13, 15), Fraction(1, 10)], 3)
     # at most 2 - 1/2, and 3 - 2 * 1/2
     assert study.fits_global_edf([half] * 3, 2) and not study.fits_global_edf([half, half, half, Fraction(1, 60)], 2)
     assert study.fits_global_edf([half] * 4, 3) and not study.fits_global_edf([half] * 5, 3)
@@ -191,10 +226,8 @@ class Recording(concurrent.futures.Executor):
 
 def test_runs_as_they_are_asked():
     executor = Recording()
-    assert study.run([3, 1, 2], lambda number: 10 * number, executor) == [30, 10, 20] and executor.asked[1:] == (
-        ([3, 1, 2],),
-        16,
-    )
+    assert study.run([3, 1, 2], lambda number: 10 * number, executor) == [30, 10, 20]
+    assert executor.asked[1:] == (([3, 1, 2],), 16)
     assert study.run([], executor=executor, chunk=5) == [] and executor.asked == (study.summary_of, ([],), 5)
 
 

@@ -4,13 +4,20 @@ from __future__ import annotations
 from concurrent.futures import Executor, ProcessPoolExecutor
 from fractions import Fraction
 from math import floor, lcm
+from numbers import Real
 from typing import Callable, Iterable, NamedTuple, Optional, Sequence, TypeVar
 
 import numpy as np
 import numpy.typing as npt
 
 from ._entries import Entry, Script, arrive
+from ._numbers import whole
 from ._schedule import Counts, Schedule
+
+__all__ = [
+    "PERIODS", "fits_global_edf", "fits_partitioned_edf", "rand_fixed_sum", "run", "summary_of", "task_set",
+    "uunifast_discard", "weights_of",
+]
 
 Weights = npt.NDArray[np.float64]
 Summary = TypeVar("Summary")
@@ -128,7 +135,14 @@ def _volumes(tasks: int, load: float) -> Callable[[int, float], float]:
     return volume
 
 
-def task_set(weights: Sequence[float], processors: int, slots: int, rng: np.random.Generator, periods: Sequence[int] = PERIODS, early: bool = False) -> Script:
+def task_set(
+    weights: Sequence[float],
+    processors: int,
+    slots: int,
+    rng: np.random.Generator,
+    periods: Sequence[int] = PERIODS,
+    early: bool = False,
+) -> Script:
     """Makes a script of tasks near the given weights, which all arrive at slot 0.
 
     Parameters
@@ -136,13 +150,13 @@ def task_set(weights: Sequence[float], processors: int, slots: int, rng: np.rand
     weights : sequence of float
         The weights to come near, each above 0 and at most 1.
     processors : int
-        The number of processors; the tasks t0, t1, .. are dealt to their logs in turn.
+        The number of processors, 1 to 64; the tasks t0, t1, .. are dealt to their logs in turn.
     slots : int
-        The number of slots of the run.
+        The number of slots of the run, 1 to 1,000,000.
     rng : numpy.random.Generator
         Where the periods are drawn.
     periods : sequence of int
-        The periods to draw from, in slots.
+        The periods to draw from, in slots, each 1 to 1,000,000,000.
     early : bool
         Whether the subtasks of the tasks may run before their releases, within a job.
 
@@ -154,19 +168,38 @@ def task_set(weights: Sequence[float], processors: int, slots: int, rng: np.rand
     Raises
     ------
     ValueError
-        If costs of 1 already exceed the sum of the weights: only longer periods can help.
+        If a weight isn't above 0 and at most 1; if there are no periods; or if costs of 1 already exceed the sum of the
+        weights: only longer periods can help.
+    OutOfRange
+        If another number is out of its range.
+    TypeError
+        If a weight is no number, or another number isn't whole.
 
     Notes
     -----
     O(n log n) for n tasks. Costs are whole quanta, at least 1. The sum of the tasks' weights exceeds that of `weights`
-    by at most a billionth, and is less than 1/p below it, p being the least of `periods`. The script isn't checked:
-    `Schedule` refuses a frame of more than 1,000,000,000 slots.
+    by at most a billionth, and is less than 1/p below it, p being the least of `periods`. The frame isn't checked:
+    `Schedule` refuses one of more than 1,000,000,000 slots.
     """
-    drawn = [int(period) for period in rng.choice(periods, len(weights))]
-    logs: list[list[Entry]] = [[] for _ in range(processors)]
+    for place, weight in enumerate(weights):
+        _check_weight(weight, f"weights[{place}]")
+    if not len(periods):
+        raise ValueError("periods: there are none to draw from")
+    lengths = [whole(period, f"periods[{place}]", 1, 1_000_000_000) for place, period in enumerate(periods)]
+    drawn = [int(period) for period in rng.choice(lengths, len(weights))]
+    whole(slots, "slots", 1, 1_000_000)
+    logs: list[list[Entry]] = [[] for _ in range(whole(processors, "processors", 1, 64))]
     for place, (cost, period) in enumerate(zip(_costs(weights, drawn), drawn)):
         logs[place % processors].append(arrive(f"t{place}", cost, period, early=early))
     return Script(processors, lcm(*drawn), slots, logs)
+
+
+def _check_weight(weight: float, name: str) -> None:
+    """Refuses what is no share of a processor."""
+    if not isinstance(weight, Real):
+        raise TypeError(f"{name} = {weight!r} is no number")
+    if not 0 < weight <= 1:
+        raise ValueError(f"{name} = {weight} isn't above 0 and at most 1, a share of a processor")
 
 
 def _costs(weights: Sequence[float], periods: Sequence[int]) -> list[int]:
@@ -183,7 +216,7 @@ def _costs(weights: Sequence[float], periods: Sequence[int]) -> list[int]:
         costs[place] -= lowered
         left += Fraction(lowered, periods[place])
     if left < 0:
-        raise ValueError(f"{len(costs)} tasks of cost 1 are already over this load: longer periods are wanted")
+        raise ValueError(f"{len(costs)} tasks of cost 1 are already over this load: longer periods are needed")
     return costs
 
 
@@ -197,9 +230,10 @@ def weights_of(script: Script) -> list[Fraction]:
     Returns
     -------
     list of Fraction
-        In the order of processors and entries.
+        In the order of processors and entries, without logs past the script's processors.
     """
-    return [Fraction(entry.cost, entry.period) for log in script.logs for entry in log if entry.kind == "arrive"]
+    entries = (entry for log in script.logs[: script.processors] for entry in log)
+    return [Fraction(entry.cost, entry.period) for entry in entries if entry.kind == "arrive"]
 
 
 def fits_partitioned_edf(weights: Iterable[Fraction], processors: int) -> bool:
@@ -279,7 +313,12 @@ def summary_of(script: Script) -> Counts:
     return Schedule(script).counts()
 
 
-def run(scripts: Iterable[Script], summary: Callable[[Script], Summary] = summary_of, executor: Optional[Executor] = None, chunk: int = 16) -> list[Summary]:  # type: ignore[assignment]
+def run(
+    scripts: Iterable[Script],
+    summary: Callable[[Script], Summary] = summary_of,  # type: ignore[assignment]
+    executor: Optional[Executor] = None,
+    chunk: int = 16,
+) -> list[Summary]:
     """Returns the summary of each script, in the order of the scripts, made by an executor.
 
     Neither the executor nor the order in which it works changes the result.
