@@ -48,21 +48,40 @@ def test_arrays_and_rows(rows):
     array = np.array(rows, [("slot", "u8"), ("task", "S16"), ("index", "i8"), ("place", "u8")])
     assert columns(read_record(array)) == columns(read_record(rows)) == columns(read_record(iter(rows))) == rows
     assert columns(read_record(array[["task", "slot"]])) == [row[:2] for row in rows]
-    assert (
-        columns(read_record(array.astype([("slot", "u8"), ("task", "U16"), ("index", "u8"), ("place", "i8")]))) == rows
-    )
-    assert columns(read_record(array.astype([(name, "O" if name == "task" else "u8") for name in FIELDS]))) == rows
-    assert columns(read_record([(str(a), b.encode(), np.uint64(c)) for a, b, c, _ in rows])) == [
-        row[:3] for row in rows
-    ]
+    for kind in ("U16", "O"):
+        assert columns(read_record(array.astype([(name, kind if name == "task" else "u8") for name in FIELDS]))) == rows
+    some_rows = [(str(a), b.encode(), np.uint64(c)) for a, b, c, _ in rows]
+    assert columns(read_record(some_rows)) == [row[:3] for row in rows]
+
+
+@settings(max_examples=60)
+@given(ROWS, some.sampled_from(("category", object, "string")))
+def test_frames(rows, kind):
+    pandas = pytest.importorskip("pandas")
+    rows = [(a, b, c, d % 64) for a, b, c, d in rows]
+    frame = pandas.DataFrame(rows, columns=FIELDS).astype({"slot": "u8", "index": "i8", "task": kind, "place": "u1"})
+    assert columns(read_record(frame)) == rows
+    assert columns(read_record(frame[["task", "slot"]])) == [row[:2] for row in rows]
+    assert columns(read_record(frame[::-1])) == rows[::-1]
+
+
+def test_refused_frames():
+    pandas = pytest.importorskip("pandas")
+    good = pandas.DataFrame({"slot": [1, 2], "task": ["a", "b"]})
+    assert columns(read_record(good)) == [(1, "a"), (2, "b")]
+    refusal(ValueError, "a frame without the column 'task'", read_record, good[["slot"]])
+    refusal(ValueError, "a frame without the column 'slot'", read_record, good[["task"]])
+    refusal(ValueError, "row 2: it has no task", read_record, good.assign(task=["a", None]))
+    refusal(ValueError, "'B' is no task's name", read_record, good.assign(task=["a", "B"]))
+    text = "the field 'slot' has other values than whole numbers from 0 on"
+    for slots in ([1.0, 2.0], [1, None], [-1, 2]):
+        refusal(ValueError, text, read_record, good.assign(slot=slots))
 
 
 def test_quick():
     """Plain lines are read at once, and others one by one; both give the same."""
-    header, text = (
-        _record._Header(b"slot,task\n"),
-        b"".join(b"%d,%s\n" % (10**k - 1, b"a" * k) for k in range(1, 9)) * 2,
-    )
+    header = _record._Header(b"slot,task\n")
+    text = b"".join(b"%d,%s\n" % (10**k - 1, b"a" * k) for k in range(1, 9)) * 2
     for read in (_record._quick, lambda piece, _, *more: _record._slow(piece, 2, *more)):
         names = _record.Names()
         columns_read = read(text, 16, header, names)
@@ -74,16 +93,8 @@ def test_quick():
     codes = _record._quick(long, 15, header, names)["task"]
     assert b"".join(b"1,%s\n" % names.all()[code].encode() for code in codes) == long and len(names.all()) == 10
     for other in (
-        b"1\na,3,b\n",
-        b"1,a\n2\n",
-        b"1,a,2\n2\n",
-        b",a\n",
-        b"123456789,a\n",
-        b"1,\n",
-        b"1, a\n",
-        b"1,aaaaaaaaaaaaaaaaa\n",
-        b"1,a\0\n",
-        b"1,A\n",
+        b"1\na,3,b\n", b"1,a\n2\n", b"1,a,2\n2\n", b",a\n", b"123456789,a\n", b"1,\n", b"1, a\n",
+        b"1,aaaaaaaaaaaaaaaaa\n", b"1,a\0\n", b"1,A\n",
     ):
         assert _record._quick(other, other.count(b"\n"), header, _record.Names()) is None
     for byte in {*range(256)} - {*b"0123456789,\n"}:
@@ -93,8 +104,12 @@ def test_quick():
 def test_forms_of_texts(tmp_path):
     file = tmp_path / "rows.csv"
     file.write_text("task,slot\nb,7\n\na,0\n,,\n"[:-3] + "\n")
-    for given_as in (file, str(file), file.read_bytes(), file.read_text(), io.BytesIO(file.read_bytes())):
+    texts = io.StringIO(file.read_text()), io.BytesIO(file.read_bytes())
+    for given_as in (file, str(file), file.read_bytes(), file.read_text(), *texts):
         assert columns(read_record(given_as)) == [(7, "b"), (0, "a")]
+    with open(file) as opened:
+        assert columns(read_record(opened)) == [(7, "b"), (0, "a")]
+    assert columns(read_record("slot,task,a;b\n1,a,0\n")) == [(1, "a")]
     assert columns(read_record("\ufeffSlot ; TASK\n 3 ; a \n;\n")) == [(3, "a")]
     for empty in ("slot,task\n", b"slot,task", [], np.zeros(0, [("slot", "u8"), ("task", "S16")])):
         read = read_record(empty)
@@ -161,6 +176,4 @@ def test_refused_arrays():
     rows = np.array([(1, "a", -1)], [("slot", "u8"), ("task", "S16"), ("index", "i8")])
     refusal(ValueError, "the field 'index' has other values than whole numbers from 0 on", read_record, rows)
     refusal(ValueError, "'B' is no task's name", read_record, np.array([(1, "B")], [("slot", "u8"), ("task", "S16")]))
-    assert columns(read_record(np.array([(2**63 - 1, "a")], [("slot", "u8"), ("task", "S16")]))) == [
-        (2**63 - 1, "a")
-    ]
+    assert columns(read_record(np.array([(2**63 - 1, "a")], [("slot", "u8"), ("task", "S16")]))) == [(2**63 - 1, "a")]

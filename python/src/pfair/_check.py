@@ -3,19 +3,22 @@ from __future__ import annotations
 
 import os
 from itertools import accumulate
-from typing import Any, Iterator, NamedTuple, Optional, Union
+from typing import Any, Iterator, Literal, NamedTuple, Optional, Union
 
 import numpy as np
 import numpy.typing as npt
 
 from ._entries import Rows, Script
-from ._first_miss import first_miss
+from ._first_miss import MissKind, first_miss
 from ._record import Given, Numbers, Record, read_record
 from ._names import numbered
 from ._schedule import opened, plan_to
 from ._task_file import read_task_file
 from ._windows import windows
 
+Wrong = Literal[
+    "crowded", "place", "twice", "absent", "index", "early", "tardy", "unserved", "order",
+]
 # slots that are planned at once
 _SLOTS_AT_ONCE = 1 << 16
 
@@ -41,7 +44,7 @@ class Violation(NamedTuple):
     """
 
     slot: int
-    kind: str
+    kind: Wrong
     task: str
     subtask: int
     text: str
@@ -54,11 +57,11 @@ def check(tasks: Union[Script, str, "os.PathLike[str]", bytes], rows: Given, ord
     ----------
     tasks : Script, str, os.PathLike or bytes
         A script, or a task file by its path or its contents as bytes.
-    rows : ndarray, sequence of tuple, str, bytes, os.PathLike or binary file
-        The quanta, in any order: an array with the fields `slot` and `task`, and maybe `index` and `place`; tuples of
-        these columns in this order; or a text of comma-separated values with a header that has at least `slot` and
-        `task`, by its path, its contents, or opened for reading. A `str` of more than one line is such a text, and any
-        other a path.
+    rows : ndarray, pandas.DataFrame, sequence of tuple, str, bytes, os.PathLike or file
+        The quanta, in any order: an array or a frame with the fields `slot` and `task`, and maybe `index` and `place`;
+        tuples of these columns in this order; or a text of comma-separated values with a header that has at least
+        `slot` and `task`, by its path, its contents, or opened for reading. A `str` of more than one line is such a
+        text, and any other a path.
     order : bool
         Whether to compare with the executive's own plan too, up to the first slot that differs.
 
@@ -146,7 +149,7 @@ class _Stay(NamedTuple):
         starts_job: npt.NDArray[np.bool_] = (indexes - 1) % self.cost == 0
         return starts_job | np.isin(indexes, [*self.delays])
 
-    def first_miss(self, slots: Numbers) -> Optional[tuple[str, int]]:
+    def first_miss(self, slots: Numbers) -> Optional[tuple[MissKind, int]]:
         """Returns how the first subtask is out of its window, if one is, and which: subtasks ran in these slots."""
         if not self.early and not self.delays:
             miss = first_miss(self.cost, self.period, slots - self.joined, self.left - self.joined)

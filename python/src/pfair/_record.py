@@ -5,7 +5,7 @@ import csv
 import io
 import os
 import re
-from typing import Any, BinaryIO, Iterable, Iterator, NamedTuple, Optional, Sequence, Union
+from typing import IO, TYPE_CHECKING, Any, Iterable, Iterator, NamedTuple, Optional, Sequence, Union
 
 import numpy as np
 import numpy.typing as npt
@@ -13,10 +13,13 @@ import numpy.typing as npt
 from ._entries import Rows
 from ._names import numbered
 
+if TYPE_CHECKING:
+    from pandas import DataFrame
+
 Numbers = npt.NDArray[np.int64]
 Words = npt.NDArray[np.uint64]
 #: What recorded rows are given as.
-Given = Union[Rows, Sequence[Sequence[Any]], str, bytes, "os.PathLike[str]", BinaryIO]
+Given = Union[Rows, "DataFrame", Sequence[Sequence[Any]], str, bytes, "os.PathLike[str]", IO[bytes], IO[str]]
 
 # bytes of a text that are looked at together
 _AT_ONCE = 1 << 21
@@ -75,7 +78,7 @@ def read_record(given: Given) -> Record:
 
     Parameters
     ----------
-    given : ndarray, sequence of tuple, str, bytes, os.PathLike or binary file
+    given : ndarray, pandas.DataFrame, sequence of tuple, str, bytes, os.PathLike or file
         As `check` takes it.
 
     Returns
@@ -99,7 +102,27 @@ def read_record(given: Given) -> Record:
         with open(given, "rb") as file:
             return _of_text(file)
     other: Any = given
+    if hasattr(other, "columns") and hasattr(other, "to_numpy"):
+        return _of_frame(other)
     return _of_text(other) if hasattr(other, "read") else _of_rows(other)
+
+
+def _of_frame(frame: Any) -> Record:
+    """Reads a frame of pandas, whose tasks may be categories or texts."""
+    if missing := [name for name in _COLUMNS[:2] if name not in frame.columns]:
+        raise ValueError(f"a frame without the column {missing[0]!r}")
+    codes, known = frame["task"].factorize()
+    if len(codes) and codes.min() < 0:
+        raise ValueError(f"row {int(codes.argmin()) + 1}: it has no task")
+    names = Names()
+    for name in known:
+        names.code(_bytes_of(name))
+    more = (_whole(frame[name].to_numpy(), name) if name in frame.columns else None for name in ("index", "place"))
+    return Record(_whole(frame["slot"].to_numpy(), "slot"), codes.astype(np.int64), names.all(), *more)
+
+
+def _bytes_of(name: Any) -> bytes:
+    return name if isinstance(name, bytes) else str(name).encode()
 
 
 def _of_array(rows: Rows) -> Record:
@@ -109,7 +132,7 @@ def _of_array(rows: Rows) -> Record:
     known, codes = np.unique(rows["task"], return_inverse=True)
     names = Names()
     for name in known:
-        names.code(bytes(name) if isinstance(name, bytes) else str(name).encode())
+        names.code(_bytes_of(name))
     slots, *more = (_whole(rows[name], name) if name in fields else None for name in ("slot", "index", "place"))
     assert slots is not None
     return Record(slots, codes.ravel().astype(np.int64), names.all(), *more)
@@ -132,7 +155,7 @@ def _of_rows(rows: Iterable[Sequence[Any]]) -> Record:
         try:
             slot, task, *more = row
             numbers = [_number_of(value) for value in (slot, *more[:2])]
-            read.append((numbers[0], names.code(task if isinstance(task, bytes) else str(task).encode()), *numbers[1:]))
+            read.append((numbers[0], names.code(_bytes_of(task)), *numbers[1:]))
         except (TypeError, ValueError) as refused:
             raise ValueError(f"row {place}: {refused}") from None
         if len(read[-1]) != len(read[0]):
@@ -169,8 +192,8 @@ class _Header:
         self.columns = {name: columns.index(name) for name in _COLUMNS if name in columns}
 
 
-def _of_text(file: BinaryIO) -> Record:
-    header, names, line = _Header(file.readline()), Names(), 2
+def _of_text(file: Union[IO[bytes], IO[str]]) -> Record:
+    header, names, line = _Header(_bytes_of(file.readline())), Names(), 2
     parts: list[dict[str, Numbers]] = []
     for piece in _pieces(file):
         lines = piece.count(b"\n")
@@ -182,10 +205,11 @@ def _of_text(file: BinaryIO) -> Record:
     return Record(columns["slot"], columns["task"], names.all(), columns.get("index"), columns.get("place"))
 
 
-def _pieces(file: BinaryIO) -> Iterator[bytes]:
+def _pieces(file: Union[IO[bytes], IO[str]]) -> Iterator[bytes]:
     """Yields whole lines, some megabytes at once, each with a newline at its end."""
     rest = b""
-    while piece := file.read(_AT_ONCE):
+    while read := file.read(_AT_ONCE):
+        piece = read.encode() if isinstance(read, str) else read
         lines, newline, after = piece.rpartition(b"\n")
         if newline:
             yield (rest + lines + newline).replace(b"\r\n", b"\n")
