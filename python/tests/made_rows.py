@@ -1,6 +1,4 @@
 """Rows of runs that are made up, and pictures of them that are kept."""
-import random
-
 from pfair import _rows, _trace
 
 
@@ -96,19 +94,15 @@ EVERY = tuple((0, stop) for stop in (4, 14, 15, 40, 41, 44, 100, 130)) + ((3, 20
 # a name, the rows, and the pictures and slots that are kept of it
 CASES = {
     "every_kind": (every_kind(), [("schedule", *slots) for slots in EVERY]),
-    "crowd_of_8": (crowd(8, 8, 5), [("schedule", 3, 5)]),
-    "row_of_16": (crowd(16, 1, 3), [("schedule", 2, 3)]),
-    "row_of_17": (crowd(17, 1, 3), [("schedule", 2, 3)]),
-    "row_of_25": (crowd(25, 1, 3), [("schedule", 2, 3)]),
-    "row_of_33": (crowd(33, 1, 3), [("schedule", 2, 3)]),
-    "crowd": (crowd(26, 10, 6), [("schedule", 4, 6)]),
+    "crowd_of_8": (crowd(8, 8, 5), [("schedule", 3, 5)]), "row_of_16": (crowd(16, 1, 3), [("schedule", 2, 3)]),
+    "row_of_17": (crowd(17, 1, 3), [("schedule", 2, 3)]), "row_of_25": (crowd(25, 1, 3), [("schedule", 2, 3)]),
+    "row_of_33": (crowd(33, 1, 3), [("schedule", 2, 3)]), "crowd": (crowd(26, 10, 6), [("schedule", 4, 6)]),
     "row_of_24": (crowd(24, 1, 3), [("schedule", 2, 3), ("lags", 2, 3)]),
     "crowd_of_60": (crowd(60, 1, 3), [("schedule", 2, 3)]),
-    "crowd_of_61": (crowd(61, 1, 4), [("schedule", 2, 4), ("lags", 2, 4)]),
+    "crowd_of_61": (crowd(61, 1, 44), [(kind, *slots) for kind in ("schedule", "lags") for slots in ((2, 4), (3, 44))]),
     "widths": (crowd(3, 3, 500, 29, 40), [("schedule", 0, end) for end in (72, 73, 120, 121, 240, 241, 400, 401)]),
     "lags": (lags_of_all_kinds(), [("lags", *slots) for slots in LAGS]),
-    "lags_of_25": (crowd(25, 1, 4), [("lags", 3, 4)]),
-    "lags_of_60": (crowd(60, 1, 4), [("lags", 3, 4)]),
+    "lags_of_25": (crowd(25, 1, 4), [("lags", 3, 4)]), "lags_of_60": (crowd(60, 1, 4), [("lags", 3, 4)]),
     "wide_lags": (lags_of_all_kinds(80), [("lags", 0, 40), ("lags", 0, 80)]),
     "narrow_lags": (lags_of_all_kinds(500), [("lags", 0, 121), ("lags", 0, 401)]),
     "far": (wide_gap(), [("schedule", *slots) for slots in FAR] + [("lags", 199_960, 200_000)]),
@@ -119,69 +113,3 @@ CASES = {
 WHOLE = ("crowd.schedule.4.6", "every_kind.schedule.0.44", "far.schedule.99990.100004", "lags.lags.0.14")
 WHOLE += ("nothing.lags.4.5",)
 KEPT = [(name, *slots) for name, (_, kept) in CASES.items() for slots in kept]
-
-
-class Task:
-    """A task of a random run, by formulas of its own."""
-
-    def __init__(self, name, cost, period, joined):
-        self.name, self.cost, self.period, self.joined = name, cost, period, joined
-        self.late, self.left, self.ran = [], None, []
-
-    def before(self, stop):
-        """The task as it is known before a slot."""
-        known = Task(self.name, self.cost, self.period, self.joined)
-        known.late = [late for late in self.late if late[0] < stop]
-        known.ran = [slot for slot in self.ran if slot < stop]
-        known.left = self.left if self.left is not None and self.left < stop else None
-        return known
-
-    def window(self, index):
-        shift = self.joined + sum(by for _, first, by in self.late if index >= first)
-        opens = shift + ((index - 1) * self.period) // self.cost
-        closes = shift + (index * self.period + self.cost - 1) // self.cost
-        if self.left is not None and index > len(self.ran):
-            closes = min(closes, self.left)
-        return opens, closes
-
-    def in_sight(self, start, stop):
-        """Its windows that meet the slots; of subtasks that never ran only those that open before it departs."""
-        for index in range(1, stop + 2):
-            opens, closes = self.window(index)
-            is_cut = self.left is not None and index > len(self.ran)
-            if opens < (min(stop, self.left) if is_cut else stop) and closes > start:
-                yield index, opens, closes
-
-
-def random_run(seed, slots, processors, tasks):
-    """A run with all kinds of decisions, and its tasks."""
-    rng, rows, alive, all_tasks = random.Random(seed), Rows(processors, slots), {}, []
-    names = [f"{rng.choice('amwz')}{'_' * rng.randrange(9)}{number}" for number in range(tasks)]
-    for slot in range(slots):
-        for name in names:
-            task, chance = alive.get(name), rng.random()
-            if task is None and chance < 0.3:
-                period = rng.randrange(1, 13)
-                alive[name] = Task(name, rng.randrange(1, period + 1), period, slot)
-                all_tasks.append(alive[name])
-                rows.join(slot, name, alive[name].cost, period)
-            elif task and task.left is None and chance < 0.05:
-                task.left, freed = slot, slot + rng.randrange(4)
-                rows.leave(slot, name, freed)
-            elif task and task.left is None and chance < 0.12:
-                index, by = len(task.ran) + rng.randrange(1, 4), rng.randrange(1, 9)
-                task.late.append((slot, index, by))
-                rows.late(slot, name, index, by)
-            elif task and task.left is not None and chance > 0.8:
-                del alive[name]
-            elif chance > 0.93:
-                rows.refuse(slot, name, *rng.choices((20, 21, 22, 23, 24, 25), k=rng.randrange(1, 4)))
-        ready = [task for task in alive.values() if task.left is None]
-        for place, task in enumerate(rng.sample(ready, min(len(ready), rng.randrange(processors + 1)))):
-            task.ran.append(slot)
-            rows.run(slot, place, task.name, len(task.ran))
-        for task in alive.values():
-            if task.left is None:
-                share = task.cost * (slot + 1 - task.joined)
-                rows.lag(task.name, task.period, share - len(task.ran) * task.period, first=slot + 1)
-    return rows, all_tasks

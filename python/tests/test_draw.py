@@ -68,7 +68,7 @@ def test_help(command):
     ("schedule file 0 1 --slots 0..1", "slots are asked for by --slots A..B, or by FROM TO behind the file"),
     ("schedule file 0 x", "argument FROM TO: 'x' is no slot"),
     ("schedule file --slots 3", "argument --slots: '3' is not A..B, the slots A to B - 1"),
-    ("schedule file --slots 3..x", "argument --slots: '3..x' is not A..B, the slots A to B - 1"),
+    ("schedule file --slots 3..9x", "argument --slots: '3..9x' is not A..B, the slots A to B - 1"),
     ("schedule file --gif", "unrecognized arguments: --gif"),
     ("schedule file --htm", "unrecognized arguments: --htm"),
     ("schedule file --html --pdf", "argument --pdf: not allowed with argument --html"),
@@ -112,6 +112,51 @@ def test_files(command, tmp_path, monkeypatch):
     assert out.read_bytes() == before and list(tmp_path.iterdir()) == [out]
     for nowhere in (str(tmp_path / "none" / "made.svg"), "/dev/full"):
         assert command("schedule", "file", "-o", nowhere) == (5, b"", b"pfair_picture: 71 writing failed\n")
+
+
+def test_links_and_other_file_systems(command, tmp_path, monkeypatch):
+    """A link stays, and the file that it names is written beside itself, and whole before it has its name."""
+    real, link = tmp_path / "real" / "made.svg", tmp_path / "link.svg"
+    real.parent.mkdir()
+    link.symlink_to(real)
+    replace, asked = os.replace, []
+
+    def replaced(made, target):
+        asked.append((pathlib.Path(made).parent, target, pathlib.Path(made).read_text()))
+        replace(made, target)
+
+    monkeypatch.setattr(draw.os, "replace", replaced)
+    assert command("schedule", "file", "-o", str(link)) == (0, b"", b"") and link.is_symlink()
+    assert asked == [(real.parent, real, real.read_text())] and real.read_text().endswith("</svg>\n")
+    # what is interrupted leaves nothing behind
+    monkeypatch.setattr(draw.os, "replace", lambda *_: (_ for _ in ()).throw(KeyboardInterrupt()))
+    assert command("schedule", "file", "-o", str(link)) == (130, b"", b"")
+    assert list(real.parent.iterdir()) == [real] and sorted(tmp_path.iterdir()) == [link, real.parent]
+
+
+FULL = """
+import resource, sys
+from pfair import draw
+
+resource.setrlimit(resource.RLIMIT_FSIZE, (1000, 1000))
+sys.exit(draw.main(["schedule", sys.argv[1]]))
+"""
+
+
+def test_a_full_disk(tmp_path):
+    """A picture that standard output takes in part alone is a fault."""
+    with open(tmp_path / "out", "wb") as out:
+        done = subprocess.run([sys.executable, "-c", FULL, FILES[0]], stdout=out, stderr=subprocess.PIPE)
+    assert (done.returncode, done.stderr) == (5, b"pfair_picture: 71 writing failed\n")
+
+
+def test_titles_and_legends(command):
+    rows = CASES["every_kind"][0]
+    for words, how in (
+        (("--title", "Mine & yours"), ("Mine & yours", True)), (("--title", ""), ("", True)),
+        (("--no-legend",), (None, False)), (("--no-legend", "--title", "b"), ("b", False)),
+    ):
+        assert command("schedule", "file", *words) == (0, picture.svg(rows, "schedule", 0, 130, *how).encode(), b"")
 
 
 CONVERTS = """#!/bin/sh
@@ -175,3 +220,7 @@ def test_command_over_the_library(capfdbinary, tmp_path):
 def test_as_a_module():
     done = subprocess.run([sys.executable, "-m", "pfair.draw", "--version"], capture_output=True, text=True)
     assert (done.returncode, done.stdout, done.stderr) == (0, f"pfair_picture {pfair.__version__}\n", "")
+    # a pipe is written, though a link names it
+    words = [sys.executable, "-m", "pfair.draw", "schedule", FILES[0], "-o", "/dev/stdout"]
+    done = subprocess.run(words, capture_output=True)
+    assert (done.returncode, done.stdout) == (0, FILES[0].with_suffix(".schedule.svg").read_bytes())

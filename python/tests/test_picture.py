@@ -1,5 +1,6 @@
 """Pictures: small ones byte for byte, and what holds of any, over made up rows and over those of the library."""
 import hashlib
+import itertools
 import os
 import pathlib
 import random
@@ -13,12 +14,14 @@ from hypothesis import strategies as st
 
 import pfair
 from conftest import EXAMPLES, script_of
-from made_rows import CASES, KEPT, WHOLE, Rows, random_run
+from made_rows import CASES, KEPT, WHOLE, Rows, crowd
 from pfair import _figure, picture
+from recorded import drawn, rows_of, stays_of
 
 FILES = sorted(EXAMPLES.glob("*.toml"))
 STORED = pathlib.Path(__file__).parent / "pictures"
 SVG = "{http://www.w3.org/2000/svg}"
+LAG_FIELDS = ["task", "time", "numerator", "period"]
 ANCHORS = {"name": 1, "absent": 1, "side": 1, "beyond": 1, "scale": 0.5, "on": 0.5, "on dark": 0.5, "more": 0.5}
 SIZES = {"title": 14, "side": 10, "scale": 10, "on": 9, "on dark": 9, "weight": 8, "more": 9, "number": 9, "beyond": 9}
 
@@ -67,7 +70,7 @@ def assert_inside(drawn):
         assert is_inside, (element.attrib, element.text)
 
 
-RUNS = st.builds(random_run, st.integers(0, 2**32), st.integers(1, 45), st.integers(1, 12), st.integers(0, 9))
+SCRIPTS = st.builds(lambda seed: drawn(random.Random(seed)), st.integers(0, 2**32))
 
 
 def bars_of(drawn, layer):
@@ -77,13 +80,33 @@ def bars_of(drawn, layer):
     return [(told, x, x + wide, style) for told, x, wide, style in bars]
 
 
+def range_of(schedule, data):
+    start = data.draw(st.integers(0, schedule.script.slots - 1))
+    return start, data.draw(st.integers(start + 1, schedule.script.slots))
+
+
+def windows_in_sight(schedule, start, stop):
+    """The windows that meet the slots, by what is known before `stop`. Those of subtasks that never ran end where their
+    task departs."""
+    quanta = [row for row in rows_of(schedule.quanta) if row[0] < stop]
+    for stay in stays_of(schedule.script, schedule.decisions[schedule.decisions["slot"] < stop]):
+        ran = sum(name == stay.name and stay.joined <= slot < stay.left for slot, name, *_ in quanta)
+        for index in itertools.count(1):
+            opens, closes, end = stay.release(index), stay.deadline(index), stop
+            if stay.left < schedule.script.slots and index > ran:
+                closes, end = min(closes, stay.left), min(end, stay.left)
+            if opens >= end:
+                break
+            if closes > start:
+                yield f"{stay.name}, subtask {index}, window {opens} to {closes}", opens, closes
+
+
 @settings(max_examples=100, deadline=None)
-@given(RUNS, st.data())
-def test_one_bar_for_each_window_and_quantum(run, data):
-    rows, tasks = run
-    start = data.draw(st.integers(0, rows.slots - 1))
-    stop = data.draw(st.integers(start + 1, rows.slots))
-    drawn = picture.svg(rows, "schedule", start, stop)
+@given(SCRIPTS, st.data())
+def test_one_bar_for_each_window_and_quantum(script, data):
+    schedule = pfair.schedule(script)
+    start, stop = range_of(schedule, data)
+    drawn = schedule.svg(start, stop)
     assert_inside(drawn)
     lines = ElementTree.fromstring(drawn).iter(SVG + "line")
     left = min(int(one.get("x1")) for one in lines if one.get("class") in ("grid", "tick"))
@@ -92,13 +115,10 @@ def test_one_bar_for_each_window_and_quantum(run, data):
     def x(slot):
         return left + (min(max(slot, start), stop) - start) * wide
 
-    windows = []
-    for task in (task.before(stop) for task in tasks if task.joined < stop):
-        for index, opens, closes in task.in_sight(start, stop):
-            windows.append((f"{task.name}, subtask {index}, window {opens} to {closes}", x(opens), x(closes), "window"))
+    windows = ((told, x(opens), x(closes), "window") for told, opens, closes in windows_in_sight(schedule, start, stop))
     assert Counter(bars_of(drawn, "windows")) == Counter(windows)
     quanta, cells = [], []
-    for slot, place, task, index in sorted(rows.ran):
+    for slot, task, index, place in rows_of(schedule.quanta):
         if start <= slot < stop:
             told = f"{task}, subtask {index}, slot {slot}, processor {place}"
             quanta.append((told, x(slot) + 2, x(slot + 1) - 2, f"p{place}"))
@@ -107,16 +127,15 @@ def test_one_bar_for_each_window_and_quantum(run, data):
 
 
 @settings(max_examples=100, deadline=None)
-@given(RUNS, st.data())
-def test_one_step_for_each_lag(run, data):
-    rows, _ = run
-    start = data.draw(st.integers(0, rows.slots - 1))
-    stop = data.draw(st.integers(start + 1, rows.slots))
-    drawn = picture.svg(rows, "lags", start, stop)
+@given(SCRIPTS, st.data())
+def test_one_step_for_each_lag(script, data):
+    schedule = pfair.schedule(script)
+    start, stop = range_of(schedule, data)
+    drawn = schedule.svg(start, stop, "lags")
     assert_inside(drawn)
     told = [group.findtext(SVG + "title") for group in ElementTree.fromstring(drawn).iter(SVG + "g")]
-    lags = [lag for lag in rows.lags() if start < lag.time <= stop]
-    assert told == [f"{lag.task}, time {lag.time}: lag {lag.numerator}/{lag.period}" for lag in lags]
+    lags = ((task.decode(), *more) for task, *more in schedule.lags(start, stop)[LAG_FIELDS].tolist())
+    assert told == [f"{task}, time {time}: lag {above}/{below}" for task, time, above, below in lags]
 
 
 @settings(max_examples=100, deadline=None)
@@ -130,9 +149,34 @@ def test_text_is_escaped(name):
 
 
 def test_names_are_cut_to_their_room():
-    cut = {room: picture.shortened("camera", room) for room in (11, 12, 17, 18, 26, 27, 38, 39)}
+    cut = {room: _figure.shortened(["camera"], room)["camera"] for room in (11, 12, 17, 18, 26, 27, 38, 39)}
     assert cut == {11: "", 12: "c.", 17: "c.", 18: "ca.", 26: "ca.", 27: "cam.", 38: "came.", 39: "camera"}
-    assert [picture.shortened("a", room) for room in (5, 6)] == ["", "a"]
+    assert [_figure.shortened("a", room) for room in (5, 6)] == [{"a": ""}, {"a": "a"}]
+
+
+def test_names_that_begin_alike_are_told_apart():
+    """By their last letters, with whole numbers if these fit, or by those in which they differ."""
+    names = ["worker12", "worker13", "radar", "radio", "axle_a_left", "axle_b_left", "camera"]
+    for room, wanted in (
+        (39, "wor.12 wor.13 radar radio axle.a axle.b camera"),
+        (27, "w.12 w.13 ra.r ra.o ax.a ax.b cam."),
+        (17, ".2 .3 .r .o .a .b c."),
+    ):
+        assert list(_figure.shortened(names, room).values()) == wanted.split()
+    assert set(_figure.shortened(names, 11).values()) == {""}
+
+
+@given(st.lists(st.from_regex("[a-c][a-c1]{0,15}", fullmatch=True), unique=True, max_size=9), st.integers(0, 60))
+def test_no_two_names_are_cut_alike(names, room):
+    short = _figure.shortened(names, room)
+    assert list(short) == names
+    shown = [words for words in short.values() if words]
+    assert len(set(shown)) == len(shown)
+    for name, words in short.items():
+        head, _, tail = words.partition(".")
+        assert _figure.name_width(words.replace(".", "")) * 3 // 4 + 6 * ("." in words) <= room or words == ""
+        assert name.startswith(head) and tail in name and (words == name or "." in words or words == "")
+        assert words == name or _figure.name_width(name) * 3 // 4 > room
 
 
 def test_letters_have_room():
@@ -167,6 +211,40 @@ def test_slots_that_no_picture_shows():
     assert picture.svg(rows, stop=4096) == picture.svg(rows, "schedule", 0, 4096)
 
 
+def test_titles_and_keys():
+    """A title of one's own stands alone; an empty one, and a key that isn't wanted, take no room."""
+    rows = CASES["every_kind"][0]
+    for kind, told in (("schedule", "Schedule"), ("lags", "Lags")):
+        drawn = {}
+        for title in (None, "Mine <&> yours", "m" * 90, ""):
+            for has_key in (True, False):
+                svg = picture.svg(rows, kind, 0, 14, title, has_key)
+                assert_inside(svg)
+                root = ElementTree.fromstring(svg)
+                texts = [one.text for one in root.iter(SVG + "text")]
+                assert texts[0] == (told if title is None else title or texts[0]) == (root[0].text or texts[0])
+                assert ("processors: 2, frame: 12, slots: 0 to 13 of 130" in texts) == (title is None)
+                assert ("1/2 is a weight" in texts) == has_key
+                drawn[title, has_key] = int(root.get("height"))
+        assert drawn[None, True] > drawn["m" * 90, True] > drawn["", True] > drawn["", False]
+
+
+def test_few_slots_of_many_processors():
+    """Each quantum has room for its index and its processor."""
+    svg = picture.svg(crowd(70, 64, 6), "schedule", 0, 6)
+    assert_inside(svg)
+    words = [one.text for one in ElementTree.fromstring(svg).iter(SVG + "text") if "small" in one.get("class")]
+    assert len(words) == 3 * 64 and all(re.fullmatch(r"\d+ p\d+", one) for one in words)
+
+
+def test_numbers_of_lags_are_beside_their_bounds():
+    root = ElementTree.fromstring(picture.svg(CASES["lags"][0], "lags", 0, 14))
+    lines = [int(one.get("y1")) for one in root.iter(SVG + "line") if one.get("class") == "bound"]
+    numbers = [one for one in root.iter(SVG + "text") if one.get("class") == "beyond"]
+    assert len(numbers) > 5 and len(lines) == 2 * 3 + 1
+    assert not any(int(one.get("y")) - 8 <= y <= int(one.get("y")) + 1 for one in numbers for y in lines)
+
+
 def test_page():
     svg = picture.svg(CASES["every_kind"][0])
     page = picture.page(svg)
@@ -174,6 +252,10 @@ def test_page():
     css, js = ((folder / name).read_text() for name in ("page.css", "page.js"))
     assert page == picture.PAGE.replace("{}", "%s") % (css, svg, js)
     assert page.startswith("<!DOCTYPE html>") and page.endswith("</body>\n</html>\n")
+    # each key that the page names does something
+    assert "wheel or + and -: zoom" in page and "0: as at first" in page and "drag or arrows: move" in page
+    keys = re.search(r"const KEYS = {(.*?)\n};", js, re.S)[1]
+    assert all(f'"{key}":' in keys for key in "+-0") and keys.count(" Arrow") == 4
     assert not re.search(r"(src|href)\s*=|url\(|https?:|import\s|fetch\(|XMLHttp", page.replace(svg, ""))
 
 
@@ -190,20 +272,3 @@ def test_pictures_of_the_examples(file):
         assert schedule.svg(1, 2, kind).startswith("<svg ")
     assert schedule._repr_svg_() == schedule.svg()
     assert schedule.plot(1, 3, "lags", 4.0).get_size_inches()[0] == 4.0
-
-
-@settings(max_examples=60, deadline=None)
-@given(st.integers(0, 2**32), st.integers(1, 40), st.integers(1, 4))
-def test_pictures_of_legal_scripts(seed, slots, processors):
-    """Whatever a script announces, its pictures are well-formed and have one bar for each quantum."""
-    rng, logs = random.Random(seed), [[] for _ in range(processors)]
-    for slot in sorted(rng.randrange(slots) for _ in range(rng.randrange(12))):
-        name, period = rng.choice("abcd"), rng.choice((1, 2, 3, 4, 6, 12, 5))
-        arrival = pfair.arrive(name, rng.randrange(1, period + 1), period, at=slot)
-        late = pfair.late(name, rng.randrange(1, 9), rng.randrange(1, 5), at=slot)
-        rng.choice(logs).append(rng.choice((arrival, late, pfair.depart(name, at=slot))))
-    schedule = pfair.schedule(pfair.Script(processors, 12, slots, logs))
-    drawn = schedule.svg()
-    assert_inside(drawn)
-    assert_inside(schedule.svg(picture="lags"))
-    assert len(bars_of(drawn, "quanta")) == len(bars_of(drawn, "processors")) == len(schedule.quanta)

@@ -1,5 +1,6 @@
 """Pictures by Matplotlib: each thing that is drawn, with its place, colour and width."""
 import hashlib
+import io
 import os
 import pathlib
 from collections import Counter
@@ -7,6 +8,7 @@ from xml.etree import ElementTree
 
 import pytest
 from made_rows import CASES
+from matplotlib.image import imread
 
 from pfair import _plot, picture
 
@@ -39,7 +41,7 @@ def told(figure):
 
 @pytest.mark.parametrize("name, kind", [("every_kind", "schedule"), ("lags", "lags"), ("widths", "schedule")])
 def test_plot(name, kind):
-    """The figure has what the picture has, and its looks have the kept sum; PFAIR_KEEP_PICTURES=yes writes that anew."""
+    """The figure has what the picture has, and its looks the kept sum; PFAIR_KEEP_PICTURES=yes writes that anew."""
     svg = picture.svg(CASES[name][0], kind, 0, 14)
     root = ElementTree.fromstring(svg)
     figure = _plot.Plot(svg, 5.0).figure
@@ -68,3 +70,5 @@ def test_files():
     assert pdf.startswith(b"%PDF") and b"/FontFile2" in pdf
     # 7 inches wide, 200 points to the inch
     assert png.startswith(b"\x89PNG") and int.from_bytes(png[16:20], "big") == 1400
+    # on white, whatever is behind it
+    assert imread(io.BytesIO(png))[0, 0].tolist() == [1, 1, 1, 1]

@@ -367,3 +367,6 @@ def test_plots_are_made_of_the_picture(monkeypatch):
     schedule = pfair.schedule(pfair.Script(2, 6, 9, [[pfair.arrive("a", 1, 2)], []]))
     assert schedule.plot() == (schedule.svg(), 7.0)
     assert schedule.plot(1, 3, "lags", 4.0) == (schedule.svg(1, 3, "lags"), 4.0)
+    words = {"title": "Mine", "legend": False}
+    assert schedule.plot(**words) == (schedule.svg(**words), 7.0) and ">Mine</text>" in schedule.svg(**words)
+    assert ">Schedule</text>" not in schedule.svg(**words) and "joins</text>" not in schedule.svg(**words)

@@ -1,7 +1,9 @@
 """What pictures have in common: positions of slots and rows, names, times, weights, the key, and the tasks of a run."""
 from __future__ import annotations
 
-from typing import Callable, Iterator, NamedTuple, Optional
+import os
+import re
+from typing import Callable, Iterable, Iterator, NamedTuple, Optional
 
 from ._rows import Decision, PictureRows
 from ._svg import bar, document, line, text
@@ -12,6 +14,10 @@ MOST_SLOTS = 4096
 # the most slots of a picture, and the width of a slot in pixels
 WIDTHS = ((14, 40), (40, 28), (72, 18), (120, 12), (240, 8), (400, 4), (MOST_SLOTS, 2))
 NARROWEST, LEFT, RIGHT, TOP = 640, 118, 40, 76
+# the lines of a title, and the most pixels of one of its letters
+TITLE, TOLD, TITLE_LETTER = 24, 18, 11
+# up to so many slots a quantum has room for its index, if its lane has too
+FEW_SLOTS = 40
 # the scale is repeated above every so many rows
 ROWS_OF_SCALE = 16
 # the width of an entry of the key with nothing behind it
@@ -46,6 +52,58 @@ def scale_step(wide: int, end: int) -> int:
 def name_width(name: str) -> int:
     """Returns the most pixels that a name takes."""
     return sum(12 if letter in "mw" else 8 for letter in name)
+
+
+def small_width(name: str) -> int:
+    """Returns the most pixels that a name takes in the small letters of a processor's row."""
+    return name_width(name) * 3 // 4
+
+
+def shortened(names: Iterable[str], room: int) -> dict[str, str]:
+    """Returns names as they fit into so many pixels of a processor's row, each of them another.
+
+    A name that is too long is cut to its first letters and a dot. If that makes some alike, letters follow that tell
+    these apart: the last ones, or the first that differ. They are empty if none that fit do.
+    """
+    short = {name: name if small_width(name) <= room else cut(name, "", room) for name in names}
+    alike: dict[str, list[str]] = {}
+    for name, words in short.items():
+        alike.setdefault(words, []).append(name)
+    taken = {words for words, group in alike.items() if len(group) == 1}
+    for words, group in alike.items():
+        if len(group) > 1:
+            apart = told_apart(group, room, taken) if words else []
+            taken.update(apart)
+            short.update(zip(group, apart or [""] * len(group)))
+    return short
+
+
+def cut(name: str, tail: str, room: int) -> str:
+    """Returns the first letters of a name, a dot and a tail: as many letters as there is room for, or nothing."""
+    head = name
+    while head and small_width(head + tail) + 6 > room:
+        head = head[:-1]
+    return f"{head}.{tail}" if head or tail and small_width(tail) + 6 <= room else ""
+
+
+def told_apart(names: list[str], room: int, taken: set[str]) -> list[str]:
+    """Returns names cut to their first letters and the fewest that tell them apart, or none if none that fit do."""
+    for tails in tails_of(names):
+        made = [cut(name[: max(1, len(name) - len(tail))], tail, room) for name, tail in zip(names, tails)]
+        if all(made) and len(set(made)) == len(made) and taken.isdisjoint(made):
+            return made
+    return []
+
+
+def tails_of(names: list[str]) -> Iterator[list[str]]:
+    """Yields letters of each name: more and more of its last ones, or of those from the first that differs."""
+    begin = len(os.path.commonprefix(names))
+    for length in range(1, max(map(len, names))):
+        # first without cutting a number
+        ends = [re.search(rf"(?:\d+|\D).{{{length - 1}}}$", name) for name in names]
+        yield [end[0] if end else name for name, end in zip(names, ends)]
+        yield [name[-length:] for name in names]
+        yield [name[begin : begin + length] for name in names]
 
 
 class Life(Member):
@@ -98,21 +156,35 @@ def lives_of(decided: list[Decision]) -> list[Life]:
     return lives
 
 
+class Shown(NamedTuple):
+    """What a picture shows: slots `start` to `stop - 1`, its title if it isn't the usual one, and whether its key."""
+
+    start: int
+    stop: int
+    title: Optional[str] = None
+    has_key: bool = True
+
+
 class Figure:
-    """A picture of the slots `start` to `stop - 1`: its parts, in the order in which they are drawn."""
+    """A picture: its parts, in the order in which they are drawn."""
 
     title = ""
 
-    def __init__(self, source: PictureRows, start: int, stop: int, names: list[str], sizes: Sizes, processors: int) -> None:
-        self.start, self.stop, self.names, self.sizes, self.processors = start, stop, names, sizes, processors
+    def __init__(self, source: PictureRows, shown: Shown, names: list[str], sizes: Sizes, processors: int) -> None:
+        self.start, self.stop, title, self.has_key = shown
+        self.names, self.sizes, self.processors = names, sizes, processors
         self.row_of = {name: row for row, name in enumerate(names)}
         self.left = max(LEFT, 64 + max(map(name_width, names), default=0))
         self.lanes = sizes.above + 2 * sizes.lane + 1 + sizes.below
-        self.step = scale_step(sizes.slot, stop)
+        self.step = scale_step(sizes.slot, self.stop)
+        slots = f"slots: {self.start} to {self.stop - 1} of {source.slots}"
+        self.told, self.colours = f"processors: {source.processors}, frame: {source.frame}, {slots}", source.processors
+        # the usual title has a second line; an empty one takes no room
+        self.has_told, self.title = title is None, self.title if title is None else title
+        self.top = TOP - (0 if self.has_told else TOLD) - (0 if self.title else TITLE)
         self.bottom = self.cell_y(processors) + 4
-        shown = f"slots: {start} to {stop - 1} of {source.slots}"
-        self.told, self.colours = f"processors: {source.processors}, frame: {source.frame}, {shown}", source.processors
-        self.width, self.key_lines = max(self.x(stop) + RIGHT, NARROWEST), 0
+        self.width, self.key_lines = max(self.x(self.stop) + RIGHT, NARROWEST), 0
+        self.width = max(self.width, 32 + TITLE_LETTER * len(self.title))
         self.parts: list[str] = []
         self.kinds: set[str] = set()  # of things that the key has to name
 
@@ -123,7 +195,7 @@ class Figure:
     def y(self, row: int) -> int:
         """Returns where a row begins; above every sixteenth there is room for a scale."""
         scales = max(0, min(row, len(self.names) - 1)) // ROWS_OF_SCALE
-        return TOP + row * (self.lanes + self.sizes.strip) + 12 * scales
+        return self.top + row * (self.lanes + self.sizes.strip) + 12 * scales
 
     def cell_y(self, processor: int) -> int:
         """Returns where a processor's row begins."""
@@ -135,7 +207,8 @@ class Figure:
 
     def ground(self, admitted: set[str]) -> None:
         """Draws the title, and a band and a name for each row."""
-        self.parts += [text(16, 24, "title", self.title), text(16, 42, "entry", self.told)]
+        self.parts += [text(16, 24, "title", self.title)] if self.title else []
+        self.parts += [text(16, 42, "entry", self.told)] if self.has_told else []
         wide, high = self.x(self.stop) - self.left, self.lanes + self.sizes.strip
         for row, name in enumerate(self.names):
             y, style = self.y(row), "name" if name in admitted else "absent"
@@ -151,8 +224,8 @@ class Figure:
             is_numbered = time % self.step == 0
             if is_numbered or self.sizes.slot >= 8:
                 style = "tick" if is_numbered and self.step > 1 else "grid"
-                self.parts.append(line(self.x(time), TOP, self.x(time), self.bottom, style))
-        self.scale(TOP - 5, has_slots)
+                self.parts.append(line(self.x(time), self.top, self.x(time), self.bottom, style))
+        self.scale(self.top - 5, has_slots)
         for row in range(ROWS_OF_SCALE, len(self.names), ROWS_OF_SCALE):
             self.scale(self.y(row) - 2, has_slots)
         self.scale(self.bottom + 15, False)
@@ -176,7 +249,7 @@ class Figure:
 
     def key(self, *lines: tuple[Entry, ...]) -> None:
         """Draws the key: an entry for each kind of thing that the picture has, one behind the other."""
-        for entries in lines:
+        for entries in lines if self.has_key else ():
             x, y = 16, self.bottom + 36 + 20 * self.key_lines
             for kind, width, begins, words, sample in entries:
                 if kind in self.kinds:

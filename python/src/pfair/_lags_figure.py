@@ -3,7 +3,7 @@ from __future__ import annotations
 
 from typing import Callable
 
-from ._figure import LAST, Figure, Sizes, across, blank, lives_of, slot_width
+from ._figure import FEW_SLOTS, LAST, Figure, Shown, Sizes, across, blank, lives_of, slot_width
 from ._rows import PictureRows
 from ._svg import bar, group, line, mark, step, text
 from ._trace import Lag
@@ -13,7 +13,7 @@ PAST = "at or past a bound (late releases are not taken into account)"
 
 def lag_sizes(slots: int, tasks: int) -> Sizes:
     """Returns the sizes of lags: a lane is a lag of 1, with room above for a weight and for lags past the bound."""
-    lane = 20 if tasks <= 24 else 14 if tasks <= 60 else 9
+    lane = 20 if tasks <= 24 else 14 if tasks <= 60 or slots <= FEW_SLOTS else 9
     return Sizes(slot_width(slots), lane, 8 + lane // 4, lane // 4, 0, 3, 0)
 
 
@@ -22,10 +22,10 @@ class LagsFigure(Figure):
 
     title = "Lags"
 
-    def __init__(self, source: PictureRows, start: int, stop: int) -> None:
-        lives = lives_of([row for row in source.decided() if row.slot < stop])
+    def __init__(self, source: PictureRows, shown: Shown) -> None:
+        lives = lives_of([row for row in source.decided() if row.slot < shown.stop])
         names = list(dict.fromkeys(life.name for life in lives))
-        super().__init__(source, start, stop, names, lag_sizes(stop - start, len(names)), 0)
+        super().__init__(source, shown, names, lag_sizes(shown.stop - shown.start, len(names)), 0)
         above = self.sizes.above + self.sizes.lane
         self.zero = {name: self.y(row) + above for row, name in enumerate(names)}
         self.ground(set(names))
@@ -88,8 +88,9 @@ class LagsFigure(Figure):
         if self.sizes.slot < 28:
             return mark(x, y, name)
         self.kinds.add("number")
-        words = f"{lag.numerator}/{lag.period}"
-        return mark(x, y, name) + text(x, y - 5 if lag.numerator < 0 else y + 10, "beyond", words)
+        # between the bound and the middle, so that no line goes through it
+        bound = self.zero[lag.task] + (self.sizes.lane - 4 if lag.numerator < 0 else 10 - self.sizes.lane)
+        return mark(x, y, name) + text(x, bound, "beyond", f"{lag.numerator}/{lag.period}")
 
     def keys(self) -> None:
         kinds = self.kinds

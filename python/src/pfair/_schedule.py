@@ -231,7 +231,15 @@ class Schedule:
         else:
             write_trace(ScheduleSource(self), format, slot, out)
 
-    def svg(self, start: int = 0, stop: Optional[int] = None, picture: Picture = "schedule") -> str:
+    def svg(
+        self,
+        start: int = 0,
+        stop: Optional[int] = None,
+        picture: Picture = "schedule",
+        *,
+        title: Optional[str] = None,
+        legend: bool = True,
+    ) -> str:
         """Returns a picture of slots `start` to `stop - 1`.
 
         Parameters
@@ -242,6 +250,11 @@ class Schedule:
             The slot behind the last one, at most 4,096 behind `start`; by default the number of slots.
         picture : {"schedule", "lags"}
             Which picture.
+        title : str, optional
+            The title; by default "Schedule" or "Lags", and a line with the processors, the frame and the slots. No
+            title, and no room for one, if it is empty.
+        legend : bool
+            Whether the picture explains its signs.
 
         Returns
         -------
@@ -265,20 +278,27 @@ class Schedule:
         shown = f"slots {first} to {behind - 1}: a picture has 1 to {MOST_SLOTS:,} slots, by start and stop"
         check(100 if first >= behind or behind - first > MOST_SLOTS else 0, shown)
         check(104 if behind > self.script.slots else 0, f"slot {behind - 1}")
-        return pictures.svg(ScheduleSource(self), picture, first, behind)
+        return pictures.svg(ScheduleSource(self), picture, first, behind, title, legend)
 
     def _repr_svg_(self) -> str:
         """Returns the picture that a notebook shows: of the first 400 slots, whose windows can be told apart."""
         return self.svg(0, min(self.script.slots, _SHOWN))
 
     def plot(
-        self, start: int = 0, stop: Optional[int] = None, picture: Picture = "schedule", width: float = 7.0
+        self,
+        start: int = 0,
+        stop: Optional[int] = None,
+        picture: Picture = "schedule",
+        width: float = 7.0,
+        *,
+        title: Optional[str] = None,
+        legend: bool = True,
     ) -> Figure:
         """Draws the picture of `svg` by Matplotlib, for a paper.
 
         Parameters
         ----------
-        start, stop, picture
+        start, stop, picture, title, legend
             As in `svg`.
         width : float
             The width in inches.
@@ -297,7 +317,7 @@ class Schedule:
         """
         from ._plot import Plot
 
-        return Plot(self.svg(start, stop, picture), width).figure
+        return Plot(self.svg(start, stop, picture, title=title, legend=legend), width).figure
 
     @overload
     def to_pandas(self, lags: Literal[False] = False) -> tuple[DataFrame, DataFrame]: ...

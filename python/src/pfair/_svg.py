@@ -42,7 +42,8 @@ def document(width: int, height: int, title: str, told: str, processors: int, pa
     """Returns an SVG document of these parts, with a style for each processor."""
     colours = "".join(f".p{place}{{fill:rgb({COLOURS[place % len(COLOURS)]})}}\n" for place in range(processors))
     size = f'width="{width}" height="{height}" viewBox="0 0 {width} {height}"'
-    head = f'<svg xmlns="http://www.w3.org/2000/svg" {size} role="img">\n<title>{title}</title>\n<desc>{told}</desc>\n'
+    head = f'<svg xmlns="http://www.w3.org/2000/svg" {size} role="img">\n'
+    head += f"<title>{escaped(title)}</title>\n<desc>{told}</desc>\n"
     return f"{head}<style>{STYLE}{colours}</style>\n{MARKS}{''.join(parts)}</svg>\n"
 
 

@@ -21,7 +21,8 @@ from ._rows import PictureRows
 from ._version import VERSION
 
 NAME = "pfair_picture"
-USAGE = "pfair_picture schedule|lags [--html|--png|--pdf] [--slots A..B] [-o OUT] FILE"
+USAGE = """pfair_picture schedule|lags [--html|--png|--pdf] [--slots A..B] [--title TEXT]
+                     [--no-legend] [-o OUT] FILE"""
 DESCRIPTION = """Draws a task file: its schedule, or the lags of its tasks. Writes SVG to standard output.
 
   schedule  a row for each task, in the order in which they are first named: windows as outlined
@@ -93,6 +94,10 @@ def words_of(argv: Optional[list[str]]) -> argparse.Namespace:
     for format in ("png", "pdf"):
         said = f"the picture in {format.upper()}, if the command rsvg-convert or Python's matplotlib is here"
         forms.add_argument(f"--{format}", dest="format", action="store_const", const=format, help=said)
+    said = "the title, in place of the usual one and the line below it; no title if TEXT is empty"
+    parser.add_argument("--title", metavar="TEXT", help=said)
+    said = "no key below the picture, for a paper"
+    parser.add_argument("--no-legend", dest="legend", action="store_false", help=said)
     said = "the slots A to B - 1, at most 4096; without it all slots of the file"
     parser.add_argument("--slots", type=slots_of, metavar="A..B", help=said)
     parser.add_argument("-o", dest="out", metavar="OUT", help="a file to write, in place of standard output")
@@ -128,7 +133,7 @@ def drawn(words: argparse.Namespace, source: PictureRows) -> bytes:
     start, stop = words.slots or (0, source.slots)
     if refused := picture.refusal(start, stop, source.slots):
         raise Fault(f"81 {refused}", 1)
-    svg = picture.svg(source, words.picture, start, stop)
+    svg = picture.svg(source, words.picture, start, stop, words.title, words.legend)
     if words.format == "html":
         return picture.page(svg).encode()
     return converted(svg, words.format) if words.format else svg.encode()
@@ -162,13 +167,15 @@ def write(content: bytes, out: Optional[str]) -> None:
     if target.exists() and not target.is_file():
         target.write_bytes(content)
         return
-    with tempfile.NamedTemporaryFile(dir=target.absolute().parent, delete=False) as made:
+    # a link stays, and what it names is written
+    target = pathlib.Path(os.path.realpath(out))
+    with tempfile.NamedTemporaryFile(dir=target.parent, delete=False) as made:
         try:
             made.write(content)
             made.flush()
             os.chmod(made.name, target.stat().st_mode if target.exists() else 0o666 & ~umask())
             os.replace(made.name, target)
-        except OSError:
+        except BaseException:
             os.unlink(made.name)
             raise
 

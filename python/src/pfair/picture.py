@@ -9,7 +9,9 @@ import pathlib
 from collections import Counter
 from typing import Iterator, Optional
 
-from ._figure import LAST, MOST_SLOTS, Figure, Life, Sizes, across, blank, lives_of, name_width, slot_width
+from ._figure import (
+    FEW_SLOTS, LAST, MOST_SLOTS, Figure, Life, Shown, Sizes, across, blank, lives_of, shortened, slot_width,
+)
 from ._lags_figure import LagsFigure
 from ._rows import Decision, PictureRows
 from ._svg import COLOURS, arrow, bar, group, layer, line, mark, style_on, swatch, text
@@ -45,17 +47,9 @@ def schedule_sizes(slots: int, tasks: int) -> Sizes:
     wide, cell = slot_width(slots), 15 if slots <= 120 else 7
     if tasks <= 24 and slots <= 120:
         return Sizes(wide, 13, 7, 7, 2, 13, cell)
-    if tasks <= 60 and slots <= 400:
+    if slots <= FEW_SLOTS or tasks <= 60 and slots <= 400:
         return Sizes(wide, 10, 7, 3, 1, 7, cell)
     return Sizes(wide, 6, 7, 2, 0, 7, cell)
-
-
-def shortened(name: str, room: int) -> str:
-    """Returns a name in the small letters of a processor's row, cut to its first letters if there is no room."""
-    short = name
-    while short and name_width(short) * 3 // 4 + (0 if short == name else 6) > room:
-        short = short[:-1]
-    return short if short == name else f"{short}." if short else ""
 
 
 class ScheduleFigure(Figure):
@@ -63,10 +57,11 @@ class ScheduleFigure(Figure):
 
     title = "Schedule"
 
-    def __init__(self, source: PictureRows, start: int, stop: int) -> None:
-        decided = [row for row in source.decided() if row.slot < stop]
+    def __init__(self, source: PictureRows, shown: Shown) -> None:
+        decided = [row for row in source.decided() if row.slot < shown.stop]
         names = list(dict.fromkeys(row.task for row in decided))
-        super().__init__(source, start, stop, names, schedule_sizes(stop - start, len(names)), source.processors)
+        sizes = schedule_sizes(shown.stop - shown.start, len(names))
+        super().__init__(source, shown, names, sizes, source.processors)
         self.lives = lives_of(decided)
         quanta = self.ran(source)
         self.ground({life.name for life in self.lives})
@@ -150,12 +145,13 @@ class ScheduleFigure(Figure):
             elif processor % 2 == 0:
                 self.parts.append(text(self.left - 8, y, "side", processor))
         small = " small" if lane == 10 else ""
+        shorts = shortened(dict.fromkeys(quantum.task for quantum in quanta), wide - 1) if has_names else {}
         for slot, place, task, index, _, _ in quanta:
             x, style, words = self.x(slot) + wide // 2, style_on(place), self.words_on(index, place)
             if words:
                 self.parts.append(text(x, self.lane_y(task, index) + lane - gap - 1, style + small, words))
                 self.kinds.update(("index", "place") if " " in words else ("index",))
-            if has_names and (short := shortened(task, wide - 1)):
+            if short := shorts.get(task):
                 self.parts.append(text(x, self.cell_y(place) + cell - 4, style, short))
 
     def words_on(self, index: int, place: int) -> str:
@@ -269,19 +265,30 @@ def refusal(start: int, stop: int, slots: int) -> str:
     return ""
 
 
-def svg(source: PictureRows, picture: str = "schedule", start: int = 0, stop: Optional[int] = None) -> str:
+def svg(
+    source: PictureRows,
+    picture: str = "schedule",
+    start: int = 0,
+    stop: Optional[int] = None,
+    title: Optional[str] = None,
+    legend: bool = True,
+) -> str:
     """Returns a picture of slots `start` to `stop - 1` in SVG.
 
     Parameters
     ----------
     source : PictureRows
         The rows of a run.
-    picture : str
-        "schedule" or "lags".
+    picture : {"schedule", "lags"}
+        Which picture.
     start : int
         The first slot, from 0.
     stop : int, optional
         The slot behind the last one, at most 4,096 behind `start`; by default the number of slots of the run.
+    title : str, optional
+        The title, in place of "Schedule" or "Lags" and the line below; it takes no room if it is empty.
+    legend : bool
+        Whether the picture explains its signs.
 
     Returns
     -------
@@ -298,7 +305,7 @@ def svg(source: PictureRows, picture: str = "schedule", start: int = 0, stop: Op
         raise ValueError(f"no such picture: {picture}")
     if refused := refusal(start, end, source.slots):
         raise ValueError(refused)
-    return (ScheduleFigure if picture == "schedule" else LagsFigure)(source, start, end).svg()
+    return (ScheduleFigure if picture == "schedule" else LagsFigure)(source, Shown(start, end, title, legend)).svg()
 
 
 def page(picture: str) -> str:
