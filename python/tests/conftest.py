@@ -121,6 +121,21 @@ def locks():
         yield
 
 
+class Told:
+    """A lock that tells when it is taken by one who doesn't have it."""
+
+    def __init__(self, lock, name, told):
+        self.lock, self.name, self.told = lock, name, told
+
+    def __enter__(self):
+        if not self.lock._is_owned():
+            self.told.append(self.name)
+        return self.lock.__enter__()
+
+    def __exit__(self, *fault):
+        return self.lock.__exit__(*fault)
+
+
 def assert_plain(value):
     """Numbers of Python and no others, as json and any program take them."""
     if isinstance(value, (tuple, list)):

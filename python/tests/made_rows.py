@@ -99,7 +99,7 @@ CASES = {
     "row_of_33": (crowd(33, 1, 3), [("schedule", 2, 3)]), "crowd": (crowd(26, 10, 6), [("schedule", 4, 6)]),
     "row_of_24": (crowd(24, 1, 3), [("schedule", 2, 3), ("lags", 2, 3)]),
     "crowd_of_60": (crowd(60, 1, 3), [("schedule", 2, 3)]),
-    "crowd_of_61": (crowd(61, 1, 44), [(kind, *slots) for kind in ("schedule", "lags") for slots in ((2, 4), (3, 44))]),
+    "crowd_of_61": (crowd(61, 1, 44), [(kind, at, 44) for kind in ("schedule", "lags") for at in (42, 4, 3)]),
     "widths": (crowd(3, 3, 500, 29, 40), [("schedule", 0, end) for end in (72, 73, 120, 121, 240, 241, 400, 401)]),
     "lags": (lags_of_all_kinds(), [("lags", *slots) for slots in LAGS]),
     "lags_of_25": (crowd(25, 1, 4), [("lags", 3, 4)]), "lags_of_60": (crowd(60, 1, 4), [("lags", 3, 4)]),

@@ -295,8 +295,8 @@ def test_as_many_tasks(tasks):
 def test_many_slots_and_names():
     """More slots and names than four bytes can number together."""
     log = [pfair.arrive(f"t{place}", 1, 10**5) for place in range(3_000)]
-    schedule = pfair.schedule(pfair.Script(1, 10**5, 800_000, [log]))
-    assert len(schedule.quanta) == 24_000 and pfair.check(schedule.script, schedule.quanta, order=True) == []
+    schedule = pfair.schedule(pfair.Script(1, 10**5, 10**6, [log]))
+    assert len(schedule.quanta) == 30_000 and pfair.check(schedule.script, schedule.quanta, order=True) == []
 
 
 # ---- words

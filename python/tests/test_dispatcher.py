@@ -5,7 +5,7 @@ import threading
 
 import numpy as np
 import pytest
-from conftest import assert_plain, refusal
+from conftest import Told, assert_plain, refusal
 from hypothesis import given, settings
 from hypothesis import strategies as some
 
@@ -281,20 +281,6 @@ def test_threads_share_one():
     assert shared.planned == 60 and (shared.quanta() == alone.quanta()).all()
 
 
-class Told:
-    """A lock that tells when it is taken."""
-
-    def __init__(self, lock, name, told):
-        self.lock, self.name, self.told = lock, name, told
-
-    def __enter__(self):
-        self.told.append(self.name)
-        return self.lock.__enter__()
-
-    def __exit__(self, *fault):
-        return self.lock.__exit__(*fault)
-
-
 def test_two_locks_are_taken_in_one_order():
     """Else two threads that absorb each other could wait for each other."""
     pair, told, orders = [pfair.Dispatcher(1, 6, 6) for _ in range(2)], [], set()
@@ -304,7 +290,7 @@ def test_two_locks_are_taken_in_one_order():
         for call in (one.absorb, one.is_below):
             told.clear()
             call(other)
-            orders.add(tuple(told[:2]))
+            orders.add(tuple(told))
     assert orders in ({(0, 1)}, {(1, 0)})
 
 

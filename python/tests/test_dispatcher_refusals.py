@@ -6,7 +6,7 @@ import subprocess
 import sys
 
 import pytest
-from conftest import outside, refusal
+from conftest import Told, outside, refusal
 
 import pfair
 from pfair import _dispatcher
@@ -71,19 +71,45 @@ def test_memory(program):
     assert done.returncode == 0, done.stderr
 
 
+# what each call and property is tried with, in an order in which none is refused
+CALLS = {"take": (0, 1, pfair.arrive("a", 1, 2)), "take_log": (0, [pfair.promise(6)], 2), "held": (0, 1), "mark": (0,)}
+CALLS |= {"missing": (0,), "reserve": (1, 1), "plan": (), "table": (0,), "places": (0,), "quanta": (), "lags": ()}
+CALLS |= {name: () for name in ("decisions", "members", "faults", "planned", "frontier", "processors", "frame")}
+CALLS |= {"slots": (), "capacity": (), "absorb": "other", "is_below": "other", "forget": (1,), "reopen": ()}
+CALLS |= {"next_run": (6,), "close": ()}
+
+
+def called(one, name, other):
+    """Makes a call with its words, or reads a property."""
+    found = getattr(one, name)
+    return found(*((other,) if CALLS[name] == "other" else CALLS[name])) if callable(found) else found
+
+
+def test_each_call_is_one_step():
+    """No other thread comes between what a call asks of the library."""
+    one, other = pfair.Dispatcher(1, 6, 6), pfair.Dispatcher(1, 6, 6)
+    assert set(CALLS) == {name for name in dir(one) if name[0] != "_"} - {"of_file"}
+    told = []
+    one._lock = Told(one._lock, "one", told)
+    for name in (*CALLS, "__repr__"):
+        told.clear()
+        repr(one) if name == "__repr__" else called(one, name, other)
+        assert told == ["one"], name
+    torn = pfair.Dispatcher(1, 6, 6)
+    torn.take(0, 1, pfair.promise(1)), torn.take(0, 1, pfair.promise(2))
+    torn._lock = Told(torn._lock, "torn", told)
+    told.clear()
+    assert torn.faults() == ([(0, 1)], []) and told == ["torn"]
+
+
 def test_closing():
     one, other = pfair.Dispatcher(1, 6, 6), pfair.Dispatcher(1, 6, 6)
     with one as entered:
         assert entered is one
     one.close()
-    words = {"reserve": (1, 1), "take": (0, 1, pfair.promise(1)), "take_log": (0, []), "held": (0, 1)}
-    words |= {name: (1,) for name in ("forget", "next_run", "mark", "missing", "table", "places")}
-    words |= {name: (other,) for name in ("absorb", "is_below")}
-    calls = {name for name in dir(one) if name[0] != "_"} - {"close", "of_file"}
-    assert len(calls) == 25
-    for name in calls:
+    for name in set(CALLS) - {"close"}:
         with pytest.raises(pfair.NotOpen, match="^the dispatcher is closed"):
-            getattr(one, name)(*words.get(name, ()))
+            called(one, name, other)
     for call in (other.absorb, other.is_below):
         refusal(pfair.NotOpen, "the dispatcher is closed", call, one)
     assert repr(one) == "<Dispatcher: closed>"

@@ -128,6 +128,9 @@ def test_links_and_other_file_systems(command, tmp_path, monkeypatch):
     monkeypatch.setattr(draw.os, "replace", replaced)
     assert command("schedule", "file", "-o", str(link)) == (0, b"", b"") and link.is_symlink()
     assert asked == [(real.parent, real, real.read_text())] and real.read_text().endswith("</svg>\n")
+    # also what is less than a buffer holds
+    draw.write(b"small", str(link))
+    assert asked[-1] == (real.parent, real, "small")
     # what is interrupted leaves nothing behind
     monkeypatch.setattr(draw.os, "replace", lambda *_: (_ for _ in ()).throw(KeyboardInterrupt()))
     assert command("schedule", "file", "-o", str(link)) == (130, b"", b"")

@@ -5,7 +5,7 @@ import tomllib
 
 import numpy as np
 import pytest
-from hypothesis import given, settings
+from hypothesis import example, given, settings
 from hypothesis import strategies as some
 
 import pfair
@@ -123,7 +123,19 @@ def outcome(call, *words, **fields):
         return refused
 
 
+def arrival(**fields):
+    return "arrive", {"name": "a", "cost": 1, "period": 2, "early": False, "at": 0, "floor": 0, **fields}
+
+
+# of several fields that are wrong the first is told
 @settings(max_examples=1000)
+@example(("late", {"name": "a", "index": 0, "by": 0, "at": 0, "floor": 0}))
+@example(("late", {"name": "a", "index": 0, "by": 1, "at": 0, "floor": 1}))
+@example(("depart", {"name": "a", "at": 10**6 + 1, "floor": 10**6 + 2}))
+@example(arrival(cost=10**9 + 2, period=10**9 + 1))
+@example(arrival(cost=0, name=""))
+@example(arrival(cost=0, at=1, floor=2))
+@example(arrival(name="\u00c9" * 9))
 @given(ENTRIES)
 def test_makers(drawn):
     """They make the entry of these fields, or refuse what a dispatcher would, and name fields that are wrong."""
@@ -200,6 +212,7 @@ def test_text_of_what_announces_nothing():
 def test_logs_of_a_script():
     script = pfair.Script(3, 6, 8, [LOG, [], [pfair.promise(8)]])
     assert [script.log(processor) for processor in range(4)] == [LOG, [], [pfair.promise(8)], []]
+    assert script.log(0) is script.logs[0]
     outside("processor", -1, script.log, -1)
     # closed by a promise for all slots, unless the log's last floor is that already
     assert script.closed(0) == [*LOG, pfair.promise(8)]

@@ -15,7 +15,7 @@ from hypothesis import given, settings
 from hypothesis import strategies as some
 
 import pfair
-from pfair import _names, _program, _schedule, _source, _trace
+from pfair import _names, _program, _schedule, _source, _task_file, _trace
 
 FILES = sorted(EXAMPLES.glob("*.toml"))
 NAMED = {0: "admitted", 1: "departing", 2: "delayed"}
@@ -266,9 +266,18 @@ def test_a_file_one_byte_too_long(tmp_path):
             assert isinstance(refused.value, pfair.FileTooLong) == (size == 67_108_865)
 
 
-def test_a_file_without_an_end():
-    """No more is read than is needed to refuse it."""
-    refusal(pfair.FileTooLong, pfair.FileTooLong.text, pfair.read_task_file, "/dev/zero")
+def test_a_file_without_an_end(monkeypatch):
+    """No more is asked for than is needed to refuse it."""
+    asked = []
+
+    class Endless(io.BytesIO):
+        def read(self, size=-1):
+            asked.append(size)
+            return b" " * 67_108_865
+
+    monkeypatch.setattr(_task_file, "open", lambda *_: Endless(), raising=False)
+    refusal(pfair.FileTooLong, pfair.FileTooLong.text, pfair.read_task_file, "endless")
+    assert asked == [67_108_865]
 
 
 def test_logs_of_files():

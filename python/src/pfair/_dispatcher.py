@@ -8,7 +8,7 @@ from types import TracebackType
 from typing import Any, Optional, TypeVar, Union
 
 from . import _contents, _planned, _plans, _take
-from .errors import check
+from .errors import NotOpen, check
 from ._library import FileFault, Handle, Settings, library
 from ._numbers import whole
 
@@ -157,9 +157,8 @@ class Dispatcher:
         -----
         O(e + t + r) for e entries, t tasks, and r quanta and decisions of the planned slots.
         """
-        with self._lock:
-            if self._handle.is_open:
-                self._call("pfair_close")
+        answer = self._answer("pfair_close")
+        check(0 if answer == NotOpen.number else answer)
 
     def _settings(self) -> Settings:
         settings = Settings()
