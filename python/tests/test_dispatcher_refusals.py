@@ -128,50 +128,49 @@ def test_one_that_was_never_made():
         pfair.Dispatcher()
 
 
-def one_of(**sizes):
-    """A dispatcher with these sizes, else as small as can be."""
-    return pfair.Dispatcher(**{"processors": 1, "frame": 1, "slots": 1, "capacity": 1, **sizes})
-
-
-def windows_of(**words):
-    return pfair.windows(**{"cost": 1, "period": 2, "count": 1, **words})
-
-
 ANY, BYTE, SHORT = (0, 2**64 - 1), (0, 255), (0, 2**32 - 1)
-# each number that a call takes, with its range; None if the library refuses some that are in it
-RANGES = [
-    (one_of, {"processors": (1, 64), "frame": (1, 10**9), "slots": (1, 10**6), "capacity": (1, 4096)}, True),
-    (windows_of, {"count": (0, 1_000_001), "first": (1, 1_000_001), "theta": (0, 2**40)}, True),
-    (windows_of, {"cost": ANY, "period": ANY}, False),
-    (lambda until: one_of().plan(until), {"until": (1, 2**64 - 1)}, True),
-    (lambda slots=0, tasks=0: one_of().reserve(slots, tasks), {"slots": ANY, "tasks": ANY}, True),
-    (lambda slots: one_of().forget(slots), {"slots": ANY}, True),
-    (lambda slots: one_of().next_run(slots), {"slots": (1, 10**6)}, False),
-    (lambda processor=0, number=1: one_of().held(processor, number), {"processor": BYTE, "number": SHORT}, False),
-    (
-        lambda processor=0, number=1: one_of().take(processor, number, pfair.promise(1)),
-        {"processor": BYTE, "number": SHORT},
-        False,
-    ),
-    (lambda processor=0, first=1: one_of().take_log(processor, [], first), {"processor": BYTE, "first": SHORT}, False),
-    (lambda processor: one_of().mark(processor), {"processor": BYTE}, False),
-    (lambda processor: one_of().missing(processor), {"processor": BYTE}, False),
-    (lambda start=0, stop=0: one_of().quanta(start, stop), {"start": ANY, "stop": ANY}, False),
-    (lambda start=0, stop=0: one_of().decisions(start, stop), {"start": ANY, "stop": ANY}, False),
-    (lambda start=0, stop=0: one_of().lags(start, stop), {"start": ANY, "stop": ANY}, False),
-]
+KEY, SLOTS = {"processor": BYTE, "number": SHORT}, {"start": ANY, "stop": ANY}
+# each number that a call takes, with its range, and whether the library takes all that are in it
+RANGES = {
+    "Dispatcher": ({"processors": (1, 64), "frame": (1, 10**9), "slots": (1, 10**6), "capacity": (1, 4096)}, True),
+    "windows": ({"cost": ANY, "period": ANY, "count": (0, 1_000_001), "first": (1, 1_000_001)}, False),
+    "plan": ({"until": (1, 2**64 - 1)}, True), "reserve": ({"slots": ANY, "tasks": ANY}, True),
+    "forget": ({"slots": ANY}, True), "next_run": ({"slots": (1, 10**6)}, False), "held": (KEY, False),
+    "take": (KEY, False), "take_log": ({"processor": BYTE, "first": SHORT}, False),
+    **{name: ({"processor": BYTE}, False) for name in ("mark", "missing")},
+    **{name: (SLOTS, False) for name in ("quanta", "decisions", "lags")},
+}
+# what else a call needs
+NEEDS = {
+    "Dispatcher": {"processors": 1, "frame": 1, "slots": 1, "capacity": 1}, "reserve": {"slots": 0, "tasks": 0},
+    "windows": {"cost": 1, "period": 2, "count": 1}, "take": {"processor": 0, "number": 1, "entry": pfair.promise(1)},
+    "take_log": {"processor": 0, "entries": []}, "held": {"processor": 0, "number": 1},
+}
 
 
-@pytest.mark.parametrize("call,ranges,is_taken", RANGES)
-def test_ranges(call, ranges, is_taken):
+def tried(name, **words):
+    one = pfair if hasattr(pfair, name) else pfair.Dispatcher(1, 1, 1)
+    return getattr(one, name)(**{**NEEDS.get(name, {}), **words})
+
+
+@pytest.mark.parametrize("call", RANGES)
+def test_ranges(call):
     """A number out of its range is refused by its name, and so is what is no whole number."""
+    ranges, is_taken = RANGES[call]
     for name, (least, most) in ranges.items():
         for number in (least - 1, most + 1):
-            outside(name, number, lambda: call(**{name: number}), least=least, most=most)
+            outside(name, number, lambda: tried(call, **{name: number}), least=least, most=most)
         for number in (least, most) if is_taken else ():
-            call(**{name: number})
+            tried(call, **{name: number})
         for wrong in (1.5, "1"):
-            refusal(TypeError, f"{name} = {wrong!r} is no whole number", lambda: call(**{name: wrong}))
+            refusal(TypeError, f"{name} = {wrong!r} is no whole number", lambda: tried(call, **{name: wrong}))
+
+
+def test_limits_of_windows():
+    for words in ({"count": 0}, {"count": 1_000_001}, {"first": 1_000_001}, {"theta": 0}, {"theta": 2**40}):
+        assert len(tried("windows", **words)) == words.get("count", 1)
+    for theta in (-1, 2**40 + 1):
+        outside("theta", theta, lambda: tried("windows", theta=theta), most=2**40)
 
 
 def test_weights_of_windows():

@@ -17,10 +17,8 @@ KINDS = {None: 0, "arrive": 1, "depart": 2, "late": 3}
 KEYS = ["floor", "kind", "at", "name", "length", "cost", "period", "early", "index", "by"]
 NUMBERS = some.integers(0, 2**64 - 1)
 NAMES = some.text("abcdefghijklmnopqrstuvwxyz_0123456789", max_size=16)
-ANY = some.builds(
-    pfair.Entry, NUMBERS, some.sampled_from(list(KINDS)), NUMBERS, NAMES, NUMBERS, NUMBERS, some.booleans(), NUMBERS,
-    NUMBERS,
-)
+WEIGHTS = NUMBERS, NUMBERS, some.booleans()
+ANY = some.builds(pfair.Entry, NUMBERS, some.sampled_from(list(KINDS)), NUMBERS, NAMES, *WEIGHTS, NUMBERS, NUMBERS)
 
 
 @settings(max_examples=100)
@@ -30,10 +28,9 @@ def test_rows_of_entries(entries):
     rows = pfair.rows_of(entries)
     assert rows.dtype == pfair.ENTRY and rows.shape == (len(entries),)
     for row, entry in zip(rows, entries):
-        wanted = [
-            entry.floor, KINDS[entry.kind], entry.at, entry.name.encode(), len(entry.name), entry.cost, entry.period,
-        ]
-        assert [row[key].item() for key in KEYS] == [*wanted, int(entry.early), entry.index, entry.by]
+        wanted = [entry.floor, KINDS[entry.kind], entry.at, entry.name.encode(), len(entry.name), entry.cost]
+        wanted += [entry.period, int(entry.early), entry.index, entry.by]
+        assert [row[key].item() for key in KEYS] == wanted
         back = entry_of(row)
         assert back == entry and type(back.early) is bool and isinstance(back.name, str)
 

@@ -125,18 +125,15 @@ COMPLAINTS = [
     (b"x" * 99 + b"\n", f"line 1: the header has no column 'slot': '{'x' * 80}'"),
     (b"slot,task\n1,a\n2\n", "line 3: it has 1 columns, and the header 2"),
     (b"slot,task\n1,a\n2,a,3\n1,a\n", "line 3: it has 3 columns, and the header 2"),
-    (b"slot,task\n1,a\nx,a\n", "line 3: 'x' is no whole number from 0 on"),
-    (b"slot,task\n-1,a\n", "line 2: '-1' is no whole number from 0 on"),
-    (b"slot,task\n1.0,a\n", "line 2: '1.0' is no whole number from 0 on"),
-    (b"slot,task\n1_0,a\n", "line 2: '1_0' is no whole number from 0 on"),
-    (b"slot,task\n,a\n", "line 2: '' is no whole number from 0 on"),
-    ("slot,task\n\u0663,a\n".encode(), "line 2: '\u0663' is no whole number from 0 on"),
-    (b"slot,task\n9223372036854775808,a\n", "line 2: '9223372036854775808' is no whole number from 0 on"),
     (b"slot,task,index\n1,a,1\n\n1,a,\n", "line 4: '' is no whole number from 0 on"),
-    (b"slot,task\n1,A\n", "line 2: 'A' is no task's name"),
-    (b"slot,task\n1,\n", "line 2: '' is no task's name"),
-    (b"slot,task\n1,a\n1,abcdefghijklmnopq\n", "line 3: 'abcdefghijklmnopq' is no task's name"),
-    (b"slot,task\n1,\xff\n", "line 2: '\ufffd' is no task's name"),
+    *(
+        (f"slot,task\n1,a\n{word},a\n".encode(), f"line 3: {word!r} is no whole number from 0 on")
+        for word in ("x", "-1", "1.0", "1_0", "", "\u0663", "9223372036854775808")
+    ),
+    *(
+        (b"slot,task\n1,a\n1,%s\n" % word, f"line 3: {word.decode(errors='replace')!r} is no task's name")
+        for word in (b"A", b"", b"abcdefghijklmnopq", b"\xff")
+    ),
     (b'slot,task\n1,"a\n2,b\n', "line 3: unexpected end of data"),
     (b'slot,task\n1,"a"b\n', "line 2: ',' expected after '\"'"),
 ]

@@ -3,7 +3,6 @@ import concurrent.futures
 import copy
 import io
 import multiprocessing
-import pathlib
 import pickle
 import sys
 import types
@@ -193,12 +192,6 @@ def test_numbers_of_many_names():
     check_numbers([b"a" * 14 + b"%c%c" % (one, other) for one in b"abc" for other in range(97, 123)])
 
 
-def test_long_names_with_one_beginning():
-    log = [pfair.arrive(f"beginning_{end}", 1, 4) for end in "abc"] + [pfair.arrive("zzzzzzzz_a", 1, 4)]
-    schedule = pfair.schedule(pfair.Script(1, 4, 40, [log]))
-    assert schedule.counts() == counts_by_a_loop(schedule.script) == (4, 0, 40, 0, 0, 0)
-
-
 def test_pandas():
     """Tasks in the order of their names, outcomes in words, and numbers whose differences don't wrap around."""
     pandas = pytest.importorskip("pandas")
@@ -331,16 +324,6 @@ def test_traces_in_pieces(monkeypatch):
     for size in (1, 7):
         monkeypatch.setattr(_source, "_READ_AT_ONCE", size)
         assert (trace_of(schedule), schedule.svg(picture="lags")) == whole
-
-
-def test_paths_of_all_kinds():
-    """A path may be anything that os.fspath takes."""
-
-    class Named:
-        def __fspath__(self):
-            return str(EXAMPLES / "two_processors.toml")
-
-    assert pfair.read_task_file(Named()) == script_of(pathlib.Path(EXAMPLES, "two_processors.toml"))
 
 
 def test_pictures_know_the_settings():

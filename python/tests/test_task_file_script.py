@@ -6,7 +6,7 @@ import tomllib
 from fractions import Fraction
 
 import pytest
-from conftest import SCRIPTS, module_of
+from conftest import SCRIPTS, module_of, refusal
 from hypothesis import assume, given, settings
 from hypothesis import strategies as some
 
@@ -241,20 +241,15 @@ def test_costs_by_hand():
     # a whole processor stays one, though there is room for one of its quanta
     whole = Draws(0.2, periods=[100, 10])
     assert [task.cost for task in TASK_FILE.drawn(2, 125, 1, [100, 10], whole)] == [100, 2]
-    with pytest.raises(
-        TASK_FILE.Refused, match="^3 tasks of cost 1 are already over the load of 29 percent: give longer periods$"
-    ):
-        TASK_FILE.drawn(3, 29, 1, [10], Draws(0.5, 0.5))
+    said = "3 tasks of cost 1 are already over the load of 29 percent: give longer periods"
+    refusal(TASK_FILE.Refused, said, TASK_FILE.drawn, 3, 29, 1, [10], Draws(0.5, 0.5))
     assert [task.cost for task in TASK_FILE.drawn(2, 200, 1, [10], Draws(0.5))] == [10, 10]
 
 
 def test_draws_are_given_up():
     draws = Draws()
-    with pytest.raises(
-        TASK_FILE.Refused,
-        match=r"^no 2 tasks were found whose weights add to 1\.5: give more tasks, or a smaller load$",
-    ):
-        TASK_FILE.utilizations(2, 1.5, draws)
+    said = "no 2 tasks were found whose weights add to 1.5: give more tasks, or a smaller load"
+    refusal(TASK_FILE.Refused, said, TASK_FILE.utilizations, 2, 1.5, draws)
     assert draws.asked == 100_000
 
 

@@ -1,7 +1,9 @@
 """Traces of rows of the test's own: each word, time and track of both formats."""
 import io
+import itertools
 import json
 import re
+import types
 
 import pytest
 from hypothesis import given, settings
@@ -11,24 +13,12 @@ from pfair import _trace as trace
 from pfair._trace import Decided, Lag, Quantum
 
 
-class Rows(trace.Source):
+def Rows(processors, slots, names, quanta=(), decisions=(), lags=()):
     """Rows of the test's own."""
-
-    def __init__(self, processors, slots, names, quanta=(), decisions=(), lags=()):
-        self.processors, self.slots = processors, slots
-        self._rows = names, quanta, decisions, lags
-
-    def names(self):
-        return list(self._rows[0])
-
-    def quanta(self):
-        return (Quantum(*row) for row in self._rows[1])
-
-    def decisions(self):
-        return (Decided(*row) for row in self._rows[2])
-
-    def lags(self):
-        return (Lag(*row) for row in self._rows[3])
+    made = types.SimpleNamespace(processors=processors, slots=slots, names=lambda: list(names))
+    made.quanta, made.lags = lambda: itertools.starmap(Quantum, quanta), lambda: itertools.starmap(Lag, lags)
+    made.decisions = lambda: itertools.starmap(Decided, decisions)
+    return made
 
 
 def written(rows, format, slot=1.0):

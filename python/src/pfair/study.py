@@ -5,7 +5,7 @@ from concurrent.futures import Executor, ProcessPoolExecutor
 from fractions import Fraction
 from math import floor, lcm
 from numbers import Real
-from typing import Callable, Iterable, NamedTuple, Optional, Sequence, TypeVar
+from typing import Callable, Iterable, Optional, Sequence, TypeVar
 
 import numpy as np
 import numpy.typing as npt
