@@ -14,6 +14,8 @@ def nodes_of(tree):
         text = node.body[:1] if isinstance(node, documented) and ast.get_docstring(node) is not None else []
         for part in (getattr(node, "annotation", None), getattr(node, "returns", None), *text):
             skipped.update(ast.walk(part) if part else ())
+        if isinstance(node, ast.Subscript) and ast.unparse(node.value) == "Literal":
+            skipped.update(ast.walk(node))
     return [node for node in ast.walk(tree) if node not in skipped]
 
 

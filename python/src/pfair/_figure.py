@@ -89,7 +89,7 @@ def cut(name: str, tail: str, room: int) -> str:
 def told_apart(names: list[str], room: int, taken: set[str]) -> list[str]:
     """Returns names cut to their first letters and the fewest that tell them apart, or none if none that fit do."""
     for tails in tails_of(names):
-        made = [cut(name[: max(1, len(name) - len(tail))], tail, room) for name, tail in zip(names, tails)]
+        made = [cut(name[: len(name) - len(tail)], tail, room) for name, tail in zip(names, tails)]
         if all(made) and len(set(made)) == len(made) and taken.isdisjoint(made):
             return made
     return []
