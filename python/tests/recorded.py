@@ -84,7 +84,3 @@ def drawn(rng):
 def rows_of(quanta):
     """The quanta as lists: slot, task, subtask, processor."""
     return [[int(q["slot"]), q["task"].decode(), int(q["index"]), int(q["place"])] for q in quanta]
-
-
-def text_of(rows):
-    return "slot,task,index,place\n" + "".join(",".join(map(str, row)) + "\n" for row in rows)

@@ -6,7 +6,7 @@ from fractions import Fraction
 import numpy as np
 import pytest
 from conftest import EXAMPLES, assert_plain, refusal
-from recorded import drawn, rows_of, stays_of, text_of
+from recorded import drawn, rows_of, stays_of
 
 import pfair
 from pfair import _check
@@ -414,11 +414,3 @@ def test_damaged_texts():
             refused += 1
             assert type(fault) is ValueError and str(fault).startswith("line ")
     assert 2_000 < refused < 9_999
-
-
-def test_rows_are_read_in_their_forms():
-    """By fields of an array, as tuples, and as a text in the form of examples/c/executive."""
-    rows = [[2, "a", 1, 0], [9, "a", 1, 0]]
-    array = np.array([tuple(row) for row in rows], [("slot", "i4"), ("task", "U9"), ("index", "u2"), ("place", "u1")])
-    for given in (rows, array, text_of(rows), text_of(rows).encode()):
-        assert pfair.check(TWO, given, order=True) == []

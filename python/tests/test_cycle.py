@@ -10,6 +10,7 @@ from static_sets import SCRIPTS, script_with
 
 import pfair
 
+
 def members_of(script):
     """The arrivals that are admitted at slot 0, by their names."""
     decisions = pfair.schedule(replace(script, slots=1)).decisions
@@ -57,14 +58,6 @@ def test_one_slot_is_a_cycle():
     assert made.quanta.tolist() == [(0, 0, 0, b"a", 1)] and made.script.slots == 1
     made = check_cycle(script_with(2, 12))
     assert len(made.quanta) == len(made.decisions) == 0 and made.script.slots == 1
-
-
-def test_refused_tasks_do_not_count():
-    """Neither for the hyperperiod nor in the rows: no room, a period that doesn't divide the frame, a name in use."""
-    script = script_with(1, 60, ("a", 1, 2), ("b", 3, 5), ("c", 1, 7), ("a", 1, 60), ("d", 1, 3))
-    made = check_cycle(script)
-    assert made.decisions["outcome"].tolist() == [0, 22, 21, 20, 0] and made.script.slots == 6
-    assert set(made.quanta["task"].tolist()) == {b"a", b"d"}
 
 
 def test_the_number_of_slots_does_not_matter():

@@ -47,7 +47,6 @@ def test_windows(cost, more, first, count, theta):
 def test_windows_have_defaults():
     rows = pfair.windows(8, 11, 3)
     assert rows.tolist() == [(0, 2, 1, 4), (1, 3, 1, 4), (2, 5, 1, 8)] == pfair.windows(8, 11, 3, 1, 0).tolist()
-    assert len(pfair.windows(8, 11, 1_000_001)) == 1_000_001 and pfair.windows(1, 2, 0).shape == (0,)
 
 
 LOG = [pfair.arrive("a", 1, 2, at=1), pfair.late("a", 2, 1, at=2, floor=2), pfair.depart("a", at=3, floor=3)]

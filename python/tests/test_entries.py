@@ -179,31 +179,19 @@ LOG = [
     pfair.arrive("a", 1, 2, early=True), pfair.late("a", 2, 3, at=1, floor=1), pfair.depart("a", at=4, floor=3),
     pfair.promise(5),
 ]
-TEXT = """version = 2
-processors = 3
-frame = 6
-slots = 8
-entry = [
-    { processor = 0, floor = 0, kind = "arrive", at = 0, name = "a", cost = 1, period = 2, early = true },
-    { processor = 0, floor = 1, kind = "late", at = 1, name = "a", index = 2, by = 3 },
-    { processor = 0, floor = 3, kind = "depart", at = 4, name = "a" },
-    { processor = 0, floor = 5 },
-    { processor = 1, floor = 0, kind = "arrive", at = 2, name = "b", cost = 2, period = 3 },
-]
-"""
+MORE = {"arrive": ("cost", "period"), "late": ("index", "by")}
 
 
-def test_text_of_a_script():
-    script = pfair.Script(3, 6, 8, [LOG, [pfair.arrive("b", 2, 3, at=2)]])
-    assert script.text() == TEXT and tomllib.loads(TEXT)["version"] == 2
-    assert pfair.Script(1, 2, 3).text() == "version = 2\nprocessors = 1\nframe = 2\nslots = 3\nentry = [\n]\n"
-
-
-def test_text_of_what_announces_nothing():
-    """Its other fields aren't told; a name of no bytes is."""
-    script = pfair.Script(1, 2, 3, [[pfair.Entry(5, name="a", cost=1), pfair.Entry(0, "depart", 2)]])
-    lines = ["{ processor = 0, floor = 5 },", '{ processor = 0, floor = 0, kind = "depart", at = 2, name = "" },']
-    assert script.text().splitlines()[5:7] == [f"    {line}" for line in lines]
+@given(some.lists(some.lists(ANY, max_size=3), max_size=3))
+def test_text_of_a_script(logs):
+    """An entry in a line, with the keys that its kind needs, and no others."""
+    text, wanted = pfair.Script(3, 6, 8, logs).text(), []
+    for processor, entry in ((processor, entry) for processor, log in enumerate(logs) for entry in log):
+        keys = ["floor", *(("kind", "at", "name") if entry.kind else ()), *MORE.get(entry.kind, ())]
+        told = {key: getattr(entry, key) for key in keys + ["early"] * entry.early}
+        wanted.append({"processor": processor, **told})
+    assert tomllib.loads(text) == {"version": 2, "processors": 3, "frame": 6, "slots": 8, "entry": wanted}
+    assert text.count("\n") == 6 + len(wanted) and text.startswith("version = 2\n")
 
 
 def test_logs_of_a_script():

@@ -148,7 +148,7 @@ def test_lines_are_counted_over_pieces(monkeypatch):
     text = b"slot,task\n" + b"1,a\n" * 50 + b"?,a\n"
     for size in (1, 5, 64, 1000):
         monkeypatch.setattr(_record, "_AT_ONCE", size)
-        refusal(ValueError, "line 52: '?' is no whole number from 0 on", read_record, text if size else text)
+        refusal(ValueError, "line 52: '?' is no whole number from 0 on", read_record, text)
 
 
 def test_refused_rows():

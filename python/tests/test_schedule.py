@@ -15,6 +15,7 @@ from hypothesis import strategies as some
 
 import pfair
 from pfair import _names, _program, _schedule, _source, _task_file, _trace
+from recorded import rows_of, stays_of
 
 FILES = sorted(EXAMPLES.glob("*.toml"))
 NAMED = {0: "admitted", 1: "departing", 2: "delayed"}
@@ -98,30 +99,18 @@ def test_a_log_that_stalls():
 
 
 def counts_by_a_loop(script):
-    """The counts by a loop over the quanta. A name that joins again is another task."""
-    schedule = pfair.schedule(script)
-    costs, refused, arrivals, decided = {}, 0, 0, {}
-    for row in schedule.decisions:
-        decided.setdefault(int(row["slot"]), []).append(row)
-    last, wanted = {}, [0, 0, 0]
-    for slot in range(script.slots):
-        for decision in decided.get(slot, []):
-            entry = script.log(int(decision["processor"]))[int(decision["number"]) - 1]
-            arrivals += entry.kind == "arrive"
-            refused += entry.kind == "arrive" and decision["outcome"] != 0
-            if decision["outcome"] == 0:
-                costs[entry.name] = entry.cost
-                last.pop(entry.name, None)
-        for row in schedule.quanta[schedule.quanta["slot"] == slot]:
-            name, place = row["task"].decode(), int(row["place"])
-            wanted[0] += 1
-            if name in last:
-                was, where = last[name]
-                wanted[1] += slot - was > 1 and (int(row["index"]) - 1) % costs[name] != 0
-                wanted[2] += place != where
-            last[name] = slot, place
-    behind = sum(int(row["numerator"]) >= int(row["period"]) for row in schedule.lags())
-    return (arrivals, refused, *wanted, behind)
+    """The counts by a loop over the quanta of each incarnation."""
+    schedule, preempted, moved = pfair.schedule(script), 0, 0
+    rows, decided = rows_of(schedule.quanta), decisions_of(schedule.decisions)[1:]
+    for stay in stays_of(script, schedule.decisions):
+        own = [row for row in rows if row[1] == stay.name and stay.joined <= row[0] < stay.left]
+        for (before, _, _, where), (slot, _, index, place) in zip(own, own[1:]):
+            preempted += slot - before > 1 and (index - 1) % stay.cost != 0
+            moved += place != where
+    refused = sum(int(line.split(",")[5]) in (20, 21, 22) for line in decided if ",refused," in line)
+    admitted = sum(",admitted," in line for line in decided)
+    behind = sum(above >= below for _, _, above, below in schedule.lags().tolist())
+    return admitted + refused, refused, len(rows), preempted, moved, behind
 
 
 AGAIN = [

@@ -188,10 +188,3 @@ def test_refusals():
         with pytest.raises(ValueError, match="^a slot is 0.001 to 1000000 milliseconds$"):
             written(SMALL, "json", slot)
     assert written(SMALL, "vcd", 0.001).endswith("#6\n") and written(SMALL, "vcd", 1_000_000).endswith("#6000000000\n")
-
-
-def test_a_source_has_no_rows_of_its_own():
-    source = trace.Source()
-    for call in (source.names, source.decisions, source.quanta, source.lags):
-        with pytest.raises(NotImplementedError):
-            call()
