@@ -124,7 +124,7 @@ def arrival(**fields):
     return "arrive", {"name": "a", "cost": 1, "period": 2, "early": False, "at": 0, "floor": 0, **fields}
 
 
-# of several fields that are wrong the first is told
+# of several wrong fields the first is named
 @settings(max_examples=1000)
 @example(("late", {"name": "a", "index": 0, "by": 0, "at": 0, "floor": 0}))
 @example(("late", {"name": "a", "index": 0, "by": 1, "at": 0, "floor": 1}))
