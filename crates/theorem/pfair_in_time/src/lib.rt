@@ -17,7 +17,7 @@
 //! - **In time** (`proofs/InTime.antt`). The theorem of a first run in the executive's own words.
 //! - **From run to run** (`proofs/NextRuns.antt`, `proofs/LongRun.antt`). Runs that follow one another
 //!   go on as one long run (`runs_go_on` of `pfair_table`), in which all is announced that was announced
-//!   in them. A member of a later run is one of the long run, of which whole jobs were taken off
+//!   in them. A member of a later run is one of the long run from which whole jobs were taken off
 //!   (`IsLater`), and both run in the same slots (`runs_long`).
 //! - **In windows** (`proofs/Passing.antt`, `proofs/Windows.antt`, `proofs/ThroughRuns.antt`). The slots
 //!   of all runs in which a member without delays runs, counted from the slot from which its subtasks
