@@ -22,11 +22,11 @@
 
 enum {
     RUN = 200, /* slots */
-    LEAD = 16,
-    FLOOR_EVERY = 8,
-    ASK_AHEAD = 2, /* a log has to reach so many slots past the next one, else its processor is asked */
-    MOST_ENTRIES = 64,
-    MOST_KEPT = 32
+    LEAD = 12,
+    FLOOR_EVERY = 4,
+    ASK_AHEAD = 6, /* a log has to reach so many slots past the next one, else its processor is asked */
+    MOST_ENTRIES = 128,
+    MOST_KEPT = 64
 };
 _Static_assert(RUN % FLOOR_EVERY == 0 && LEAD % FLOOR_EVERY == 0, "what is said with a floor is of one run");
 _Static_assert(RUN >= 2 * LEAD, "when the log of run r + 2 takes the place of that of run r, all are past run r");
@@ -120,11 +120,10 @@ static void say(struct exchange *x, uint64_t run, const struct pfair_entry *entr
     if (run == x->run) take(x, x->number, log->said, entry);
 }
 
-/* Says what is stamped up to LEAD slots ahead, and then the floor, if that is due. The index that a late release has in
+/* Says what is stamped below the next floor, all of one run, and then that floor. The index that a late release has in
    its run is known only when that has begun. */
-static void announce(struct exchange *x, const struct announcement *table, unsigned rows, uint64_t slot) {
-    uint64_t floor = slot + LEAD, run = x->floor / RUN, begin = run * RUN;
-    if (x->floor >= x->slots || floor - x->floor < FLOOR_EVERY) return;
+static void raise_floor(struct exchange *x, const struct announcement *table, unsigned rows, uint64_t slot) {
+    uint64_t floor = x->floor + FLOOR_EVERY, run = x->floor / RUN, begin = run * RUN;
     for (unsigned k = 0; k < rows; k++) {
         const struct announcement *a = &table[k];
         if (a->processor % x->processors != x->number || a->at < x->floor || a->at >= floor) continue;
@@ -136,6 +135,13 @@ static void announce(struct exchange *x, const struct announcement *table, unsig
     struct pfair_entry nothing = {.floor = floor - begin, .kind = PFAIR_NOTHING};
     say(x, run, &nothing, slot);
     x->floor = floor;
+}
+
+/* Says what is stamped up to LEAD slots ahead of this slot, and at most so far ahead of the run. */
+static void announce(struct exchange *x, const struct announcement *table, unsigned rows, uint64_t slot) {
+    uint64_t end = (x->run + 1) * RUN;
+    if (end > slot) end = slot;
+    while (x->floor < x->slots && x->floor + FLOOR_EVERY <= end + LEAD) raise_floor(x, table, rows, slot);
 }
 
 /* A number that looks like chance, and is the same in each run. */
@@ -184,9 +190,16 @@ static void answer(struct exchange *x, const struct message *request) {
     for (uint32_t number = request->number; number <= log->said; number++) send_entry(x, request->from, log, number);
 }
 
+static const struct pfair_entry *kept_entry(const struct exchange *x, unsigned from, uint64_t number) {
+    for (unsigned k = 0; k < x->kept_count; k++)
+        if (x->kept[k].from == from && x->kept[k].number == number) return &x->kept[k].entry;
+    return NULL;
+}
+
 /* Takes an entry of this run, and keeps one of the next run. If there is no room for it, it is asked for later. */
 static void receive(struct exchange *x, const struct message *message) {
-    if (message->run == x->run + 1 && x->kept_count < MOST_KEPT) x->kept[x->kept_count++] = *message;
+    bool is_next = message->run == x->run + 1 && kept_entry(x, message->from, message->number) == NULL;
+    if (is_next && x->kept_count < MOST_KEPT) x->kept[x->kept_count++] = *message;
     if (message->run != x->run) return;
     x->known += take(x, message->from, message->number, &message->entry) == PFAIR_KNOWN;
     x->heard++;
@@ -200,16 +213,20 @@ static void hear(struct exchange *x) {
             else receive(x, &message);
 }
 
-/* Asks each processor whose log doesn't reach far enough past this slot. What it lacks may be lost, or only late. */
+/* Asks each processor whose log doesn't reach far enough past this slot, maybe into the next run. What it lacks may be
+   lost, or only late. */
 static void ask(struct exchange *x, uint64_t slot) {
     uint64_t end = slots_of(x, x->run), wanted = slot - x->run * RUN + ASK_AHEAD + 1;
     for (unsigned from = 0; from < x->processors; from++) {
-        uint64_t mark, count, missing;
+        const struct pfair_entry *kept;
+        uint64_t mark, count, missing = 1, run = x->run;
         must(pfair_mark(&x->dispatcher, (uint8_t)from, &mark, &count));
-        if (from == x->number || mark >= wanted || mark >= end) continue;
-        must(pfair_missing(&x->dispatcher, (uint8_t)from, &missing));
-        if (missing == 0) continue;
-        struct message request = {.is_request = true, .from = x->number, .run = x->run, .number = (uint32_t)missing};
+        if (from == x->number || mark >= wanted) continue;
+        if (mark < end) must(pfair_missing(&x->dispatcher, (uint8_t)from, &missing));
+        else
+            for (run++; (kept = kept_entry(x, from, missing)) != NULL; missing++) mark = end + kept->floor;
+        if (missing == 0 || mark >= wanted || run * RUN >= x->slots) continue;
+        struct message request = {.is_request = true, .from = x->number, .run = run, .number = (uint32_t)missing};
         send_one(x, from, &request);
         x->asked++;
     }
@@ -247,7 +264,8 @@ static void begin_next_run(struct exchange *x) {
     must(pfair_members(&x->dispatcher, &members, after, MOST_TASKS));
     for (uint64_t k = 0; k < members; k++) *taken_off(x, &before[k].name) += before[k].next - after[k].next;
     must(pfair_reserve(&x->dispatcher, RUN, MOST_TASKS));
-    for (uint32_t number = 1; number <= log->said; number++) take(x, x->number, number, &log->entries[number - 1]);
+    uint32_t said = log->run == x->run ? log->said : 0; /* else it is that of an older run */
+    for (uint32_t number = 1; number <= said; number++) take(x, x->number, number, &log->entries[number - 1]);
     for (unsigned k = 0; k < x->kept_count; k++) receive(x, &x->kept[k]);
     x->kept_count = 0;
     ask(x, x->run * RUN);
