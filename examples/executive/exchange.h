@@ -59,6 +59,7 @@ struct exchange {
     } taken_off[MOST_TASKS]; /* from the indexes of a task since it joined, as runs ended */
     uint64_t floor;          /* everything that is stamped before this slot is said */
     uint64_t asked_at;
+    bool is_silent; /* a trial: all that it sends is lost */
     uint32_t tries[MOST_PROCESSORS];
     uint64_t said, heard, known, lost, asked;
 };
@@ -155,7 +156,7 @@ static uint64_t chance(unsigned from, unsigned to, uint32_t number) {
 /* Sends a message, or loses it: one in 16, and any for which there is no room. */
 static void send_one(struct exchange *x, unsigned to, const struct message *message) {
     bool is_lost = chance(x->number, to, x->tries[to]++) % 16 == 0;
-    if (is_lost || !push(&rings[x->number][to], message)) x->lost++;
+    if (is_lost || x->is_silent || !push(&rings[x->number][to], message)) x->lost++;
     else give_hint(to);
 }
 

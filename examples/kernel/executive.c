@@ -1,172 +1,148 @@
 /*
- * executive.c: an executive on bare metal. No master decides: on each processor a dispatcher of its own plans each
- * slot, and the processor switches to the thread of the task whose place it is.
+ * executive.c: an executive on bare metal. No master decides: on each processor a planner, a thread with a dispatcher
+ * of its own, plans slots before their ticks, and leaves whose turn it is there.
  *
- * The dispatcher runs in the timer's interrupt, on its own stack and with interrupts off. So no call of the library is
- * interrupted: the dispatcher waits for messages only between two calls.
+ * Only the planner uses the dispatcher's handle. So a tick (ticks.c) may come at any time, also during a call of the
+ * library.
  */
 #include "../executive/exchange.h"
 #include "announcements.h"
-#include "tasks.h"
+#include "ticks.h"
 
-enum { PAINT = 0xee }; /* the stacks are filled with it, to see how deep they get */
 _Static_assert(PROCESSORS == MOST_PROCESSORS, "layout.h and announcement.h differ");
+_Static_assert(AHEAD + FLOOR_EVERY + 5 + 1 <= LEAD, "messages may take 5 slots, and an answer 1");
 
-static struct processor {
+static struct planner {
     struct exchange exchange;
-    struct task *running; /* NULL: it is idle */
-    struct frame idle;
-    uint8_t idle_stack[SMALL_STACK_SIZE] __attribute__((aligned(16)));
-    uint64_t slot;                  /* that begins at the next tick */
-    uint64_t planned[MOST_TASKS];   /* how many quanta the tables so far give each task */
     uint64_t planning[MOST_QUANTA]; /* time stamps that the plan of a slot took */
-    uint64_t extension, depth_of_opening;
-} processors[PROCESSORS];
+} planners[PROCESSORS];
 
 static unsigned machine; /* the number of processors */
-static uint64_t quanta, quantum, stamps_per_quantum; /* quantum: in microseconds */
+static uint64_t quanta, quantum; /* quantum: in microseconds */
 static atomic_uint awake, ready, over;
-static atomic_uint_fast64_t epoch; /* the time stamp at which slot 0 begins */
 
-static uint64_t boundary(uint64_t slot) {
-    return atomic_load(&epoch) + slot * stamps_per_quantum;
+/* A planner looks in each slot what came, so nobody wakes it. */
+void give_hint(unsigned processor) {
+    (void)processor;
 }
 
-static uint64_t slot_by_clock(void) {
-    return (time_stamp() - atomic_load(&epoch)) / stamps_per_quantum;
-}
-
-/* ---- how deep a stack gets */
-static void paint_stack(unsigned number) {
-    uint8_t *here = __builtin_frame_address(0);
-    memset(stacks[number], PAINT, (size_t)(here - 256 - stacks[number]));
-}
-
-static uint64_t stack_depth(unsigned number) {
-    uint64_t free = 0;
-    while (free < STACK_SIZE && stacks[number][free] == PAINT) free++;
-    return STACK_SIZE - free;
-}
-
-/* ---- a slot */
-/* Halts until a hint comes, or the next slot begins by the clock: then it may be time to send, or to ask again. No
-   hint is missed: sti lets interrupts in only after the next instruction. */
-static void wait_for_hint(void) {
-    arm_timer(HINT, boundary(slot_by_clock() + 1));
-    __asm__ volatile("sti; hlt; cli" : : : "memory");
-}
-
-/* Plans the slot, as soon as what came settles it. */
-static void plan(struct processor *p, uint64_t slot) {
-    for (;; wait_for_hint()) {
-        serve(&p->exchange, slot, slot_by_clock());
-        uint64_t from = time_stamp();
-        bool is_done = is_planned(&p->exchange, slot);
-        p->planning[slot] = time_stamp() - from;
-        if (is_done) return;
-    }
-}
-
-/* Lets a task have this quantum here, once it has had all earlier ones: another processor may be halting it only now.
-   That one may wait for what was lost on the way from here, so it is served meanwhile. */
-static void let_run(struct processor *p, struct task *task, uint64_t slot, uint64_t row, uint64_t index) {
-    uint64_t quantum_number = p->planned[task - tasks];
-    for (; atomic_load(&task->had) + 1 < quantum_number; relax()) serve(&p->exchange, slot + 1, slot_by_clock());
-    task->slot = slot;
-    task->row = row;
-    task->index = index;
-    atomic_store(&task->told, quantum_number);
-    p->running = task;
-}
-
-/* Plans the slot that begins, and finds out who runs here. */
-static void dispatch(struct processor *p, uint64_t slot) {
-    struct pfair_dispatcher *d = &p->exchange.dispatcher;
+/* ---- a planner */
+/* Whose turn the planned slot is here. */
+static struct turn turn_in(struct exchange *x, uint64_t slot) {
     struct pfair_pick rows[PROCESSORS];
     uint8_t places[PROCESSORS];
     uint64_t count;
-    plan(p, slot);
-    must(pfair_table(d, slot % RUN, &count, rows, PROCESSORS));
-    must(pfair_places(d, slot % RUN, &count, places, PROCESSORS));
+    struct turn turn = {0};
+    must(pfair_table(&x->dispatcher, slot % RUN, &count, rows, PROCESSORS));
+    must(pfair_places(&x->dispatcher, slot % RUN, &count, places, PROCESSORS));
     for (uint64_t row = 0; row < count; row++) {
         struct task *task = task_named(&rows[row].name);
         if (task == NULL) stop("a table names a stranger", row);
-        uint64_t index = whole_index(&p->exchange, &rows[row]);
-        p->planned[task - tasks]++;
-        if (places[row] == p->exchange.number) let_run(p, task, slot, row, index);
+        uint64_t index = whole_index(x, &rows[row]);
+        if (places[row] == x->number) turn = (struct turn){task, row, index};
     }
-    leave(&p->exchange, slot);
-    announce(&p->exchange, announcements, ANNOUNCEMENTS, slot);
+    return turn;
+}
+
+/* Leaves a turn for its tick. Answers whether that came before, and so found none. */
+static bool leave_turn(struct processor *p, uint64_t slot, const struct turn *turn) {
+    uint64_t flags = interrupts_off();
+    bool is_late = p->slot > slot;
+    p->turns[slot % AHEAD] = *turn;
+    p->ready = slot + 1;
+    interrupts_as(flags);
+    return is_late;
+}
+
+/* Plans the next slot, if what came settles it. */
+static bool plan_slot(unsigned number) {
+    struct exchange *x = &planners[number].exchange;
+    struct processor *p = &processors[number];
+    uint64_t slot = p->ready, from = time_stamp();
+    if (!is_planned(x, slot)) return false;
+    planners[number].planning[slot] = time_stamp() - from;
+    struct turn turn = turn_in(x, slot);
+    if (leave_turn(p, slot, &turn) && turn.task != NULL) note(slot, &turn, "it wasn't settled");
+    leave(x, slot);
+    return true;
+}
+
+/* Sends, hears, and announces by the clock: others go on, also if this one can't plan. */
+static void talk(struct exchange *x, uint64_t now) {
+    x->is_silent = limps(x->number, now);
+    announce(x, announcements, ANNOUNCEMENTS, now);
+    serve(x, now, now);
+}
+
+static _Noreturn void end(unsigned number);
+
+static _Noreturn void be_planner(unsigned number) {
+    struct processor *p = &processors[number];
+    for (;;) {
+        talk(&planners[number].exchange, slot_by_clock());
+        while (p->ready < quanta && p->ready < p->slot + AHEAD && plan_slot(number)) {}
+        if (p->ready == quanta && p->slot > quanta) end(number);
+        __asm__ volatile("int %0" : : "i"(REST) : "memory");
+    }
 }
 
 /* ---- the end */
-static void sort(uint64_t *times, uint64_t count) {
-    for (uint64_t k = 1; k < count; k++)
-        for (uint64_t j = k; j > 0 && times[j - 1] > times[j]; j--) {
-            uint64_t one = times[j];
-            times[j] = times[j - 1];
-            times[j - 1] = one;
-        }
-}
-
+/* Prints the turns of all threads that ran, as they noted them; and with the other notes those that were lost. */
 static void print_rows(void) {
     put_out(ROWS, "slot,processor,task,index,place\n");
     for (uint64_t slot = 0; slot < quanta; slot++)
         for (uint64_t row = 0; row < machine; row++)
             for (uint64_t place = 0; place < machine; place++) {
-                const struct ran *cell = &ran[slot][place];
-                if (cell->name == NULL || cell->row != row) continue;
-                put_out(ROWS, "%u,%u,%s,%u,%u\n", slot, row, cell->name, cell->index, place);
+                const struct cell *cell = &record[slot][place];
+                const struct turn *turn = &cell->turn;
+                if (turn->task == NULL || turn->row != row) continue;
+                uint16_t port = cell->lost == NULL ? ROWS : NOTES;
+                put_out(port, "%u,%u,%s,%u,%u", slot, row, turn->task->name, turn->index, place);
+                put_out(port, cell->lost == NULL ? "\n" : " lost: %s\n", cell->lost);
             }
+}
+
+static void print_times(const char *what, const uint64_t *times) {
+    uint64_t least = UINT64_MAX, most = 0;
+    for (uint64_t slot = 0; slot < quanta; slot++) {
+        if (times[slot] != 0 && times[slot] < least) least = times[slot];
+        if (times[slot] > most) most = times[slot];
+    }
+    put_out(NOTES, "%s %u to %u, ", what, least, most);
+}
+
+/* How deep a stack got: at first it is all zeros. */
+static void print_depth(const char *what, const uint8_t *stack, uint64_t size) {
+    uint64_t unused = 0;
+    while (unused < size && stack[unused] == 0) unused++;
+    put_out(NOTES, "%s %u, ", what, size - unused);
 }
 
 static void print_notes(void) {
     for (unsigned k = 0; k < machine; k++) {
-        struct processor *p = &processors[k];
-        const struct exchange *x = &p->exchange;
-        sort(p->planning, quanta);
-        put_out(NOTES, "processor %u: planning, cycles: ", (uint64_t)k);
-        put_out(NOTES, "median %u, worst %u; ", p->planning[quanta / 2], p->planning[quanta - 1]);
-        put_out(NOTES, "deepest stack, bytes: %u at the opening, %u in ticks; ", p->depth_of_opening, stack_depth(k));
-        put_out(NOTES, "entries: %u said, %u heard, %u of these again; ", x->said, x->heard, x->known);
+        const struct exchange *x = &planners[k].exchange;
+        put_out(NOTES, "processor %u: time stamps: ", (uint64_t)k);
+        print_times("ticks", processors[k].ticking);
+        print_times("plans", planners[k].planning);
+        put_out(NOTES, "bytes of stack: ");
+        print_depth("ticks", tick_stacks[k], SMALL_STACK_SIZE);
+        print_depth("planner", stacks[k], STACK_SIZE);
+        put_out(NOTES, "entries: %u said, %u heard, %u of these again, ", x->said, x->heard, x->known);
         put_out(NOTES, "messages: %u lost, %u requests\n", x->lost, x->asked);
     }
 }
 
 /* A processor that is through serves the others until they are, too. The first one then prints. */
-static _Noreturn void end(struct processor *p) {
+static _Noreturn void end(unsigned number) {
+    interrupts_off();
     atomic_fetch_add(&over, 1);
-    for (; atomic_load(&over) != machine; relax()) serve(&p->exchange, quanta, slot_by_clock());
-    if (p->exchange.number == 0) {
+    for (; atomic_load(&over) != machine; relax()) talk(&planners[number].exchange, slot_by_clock());
+    if (number == 0) {
         print_rows();
         print_notes();
         power_off(16);
     }
-    for (;;) __asm__ volatile("cli; hlt");
-}
-
-/* ---- a tick: switch.S gives the frame of the interrupted thread, and goes on with the frame that it finds then */
-void tick(struct frame *frame) {
-    struct processor *p = &processors[this_processor()];
-    struct task *task = p->running;
-    uint64_t now = time_stamp(), due = boundary(p->slot);
-    *lapic(LAPIC_EOI) = 0;
-    if (now < due || (task != NULL && !has_noted(task))) {
-        if (now >= due) due = now + (p->extension *= 2); /* the host gave the task no time yet */
-        arm_timer(TICK, due);
-        return;
-    }
-    if (task == NULL) p->idle = *frame;
-    else {
-        task->frame = *frame;
-        atomic_store(&task->had, p->planned[task - tasks]);
-    }
-    p->running = NULL;
-    if (p->slot == quanta) end(p);
-    dispatch(p, p->slot++);
-    *frame = p->running == NULL ? p->idle : p->running->frame;
-    p->extension = stamps_per_millisecond / 100;
-    arm_timer(TICK, boundary(p->slot));
+    for (;;) __asm__ volatile("hlt");
 }
 
 /* ---- the beginning */
@@ -185,6 +161,8 @@ static void begin_first(const uint32_t *note) {
     machine = (unsigned)number_of(&line);
     quanta = number_of(&line);
     quantum = number_of(&line);
+    limps_from = number_of(&line);
+    if (limps_from == 0) limps_from = MOST_QUANTA;
     bool is_in_range = machine >= 1 && machine <= PROCESSORS && quanta >= 1 && quanta <= MOST_QUANTA && quantum >= 1;
     if (!is_in_range) stop("a number is out of its range", 0);
     make_tasks(announcements, ANNOUNCEMENTS);
@@ -200,6 +178,26 @@ static void wake_others(void) {
     }
 }
 
+static void be_idle(void *nothing) {
+    (void)nothing;
+    for (;;) __asm__ volatile("hlt");
+}
+
+/* Plans slot 0, of which all is said at once. Slots begin when all processors have planned it. */
+static void begin_slots(unsigned number) {
+    struct exchange *x = &planners[number].exchange;
+    for (talk(x, 0); !plan_slot(number); talk(x, 0)) {
+        wait_milliseconds(1);
+        relax();
+        x->asked_at = UINT64_MAX; /* it asks again */
+    }
+    atomic_fetch_add(&ready, 1);
+    for (; atomic_load(&epoch) == 0; relax()) {
+        talk(x, 0);
+        if (number == 0 && atomic_load(&ready) == machine) atomic_store(&epoch, time_stamp() + stamps_per_millisecond);
+    }
+}
+
 /* boot.S calls this on each processor. */
 _Noreturn void begin(const uint32_t *note, unsigned number) {
     struct processor *p = &processors[number];
@@ -207,17 +205,11 @@ _Noreturn void begin(const uint32_t *note, unsigned number) {
     begin_processor(number);
     atomic_fetch_add(&awake, 1);
     if (number == 0) wake_others();
-    paint_stack(number);
-    begin_exchange(&p->exchange, number, machine, FRAME, quanta);
-    announce(&p->exchange, announcements, ANNOUNCEMENTS, 0);
-    p->depth_of_opening = stack_depth(number);
-    paint_stack(number);
-    atomic_fetch_add(&ready, 1);
-    if (number == 0) {
-        while (atomic_load(&ready) != machine) relax();
-        atomic_store(&epoch, time_stamp() + 10 * stamps_per_millisecond);
-    }
-    while (atomic_load(&epoch) == 0) relax();
+    begin_exchange(&planners[number].exchange, number, machine, FRAME, quanta);
+    make_frame(&p->idle, be_idle, NULL, p->idle_stack + sizeof p->idle_stack);
+    p->on = &p->planner;
+    begin_slots(number);
     arm_timer(TICK, boundary(0));
-    be_idle(p->idle_stack + sizeof p->idle_stack);
+    interrupts_as(0x202);
+    be_planner(number);
 }

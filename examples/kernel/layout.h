@@ -2,8 +2,8 @@
 #ifndef LAYOUT_H
 #define LAYOUT_H
 #define PROCESSORS 8          /* at most */
-#define STACK_SIZE 65536      /* of each processor's dispatcher */
-#define SMALL_STACK_SIZE 4096 /* of each processor for hints and faults, and for its idle thread */
+#define STACK_SIZE 65536      /* of each processor's planner */
+#define SMALL_STACK_SIZE 4096 /* of each processor for ticks, for faults, and for its idle thread */
 #define TRAMPOLINE 0x8000     /* where processors other than the first begin: a page below 1 MB */
 #define HEAP_END 0x6000000    /* memory from the kernel's end up to here (96 MB) is the heap */
 
@@ -18,7 +18,8 @@
 #define TASK_SEGMENTS 0x20
 /* interrupts */
 #define FAULTS 32 /* 0 to 31 */
-#define TICK 0x40 /* a quantum is over */
-#define HINT 0x50 /* a message came, or it is time to look: it only wakes the processor */
+#define TICK 0x40 /* a slot begins */
+#define PLAN 0x41 /* half of the slot is over: the planner goes on */
+#define REST 0x42 /* the planner gives way, by int */
 #define SPURIOUS 0xff
 #endif

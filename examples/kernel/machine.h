@@ -7,32 +7,34 @@
 #include <stddef.h>
 #include <stdint.h>
 
-/* ---- boot.S, switch.S and executive.c: a thread that doesn't run is its frame */
+/* ---- boot.S, switch.S, executive.c and ticks.c: a thread that doesn't run is its frame */
 struct frame {
     uint8_t sse[512]; /* as FXSAVE has it */
     uint64_t r15, r14, r13, r12, r11, r10, r9, r8, rbp, rdi, rsi, rdx, rcx, rbx, rax;
     uint64_t rip, cs, rflags, rsp, ss; /* as the processor pushes them */
 } __attribute__((aligned(16)));
 _Noreturn void begin(const uint32_t *note, unsigned number);
-void tick(struct frame *frame);
-void tick_entry(void), hint_entry(void), spurious_entry(void);
+void tick(struct frame *frame), plan_tick(struct frame *frame), turn_back(struct frame *frame);
+void tick_entry(void), plan_entry(void), rest_entry(void), spurious_entry(void);
 extern const uint8_t fault_entries[FAULTS][16];
-_Noreturn void be_idle(void *stack_end);
 uint64_t work(uint64_t pattern, uint64_t rounds);
 
 /* ---- processors.c */
-extern uint8_t stacks[PROCESSORS][STACK_SIZE];
+extern uint8_t stacks[PROCESSORS][STACK_SIZE], tick_stacks[PROCESSORS][SMALL_STACK_SIZE];
 bool is_new_enough(void);                /* whether the processor has x86-64-v2 */
 void make_gates(void);                   /* once: which code each interrupt runs */
 void begin_processor(unsigned number);   /* on each */
 void wake_processor(unsigned number);
-void give_hint(unsigned number);
+void wait_milliseconds(uint64_t count);
 unsigned this_processor(void);
 volatile uint32_t *lapic(uint32_t offset);
 
 /* ---- timer.c: time is the processor's time stamp counter */
-extern uint64_t stamps_per_millisecond;
+extern uint64_t stamps_per_millisecond, stamps_per_quantum;
+extern atomic_uint_fast64_t epoch;       /* at which slot 0 begins; 0 if that isn't known yet */
 void measure_time(void);                 /* once */
+uint64_t boundary(uint64_t slot);        /* at which the slot begins */
+uint64_t slot_by_clock(void);            /* 0 before slot 0, too */
 void arm_timer(uint8_t interrupt, uint64_t due);
 static inline uint64_t time_stamp(void) {
     return __builtin_ia32_rdtsc();

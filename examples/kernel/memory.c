@@ -2,7 +2,7 @@
  * memory.c: an allocator, and three ways to move bytes.
  *
  * A block has 16 bytes, or a power of two above, with a head of 16 bytes. For each size there is a list of free blocks.
- * One lock guards all lists, with interrupts off: a tick that allocates must not wait for the thread it interrupts.
+ * One lock guards all lists, with interrupts off: no planner may have to wait for one that a tick interrupted.
  */
 #include "machine.h"
 

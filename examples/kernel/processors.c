@@ -1,10 +1,10 @@
-/* processors.c: how processors are woken, how they interrupt each other, and which stack each interrupt takes. */
+/* processors.c: how processors are woken, and which stack each interrupt takes. */
 #include "machine.h"
 
 /* offsets of the LAPIC's registers */
 enum { SPURIOUS_REGISTER = 0xf0, COMMAND_LOW = 0x300, COMMAND_HIGH = 0x310, TIMER = 0x320 };
 enum { LINE_0 = 0x350, DIVISOR = 0x3e0 };
-enum { MASKED = 0x10000, ENABLED = 0x100, INIT = 0x4500, STARTUP = 0x4600, FIXED = 0x4000, IS_PENDING = 0x1000 };
+enum { MASKED = 0x10000, ENABLED = 0x100, INIT = 0x4500, STARTUP = 0x4600, IS_PENDING = 0x1000 };
 
 volatile uint32_t *lapic(uint32_t offset) {
     return (volatile uint32_t *)(uintptr_t)(LAPIC + offset);
@@ -43,7 +43,8 @@ static void make_gate(unsigned number, const void *entry, uint8_t stack) {
 void make_gates(void) {
     for (unsigned number = 0; number < FAULTS; number++) make_gate(number, fault_entries[number], 2);
     make_gate(TICK, (const void *)tick_entry, 1);
-    make_gate(HINT, (const void *)hint_entry, 2);
+    make_gate(PLAN, (const void *)plan_entry, 1);
+    make_gate(REST, (const void *)rest_entry, 1);
     make_gate(SPURIOUS, (const void *)spurious_entry, 2);
     out8(0x21, 0xff); /* the two old controllers are masked */
     out8(0xa1, 0xff);
@@ -55,7 +56,8 @@ static struct __attribute__((packed)) {
     uint64_t stacks[7];
     uint8_t unused_too[12];
 } task_segments[PROCESSORS];
-static uint8_t small_stacks[PROCESSORS][SMALL_STACK_SIZE] __attribute__((aligned(16)));
+uint8_t tick_stacks[PROCESSORS][SMALL_STACK_SIZE] __attribute__((aligned(16)));
+static uint8_t fault_stacks[PROCESSORS][SMALL_STACK_SIZE] __attribute__((aligned(16)));
 extern uint64_t segments[];
 
 void begin_processor(unsigned number) {
@@ -65,8 +67,8 @@ void begin_processor(unsigned number) {
         uint16_t limit;
         const void *at;
     } table = {sizeof gates - 1, gates};
-    task_segments[number].stacks[0] = (uint64_t)stacks[number + 1];
-    task_segments[number].stacks[1] = (uint64_t)small_stacks[number + 1];
+    task_segments[number].stacks[0] = (uint64_t)tick_stacks[number + 1];
+    task_segments[number].stacks[1] = (uint64_t)fault_stacks[number + 1];
     segments[segment / 8] = limit | (at & 0xffffff) << 16 | 0x89ull << 40 | (at >> 24 & 0xff) << 56;
     segments[segment / 8 + 1] = at >> 32;
     __asm__ volatile("ltr %0; lidt %1" : : "r"(segment), "m"(table));
@@ -83,12 +85,8 @@ static void command(unsigned number, uint32_t what) {
     while (*lapic(COMMAND_LOW) & IS_PENDING) relax();
 }
 
-void give_hint(unsigned number) {
-    command(number, FIXED | HINT);
-}
-
-static void wait_milliseconds(uint64_t count) {
-    for (uint64_t from = time_stamp(); time_stamp() - from < count * stamps_per_millisecond;) relax();
+void wait_milliseconds(uint64_t count) {
+    for (uint64_t from = time_stamp(); time_stamp() - from < count * stamps_per_millisecond;) {}
 }
 
 void wake_processor(unsigned number) {

@@ -6,10 +6,11 @@
  */
 #include "layout.h"
 
-/* The timer's interrupt puts the interrupted thread on the dispatcher's stack, as struct frame has it: what the
-   processor pushed, the general registers, and by FXSAVE the SSE registers, which the library changes. */
-    .global tick_entry, hint_entry, spurious_entry, fault_entries, be_idle, work
-tick_entry:
+/* These put what they interrupt on the stack of ticks, as struct frame has it: what the processor pushed, the general
+   registers, and by FXSAVE the SSE registers, which the library changes. */
+    .global tick_entry, plan_entry, rest_entry, spurious_entry, fault_entries, work
+    .macro switching entry, function
+\entry:
     .irp register, rax, rbx, rcx, rdx, rsi, rdi, rbp, r8, r9, r10, r11, r12, r13, r14, r15
     push %\register
     .endr
@@ -17,20 +18,19 @@ tick_entry:
     fxsave64 (%rsp)
     cld
     mov %rsp, %rdi
-    call tick                   /* tick(frame) may write another thread's frame there */
+    call \function              /* it may write another thread's frame there */
     fxrstor64 (%rsp)
     add $512, %rsp
     .irp register, r15, r14, r13, r12, r11, r10, r9, r8, rbp, rdi, rsi, rdx, rcx, rbx, rax
     pop %\register
     .endr
     iretq
+    .endm
+    switching tick_entry, tick
+    switching plan_entry, plan_tick
+    switching rest_entry, turn_back
 
-hint_entry:                     /* on the small stack */
-    push %rax
-    mov $LAPIC + LAPIC_EOI, %eax
-    movl $0, (%rax)
-    pop %rax
-spurious_entry:
+spurious_entry:                 /* on the small stack */
     iretq
 
     .balign 16                  /* faults, 16 bytes each, on the small stack */
@@ -47,13 +47,6 @@ any_fault:
     and $-16, %rsp
     call fault
     ud2
-
-/* be_idle(end of a stack): halts until an interrupt comes, again and again. */
-be_idle:
-    mov %rdi, %rsp
-    sti
-1:  hlt
-    jmp 1b
 
 /* work(pattern, rounds): fills the SSE registers with the pattern, counts down, and returns 0 if all still have it. */
 work:

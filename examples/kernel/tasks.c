@@ -1,44 +1,43 @@
 /*
- * tasks.c: a thread for each task. It works, notes each quantum that it gets, with the processor's own number, and ends
- * everything if it finds an SSE register changed.
+ * tasks.c: a thread for each task. It works, notes each turn that it gets, with the processor's own number, and ends
+ * everything if it finds an SSE register changed, or itself on two processors.
  */
 #include "tasks.h"
 
 struct task tasks[MOST_TASKS];
-struct ran ran[MOST_QUANTA][PROCESSORS];
+struct cell record[MOST_QUANTA][PROCESSORS];
+
+void note(uint64_t slot, const struct turn *turn, const char *lost) {
+    struct cell *cell = &record[slot][this_processor()];
+    if (atomic_fetch_add(&cell->times, 1) != 0) stop("a quantum was counted twice", slot);
+    cell->turn = *turn;
+    cell->lost = lost;
+}
 
 /* Interrupts are off, so that no tick comes before the note is whole. */
-static void note_quantum(struct task *task) {
+static void look_around(struct task *task) {
     uint64_t flags = interrupts_off();
-    struct ran *cell = &ran[task->slot][this_processor()];
-    task->of_incarnation = task->index == 1 ? 1 : task->of_incarnation + 1;
-    if (task->of_incarnation != task->index) stop("a task counted its quanta otherwise", task->index);
-    if (atomic_fetch_add(&cell->times, 1) != 0) stop("two tasks ran at once on one processor", task->slot);
-    cell->name = task->name;
-    cell->row = task->row;
-    cell->index = task->index;
-    atomic_store(&task->noted, atomic_load(&task->told));
+    if (task->place != this_processor()) stop("a task runs on two processors", task->slot);
+    if (!atomic_exchange(&task->is_noted, true)) note(task->slot, &task->turn, NULL);
     interrupts_as(flags);
 }
 
-bool has_noted(struct task *task) {
-    return atomic_load(&task->noted) == atomic_load(&task->told);
-}
-
-static _Noreturn void be_task(struct task *task) {
+static void be_task(void *itself) {
+    struct task *task = itself;
     for (;; task->rounds++) {
-        if (!has_noted(task)) note_quantum(task);
+        look_around(task);
         uint64_t pattern = (uint64_t)task * 0x9e3779b97f4a7c15 + task->rounds;
         if (work(pattern, 1000) != 0) stop("a task found its registers changed", task->rounds);
+        relax(); /* if one thread of the host emulates all processors, it goes on to the next one here */
     }
 }
 
-/* The frame of a thread that never ran: as if be_task were called, with interrupts on and the SSE state of a reset. */
-static void make_frame(struct task *task) {
-    struct frame *frame = &task->frame;
-    frame->rip = (uint64_t)be_task;
-    frame->rdi = (uint64_t)task;
-    frame->rsp = (uint64_t)(task->stack + TASK_STACK) - 8;
+/* The frame of a thread that never ran: as if code(word) were called, with interrupts on and the SSE registers as after
+   a reset. */
+void make_frame(struct frame *frame, void (*code)(void *), void *word, uint8_t *stack_end) {
+    frame->rip = (uint64_t)code;
+    frame->rdi = (uint64_t)word;
+    frame->rsp = (uint64_t)stack_end - 8;
     frame->cs = CODE64;
     frame->ss = DATA;
     frame->rflags = 0x202;
@@ -62,7 +61,8 @@ void make_tasks(const struct announcement *table, unsigned rows) {
         struct pfair_name name = pfair_name_of(table[row].name);
         if (table[row].kind != PFAIR_ARRIVE || task_named(&name) != NULL) continue;
         if (count == MOST_TASKS) stop("too many tasks", row);
-        tasks[count].name = table[row].name;
-        make_frame(&tasks[count++]);
+        struct task *task = &tasks[count++];
+        task->name = table[row].name;
+        make_frame(&task->frame, be_task, task, task->stack + TASK_STACK);
     }
 }

@@ -6,27 +6,36 @@
 
 enum { TASK_STACK = 4096 };
 
-struct task {
-    struct frame frame; /* while it doesn't run */
-    const char *name;
-    atomic_uint_fast64_t had;         /* how many quanta it has had, over all its incarnations */
-    atomic_uint_fast64_t told, noted; /* the quantum that it may have now, and the last one that it noted */
-    uint64_t slot, row, index;        /* of the quantum that it may have */
-    uint64_t of_incarnation, rounds;
-    uint8_t stack[TASK_STACK] __attribute__((aligned(16)));
-};
-
-/* Which task ran in a slot on a processor, as the task noted it. */
-struct ran {
-    atomic_uint times;
-    const char *name;
+/* A quantum of a slot: whose it is (NULL: nobody's), its row in the slot's table, and its index. */
+struct turn {
+    struct task *task;
     uint64_t row, index;
 };
 
+struct task {
+    struct frame frame; /* while it doesn't run */
+    const char *name;
+    atomic_uint_fast64_t given; /* 2 * (the last slot that it was given + 1), and one more while it runs in it */
+    uint64_t slot;              /* that, with the turn and the processor */
+    struct turn turn;
+    unsigned place;
+    atomic_bool is_noted; /* whether it noted this turn */
+    uint64_t rounds;
+    uint8_t stack[TASK_STACK] __attribute__((aligned(16)));
+};
+
+/* What became of a processor's turn in a slot. */
+struct cell {
+    atomic_uint times;
+    struct turn turn;
+    const char *lost; /* why it was lost; NULL if the thread ran */
+};
+
 extern struct task tasks[MOST_TASKS];
-extern struct ran ran[MOST_QUANTA][PROCESSORS];
+extern struct cell record[MOST_QUANTA][PROCESSORS];
+void note(uint64_t slot, const struct turn *turn, const char *lost);      /* of this processor */
+void make_frame(struct frame *frame, void (*code)(void *), void *word, uint8_t *stack_end);
 void make_tasks(const struct announcement *table, unsigned rows); /* a thread for each name that arrives */
 struct task *task_named(const struct pfair_name *name);
-bool has_noted(struct task *task);
 
 #endif
