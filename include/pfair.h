@@ -125,7 +125,8 @@
  *  - malloc, realloc and free belong to one allocator. It aligns a block to the greatest power of two that divides its
  *    size, up to 16.
  *  - A call in an interrupt or in a signal handler must not interrupt a call with the same handle; and if it allocates
- *    or frees, nor malloc, realloc or free. The handler of a timer's tick may plan if it keeps to this.
+ *    or frees, nor malloc, realloc or free. The handler of a timer's tick may plan if it keeps to this;
+ *    it needs no call at all if a thread plans ahead of it (docs/KERNEL.md).
  *  - No call comes from the child of a fork of a process with threads.
  */
 #ifndef PFAIR_H
