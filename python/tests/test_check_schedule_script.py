@@ -38,11 +38,8 @@ def test_wrong(call, tmp_path):
     assert call(CHECK, tasks, rows) == (1, wanted, "")
     done = call(CHECK, "--order", tasks, rows)
     order = "slot 0, a 1: order: it isn't among the first 1\n"
-    assert done == (
-        1,
-        lines[0] + "\n" + order + "\n".join([*lines[1:], "5 wrong: 2 crowded, 1 early, 1 index, 1 order", ""]),
-        "",
-    )
+    wanted = "\n".join([*lines[1:], "5 wrong: 2 crowded, 1 early, 1 index, 1 order", ""])
+    assert done == (1, f"{lines[0]}\n{order}{wanted}", "")
 
 
 def test_refused(call, tmp_path):
@@ -62,10 +59,7 @@ def test_refused(call, tmp_path):
         ((TASKS, none), f"{none}: [Errno 2] No such file or directory: '{none}'"),
         ((TASKS, tmp_path), f"{tmp_path}: [Errno 21] Is a directory: '{tmp_path}'"),
         ((TASKS, rows), f"{rows}: line 3: '?' is no task's name"),
-        (
-            (stalled, ROWS),
-            f"{stalled}: {pfair.Stalled.text}: slot 5",
-        ),
+        ((stalled, ROWS), f"{stalled}: {pfair.Stalled.text}: slot 5"),
     ):
         assert call(CHECK, *words) == (2, "", f"scripts/check_schedule: {said}\n")
 

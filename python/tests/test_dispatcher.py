@@ -168,12 +168,6 @@ def test_plans():
         assert one.plan() == ("planned", 5) and one.planned == 6 and one.plan(7) == ("done", 0) == one.plan(2**64 - 1)
 
 
-def test_plans_past_the_end():
-    with pfair.Dispatcher(1, 6, 6, 8) as one:
-        one.take_log(0, LOG)
-        assert one.plan(one.slots + 1) == ("done", 0) and one.planned == one.slots
-
-
 NOT_PLANNED = "the slot isn't planned, or is forgotten"
 
 

@@ -42,11 +42,6 @@ def test_files(wheel):
         assert member.external_attr >> 16 == 0o100644 and member.external_attr & 0xFFFF == 0
 
 
-def test_again_it_is_the_same(wheel, tmp_path):
-    (tmp_path / "again").mkdir()
-    assert MAKE.write_wheel(tmp_path / "made.so", tmp_path / "again").read_bytes() == wheel.read_bytes()
-
-
 def test_record(wheel):
     """The sum and the length of each file but of the record itself."""
     with zipfile.ZipFile(wheel) as packed:
@@ -79,10 +74,8 @@ def test_metadata(wheel):
 
 def test_sections():
     text = '[one]\na = \'b\'\nlong-name = ["c", "d"]\n\n[one.two]\na = "e"\n[three]\nf = "g"\n'
-    assert MAKE.section_of(text, "one") == {"a": "b", "long-name": ["c", "d"]} and MAKE.section_of(text, "one.two") == {
-        "a": "e"
-    }
-    assert MAKE.section_of(text, "three") == {"f": "g"}
+    assert MAKE.section_of(text, "one") == {"a": "b", "long-name": ["c", "d"]}
+    assert MAKE.section_of(text, "one.two") == {"a": "e"} and MAKE.section_of(text, "three") == {"f": "g"}
 
 
 def test_words(call, tmp_path):
@@ -92,11 +85,8 @@ def test_words(call, tmp_path):
 
 def test_what_is_missing(call, tmp_path, monkeypatch):
     """One line says what, and how to get it; nothing is made."""
-    lacks = {
-        "rt": "README.md names the Rattle kit that has it",
-        "cc": "install a C compiler, on Debian by apt-get install gcc",
-    }
-    for command, advice in lacks.items():
+    advice_on_rt = "README.md names the Rattle kit that has it"
+    for command, advice in (("rt", advice_on_rt), ("cc", "install a C compiler, on Debian by apt-get install gcc")):
         monkeypatch.setattr(MAKE.shutil, "which", lambda name, command=command: None if name == command else name)
         said = f"scripts/make_wheel: there is no {command} here: {advice}\n"
         assert call(MAKE, tmp_path / "made") == (1, "", said) and not (tmp_path / "made").exists()

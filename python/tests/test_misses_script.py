@@ -47,19 +47,11 @@ def wanted_of(decided, lags, bound):
     return HEAD + "".join(lines), status
 
 
-OUTCOMES = some.sampled_from(
-    [
-        ("admitted", "-"),
-        ("delayed", "-"),
-        ("departing", "20"),
-        ("departing", "7"),
-        *(("refused", str(n)) for n in range(20, 26)),
-    ]
-)
+KINDS = [("admitted", "-"), ("delayed", "-"), ("departing", "20"), ("departing", "7")]
+OUTCOMES = some.sampled_from([*KINDS, *(("refused", str(number)) for number in range(20, 26))])
 DECIDED = some.lists(some.tuples(some.sampled_from("abcde"), OUTCOMES).map(lambda row: (row[0], *row[1])), max_size=8)
-LAGGED = some.lists(
-    some.tuples(some.integers(1, 9), some.sampled_from("abcd"), some.integers(-8, 8), some.integers(1, 6)), max_size=10
-)
+LAG = some.tuples(some.integers(1, 9), some.sampled_from("abcd"), some.integers(-8, 8), some.integers(1, 6))
+LAGGED = some.lists(LAG, max_size=10)
 BOUNDS = some.sampled_from([Fraction(1), Fraction(0), Fraction(3, 2), Fraction(-1, 2)])
 
 
@@ -79,23 +71,11 @@ def test_sums(decided, lags, bound):
 
 MISSED = [(1, "a", 1, 2), (2, "a", 1, 1), (3, "b", 5, 4), (4, "b", -1, 4), (5, "c", 0, 3)]
 FINE = [(1, "a", 1, 2)]
-TWO = [
-    ("a", "admitted", "-"),
-    ("b", "admitted", "-"),
-    ("c", "refused", "20"),
-    ("d", "refused", "21"),
-    ("b", "refused", "22"),
-]
-STATUSES = [
-    ([("a", "admitted", "-")], FINE, []),
-    ([("a", "admitted", "-")], MISSED, []),
-    (TWO, FINE, []),
-    (TWO, MISSED, []),
-    ([("a", "delayed", "-"), ("a", "delayed", "-"), ("b", "delayed", "-")], MISSED, []),
-    ([], [], []),
-    ([("a", "admitted", "-"), ("a", "refused", "23")], FINE, []),
-    ([("a", "admitted", "-")], MISSED, ["--bound", "3/2"]),
-]
+ONE = [("a", "admitted", "-")]
+TWO = [*ONE, ("b", "admitted", "-"), ("c", "refused", "20"), ("d", "refused", "21"), ("b", "refused", "22")]
+STATUSES = [(ONE, FINE, []), (ONE, MISSED, []), (TWO, FINE, []), (TWO, MISSED, []), ([], [], [])]
+STATUSES += [([*ONE, ("a", "refused", "23")], FINE, []), (ONE, MISSED, ["--bound", "3/2"])]
+STATUSES += [([("a", "delayed", "-"), ("a", "delayed", "-"), ("b", "delayed", "-")], MISSED, [])]
 
 
 @pytest.mark.parametrize("decided,lags,words", STATUSES)
@@ -108,14 +88,8 @@ def test_statuses(call, decided, lags, words):
 
 def test_counts_above_one(call):
     """Two of each: tasks that missed, refused arrivals, late releases of one task, tasks with late releases."""
-    lags = [(1, "a", 1, 1), (1, "b", 1, 1), (1, "c", 1, 1), (1, "d", 1, 1)]
-    decided = [
-        ("c", "delayed", "-"),
-        ("c", "delayed", "-"),
-        ("d", "delayed", "-"),
-        ("x", "refused", "20"),
-        ("y", "refused", "21"),
-    ]
+    lags, decided = [(1, task, 1, 1) for task in "abcd"], [(task, "delayed", "-") for task in "ccd"]
+    decided += [("x", "refused", "20"), ("y", "refused", "21")]
     done = call(MISSES, given=rows_of_decisions(decided) + rows_of_lags(lags))
     rows = "a,1,1,1,1,0\nb,1,1,1,1,0\nc,1,1,1,1,2\nd,1,1,1,1,1\n"
     totals = "all 4 tasks,4,1,1,2 at or past 1,2 with late releases\narrivals: 2, of which 2 refused\n"
@@ -124,10 +98,8 @@ def test_counts_above_one(call):
 
 def test_lags_alone(call):
     rows = rows_of_lags([(1, "a", 1, 2), (2, "a", 3, 2), (2, "b", -1, 3), (3, "b", 1, 1), (4, "c", 0, 1)])
-    text = (
-        "a,2,1/2,3/2,2,?\nb,2,-1/3,1,3,?\nc,1,0,0,-,?\nall 3 tasks,5,-1/3,3/2,2 at or past 1,late releases not known\n"
-    )
-    text += "arrivals: not known, since no rows of decisions were given\n"
+    text = "a,2,1/2,3/2,2,?\nb,2,-1/3,1,3,?\nc,1,0,0,-,?\nall 3 tasks,5,-1/3,3/2,2 at or past 1,late releases not known"
+    text += "\narrivals: not known, since no rows of decisions were given\n"
     assert call(MISSES, given=rows) == (3, HEAD + text, "")
     assert call(MISSES, "--let-pass", given=rows) == (0, HEAD + text, "")
 
@@ -163,16 +135,16 @@ def test_complaints(call, rows, complaint):
     assert call(MISSES, given=rows) == (2, "", f"scripts/misses: {complaint}\n")
 
 
+SUMS = "a,1,1/2,1/2,-,0\nall 1 tasks,1,1/2,1/2,0 at or past 1,0 with late releases\narrivals: 1, of which 0 refused\n"
+
+
 def test_files(call, tmp_path):
     """Rows in a file, of either command first; and a file that isn't there."""
     file = tmp_path / "rows"
     file.write_text(JOINED + LAGS + "1,a,1,2\n")
-    text = (
-        "a,1,1/2,1/2,-,0\nall 1 tasks,1,1/2,1/2,0 at or past 1,0 with late releases\narrivals: 1, of which 0 refused\n"
-    )
-    assert call(MISSES, file) == (0, HEAD + text, "")
+    assert call(MISSES, file) == (0, HEAD + SUMS, "")
     file.write_text(LAGS + "1,a,1,2\n" + JOINED)
-    assert call(MISSES, file) == (0, HEAD + text, "")
+    assert call(MISSES, file) == (0, HEAD + SUMS, "")
     done = call(MISSES, tmp_path / "none")
     assert done.status == 2 and done.out == "" and done.err.startswith("scripts/misses: ") and "none" in done.err
 
@@ -182,16 +154,13 @@ def test_task_files(call, stand_in, tmp_path, monkeypatch):
     file = tmp_path / "tasks.toml"
     file.write_text("version = 1\n")
     answers = {"decisions": JOINED, "lags": LAGS + "1,a,1,2\n"}
-    text = (
-        "a,1,1/2,1/2,-,0\nall 1 tasks,1,1/2,1/2,0 at or past 1,0 with late releases\narrivals: 1, of which 0 refused\n"
-    )
     path = os.environ["PATH"]
     monkeypatch.setenv("PATH", f"{stand_in(answers).parent}:{path}")
-    assert call(MISSES, file) == (0, HEAD + text, "")
+    assert call(MISSES, file) == (0, HEAD + SUMS, "")
     assert (tmp_path / "calls").read_text() == f"decisions {file}\nlags {file}\n"
     beside = str(stand_in(answers, "beside"))
     monkeypatch.setattr(MISSES, "program", lambda: beside)
-    assert call(MISSES, file) == (0, HEAD + text, "")
+    assert call(MISSES, file) == (0, HEAD + SUMS, "")
 
 
 def test_a_program_that_cant_be_built(call, tmp_path, monkeypatch):
@@ -207,23 +176,17 @@ def test_refused_task_files(call, stand_in, tmp_path, monkeypatch):
     file = tmp_path / "tasks.toml"
     file.write_text("version = 1\n")
     monkeypatch.setenv("PATH", f"{tmp_path / 'programs'}:{os.environ['PATH']}")
-    for said, complaint in (
-        ("echo ' pfair: 60 no TOML ' >&2; exit 1", "pfair: 60 no TOML"),
-        ("exit 1", "it was refused"),
-    ):
+    answers = {"echo ' pfair: 60 no TOML ' >&2; exit 1": "pfair: 60 no TOML", "exit 1": "it was refused"}
+    for said, complaint in answers.items():
         program = stand_in({})
         program.write_text(f"#!/bin/sh\n{said}\n")
         assert call(MISSES, file) == (2, "", f"scripts/misses: {file}: {complaint}\n")
 
 
 def test_as_a_program():
-    done = subprocess.run(
-        [sys.executable, SCRIPTS / "misses"], input=rows_of_lags(FINE), capture_output=True, text=True
-    )
+    program, how = [sys.executable, SCRIPTS / "misses"], {"capture_output": True, "text": True}
+    done = subprocess.run(program, input=rows_of_lags(FINE), **how)
     assert done.returncode == 3 and done.stdout.startswith(HEAD + "a,1,")
-    said = subprocess.run([sys.executable, SCRIPTS / "misses", "--help"], capture_output=True, text=True)
-    assert (
-        said.returncode == 0
-        and "[--bound BOUND] [--let-pass] [FILE]" in said.stdout
-        and MISSES.__doc__.strip() in said.stdout
-    )
+    said = subprocess.run([*program, "--help"], **how)
+    assert said.returncode == 0 and "[--bound BOUND] [--let-pass] [FILE]" in said.stdout
+    assert MISSES.__doc__.strip() in said.stdout

@@ -259,14 +259,6 @@ def test_generators_draw_alike():
         assert (abs(ordered[0].mean(axis=0) - ordered[1].mean(axis=0)) < 5 * error).all()
 
 
-def test_two_weights_are_uniform():
-    """Of two weights with the sum 1.3 the first is uniform from 0.3 to 1: a tenth of them in each tenth."""
-    rng = np.random.default_rng(5)
-    first = np.array([study.rand_fixed_sum(2, 1.3, rng)[0] for _ in range(5_000)])
-    counts, _ = np.histogram(first, bins=10, range=(0.3, 1.0))
-    assert counts.sum() == 5_000 and (abs(counts - 500) < 5 * np.sqrt(500)).all()
-
-
 @pytest.mark.parametrize("draw", (study.uunifast_discard, study.rand_fixed_sum))
 def test_one_weight_has_its_distribution(draw):
     """If each set with the sum u is as likely as any other, the density of a weight x of n is in proportion to that of

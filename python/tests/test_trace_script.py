@@ -26,13 +26,8 @@ ANSWERS = {
     "lags": "time,task,numerator,period\n1,b,-2,3\n1,a,-1,2\n",
 }
 # of each quantum where, when and with what window, of each decision what, when and which entry
-QUANTA = [
-    (1, 2, "a1", 0, "0 to 1", 2),
-    (2, 2, "a1", 0, "0 to 1", 2),
-    (1, 1, "b1", 0, "0 to 2", 3),
-    (2, 1, "b1", 0, "0 to 2", 3),
-]
-QUANTA += [(1, 2, "a2", 5000, "5 to 6", 7), (2, 2, "a2", 5000, "5 to 6", 7)]
+RAN = (2, "a1", 0, "0 to 1", 2), (1, "b1", 0, "0 to 2", 3), (2, "a2", 5000, "5 to 6", 7)
+QUANTA = [(part, *where) for where in RAN for part in (1, 2)]
 DECISIONS = [
     ("b joins with 1/3", 1, 0, (0, 1)),
     ("a joins with 1/2", 2, 0, (1, 1)),
@@ -77,11 +72,8 @@ def test_words(call, stand_in, file, monkeypatch):
     monkeypatch.setattr(TRACE, "program", lambda: str(program))
     assert call(TRACE, file).out == call(TRACE, "--format", "json", "--slot", "1", "--program", program, file).out
     dump = call(TRACE, "--format", "vcd", "--slot", "0.5", file)
-    assert (
-        dump.status == 0
-        and dump.out.startswith("$timescale 1 us $end\n")
-        and dump.out.endswith('\n#2500\nsa_2 "\n1$\n#3000\n')
-    )
+    assert dump.status == 0 and dump.out.startswith("$timescale 1 us $end\n")
+    assert dump.out.endswith('\n#2500\nsa_2 "\n1$\n#3000\n')
     refused = call(TRACE, "--format", "svg", file)
     usage = "[--slot MILLISECONDS] [--program PATH] FILE script_trace: error"
     assert refused.status == 2 and "choose from 'json', 'vcd'" in refused.err and usage in " ".join(refused.err.split())
