@@ -25,6 +25,7 @@ from ._first_miss import Miss, first_late, first_miss
 from ._library import DECISION, ENTRY, LAG, MEMBER, OUTCOMES, QUANTUM, WINDOW
 from ._plans import Planned
 from ._schedule import Counts, Schedule, schedule
+from ._succeed import CannotSucceed, Succession, succeed
 from ._take import TakenCounts
 from ._task_file import read_task_file
 from ._version import VERSION as __version__
@@ -32,11 +33,11 @@ from ._windows import windows
 
 __all__ = [
     "BY_NUMBER", "DECISION", "ENTRY", "LAG", "MEMBER", "OUTCOMES", "QUANTUM", "WINDOW", "Counts", "Dispatcher", "Entry",
-    "Faults", "Miss", "Planned", "Schedule", "Script", "TakenCounts", "Violation", "arrive", "check", "depart",
-    "errors", "first_late", "first_miss", "late", "promise", "read_task_file", "rows_of", "schedule", "study",
-    "windows",
-    "BadDelay", "BadIndex", "CannotCarry", "CostOverPeriod", "EntryRefused", "FileTooLong", "KeyMissing",
-    "KeyOutOfRange", "KeyWrongKind", "NameBadByte", "NameEmpty", "NameTooLong", "NoCycle", "NoSuchNumber",
+    "Faults", "Miss", "Planned", "Schedule", "Script", "Succession", "TakenCounts", "Violation", "arrive", "check",
+    "depart", "errors", "first_late", "first_miss", "late", "promise", "read_task_file", "rows_of", "schedule", "study",
+    "succeed", "windows",
+    "BadDelay", "BadIndex", "CannotCarry", "CannotSucceed", "CostOverPeriod", "EntryRefused", "FileTooLong",
+    "KeyMissing", "KeyOutOfRange", "KeyWrongKind", "NameBadByte", "NameEmpty", "NameTooLong", "NoCycle", "NoSuchNumber",
     "NoSuchProcessor", "NotOpen", "NotPlanned", "NotToml", "OtherShape", "OutOfMemory", "OutOfRange", "PastLastSlot",
     "PeriodTooLong", "PfairError", "PickPastHorizon", "PicksNotRising", "SlotTooFar", "Spent", "Stalled",
     "StampBeforeFloor", "TaskFileError", "Torn", "Unfinished", "UnknownVersion", "ZeroCost",
