@@ -1,9 +1,16 @@
-"""Dead processors: how their logs are closed, and what is refused."""
+"""Dead processors: how their logs are closed, what is refused, and random deaths after which nothing is wrong."""
+import importlib
+import os
+import random
+import sys
+
 import pytest
-from conftest import outside
+from conftest import EXAMPLES, outside
 
 import pfair
 
+# so many deaths
+DEATHS = int(os.environ.get("PFAIR_DEATHS", 40))
 # a log with a gap; and three tasks that fill two processors
 GAP = {1: pfair.arrive("c", 3, 4), 3: pfair.promise(6)}
 FULL = pfair.arrive("a", 1, 2), pfair.arrive("b", 3, 4), pfair.promise(9)
@@ -75,3 +82,19 @@ def test_what_cannot_be_closed(text):
         pfair.succeed(one, 1, name, victims)
     assert str(refused.value) == text
     outside("processor", 2, pfair.succeed, one, 2, most=1)
+
+
+@pytest.fixture(scope="module")
+def deaths():
+    with pytest.MonkeyPatch.context() as patch:
+        patch.setattr(sys, "dont_write_bytecode", True)
+        patch.syspath_prepend(EXAMPLES / "python")
+        yield importlib.import_module("deaths")
+
+
+@pytest.mark.parametrize("number", range(DEATHS))
+def test_the_others_go_on(number, deaths):
+    chance = random.Random(number)
+    world = deaths.World(number, chance.choice((4, 8, 16, 32)), chance.choice(("M", "M - 1")), deaths.RIGHT)
+    assert world.run() == set()
+    assert world.closed.floor - world.died <= world.lead and (world.load == "M" or world.closed.victims == [])
