@@ -2,6 +2,7 @@
  * An executive in small: one dispatcher thread for each processor drives real threads, quantum by quantum.
  *
  *   executive run|file [PROCESSORS [QUANTA [MICROSECONDS]]]        else 2 processors, 600 quanta of 5,000 microseconds
+ *   executive run PROCESSORS QUANTA MICROSECONDS lose PROCESSOR SLOT
  *
  * No master decides. The thread of a processor keeps a dispatcher of its own, says its announcements some slots ahead,
  * and hears those of the others: late, out of order, twice, and now and then not at all (../executive/exchange.h). At
@@ -11,10 +12,12 @@
  *
  * `run` writes who really ran in which slot, as the tasks themselves noted it, in the form of `pfair replay --affinity`;
  * and on standard error how long planning and waking up took. `file` writes the task file of the same announcements.
+ * With `lose` that processor's thread ends at the slot. The others wait for it, close its log, and go on; the rows lack
+ * what it would have run until then, and on standard error stands at which slot a task `down` of weight 1 arrives.
  * Exit status: 0; 1 if something was wrong; 2 for other words on the command line; 3 if an entry never came.
  */
 #define _GNU_SOURCE
-#include "../executive/exchange.h"
+#include "../executive/succession.h"
 #include "../executive/task_file.h"
 #include <errno.h>
 #include <inttypes.h>
@@ -78,8 +81,16 @@ static struct processor {
     struct task *current;
     uint64_t planned[TASKS]; /* how many quanta the tables so far give each task */
     double waking[MOST_QUANTA], planning[MOST_QUANTA]; /* in microseconds */
-    bool is_pinned, is_first_in_first_out;
+    bool is_pinned, is_first_in_first_out, has_told;
 } processors[MOST_PROCESSORS];
+
+/* The processor whose thread ends before it plans that slot, if one does. */
+static struct {
+    unsigned processor;
+    uint64_t slot;
+    atomic_bool is_over;
+    atomic_uint told; /* how many of the others gave the heir what they hold */
+} lost = {.slot = UINT64_MAX};
 
 static unsigned machine = 2;
 static uint64_t quanta = 600, quantum = 5000;
@@ -138,8 +149,10 @@ static bool first_in_first_out(pthread_t thread, int priority) {
 
 static void note_quantum(struct task *task) {
     struct ran *cell = &ran[task->slot][task->place];
-    task->of_incarnation = task->index == 1 ? 1 : task->of_incarnation + 1;
-    if (task->of_incarnation != task->index) stop("a task counted its quanta otherwise", task->index);
+    uint64_t next = task->index == 1 ? 1 : task->of_incarnation + 1;
+    bool is_next = task->index == next || (task->index > next && lost.slot != UINT64_MAX); /* some were lost */
+    if (!is_next) stop("a task counted its quanta otherwise", task->index);
+    task->of_incarnation = task->index;
     if (atomic_fetch_add(&cell->times, 1) != 0) stop("two tasks ran at once on one processor", task->slot);
     cell->name = task->name;
     cell->row = task->row;
@@ -179,7 +192,6 @@ static void let_run(struct task *task, unsigned place, uint64_t slot, uint64_t r
     task->row = row;
     task->index = index;
     task->place = place;
-    pin(task->thread, place);
     atomic_store(&task->may_run, true);
     task->is_told = true;
     pthread_cond_broadcast(&task->changed);
@@ -209,9 +221,28 @@ static void wait_for_hint(struct processor *p) {
     sem_clockwait(&p->hints, CLOCK_MONOTONIC, &until);
 }
 
+/* Goes on without the dead one. Its thread is over, so nothing of it comes any more but what is in its rings: that is
+   the fence here. The heir, the least of the others, waits until these gave it what they hold. */
+static void go_on(struct processor *p, uint64_t slot) {
+    unsigned heir = lost.processor == 0;
+    p->has_told = true;
+    if (p->exchange.number != heir) give_log(&p->exchange, lost.processor, heir);
+    atomic_fetch_add(&lost.told, 1);
+    if (p->exchange.number != heir) return;
+    for (; atomic_load(&lost.told) != machine - 1; wait_for_hint(p)) serve(&p->exchange, slot, slot_by_clock());
+    fprintf(stderr, "executive: down arrives at slot %" PRIu64 "\n", close_log(&p->exchange, lost.processor));
+}
+
+/* Waits in a slot for another processor. If that takes 8 quanta, and one is dead, it is time to go on without it. */
+static void wait_in(struct processor *p, uint64_t slot) {
+    bool is_late = microseconds_since(boundary(slot)) > 8 * (double)quantum;
+    wait_for_hint(p);
+    if (is_late && !p->has_told && atomic_load(&lost.is_over)) go_on(p, slot);
+}
+
 /* Plans the slot, as soon as what was heard settles it. The quantum before is over in any case. */
 static void plan(struct processor *p, uint64_t slot) {
-    for (;; wait_for_hint(p)) {
+    for (;; wait_in(p, slot)) {
         serve(&p->exchange, slot, slot_by_clock());
         if (is_planned(&p->exchange, slot)) return;
         halt_current(p);
@@ -224,7 +255,7 @@ static void plan(struct processor *p, uint64_t slot) {
 /* Waits until a task has had that many quanta: another processor may be halting it only now. That one may wait for what
    was lost on the way from here, so it is served meanwhile. */
 static void await_quanta(struct processor *p, struct task *task, uint64_t count, uint64_t slot) {
-    for (; atomic_load(&task->had) < count; wait_for_hint(p)) serve(&p->exchange, slot + 1, slot_by_clock());
+    for (; atomic_load(&task->had) < count; wait_in(p, slot)) serve(&p->exchange, slot + 1, slot_by_clock());
 }
 
 /* Halts the task of the slot before, and lets the task run whose place is this processor. */
@@ -236,15 +267,23 @@ static void dispatch(struct processor *p, uint64_t slot) {
     halt_current(p);
     must(pfair_table(d, slot % RUN, &count, rows, MOST_PROCESSORS));
     must(pfair_places(d, slot % RUN, &count, places, MOST_PROCESSORS));
+    unsigned down = place_of_down(rows, places, count), own = p->exchange.number;
+    if (own == down) own = lost.processor; /* takes the dead one's place */
     for (uint64_t row = 0; row < count; row++) {
+        uint64_t index = whole_index(&p->exchange, &rows[row]);
+        bool is_lost = slot >= lost.slot && places[row] == lost.processor && down == MOST_PROCESSORS;
+        if (is_lost && slot >= lost.slot + LEAD) stop("down isn't admitted: the tasks need all processors", slot);
+        if (is_lost || is_down(&rows[row].name)) continue;
         struct task *task = task_named(&rows[row].name);
-        uint64_t quantum_number = ++p->planned[task - tasks], index = whole_index(&p->exchange, &rows[row]);
-        if (places[row] != p->exchange.number) continue;
+        uint64_t quantum_number = ++p->planned[task - tasks];
+        if (places[row] != own) continue;
         await_quanta(p, task, quantum_number - 1, slot);
         p->current = task;
-        let_run(task, p->exchange.number, slot, row, index);
+        pin(task->thread, p->exchange.number);
+        let_run(task, own, slot, row, index);
     }
     leave(&p->exchange, slot);
+    if (p->has_told && (slot + 1) % RUN == 0 && slot + 1 < quanta) keep_closed(&p->exchange, lost.processor);
 }
 
 static void *be_processor(void *itself) {
@@ -252,7 +291,8 @@ static void *be_processor(void *itself) {
     p->is_pinned = pin(pthread_self(), p->exchange.number);
     p->is_first_in_first_out = first_in_first_out(pthread_self(), 20);
     announce(&p->exchange, announcements, ANNOUNCEMENTS, 0);
-    for (uint64_t slot = 0; slot < quanta; slot++) {
+    uint64_t end = p->exchange.number == lost.processor && lost.slot < quanta ? lost.slot : quanta;
+    for (uint64_t slot = 0; slot < end; slot++) {
         struct timespec now;
         sleep_until(boundary(slot));
         p->waking[slot] = microseconds_since(boundary(slot));
@@ -262,10 +302,12 @@ static void *be_processor(void *itself) {
         dispatch(p, slot);
         announce(&p->exchange, announcements, ANNOUNCEMENTS, slot);
     }
-    sleep_until(boundary(quanta));
+    sleep_until(boundary(end));
     halt_current(p);
     atomic_fetch_add(&over, 1);
-    for (; atomic_load(&over) != machine; wait_for_hint(p)) serve(&p->exchange, quanta, slot_by_clock());
+    bool is_dead = end < quanta;
+    if (is_dead) atomic_store(&lost.is_over, true);
+    for (; !is_dead && atomic_load(&over) != machine; wait_for_hint(p)) serve(&p->exchange, quanta, slot_by_clock());
     must(pfair_close(&p->exchange.dispatcher));
     return NULL;
 }
@@ -339,9 +381,17 @@ int main(int count, char **words) {
     if (count > 2) machine = (unsigned)strtoul(words[2], NULL, 10);
     if (count > 3) quanta = strtoul(words[3], NULL, 10);
     if (count > 4) quantum = strtoul(words[4], NULL, 10);
+    if (count == 8 && strcmp(words[5], "lose") == 0) {
+        lost.processor = (unsigned)strtoul(words[6], NULL, 10);
+        lost.slot = strtoul(words[7], NULL, 10);
+        bool is_there = machine > 2 && lost.processor < machine && lost.slot < quanta;
+        uint64_t in_run = lost.slot % RUN; /* all have to be in one run until the log is closed */
+        if (is_there && in_run >= LEAD && in_run < RUN - 2 * LEAD) count = 5;
+    }
     bool is_run = count > 1 && strcmp(words[1], "run") == 0, is_file = count > 1 && strcmp(words[1], "file") == 0;
     if (count > 5 || !(is_run || is_file) || machine < 1 || machine > MOST_PROCESSORS || quanta < 1 || quanta > MOST_QUANTA || quantum < 1) {
         fprintf(stderr, "usage: executive run|file [PROCESSORS (1 to %d) [QUANTA (1 to %d) [MICROSECONDS]]]\n", MOST_PROCESSORS, MOST_QUANTA);
+        fputs("       executive run PROCESSORS QUANTA MICROSECONDS lose PROCESSOR SLOT\n", stderr);
         return 2;
     }
     if (is_run) run();
