@@ -1,7 +1,7 @@
 //! One incarnation of a task: from its joining slot to its freeing slot.
 ghost use Rattle.std.specs.Prelude.{◌≡◌, ◌≤◌, ◌<◌, ◌+◌, ◌-◌, ◌*◌, ◌↔◌, IsTrue, Some, IfOk, OnOk, OnErr, nat_lt};
 ghost use Rattle.pfair_weight.specs.Window.{release_of};
-ghost use Rattle.pfair_admission.specs.Member.{IsMember, last_offset, theta, is_departing, eligible_from, next_key, busy_until, freeing_slot};
+ghost use Rattle.pfair_admission.specs.Member.{IsMember, last_offset, theta, is_departing, lag_at, eligible_from, next_key, busy_until, freeing_slot};
 ghost use Rattle.pfair_admission.specs.Admission.{newcomer, with_delay, is_freed, departure, late_release, running, quantum_of};
 ghost use Rattle.pfair_admission.specs.Carried.{carried, jobs_done, CanBeCarried};
 ghost use Rattle.pfair_admission.specs.Change.{after_departure, after_late_release, after_quantum};
@@ -139,6 +139,20 @@ impl Incarnation {
         ensures member { IsMember self.now }
     {
         self.joined + delay_up_to(&self.delays, index)
+    }
+
+    /// Returns its lag at a time, as a numerator over its period p: `e * (time - joined) - p * (next - 1)`
+    /// for a cost e. No slot counts before it joined. O(1).
+    ///
+    /// It is right at all times, and has at most 95 bits with its sign. A book of a run's lags has the
+    /// same of each member that isn't departing, in the order of admission, in a first run and in those
+    /// that go on from it (`books_show_lags` of `pfair_in_time`).
+    pub fn lag(&self, time: u64) -> i128
+        ensures { result ≡ lag_at time self.now }
+    {
+        let due = self.weight.cost() as i128 * time.saturating_sub(self.joined) as i128;
+        let done = self.weight.period() as i128 * (self.next() - 1) as i128;
+        due - done
     }
 
     /// Returns the slot from which subtask `index` may run, once the one before it has run: its
