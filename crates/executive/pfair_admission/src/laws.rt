@@ -1,10 +1,12 @@
 //! The laws of members, for every machine, slot and list of members.
 //!
-//! Each function states one law and does nothing.
-ghost use Rattle.std.specs.Prelude.{◌≡◌, ◌-◌, ◌^◌};
+//! Each function states one law and does nothing; [`next_key_is_of_its_subtask`] returns true.
+ghost use Rattle.std.specs.Prelude.{◌≡◌, ◌-◌, ◌^◌, IsTrue};
 ghost use Rattle.pfair_admission.specs.Laws.{NamesStayApart, MembersKeepRoom, RefusalsChangeNothing, OrderIsKept, OneDecisionEach, DelaysMoveLaterSubtasks, LeaversHoldTheirClaim, EarlyReleaseKeepsBorders, CarriedMembersStay, CarryingKeepsWindows};
 
+use crate::incarnation::Incarnation;
 use crate::members::Members;
+use pfair_order::Key;
 
 /// If a name stands once among the members, it does so after each boundary and each quantum.
 pub fn names_stay_apart()
@@ -64,6 +66,16 @@ pub fn carried_members_stay()
 pub fn carrying_keeps_windows()
     ensures { CarryingKeepsWindows }
 {}
+
+/// The key of a member's next subtask ([`Incarnation::next_subtask`]), which an incarnation keeps by
+/// sums, is that of the window formulas ([`Key::of`]).
+pub fn next_key_is_of_its_subtask(member: &Incarnation) -> bool
+    ensures { IsTrue result }
+{
+    let index = member.next();
+    let key = Key::of(member.weight(), index, member.theta(index), *member.name());
+    member.next_subtask().1 == key
+}
 
 /// The most processors, the longest frame in slots, the most announcements over all boundaries, and
 /// the last slot of a boundary.
