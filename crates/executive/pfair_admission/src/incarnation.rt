@@ -286,10 +286,8 @@ impl Incarnation {
         })
     }
 
-    /// Returns whether it can be a member of a next run: its cost is at most 1,000,000, and with its
-    /// indexes lowered by whole jobs its offset after all delays is at most [`Members::LAST_SLOT`].
-    /// O(d) for d accepted delays.
-    pub fn can_be_carried(&self) -> bool
+    // Whether it can be a member of a next run.
+    pub(crate) fn can_be_carried(&self) -> bool
         ensures { IsTrue result ↔ CanBeCarried self.now }
     {
         let periods = self.jobs_done() * self.weight.period();

@@ -78,8 +78,9 @@ impl Members {
     }
 
     /// Returns the name of the first member, in the order of admission, that can't be a member of a
-    /// next run: for which [`Incarnation::can_be_carried`] returns `false`. O(n + d) for n members
-    /// with d accepted delays.
+    /// next run: its cost is above [`Entry::LAST_INDEX`](pfair_entry::Entry::LAST_INDEX), or with its
+    /// indexes lowered by whole jobs its offset after all delays is above [`Members::LAST_SLOT`].
+    /// O(n + d) for n members with d accepted delays.
     pub fn first_left_behind(&self) -> Option<TaskName>
         ensures some { IfSome result (λ name. IsFirstLeft self.now.members name) }
         ensures none { IfNone result (AllByRecursion CanBeCarried self.now.members) }

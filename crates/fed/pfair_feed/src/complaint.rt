@@ -36,8 +36,9 @@ pub fn tell_refused<E: Write>(complaints: &mut E, fault: &ProgramFault, line: &[
     let _ = send(complaints, &text[..length]);
 }
 
-/// Writes a line `missing PROCESSOR,NUMBER` for each log of which [`Follower::missing`] names the
-/// entry that would settle more, in order of processors. It allocates nothing.
+/// Writes a line `missing PROCESSOR,NUMBER` for each log whose entry right behind its sound beginning
+/// would settle more slots and isn't held, in order of processors. A log with no room for it has no
+/// line. It allocates nothing.
 ///
 /// # Errors
 /// [`WriteFailed`] if the writer answered an error, or took nothing; it has then a prefix of the

@@ -208,12 +208,11 @@ impl<R: Ready> Follower<R> {
         self.told
     }
 
-    /// Returns the number of the entry that would settle more of the log of a processor: the one
-    /// right behind the log's sound beginning, if its last floor is below the number of slots
-    /// and nothing is held there. `None` if the log settles all slots, if the entry behind
-    /// its beginning is held but its floor fell, if the log has no room for one more, and if
-    /// there is no such processor. One look-up.
-    pub fn missing(&self, proc: u8) -> Option<u32>
+    // The number of the entry that would settle more of the log of a processor: the one right behind
+    // the log's sound beginning, if its last floor is below the number of slots and nothing is held
+    // there. `None` if the log settles all slots, if the entry behind its beginning is held but its
+    // floor fell, if the log has no room for one more, and if there is no such processor. One look-up.
+    pub(crate) fn missing(&self, proc: u8) -> Option<u32>
         ensures value { result ≡ missing_of self.now.dispatch.settings (replica_of self.now.dispatch.held) proc }
         ensures key { IfSome result (IsKeyOf self.now.dispatch.held proc) }
     {

@@ -40,8 +40,8 @@ pub enum Field {
 }
 
 impl Field {
-    /// Returns the key as it stands in the file.
-    pub fn key(self) -> &'static str
+    // The key as it stands in the file.
+    pub(crate) fn key(self) -> &'static str
         ensures { result.now ≡ key_of self }
     {
         match self {

@@ -32,8 +32,8 @@ pub fn add_lags_header(writer: &mut Writer<Vec<u8>>) -> Result<(), AllocError>
 }
 
 /// Records in a book the slots that a dispatcher has planned, from the book's time on, none of which is
-/// forgotten, and adds the rows after each. O(rows), and the cost of [`tell_all`] and
-/// [`LagBook::record`] for each slot.
+/// forgotten, and adds the rows after each. O(rows), a pass over the book for each departure, and the
+/// cost of [`LagBook::record`] for each slot.
 ///
 /// # Errors
 /// Returns [`AllocError`] if an allocation fails; a part of this is then recorded.
@@ -58,8 +58,8 @@ pub fn add_lags_from<R: Ready>(
 }
 
 /// Records in a book the slots that a dispatcher has planned, from the book's time up to a slot, as
-/// far as they are planned, none of which is forgotten. The cost is that of [`tell_all`] and
-/// [`LagBook::record`] for each slot.
+/// far as they are planned, none of which is forgotten. The cost is a look-up for each decision, a pass
+/// over the book for each departure, and that of [`LagBook::record`] for each slot.
 ///
 /// # Errors
 /// Returns [`AllocError`] if an allocation fails; a part of this is then recorded.
@@ -115,12 +115,8 @@ pub(crate) fn tell_slot(
     Ok(())
 }
 
-/// Records in a book of lags who is admitted and who departs at the boundary of a slot. A look-up for
-/// each decision, and a pass over the book for each departure.
-///
-/// # Errors
-/// Returns [`AllocError`] if an allocation fails; some of the decisions are then recorded.
-pub fn tell_all(book: &mut LagBook, decided: &[Decided]) -> Result<(), AllocError>
+// Records in a book of lags who is admitted and who departs at the boundary of a slot.
+fn tell_all(book: &mut LagBook, decided: &[Decided]) -> Result<(), AllocError>
     ensures { OnOk result (book.new ≡ all_told decided.now book.old) }
 {
     for one in decided {

@@ -24,10 +24,10 @@ use std::alloc::{AllocError, Global};
 /// for each announcement, slots in order, and in each slot in the order of the decisions.
 ///
 /// One slot at a time is held, beside the text and the entries. The cost is that of
-/// [`run_script`](pfair_table::run_script) without places, and O(rows).
+/// [`SlotPlanner::of_script`] and of its plans, and O(rows).
 ///
 /// # Errors
-/// As [`run_script`](pfair_table::run_script).
+/// As [`SlotPlanner::of_script`].
 pub fn decisions_of_script<R: Ready>(alloc: Global, script: &Script) -> Result<Vec<u8>, RunFault>
     ensures text { IfOk result (λ text. text.items ≡ decisions_text (decided_of script.now)) }
     ensures settled { OnOk result (script.now.settings.slots ≤ frontier (replica_of_logs script.now.logs)) }
@@ -42,11 +42,11 @@ pub fn decisions_of_script<R: Ready>(alloc: Global, script: &Script) -> Result<V
 /// the task, and its lag at that time as a numerator over its period, counted from its joining slot.
 ///
 /// One slot at a time is held, beside the text, the entries and a tally of each member. The cost is
-/// that of [`run_script`](pfair_table::run_script) without places, of [`tell_all`](crate::tell_all)
-/// and [`LagBook::record`] for each slot, and O(rows).
+/// that of [`SlotPlanner::of_script`] and of its plans, of [`LagBook::record`] for each slot, a pass
+/// over the tallies for each departure, and O(rows).
 ///
 /// # Errors
-/// As [`run_script`](pfair_table::run_script).
+/// As [`SlotPlanner::of_script`].
 pub fn lags_of_script<R: Ready>(alloc: Global, script: &Script) -> Result<Vec<u8>, RunFault>
     ensures text { IfOk result (λ text. text.items ≡ lags_text script.now.settings (replica_of_logs script.now.logs)) }
     ensures settled { OnOk result (script.now.settings.slots ≤ frontier (replica_of_logs script.now.logs)) }
