@@ -1,8 +1,10 @@
 pub mod Entry
 pub mod EntryFault
 pub mod Exact
+pub mod Kinds
 pub mod Names
 pub mod Notice
+pub mod Results
 pub mod Said
 pub mod Same
 pub mod Writer

@@ -8,6 +8,7 @@
 
 mod announcement;
 mod entry;
+mod kind;
 pub mod laws;
 mod notice;
 mod said;
@@ -15,6 +16,7 @@ mod writer;
 
 pub use announcement::Announcement;
 pub use entry::{Entry, EntryFault};
+pub use kind::{ChangeFields, Kind};
 pub use notice::{Change, Notice, NoticeFault, checked_entry};
 pub use said::Said;
 pub use writer::{NoteFault, Writer};

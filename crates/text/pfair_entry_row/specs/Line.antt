@@ -3,6 +3,8 @@ use Rattle.std.specs.Prelude.{ℕ, ◌≡◌, ◌≢◌, List, [], ◌∷◌, Op
 use Rattle.pfair_entry.specs.Entry.{Logged}
 use Rattle.pfair_entry.specs.Notice.{announced, unchecked}
 use Rattle.pfair_entry.specs.declared.announcement.Announcement.{Announcement}
+use Rattle.pfair_entry.specs.declared.kind.Kind.{Kind}
+use Rattle.pfair_entry.specs.declared.kind.Kind.TheVariants.{Arrive, Depart, Late}
 use Rattle.pfair_entry.specs.declared.notice.Change.{Change}
 use Rattle.pfair_entry_row.specs.declared.fields.Fields.{Fields}
 use Rattle.pfair_entry_row.specs.declared.line.Line.{Line}
@@ -40,3 +42,15 @@ pub record AreDashes (f : Fields) : Type 0 where
   pub early : f.early.now ≡ dash
   pub index : f.index.now ≡ dash
   pub by : f.by.now ≡ dash
+
+-- nothing in the fields that a kind doesn't have
+abbrev pub HasNoWeight : Fields → Type 0
+HasNoWeight f = (f.cost.now ≡ dash) × (f.period.now ≡ dash) × (f.early.now ≡ dash)
+
+abbrev pub HasNoDelay : Fields → Type 0
+HasNoDelay f = (f.index.now ≡ dash) × (f.by.now ≡ dash)
+
+abbrev pub HasNoOthers : Kind → Fields → Type 0
+HasNoOthers Arrive f = HasNoDelay f
+HasNoOthers Depart f = HasNoWeight f × HasNoDelay f
+HasNoOthers Late f = HasNoWeight f

@@ -1,13 +1,13 @@
 //! What a row says, whether or not a rule of entries refuses it.
-ghost use Rattle.std.specs.Prelude.{◌≡◌, ◌↔◌, codes, IsTrue, MatchOption, option_map};
+ghost use Rattle.std.specs.Prelude.{◌≡◌, ◌↔◌, IsTrue, MatchOption, option_map};
 ghost use Rattle.pfair_entry.specs.Notice.{noticed};
 ghost use Rattle.pfair_entry_row.specs.Row.{entry_row, IsSayable, HasNoComma};
 ghost use Rattle.pfair_entry_row.specs.Faults.{SaysNothing};
-ghost use Rattle.pfair_entry_row.specs.Line.{logged, AreDashes, Announces, AnnouncesNothing, Notes, NotesNothing};
+ghost use Rattle.pfair_entry_row.specs.Line.{logged, AreDashes, HasNoOthers, Announces, AnnouncesNothing, Notes, NotesNothing};
 
 use crate::fields::{Fields, cut_fields};
 use crate::number::{is_dash, read_number, read_truth};
-use pfair_entry::{Change, Notice};
+use pfair_entry::{Change, ChangeFields, Kind, Notice};
 
 /// What the fields of a row hold.
 #[derive(Clone, Copy)]
@@ -65,62 +65,34 @@ fn are_dashes(fields: &Fields<'_>) -> bool
         && is_dash(fields.by)
 }
 
-// What a kind announces.
+// What a kind announces by its own fields, if the others are dashes.
 fn read_change(fields: &Fields<'_>) -> Option<Change>
     requires { HasNoComma fields.now.name.now }
     ensures { MatchOption result (AnnouncesNothing fields.now) (Announces fields.now) }
 {
-    match fields.kind {
-        b"arrive" => read_arrival(fields),
-        b"depart" => read_departure(fields),
-        b"late" => read_delay(fields),
-        _ => None,
-    }
-}
-
-// Cost, period and earliness of a task that arrives.
-fn read_arrival(fields: &Fields<'_>) -> Option<Change>
-    requires name { HasNoComma fields.now.name.now }
-    requires kind { fields.now.kind.now ≡ codes "arrive" }
-    ensures { MatchOption result (AnnouncesNothing fields.now) (Announces fields.now) }
-{
-    if !is_dash(fields.index) || !is_dash(fields.by) {
+    let kind = Kind::named(fields.kind)?;
+    if !has_no_others(fields, kind) {
         return None;
     }
-    let cost = read_number(fields.cost)?;
-    let period = read_number(fields.period)?;
-    let early = read_truth(fields.early)?;
-    Some(Change::Arrive {
-        cost,
-        period,
-        early,
-    })
+    let read = ChangeFields {
+        cost: read_number(fields.cost).ok_or(()),
+        period: read_number(fields.period).ok_or(()),
+        early: read_truth(fields.early).ok_or(()),
+        index: read_number(fields.index).ok_or(()),
+        by: read_number(fields.by).ok_or(()),
+    };
+    read.change(kind).ok()
 }
 
-// That a task departs.
-fn read_departure(fields: &Fields<'_>) -> Option<Change>
-    requires name { HasNoComma fields.now.name.now }
-    requires kind { fields.now.kind.now ≡ codes "depart" }
-    ensures { MatchOption result (AnnouncesNothing fields.now) (Announces fields.now) }
+// Whether dashes stand in the fields that a kind doesn't have.
+fn has_no_others(fields: &Fields<'_>, kind: Kind) -> bool
+    ensures { IsTrue result ↔ HasNoOthers kind fields.now }
 {
-    let nothing = is_dash(fields.cost)
-        && is_dash(fields.period)
-        && is_dash(fields.early)
-        && is_dash(fields.index)
-        && is_dash(fields.by);
-    if nothing { Some(Change::Depart) } else { None }
-}
-
-// From which subtask on a task comes late, and by how much.
-fn read_delay(fields: &Fields<'_>) -> Option<Change>
-    requires name { HasNoComma fields.now.name.now }
-    requires kind { fields.now.kind.now ≡ codes "late" }
-    ensures { MatchOption result (AnnouncesNothing fields.now) (Announces fields.now) }
-{
-    if !is_dash(fields.cost) || !is_dash(fields.period) || !is_dash(fields.early) {
-        return None;
+    let has_no_weight = is_dash(fields.cost) && is_dash(fields.period) && is_dash(fields.early);
+    let has_no_delay = is_dash(fields.index) && is_dash(fields.by);
+    match kind {
+        Kind::Arrive => has_no_delay,
+        Kind::Depart => has_no_weight && has_no_delay,
+        Kind::Late => has_no_weight,
     }
-    let index = read_number(fields.index)?;
-    let by = read_number(fields.by)?;
-    Some(Change::Late { index, by })
 }

@@ -10,7 +10,7 @@ use Rattle.pfair_table.specs.Table.{Settings}
 use Rattle.pfair_file.specs.Entries.{Logs, with_items}
 use Rattle.pfair_file.specs.Fields.{key_of}
 use Rattle.pfair_file.specs.Headers.{settings_of, version_of}
-use Rattle.pfair_file.specs.Results.{and_then}
+use Rattle.pfair_entry.specs.Results.{and_then}
 use Rattle.pfair_file.specs.declared.field.Field.TheVariants as field
 use Rattle.pfair_file.specs.declared.fault.FileFault.{FileFault}
 use Rattle.pfair_file.specs.declared.fault.FileFault.TheVariants.{NotToml, WrongKind}

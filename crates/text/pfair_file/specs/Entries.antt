@@ -4,7 +4,7 @@ use Rattle.toml.specs.Data.{Items, Members, as_table, item, no_items}
 use Rattle.pfair_entry.specs.Entry.{Logged}
 use Rattle.pfair_entry.specs.declared.notice.NoticeFault.{NoticeFault}
 use Rattle.pfair_entry.specs.declared.notice.NoticeFault.TheVariants.{LogFull}
-use Rattle.pfair_file.specs.Results.{and_then}
+use Rattle.pfair_entry.specs.Results.{and_then}
 use Rattle.pfair_file.specs.Tables.{made_at}
 use Rattle.pfair_file.specs.declared.field.Field.TheVariants as field
 use Rattle.pfair_file.specs.declared.fault.FileFault.{FileFault}

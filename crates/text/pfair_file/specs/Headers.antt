@@ -3,7 +3,7 @@ use Rattle.std.specs.Prelude.{ℕ, Result, Ok}
 use Rattle.toml.specs.Data.{Members}
 use Rattle.pfair_table.specs.Table.{Settings}
 use Rattle.pfair_file.specs.Keys.{integer_at, number_at, ranged}
-use Rattle.pfair_file.specs.Results.{and_then}
+use Rattle.pfair_entry.specs.Results.{and_then}
 use Rattle.pfair_file.specs.declared.field.Field.TheVariants as field
 use Rattle.pfair_file.specs.declared.fault.FileFault.{FileFault}
 use Rattle.pfair_file.specs.declared.fault.FileFault.TheVariants as fault

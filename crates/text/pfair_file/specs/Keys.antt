@@ -2,7 +2,7 @@
 use Rattle.std.specs.Prelude.{ℕ, ℤ, pos, negsuc, List, Result, Ok, Err, ok_or, nat_le, ◌&&◌, if◌then◌else◌}
 use Rattle.toml.specs.Data.{Data, Members, as_integer, as_str, get_member}
 use Rattle.pfair_file.specs.Fields.{key_of}
-use Rattle.pfair_file.specs.Results.{and_then}
+use Rattle.pfair_entry.specs.Results.{and_then}
 use Rattle.pfair_file.specs.declared.field.Field.{Field}
 use Rattle.pfair_file.specs.declared.fault.FileFault.{FileFault}
 use Rattle.pfair_file.specs.declared.fault.FileFault.TheVariants.{Missing, WrongKind, Range}

@@ -8,8 +8,6 @@ pub mod Fields
 pub mod Headers
 pub mod Input
 pub mod Keys
-pub mod Kinds
 pub mod ProgramFaults
-pub mod Results
 pub mod Schedules
 pub mod Tables

@@ -3,18 +3,16 @@ use Rattle.std.specs.Prelude.{ℕ, ◌-◌, nat_lt, if◌then◌else◌, Bool, f
 use Rattle.toml.specs.Data.{Data, Members, as_bool, as_str, get_member}
 use Rattle.pfair_entry.specs.Notice.{announced, checked}
 use Rattle.pfair_entry.specs.declared.announcement.Announcement.{Announcement}
-use Rattle.pfair_entry.specs.declared.notice.Change.{Change}
-use Rattle.pfair_entry.specs.declared.notice.Change.TheVariants as change
+use Rattle.pfair_entry.specs.Kinds.{change_of, kind_named}
+use Rattle.pfair_entry.specs.Results.{and_then}
+use Rattle.pfair_entry.specs.declared.kind.ChangeFields.{ChangeFields}
+use Rattle.pfair_entry.specs.declared.kind.Kind.{Kind}
 use Rattle.pfair_file.specs.Fields.{key_of}
 use Rattle.pfair_file.specs.Keys.{natural_at, number_at, text_at}
-use Rattle.pfair_file.specs.Kinds.{kind_named}
-use Rattle.pfair_file.specs.Results.{and_then}
 use Rattle.pfair_file.specs.declared.field.Field.TheVariants as field
 use Rattle.pfair_file.specs.declared.fault.FileFault.{FileFault}
 use Rattle.pfair_file.specs.declared.fault.FileFault.TheVariants.{Range, WrongKind}
 use Rattle.pfair_file.specs.declared.made.Made.{Made}
-use Rattle.pfair_file.specs.declared.kind.Kind.{Kind}
-use Rattle.pfair_file.specs.declared.kind.Kind.TheVariants.{Arrive, Depart, Late}
 
 -- the kind, which may be missing
 abbrev pub kind_in : ℕ → Option Data → Result (Option Kind) FileFault
@@ -34,21 +32,15 @@ early_in place (Some d) = ok_or (as_bool d) (WrongKind place field.Early)
 abbrev pub early_at : ℕ → ℕ → Members → Result Bool FileFault
 early_at version place table = if nat_lt version 2 then Ok false else early_in place (get_member (key_of field.Early) table)
 
--- the keys of a kind
-abbrev pub change_at : ℕ → ℕ → Kind → Members → Result Change FileFault
-change_at version place Arrive table =
-    and_then (λ cost.
-    and_then (λ period.
-    and_then (λ early. Ok (change.Arrive cost period early))
-    (early_at version place table))
-    (natural_at table place field.Period))
-    (natural_at table place field.Cost)
-change_at version place Depart table = Ok change.Depart
-change_at version place Late table =
-    and_then (λ index.
-    and_then (λ by. Ok (change.Late index by))
-    (natural_at table place field.By))
-    (natural_at table place field.Index)
+-- the keys of all kinds
+abbrev pub fields_at : ℕ → ℕ → Members → ChangeFields FileFault
+fields_at version place table = record {
+  cost = natural_at table place field.Cost;
+  period = natural_at table place field.Period;
+  early = early_at version place table;
+  index = natural_at table place field.Index;
+  by = natural_at table place field.By;
+}
 
 -- the keys of an announcement, with its stamp
 abbrev pub notice_of : ℕ → ℕ → Kind → Members → Result (ℕ × Announcement) FileFault
@@ -56,7 +48,7 @@ notice_of version place kind table =
     and_then (λ at.
     and_then (λ name.
     and_then (λ change. Ok (at, announced name change))
-    (change_at version place kind table))
+    (change_of kind (fields_at version place table)))
     (text_at table place field.Name))
     (natural_at table place field.At)
 

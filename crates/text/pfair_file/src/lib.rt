@@ -13,7 +13,6 @@ pub(crate) mod field;
 mod given;
 pub(crate) mod header;
 mod input;
-pub(crate) mod kind;
 pub mod laws;
 mod line;
 pub(crate) mod lookup;

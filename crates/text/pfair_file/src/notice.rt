@@ -3,13 +3,12 @@ ghost use Rattle.std.specs.Prelude.{◌≡◌, option_map};
 ghost use Rattle.std.specs.Result.{result_map_both};
 ghost use Rattle.toml.specs.View.{table_view};
 ghost use Rattle.pfair_entry.specs.Notice.{noticed};
-ghost use Rattle.pfair_file.specs.Tables.{change_at, early_at, kind_at, notice_at};
+ghost use Rattle.pfair_file.specs.Tables.{early_at, fields_at, kind_at, notice_at};
 
 use crate::fault::FileFault;
 use crate::field::Field;
-use crate::kind::{Kind, find_kind};
 use crate::lookup::{find, natural_number, text};
-use pfair_entry::{Change, Notice};
+use pfair_entry::{ChangeFields, Kind, Notice};
 use toml::Table;
 
 /// Reads the announcement of a table, if it has a kind, or the first fault of its keys.
@@ -21,7 +20,7 @@ pub fn read_notice(table: &Table, place: u64, version: u64) -> Result<Option<Not
     };
     let at = natural_number(table, place, Field::At)?;
     let name = text(table, place, Field::Name)?.as_bytes();
-    let change = read_change(table, place, version, kind)?;
+    let change = change_fields(table, place, version).change(kind)?;
     Ok(Some(Notice { at, name, change }))
 }
 
@@ -34,31 +33,20 @@ fn read_kind(table: &Table, place: u64) -> Result<Option<Kind>, FileFault>
         return Ok(None);
     };
     let name = value.as_str().ok_or(FileFault::WrongKind { place, field })?;
-    let kind = find_kind(name).ok_or(FileFault::Range { place, field })?;
+    let kind = Kind::named(name.as_bytes()).ok_or(FileFault::Range { place, field })?;
     Ok(Some(kind))
 }
 
-// The keys that a kind of announcement asks for beside those of all.
-fn read_change(table: &Table, place: u64, version: u64, kind: Kind) -> Result<Change, FileFault>
-    ensures { result ≡ change_at version place kind (table_view table.now) }
+// The keys that kinds of announcements ask for beside those of all.
+fn change_fields(table: &Table, place: u64, version: u64) -> ChangeFields<FileFault>
+    ensures { result ≡ fields_at version place (table_view table.now) }
 {
-    match kind {
-        Kind::Arrive => {
-            let cost = natural_number(table, place, Field::Cost)?;
-            let period = natural_number(table, place, Field::Period)?;
-            let early = read_early(table, place, version)?;
-            Ok(Change::Arrive {
-                cost,
-                period,
-                early,
-            })
-        }
-        Kind::Depart => Ok(Change::Depart),
-        Kind::Late => {
-            let index = natural_number(table, place, Field::Index)?;
-            let by = natural_number(table, place, Field::By)?;
-            Ok(Change::Late { index, by })
-        }
+    ChangeFields {
+        cost: natural_number(table, place, Field::Cost),
+        period: natural_number(table, place, Field::Period),
+        early: read_early(table, place, version),
+        index: natural_number(table, place, Field::Index),
+        by: natural_number(table, place, Field::By),
     }
 }
 

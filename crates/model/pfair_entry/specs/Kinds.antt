@@ -1,0 +1,25 @@
+-- The kinds of announcements: their names, and the fields of each.
+use Rattle.std.specs.Prelude.{ℕ, List, Option, None, Some, bytes_eq, codes, if◌then◌else◌, Result, Ok}
+use Rattle.pfair_entry.specs.Results.{and_then}
+use Rattle.pfair_entry.specs.declared.kind.ChangeFields.{ChangeFields}
+use Rattle.pfair_entry.specs.declared.kind.Kind.{Kind}
+use Rattle.pfair_entry.specs.declared.kind.Kind.TheVariants.{Arrive, Depart, Late}
+use Rattle.pfair_entry.specs.declared.notice.Change.{Change}
+use Rattle.pfair_entry.specs.declared.notice.Change.TheVariants as change
+
+abbrev pub kind_name : Kind → List ℕ
+kind_name Arrive = codes "arrive"
+kind_name Depart = codes "depart"
+kind_name Late = codes "late"
+
+abbrev pub kind_named : List ℕ → Option Kind
+kind_named name =
+    if bytes_eq name (kind_name Arrive) then Some Arrive
+    else (if bytes_eq name (kind_name Depart) then Some Depart
+    else (if bytes_eq name (kind_name Late) then Some Late else None))
+
+-- the change of a kind, or why the first of its fields isn't there
+abbrev pub change_of : {E : Type 0} → Kind → ChangeFields E → Result Change E
+change_of Arrive f = and_then (λ cost. and_then (λ period. and_then (λ early. Ok (change.Arrive cost period early)) f.early) f.period) f.cost
+change_of Depart f = Ok change.Depart
+change_of Late f = and_then (λ index. and_then (λ by. Ok (change.Late index by)) f.by) f.index
