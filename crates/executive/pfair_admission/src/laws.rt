@@ -1,11 +1,10 @@
 //! The laws of members, for every machine, slot and list of members.
 //!
 //! Each function states one law and does nothing; [`next_key_is_of_its_subtask`] returns true.
-ghost use Rattle.std.specs.Prelude.{◌≡◌, ◌-◌, ◌^◌, IsTrue};
+ghost use Rattle.std.specs.Prelude.{IsTrue};
 ghost use Rattle.pfair_admission.specs.Laws.{NamesStayApart, MembersKeepRoom, RefusalsChangeNothing, OrderIsKept, OneDecisionEach, DelaysMoveLaterSubtasks, LeaversHoldTheirClaim, EarlyReleaseKeepsBorders, CarriedMembersStay, CarryingKeepsWindows};
 
 use crate::incarnation::Incarnation;
-use crate::members::Members;
 use pfair_order::Key;
 
 /// If a name stands once among the members, it does so after each boundary and each quantum.
@@ -76,12 +75,3 @@ pub fn next_key_is_of_its_subtask(member: &Incarnation) -> bool
     let key = Key::of(member.weight(), index, member.theta(index), *member.name());
     member.next_subtask().1 == key
 }
-
-/// The most processors, the longest frame in slots, the most announcements over all boundaries, and
-/// the last slot of a boundary.
-pub fn limits()
-    ensures processors { Members.MAX_PROCESSORS ≡ 64 }
-    ensures frame { Members.MAX_FRAME ≡ 1000000000 }
-    ensures heard { Members.MAX_HEARD ≡ 262144 }
-    ensures slot { Members.LAST_SLOT ≡ 2 ^ 40 - 2 ^ 38 }
-{}

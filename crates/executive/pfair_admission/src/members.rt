@@ -13,7 +13,7 @@ use crate::ledger::Ledger;
 use crate::quantum::Quantum;
 use indexmap::IndexMap;
 use pfair_entry::{Announcement, Said};
-use pfair_weight::{MAX_INDEX, TaskName};
+use pfair_weight::{MAX_INDEX, TaskName, Weight};
 use std::alloc::{AllocError, Global};
 use std::marker::Model;
 
@@ -40,10 +40,10 @@ impl Model for Members {
 
 impl Members {
     /// The most processors of a machine.
-    pub const MAX_PROCESSORS: u8 = 64;
+    pub const MAX_PROCESSORS: u8 = pfair_entry::MAX_PROCESSORS;
 
-    /// The longest frame, in slots.
-    pub const MAX_FRAME: u64 = 1_000_000_000;
+    /// The longest frame, in slots: every period can divide it.
+    pub const MAX_FRAME: u64 = Weight::MAX_PERIOD;
 
     /// The most announcements over all boundaries.
     pub const MAX_HEARD: u64 = 262_144;

@@ -1,11 +1,8 @@
 //! Laws of lags and windows, for every weight, schedule and horizon, and of the book of lags.
 //!
 //! Each function states one law and does nothing.
-ghost use Rattle.std.specs.Prelude.{◌≡◌};
 ghost use Rattle.pfair_lag.specs.Laws.{LagsKeepWindows, LagsKeepDeadlines, OneFirstMiss, OneFirstLate, MissesAreOut, LateMissDeadlines};
 ghost use Rattle.pfair_lag.specs.Runs.{CountsSinceEntering};
-
-use crate::MAX_HORIZON;
 
 /// The lag stays strictly between -1 and 1 up to a horizon exactly if each subtask that ran did
 /// so in its window, and each whose deadline is at most the horizon ran (Baruah, Cohen, Plaxton and
@@ -42,9 +39,4 @@ pub fn first_late_are_one()
 #[tactic(auto, using(crate::proofs::RunLemmas::counts_since_entering))]
 pub fn lags_count_since_entering()
     ensures { CountsSinceEntering }
-{}
-
-/// How far schedules are tested, in slots.
-pub fn limits()
-    ensures { MAX_HORIZON ≡ 1000000 }
 {}

@@ -21,7 +21,8 @@ pub use book::LagBook;
 pub use deadlines::{first_late, meets_deadlines};
 pub use fault::PickFault;
 pub use lag::{lag_below, lag_within};
+use pfair_table::Settings;
 pub use windows::{Miss, first_miss, in_windows};
 
 /// The last time up to which schedules are tested, in slots.
-pub const MAX_HORIZON: u64 = 1_000_000;
+pub const MAX_HORIZON: u64 = Settings::MAX_SLOTS;

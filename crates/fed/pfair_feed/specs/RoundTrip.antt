@@ -5,6 +5,7 @@ use Rattle.pfair_entry.specs.Entry.{Logged}
 use Rattle.pfair_entry.specs.Notice.{IsLoggable}
 use Rattle.pfair_entry_row.specs.Row.{entry_row, IsEntryAt}
 use Rattle.pfair_replica.specs.Replica.{Replica, frontier}
+use Rattle.pfair_table.specs.declared.settings.TheConstants.Settings.{MAX_PROCESSORS}
 use Rattle.pfair_table.specs.Events.{start}
 use Rattle.pfair_table.specs.Refinement.{course_of}
 use Rattle.pfair_table.specs.Script.{IsLoggedRun, LoggedRun, replica_of_logs}
@@ -39,10 +40,10 @@ placed_in processor (log ∷ logs) = placed_from processor 1 log ++ placed_in (s
 abbrev pub rows_of : List (List Logged) → List (List ℕ)
 rows_of logs = map row_of (placed_in 0 logs)
 
--- What each script keeps: a log for each of at most 64 processors, none longer than a log may be, of entries that a log may have.
+-- What each script keeps: a log for each processor, none longer than a log may be, of entries that a log may have.
 pub record IsScript (run : LoggedRun) : Type 0 where
   pub logged : IsLoggedRun run
-  pub few : run.settings.processors ≤ 64
+  pub few : run.settings.processors ≤ MAX_PROCESSORS
   pub loggable : AllByRecursion (λ log. AllByRecursion IsLoggable log) run.logs
 
 -- ---- lines

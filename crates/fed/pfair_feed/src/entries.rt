@@ -37,7 +37,7 @@ pub fn entries_of(alloc: Global, script: &Script) -> Result<Vec<u8>, AllocError>
 // Adds the rows of the entries of one log.
 fn add_log(writer: &mut Writer<Vec<u8>>, processor: u8, log: &[Entry]) -> Result<(), AllocError>
     requires open { IsOpen writer.old }
-    requires short { length log.now ≤ 4096 }
+    requires short { length log.now ≤ Script.LONGEST_LOG }
     ensures open { OnOk result (IsOpen writer.new) }
     ensures text { OnOk result (text_so_far writer.new ≡ text_so_far writer.old ++ lines_text (log_rows processor log.now)) }
     ensures entries { OnOk result (AllByRecursion IsLoggable log.now) }

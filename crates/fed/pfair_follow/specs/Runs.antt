@@ -4,6 +4,7 @@ use Rattle.std.specs.Io.KnownBytes.{Appends, Consumes, IsAtEnd, Keeps}
 use Rattle.pfair_text.specs.Output.{TakesPrefix}
 use Rattle.pfair_text.specs.Rows.{line, lines_text}
 use Rattle.pfair_replica.specs.Replica.{Replica, empty_replica, frontier, has_torn, numbers_below}
+use Rattle.pfair_table.specs.declared.script.TheConstants.Script.{LONGEST_LOG}
 use Rattle.pfair_table.specs.Events.{start}
 use Rattle.pfair_table.specs.Refinement.{course_of}
 use Rattle.pfair_table.specs.Table.{Settings, decisions, plan}
@@ -35,7 +36,7 @@ pub record AreBrought (s : Settings) (bytes : List ℕ) (held : Replica) : Type 
   pub lines : List (List ℕ)
   pub rest : List ℕ
   pub are_lines : AreLines bytes lines rest
-  pub taken : AreTakenFrom lines (empty_replica s.processors 4096) held
+  pub taken : AreTakenFrom lines (empty_replica s.processors LONGEST_LOG) held
 
 -- all slots are settled; or only those below this one
 abbrev pub IsSettled : Settings → Replica → Type 0
@@ -62,13 +63,13 @@ pub record AreTakenAll (s : Settings) (given left : Option (List ℕ)) : Type 0 
   pub bytes : List ℕ
   pub rest : List ℕ
   pub consumed : Consumes given left bytes
-  pub welcome : AreWelcome s.processors 4096 bytes rest
+  pub welcome : AreWelcome s.processors LONGEST_LOG bytes rest
 
 -- a follower that holds nothing, and writes rows from this slot on
 pub record IsFresh (output : Output) (run : Run) (f : Follow) : Type 0 where
   pub output_is : f.output ≡ output
   pub settings_are : f.dispatch.settings ≡ run.settings
-  pub course_is : course_of f.dispatch ≡ start run.settings 4096
+  pub course_is : course_of f.dispatch ≡ start run.settings LONGEST_LOG
   pub told_is : f.told ≡ run.from
 
 -- after the header some bytes were fed, to the reader's end

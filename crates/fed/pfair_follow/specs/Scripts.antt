@@ -2,6 +2,7 @@
 use Rattle.std.specs.Prelude.{ℕ, ◌≡◌, ◌≤◌, ◌<◌, List, Option, IfSome}
 use Rattle.std.specs.Io.KnownBytes.{Appends}
 use Rattle.pfair_replica.specs.Replica.{frontier}
+use Rattle.pfair_table.specs.declared.script.TheConstants.Script.{LONGEST_LOG}
 use Rattle.pfair_table.specs.Script.{LoggedRun, replica_of_logs}
 use Rattle.pfair_feed.specs.declared.output.Output.{Output}
 use Rattle.pfair_feed.specs.Feeding.{AreLines}
@@ -17,7 +18,7 @@ pub record HasScript (run : Run) (bytes : List ℕ) (script : LoggedRun) : Type 
   pub lines : List (List ℕ)
   pub rest : List ℕ
   pub are_lines : AreLines bytes lines rest
-  pub have_rows : HaveTheRows run.settings.processors 4096 (rows_of script.logs) lines
+  pub have_rows : HaveTheRows run.settings.processors LONGEST_LOG (rows_of script.logs) lines
 
 -- the script settles all its slots, and its text was written: all of it, or its rows from a later slot on
 pub record IsScriptWritten (output : Output) (run : Run) (script : LoggedRun) (before after : Option (List ℕ)) : Type 0 where

@@ -6,6 +6,7 @@ use Rattle.pfair_weight.specs.NameFault.{name_fault_number}
 use Rattle.pfair_weight.specs.WeightFault.{weight_fault_number}
 use Rattle.pfair_weight.specs.declared.name.NameFault.{NameFault}
 use Rattle.pfair_weight.specs.declared.name.NameFault.TheVariants as name
+use Rattle.pfair_weight.specs.declared.weight.TheConstants.Weight.{MAX_PERIOD}
 use Rattle.pfair_weight.specs.declared.weight.WeightFault.{WeightFault}
 use Rattle.pfair_weight.specs.declared.weight.WeightFault.TheVariants as weight
 use Rattle.pfair_entry.specs.Entry.{Logged, IsEntry, IsWeighed}
@@ -62,7 +63,7 @@ name_fault bytes =
 abbrev pub weight_fault : ℕ → ℕ → Option WeightFault
 weight_fault cost period =
     if cost == 0 then Some weight.ZeroCost
-    else (if nat_lt period cost then Some weight.CostOverPeriod else (if nat_lt 1000000000 period then Some weight.PeriodTooLong else None))
+    else (if nat_lt period cost then Some weight.CostOverPeriod else (if nat_lt MAX_PERIOD period then Some weight.PeriodTooLong else None))
 
 -- ---- the first of them all
 

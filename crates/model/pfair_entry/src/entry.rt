@@ -73,8 +73,8 @@ impl Entry {
     /// The last slot that a floor or a stamp may name.
     pub const LAST_SLOT: u64 = 1_000_000;
 
-    /// The last subtask from which on a task may come late, counted from 1.
-    pub const LAST_INDEX: u64 = 1_000_000;
+    /// The last subtask from which on a task may come late, counted from 1: at most one for each slot.
+    pub const LAST_INDEX: u64 = Entry::LAST_SLOT;
 
     /// The longest delay, in slots.
     pub const LONGEST_DELAY: u64 = 1_048_576;

@@ -1,17 +1,9 @@
 //! The laws of names, of entries and of logs. Each function does nothing: its contract is the law.
-ghost use Rattle.std.specs.Prelude.{◌≡◌, ◌^◌};
 ghost use Rattle.pfair_lattice.specs.Held.{IsExact};
 ghost use Rattle.pfair_entry.specs.Writer.{EveryLogRises};
 
 use crate::entry::Entry;
 use pfair_weight::TaskName;
-
-/// The last slot and the last subtask that an entry may name, and the longest delay.
-pub fn limits()
-    ensures slot { Entry.LAST_SLOT ≡ 1000000 }
-    ensures index { Entry.LAST_INDEX ≡ 1000000 }
-    ensures delay { Entry.LONGEST_DELAY ≡ 2 ^ 20 }
-{}
 
 /// `==` of names holds of names with the same bytes, and of no others.
 #[tactic(auto, using(crate::specs::Exact::names_exact))]

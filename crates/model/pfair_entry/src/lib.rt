@@ -18,5 +18,5 @@ pub use announcement::Announcement;
 pub use entry::{Entry, EntryFault};
 pub use kind::{ChangeFields, Kind};
 pub use notice::{Change, Notice, NoticeFault, checked_entry};
-pub use said::Said;
+pub use said::{MAX_PROCESSORS, Said};
 pub use writer::{NoteFault, Writer};

@@ -56,6 +56,9 @@ impl Model for Writer {
 }
 
 impl Writer {
+    /// The most entries of a log.
+    pub const LONGEST_LOG: u32 = 4_096;
+
     /// Creates the writer of an empty log that has room for `capacity` entries.
     pub fn new(capacity: u32) -> Writer
         ensures { result ≡ record { capacity = capacity; written = 0; floor = 0 } }

@@ -1,5 +1,6 @@
 -- A weight as clauses see it.
 use Rattle.std.specs.Prelude.{ℕ, ◌<◌, ◌≤◌, ◌*◌, ◌/◌}
+use Rattle.pfair_weight.specs.declared.weight.TheConstants.Weight.{MAX_PERIOD}
 
 -- the share of a processor that a task is given: a cost for each period
 pub record Share : Type 0 where
@@ -10,7 +11,7 @@ pub record Share : Type 0 where
 pub record IsWeight (cost period : ℕ) : Type 0 where
   pub some_cost : 0 < cost
   pub at_most_one : cost ≤ period
-  pub period_in_range : period ≤ 1000000000
+  pub period_in_range : period ≤ MAX_PERIOD
 
 -- at least half of a processor
 abbrev pub IsHeavy : Share → Type 0

@@ -67,7 +67,7 @@ impl Cascade {
     pub fn end(&self) -> u64
         ensures value { result ≡ cascade_end self.now.weight self.now.close }
         ensures within { result ≤ self.now.close + self.now.weight.period }
-        ensures range { self.now.weight.period ≤ 1000000000 }
+        ensures range { self.now.weight.period ≤ Weight.MAX_PERIOD }
     {
         self.end.ceiling()
     }

@@ -1,20 +1,9 @@
 //! The laws of windows, of jobs and of names, for every weight, subtask and offset.
 //!
 //! Each function states one law and does nothing.
-ghost use Rattle.std.specs.Prelude.{◌≡◌, ◌^◌};
 ghost use Rattle.pfair_weight.specs.Laws.{NoWindowIsEmpty, WindowsRise, WindowsMeet, WindowsByShare, GroupDeadlines, DelaysShift, JobsFillPeriods, JobsRepeat, NamesInByteOrder};
 
 use crate::name::TaskName;
-use crate::weight::Weight;
-use crate::window::{MAX_INDEX, MAX_OFFSET};
-
-/// How far windows are counted, how long a period is and how long a name is at most.
-pub fn limits()
-    ensures index { MAX_INDEX ≡ 2000001 }
-    ensures offset { MAX_OFFSET ≡ 2 ^ 40 }
-    ensures period { Weight.MAX_PERIOD ≡ 1000000000 }
-    ensures name { TaskName.MAX_LEN ≡ 16 }
-{}
 
 /// Each window opens before it closes.
 #[tactic(auto, using(crate::specs::WindowFacts::window_not_empty))]

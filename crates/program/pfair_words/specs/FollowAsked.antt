@@ -3,6 +3,7 @@ use Rattle.std.specs.Prelude.{ℕ, ◌≡◌, ◌≤◌, ⊤, List, Option, Resu
 use Rattle.clap.specs.Words.{Row, Text}
 use Rattle.clap.specs.declared.error.kind.ErrorKind.{ErrorKind}
 use Rattle.clap.specs.Walk.{one_of}
+use Rattle.pfair_table.specs.declared.settings.TheConstants.Settings.{MAX_SLOTS}
 use Rattle.pfair_table.specs.Limits.{IsSettings}
 use Rattle.pfair_table.specs.Table.{Settings}
 use Rattle.pfair_words.specs.Answers.{ToAny, ToTaken, ToUntaken, ToWords}
@@ -27,7 +28,7 @@ AsksNoSettings rows = (settings : Settings) → ¬ AskSettings rows settings
 -- a first slot within its range
 pub record AskFrom (rows : List Row) (from : ℕ) : Type 0 where
   pub number : IsNumber rows (codes "from") from
-  pub in_range : from ≤ 1000000
+  pub in_range : from ≤ MAX_SLOTS
 
 -- a run
 pub record AskRun (rows : List Row) (run : Run) : Type 0 where

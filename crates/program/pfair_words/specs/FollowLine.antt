@@ -2,6 +2,7 @@
 use Rattle.std.specs.Prelude.{ℕ, true, List, [], ◌∷◌, Some, codes}
 use Rattle.clap.specs.Words.{App, Rule, new_app, new_rule, with_rule, with_subcommand}
 use Rattle.clap.specs.declared.builder.value_parser.ValueParser.TheVariants.{Unsigned}
+use Rattle.pfair_table.specs.declared.settings.TheConstants.Settings.{MAX_PROCESSORS, MAX_FRAME, MAX_SLOTS}
 use Rattle.pfair_words.specs.Line.{affinity, file, flag, program}
 
 -- an option of this name, behind which stands a number from `least` to `most`
@@ -13,17 +14,17 @@ abbrev pub needed : List ℕ → (most : ℕ) → Rule
 needed name most = record (option name 1 most) { required = true }
 
 abbrev pub processors : Rule
-processors = needed (codes "processors") 64
+processors = needed (codes "processors") MAX_PROCESSORS
 
 abbrev pub frame : Rule
-frame = needed (codes "frame") 1000000000
+frame = needed (codes "frame") MAX_FRAME
 
 abbrev pub slots : Rule
-slots = needed (codes "slots") 1000000
+slots = needed (codes "slots") MAX_SLOTS
 
 -- the first slot whose rows are written: 0 if it isn't given
 abbrev pub from : Rule
-from = record (option (codes "from") 0 1000000) { defaults = codes "0" ∷ [] }
+from = record (option (codes "from") 0 MAX_SLOTS) { defaults = codes "0" ∷ [] }
 
 -- the flag by which a refused row ends the run
 abbrev pub strict : Rule

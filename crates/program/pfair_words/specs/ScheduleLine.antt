@@ -3,6 +3,7 @@ use Rattle.std.specs.Prelude.{ℕ, List, Some, codes}
 use Rattle.clap.specs.Words.{App, Rule, new_app, with_rule, with_subcommand}
 use Rattle.clap.specs.declared.builder.value_parser.ValueParser.TheVariants.{Unsigned}
 use Rattle.pfair_words.specs.Line.{affinity, file, program, required}
+use Rattle.pfair_words.specs.declared.schedule.TheConstants.{MAX_COUNT}
 
 -- a number from 0 to `most` of this name
 abbrev pub number : List ℕ → ℕ → Rule
@@ -15,7 +16,7 @@ abbrev pub period : Rule
 period = number (codes "period") 18446744073709551615
 
 abbrev pub count : Rule
-count = number (codes "count") 1000000
+count = number (codes "count") MAX_COUNT
 
 abbrev pub windows : App
 windows = with_rule (with_rule (with_rule (new_app (codes "windows")) cost) period) count

@@ -12,11 +12,12 @@ use crate::parse::{Parsed, file_name, is_set, number, parse};
 use clap::ArgMatches;
 use command::command_line;
 use pfair_file::ProgramFault;
+use pfair_table::Settings;
 use pfair_weight::Weight;
 use std::alloc::Global;
 
 /// The most windows that a command line can ask for.
-pub const MAX_COUNT: u64 = 1_000_000;
+pub const MAX_COUNT: u64 = Settings::MAX_SLOTS;
 
 /// What a command line asks for.
 #[derive(Drop)]

@@ -10,14 +10,15 @@ use Rattle.pfair_file.specs.declared.field.Field.TheVariants as field
 use Rattle.pfair_file.specs.declared.fault.FileFault.{FileFault}
 use Rattle.pfair_file.specs.declared.fault.FileFault.TheVariants as fault
 use Rattle.pfair_file.specs.declared.made.Made.{Made}
+use Rattle.pfair_file.specs.declared.made.TheConstants.{MOST_ENTRIES}
 
 -- the logs, by processor
 abbrev pub Logs : Type 0
 Logs = List (List Logged)
 
--- the next entry of a log, of which a file can hold 4,095
+-- the next entry of a log, of which a file leaves room for the closing one
 abbrev pub next_entry_of : List Logged → Result Logged NoticeFault → Result Logged NoticeFault
-next_entry_of log made = if nat_le 4095 (length log) then Err LogFull else made
+next_entry_of log made = if nat_le MOST_ENTRIES (length log) then Err LogFull else made
 
 -- the log of a processor with one more entry, or why it has none
 abbrev pub with_next : ℕ → List Logged → Result Logged NoticeFault → Result (List Logged) FileFault

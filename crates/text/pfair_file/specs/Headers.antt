@@ -2,6 +2,7 @@
 use Rattle.std.specs.Prelude.{ℕ, Result, Ok}
 use Rattle.toml.specs.Data.{Members}
 use Rattle.pfair_table.specs.Table.{Settings}
+use Rattle.pfair_table.specs.declared.settings.TheConstants.Settings.{MAX_PROCESSORS, MAX_FRAME, MAX_SLOTS}
 use Rattle.pfair_file.specs.Keys.{integer_at, number_at, ranged}
 use Rattle.pfair_entry.specs.Results.{and_then}
 use Rattle.pfair_file.specs.declared.field.Field.TheVariants as field
@@ -18,6 +19,6 @@ settings_of table =
     and_then (λ processors.
     and_then (λ frame.
     and_then (λ slots. Ok (record { processors = processors; frame = frame; slots = slots }))
-    (number_at table 0 field.Slots 1 1000000))
-    (number_at table 0 field.Frame 1 1000000000))
-    (number_at table 0 field.Processors 1 64)
+    (number_at table 0 field.Slots 1 MAX_SLOTS))
+    (number_at table 0 field.Frame 1 MAX_FRAME))
+    (number_at table 0 field.Processors 1 MAX_PROCESSORS)
