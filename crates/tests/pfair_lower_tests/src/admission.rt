@@ -58,8 +58,13 @@ fn hears(rt: &impl Abort, members: &mut Members, announced: &[Said])
     for decision in &decisions {
         assert_eq!(rt; *decision, Decision::Admitted);
     }
-    let (last, _member) = members.at(262_143).expect(rt, "a member");
+    let (last, member) = members.at(262_143).expect(rt, "a member");
     assert!(rt; *last == name(rt, 262_143));
+    assert_eq!(rt;
+        (member.eligible(1), member.eligible(2)),
+        (0, 1_000_000_000)
+    );
+    assert_eq!(rt; (member.lag(0), member.lag(1_000_000)), (0, 1_000_000));
 }
 
 #[test]

@@ -261,7 +261,5 @@ fn is_same(member: &Incarnation, twin: &Incarnation) -> bool {
         && member.joined() == twin.joined()
         && member.next() == twin.next()
         && member.theta(2) == twin.theta(2)
-        && member.eligible(2) == twin.eligible(2)
-        && member.lag(8) == twin.lag(8)
         && member.freed_at() == twin.freed_at()
 }
