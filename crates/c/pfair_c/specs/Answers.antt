@@ -27,9 +27,9 @@ use Rattle.pfair_table.specs.Limits.{IsSettings}
 use Rattle.pfair_table.specs.Events.{start, happens}
 use Rattle.pfair_handle.specs.Kept.{Kept}
 use Rattle.pfair_handle.specs.Behind.{Of, Between, IsAbsorbedTo, IsPartlyAbsorbedTo}
-use Rattle.pfair_handle.specs.Entries.{logged_of, IsMeant}
-use Rattle.pfair_handle.specs.declared.entry.PfairEntry.{PfairEntry}
-use Rattle.pfair_handle.specs.Planning.{IsPlannedOn, IsStopOf, IsStoppedBy, IsWhole}
+use Rattle.pfair_c.specs.Entries.{logged_of, IsMeant}
+use Rattle.pfair_c.specs.declared.entry.PfairEntry.{PfairEntry}
+use Rattle.pfair_c.specs.Planning.{IsPlannedOn, IsStopOf, IsStoppedBy, IsWhole}
 use Rattle.pfair_c.specs.declared.plan.PfairStep.{PfairStep}
 
 -- the answer of `pfair_window`: 4 to 6 if there is no such weight, 100 if the subtask or the offset is out of range

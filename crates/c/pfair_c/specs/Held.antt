@@ -8,9 +8,9 @@ use Rattle.pfair_replica.specs.Key.{EntryKey}
 use Rattle.pfair_replica.specs.HeldRows.{HeldRows, replica_of}
 use Rattle.pfair_replica.specs.Replica.{torn_keys, fallen_keys}
 use Rattle.pfair_table.specs.Refinement.{Dispatch}
-use Rattle.pfair_handle.specs.TakenLog.{IsRefusedAt}
-use Rattle.pfair_handle.specs.EntryRows.{entry_row}
-use Rattle.pfair_handle.specs.declared.entry.PfairEntry.{PfairEntry}
+use Rattle.pfair_c.specs.TakenLog.{IsRefusedAt}
+use Rattle.pfair_c.specs.EntryRows.{entry_row}
+use Rattle.pfair_c.specs.declared.entry.PfairEntry.{PfairEntry}
 use Rattle.pfair_c.specs.declared.held.PfairSettings.{PfairSettings}
 
 -- the answer of a call on the log of a processor: 13 if there is no such processor

@@ -1,6 +1,13 @@
 pub mod Answers
+pub mod Entries
+pub mod EntryRows
 pub mod Files
 pub mod Held
+pub mod Lags
+pub mod Members
 pub mod Misses
 pub mod Open
+pub mod Planning
 pub mod Rows
+pub mod TakenLog
+pub mod Told

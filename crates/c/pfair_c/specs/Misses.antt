@@ -1,13 +1,20 @@
 -- What the calls answer that look for the first subtask out of its window.
-use Rattle.std.specs.Prelude.{ℕ, ◌≡◌, List, Option, MatchOption, nat_eq, nat_lt, nat_le, if◌then◌else◌}
+use Rattle.std.specs.Prelude.{ℕ, ◌≡◌, List, Option, None, Some, MatchOption, nat_eq, nat_lt, nat_le, if◌then◌else◌}
 use Rattle.pfair_weight.specs.Share.{Share}
 use Rattle.pfair_lag.specs.Picks.{ArePicks}
 use Rattle.pfair_lag.specs.PickFault.{IsFaultOf, pick_fault_number}
 use Rattle.pfair_lag.specs.declared.fault.PickFault.{PickFault}
 use Rattle.pfair_lag.specs.declared.fault.PickFault.TheVariants.{PicksNotRising, PickPastHorizon}
 use Rattle.pfair_lag.specs.declared.windows.Miss.{Miss}
-use Rattle.pfair_handle.specs.Misses.{miss_row}
-use Rattle.pfair_handle.specs.declared.misses.PfairMiss.{PfairMiss}
+use Rattle.pfair_lag.specs.declared.windows.Miss.TheVariants.{Early, Tardy, Unserved}
+use Rattle.pfair_c.specs.declared.misses.PfairMiss.{PfairMiss}
+
+-- a miss by its kind, its subtask and the slot in which that ran, or none
+abbrev pub miss_row : Option Miss → PfairMiss
+miss_row None = record { kind = 0; index = 0; slot = 0 }
+miss_row (Some (Early index slot)) = record { kind = 1; index = index; slot = slot }
+miss_row (Some (Tardy index slot)) = record { kind = 2; index = index; slot = slot }
+miss_row (Some (Unserved index)) = record { kind = 3; index = index; slot = 0 }
 
 -- the answer before the picks are read: 4 to 6 if there is no such weight, 100 if the horizon is too far, else 0
 abbrev pub asked_answer : (cost period horizon : ℕ) → ℕ

@@ -1,93 +1,103 @@
--- What the calls tell that write rows of an open dispatcher.
-use Rattle.std.specs.Prelude.{ℕ, ◌≡◌, ◌≤◌, ◌<◌, Bool, ◌&&◌, ◌||◌, nat_eq, nat_le, nat_lt, min, if◌then◌else◌, List, length, map, slice_get, Option}
-use Rattle.std.specs.declared.option.Option.TheVariants.{None, Some}
-use Rattle.std.specs.Option.{option_map}
+-- Rows, as C has them.
+use Rattle.std.specs.Prelude.{ℕ, zero, suc, ◌+◌, ◌-◌, List, [], ◌∷◌, ◌++◌, length, map, drop, replicate, Option, slice_get, unwrap_or}
+use Rattle.pfair_weight.specs.Share.{Share}
+use Rattle.pfair_weight.specs.Window.{release_of, deadline_of, b_bit_of, group_deadline_of}
+use Rattle.pfair_entry.specs.Names.{name_of}
+use Rattle.pfair_replica.specs.Key.{EntryKey}
+use Rattle.pfair_admission.specs.Refusal.{refusal_number}
+use Rattle.pfair_admission.specs.declared.decision.Decision.{Decision}
+use Rattle.pfair_admission.specs.declared.decision.Decision.TheVariants.{Admitted, Departing, Delayed, Refused}
+use Rattle.pfair_table.specs.declared.pick.Pick.{Pick}
+use Rattle.pfair_table.specs.declared.pick.Decided.{Decided}
+use Rattle.pfair_table.specs.Table.{Origin, Table}
 use Rattle.pfair_table.specs.Places.{places_in}
-use Rattle.pfair_handle.specs.declared.rows.PfairPick.{PfairPick}
-use Rattle.pfair_handle.specs.declared.rows.PfairDecided.{PfairDecided}
-use Rattle.pfair_handle.specs.declared.quanta.PfairQuantum.{PfairQuantum}
-use Rattle.pfair_handle.specs.declared.decisions.PfairDecision.{PfairDecision}
-use Rattle.pfair_handle.specs.Rows.{written_over, pick_row, decided_row, quanta_of, decisions_of}
-use Rattle.pfair_handle.specs.declared.lags.PfairLag.{PfairLag}
-use Rattle.pfair_handle.specs.Lags.{lags_of, IsPartlyLaid}
-use Rattle.pfair_admission.specs.Member.{Member}
-use Rattle.pfair_table.specs.Refinement.{Dispatch}
-use Rattle.pfair_handle.specs.declared.members.PfairMember.{PfairMember}
-use Rattle.pfair_handle.specs.Members.{member_row, AreMembersNow}
+use Rattle.pfair_c.specs.declared.name.PfairName.{PfairName}
+use Rattle.pfair_c.specs.declared.table.PfairPick.{PfairPick}
+use Rattle.pfair_c.specs.declared.decisions.PfairDecided.{PfairDecided}
+use Rattle.pfair_c.specs.declared.held.PfairKey.{PfairKey}
+use Rattle.pfair_c.specs.declared.quanta.PfairQuantum.{PfairQuantum}
+use Rattle.pfair_c.specs.declared.decisions.PfairDecision.{PfairDecision}
+use Rattle.pfair_c.specs.declared.window.PfairWindow.{PfairWindow}
 
--- the rows of a planned slot: none if it is forgotten
-abbrev pub told_at : {A : Type 0} → (forgotten : ℕ) → List A → ℕ → Option A
-told_at forgotten slots slot = if nat_lt slot forgotten then None else slice_get slots slot
+-- a name: its bytes, zeros behind them up to 16, and how many they are
+abbrev pub name_row : List ℕ → PfairName
+name_row name = record { bytes = name ++ replicate (16 - length name) 0; length = length name }
 
--- the slots `from` to `to` - 1 are planned, and none of them is forgotten
-abbrev pub are_told : (forgotten planned from to : ℕ) → Bool
-are_told forgotten planned from to = nat_le to planned && (nat_le to from || nat_le forgotten from)
+-- a quantum
+abbrev pub pick_row : Pick → PfairPick
+pick_row p = record { name = name_row p.name; index = p.index }
 
--- the slots `from` to `to` - 1 are planned, and no slot is forgotten, unless these are none
-abbrev pub are_counted : (forgotten planned from to : ℕ) → Bool
-are_counted forgotten planned from to = nat_le to planned && (nat_le to from || nat_eq forgotten 0)
+-- the number of an outcome
+abbrev pub outcome_of : Decision → ℕ
+outcome_of Admitted = 0
+outcome_of (Departing freed_at) = 1
+outcome_of Delayed = 2
+outcome_of (Refused refusal) = refusal_number refusal
 
--- 104 if nothing is given, 103 if there is room for fewer rows
-abbrev pub rows_answer : {A : Type 0} → Option (List A) → ℕ → ℕ
-rows_answer None room = 104
-rows_answer (Some planned) room = if nat_le (length planned) room then 0 else 103
+-- the slot that a departure frees, else 0
+abbrev pub freed_slot : Decision → ℕ
+freed_slot Admitted = 0
+freed_slot (Departing freed_at) = freed_at
+freed_slot Delayed = 0
+freed_slot (Refused refusal) = 0
 
--- how many rows are given
-abbrev pub rows_count : {A : Type 0} → Option (List A) → ℕ → ℕ
-rows_count None count = count
-rows_count (Some planned) count = length planned
+-- a decision
+abbrev pub decided_row : Decided → PfairDecided
+decided_row d = record { name = name_row (name_of d.announcement); processor = d.proc; number = d.number; outcome = outcome_of d.decision; freed_at = freed_slot d.decision }
 
--- how many, as far as 64 bits can say it
-abbrev pub rows_counted : {A : Type 0} → Option (List A) → ℕ → ℕ
-rows_counted None count = count
-rows_counted (Some planned) count = min (length planned) 18446744073709551615
+-- a processor and a number
+abbrev pub key_row : EntryKey → PfairKey
+key_row k = record { processor = k.0; number = k.1 }
 
--- the rows over the first of those that were there, if these are enough
-abbrev pub rows_laid : {B : Type 0} → Option (List B) → List B → List B
-rows_laid None rows = rows
-rows_laid (Some laid) rows = if nat_le (length laid) (length rows) then written_over laid rows else rows
+-- some rows over the first of those that were there
+abbrev pub written_over : {A : Type 0} → List A → List A → List A
+written_over written rows = written ++ drop (length written) rows
 
--- the answer, and the count and the rows before and after, of a call that tells these rows, or nothing
-abbrev pub AreTold : {B : Type 0} → (counted : Option (List B) → ℕ → ℕ) → (told : Option (List B))
-    → (answer count count' : ℕ) → (rows rows' : List B) → Type 0
-AreTold counted told answer count count' rows rows' =
-    (answer ≡ rows_answer told (length rows)) × (count' ≡ counted told count) × (rows' ≡ rows_laid told rows)
+-- the window of subtask i at an offset, by the formulas
+abbrev pub window_row : Share → (i theta : ℕ) → PfairWindow
+window_row w i theta = record { release = release_of w i theta; deadline = deadline_of w i theta; b_bit = b_bit_of w i; group_deadline = group_deadline_of w i theta }
 
--- the table of a planned slot, its places, and the decisions at its boundary
-abbrev pub table_of : Dispatch → (slot : ℕ) → Option (List PfairPick)
-table_of d slot = option_map (map pick_row) (told_at d.forgotten d.tables slot)
+-- the windows of so many subtasks, from one on
+abbrev pub windows_of : Share → (theta first count : ℕ) → List PfairWindow
+windows_of w theta first zero = []
+windows_of w theta first (suc n) = window_row w first theta ∷ windows_of w theta (suc first) n
 
-abbrev pub places_at : Dispatch → (slot : ℕ) → Option (List ℕ)
-places_at d slot = told_at d.forgotten (places_in d.origin d.tables) slot
+-- ---- the rows of several slots
 
-abbrev pub decided_at : Dispatch → (slot : ℕ) → Option (List PfairDecided)
-decided_at d slot = option_map (map decided_row) (told_at d.forgotten d.decided slot)
+-- what is planned of a slot
+abbrev pub slot_of : {A : Type 0} → List (List A) → ℕ → List A
+slot_of slots t = unwrap_or (slice_get slots t) []
 
--- the quanta of the slots `from` to `to` - 1, if all of these are planned, and none is forgotten
-abbrev pub quanta_between : Dispatch → (from to : ℕ) → Option (List PfairQuantum)
-quanta_between d from to =
-    if are_told d.forgotten (length d.tables) from to then Some (quanta_of d.origin d.tables from to) else None
+-- the quantum of row k of a slot, with its place
+abbrev pub quantum_row : (slot k : ℕ) → Pick → Option ℕ → PfairQuantum
+quantum_row slot k p place = record { slot = slot; row = k; place = unwrap_or place 0; name = name_row p.name; index = p.index }
 
--- the decisions of the slots `from` to `to` - 1, if all of these are planned, and none is forgotten
-abbrev pub decisions_between : Dispatch → (from to : ℕ) → Option (List PfairDecision)
-decisions_between d from to =
-    if are_told d.forgotten (length d.decided) from to then Some (decisions_of d.decided from to) else None
+-- the quanta of a slot from row k on: row k has the k-th of the slot's places
+abbrev pub quanta_in : (places : List ℕ) → (slot k : ℕ) → Table → List PfairQuantum
+quanta_in places slot k [] = []
+quanta_in places slot k (p ∷ more) = quantum_row slot k p (slice_get places k) ∷ quanta_in places slot (suc k) more
 
--- the lags after each of the slots `from` to `to` - 1, if these are planned, and no slot is forgotten: they count from
--- the run's slot 0 on
-abbrev pub lags_between : Dispatch → (from to : ℕ) → Option (List PfairLag)
-lags_between d from to =
-    if are_counted d.forgotten (length d.tables) from to then Some (lags_of d from to) else None
+-- the quanta of slot t
+abbrev pub quanta_at : Origin → List Table → ℕ → List PfairQuantum
+quanta_at o tables t = quanta_in (slot_of (places_in o tables) t) t 0 (slot_of tables t)
 
--- an allocation failed: the lags of some first slots stand over the first rows
-abbrev pub IsLaidInPart : (from to : ℕ) → (old new : List PfairLag) → Dispatch → Type 0
-IsLaidInPart from to old new d =
-    (from < to) × (to ≤ length d.tables) × (d.forgotten ≡ 0) × IsPartlyLaid d from to old new
+-- the rows of so many slots, from one on
+abbrev pub rows_of : {B : Type 0} → (ℕ → List B) → (from count : ℕ) → List B
+rows_of rows_at from zero = []
+rows_of rows_at from (suc n) = rows_of rows_at from n ++ rows_at (from + n)
 
--- the members after the planned slots are given
-pub record AreMembersTold (d : Dispatch) (answer count : ℕ) (old new : List PfairMember) : Type 0 where
-  pub members : List Member
-  pub are_members : AreMembersNow d members
-  pub answer_is : answer ≡ rows_answer (Some members) (length old)
-  pub count_is : count ≡ length members
-  pub rows_are : new ≡ rows_laid (Some (map member_row members)) old
+-- the quanta of the slots `from` to `to` - 1
+abbrev pub quanta_of : Origin → List Table → (from to : ℕ) → List PfairQuantum
+quanta_of o tables from to = rows_of (quanta_at o tables) from (to - from)
+
+-- a decision with its slot
+abbrev pub decision_row : (slot : ℕ) → Decided → PfairDecision
+decision_row slot d = record { slot = slot; decided = decided_row d }
+
+-- the decisions at the boundary of slot t
+abbrev pub decisions_at : List (List Decided) → ℕ → List PfairDecision
+decisions_at decided t = map (decision_row t) (slot_of decided t)
+
+-- the decisions of the slots `from` to `to` - 1
+abbrev pub decisions_of : List (List Decided) → (from to : ℕ) → List PfairDecision
+decisions_of decided from to = rows_of (decisions_at decided) from (to - from)

@@ -3,12 +3,13 @@ ghost use Rattle.std.specs.Prelude.{◌≡◌, ◌≤◌, ◌⊎◌, ◌&&◌, N
 ghost use Rattle.pfair_replica.specs.HeldRows.{SameShape};
 ghost use Rattle.pfair_handle.specs.Kept.{is_kept};
 ghost use Rattle.pfair_handle.specs.Behind.{Of, Between};
-ghost use Rattle.pfair_handle.specs.Entries.{IsEntryFault};
+ghost use Rattle.pfair_c.specs.Entries.{IsEntryFault};
 ghost use Rattle.pfair_c.specs.Answers.{IsOpenable, IsStarted, IsTakenFor, IsRefusedFor, IsJoinedTo, IsPartlyJoinedTo, IsNextRunOf, IsNoNextRunOf};
 
+use crate::entry::{PfairEntry, read_entry};
 use crate::open::{change, put_new};
-use pfair_handle::answer::{DONE, NOT_OPEN, OPEN_ALREADY, OUT_OF_RANGE};
-use pfair_handle::{Handle, PfairEntry, read_entry};
+use crate::answer::{DONE, NOT_OPEN, OPEN_ALREADY, OUT_OF_RANGE};
+use pfair_handle::Handle;
 use pfair_ready::HeapReady;
 use pfair_replica::{TakeFault, Taken};
 use pfair_table::{Dispatcher, Script, Settings};

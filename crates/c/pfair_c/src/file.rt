@@ -7,7 +7,7 @@ ghost use Rattle.pfair_c.specs.Files.{IsReadFrom, IsFileFault, at_key, fault_row
 use crate::open::put_new;
 use pfair_file::{Field, FileFault, LONGEST_FILE, read_file};
 use pfair_handle::Handle;
-use pfair_handle::answer::{FILE_TOO_LONG, MEMORY, OPEN_ALREADY};
+use crate::answer::{FILE_TOO_LONG, MEMORY, OPEN_ALREADY};
 use pfair_table::take_script;
 use std::alloc::Global;
 

@@ -1,19 +1,30 @@
 //! What a dispatcher holds, and what it plans for.
-ghost use Rattle.std.specs.Prelude.{◌≡◌, ◌≢◌, ◌≤◌, ◌⊎◌, [], Some, None, true, length, map, unwrap_or};
+ghost use Rattle.std.specs.Prelude.{◌≡◌, ◌≢◌, ◌≤◌, ◌⊎◌, ◌++◌, [], Some, None, true, length, map, unwrap_or};
 ghost use Rattle.pfair_replica.specs.HeldRows.{held, replica_of};
 ghost use Rattle.pfair_replica.specs.Replica.{Below, mark, missing, sound_beginning, torn_keys, fallen_keys};
 ghost use Rattle.pfair_handle.specs.Kept.{is_kept};
-ghost use Rattle.pfair_handle.specs.Rows.{key_row};
+ghost use Rattle.pfair_c.specs.Rows.{key_row};
 ghost use Rattle.pfair_handle.specs.Behind.{Of, Between};
 ghost use Rattle.pfair_c.specs.Held.{log_answer, key_answer, held_kind, entry_after, faulty_keys, settings_row};
-ghost use Rattle.pfair_c.specs.Rows.{rows_answer, rows_laid};
+ghost use Rattle.pfair_c.specs.Told.{rows_answer, rows_laid};
 
+use crate::answer::{DONE, MEMORY, NO_ROOM, NO_SUCH_NUMBER, NO_SUCH_PROCESSOR, NOT_OPEN};
+use crate::entry::{PfairEntry, entry_row};
 use crate::open::tell;
-use pfair_handle::answer::{DONE, MEMORY, NO_ROOM, NO_SUCH_NUMBER, NO_SUCH_PROCESSOR, NOT_OPEN};
-use pfair_handle::{Handle, PfairEntry, PfairKey, entry_row, write_faults};
+use pfair_handle::Handle;
 use pfair_lattice::Flat;
-use pfair_replica::Replica;
+use pfair_replica::{EntryKey, Faults, Replica};
 use std::alloc::Global;
+
+/// Under which processor and number an entry is held.
+#[repr(C)]
+#[derive(Clone, Copy)]
+pub struct PfairKey {
+    /// The processor, counted from 0.
+    pub processor: u64,
+    /// The number in its log, counted from 1.
+    pub number: u64,
+}
 
 /// What a dispatcher plans for, and how large its logs can be.
 #[repr(C)]
@@ -236,4 +247,26 @@ pub(crate) fn key_answer(replica: &Replica, processor: u8, number: u32) -> u32
         return NO_SUCH_NUMBER;
     }
     DONE
+}
+
+/// Writes the torn keys over the first rows, and the fallen ones behind them. O(rows).
+fn write_faults(faults: &Faults, rows: &mut [PfairKey])
+    requires { length (faults.now.torn.items ++ faults.now.fallen.items) ≤ length rows.old }
+    ensures { rows.new ≡ written_over (map key_row (faults.now.torn.items ++ faults.now.fallen.items)) rows.old }
+{
+    write_keys(&faults.torn, rows);
+    write_keys(&faults.fallen, &mut rows[faults.torn.len()..]);
+}
+
+// Writes keys over the first rows.
+fn write_keys(keys: &[EntryKey], rows: &mut [PfairKey])
+    requires { length keys.now ≤ length rows.old }
+    ensures { rows.new ≡ written_over (map key_row keys.now) rows.old }
+{
+    for (place, key) in keys.iter().enumerate() {
+        rows[place] = PfairKey {
+            processor: key.0 as u64,
+            number: key.1 as u64,
+        };
+    }
 }

@@ -4,32 +4,43 @@
 //! Each call checks what C's types leave open, calls the crates below, and answers with a number.
 #![tactic(auto)]
 
+mod answer;
+mod decisions;
 mod dispatcher;
+mod entry;
 mod file;
 mod held;
 mod lags;
 mod members;
 mod misses;
+mod name;
 mod open;
 mod plan;
+mod quanta;
 mod rows;
+mod table;
 mod take_log;
 mod version;
 mod window;
 
-pub use dispatcher::{pfair_absorb, pfair_close, pfair_open, pfair_take};
+pub use decisions::{PfairDecided, PfairDecision, pfair_decisions, pfair_decisions_of};
+pub use dispatcher::{pfair_absorb, pfair_close, pfair_next_run, pfair_open, pfair_take};
+pub use entry::PfairEntry;
 pub use file::{PfairFileFault, pfair_read_file};
 pub use held::{
-    PfairSettings, pfair_below, pfair_faults, pfair_held, pfair_mark, pfair_missing, pfair_settings,
+    PfairKey, PfairSettings, pfair_below, pfair_faults, pfair_held, pfair_mark, pfair_missing,
+    pfair_settings,
 };
-pub use lags::pfair_lags;
-pub use members::pfair_members;
-pub use misses::{pfair_first_late, pfair_first_miss};
+pub use lags::{PfairLag, pfair_lags};
+pub use members::{PfairMember, pfair_members};
+pub use misses::{PfairMiss, pfair_first_late, pfair_first_miss};
+pub use name::PfairName;
 pub use plan::{
     PfairStep, pfair_forget, pfair_frontier, pfair_next_slot, pfair_plan_next, pfair_plan_to,
     pfair_reopen, pfair_reserve,
 };
-pub use rows::{pfair_decisions, pfair_decisions_of, pfair_places, pfair_quanta, pfair_table};
-pub use take_log::pfair_take_log;
+pub use quanta::{PfairQuantum, pfair_quanta};
+pub use table::{PfairPick, pfair_places, pfair_table};
+pub use take_log::{PfairTakenLog, pfair_take_log};
 pub use version::pfair_version;
-pub use window::{pfair_window, pfair_windows};
+pub use window::{PfairWindow, pfair_window, pfair_windows};

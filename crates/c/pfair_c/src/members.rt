@@ -1,14 +1,43 @@
 //! Who is there after the planned slots, in rows.
-ghost use Rattle.std.specs.Prelude.{◌≡◌, None, true, false};
+ghost use Rattle.std.specs.Prelude.{◌≡◌, ◌≤◌, ◌+◌, None, true, false, length, map, set, slice_get};
+ghost use Rattle.pfair_admission.specs.Member.{Member};
 ghost use Rattle.pfair_handle.specs.Kept.{is_kept};
 ghost use Rattle.pfair_handle.specs.Behind.{Of};
-ghost use Rattle.pfair_c.specs.Rows.{AreMembersTold};
+ghost use Rattle.pfair_c.specs.Members.{member_row};
+ghost use Rattle.pfair_c.specs.Rows.{written_over};
+ghost use Rattle.pfair_c.specs.Told.{AreMembersTold};
 
+use crate::answer::SPENT;
+use crate::name::{PfairName, name_row};
 use crate::open::tell_rows;
 use crate::rows::lay_rows;
-use pfair_handle::answer::SPENT;
-use pfair_handle::{Handle, PfairMember, write_members};
+use pfair_admission::Members;
+use pfair_handle::Handle;
 use std::alloc::Global;
+
+/// A task that was admitted and isn't freed.
+#[repr(C)]
+#[derive(Clone, Copy)]
+pub struct PfairMember {
+    /// The task.
+    pub name: PfairName,
+    /// The quanta of each of its periods.
+    pub cost: u64,
+    /// The slots of a period.
+    pub period: u64,
+    /// 1 if its subtasks may run early, else 0.
+    pub early: u64,
+    /// The slot in which it joined.
+    pub joined: u64,
+    /// Its next subtask, counted from 1.
+    pub next: u64,
+    /// The offset of that subtask's window: the joining slot, and the late releases up to it.
+    pub theta: u64,
+    /// 1 if it is departing, else 0.
+    pub is_departing: u64,
+    /// The slot from which its weight and its name are free, if it is departing, else 0.
+    pub freed_at: u64,
+}
 
 /// Writes the members after the planned slots, in the order of admission: the tasks that were
 /// admitted and aren't freed at the boundary of the last of these slots, each with the subtask that
@@ -37,4 +66,36 @@ pub extern "C" fn pfair_members(
             write_members(members, rows)
         })
     })
+}
+
+/// Writes the members over the first rows, in the order of admission. O(members + l) for l late
+/// releases accepted of them.
+fn write_members(members: &Members, rows: &mut [PfairMember])
+    requires { length members.now.members ≤ length rows.old }
+    ensures { rows.new ≡ written_over (map member_row members.now.members) rows.old }
+{
+    for place in 0..members.len() {
+        write_row(members, place, rows);
+    }
+}
+
+// Writes the member at a place over the row at that place.
+fn write_row(members: &Members, place: usize, rows: &mut [PfairMember])
+    requires { place + 1 ≤ length rows.old }
+    ensures { (member : Member) → slice_get members.now.members place ≡ Some member → rows.new ≡ set rows.old place (member_row member) }
+{
+    if let Some((_, member)) = members.at(place) {
+        let weight = member.weight();
+        rows[place] = PfairMember {
+            name: name_row(member.name()),
+            cost: weight.cost(),
+            period: weight.period(),
+            early: if member.early() { 1 } else { 0 },
+            joined: member.joined(),
+            next: member.next(),
+            theta: member.theta(member.next()),
+            is_departing: if member.is_departing() { 1 } else { 0 },
+            freed_at: member.freed_at().unwrap_or(0),
+        };
+    }
 }

@@ -4,13 +4,24 @@ ghost use Rattle.std.specs.Prelude.{◌≡◌, ◌≤◌, IfOk, IfErr, OnOk};
 ghost use Rattle.pfair_lag.specs.Picks.{InWindows, MeetsDeadlines};
 ghost use Rattle.pfair_lag.specs.Miss.{IsFirstMiss, IsFirstLate};
 ghost use Rattle.pfair_lag.specs.PickFault.{pick_fault_number};
-ghost use Rattle.pfair_handle.specs.Misses.{miss_row};
-ghost use Rattle.pfair_c.specs.Misses.{IsMissAnswer, asked_answer, fault_place};
+ghost use Rattle.pfair_c.specs.Misses.{IsMissAnswer, asked_answer, fault_place, miss_row};
 
-use pfair_handle::answer::{DONE, OUT_OF_RANGE};
-use pfair_handle::{PfairMiss, miss_row};
+use crate::answer::{DONE, OUT_OF_RANGE};
 use pfair_lag::{MAX_HORIZON, Miss, PickFault, first_late, first_miss};
 use pfair_weight::Weight;
+
+/// A subtask that is out of its window, or none.
+#[repr(C)]
+#[derive(Clone, Copy)]
+pub struct PfairMiss {
+    /// 0: there is none; 1: it ran before its release; 2: it ran at its deadline or later; 3: its
+    /// deadline is at most the horizon, and it did not run.
+    pub kind: u64,
+    /// The subtask, counted from 1; 0 if there is none.
+    pub index: u64,
+    /// The slot in which it ran; 0 if it did not.
+    pub slot: u64,
+}
 
 /// Writes the first subtask of the weight cost/period that is out of its window, or that there is
 /// none, as [`first_miss`]: `picks` are the slots in which the task ran. O(picks); allocates nothing.
@@ -89,4 +100,17 @@ fn write_miss(found: Result<Option<Miss>, PickFault>, miss: &mut PfairMiss, plac
             fault.number() as u32
         }
     }
+}
+
+/// Returns the row of a miss, or of none.
+fn miss_row(found: Option<Miss>) -> PfairMiss
+    ensures { result ≡ miss_row found }
+{
+    let (kind, index, slot) = match found {
+        None => (0, 0, 0),
+        Some(Miss::Early { index, slot }) => (1, index, slot),
+        Some(Miss::Tardy { index, slot }) => (2, index, slot),
+        Some(Miss::Unserved { index }) => (3, index, 0),
+    };
+    PfairMiss { kind, index, slot }
 }

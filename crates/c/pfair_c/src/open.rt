@@ -7,7 +7,7 @@ ghost use Rattle.pfair_handle.specs.Kept.{is_kept};
 ghost use Rattle.pfair_handle.specs.Behind.{Of, Between};
 ghost use Rattle.pfair_c.specs.Open.{Tells, Changes};
 
-use pfair_handle::answer::{DONE, MEMORY, NOT_OPEN};
+use crate::answer::{DONE, MEMORY, NOT_OPEN};
 use pfair_handle::{Handle, Served};
 use pfair_ready::HeapReady;
 use pfair_table::Dispatcher;

@@ -1,16 +1,18 @@
 //! Plans, and how far they have come.
-ghost use Rattle.std.specs.Prelude.{◌≡◌, ◌⊎◌, None, true, false, length, max, min, IfOk, IfErr};
+ghost use Rattle.std.specs.Prelude.{◌≡◌, ◌≤◌, ◌⊎◌, None, true, false, length, max, min, IfOk, IfErr, OnOk};
 ghost use Rattle.pfair_replica.specs.HeldRows.{replica_of};
 ghost use Rattle.pfair_replica.specs.Replica.{frontier, has_torn};
 ghost use Rattle.pfair_handle.specs.Kept.{is_kept};
 ghost use Rattle.pfair_handle.specs.Behind.{Of, Between};
 ghost use Rattle.pfair_table.specs.Faults.{plan_fault_number};
+ghost use Rattle.pfair_c.specs.Planning.{IsPlannedOn, IsStopOf, IsStoppedBy};
 ghost use Rattle.pfair_c.specs.Answers.{IsPlannedTo, IsRefusedTo, IsPlannedUpTo, IsStoppedAt, step_row, fault_row};
 
+use crate::answer::{DONE, MEMORY, OUT_OF_RANGE};
 use crate::open::{change, tell};
-use pfair_handle::answer::{DONE, MEMORY, OUT_OF_RANGE};
-use pfair_handle::{Handle, plan_to};
-use pfair_table::{PlanFault, Step};
+use pfair_handle::Handle;
+use pfair_ready::Ready;
+use pfair_table::{Dispatcher, PlanFault, Step};
 use std::alloc::Global;
 
 /// The answer of a plan.
@@ -71,6 +73,28 @@ pub extern "C" fn pfair_plan_to(
         }
         write_step(plan_to(dispatcher, until), step)
     })
+}
+
+// Plans until `until` slots are planned (1 or more), or the next one isn't settled, or none is
+// left. [`Step::Planned`] has the last slot below `until`, also if it was planned before. The cost
+// is that of the plans.
+//
+// # Errors
+// Those of [`Dispatcher::plan_next`], if fewer than `until` slots are planned; those planned before
+// the fault stay.
+fn plan_to<R: Ready>(dispatcher: &mut Dispatcher<R>, until: u64) -> Result<Step, PlanFault>
+    requires { 1 ≤ until }
+    ensures planned { OnOk result (IsPlannedOn until dispatcher.old dispatcher.new) }
+    ensures step { IfOk result (IsStopOf until dispatcher.new) }
+    ensures fault { IfErr result (λ fault. IsStoppedBy until fault dispatcher.old dispatcher.new) }
+{
+    'slots: while dispatcher.next_slot() < until {
+        match dispatcher.plan_next()? {
+            Step::Planned(_) => {}
+            last => return Ok(last),
+        }
+    }
+    Ok(Step::Planned(until - 1))
 }
 
 // Writes what a plan answered, and returns its number.

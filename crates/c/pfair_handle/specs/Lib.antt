@@ -1,10 +1,2 @@
 pub mod Behind
-pub mod Entries
-pub mod EntryRows
 pub mod Kept
-pub mod Lags
-pub mod Members
-pub mod Misses
-pub mod Planning
-pub mod Rows
-pub mod TakenLog

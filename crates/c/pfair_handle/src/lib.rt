@@ -11,41 +11,17 @@ ghost use Rattle.pfair_replica.specs.Faults.{IsKeyOf, IsTakenAs, IsTakeFaultOf, 
 ghost use Rattle.pfair_handle.specs.Kept.{is_kept};
 ghost use Rattle.pfair_handle.specs.Behind.{Of, Between, IsAbsorbedTo, IsPartlyAbsorbedTo};
 
-pub mod answer;
-mod decisions;
-mod entry;
-mod lags;
 mod loose;
-mod members;
-mod misses;
 mod owner;
-mod planning;
-mod quanta;
-mod rows;
 mod served;
-mod taking;
-mod windows;
 
-pub use decisions::{PfairDecision, count_decisions, write_several};
-pub use entry::{PfairEntry, entry_row, read_entry};
-pub use lags::{PfairLag, count_lags, write_lags};
 use loose::Loose;
-pub use members::{PfairMember, write_members};
-pub use misses::{PfairMiss, miss_row};
 pub use owner::Owner;
 use pfair_entry::Entry;
 use pfair_replica::{MergeFault, TakeFault, Taken};
-pub use planning::plan_to;
-pub use quanta::{PfairQuantum, count_quanta, write_quanta};
-pub use rows::{
-    PfairDecided, PfairKey, PfairName, PfairPick, name_row, write_decisions, write_faults,
-    write_places, write_table,
-};
 pub use served::Served;
 use std::alloc::Global;
 use std::mem::replace;
-pub use taking::{PfairTakenLog, take_entries};
-pub use windows::{PfairWindow, window_row, write_windows};
 
 /// A dispatcher of C's, or none. C keeps it, and hands its address to each call.
 #[repr(C)]

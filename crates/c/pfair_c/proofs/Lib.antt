@@ -1,0 +1,5 @@
+mod LagFacts
+mod Onward
+mod SlotRows
+mod TakingFacts
+mod Written

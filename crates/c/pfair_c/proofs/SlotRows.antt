@@ -1,0 +1,105 @@
+-- The quanta of several slots, row by row and slot by slot.
+use Rattle.std.proofs.Common.{◌≡◌, ◌+◌, ◌-◌, ℕ, zero, suc, ◌<◌, ◌≤◌, ◌++◌, ◌∷◌, [], List, Some, length, take, drop, set, get_or, slice_get, ap, subst, refl, arith, ◌∙◌, append_assoc, sym}
+use Rattle.std.specs.List.{AllByRecursion}
+use Rattle.std.proofs.lemmas.List.{length-append}
+use Rattle.std.proofs.lemmas.Option.{same_Some, none-some}
+use Rattle.pfair_table.specs.declared.pick.Pick.{Pick}
+use Rattle.pfair_table.specs.Table.{Origin, Table}
+use Rattle.pfair_c.specs.declared.quanta.PfairQuantum.{PfairQuantum}
+use Rattle.std.proofs.Math.Nat.{le_refl}
+use Rattle.std.proofs.Math.Seq.{take-length, take-append_seam, drop-append_seam}
+use Rattle.pfair_table.specs.Places.{places_in, IsFit}
+use Rattle.pfair_c.specs.Rows.{quantum_row, quanta_at, quanta_in, rows_of, slot_of, written_over}
+
+-- a slot has a quantum for each row of its table
+pub as-many : (places : List ℕ) (slot k : ℕ) (table : Table) → length (quanta_in places slot k table) ≡ length table
+as-many places slot k [] = refl
+as-many places slot k (p ∷ more) = ap suc (as-many places slot (suc k) more)
+
+pub as-many-at : (o : Origin) (tables : List Table) (t : ℕ) → length (quanta_at o tables t) ≡ length (slot_of tables t)
+as-many-at o tables t = as-many (slot_of (places_in o tables) t) t 0 (slot_of tables t)
+
+-- no table has more rows than there are processors
+pub no-more-rows : (m : ℕ) (tables : List Table) → AllByRecursion (IsFit m) tables → (t : ℕ) (rows : Table) → slice_get tables t ≡ Some rows → length rows ≤ m
+no-more-rows m [] all t rows is = absurd (none-some rows is)
+no-more-rows m (table ∷ tables) all zero rows is = subst (λ (found : Table). length found ≤ m) (same_Some table rows is) all.0.0
+no-more-rows m (table ∷ tables) all (suc t) rows is = no-more-rows m tables all.1 t rows is
+
+-- one row more of a slot's
+pub one-quantum-more : (places : List ℕ) (slot k : ℕ) (xs : Table) (rows : List PfairQuantum) (i j : ℕ) (x : Pick)
+    → i < length xs → length xs ≤ length rows → j ≡ k + i → x ≡ get_or xs i x
+    → set (quanta_in places slot k (take i xs) ++ drop i rows) i (quantum_row slot j x (slice_get places j)) ≡ quanta_in places slot k (take (suc i) xs) ++ drop (suc i) rows
+one-quantum-more places slot k [] rows i j x inside room at is = absurd (omega arith)
+one-quantum-more places slot k (a ∷ xs) [] i j x inside room at is = absurd (omega arith)
+one-quantum-more places slot k (a ∷ xs) (b ∷ rows) zero j x inside room at is = grind arith
+one-quantum-more places slot k (a ∷ xs) (b ∷ rows) (suc i) j x inside room at is = grind (arith, one-quantum-more places slot (suc k) xs rows i j x)
+
+-- ---- slots
+
+pub one-slot-more : {B : Type 0} (rows_at : ℕ → List B) (from slot : ℕ) → from ≤ slot
+    → rows_of rows_at from (slot + 1 - from) ≡ rows_of rows_at from (slot - from) ++ rows_at slot
+one-slot-more rows_at from slot after = grind arith
+
+-- the rows of more slots are at least as many
+longer_by : {B : Type 0} (rows_at : ℕ → List B) (from n more k : ℕ) → k ≡ n + more → length (rows_of rows_at from n) ≤ length (rows_of rows_at from k)
+longer_by rows_at from n zero k is = grind (arith, le_refl)
+longer_by rows_at from n (suc more) zero is = absurd (omega arith)
+longer_by rows_at from n (suc more) (suc k) is = grind (arith, length-append, longer_by rows_at from n more k)
+
+pub longer : {B : Type 0} (rows_at : ℕ → List B) (from m n : ℕ) → m ≤ n → length (rows_of rows_at from m) ≤ length (rows_of rows_at from n)
+longer rows_at from m n above = longer_by rows_at from m (n - m) n (omega arith)
+
+-- all rows of a table are written
+pub all-written : (places : List ℕ) (slot : ℕ) (table : Table) (rows old : List PfairQuantum) (row : ℕ) → row ≤ length table → length table ≤ row
+    → rows ≡ quanta_in places slot 0 (take row table) ++ drop row old → rows ≡ written_over (quanta_in places slot 0 table) old
+all-written places slot table rows old row low high is = grind (arith, take-length, as-many)
+
+-- ---- some rows, and then others behind them
+
+further : {B : Type 0} (m n k : ℕ) (xs : List B) → k ≡ m + n → drop n (drop m xs) ≡ drop k xs
+further zero n k xs is = grind arith
+further (suc m) n zero xs is = absurd (omega arith)
+further (suc m) zero (suc k) [] is = refl
+further (suc m) (suc n) (suc k) [] is = refl
+further (suc m) n (suc k) (x ∷ xs) is = further m n k xs (omega arith)
+
+pub behind : {B : Type 0} (written more old : List B) → length written ≤ length old
+    → take (length written) (written_over written old) ++ written_over more (drop (length written) (written_over written old)) ≡ written_over (written ++ more) old
+behind written more old room =
+    let first : take (length written) (written_over written old) ≡ written = take-append_seam written (drop (length written) old) in
+    let rest : drop (length written) (written_over written old) ≡ drop (length written) old = drop-append_seam written (drop (length written) old) in
+    let far : drop (length more) (drop (length written) old) ≡ drop (length (written ++ more)) old =
+    further (length written) (length more) (length (written ++ more)) old (length-append written more) in
+    ap (λ xs. xs ++ written_over more (drop (length written) (written_over written old))) first
+    ∙ ap (λ ys. written ++ written_over more ys) rest
+    ∙ ap (λ zs. written ++ (more ++ zs)) far
+    ∙ sym (append_assoc written more (drop (length (written ++ more)) old))
+
+-- ---- one slot more, when rows are written over others
+
+pub room-for : {B : Type 0} (rows_at : ℕ → List B) (from to slot : ℕ) (old : List B) → from ≤ slot → slot < to
+    → length (rows_of rows_at from (to - from)) ≤ length old → length (rows_of rows_at from (slot - from)) + length (rows_at slot) ≤ length old
+room-for rows_at from to slot old after before room =
+    let here : length (rows_of rows_at from (slot + 1 - from)) ≡ length (rows_of rows_at from (slot - from)) + length (rows_at slot) =
+    ap length (one-slot-more rows_at from slot after) ∙ length-append (rows_of rows_at from (slot - from)) (rows_at slot) in
+    let within : length (rows_of rows_at from (slot + 1 - from)) ≤ length (rows_of rows_at from (to - from)) =
+    longer rows_at from (slot + 1 - from) (to - from) (omega arith) in
+    omega arith
+
+pub slot-written : {B : Type 0} (rows_at : ℕ → List B) (from slot at : ℕ) (old rows new : List B) → from ≤ slot
+    → at ≡ length (rows_of rows_at from (slot - from)) → length (rows_of rows_at from (slot - from)) ≤ length old
+    → rows ≡ written_over (rows_of rows_at from (slot - from)) old
+    → new ≡ take at rows ++ written_over (rows_at slot) (drop at rows)
+    → new ≡ written_over (rows_of rows_at from (slot + 1 - from)) old
+slot-written {B} rows_at from slot at old rows new after at_is room rows_are new_are =
+    let before : List B = rows_of rows_at from (slot - from) in
+    new_are
+    ∙ ap (λ xs. take at xs ++ written_over (rows_at slot) (drop at xs)) rows_are
+    ∙ ap (λ n. take n (written_over before old) ++ written_over (rows_at slot) (drop n (written_over before old))) at_is
+    ∙ behind before (rows_at slot) old room
+    ∙ ap (λ xs. written_over xs old) (sym (one-slot-more rows_at from slot after))
+
+-- how many rows are counted
+pub slot-counted : {B : Type 0} (rows_at : ℕ → List B) (from slot at more : ℕ) → from ≤ slot → at ≡ length (rows_of rows_at from (slot - from))
+    → more ≡ length (rows_at slot) → at + more ≡ length (rows_of rows_at from (slot + 1 - from))
+slot-counted rows_at from slot at more after at_is more_is = grind (arith, one-slot-more, length-append)

@@ -1,0 +1,6 @@
+use Rattle.std.proofs.Common.{◌≡◌, ◌++◌, map, take, drop}
+use Rattle.pfair_c.specs.Rows.{pick_row}
+use Rattle.pfair_c.proofs.table.write_table.Given as goal
+
+abbrev pub invariant-loop-place : goal.invariant-loop-place
+invariant-loop-place l = l.rows ≡ map pick_row (take l.place l.table) ++ drop l.place l.initial.rows

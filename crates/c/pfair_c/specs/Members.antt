@@ -1,0 +1,27 @@
+-- Members, as C has them.
+use Rattle.std.specs.Prelude.{◌≡◌, false, if◌then◌else◌, List, length, unwrap_or}
+use Rattle.pfair_admission.specs.Member.{Member, theta, is_departing}
+use Rattle.pfair_replica.specs.HeldRows.{replica_of}
+use Rattle.pfair_replica.specs.Replica.{has_torn}
+use Rattle.pfair_table.specs.Refinement.{Dispatch, AreMembersOf, members_after}
+use Rattle.pfair_c.specs.Rows.{name_row}
+use Rattle.pfair_c.specs.declared.members.PfairMember.{PfairMember}
+
+-- a member, with the offset of its next subtask; the slot that its departure frees, or 0 if it isn't departing
+abbrev pub member_row : Member → PfairMember
+member_row m = record {
+  name = name_row m.name;
+  cost = m.weight.cost;
+  period = m.weight.period;
+  early = if m.early then 1 else 0;
+  joined = m.joined;
+  next = m.next;
+  theta = theta m m.next;
+  is_departing = if is_departing m then 1 else 0;
+  freed_at = unwrap_or m.freed_at 0;
+}
+
+-- the members after the slots that are planned: if nothing that is held is torn, those of the contents
+pub record AreMembersNow (d : Dispatch) (members : List Member) : Type 0 where
+  pub are_members : AreMembersOf d members
+  pub of_held : has_torn (replica_of d.held) ≡ false → members ≡ members_after d.origin d.settings (replica_of d.held) (length d.tables)

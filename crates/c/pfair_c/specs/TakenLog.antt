@@ -1,0 +1,73 @@
+-- Entries of one log, taken one after another.
+use Rattle.std.specs.Prelude.{ℕ, suc, ⊤, ◌≡◌, ◌≤◌, ◌<◌, ◌⊎◌, true, if◌then◌else◌, List, [], ◌∷◌, length, take, slice_get}
+use Rattle.std.specs.declared.option.Option.TheVariants.{None, Some}
+use Rattle.pfair_lattice.specs.declared.flat.Flat.TheVariants.{One, Torn as TornContent}
+use Rattle.pfair_lattice.specs.Held.{Held}
+use Rattle.pfair_entry.specs.Entry.{Logged}
+use Rattle.pfair_entry.specs.Same.{entry_eq}
+use Rattle.pfair_replica.specs.HeldRows.{HeldRows, replica_of}
+use Rattle.pfair_replica.specs.Replica.{Replica}
+use Rattle.pfair_replica.specs.Offered.{has_key, taken}
+use Rattle.pfair_replica.specs.Faults.{IsTakeFaultOf}
+use Rattle.pfair_replica.specs.declared.answer.Taken.{Taken}
+use Rattle.pfair_replica.specs.declared.answer.Taken.TheVariants.{New, Known, Torn}
+use Rattle.pfair_replica.specs.declared.answer.TakeFault.TheVariants.{NoSuchProcessor, NumberOutOfRange, Memory}
+use Rattle.pfair_table.specs.Refinement.{Dispatch}
+use Rattle.pfair_c.specs.Entries.{logged_of, IsMeant, IsEntryFault}
+use Rattle.pfair_c.specs.declared.entry.PfairEntry.{PfairEntry}
+use Rattle.pfair_c.specs.declared.take_log.PfairTakenLog.{PfairTakenLog}
+
+-- what an entry meets if this is held
+abbrev pub met : Held Logged → Logged → Taken
+met None e = New
+met (Some (One f)) e = if entry_eq f e then Known else Torn
+met (Some TornContent) e = Torn
+
+-- one more is taken, which met this
+abbrev pub one_more : Taken → PfairTakenLog → PfairTakenLog
+one_more New t = record t { taken = suc t.taken; fresh = suc t.fresh }
+one_more Known t = record t { taken = suc t.taken; known = suc t.known }
+one_more Torn t = record t { taken = suc t.taken; torn = suc t.torn }
+
+-- the contents, and what was counted
+pub record Taking : Type 0 where
+  pub held : Replica
+  pub counted : PfairTakenLog
+
+-- entry n of the log of k is taken
+abbrev pub one_taken : (k n : ℕ) → PfairEntry → Taking → Taking
+one_taken k n e s = record { held = taken s.held k n (logged_of e); counted = one_more (met (s.held.at k n) (logged_of e)) s.counted }
+
+-- these are, from number n on
+abbrev pub all_taken : (k n : ℕ) → List PfairEntry → Taking → Taking
+all_taken k n [] s = s
+all_taken k n (e ∷ more) s = all_taken k (suc n) more (one_taken k n e s)
+
+-- each is an entry, and its number is one of the log
+abbrev pub AreOfLog : Replica → (k n : ℕ) → List PfairEntry → Type 0
+AreOfLog x k n [] = ⊤
+AreOfLog x k n (e ∷ more) = IsMeant e × (has_key x k n ≡ true) × AreOfLog x k (suc n) more
+
+-- nothing was taken yet
+abbrev pub untaken : Replica → Taking
+untaken x = record { held = x; counted = record { taken = 0; fresh = 0; known = 0; torn = 0 } }
+
+-- the dispatcher d took the first of these entries, as many as are counted, from number n on, and is e then
+pub record IsTakenTo (k n : ℕ) (entries : List PfairEntry) (counted : PfairTakenLog) (d e : Dispatch) : Type 0 where
+  pub no_more : counted.taken ≤ length entries
+  pub sound : AreOfLog (replica_of d.held) k n (take counted.taken entries)
+  pub after : record { held = replica_of e.held; counted = counted } ≡ all_taken k n (take counted.taken entries) (untaken (replica_of d.held))
+  pub rest : e ≡ record d { held = e.held }
+
+-- why this isn't taken for entry n of the log of k: the first that applies, by its number
+abbrev pub IsRefusal : HeldRows → (k n : ℕ) → PfairEntry → ℕ → Type 0
+IsRefusal x k n e answer =
+    IsEntryFault e answer
+    ⊎ (IsMeant e × (((answer ≡ 13) × IsTakeFaultOf x k n NoSuchProcessor)
+    ⊎ (((answer ≡ 14) × IsTakeFaultOf x k n NumberOutOfRange)
+    ⊎ ((answer ≡ 90) × IsTakeFaultOf x k n Memory))))
+
+-- the entry at a place isn't taken, as number n
+abbrev pub IsRefusedAt : HeldRows → (k n : ℕ) → List PfairEntry → (place answer : ℕ) → Type 0
+IsRefusedAt x k n entries place answer =
+    (place < length entries) × ((e : PfairEntry) → slice_get entries place ≡ Some e → IsRefusal x k n e answer)

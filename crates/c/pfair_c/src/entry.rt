@@ -1,0 +1,167 @@
+//! Entries, as C has them.
+ghost use Rattle.std.specs.Prelude.{◌≡◌, ◌≤◌, ◌<◌, IfOk, IfErr, OnOk};
+ghost use Rattle.pfair_entry.specs.Notice.{unchecked};
+ghost use Rattle.pfair_c.specs.EntryRows.{entry_row, silent_row, announced_row};
+ghost use Rattle.pfair_c.specs.Entries.{spelled, change_of, logged_of, IsInRange, IsWhole, IsMeant, IsUnreadable, IsEntryFault};
+
+use crate::answer::OUT_OF_RANGE;
+use crate::name::{PfairName, name_row};
+use pfair_entry::{Announcement, Change, Entry, Notice, checked_entry};
+
+/// An entry of a log.
+#[repr(C)]
+#[derive(Clone, Copy)]
+pub struct PfairEntry {
+    /// From this entry on nothing is stamped before this slot.
+    pub floor: u64,
+    /// What is announced: 0 nothing, 1 an arrival, 2 a departure, 3 a late release.
+    pub kind: u64,
+    /// The stamp, if something is announced.
+    pub at: u64,
+    /// The task, if something is announced.
+    pub name: PfairName,
+    /// Of an arrival: the quanta of each period.
+    pub cost: u64,
+    /// Of an arrival: the slots of a period.
+    pub period: u64,
+    /// Of an arrival: 1 if subtasks may run early, else 0.
+    pub early: u64,
+    /// Of a late release: the first subtask that comes late.
+    pub index: u64,
+    /// Of a late release: by how many slots.
+    pub by: u64,
+}
+
+/// Returns the entry that C's fields make. O(1).
+///
+/// # Errors
+/// Returns the number of the first fault that applies: a field out of its range (100), then the name's
+/// fault, the weight's, the entry's.
+pub(crate) fn read_entry(entry: &PfairEntry) -> Result<Entry, u32>
+    ensures ok { IfOk result (λ read. read ≡ logged_of entry.now) }
+    ensures meant { OnOk result (IsMeant entry.now) }
+    ensures err { IfErr result (IsEntryFault entry.now) }
+    ensures numbered { IfErr result (λ number. (0 < number) × (10 < number → number ≡ 100)) }
+{
+    let notice = read_notice(entry)?;
+    checked_entry(entry.floor, notice).map_err(|fault| fault.number() as u32)
+}
+
+// The announcement before it is checked, if there is one, or the number of what keeps it from being read.
+fn read_notice(entry: &PfairEntry) -> Result<Option<Notice<'_>>, u32>
+    ensures ok { IfOk result (λ notice. unchecked entry.now.floor notice ≡ logged_of entry.now) }
+    ensures readable { OnOk result (IsInRange entry.now × IsWhole entry.now) }
+    ensures err { IfErr result (IsUnreadable entry.now) }
+{
+    let Some(change) = read_change(entry)? else {
+        return Ok(None);
+    };
+    let (name, at) = (read_name(&entry.name)?, entry.at);
+    Ok(Some(Notice { at, name, change }))
+}
+
+// What is announced, if something is.
+fn read_change(entry: &PfairEntry) -> Result<Option<Change>, u32>
+    ensures ok { IfOk result (λ change. (change ≡ change_of entry.now) × IsInRange entry.now) }
+    ensures err { IfErr result (λ number. (number ≡ OUT_OF_RANGE) × (IsInRange entry.now → ⊥)) }
+{
+    match entry.kind {
+        0 => Ok(None),
+        1 => {
+            let early = match entry.early {
+                0 => false,
+                1 => true,
+                _ => return Err(OUT_OF_RANGE),
+            };
+            let (cost, period) = (entry.cost, entry.period);
+            Ok(Some(Change::Arrive {
+                cost,
+                period,
+                early,
+            }))
+        }
+        2 => Ok(Some(Change::Depart)),
+        3 => {
+            let (index, by) = (entry.index, entry.by);
+            Ok(Some(Change::Late { index, by }))
+        }
+        _ => Err(OUT_OF_RANGE),
+    }
+}
+
+// The bytes of a name, or the number of a name that is too long.
+fn read_name(name: &PfairName) -> Result<&[u8], u32>
+    ensures ok { IfOk result (λ bytes. (bytes.now ≡ spelled name.now) × (name.now.length ≤ 16)) }
+    ensures err { IfErr result (λ number. (number ≡ 2) × (16 < name.now.length)) }
+{
+    if name.length > 16 {
+        return Err(2);
+    }
+    Ok(&name.bytes[..name.length as usize])
+}
+
+/// Returns the entry as C has it, with zeros in the fields that its kind doesn't need.
+pub(crate) fn entry_row(entry: &Entry) -> PfairEntry
+    ensures { result ≡ entry_row entry.now }
+{
+    match entry.said() {
+        None => silent_row(entry.floor()),
+        Some((at, announcement)) => announced_row(entry.floor(), at, announcement),
+    }
+}
+
+// An entry that announces nothing.
+fn silent_row(floor: u64) -> PfairEntry
+    ensures { result ≡ silent_row floor }
+{
+    PfairEntry {
+        floor,
+        kind: 0,
+        at: 0,
+        name: PfairName {
+            bytes: [0; 16],
+            length: 0,
+        },
+        cost: 0,
+        period: 0,
+        early: 0,
+        index: 0,
+        by: 0,
+    }
+}
+
+// An entry that announces this, stamped `at`.
+fn announced_row(floor: u64, at: u64, announcement: Announcement) -> PfairEntry
+    ensures { result ≡ announced_row floor at announcement }
+{
+    let silent = silent_row(floor);
+    match announcement {
+        Announcement::Arrive {
+            name,
+            weight,
+            early,
+        } => PfairEntry {
+            kind: 1,
+            at,
+            name: name_row(&name),
+            cost: weight.cost(),
+            period: weight.period(),
+            early: if early { 1 } else { 0 },
+            ..silent
+        },
+        Announcement::Depart { name } => PfairEntry {
+            kind: 2,
+            at,
+            name: name_row(&name),
+            ..silent
+        },
+        Announcement::Late { name, index, by } => PfairEntry {
+            kind: 3,
+            at,
+            name: name_row(&name),
+            index,
+            by,
+            ..silent
+        },
+    }
+}

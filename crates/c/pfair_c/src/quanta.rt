@@ -1,0 +1,149 @@
+//! The quanta of several slots, in rows.
+ghost use Rattle.std.specs.Prelude.{◌≡◌, ◌≤◌, ◌+◌, ◌++◌, None, true, length, take, drop, slice_get};
+ghost use Rattle.pfair_handle.specs.Kept.{is_kept};
+ghost use Rattle.pfair_handle.specs.Behind.{Of};
+ghost use Rattle.pfair_c.specs.Rows.{slot_of, quantum_row, quanta_in, quanta_at, quanta_of, written_over};
+ghost use Rattle.pfair_c.specs.Told.{AreTold, rows_count, quanta_between};
+
+use crate::answer::{DONE, NOT_PLANNED};
+use crate::name::{PfairName, name_row};
+use crate::open::tell_rows;
+use crate::rows::{are_told, lay_rows};
+use pfair_handle::Handle;
+use pfair_ready::Ready;
+use pfair_table::{Dispatcher, Pick, Settings};
+use std::alloc::Global;
+
+/// A quantum of one of several slots.
+#[repr(C)]
+#[derive(Clone, Copy)]
+pub struct PfairQuantum {
+    /// The slot.
+    pub slot: u64,
+    /// The row of the slot's table, counted from 0.
+    pub row: u64,
+    /// The processor that runs it, counted from 0.
+    pub place: u64,
+    /// The task.
+    pub name: PfairName,
+    /// Its subtask, counted from 1.
+    pub index: u64,
+}
+
+/// Writes the quanta of the planned slots `from` to `to` - 1, slot by slot, each slot's in the order
+/// of its table, with their places; none if `from` isn't below `to`. O(slots + rows).
+#[unsafe(no_mangle)]
+pub extern "C" fn pfair_quanta(
+    alloc: Global,
+    handle: &mut Handle,
+    from: u64,
+    to: u64,
+    count: &mut u64,
+    rows: &mut [PfairQuantum],
+) -> u32
+    ensures closed { handle.old.owner.kept ≡ None → (result ≡ 102) × (count.new ≡ count.old) × (rows.new ≡ rows.old) }
+    ensures told { is_kept handle.old.owner.kept ≡ true → Of handle.old.owner.kept (λ d. AreTold rows_count (quanta_between d from to) result count.old count.new rows.old rows.new) }
+    ensures unchanged { handle.new.owner.kept ≡ handle.old.owner.kept }
+{
+    tell_rows(alloc, handle, count, rows, |dispatcher, count, rows| {
+        if !are_told(dispatcher, from, to) {
+            return NOT_PLANNED;
+        }
+        if from >= to {
+            *count = 0;
+            return DONE;
+        }
+        let wanted = count_quanta(dispatcher, from, to);
+        lay_rows(wanted, count, rows, |rows| {
+            write_quanta(dispatcher, from, to, rows)
+        })
+    })
+}
+
+/// Returns how many quanta the slots `from` to `to` - 1, none of which is forgotten, have, if
+/// they are planned. O(slots).
+fn count_quanta<R: Ready>(dispatcher: &Dispatcher<R>, from: u64, to: u64) -> u64
+    requires standing { dispatcher.now.forgotten ≤ from }
+    requires few { to ≤ Settings.MAX_SLOTS }
+    ensures { result ≡ length (quanta_of dispatcher.now.origin dispatcher.now.tables from to) }
+{
+    let mut count = 0;
+    for slot in from..to {
+        count += count_slot(dispatcher, slot);
+    }
+    count
+}
+
+/// Writes the quanta of the slots `from` to `to` - 1, none of which is forgotten, over the first rows,
+/// slot by slot, each slot's in the order of its table. O(slots + quanta).
+fn write_quanta<R: Ready>(
+    dispatcher: &Dispatcher<R>,
+    from: u64,
+    to: u64,
+    rows: &mut [PfairQuantum],
+)
+    requires standing { dispatcher.now.forgotten ≤ from }
+    requires room { length (quanta_of dispatcher.now.origin dispatcher.now.tables from to) ≤ length rows.old }
+    ensures { rows.new ≡ written_over (quanta_of dispatcher.now.origin dispatcher.now.tables from to) rows.old }
+{
+    let mut at = 0;
+    for slot in from..to {
+        at = write_slot(dispatcher, slot, at, rows);
+    }
+}
+
+// How many quanta a slot has.
+fn count_slot<R: Ready>(dispatcher: &Dispatcher<R>, slot: u64) -> u64
+    requires { dispatcher.now.forgotten ≤ slot }
+    ensures value { result ≡ length (slot_of dispatcher.now.tables slot) }
+    ensures few { result ≤ Settings.MAX_PROCESSORS }
+{
+    // the contract of places bounds the rows of all tables by the processors
+    prove!(dispatcher.settings().processors() <= Settings::MAX_PROCESSORS);
+    prove!(dispatcher.places(slot).is_some() || dispatcher.places(slot).is_none());
+    match dispatcher.table(slot) {
+        Some(table) => table.len() as u64,
+        None => 0,
+    }
+}
+
+// Writes the quanta of a slot over the rows from `at` on, and says where the next ones stand.
+fn write_slot<R: Ready>(
+    dispatcher: &Dispatcher<R>,
+    slot: u64,
+    at: usize,
+    rows: &mut [PfairQuantum],
+) -> usize
+    requires standing { dispatcher.now.forgotten ≤ slot }
+    requires room { at + length (slot_of dispatcher.now.tables slot) ≤ length rows.old }
+    ensures rows { rows.new ≡ take at rows.old ++ written_over (quanta_at dispatcher.now.origin dispatcher.now.tables slot) (drop at rows.old) }
+    ensures next { result ≡ at + length (slot_of dispatcher.now.tables slot) }
+{
+    let places = dispatcher.places(slot).unwrap_or(&[]);
+    let table = dispatcher.table(slot).unwrap_or(&[]);
+    write_rows(slot, table, places, &mut rows[at..]);
+    at + table.len()
+}
+
+// Writes the quanta of a table over the first rows.
+fn write_rows(slot: u64, table: &[Pick], places: &[u8], rows: &mut [PfairQuantum])
+    requires { length table.now ≤ length rows.old }
+    ensures { rows.new ≡ written_over (quanta_in places.now slot 0 table.now) rows.old }
+{
+    for (row, pick) in table.iter().enumerate() {
+        rows[row] = quantum_row(slot, row, pick, places);
+    }
+}
+
+// The quantum of a row, with its place.
+fn quantum_row(slot: u64, row: usize, pick: &Pick, places: &[u8]) -> PfairQuantum
+    ensures { result ≡ quantum_row slot row pick.now (slice_get places.now row) }
+{
+    PfairQuantum {
+        slot,
+        row: row as u64,
+        place: places.get(row).copied().unwrap_or(0) as u64,
+        name: name_row(&pick.name),
+        index: pick.index,
+    }
+}

@@ -1,6 +1,0 @@
-use Rattle.std.proofs.Common.{◌≡◌, ◌++◌, map, take, drop}
-use Rattle.pfair_handle.specs.Rows.{decision_row}
-use Rattle.pfair_handle.proofs.decisions.write_rows.Given as goal
-
-abbrev pub invariant-loop-row : goal.invariant-loop-row
-invariant-loop-row l = l.rows ≡ map (decision_row l.slot) (take l.row l.decided) ++ drop l.row l.initial.rows

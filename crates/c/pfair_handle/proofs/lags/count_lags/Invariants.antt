@@ -1,9 +1,0 @@
-use Rattle.std.proofs.Common.{◌≡◌, ◌-◌, ◌≤◌, length, min}
-use Rattle.pfair_handle.specs.Rows.{rows_of}
-use Rattle.pfair_handle.specs.Lags.{book_after, lags_at}
-use Rattle.pfair_handle.proofs.lags.count_lags.Given as goal
-
-abbrev pub invariant-loop-slot : goal.invariant-loop-slot
-invariant-loop-slot g l =
-    (l.from ≤ l.slot) × (l.slot ≤ l.to) × (l.book ≡ book_after l.dispatcher l.slot)
-    × (l.count ≡ min (length (rows_of (lags_at l.dispatcher) l.from (l.slot - l.from))) 18446744073709551615)

@@ -1,6 +1,0 @@
-use Rattle.std.proofs.Common.{◌≡◌, ◌++◌, map, take, drop}
-use Rattle.pfair_handle.specs.Members.{member_row}
-use Rattle.pfair_handle.proofs.members.write_members.Given as goal
-
-abbrev pub invariant-loop-place : goal.invariant-loop-place
-invariant-loop-place l = l.rows ≡ map member_row (take l.place l.members.members) ++ drop l.place l.initial.rows

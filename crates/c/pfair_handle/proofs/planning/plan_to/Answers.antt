@@ -1,8 +1,0 @@
-use Rattle.std.proofs.Common.{rules}
-use Rattle.pfair_handle.proofs.Onward.{one-more-plan}
-use Rattle.pfair_handle.proofs.planning.plan_to.Goals as goal
-
-pub slots-preserved : goal.slots-preserved
-slots-preserved g c =
-    one-more-plan c.args.until c.args.dispatcher.now c.slots.dispatcher c.plan_next.new.self c.in-Planned.field-0 c.slots.invariant
-    (search rules) c.in_ok-last.ensures.course c.in_ok-last.ensures.rest (search rules)

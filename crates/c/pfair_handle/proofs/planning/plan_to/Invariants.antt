@@ -1,9 +1,0 @@
-use Rattle.std.proofs.Common.{◌-◌, length}
-use Rattle.pfair_handle.specs.Planning.{IsPlannedOn}
-use Rattle.pfair_handle.proofs.planning.plan_to.Given as goal
-
-abbrev pub invariant-slots : goal.invariant-slots
-invariant-slots g l = IsPlannedOn l.until l.fn.dispatcher l.dispatcher
-
-abbrev pub decreases-slots : goal.decreases-slots
-decreases-slots g l = l.until - length l.dispatcher.tables

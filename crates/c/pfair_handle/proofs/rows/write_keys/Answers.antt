@@ -1,7 +1,0 @@
-use Rattle.std.proofs.Common.{add-one}
-use Rattle.pfair_handle.specs.Rows.{key_row}
-use Rattle.pfair_handle.proofs.Written.{one-more-at}
-use Rattle.pfair_handle.proofs.rows.write_keys.Goals as goal
-
-pub loop-place-preserved : goal.loop-place-preserved
-loop-place-preserved c = rw (c.loop-place.invariant, add-one) (one-more-at key_row c.args.keys.now c.args.rows.now c.loop-place.place (0, 0) c.loop-place-test.true c.requires)

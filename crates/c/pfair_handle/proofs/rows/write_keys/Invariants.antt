@@ -1,6 +1,0 @@
-use Rattle.std.proofs.Common.{◌≡◌, ◌++◌, map, take, drop}
-use Rattle.pfair_handle.specs.Rows.{key_row}
-use Rattle.pfair_handle.proofs.rows.write_keys.Given as goal
-
-abbrev pub invariant-loop-place : goal.invariant-loop-place
-invariant-loop-place l = l.rows ≡ map key_row (take l.place l.keys) ++ drop l.place l.initial.rows

@@ -1,7 +1,0 @@
-use Rattle.std.proofs.Common.{add-one}
-use Rattle.pfair_handle.specs.Rows.{pick_row}
-use Rattle.pfair_handle.proofs.Written.{one-more}
-use Rattle.pfair_handle.proofs.rows.write_table.Goals as goal
-
-pub loop-place-preserved : goal.loop-place-preserved
-loop-place-preserved c = rw (c.loop-place.invariant, c.name_row.ensures, add-one) (one-more pick_row c.args.table.now c.args.rows.now c.loop-place.place c.index-table-place.result c.loop-place-test.true c.requires c.index-table-place.is)

@@ -1,6 +1,0 @@
-use Rattle.std.proofs.Common.{◌≡◌, ◌++◌, map, take, drop}
-use Rattle.pfair_handle.specs.Rows.{pick_row}
-use Rattle.pfair_handle.proofs.rows.write_table.Given as goal
-
-abbrev pub invariant-loop-place : goal.invariant-loop-place
-invariant-loop-place l = l.rows ≡ map pick_row (take l.place l.table) ++ drop l.place l.initial.rows
