@@ -667,10 +667,10 @@ struct pfair_lag {
  * member that isn't departing after the boundary of t, in the order of admission. There are none if `from` isn't below
  * `to`. In a next run the lags of members go on.
  *   104  fewer than `to` slots are planned; or `from` is below `to`, and any slot is forgotten
- *   90   an allocation failed; the rows of some first slots may be written, and `count` isn't
+ *   90   an allocation failed
  *   103  there are more than `room` rows; `count` is written
- * Each call counts the lags from slot 0 on, twice: O(rows + s + q + x n) for s slots, q quanta and decisions, and x
- * departures before slot `to`. It allocates a few words for each task.
+ * Each call counts the lags from slot 0 on: O(rows + s + q + x n) for s slots, q quanta and decisions, and x
+ * departures before slot `to`. It allocates a few words for each task, and a copy of at most `room` rows.
  */
 uint32_t pfair_lags(struct pfair_dispatcher *d, uint64_t from, uint64_t to, uint64_t *count, struct pfair_lag *rows, size_t room);
 

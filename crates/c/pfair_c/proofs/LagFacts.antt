@@ -1,6 +1,6 @@
 -- A book of lags that is notified slot by slot, and its rows.
-use Rattle.std.proofs.Common.{◌≡◌, ◌+◌, ◌-◌, ℕ, zero, suc, ◌<◌, ◌≤◌, ◌++◌, ◌∷◌, [], List, length, min, take, drop, Some, None, refl, sym, arith, ◌∙◌, ap}
-use Rattle.std.proofs.lemmas.List.{length-map}
+use Rattle.std.proofs.Common.{◌≡◌, ◌+◌, ◌-◌, ℕ, zero, suc, ◌<◌, ◌≤◌, ◌++◌, ◌∷◌, [], List, length, map, take, drop, Some, None, refl, sym, arith, ◌∙◌, ap, append_assoc}
+use Rattle.std.proofs.lemmas.List.{length-map, length-append}
 use Rattle.std.specs.Prelude.{slice_get}
 use Rattle.std.specs.Option.{option_map}
 use Rattle.pfair_lag.specs.Book.{Book, empty_book}
@@ -13,10 +13,9 @@ use Rattle.pfair_output.specs.Told.{slot_told, all_slots_told, all_entered, ente
 use Rattle.std.proofs.lemmas.Option.{none-some, same_Some}
 use Rattle.pfair_output.proofs.SlotFacts.{first_left}
 use Rattle.pfair_output.proofs.ToldFacts.{time-all_told}
-use Rattle.pfair_c.specs.Rows.{rows_of, written_over}
-use Rattle.pfair_c.specs.declared.lags.PfairLag.{PfairLag}
+use Rattle.pfair_c.specs.Rows.{rows_of}
 use Rattle.pfair_c.specs.Lags.{book_after, book_rows, lags_at}
-use Rattle.pfair_c.proofs.SlotRows.{room-for, slot-written}
+use Rattle.pfair_c.proofs.SlotRows.{one-slot-more}
 
 -- ---- what it begins with
 
@@ -81,32 +80,36 @@ next_told d slot book next inside inside' before is = grind (arith, book_time, t
 
 -- ---- rows
 
-pub as-many-lags : (d : Dispatch) (slot : ℕ) (book : Book) → book ≡ book_after d (slot + 1)
-    → length book.entered ≡ length (lags_at d slot)
-as-many-lags d slot book is = grind (arith, length-map)
+-- the lags of one slot more
+pub one-more-slot : (d : Dispatch) (from slot : ℕ) (book : Book) → from ≤ slot → book ≡ book_after d (slot + 1)
+    → rows_of (lags_at d) from (slot + 1 - from) ≡ rows_of (lags_at d) from (slot - from) ++ book_rows book
+one-more-slot d from slot book after told =
+    one-slot-more (lags_at d) from slot after ∙ ap (λ (b : Book). rows_of (lags_at d) from (slot - from) ++ book_rows b) (sym told)
 
--- no more than fit are counted
-pub counted-within : (rows more all most counted next : ℕ) → counted ≡ min rows most → next ≡ min (counted + more) most → all ≡ rows + more → next ≡ min all most
-counted-within rows more all most counted next before is whole = omega arith
+pub as-many-more : (d : Dispatch) (from slot : ℕ) (book : Book) → from ≤ slot → book ≡ book_after d (slot + 1)
+    → length (rows_of (lags_at d) from (slot + 1 - from)) ≡ length (rows_of (lags_at d) from (slot - from)) + length book.entered
+as-many-more d from slot book after told = grind (arith, one-more-slot d from slot book after told, length-append, length-map)
 
--- ---- the lags of one slot more, when rows are written over others
+further : {A B : Type 0} (f : A → B) (xs : List A) (i : ℕ) (x : A) → slice_get xs i ≡ Some x → map f (take (suc i) xs) ≡ map f (take i xs) ++ f x ∷ []
+further f [] i x at = absurd (none-some x at)
+further f (a ∷ xs) zero x at = ap (λ b. f b ∷ []) (same_Some a x at)
+further f (a ∷ xs) (suc i) x at = ap (λ l. f a ∷ l) (further f xs i x at)
 
-pub room-for-lags : (d : Dispatch) (from to slot at : ℕ) (book : Book) (old : List PfairLag) → from ≤ slot → slot < to
-    → book ≡ book_after d (slot + 1) → at ≡ length (rows_of (lags_at d) from (slot - from))
-    → length (rows_of (lags_at d) from (to - from)) ≤ length old → at + length book.entered ≤ length old
-room-for-lags d from to slot at book old after before told at_is room =
-    let enough = room-for (lags_at d) from to slot old after before room in
-    let many = as-many-lags d slot book told in
-    omega arith
+-- one more is appended
+pub one-appended : {A B : Type 0} (f : A → B) (xs : List A) (old rows new : List B) (i : ℕ) → i < length xs → rows ≡ old ++ map f (take i xs)
+    → ((x : A) → slice_get xs i ≡ Some x → new ≡ rows ++ f x ∷ []) → new ≡ old ++ map f (take (i + 1) xs)
+one-appended f xs old rows new i inside before written =
+    let here = first_left xs i inside in
+    written here.0 here.1
+    ∙ ap (λ r. r ++ f here.0 ∷ []) before
+    ∙ append_assoc old (map f (take i xs)) (f here.0 ∷ [])
+    ∙ ap (λ l. old ++ l) (sym (further f xs i here.0 here.1))
+    ∙ (let next : suc i ≡ i + 1 = omega arith in ap (λ n. old ++ map f (take n xs)) next)
 
-pub lags-written : (d : Dispatch) (from to slot at : ℕ) (book : Book) (old rows new : List PfairLag) → from ≤ slot → slot < to
-    → book ≡ book_after d (slot + 1) → at ≡ length (rows_of (lags_at d) from (slot - from))
-    → length (rows_of (lags_at d) from (to - from)) ≤ length old
-    → rows ≡ written_over (rows_of (lags_at d) from (slot - from)) old
-    → new ≡ take at rows ++ written_over (book_rows book) (drop at rows)
-    → new ≡ written_over (rows_of (lags_at d) from (slot + 1 - from)) old
-lags-written d from to slot at book old rows new after before told at_is room rows_are new_are =
-    let enough = room-for (lags_at d) from to slot old after before room in
-    let within : length (rows_of (lags_at d) from (slot - from)) ≤ length old = omega arith in
-    slot-written (lags_at d) from slot at old rows new after at_is within rows_are
-    (new_are ∙ ap (λ (b : Book). take at rows ++ written_over (book_rows b) (drop at rows)) told)
+-- the lags of one slot more are appended, if there is room for all
+pub pushed : {B : Type 0} (before more all old new : List B) (many room : ℕ) → old ≡ before → all ≡ before ++ more → many ≡ length more
+    → (length old + many ≤ room → new ≡ old ++ more) → length all ≤ room → new ≡ all
+pushed before more all old new many room was whole are push fit =
+    let long : length all ≡ length before + length more = ap length whole ∙ length-append before more in
+    let short : length old ≡ length before = ap length was in
+    push (omega arith) ∙ ap (λ l. l ++ more) was ∙ sym whole

@@ -1,5 +1,5 @@
 -- The quanta of several slots, row by row and slot by slot.
-use Rattle.std.proofs.Common.{◌≡◌, ◌+◌, ◌-◌, ℕ, zero, suc, ◌<◌, ◌≤◌, ◌++◌, ◌∷◌, [], List, Some, length, take, drop, set, get_or, slice_get, ap, subst, refl, arith, ◌∙◌, append_assoc, sym}
+use Rattle.std.proofs.Common.{◌≡◌, ◌+◌, ◌-◌, ℕ, zero, suc, ◌<◌, ◌≤◌, ◌++◌, ◌∷◌, [], List, Some, length, min, take, drop, set, get_or, slice_get, ap, subst, refl, arith, ◌∙◌, append_assoc, sym}
 use Rattle.std.specs.List.{AllByRecursion}
 use Rattle.std.proofs.lemmas.List.{length-append}
 use Rattle.std.proofs.lemmas.Option.{same_Some, none-some}
@@ -40,15 +40,6 @@ pub one-slot-more : {B : Type 0} (rows_at : ℕ → List B) (from slot : ℕ) �
     → rows_of rows_at from (slot + 1 - from) ≡ rows_of rows_at from (slot - from) ++ rows_at slot
 one-slot-more rows_at from slot after = grind arith
 
--- the rows of more slots are at least as many
-longer_by : {B : Type 0} (rows_at : ℕ → List B) (from n more k : ℕ) → k ≡ n + more → length (rows_of rows_at from n) ≤ length (rows_of rows_at from k)
-longer_by rows_at from n zero k is = grind (arith, le_refl)
-longer_by rows_at from n (suc more) zero is = absurd (omega arith)
-longer_by rows_at from n (suc more) (suc k) is = grind (arith, length-append, longer_by rows_at from n more k)
-
-pub longer : {B : Type 0} (rows_at : ℕ → List B) (from m n : ℕ) → m ≤ n → length (rows_of rows_at from m) ≤ length (rows_of rows_at from n)
-longer rows_at from m n above = longer_by rows_at from m (n - m) n (omega arith)
-
 -- all rows of a table are written
 pub all-written : (places : List ℕ) (slot : ℕ) (table : Table) (rows old : List PfairQuantum) (row : ℕ) → row ≤ length table → length table ≤ row
     → rows ≡ quanta_in places slot 0 (take row table) ++ drop row old → rows ≡ written_over (quanta_in places slot 0 table) old
@@ -75,18 +66,14 @@ behind written more old room =
     ∙ ap (λ zs. written ++ (more ++ zs)) far
     ∙ sym (append_assoc written more (drop (length (written ++ more)) old))
 
--- ---- one slot more, when rows are written over others
+-- ---- one slot more
 
-pub room-for : {B : Type 0} (rows_at : ℕ → List B) (from to slot : ℕ) (old : List B) → from ≤ slot → slot < to
-    → length (rows_of rows_at from (to - from)) ≤ length old → length (rows_of rows_at from (slot - from)) + length (rows_at slot) ≤ length old
-room-for rows_at from to slot old after before room =
-    let here : length (rows_of rows_at from (slot + 1 - from)) ≡ length (rows_of rows_at from (slot - from)) + length (rows_at slot) =
-    ap length (one-slot-more rows_at from slot after) ∙ length-append (rows_of rows_at from (slot - from)) (rows_at slot) in
-    let within : length (rows_of rows_at from (slot + 1 - from)) ≤ length (rows_of rows_at from (to - from)) =
-    longer rows_at from (slot + 1 - from) (to - from) (omega arith) in
-    omega arith
+-- how many rows are counted
+pub slot-counted : {B : Type 0} (rows_at : ℕ → List B) (from slot at more : ℕ) → from ≤ slot → at ≡ length (rows_of rows_at from (slot - from))
+    → more ≡ length (rows_at slot) → at + more ≡ length (rows_of rows_at from (slot + 1 - from))
+slot-counted rows_at from slot at more after at_is more_is = grind (arith, one-slot-more, length-append)
 
-pub slot-written : {B : Type 0} (rows_at : ℕ → List B) (from slot at : ℕ) (old rows new : List B) → from ≤ slot
+slot-written : {B : Type 0} (rows_at : ℕ → List B) (from slot at : ℕ) (old rows new : List B) → from ≤ slot
     → at ≡ length (rows_of rows_at from (slot - from)) → length (rows_of rows_at from (slot - from)) ≤ length old
     → rows ≡ written_over (rows_of rows_at from (slot - from)) old
     → new ≡ take at rows ++ written_over (rows_at slot) (drop at rows)
@@ -99,7 +86,19 @@ slot-written {B} rows_at from slot at old rows new after at_is room rows_are new
     ∙ behind before (rows_at slot) old room
     ∙ ap (λ xs. written_over xs old) (sym (one-slot-more rows_at from slot after))
 
--- how many rows are counted
-pub slot-counted : {B : Type 0} (rows_at : ℕ → List B) (from slot at more : ℕ) → from ≤ slot → at ≡ length (rows_of rows_at from (slot - from))
-    → more ≡ length (rows_at slot) → at + more ≡ length (rows_of rows_at from (slot + 1 - from))
-slot-counted rows_at from slot at more after at_is more_is = grind (arith, one-slot-more, length-append)
+-- the rows of one slot more are written, if there is room
+pub written-further : {B : Type 0} (rows_at : ℕ → List B) (from slot at : ℕ) (old rows new : List B) → from ≤ slot
+    → (length (rows_of rows_at from (slot - from)) ≤ length old → at ≡ length (rows_of rows_at from (slot - from)))
+    → (length (rows_of rows_at from (slot - from)) ≤ length old → rows ≡ written_over (rows_of rows_at from (slot - from)) old)
+    → (at + length (rows_at slot) ≤ length old → new ≡ take at rows ++ written_over (rows_at slot) (drop at rows))
+    → length (rows_of rows_at from (slot + 1 - from)) ≤ length old → new ≡ written_over (rows_of rows_at from (slot + 1 - from)) old
+written-further rows_at from slot at old rows new after at_is rows_are new_are room =
+    let whole : length (rows_of rows_at from (slot + 1 - from)) ≡ length (rows_of rows_at from (slot - from)) + length (rows_at slot) =
+    ap length (one-slot-more rows_at from slot after) ∙ length-append (rows_of rows_at from (slot - from)) (rows_at slot) in
+    let before : length (rows_of rows_at from (slot - from)) ≤ length old = omega arith in
+    let here : at ≡ length (rows_of rows_at from (slot - from)) = at_is before in
+    slot-written rows_at from slot at old rows new after here before (rows_are before) (new_are (omega arith))
+
+-- no more than fit are counted
+pub counted-within : (rows more all most counted next : ℕ) → counted ≡ min rows most → next ≡ min (counted + more) most → all ≡ rows + more → next ≡ min all most
+counted-within rows more all most counted next before is whole = omega arith

@@ -13,8 +13,8 @@ use Rattle.pfair_replica.specs.declared.answer.Taken.{Taken}
 use Rattle.pfair_replica.specs.declared.answer.Taken.TheVariants.{New, Known, Torn}
 use Rattle.pfair_c.specs.Entries.{logged_of, IsMeant}
 use Rattle.pfair_c.specs.declared.entry.PfairEntry.{PfairEntry}
-use Rattle.pfair_c.specs.declared.take_log.PfairTakenLog.{PfairTakenLog}
-use Rattle.pfair_c.specs.TakenLog.{met, one_more, Taking, one_taken, all_taken, untaken, AreOfLog, IsRefusal, IsRefusedAt}
+use Rattle.pfair_c.specs.declared.take.PfairTakenLog.{PfairTakenLog}
+use Rattle.pfair_c.specs.Taking.{met, one_more, Taking, one_taken, all_taken, untaken, AreOfLog, IsRefusal, IsRefusedAt}
 use Rattle.pfair_entry.specs.Exact.{entry_exact}
 
 -- ---- keys are those of the shape, which stays

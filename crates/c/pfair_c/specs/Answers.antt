@@ -1,14 +1,12 @@
 -- What the calls of the C library answer.
-use Rattle.std.specs.Prelude.{ℕ, zero, suc, ◌+◌, ◌≡◌, ◌≤◌, false, ◌&&◌, nat_eq, nat_lt, nat_le, if◌then◌else◌}
+use Rattle.std.specs.Prelude.{ℕ, ◌+◌, ◌≡◌, ◌≤◌, ◌⊎◌, true, false, ◌&&◌, nat_eq, nat_lt, nat_le, if◌then◌else◌, length, max, min}
 use Rattle.std.specs.declared.option.Option.TheVariants.{None, Some}
 use Rattle.std.specs.List.{AllByRecursion}
-use Rattle.pfair_lattice.specs.Held.{Held}
-use Rattle.pfair_entry.specs.Entry.{Logged}
-use Rattle.pfair_replica.specs.HeldRows.{held, replica_of, SameShape}
-use Rattle.pfair_replica.specs.Offered.{taken}
-use Rattle.pfair_replica.specs.Faults.{IsKeyOf, IsTakenAs, IsTakeFaultOf, IsMergeFaultOf}
-use Rattle.pfair_replica.specs.declared.answer.TakeFault.{TakeFault}
-use Rattle.pfair_replica.specs.declared.answer.Taken.TheVariants.{New, Known, Torn as TornNumber}
+use Rattle.pfair_weight.specs.declared.weight.TheConstants.Weight.{MAX_PERIOD}
+use Rattle.pfair_weight.specs.declared.window.TheConstants.{MAX_OFFSET}
+use Rattle.pfair_replica.specs.HeldRows.{replica_of, SameShape}
+use Rattle.pfair_replica.specs.Replica.{has_torn}
+use Rattle.pfair_replica.specs.Faults.{IsMergeFaultOf}
 use Rattle.pfair_replica.specs.declared.answer.MergeFault.TheVariants.{Memory as OutOfMemory}
 use Rattle.pfair_admission.specs.declared.members.TheConstants.Members.{LAST_SLOT}
 use Rattle.pfair_admission.specs.Carried.{CanBeCarried}
@@ -25,30 +23,29 @@ use Rattle.pfair_table.specs.declared.settings.TheConstants.Settings.{MAX_SLOTS}
 use Rattle.pfair_table.specs.Table.{Settings}
 use Rattle.pfair_table.specs.Limits.{IsSettings}
 use Rattle.pfair_table.specs.Events.{start, happens}
-use Rattle.pfair_handle.specs.Kept.{Kept}
-use Rattle.pfair_handle.specs.Behind.{Of, Between, IsAbsorbedTo, IsPartlyAbsorbedTo}
-use Rattle.pfair_c.specs.Entries.{logged_of, IsMeant}
-use Rattle.pfair_c.specs.declared.entry.PfairEntry.{PfairEntry}
+use Rattle.pfair_handle.specs.Kept.{Kept, is_kept}
+use Rattle.pfair_handle.specs.Behind.{Between, IsAbsorbedTo, IsPartlyAbsorbedTo}
 use Rattle.pfair_c.specs.Planning.{IsPlannedOn, IsStopOf, IsStoppedBy, IsWhole}
+use Rattle.pfair_c.specs.declared.answer.TheConstants.{DONE, MEMORY, NO_ROOM, OPEN_ALREADY, OUT_OF_RANGE}
 use Rattle.pfair_c.specs.declared.plan.PfairStep.{PfairStep}
+use Rattle.pfair_c.specs.declared.window.TheConstants.{LAST_SUBTASK}
 
--- the answer of `pfair_window`: 4 to 6 if there is no such weight, 100 if the subtask or the offset is out of range
-abbrev pub window_answer : ℕ → ℕ → ℕ → ℕ → ℕ
+-- the answer of a call on the weight cost/period: 4 to 6 if there is no such weight, else this
+abbrev pub weight_answer : (cost period answer : ℕ) → ℕ
+weight_answer cost period answer =
+    if nat_eq cost 0 then 4 else (if nat_lt period cost then 5 else (if nat_lt MAX_PERIOD period then 6 else answer))
+
+-- the answer of `pfair_window`: 100 if the subtask or the offset is out of its range
+abbrev pub window_answer : (cost period index theta : ℕ) → ℕ
 window_answer cost period index theta =
-    if nat_eq cost 0 then 4
-    else (if nat_lt period cost then 5
-    else (if nat_lt 1000000000 period then 6
-    else (if nat_le 1 index && nat_le index 1000001 && nat_le theta 1099511627776 then 0 else 100)))
+    weight_answer cost period (if nat_le 1 index && nat_le index LAST_SUBTASK && nat_le theta MAX_OFFSET then DONE else OUT_OF_RANGE)
 
--- the answer of `pfair_windows`: 4 to 6 if there is no such weight, 100 if a subtask or the offset is out of range,
--- 103 if there are fewer rows than windows
+-- the answer of `pfair_windows`: 100 if a subtask or the offset is out of its range, 103 if there are fewer rows than windows
 abbrev pub windows_answer : (cost period first count theta room : ℕ) → ℕ
 windows_answer cost period first count theta room =
-    if nat_eq cost 0 then 4
-    else (if nat_lt period cost then 5
-    else (if nat_lt 1000000000 period then 6
-    else (if nat_le 1 first && nat_le (first + count) 1000002 && nat_le theta 1099511627776
-    then (if nat_le count room then 0 else 103) else 100)))
+    weight_answer cost period
+    (if nat_le 1 first && nat_le (first + count) (LAST_SUBTASK + 1) && nat_le theta MAX_OFFSET
+    then (if nat_le count room then DONE else NO_ROOM) else OUT_OF_RANGE)
 
 -- settings and a capacity that a dispatcher can have
 abbrev pub IsOpenable : Settings → ℕ → Type 0
@@ -59,6 +56,15 @@ abbrev pub IsStarted : Settings → ℕ → Kept → Type 0
 IsStarted s capacity None = ⊥
 IsStarted s capacity (Some x) =
     (course_of x.dispatcher ≡ start s capacity) × (x.dispatcher.spent ≡ false) × (x.dispatcher.settings ≡ s)
+
+-- what `pfair_open` answers
+pub record IsOpenAnswer (s : Settings) (capacity : ℕ) (before after : Kept) (answer : ℕ) : Type 0 where
+  pub already : is_kept before ≡ true → answer ≡ OPEN_ALREADY
+  pub started : answer ≡ DONE → IsOpenable s capacity × IsStarted s capacity after
+  pub memory : answer ≡ MEMORY → IsOpenable s capacity
+  pub out_of_range : answer ≡ OUT_OF_RANGE → IsOpenable s capacity → ⊥
+  pub only : (answer ≡ DONE → ⊥) → (answer ≡ MEMORY → ⊥) → (answer ≡ OUT_OF_RANGE → ⊥) → (answer ≡ OPEN_ALREADY) × (is_kept before ≡ true)
+  pub unchanged : (answer ≡ DONE → ⊥) → after ≡ before
 
 -- ---- the next run
 
@@ -71,30 +77,15 @@ pub record IsNextRunOf (slots : ℕ) (d e : Dispatch) : Type 0 where
   pub course : course_of e ≡ start_after d
   pub whole : (e.forgotten ≡ 0) × (e.spent ≡ false)
 
--- a run can have so many slots, and the answer is why none begins
-abbrev pub IsNoNextRunOf : (slots answer : ℕ) → Dispatch → Type 0
-IsNoNextRunOf slots answer d = (1 ≤ slots) × (slots ≤ MAX_SLOTS) × (f : NextRunFault) × (answer ≡ next_run_fault_number f) × IsNextRunFault d slots f
+-- the next run of the dispatcher d has begun, and e is its dispatcher; or the answer is why none begins, and nothing changes
+pub record IsNextRunAnswer (slots : ℕ) (d e : Dispatch) (answer : ℕ) : Type 0 where
+  pub out_of_range : answer ≡ OUT_OF_RANGE → (1 ≤ slots) × (slots ≤ MAX_SLOTS) → ⊥
+  pub begun : answer ≡ DONE → IsNextRunOf slots d e
+  pub refused : (answer ≡ DONE → ⊥) → (answer ≡ OUT_OF_RANGE → ⊥) →
+      (1 ≤ slots) × (slots ≤ MAX_SLOTS) × (f : NextRunFault) × (answer ≡ next_run_fault_number f) × IsNextRunFault d slots f
+  pub unchanged : (answer ≡ DONE → ⊥) → e ≡ d
 
 -- ---- the contents
-
--- how an entry was taken at a key that held this, as C has it
-abbrev pub IsTakenHow : (how : ℕ) → Held Logged → Logged → Type 0
-IsTakenHow zero before e = IsTakenAs before e New
-IsTakenHow (suc zero) before e = IsTakenAs before e Known
-IsTakenHow (suc (suc zero)) before e = IsTakenAs before e TornNumber
-IsTakenHow (suc (suc (suc n))) before e = ⊥
-
--- the dispatcher d took this for entry n of the log of processor k, and is d' then
-pub record IsTakenFor (k n : ℕ) (entry : PfairEntry) (how : ℕ) (d d' : Dispatch) : Type 0 where
-  pub meant : IsMeant entry
-  pub key : IsKeyOf d.held k n
-  pub met : IsTakenHow how (held d.held k n) (logged_of entry)
-  pub offered : replica_of d'.held ≡ taken (replica_of d.held) k n (logged_of entry)
-  pub rest : d' ≡ record d { held = d'.held }
-
--- this is an entry, and the dispatcher doesn't take it for entry n of the log of processor k
-abbrev pub IsRefusedFor : TakeFault → (k n : ℕ) → PfairEntry → Kept → Type 0
-IsRefusedFor f k n entry x = IsMeant entry × Of x (λ d. IsTakeFaultOf d.held k n f)
 
 -- the dispatchers x and o have logs alike, and x takes all that o holds, and is y then
 abbrev pub IsJoinedTo : (x o y : Kept) → Type 0
@@ -144,3 +135,26 @@ IsPlannedUpTo until row d e = IsPlannedOn until d e × IsStepAs row (IsStopOf un
 -- the dispatcher d planned on, refused a plan before slot `until` - 1 was planned, and is e then
 abbrev pub IsStoppedAt : (until answer : ℕ) → (old new : PfairStep) → Dispatch → Dispatch → Type 0
 IsStoppedAt until answer old new d e = IsFaultAs answer old new (λ f. IsStoppedBy until f d e)
+
+-- what `pfair_plan_next` answers, and what the dispatcher d is then
+pub record IsPlanAnswer (d e : Dispatch) (answer : ℕ) (old new : PfairStep) : Type 0 where
+  pub planned : answer ≡ DONE → IsPlannedTo new d e
+  pub refused : (answer ≡ DONE → ⊥) → IsRefusedTo answer old new d e
+
+-- what `pfair_plan_to` answers
+pub record IsPlanToAnswer (until : ℕ) (d e : Dispatch) (answer : ℕ) (old new : PfairStep) : Type 0 where
+  pub out_of_range : answer ≡ OUT_OF_RANGE → (until ≡ 0) × (e ≡ d) × (new ≡ old)
+  pub planned : answer ≡ DONE → IsPlannedUpTo until new d e
+  pub refused : (answer ≡ DONE → ⊥) → (answer ≡ OUT_OF_RANGE → ⊥) → IsStoppedAt until answer old new d e
+
+-- the planned slots below `slots` are forgotten
+abbrev pub forgetting : (slots : ℕ) → Dispatch → Dispatch
+forgetting slots d = record d { forgotten = max d.forgotten (min slots (length d.tables)) }
+
+-- what `pfair_reopen` answers: 0, 30 if something held is torn, or 90
+pub record IsReopened (d e : Dispatch) (answer : ℕ) : Type 0 where
+  pub only : (answer ≡ DONE) ⊎ ((answer ≡ 30) ⊎ (answer ≡ MEMORY))
+  pub torn : answer ≡ 30 → (has_torn (replica_of d.held) ≡ true) × (e ≡ d)
+  pub whole : (answer ≡ 30 → ⊥) → has_torn (replica_of d.held) ≡ false
+  pub done : answer ≡ DONE → e ≡ record d { spent = false }
+  pub memory : answer ≡ MEMORY → e ≡ record d { spent = true }

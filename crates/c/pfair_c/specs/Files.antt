@@ -1,5 +1,5 @@
 -- Task files, read into dispatchers.
-use Rattle.std.specs.Prelude.{ℕ, ◌≡◌, List, [], None, false, Ok, Err}
+use Rattle.std.specs.Prelude.{ℕ, ◌≡◌, ◌<◌, ◌⊎◌, List, [], length, None, true, false, Ok, Err}
 use Rattle.pfair_replica.specs.HeldRows.{replica_of}
 use Rattle.pfair_table.specs.Script.{LoggedRun, replica_of_logs}
 use Rattle.pfair_table.specs.Refinement.{Dispatch}
@@ -10,6 +10,10 @@ use Rattle.pfair_file.specs.declared.field.Field.{Field}
 use Rattle.pfair_file.specs.declared.field.Field.TheVariants as field
 use Rattle.pfair_file.specs.declared.fault.FileFault.{FileFault}
 use Rattle.pfair_file.specs.declared.fault.FileFault.TheVariants as fault
+use Rattle.pfair_file.specs.declared.input.TheConstants.{LONGEST_FILE}
+use Rattle.pfair_handle.specs.Kept.{Kept, is_kept}
+use Rattle.pfair_handle.specs.Behind.{Of}
+use Rattle.pfair_c.specs.declared.answer.TheConstants.{DONE, FILE_TOO_LONG, MEMORY, OPEN_ALREADY}
 use Rattle.pfair_c.specs.declared.file.PfairFileFault.{PfairFileFault}
 
 -- a new dispatcher that has taken all entries of a script's logs, and no more
@@ -62,3 +66,17 @@ fault_row fault.Memory = nowhere
 abbrev pub IsFileFault : List ℕ → ℕ → PfairFileFault → Type 0
 IsFileFault bytes answer row =
     (f : FileFault) × (script_of_file bytes ≡ Err f) × (answer ≡ file_fault_number f) × (row ≡ fault_row f)
+
+-- the file was read, or not for its fault
+abbrev pub IsNoFault : ℕ → Type 0
+IsNoFault answer = (answer ≡ DONE) ⊎ ((answer ≡ FILE_TOO_LONG) ⊎ ((answer ≡ MEMORY) ⊎ (answer ≡ OPEN_ALREADY)))
+
+-- what `pfair_read_file` answers
+pub record IsReadAnswer (bytes : List ℕ) (before after : Kept) (answer : ℕ) (old new : PfairFileFault) : Type 0 where
+  pub already : is_kept before ≡ true → answer ≡ OPEN_ALREADY
+  pub too_long : before ≡ None → LONGEST_FILE < length bytes → answer ≡ FILE_TOO_LONG
+  pub only : (answer ≡ OPEN_ALREADY → is_kept before ≡ true) × (answer ≡ FILE_TOO_LONG → LONGEST_FILE < length bytes)
+  pub read : answer ≡ DONE → Of after (IsReadFrom bytes)
+  pub fault : (IsNoFault answer → ⊥) → IsFileFault bytes answer new
+  pub unchanged : (answer ≡ DONE → ⊥) → after ≡ before
+  pub untold : IsNoFault answer → new ≡ old

@@ -1,10 +1,10 @@
 -- Lags, as C has them.
-use Rattle.std.specs.Prelude.{ℕ, ◌+◌, ◌-◌, ◌≡◌, ◌≤◌, List, map, take}
+use Rattle.std.specs.Prelude.{ℕ, ◌+◌, ◌-◌, List, map, take}
 use Rattle.pfair_weight.specs.Name.{NameValue}
 use Rattle.pfair_lag.specs.Book.{Tally, Book, lag_of}
 use Rattle.pfair_table.specs.Refinement.{Dispatch}
 use Rattle.pfair_output.specs.Told.{all_slots_told, first_book}
-use Rattle.pfair_c.specs.Rows.{name_row, rows_of, written_over}
+use Rattle.pfair_c.specs.Rows.{name_row, rows_of}
 use Rattle.pfair_c.specs.declared.lags.PfairLag.{PfairLag}
 
 -- the lag of a task of a book at its time
@@ -26,7 +26,3 @@ lags_at d t = book_rows (book_after d (t + 1))
 -- the lags after each of the slots `from` to `to` - 1
 abbrev pub lags_of : Dispatch → (from to : ℕ) → List PfairLag
 lags_of d from to = rows_of (lags_at d) from (to - from)
-
--- the lags after some first of the slots `from` to `to` - 1, or after none, over the first rows
-abbrev pub IsPartlyLaid : Dispatch → (from to : ℕ) → (old new : List PfairLag) → Type 0
-IsPartlyLaid d from to old new = (slots : ℕ) × (slots ≤ to - from) × (new ≡ written_over (rows_of (lags_at d) from slots) old)

@@ -1,3 +1,4 @@
+pub mod Answered
 pub mod Answers
 pub mod Entries
 pub mod EntryRows
@@ -9,5 +10,5 @@ pub mod Misses
 pub mod Open
 pub mod Planning
 pub mod Rows
-pub mod TakenLog
+pub mod Taking
 pub mod Told

@@ -1,5 +1,5 @@
 -- What the calls answer that look for the first subtask out of its window.
-use Rattle.std.specs.Prelude.{ℕ, ◌≡◌, List, Option, None, Some, MatchOption, nat_eq, nat_lt, nat_le, if◌then◌else◌}
+use Rattle.std.specs.Prelude.{ℕ, ◌≡◌, List, Option, None, Some, MatchOption, nat_le, if◌then◌else◌}
 use Rattle.pfair_weight.specs.Share.{Share}
 use Rattle.pfair_lag.specs.Picks.{ArePicks}
 use Rattle.pfair_lag.specs.PickFault.{IsFaultOf, pick_fault_number}
@@ -7,6 +7,9 @@ use Rattle.pfair_lag.specs.declared.fault.PickFault.{PickFault}
 use Rattle.pfair_lag.specs.declared.fault.PickFault.TheVariants.{PicksNotRising, PickPastHorizon}
 use Rattle.pfair_lag.specs.declared.windows.Miss.{Miss}
 use Rattle.pfair_lag.specs.declared.windows.Miss.TheVariants.{Early, Tardy, Unserved}
+use Rattle.pfair_lag.specs.declared.TheConstants.{MAX_HORIZON}
+use Rattle.pfair_c.specs.Answers.{weight_answer}
+use Rattle.pfair_c.specs.declared.answer.TheConstants.{DONE, OUT_OF_RANGE}
 use Rattle.pfair_c.specs.declared.misses.PfairMiss.{PfairMiss}
 
 -- a miss by its kind, its subtask and the slot in which that ran, or none
@@ -18,11 +21,7 @@ miss_row (Some (Unserved index)) = record { kind = 3; index = index; slot = 0 }
 
 -- the answer before the picks are read: 4 to 6 if there is no such weight, 100 if the horizon is too far, else 0
 abbrev pub asked_answer : (cost period horizon : ℕ) → ℕ
-asked_answer cost period horizon =
-    if nat_eq cost 0 then 4
-    else (if nat_lt period cost then 5
-    else (if nat_lt 1000000000 period then 6
-    else (if nat_le horizon 1000000 then 0 else 100)))
+asked_answer cost period horizon = weight_answer cost period (if nat_le horizon MAX_HORIZON then DONE else OUT_OF_RANGE)
 
 -- the row of a first miss, or of none, and then all is well
 abbrev pub IsFoundAs : PfairMiss → (AllIsWell : Type 0) → (IsFirst : Miss → Type 0) → Type 0

@@ -1,5 +1,5 @@
 -- What the calls tell that write rows of an open dispatcher.
-use Rattle.std.specs.Prelude.{ℕ, ◌≡◌, ◌≤◌, ◌<◌, Bool, ◌&&◌, ◌||◌, nat_eq, nat_le, nat_lt, min, if◌then◌else◌, List, length, map, slice_get, Option}
+use Rattle.std.specs.Prelude.{ℕ, ◌≡◌, ◌≤◌, ◌<◌, Bool, true, false, ◌&&◌, ◌||◌, nat_eq, nat_le, nat_lt, min, if◌then◌else◌, List, length, map, slice_get, Option}
 use Rattle.std.specs.declared.option.Option.TheVariants.{None, Some}
 use Rattle.std.specs.Option.{option_map}
 use Rattle.pfair_table.specs.Places.{places_in}
@@ -9,9 +9,10 @@ use Rattle.pfair_c.specs.declared.quanta.PfairQuantum.{PfairQuantum}
 use Rattle.pfair_c.specs.declared.decisions.PfairDecision.{PfairDecision}
 use Rattle.pfair_c.specs.Rows.{written_over, pick_row, decided_row, quanta_of, decisions_of}
 use Rattle.pfair_c.specs.declared.lags.PfairLag.{PfairLag}
-use Rattle.pfair_c.specs.Lags.{lags_of, IsPartlyLaid}
+use Rattle.pfair_c.specs.Lags.{lags_of}
 use Rattle.pfair_admission.specs.Member.{Member}
 use Rattle.pfair_table.specs.Refinement.{Dispatch}
+use Rattle.pfair_c.specs.declared.answer.TheConstants.{DONE, MEMORY, NO_ROOM, NOT_PLANNED, SPENT}
 use Rattle.pfair_c.specs.declared.members.PfairMember.{PfairMember}
 use Rattle.pfair_c.specs.Members.{member_row, AreMembersNow}
 
@@ -27,10 +28,10 @@ are_told forgotten planned from to = nat_le to planned && (nat_le to from || nat
 abbrev pub are_counted : (forgotten planned from to : ℕ) → Bool
 are_counted forgotten planned from to = nat_le to planned && (nat_le to from || nat_eq forgotten 0)
 
--- 104 if nothing is given, 103 if there is room for fewer rows
+-- NOT_PLANNED if nothing is given, NO_ROOM if there is room for fewer rows
 abbrev pub rows_answer : {A : Type 0} → Option (List A) → ℕ → ℕ
-rows_answer None room = 104
-rows_answer (Some planned) room = if nat_le (length planned) room then 0 else 103
+rows_answer None room = NOT_PLANNED
+rows_answer (Some planned) room = if nat_le (length planned) room then DONE else NO_ROOM
 
 -- how many rows are given
 abbrev pub rows_count : {A : Type 0} → Option (List A) → ℕ → ℕ
@@ -47,47 +48,41 @@ abbrev pub rows_laid : {B : Type 0} → Option (List B) → List B → List B
 rows_laid None rows = rows
 rows_laid (Some laid) rows = if nat_le (length laid) (length rows) then written_over laid rows else rows
 
--- the answer, and the count and the rows before and after, of a call that tells these rows, or nothing
-abbrev pub AreTold : {B : Type 0} → (counted : Option (List B) → ℕ → ℕ) → (told : Option (List B))
-    → (answer count count' : ℕ) → (rows rows' : List B) → Type 0
-AreTold counted told answer count count' rows rows' =
-    (answer ≡ rows_answer told (length rows)) × (count' ≡ counted told count) × (rows' ≡ rows_laid told rows)
+-- the answer, and the count and the rows before and after, are those of a call that tells these rows, or nothing
+abbrev pub AreTold : {B : Type 0} → (counted : Option (List B) → ℕ → ℕ) → (told : Dispatch → Option (List B)) → Dispatch
+    → (answer : ℕ) → (old new : ℕ × List B) → Type 0
+AreTold counted told d answer old new =
+    (answer ≡ rows_answer (told d) (length old.1)) × (new.0 ≡ counted (told d) old.0) × (new.1 ≡ rows_laid (told d) old.1)
 
 -- the table of a planned slot, its places, and the decisions at its boundary
-abbrev pub table_of : Dispatch → (slot : ℕ) → Option (List PfairPick)
-table_of d slot = option_map (map pick_row) (told_at d.forgotten d.tables slot)
+abbrev pub table_of : (slot : ℕ) → Dispatch → Option (List PfairPick)
+table_of slot d = option_map (map pick_row) (told_at d.forgotten d.tables slot)
 
-abbrev pub places_at : Dispatch → (slot : ℕ) → Option (List ℕ)
-places_at d slot = told_at d.forgotten (places_in d.origin d.tables) slot
+abbrev pub places_at : (slot : ℕ) → Dispatch → Option (List ℕ)
+places_at slot d = told_at d.forgotten (places_in d.origin d.tables) slot
 
-abbrev pub decided_at : Dispatch → (slot : ℕ) → Option (List PfairDecided)
-decided_at d slot = option_map (map decided_row) (told_at d.forgotten d.decided slot)
+abbrev pub decided_at : (slot : ℕ) → Dispatch → Option (List PfairDecided)
+decided_at slot d = option_map (map decided_row) (told_at d.forgotten d.decided slot)
 
 -- the quanta of the slots `from` to `to` - 1, if all of these are planned, and none is forgotten
-abbrev pub quanta_between : Dispatch → (from to : ℕ) → Option (List PfairQuantum)
-quanta_between d from to =
-    if are_told d.forgotten (length d.tables) from to then Some (quanta_of d.origin d.tables from to) else None
+abbrev pub quanta_between : (from to : ℕ) → Dispatch → Option (List PfairQuantum)
+quanta_between from to d = if are_told d.forgotten (length d.tables) from to then Some (quanta_of d.origin d.tables from to) else None
 
 -- the decisions of the slots `from` to `to` - 1, if all of these are planned, and none is forgotten
-abbrev pub decisions_between : Dispatch → (from to : ℕ) → Option (List PfairDecision)
-decisions_between d from to =
-    if are_told d.forgotten (length d.decided) from to then Some (decisions_of d.decided from to) else None
+abbrev pub decisions_between : (from to : ℕ) → Dispatch → Option (List PfairDecision)
+decisions_between from to d = if are_told d.forgotten (length d.decided) from to then Some (decisions_of d.decided from to) else None
 
 -- the lags after each of the slots `from` to `to` - 1, if these are planned, and no slot is forgotten: they count from
 -- the run's slot 0 on
-abbrev pub lags_between : Dispatch → (from to : ℕ) → Option (List PfairLag)
-lags_between d from to =
-    if are_counted d.forgotten (length d.tables) from to then Some (lags_of d from to) else None
+abbrev pub lags_between : (from to : ℕ) → Dispatch → Option (List PfairLag)
+lags_between from to d = if are_counted d.forgotten (length d.tables) from to then Some (lags_of d from to) else None
 
--- an allocation failed: the lags of some first slots stand over the first rows
-abbrev pub IsLaidInPart : (from to : ℕ) → (old new : List PfairLag) → Dispatch → Type 0
-IsLaidInPart from to old new d =
-    (from < to) × (to ≤ length d.tables) × (d.forgotten ≡ 0) × IsPartlyLaid d from to old new
+-- the lags are given; or an allocation failed as they were counted
+pub record AreLagsTold (from to : ℕ) (d : Dispatch) (answer : ℕ) (old new : ℕ × List PfairLag) : Type 0 where
+  pub told : (answer ≡ MEMORY → ⊥) → AreTold rows_counted (lags_between from to) d answer old new
+  pub memory : answer ≡ MEMORY → (from < to) × (to ≤ length d.tables) × (d.forgotten ≡ 0) × (new ≡ old)
 
--- the members after the planned slots are given
-pub record AreMembersTold (d : Dispatch) (answer count : ℕ) (old new : List PfairMember) : Type 0 where
-  pub members : List Member
-  pub are_members : AreMembersNow d members
-  pub answer_is : answer ≡ rows_answer (Some members) (length old)
-  pub count_is : count ≡ length members
-  pub rows_are : new ≡ rows_laid (Some (map member_row members)) old
+-- the members after the planned slots are given, if the dispatcher isn't spent
+pub record AreMembersTold (d : Dispatch) (answer : ℕ) (old new : ℕ × List PfairMember) : Type 0 where
+  pub spent : d.spent ≡ true → (answer ≡ SPENT) × (new ≡ old)
+  pub told : d.spent ≡ false → (members : List Member) × AreMembersNow d members × AreTold rows_count (λ _. Some (map member_row members)) d answer old new

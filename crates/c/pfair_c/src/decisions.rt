@@ -1,14 +1,13 @@
 //! Decisions, in rows.
-ghost use Rattle.std.specs.Prelude.{◌≡◌, ◌≤◌, ◌+◌, ◌++◌, None, true, length, map, min, take, drop};
-ghost use Rattle.pfair_handle.specs.Kept.{is_kept};
-ghost use Rattle.pfair_handle.specs.Behind.{Of};
+ghost use Rattle.std.specs.Prelude.{◌≡◌, ◌≤◌, ◌+◌, ◌++◌, length, map, min, take, drop};
+ghost use Rattle.pfair_c.specs.Answered.{Reads};
 ghost use Rattle.pfair_c.specs.Rows.{decided_row, slot_of, decision_row, decisions_at, decisions_of, written_over};
 ghost use Rattle.pfair_c.specs.Told.{AreTold, rows_count, rows_counted, decided_at, decisions_between};
 
 use crate::answer::{DONE, NOT_PLANNED};
 use crate::name::{PfairName, name_row};
 use crate::open::tell_rows;
-use crate::rows::{are_told, lay_rows};
+use crate::rows::{are_told, fits, lay_rows};
 use pfair_admission::Decision;
 use pfair_handle::Handle;
 use pfair_ready::Ready;
@@ -50,9 +49,7 @@ pub extern "C" fn pfair_decisions(
     count: &mut u64,
     rows: &mut [PfairDecided],
 ) -> u32
-    ensures closed { handle.old.owner.kept ≡ None → (result ≡ 102) × (count.new ≡ count.old) × (rows.new ≡ rows.old) }
-    ensures told { is_kept handle.old.owner.kept ≡ true → Of handle.old.owner.kept (λ d. AreTold rows_count (decided_at d slot) result count.old count.new rows.old rows.new) }
-    ensures unchanged { handle.new.owner.kept ≡ handle.old.owner.kept }
+    ensures { Reads handle.old.owner.kept handle.new.owner.kept result (count.old, rows.old) (count.new, rows.new) (AreTold rows_count (decided_at slot)) }
 {
     tell_rows(alloc, handle, count, rows, |dispatcher, count, rows| {
         let Some(decided) = dispatcher.decisions(slot) else {
@@ -75,9 +72,8 @@ pub extern "C" fn pfair_decisions_of(
     count: &mut u64,
     rows: &mut [PfairDecision],
 ) -> u32
-    ensures closed { handle.old.owner.kept ≡ None → (result ≡ 102) × (count.new ≡ count.old) × (rows.new ≡ rows.old) }
-    ensures told { is_kept handle.old.owner.kept ≡ true → Of handle.old.owner.kept (λ d. AreTold rows_counted (decisions_between d from to) result count.old count.new rows.old rows.new) }
-    ensures unchanged { handle.new.owner.kept ≡ handle.old.owner.kept }
+    ensures { Reads handle.old.owner.kept handle.new.owner.kept result (count.old, rows.old) (count.new, rows.new)
+        (AreTold rows_counted (decisions_between from to)) }
 {
     tell_rows(alloc, handle, count, rows, |dispatcher, count, rows| {
         if !are_told(dispatcher, from, to) {
@@ -87,9 +83,9 @@ pub extern "C" fn pfair_decisions_of(
             *count = 0;
             return DONE;
         }
-        let wanted = count_decisions(dispatcher, from, to);
+        let wanted = write_several(dispatcher, from, to, &mut []);
         lay_rows(wanted, count, rows, |rows| {
-            write_several(dispatcher, from, to, rows)
+            write_several(dispatcher, from, to, rows);
         })
     })
 }
@@ -104,53 +100,44 @@ fn write_decisions(decisions: &[Decided], rows: &mut [PfairDecided])
     }
 }
 
-/// Returns how many decisions the boundaries of the slots `from` to `to` - 1, none of which is
-/// forgotten, have, if they are planned; no more than fit into 64 bits. O(slots).
-fn count_decisions<R: Ready>(dispatcher: &Dispatcher<R>, from: u64, to: u64) -> u64
-    requires { dispatcher.now.forgotten ≤ from }
-    ensures { result ≡ min (length (decisions_of dispatcher.now.decided from to)) 18446744073709551615 }
-{
-    let mut count: u64 = 0;
-    for slot in from..to {
-        let here = dispatcher.decisions(slot).unwrap_or(&[]);
-        count = count.saturating_add(here.len() as u64);
-    }
-    count
-}
-
-/// Writes the decisions of the slots `from` to `to` - 1, none of which is forgotten, over the first
-/// rows, slot by slot, each slot's in the order of processor and number. O(slots + decisions).
+// Returns how many decisions the slots `from` to `to` - 1, none of which is forgotten, have, if they are planned, but no
+// more than fit into 64 bits; and writes them over the first rows, if there is room for all, slot by slot, each slot's
+// in the order of processor and number. O(slots + rows).
 fn write_several<R: Ready>(
     dispatcher: &Dispatcher<R>,
     from: u64,
     to: u64,
     rows: &mut [PfairDecision],
-)
-    requires standing { dispatcher.now.forgotten ≤ from }
-    requires room { length (decisions_of dispatcher.now.decided from to) ≤ length rows.old }
-    ensures { rows.new ≡ written_over (decisions_of dispatcher.now.decided from to) rows.old }
+) -> u64
+    requires { dispatcher.now.forgotten ≤ from }
+    ensures count { result ≡ min (length (decisions_of dispatcher.now.decided from to)) 18446744073709551615 }
+    ensures rows { length (decisions_of dispatcher.now.decided from to) ≤ length rows.old →
+        rows.new ≡ written_over (decisions_of dispatcher.now.decided from to) rows.old }
 {
-    let mut at = 0;
+    let mut count: u64 = 0;
     for slot in from..to {
-        at = write_slot(dispatcher, slot, at, rows);
+        count = write_slot(dispatcher, slot, count, rows);
     }
+    count
 }
 
-// Writes the decisions of a slot over the rows from `at` on, and says where the next ones stand.
+// Writes the decisions of a slot over the rows from `at` on, if there is room, and says where the next ones stand.
 fn write_slot<R: Ready>(
     dispatcher: &Dispatcher<R>,
     slot: u64,
-    at: usize,
+    at: u64,
     rows: &mut [PfairDecision],
-) -> usize
-    requires standing { dispatcher.now.forgotten ≤ slot }
-    requires room { at + length (slot_of dispatcher.now.decided slot) ≤ length rows.old }
-    ensures rows { rows.new ≡ take at rows.old ++ written_over (decisions_at dispatcher.now.decided slot) (drop at rows.old) }
-    ensures next { result ≡ at + length (slot_of dispatcher.now.decided slot) }
+) -> u64
+    requires { dispatcher.now.forgotten ≤ slot }
+    ensures next { result ≡ min (at + length (slot_of dispatcher.now.decided slot)) 18446744073709551615 }
+    ensures rows { at + length (slot_of dispatcher.now.decided slot) ≤ length rows.old →
+        rows.new ≡ take at rows.old ++ written_over (decisions_at dispatcher.now.decided slot) (drop at rows.old) }
 {
     let decided = dispatcher.decisions(slot).unwrap_or(&[]);
-    write_rows(slot, decided, &mut rows[at..]);
-    at + decided.len()
+    if fits(decided.len(), at, rows.len()) {
+        write_rows(slot, decided, &mut rows[at as usize..]);
+    }
+    at.saturating_add(decided.len() as u64)
 }
 
 // Writes decisions over the first rows.

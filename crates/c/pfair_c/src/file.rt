@@ -1,13 +1,11 @@
 //! Task files, read into dispatchers.
-ghost use Rattle.std.specs.Prelude.{◌≡◌, ◌<◌, ◌⊎◌, None, true, length};
-ghost use Rattle.pfair_handle.specs.Kept.{is_kept};
-ghost use Rattle.pfair_handle.specs.Behind.{Of};
-ghost use Rattle.pfair_c.specs.Files.{IsReadFrom, IsFileFault, at_key, fault_row, field_number};
+ghost use Rattle.std.specs.Prelude.{◌≡◌};
+ghost use Rattle.pfair_c.specs.Files.{IsReadAnswer, at_key, fault_row, field_number};
 
+use crate::answer::{FILE_TOO_LONG, MEMORY, OPEN_ALREADY};
 use crate::open::put_new;
 use pfair_file::{Field, FileFault, LONGEST_FILE, read_file};
 use pfair_handle::Handle;
-use crate::answer::{FILE_TOO_LONG, MEMORY, OPEN_ALREADY};
 use pfair_table::take_script;
 use std::alloc::Global;
 
@@ -51,13 +49,7 @@ pub extern "C" fn pfair_read_file(
     fault: &mut PfairFileFault,
     bytes: &[u8],
 ) -> u32
-    ensures already { is_kept handle.old.owner.kept ≡ true → result ≡ 101 }
-    ensures too_long { handle.old.owner.kept ≡ None → 67108864 < length bytes.now → result ≡ 66 }
-    ensures read { result ≡ 0 → Of handle.new.owner.kept (IsReadFrom bytes.now) }
-    ensures fault { (result ≡ 0 → ⊥) → (result ≡ 66 → ⊥) → (result ≡ 90 → ⊥) → (result ≡ 101 → ⊥) → IsFileFault bytes.now result fault.new }
-    ensures only { (result ≡ 101 → is_kept handle.old.owner.kept ≡ true) × (result ≡ 66 → 67108864 < length bytes.now) }
-    ensures unchanged { (result ≡ 0 → ⊥) → handle.new.owner.kept ≡ handle.old.owner.kept }
-    ensures untold { (result ≡ 0) ⊎ ((result ≡ 66) ⊎ ((result ≡ 90) ⊎ (result ≡ 101))) → fault.new ≡ fault.old }
+    ensures { IsReadAnswer bytes.now handle.old.owner.kept handle.new.owner.kept result fault.old fault.new }
 {
     if handle.is_open() {
         return OPEN_ALREADY;

@@ -1,19 +1,21 @@
 //! What a dispatcher holds, and what it plans for.
-ghost use Rattle.std.specs.Prelude.{◌≡◌, ◌≢◌, ◌≤◌, ◌⊎◌, ◌++◌, [], Some, None, true, length, map, unwrap_or};
-ghost use Rattle.pfair_replica.specs.HeldRows.{held, replica_of};
-ghost use Rattle.pfair_replica.specs.Replica.{Below, mark, missing, sound_beginning, torn_keys, fallen_keys};
+ghost use Rattle.std.specs.Prelude.{◌≡◌, ◌≤◌, ◌++◌, None, true, length, map};
+ghost use Rattle.pfair_replica.specs.HeldRows.{replica_of};
+ghost use Rattle.pfair_replica.specs.Replica.{Below};
 ghost use Rattle.pfair_handle.specs.Kept.{is_kept};
-ghost use Rattle.pfair_c.specs.Rows.{key_row};
-ghost use Rattle.pfair_handle.specs.Behind.{Of, Between};
-ghost use Rattle.pfair_c.specs.Held.{log_answer, key_answer, held_kind, entry_after, faulty_keys, settings_row};
-ghost use Rattle.pfair_c.specs.Told.{rows_answer, rows_laid};
+ghost use Rattle.pfair_handle.specs.Behind.{Between};
+ghost use Rattle.pfair_c.specs.Answered.{Reads, IsTold};
+ghost use Rattle.pfair_c.specs.Held.{IsHeldTold, IsMarkTold, IsMissingTold, AreFaultsTold, key_answer, settings_row};
+ghost use Rattle.pfair_c.specs.Rows.{key_row, written_over};
 
 use crate::answer::{DONE, MEMORY, NO_ROOM, NO_SUCH_NUMBER, NO_SUCH_PROCESSOR, NOT_OPEN};
 use crate::entry::{PfairEntry, entry_row};
-use crate::open::tell;
+use crate::open::with_open;
 use pfair_handle::Handle;
 use pfair_lattice::Flat;
+use pfair_ready::HeapReady;
 use pfair_replica::{EntryKey, Faults, Replica};
+use pfair_table::Dispatcher;
 use std::alloc::Global;
 
 /// Under which processor and number an entry is held.
@@ -49,26 +51,26 @@ pub extern "C" fn pfair_settings(
     handle: &mut Handle,
     settings: &mut PfairSettings,
 ) -> u32
-    ensures closed { handle.old.owner.kept ≡ None → (result ≡ 102) × (settings.new ≡ settings.old) }
-    ensures open { is_kept handle.old.owner.kept ≡ true → (result ≡ 0) × Of handle.old.owner.kept (λ d. settings.new ≡ settings_row d) }
-    ensures unchanged { handle.new.owner.kept ≡ handle.old.owner.kept }
+    ensures { Reads handle.old.owner.kept handle.new.owner.kept result settings.old settings.new (IsTold settings_row) }
 {
-    tell(
-        alloc,
-        handle,
-        settings,
-        &mut (),
-        |dispatcher, settings, _| {
-            let planned_for = dispatcher.settings();
-            *settings = PfairSettings {
-                processors: planned_for.processors() as u64,
-                frame: planned_for.frame(),
-                slots: planned_for.slots(),
-                capacity: dispatcher.replica().capacity() as u64,
-            };
-            DONE
-        },
-    )
+    let Some(row) = with_open(alloc, handle, |dispatcher| settings_row(dispatcher)) else {
+        return NOT_OPEN;
+    };
+    *settings = row;
+    DONE
+}
+
+// The settings of a dispatcher, and its capacity.
+fn settings_row(dispatcher: &Dispatcher<HeapReady>) -> PfairSettings
+    ensures { result ≡ settings_row dispatcher.now }
+{
+    let settings = dispatcher.settings();
+    PfairSettings {
+        processors: settings.processors() as u64,
+        frame: settings.frame(),
+        slots: settings.slots(),
+        capacity: dispatcher.replica().capacity() as u64,
+    }
 }
 
 /// Writes the contents at number `number` (from 1) of the log of `processor` (from 0): 0 nothing, 1
@@ -85,29 +87,26 @@ pub extern "C" fn pfair_held(
     kind: &mut u64,
     entry: &mut PfairEntry,
 ) -> u32
-    ensures closed { handle.old.owner.kept ≡ None → result ≡ 102 }
-    ensures answer { is_kept handle.old.owner.kept ≡ true → Of handle.old.owner.kept (λ d. result ≡ key_answer d.held processor number) }
-    ensures kind { result ≡ 0 → Of handle.old.owner.kept (λ d. kind.new ≡ held_kind (held d.held processor number)) }
-    ensures entry { result ≡ 0 → Of handle.old.owner.kept (λ d. entry.new ≡ entry_after (held d.held processor number) entry.old) }
-    ensures untold { (result ≡ 0 → ⊥) → (kind.new ≡ kind.old) × (entry.new ≡ entry.old) }
-    ensures unchanged { handle.new.owner.kept ≡ handle.old.owner.kept }
+    ensures { Reads handle.old.owner.kept handle.new.owner.kept result (kind.old, entry.old) (kind.new, entry.new) (IsHeldTold processor number) }
 {
-    tell(alloc, handle, kind, entry, |dispatcher, kind, entry| {
+    let found = with_open(alloc, handle, |dispatcher| {
         let replica = dispatcher.replica();
-        let answer = key_answer(replica, processor, number);
-        if answer != DONE {
-            return answer;
+        match key_answer(replica, processor, number) {
+            DONE => Ok(replica.get(processor, number)),
+            answer => Err(answer),
         }
-        *kind = match replica.get(processor, number) {
-            None => 0,
-            Some(Flat::One(held)) => {
-                *entry = entry_row(&held);
-                1
-            }
-            Some(Flat::Torn) => 2,
-        };
-        DONE
-    })
+    });
+    *kind = match found {
+        Some(Ok(None)) => 0,
+        Some(Ok(Some(Flat::One(held)))) => {
+            *entry = entry_row(&held);
+            1
+        }
+        Some(Ok(Some(Flat::Torn))) => 2,
+        Some(Err(answer)) => return answer,
+        None => return NOT_OPEN,
+    };
+    DONE
 }
 
 /// Writes the mark of a processor, the floor of the last entry of its sound beginning, and how many
@@ -123,22 +122,24 @@ pub extern "C" fn pfair_mark(
     slot: &mut u64,
     count: &mut u64,
 ) -> u32
-    ensures closed { handle.old.owner.kept ≡ None → result ≡ 102 }
-    ensures answer { is_kept handle.old.owner.kept ≡ true → Of handle.old.owner.kept (λ d. result ≡ log_answer d.held processor) }
-    ensures slot { result ≡ 0 → Of handle.old.owner.kept (λ d. slot.new ≡ mark (replica_of d.held) processor) }
-    ensures count { result ≡ 0 → Of handle.old.owner.kept (λ d. count.new ≡ length (sound_beginning (replica_of d.held) processor)) }
-    ensures untold { (result ≡ 0 → ⊥) → (slot.new ≡ slot.old) × (count.new ≡ count.old) }
-    ensures unchanged { handle.new.owner.kept ≡ handle.old.owner.kept }
+    ensures { Reads handle.old.owner.kept handle.new.owner.kept result (slot.old, count.old) (slot.new, count.new) (IsMarkTold processor) }
 {
-    tell(alloc, handle, slot, count, |dispatcher, slot, count| {
+    let found = with_open(alloc, handle, |dispatcher| {
         let replica = dispatcher.replica();
         if processor >= replica.processors() {
-            return NO_SUCH_PROCESSOR;
+            return None;
         }
-        *slot = replica.mark(processor);
-        *count = replica.sound_count(processor) as u64;
-        DONE
-    })
+        Some((replica.mark(processor), replica.sound_count(processor)))
+    });
+    match found {
+        Some(Some((mark, sound))) => {
+            *slot = mark;
+            *count = sound as u64;
+            DONE
+        }
+        Some(None) => NO_SUCH_PROCESSOR,
+        None => NOT_OPEN,
+    }
 }
 
 /// Writes the least number of a processor's log at which nothing is held, or 0 if there is none.
@@ -153,20 +154,23 @@ pub extern "C" fn pfair_missing(
     processor: u8,
     number: &mut u64,
 ) -> u32
-    ensures closed { handle.old.owner.kept ≡ None → result ≡ 102 }
-    ensures answer { is_kept handle.old.owner.kept ≡ true → Of handle.old.owner.kept (λ d. result ≡ log_answer d.held processor) }
-    ensures number { result ≡ 0 → Of handle.old.owner.kept (λ d. number.new ≡ unwrap_or (missing (replica_of d.held) processor) 0) }
-    ensures untold { (result ≡ 0 → ⊥) → number.new ≡ number.old }
-    ensures unchanged { handle.new.owner.kept ≡ handle.old.owner.kept }
+    ensures { Reads handle.old.owner.kept handle.new.owner.kept result number.old number.new (IsMissingTold processor) }
 {
-    tell(alloc, handle, number, &mut (), |dispatcher, number, _| {
+    let found = with_open(alloc, handle, |dispatcher| {
         let replica = dispatcher.replica();
         if processor >= replica.processors() {
-            return NO_SUCH_PROCESSOR;
+            return None;
         }
-        *number = replica.missing(processor).unwrap_or(0) as u64;
-        DONE
-    })
+        Some(replica.missing(processor).unwrap_or(0))
+    });
+    match found {
+        Some(Some(missing)) => {
+            *number = missing as u64;
+            DONE
+        }
+        Some(None) => NO_SUCH_PROCESSOR,
+        None => NOT_OPEN,
+    }
 }
 
 /// Writes what is wrong with the logs that are held: the keys that are torn, and after these the
@@ -183,23 +187,12 @@ pub extern "C" fn pfair_faults(
     fallen: &mut u64,
     rows: &mut [PfairKey],
 ) -> u32
-    ensures closed { handle.old.owner.kept ≡ None → result ≡ 102 }
-    ensures untold { (result ≡ 90) ⊎ (result ≡ 102) → (torn.new ≡ torn.old) × (fallen.new ≡ fallen.old) × (rows.new ≡ rows.old) }
-    ensures memory { result ≡ 90 → Of handle.old.owner.kept (λ d. (torn_keys (replica_of d.held) ≢ []) ⊎ (fallen_keys (replica_of d.held) ≢ [])) }
-    ensures answer { is_kept handle.old.owner.kept ≡ true → (result ≡ 90 → ⊥) → Of handle.old.owner.kept (λ d. result ≡ rows_answer (Some (faulty_keys d)) (length rows.old)) }
-    ensures torn { is_kept handle.old.owner.kept ≡ true → (result ≡ 90 → ⊥) → Of handle.old.owner.kept (λ d. torn.new ≡ length (torn_keys (replica_of d.held))) }
-    ensures fallen { is_kept handle.old.owner.kept ≡ true → (result ≡ 90 → ⊥) → Of handle.old.owner.kept (λ d. fallen.new ≡ length (fallen_keys (replica_of d.held))) }
-    ensures rows { is_kept handle.old.owner.kept ≡ true → (result ≡ 90 → ⊥) → Of handle.old.owner.kept (λ d. rows.new ≡ rows_laid (Some (map key_row (faulty_keys d))) rows.old) }
-    ensures unchanged { handle.new.owner.kept ≡ handle.old.owner.kept }
+    ensures { Reads handle.old.owner.kept handle.new.owner.kept result (torn.old, fallen.old, rows.old) (torn.new, fallen.new, rows.new) AreFaultsTold }
 {
-    if !handle.is_open() {
-        return NOT_OPEN;
-    }
-    let served = handle.take(alloc);
-    let found = served.dispatcher.replica().faults();
-    handle.put(served);
-    let Ok(faults) = found else {
-        return MEMORY;
+    let faults = match with_open(alloc, handle, |dispatcher| dispatcher.replica().faults()) {
+        Some(Ok(faults)) => faults,
+        Some(Err(_)) => return MEMORY,
+        None => return NOT_OPEN,
     };
     *torn = faults.torn.len() as u64;
     *fallen = faults.fallen.len() as u64;
@@ -221,12 +214,14 @@ pub extern "C" fn pfair_below(
     other: &mut Handle,
     is_below: &mut u64,
 ) -> u32
-    ensures closed { handle.old.owner.kept ≡ None → result ≡ 102 }
-    ensures other_closed { other.old.owner.kept ≡ None → result ≡ 102 }
-    ensures open { is_kept handle.old.owner.kept ≡ true → is_kept other.old.owner.kept ≡ true → (result ≡ 0) × (is_below.new ≤ 1) }
-    ensures below { result ≡ 0 → is_below.new ≡ 1 → Between handle.old.owner.kept other.old.owner.kept (λ d o. Below (replica_of d.held) (replica_of o.held)) }
-    ensures not_below { result ≡ 0 → is_below.new ≡ 0 → Between handle.old.owner.kept other.old.owner.kept (λ d o. Below (replica_of d.held) (replica_of o.held) → ⊥) }
-    ensures untold { (result ≡ 0 → ⊥) → (result ≡ 102) × (is_below.new ≡ is_below.old) }
+    ensures closed { handle.old.owner.kept ≡ None → result ≡ NOT_OPEN }
+    ensures other_closed { other.old.owner.kept ≡ None → result ≡ NOT_OPEN }
+    ensures open { is_kept handle.old.owner.kept ≡ true → is_kept other.old.owner.kept ≡ true → (result ≡ DONE) × (is_below.new ≤ 1) }
+    ensures below { result ≡ DONE → is_below.new ≡ 1 →
+        Between handle.old.owner.kept other.old.owner.kept (λ d o. Below (replica_of d.held) (replica_of o.held)) }
+    ensures not_below { result ≡ DONE → is_below.new ≡ 0 →
+        Between handle.old.owner.kept other.old.owner.kept (λ d o. Below (replica_of d.held) (replica_of o.held) → ⊥) }
+    ensures untold { (result ≡ DONE → ⊥) → (result ≡ NOT_OPEN) × (is_below.new ≡ is_below.old) }
     ensures unchanged { (handle.new.owner.kept ≡ handle.old.owner.kept) × (other.new.owner.kept ≡ other.old.owner.kept) }
 {
     if !handle.is_open() || !other.is_open() {

@@ -1,5 +1,5 @@
 //! The lags in several slots, in rows.
-ghost use Rattle.std.specs.Prelude.{◌≡◌, ◌≤◌, ◌+◌, ◌++◌, None, true, length, min, take, drop, set, slice_get, IfOk, OnOk, OnErr};
+ghost use Rattle.std.specs.Prelude.{◌≡◌, ◌≤◌, ◌+◌, ◌++◌, [], ◌∷◌, length, min, slice_get, IfOk, OnOk};
 ghost use Rattle.std.specs.List.{AllByRecursion};
 ghost use Rattle.pfair_weight.specs.Name.{NameValue};
 ghost use Rattle.pfair_lag.specs.Book.{Tally};
@@ -7,15 +7,14 @@ ghost use Rattle.pfair_admission.specs.declared.members.TheConstants.Members.{LA
 ghost use Rattle.pfair_admission.specs.Carried.{CanBeCarried};
 ghost use Rattle.pfair_admission.specs.Member.{Member};
 ghost use Rattle.pfair_output.specs.Told.{entered_again, first_book};
-ghost use Rattle.pfair_handle.specs.Kept.{is_kept};
-ghost use Rattle.pfair_handle.specs.Behind.{Of};
-ghost use Rattle.pfair_c.specs.Rows.{written_over};
-ghost use Rattle.pfair_c.specs.Lags.{lag_row, book_rows, book_after, lags_of, IsPartlyLaid};
-ghost use Rattle.pfair_c.specs.Told.{AreTold, IsLaidInPart, lags_between, rows_counted};
+ghost use Rattle.pfair_c.specs.Answered.{Reads};
+ghost use Rattle.pfair_c.specs.Lags.{lag_row, book_rows, book_after, lags_of};
+ghost use Rattle.pfair_c.specs.Told.{AreLagsTold};
 
 use crate::answer::{DONE, MEMORY, NO_ROOM, NOT_PLANNED};
 use crate::name::{PfairName, name_row};
 use crate::open::tell_rows;
+use crate::rows::fits;
 use pfair_admission::Members;
 use pfair_handle::Handle;
 use pfair_lag::LagBook;
@@ -44,9 +43,8 @@ pub struct PfairLag {
 ///
 /// Answers 0 with the number of rows and the rows (none if `from` isn't below `to`); 102 if the
 /// handle has no dispatcher; 104 if slot `to` - 1 isn't planned, or any slot is forgotten; 90 if an
-/// allocation fails: then the rows of some first slots may be written; 103 with the number of rows
-/// wanted, if there are fewer. Nothing else is written. O(rows), and twice the cost of recording the
-/// slots 0 to `to` - 1 in a book of lags.
+/// allocation fails; 103 with the number of rows wanted, if there are fewer. Nothing else is written.
+/// O(rows), and the cost of recording the slots 0 to `to` - 1 in a book of lags.
 #[unsafe(no_mangle)]
 pub extern "C" fn pfair_lags(
     alloc: Global,
@@ -56,12 +54,7 @@ pub extern "C" fn pfair_lags(
     count: &mut u64,
     rows: &mut [PfairLag],
 ) -> u32
-    ensures closed { handle.old.owner.kept ≡ None → (result ≡ 102) × (count.new ≡ count.old) × (rows.new ≡ rows.old) }
-    ensures told { is_kept handle.old.owner.kept ≡ true → (result ≡ 90 → ⊥) →
-        Of handle.old.owner.kept (λ d.
-        AreTold rows_counted (lags_between d from to) result count.old count.new rows.old rows.new) }
-    ensures memory { result ≡ 90 → (count.new ≡ count.old) × Of handle.old.owner.kept (IsLaidInPart from to rows.old rows.new) }
-    ensures unchanged { handle.new.owner.kept ≡ handle.old.owner.kept }
+    ensures { Reads handle.old.owner.kept handle.new.owner.kept result (count.old, rows.old) (count.new, rows.new) (AreLagsTold from to) }
 {
     tell_rows(alloc, handle, count, rows, |dispatcher, count, rows| {
         copy_lags(alloc, dispatcher, from, to, count, rows)
@@ -76,8 +69,7 @@ fn copy_lags(
     count: &mut u64,
     rows: &mut [PfairLag],
 ) -> u32
-    ensures told { (result ≡ 90 → ⊥) → AreTold rows_counted (lags_between dispatcher.now from to) result count.old count.new rows.old rows.new }
-    ensures memory { result ≡ 90 → (count.new ≡ count.old) × IsLaidInPart from to rows.old rows.new dispatcher.now }
+    ensures { AreLagsTold from to dispatcher.now result (count.old, rows.old) (count.new, rows.new) }
 {
     if to > dispatcher.next_slot() {
         return NOT_PLANNED;
@@ -89,77 +81,43 @@ fn copy_lags(
     if dispatcher.forgotten() > 0 {
         return NOT_PLANNED;
     }
-    let Ok(wanted) = count_lags(alloc, dispatcher, from, to) else {
+    let Ok((wanted, lags)) = collect_lags(alloc, dispatcher, from, to, rows.len()) else {
         return MEMORY;
     };
+    *count = wanted;
     if wanted > rows.len() as u64 {
-        *count = wanted;
         return NO_ROOM;
     }
-    if write_lags(alloc, dispatcher, from, to, rows).is_err() {
-        return MEMORY;
-    }
-    *count = wanted;
+    rows[..lags.len()].copy_from_slice(&lags);
     DONE
 }
 
-/// Returns how many lags the slots `from` to `to` - 1 have, if no slot is forgotten; no more
-/// than fit into 64 bits. The cost is that of recording the slots 0 to `to` - 1 in a book.
-///
-/// # Errors
-/// Returns [`AllocError`] if an allocation fails.
-fn count_lags<R: Ready>(
+// Returns how many lags the slots `from` to `to` - 1 have, but no more than fit into 64 bits; and these lags, if they
+// are at most `room`: after each slot those of the tasks that stay, in the order of admission.
+fn collect_lags<R: Ready>(
     alloc: Global,
     dispatcher: &Dispatcher<R>,
     from: u64,
     to: u64,
-) -> Result<u64, AllocError>
+    room: usize,
+) -> Result<(u64, Vec<PfairLag>), AllocError>
     requires standing { dispatcher.now.forgotten ≡ 0 }
     requires planned { to ≤ length dispatcher.now.tables }
     requires forward { from ≤ to }
-    ensures { IfOk result (λ count. count ≡ min (length (lags_of dispatcher.now from to)) 18446744073709551615) }
+    ensures count { IfOk result (λ found. found.0 ≡ min (length (lags_of dispatcher.now from to)) 18446744073709551615) }
+    ensures lags { IfOk result (λ found. length (lags_of dispatcher.now from to) ≤ room → found.1.items ≡ lags_of dispatcher.now from to) }
 {
     // as many slots have decisions as have tables
     prove!(to <= dispatcher.next_slot());
     let mut book = book_after(alloc, dispatcher, from)?;
+    let mut lags = Vec::new(alloc);
     let mut count: u64 = 0;
     for slot in from..to {
         tell_slots(&mut book, dispatcher, slot + 1)?;
         count = count.saturating_add(book.len() as u64);
+        push_lags(&book, room, &mut lags)?;
     }
-    Ok(count)
-}
-
-/// Writes the lags in the slots `from` to `to` - 1 over the first rows, if no slot is forgotten:
-/// after each slot those of the tasks that stay, in the order of admission. O(rows), and the cost of
-/// recording the slots 0 to `to` - 1 in a book.
-///
-/// # Errors
-/// Returns [`AllocError`] if an allocation fails; the lags of some first slots may be written
-/// then.
-fn write_lags<R: Ready>(
-    alloc: Global,
-    dispatcher: &Dispatcher<R>,
-    from: u64,
-    to: u64,
-    rows: &mut [PfairLag],
-) -> Result<(), AllocError>
-    requires standing { dispatcher.now.forgotten ≡ 0 }
-    requires planned { to ≤ length dispatcher.now.tables }
-    requires forward { from ≤ to }
-    requires room { length (lags_of dispatcher.now from to) ≤ length rows.old }
-    ensures written { OnOk result (rows.new ≡ written_over (lags_of dispatcher.now from to) rows.old) }
-    ensures partly { OnErr result (IsPartlyLaid dispatcher.now from to rows.old rows.new) }
-{
-    // as many slots have decisions as have tables
-    prove!(to <= dispatcher.next_slot());
-    let mut book = book_after(alloc, dispatcher, from)?;
-    let mut at = 0;
-    for slot in from..to {
-        tell_slots(&mut book, dispatcher, slot + 1)?;
-        at = write_book(&book, at, rows);
-    }
-    Ok(())
+    Ok((count, lags))
 }
 
 // The book after the first slots, as many as these.
@@ -212,37 +170,31 @@ fn enter_at(
     Ok(())
 }
 
-// Writes the lags of a book over the rows from `at` on, and says where the next ones stand.
-fn write_book(book: &LagBook, at: usize, rows: &mut [PfairLag]) -> usize
-    requires { at + length book.now.entered ≤ length rows.old }
-    ensures rows { rows.new ≡ take at rows.old ++ written_over (book_rows book.now) (drop at rows.old) }
-    ensures next { result ≡ at + length book.now.entered }
+// Appends the lags of a book, if there are at most `room` then.
+fn push_lags(book: &LagBook, room: usize, lags: &mut Vec<PfairLag>) -> Result<(), AllocError>
+    ensures { OnOk result (length lags.old.items + length book.now.entered ≤ room → lags.new.items ≡ lags.old.items ++ book_rows book.now) }
 {
-    write_rows(book, &mut rows[at..]);
-    at + book.len()
-}
-
-// Writes the lags of a book over the first rows.
-fn write_rows(book: &LagBook, rows: &mut [PfairLag])
-    requires { length book.now.entered ≤ length rows.old }
-    ensures { rows.new ≡ written_over (book_rows book.now) rows.old }
-{
-    for place in 0..book.len() {
-        write_row(book, place, rows);
+    if !fits(book.len(), lags.len() as u64, room) {
+        return Ok(());
     }
+    for place in 0..book.len() {
+        push_lag(book, place, lags)?;
+    }
+    Ok(())
 }
 
-// Writes the lag of the task at a place of the book over the row at that place.
-fn write_row(book: &LagBook, place: usize, rows: &mut [PfairLag])
-    requires { place + 1 ≤ length rows.old }
-    ensures { (task : NameValue × Tally) → slice_get book.now.entered place ≡ Some task → rows.new ≡ set rows.old place (lag_row book.now.time task) }
+// Appends the lag of the task at a place of the book.
+fn push_lag(book: &LagBook, place: usize, lags: &mut Vec<PfairLag>) -> Result<(), AllocError>
+    ensures { OnOk result ((task : NameValue × Tally) → slice_get book.now.entered place ≡ Some task →
+        lags.new.items ≡ lags.old.items ++ lag_row book.now.time task ∷ []) }
 {
     if let Some((name, (numerator, period))) = book.row_at(place) {
-        rows[place] = PfairLag {
+        lags.push(PfairLag {
             time: book.time(),
             name: name_row(name),
             numerator,
             period,
-        };
+        })?;
     }
+    Ok(())
 }

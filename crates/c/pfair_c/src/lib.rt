@@ -19,12 +19,12 @@ mod plan;
 mod quanta;
 mod rows;
 mod table;
-mod take_log;
+mod take;
 mod version;
 mod window;
 
 pub use decisions::{PfairDecided, PfairDecision, pfair_decisions, pfair_decisions_of};
-pub use dispatcher::{pfair_absorb, pfair_close, pfair_next_run, pfair_open, pfair_take};
+pub use dispatcher::{pfair_absorb, pfair_close, pfair_next_run, pfair_open};
 pub use entry::PfairEntry;
 pub use file::{PfairFileFault, pfair_read_file};
 pub use held::{
@@ -41,6 +41,6 @@ pub use plan::{
 };
 pub use quanta::{PfairQuantum, pfair_quanta};
 pub use table::{PfairPick, pfair_places, pfair_table};
-pub use take_log::{PfairTakenLog, pfair_take_log};
+pub use take::{PfairTakenLog, pfair_take, pfair_take_log};
 pub use version::pfair_version;
 pub use window::{PfairWindow, pfair_window, pfair_windows};

@@ -1,8 +1,7 @@
 //! Who is there after the planned slots, in rows.
-ghost use Rattle.std.specs.Prelude.{◌≡◌, ◌≤◌, ◌+◌, None, true, false, length, map, set, slice_get};
+ghost use Rattle.std.specs.Prelude.{◌≡◌, ◌≤◌, ◌+◌, length, map, set, slice_get};
 ghost use Rattle.pfair_admission.specs.Member.{Member};
-ghost use Rattle.pfair_handle.specs.Kept.{is_kept};
-ghost use Rattle.pfair_handle.specs.Behind.{Of};
+ghost use Rattle.pfair_c.specs.Answered.{Reads};
 ghost use Rattle.pfair_c.specs.Members.{member_row};
 ghost use Rattle.pfair_c.specs.Rows.{written_over};
 ghost use Rattle.pfair_c.specs.Told.{AreMembersTold};
@@ -53,10 +52,7 @@ pub extern "C" fn pfair_members(
     count: &mut u64,
     rows: &mut [PfairMember],
 ) -> u32
-    ensures closed { handle.old.owner.kept ≡ None → (result ≡ 102) × (count.new ≡ count.old) × (rows.new ≡ rows.old) }
-    ensures spent { is_kept handle.old.owner.kept ≡ true → Of handle.old.owner.kept (λ d. d.spent ≡ true → (result ≡ 31) × (count.new ≡ count.old) × (rows.new ≡ rows.old)) }
-    ensures told { is_kept handle.old.owner.kept ≡ true → Of handle.old.owner.kept (λ d. d.spent ≡ false → AreMembersTold d result count.new rows.old rows.new) }
-    ensures unchanged { handle.new.owner.kept ≡ handle.old.owner.kept }
+    ensures { Reads handle.old.owner.kept handle.new.owner.kept result (count.old, rows.old) (count.new, rows.new) AreMembersTold }
 {
     tell_rows(alloc, handle, count, rows, |dispatcher, count, rows| {
         let Some(members) = dispatcher.members() else {

@@ -72,7 +72,8 @@ fn asked_weight(cost: u64, period: u64, horizon: u64) -> Result<Weight, u32>
     ensures weight { IfOk result (λ weight. weight ≡ record { cost = cost; period = period }) }
     ensures near { OnOk result (horizon ≤ MAX_HORIZON) }
     ensures asked { OnOk result (asked_answer cost period horizon ≡ 0) }
-    ensures refused { IfErr result (λ answer. (answer ≡ asked_answer cost period horizon) × (answer ≡ 0 → ⊥) × (answer ≡ 40 → ⊥) × (answer ≡ 41 → ⊥)) }
+    ensures refused { IfErr result (λ answer.
+        (answer ≡ asked_answer cost period horizon) × (answer ≡ 0 → ⊥) × (answer ≡ 40 → ⊥) × (answer ≡ 41 → ⊥)) }
 {
     let weight = match Weight::new(cost, period) {
         Ok(weight) => weight,

@@ -1,11 +1,9 @@
 //! The dispatcher behind a handle, for as long as one call takes.
-//!
-//! `tell`, `tell_rows` and `change` answer by a closure over the open dispatcher; or by 102 if there is
-//! none, and then nothing is written.
-ghost use Rattle.std.specs.Prelude.{◌≡◌, Some, None, true, Ok};
+ghost use Rattle.std.specs.Prelude.{◌≡◌, Some, None, true, Ok, IsSomeAnd};
+ghost use Rattle.std.specs.Fn.{FnOnceReturnsAtMut};
 ghost use Rattle.pfair_handle.specs.Kept.{is_kept};
 ghost use Rattle.pfair_handle.specs.Behind.{Of, Between};
-ghost use Rattle.pfair_c.specs.Open.{Tells, Changes};
+ghost use Rattle.pfair_c.specs.Open.{Tells};
 
 use crate::answer::{DONE, MEMORY, NOT_OPEN};
 use pfair_handle::{Handle, Served};
@@ -13,29 +11,28 @@ use pfair_ready::HeapReady;
 use pfair_table::Dispatcher;
 use std::alloc::{AllocError, Global};
 
-/// Tells something of the dispatcher, in two values.
-pub(crate) fn tell<A, B, F: FnOnce(&Dispatcher<HeapReady>, &mut A, &mut B) -> u32>(
+/// Calls a function with the dispatcher, and returns what it returns; or `None` if there is no dispatcher.
+pub(crate) fn with_open<T, F: FnOnce(&mut Dispatcher<HeapReady>) -> T>(
     alloc: Global,
     handle: &mut Handle,
-    first: &mut A,
-    second: &mut B,
-    told: F,
-) -> u32
-    requires { F.IsAlwaysCallable told }
-    ensures closed { handle.old.owner.kept ≡ None → (result ≡ 102) × (first.new ≡ first.old) × (second.new ≡ second.old) }
-    ensures told { is_kept handle.old.owner.kept ≡ true → Of handle.old.owner.kept (λ d. Tells F.FnOnce told d first.old second.old result first.new second.new) }
-    ensures unchanged { handle.new.owner.kept ≡ handle.old.owner.kept }
+    called: F,
+) -> Option<T>
+    requires { F.IsAlwaysCallable called }
+    ensures closed { handle.old.owner.kept ≡ None → (result ≡ None) × (handle.new.owner.kept ≡ None) }
+    ensures open { is_kept handle.old.owner.kept ≡ true →
+        IsSomeAnd result (λ told. Between handle.old.owner.kept handle.new.owner.kept (λ d e. FnOnceReturnsAtMut F.FnOnce called d told e)) }
 {
     if !handle.is_open() {
-        return NOT_OPEN;
+        return None;
     }
-    let served = handle.take(alloc);
-    let answer = told(&served.dispatcher, first, second);
+    let mut served = handle.take(alloc);
+    let told = called(&mut served.dispatcher);
     handle.put(served);
-    answer
+    Some(told)
 }
 
-/// Tells something of the dispatcher, in a count and rows.
+/// Tells something of the dispatcher in a count and rows, and returns what the function answers; or 102 if there is
+/// no dispatcher, and then nothing is written.
 pub(crate) fn tell_rows<B, F: FnOnce(&Dispatcher<HeapReady>, &mut u64, &mut [B]) -> u32>(
     alloc: Global,
     handle: &mut Handle,
@@ -44,8 +41,9 @@ pub(crate) fn tell_rows<B, F: FnOnce(&Dispatcher<HeapReady>, &mut u64, &mut [B])
     told: F,
 ) -> u32
     requires { F.IsAlwaysCallable told }
-    ensures closed { handle.old.owner.kept ≡ None → (result ≡ 102) × (count.new ≡ count.old) × (rows.new ≡ rows.old) }
-    ensures told { is_kept handle.old.owner.kept ≡ true → Of handle.old.owner.kept (λ d. Tells F.FnOnce told d count.old rows.old result count.new rows.new) }
+    ensures closed { handle.old.owner.kept ≡ None → (result ≡ NOT_OPEN) × (count.new ≡ count.old) × (rows.new ≡ rows.old) }
+    ensures told { is_kept handle.old.owner.kept ≡ true →
+        Of handle.old.owner.kept (λ d. Tells F.FnOnce told d count.old rows.old result count.new rows.new) }
     ensures unchanged { handle.new.owner.kept ≡ handle.old.owner.kept }
 {
     if !handle.is_open() {
@@ -53,26 +51,6 @@ pub(crate) fn tell_rows<B, F: FnOnce(&Dispatcher<HeapReady>, &mut u64, &mut [B])
     }
     let served = handle.take(alloc);
     let answer = told(&served.dispatcher, count, rows);
-    handle.put(served);
-    answer
-}
-
-/// Changes the dispatcher, and tells something in a value.
-pub(crate) fn change<A, F: FnOnce(&mut Dispatcher<HeapReady>, &mut A) -> u32>(
-    alloc: Global,
-    handle: &mut Handle,
-    told: &mut A,
-    changed: F,
-) -> u32
-    requires { F.IsAlwaysCallable changed }
-    ensures closed { handle.old.owner.kept ≡ None → (result ≡ 102) × (handle.new.owner.kept ≡ None) × (told.new ≡ told.old) }
-    ensures changed { is_kept handle.old.owner.kept ≡ true → Between handle.old.owner.kept handle.new.owner.kept (λ d e. Changes F.FnOnce changed d told.old result e told.new) }
-{
-    if !handle.is_open() {
-        return NOT_OPEN;
-    }
-    let mut served = handle.take(alloc);
-    let answer = changed(&mut served.dispatcher, told);
     handle.put(served);
     answer
 }
@@ -86,8 +64,8 @@ pub(crate) fn put_new(
     made: Result<Dispatcher<HeapReady>, AllocError>,
 ) -> u32
     requires { handle.old.owner.kept ≡ None }
-    ensures done { result ≡ 0 → (d : _) × (made ≡ Ok d) × (handle.new.owner.kept ≡ Some record { dispatcher = d }) }
-    ensures only { (result ≡ 0 → ⊥) → (result ≡ 90) × (handle.new.owner.kept ≡ None) }
+    ensures done { result ≡ DONE → (d : _) × (made ≡ Ok d) × (handle.new.owner.kept ≡ Some record { dispatcher = d }) }
+    ensures only { (result ≡ DONE → ⊥) → (result ≡ MEMORY) × (handle.new.owner.kept ≡ None) }
 {
     let Ok(dispatcher) = made else {
         return MEMORY;

@@ -1,15 +1,14 @@
 //! Plans, and how far they have come.
-ghost use Rattle.std.specs.Prelude.{◌≡◌, ◌≤◌, ◌⊎◌, None, true, false, length, max, min, IfOk, IfErr, OnOk};
+ghost use Rattle.std.specs.Prelude.{◌≡◌, ◌≤◌, ◌⊎◌, length, IfOk, IfErr, OnOk};
 ghost use Rattle.pfair_replica.specs.HeldRows.{replica_of};
-ghost use Rattle.pfair_replica.specs.Replica.{frontier, has_torn};
-ghost use Rattle.pfair_handle.specs.Kept.{is_kept};
-ghost use Rattle.pfair_handle.specs.Behind.{Of, Between};
+ghost use Rattle.pfair_replica.specs.Replica.{frontier};
 ghost use Rattle.pfair_table.specs.Faults.{plan_fault_number};
+ghost use Rattle.pfair_c.specs.Answered.{Reads, Changes, IsTold, nothing};
 ghost use Rattle.pfair_c.specs.Planning.{IsPlannedOn, IsStopOf, IsStoppedBy};
-ghost use Rattle.pfair_c.specs.Answers.{IsPlannedTo, IsRefusedTo, IsPlannedUpTo, IsStoppedAt, step_row, fault_row};
+ghost use Rattle.pfair_c.specs.Answers.{IsPlanAnswer, IsPlanToAnswer, IsReopened, forgetting, step_row, fault_row};
 
-use crate::answer::{DONE, MEMORY, OUT_OF_RANGE};
-use crate::open::{change, tell};
+use crate::answer::{DONE, MEMORY, NOT_OPEN, OUT_OF_RANGE};
+use crate::open::with_open;
 use pfair_handle::Handle;
 use pfair_ready::Ready;
 use pfair_table::{Dispatcher, PlanFault, Step};
@@ -37,14 +36,12 @@ pub struct PfairStep {
 /// costs.
 #[unsafe(no_mangle)]
 pub extern "C" fn pfair_plan_next(alloc: Global, handle: &mut Handle, step: &mut PfairStep) -> u32
-    ensures closed { handle.old.owner.kept ≡ None → (result ≡ 102) × (handle.new.owner.kept ≡ None) × (step.new ≡ step.old) }
-    ensures open { is_kept handle.old.owner.kept ≡ true → result ≡ 102 → ⊥ }
-    ensures planned { result ≡ 0 → Between handle.old.owner.kept handle.new.owner.kept (IsPlannedTo step.new) }
-    ensures refused { (result ≡ 0 → ⊥) → (result ≡ 102 → ⊥) → Between handle.old.owner.kept handle.new.owner.kept (IsRefusedTo result step.old step.new) }
+    ensures { Changes handle.old.owner.kept handle.new.owner.kept result step.old step.new IsPlanAnswer }
 {
-    change(alloc, handle, step, |dispatcher, step| {
-        write_step(dispatcher.plan_next(), step)
-    })
+    match with_open(alloc, handle, |dispatcher| dispatcher.plan_next()) {
+        Some(answer) => write_step(answer, step),
+        None => NOT_OPEN,
+    }
 }
 
 /// Plans until `until` slots are planned (1 or more), the next one isn't settled, or none is left.
@@ -60,19 +57,19 @@ pub extern "C" fn pfair_plan_to(
     until: u64,
     step: &mut PfairStep,
 ) -> u32
-    ensures closed { handle.old.owner.kept ≡ None → (result ≡ 102) × (handle.new.owner.kept ≡ None) }
-    ensures open { is_kept handle.old.owner.kept ≡ true → result ≡ 102 → ⊥ }
-    ensures out_of_range { result ≡ 100 → (until ≡ 0) × (handle.new.owner.kept ≡ handle.old.owner.kept) }
-    ensures untold { (result ≡ 100) ⊎ (result ≡ 102) → step.new ≡ step.old }
-    ensures planned { result ≡ 0 → Between handle.old.owner.kept handle.new.owner.kept (IsPlannedUpTo until step.new) }
-    ensures refused { (result ≡ 0 → ⊥) → (result ≡ 100 → ⊥) → (result ≡ 102 → ⊥) → Between handle.old.owner.kept handle.new.owner.kept (IsStoppedAt until result step.old step.new) }
+    ensures { Changes handle.old.owner.kept handle.new.owner.kept result step.old step.new (IsPlanToAnswer until) }
 {
-    change(alloc, handle, step, |dispatcher, step| {
+    let planned = with_open(alloc, handle, |dispatcher| {
         if until < 1 {
-            return OUT_OF_RANGE;
+            return None;
         }
-        write_step(plan_to(dispatcher, until), step)
-    })
+        Some(plan_to(dispatcher, until))
+    });
+    match planned {
+        Some(Some(answer)) => write_step(answer, step),
+        Some(None) => OUT_OF_RANGE,
+        None => NOT_OPEN,
+    }
 }
 
 // Plans until `until` slots are planned (1 or more), or the next one isn't settled, or none is
@@ -99,7 +96,7 @@ fn plan_to<R: Ready>(dispatcher: &mut Dispatcher<R>, until: u64) -> Result<Step,
 
 // Writes what a plan answered, and returns its number.
 fn write_step(answer: Result<Step, PlanFault>, step: &mut PfairStep) -> u32
-    ensures ok { IfOk answer (λ taken. (result ≡ 0) × (step.new ≡ step_row taken)) }
+    ensures ok { IfOk answer (λ taken. (result ≡ DONE) × (step.new ≡ step_row taken)) }
     ensures err { IfErr answer (λ fault. (result ≡ plan_fault_number fault) × (step.new ≡ fault_row fault step.old)) }
 {
     match answer {
@@ -141,16 +138,17 @@ fn step_row(step: Step) -> PfairStep
 /// and tables are as before in each case.
 #[unsafe(no_mangle)]
 pub extern "C" fn pfair_reserve(alloc: Global, handle: &mut Handle, slots: u64, tasks: u64) -> u32
-    ensures closed { handle.old.owner.kept ≡ None → result ≡ 102 }
-    ensures only { (result ≡ 0 → ⊥) → (result ≡ 90 → ⊥) → (result ≡ 102) × (handle.old.owner.kept ≡ None) }
-    ensures unchanged { handle.new.owner.kept ≡ handle.old.owner.kept }
+    ensures { Changes handle.old.owner.kept handle.new.owner.kept result nothing nothing
+        (λ d e answer _ _. ((answer ≡ DONE) ⊎ (answer ≡ MEMORY)) × (e ≡ d)) }
 {
-    change(alloc, handle, &mut (), |dispatcher, _| {
-        match dispatcher.reserve(slots, tasks as usize) {
-            Ok(()) => DONE,
-            Err(_) => MEMORY,
-        }
-    })
+    let reserved = with_open(alloc, handle, |dispatcher| {
+        dispatcher.reserve(slots, tasks as usize)
+    });
+    match reserved {
+        Some(Ok(())) => DONE,
+        Some(Err(_)) => MEMORY,
+        None => NOT_OPEN,
+    }
 }
 
 /// Forgets the tables, places and decisions of the planned slots below `slots`: their memory is freed,
@@ -160,14 +158,13 @@ pub extern "C" fn pfair_reserve(alloc: Global, handle: &mut Handle, slots: u64, 
 /// Answers 0; or 102 if the handle has no dispatcher.
 #[unsafe(no_mangle)]
 pub extern "C" fn pfair_forget(alloc: Global, handle: &mut Handle, slots: u64) -> u32
-    ensures closed { handle.old.owner.kept ≡ None → (result ≡ 102) × (handle.new.owner.kept ≡ None) }
-    ensures answer { is_kept handle.old.owner.kept ≡ true → result ≡ 0 }
-    ensures forgotten { is_kept handle.old.owner.kept ≡ true → Between handle.old.owner.kept handle.new.owner.kept (λ d e. e ≡ record d { forgotten = max d.forgotten (min slots (length d.tables)) }) }
+    ensures { Changes handle.old.owner.kept handle.new.owner.kept result nothing nothing
+        (λ d e answer _ _. (answer ≡ DONE) × (e ≡ forgetting slots d)) }
 {
-    change(alloc, handle, &mut (), |dispatcher, _| {
-        dispatcher.forget(slots);
-        DONE
-    })
+    match with_open(alloc, handle, |dispatcher| dispatcher.forget(slots)) {
+        Some(()) => DONE,
+        None => NOT_OPEN,
+    }
 }
 
 /// Rebuilds everything except the entries and the tables, after which plans go on. Forgotten
@@ -177,18 +174,13 @@ pub extern "C" fn pfair_forget(alloc: Global, handle: &mut Handle, slots: u64) -
 /// 90 if an allocation fails: the dispatcher is then spent, and else as before.
 #[unsafe(no_mangle)]
 pub extern "C" fn pfair_reopen(alloc: Global, handle: &mut Handle) -> u32
-    ensures closed { handle.old.owner.kept ≡ None → (result ≡ 102) × (handle.new.owner.kept ≡ None) }
-    ensures ok { result ≡ 0 → Between handle.old.owner.kept handle.new.owner.kept (λ d e. (e ≡ record d { spent = false }) × (has_torn (replica_of d.held) ≡ false)) }
-    ensures torn { result ≡ 30 → Between handle.old.owner.kept handle.new.owner.kept (λ d e. (e ≡ d) × (has_torn (replica_of d.held) ≡ true)) }
-    ensures memory { result ≡ 90 → Between handle.old.owner.kept handle.new.owner.kept (λ d e. (e ≡ record d { spent = true }) × (has_torn (replica_of d.held) ≡ false)) }
-    ensures only { (result ≡ 0 → ⊥) → (result ≡ 30 → ⊥) → (result ≡ 90 → ⊥) → (result ≡ 102) × (handle.old.owner.kept ≡ None) }
+    ensures { Changes handle.old.owner.kept handle.new.owner.kept result nothing nothing (λ d e answer _ _. IsReopened d e answer) }
 {
-    change(alloc, handle, &mut (), |dispatcher, _| {
-        match dispatcher.reopen() {
-            Ok(()) => DONE,
-            Err(fault) => fault.number() as u32,
-        }
-    })
+    match with_open(alloc, handle, |dispatcher| dispatcher.reopen()) {
+        Some(Ok(())) => DONE,
+        Some(Err(fault)) => fault.number() as u32,
+        None => NOT_OPEN,
+    }
 }
 
 /// Writes the frontier: below this slot every announcement is known. O(processors).
@@ -196,14 +188,14 @@ pub extern "C" fn pfair_reopen(alloc: Global, handle: &mut Handle) -> u32
 /// Answers 0; or 102 if the handle has no dispatcher, and then nothing is written.
 #[unsafe(no_mangle)]
 pub extern "C" fn pfair_frontier(alloc: Global, handle: &mut Handle, slot: &mut u64) -> u32
-    ensures closed { handle.old.owner.kept ≡ None → (result ≡ 102) × (slot.new ≡ slot.old) }
-    ensures open { is_kept handle.old.owner.kept ≡ true → (result ≡ 0) × Of handle.old.owner.kept (λ d. slot.new ≡ frontier (replica_of d.held)) }
-    ensures unchanged { handle.new.owner.kept ≡ handle.old.owner.kept }
+    ensures { Reads handle.old.owner.kept handle.new.owner.kept result slot.old slot.new (IsTold (λ d. frontier (replica_of d.held))) }
 {
-    tell(alloc, handle, slot, &mut (), |dispatcher, slot, _| {
-        *slot = dispatcher.replica().frontier();
-        DONE
-    })
+    let Some(frontier) = with_open(alloc, handle, |dispatcher| dispatcher.replica().frontier())
+    else {
+        return NOT_OPEN;
+    };
+    *slot = frontier;
+    DONE
 }
 
 /// Writes the slot that is planned next, which is how many are planned. O(1).
@@ -211,12 +203,11 @@ pub extern "C" fn pfair_frontier(alloc: Global, handle: &mut Handle, slot: &mut 
 /// Answers 0; or 102 if the handle has no dispatcher, and then nothing is written.
 #[unsafe(no_mangle)]
 pub extern "C" fn pfair_next_slot(alloc: Global, handle: &mut Handle, slot: &mut u64) -> u32
-    ensures closed { handle.old.owner.kept ≡ None → (result ≡ 102) × (slot.new ≡ slot.old) }
-    ensures open { is_kept handle.old.owner.kept ≡ true → (result ≡ 0) × Of handle.old.owner.kept (λ d. slot.new ≡ length d.tables) }
-    ensures unchanged { handle.new.owner.kept ≡ handle.old.owner.kept }
+    ensures { Reads handle.old.owner.kept handle.new.owner.kept result slot.old slot.new (IsTold (λ d. length d.tables)) }
 {
-    tell(alloc, handle, slot, &mut (), |dispatcher, slot, _| {
-        *slot = dispatcher.next_slot();
-        DONE
-    })
+    let Some(next) = with_open(alloc, handle, |dispatcher| dispatcher.next_slot()) else {
+        return NOT_OPEN;
+    };
+    *slot = next;
+    DONE
 }

@@ -1,14 +1,14 @@
 //! The quanta of several slots, in rows.
-ghost use Rattle.std.specs.Prelude.{◌≡◌, ◌≤◌, ◌+◌, ◌++◌, None, true, length, take, drop, slice_get};
-ghost use Rattle.pfair_handle.specs.Kept.{is_kept};
-ghost use Rattle.pfair_handle.specs.Behind.{Of};
+ghost use Rattle.std.specs.Prelude.{◌≡◌, ◌≤◌, ◌+◌, ◌*◌, ◌++◌, length, take, drop, slice_get};
+ghost use Rattle.pfair_c.specs.Answered.{Reads};
+ghost use Rattle.pfair_table.specs.Places.{places_in};
 ghost use Rattle.pfair_c.specs.Rows.{slot_of, quantum_row, quanta_in, quanta_at, quanta_of, written_over};
 ghost use Rattle.pfair_c.specs.Told.{AreTold, rows_count, quanta_between};
 
 use crate::answer::{DONE, NOT_PLANNED};
 use crate::name::{PfairName, name_row};
 use crate::open::tell_rows;
-use crate::rows::{are_told, lay_rows};
+use crate::rows::{are_told, fits, lay_rows};
 use pfair_handle::Handle;
 use pfair_ready::Ready;
 use pfair_table::{Dispatcher, Pick, Settings};
@@ -41,9 +41,8 @@ pub extern "C" fn pfair_quanta(
     count: &mut u64,
     rows: &mut [PfairQuantum],
 ) -> u32
-    ensures closed { handle.old.owner.kept ≡ None → (result ≡ 102) × (count.new ≡ count.old) × (rows.new ≡ rows.old) }
-    ensures told { is_kept handle.old.owner.kept ≡ true → Of handle.old.owner.kept (λ d. AreTold rows_count (quanta_between d from to) result count.old count.new rows.old rows.new) }
-    ensures unchanged { handle.new.owner.kept ≡ handle.old.owner.kept }
+    ensures { Reads handle.old.owner.kept handle.new.owner.kept result (count.old, rows.old) (count.new, rows.new)
+        (AreTold rows_count (quanta_between from to)) }
 {
     tell_rows(alloc, handle, count, rows, |dispatcher, count, rows| {
         if !are_told(dispatcher, from, to) {
@@ -53,76 +52,67 @@ pub extern "C" fn pfair_quanta(
             *count = 0;
             return DONE;
         }
-        let wanted = count_quanta(dispatcher, from, to);
+        let wanted = write_quanta(dispatcher, from, to, &mut []);
         lay_rows(wanted, count, rows, |rows| {
-            write_quanta(dispatcher, from, to, rows)
+            write_quanta(dispatcher, from, to, rows);
         })
     })
 }
 
-/// Returns how many quanta the slots `from` to `to` - 1, none of which is forgotten, have, if
-/// they are planned. O(slots).
-fn count_quanta<R: Ready>(dispatcher: &Dispatcher<R>, from: u64, to: u64) -> u64
-    requires standing { dispatcher.now.forgotten ≤ from }
-    requires few { to ≤ Settings.MAX_SLOTS }
-    ensures { result ≡ length (quanta_of dispatcher.now.origin dispatcher.now.tables from to) }
-{
-    let mut count = 0;
-    for slot in from..to {
-        count += count_slot(dispatcher, slot);
-    }
-    count
-}
-
-/// Writes the quanta of the slots `from` to `to` - 1, none of which is forgotten, over the first rows,
-/// slot by slot, each slot's in the order of its table. O(slots + quanta).
+// Returns how many quanta the slots `from` to `to` - 1, none of which is forgotten, have, if they are planned; and writes
+// them over the first rows, if there is room for all, slot by slot, each slot's in the order of its table.
+// O(slots + rows).
 fn write_quanta<R: Ready>(
     dispatcher: &Dispatcher<R>,
     from: u64,
     to: u64,
     rows: &mut [PfairQuantum],
-)
+) -> u64
     requires standing { dispatcher.now.forgotten ≤ from }
-    requires room { length (quanta_of dispatcher.now.origin dispatcher.now.tables from to) ≤ length rows.old }
-    ensures { rows.new ≡ written_over (quanta_of dispatcher.now.origin dispatcher.now.tables from to) rows.old }
+    requires few { to ≤ Settings.MAX_SLOTS }
+    ensures count { result ≡ length (quanta_of dispatcher.now.origin dispatcher.now.tables from to) }
+    ensures rows { length (quanta_of dispatcher.now.origin dispatcher.now.tables from to) ≤ length rows.old →
+        rows.new ≡ written_over (quanta_of dispatcher.now.origin dispatcher.now.tables from to) rows.old }
 {
-    let mut at = 0;
+    let mut count: u64 = 0;
     for slot in from..to {
-        at = write_slot(dispatcher, slot, at, rows);
+        count = write_slot(dispatcher, slot, count, rows);
     }
+    count
 }
 
-// How many quanta a slot has.
-fn count_slot<R: Ready>(dispatcher: &Dispatcher<R>, slot: u64) -> u64
-    requires { dispatcher.now.forgotten ≤ slot }
-    ensures value { result ≡ length (slot_of dispatcher.now.tables slot) }
-    ensures few { result ≤ Settings.MAX_PROCESSORS }
-{
-    // the contract of places bounds the rows of all tables by the processors
-    prove!(dispatcher.settings().processors() <= Settings::MAX_PROCESSORS);
-    prove!(dispatcher.places(slot).is_some() || dispatcher.places(slot).is_none());
-    match dispatcher.table(slot) {
-        Some(table) => table.len() as u64,
-        None => 0,
-    }
-}
-
-// Writes the quanta of a slot over the rows from `at` on, and says where the next ones stand.
+// Writes the quanta of a slot over the rows from `at` on, if there is room, and says where the next ones stand.
 fn write_slot<R: Ready>(
     dispatcher: &Dispatcher<R>,
     slot: u64,
-    at: usize,
+    at: u64,
     rows: &mut [PfairQuantum],
-) -> usize
+) -> u64
     requires standing { dispatcher.now.forgotten ≤ slot }
-    requires room { at + length (slot_of dispatcher.now.tables slot) ≤ length rows.old }
-    ensures rows { rows.new ≡ take at rows.old ++ written_over (quanta_at dispatcher.now.origin dispatcher.now.tables slot) (drop at rows.old) }
+    requires few { at ≤ Settings.MAX_PROCESSORS * Settings.MAX_SLOTS }
     ensures next { result ≡ at + length (slot_of dispatcher.now.tables slot) }
+    ensures few { result ≤ at + Settings.MAX_PROCESSORS }
+    ensures rows { at + length (slot_of dispatcher.now.tables slot) ≤ length rows.old →
+        rows.new ≡ take at rows.old ++ written_over (quanta_at dispatcher.now.origin dispatcher.now.tables slot) (drop at rows.old) }
 {
+    let (table, places) = planned_at(dispatcher, slot);
+    if fits(table.len(), at, rows.len()) {
+        write_rows(slot, table, places, &mut rows[at as usize..]);
+    }
+    at + table.len() as u64
+}
+
+// The table of a slot, and its places; none if it isn't planned.
+fn planned_at<R: Ready>(dispatcher: &Dispatcher<R>, slot: u64) -> (&[Pick], &[u8])
+    requires { dispatcher.now.forgotten ≤ slot }
+    ensures table { result.0.now ≡ slot_of dispatcher.now.tables slot }
+    ensures places { result.1.now ≡ slot_of (places_in dispatcher.now.origin dispatcher.now.tables) slot }
+    ensures few { length result.0.now ≤ Settings.MAX_PROCESSORS }
+{
+    // the contract of places bounds the rows of all tables by the processors
+    prove!(dispatcher.settings().processors() <= Settings::MAX_PROCESSORS);
     let places = dispatcher.places(slot).unwrap_or(&[]);
-    let table = dispatcher.table(slot).unwrap_or(&[]);
-    write_rows(slot, table, places, &mut rows[at..]);
-    at + table.len()
+    (dispatcher.table(slot).unwrap_or(&[]), places)
 }
 
 // Writes the quanta of a table over the first rows.

@@ -3,7 +3,7 @@
 //! Each call that writes rows answers 0 with the number of rows and the rows; 102 if the handle has no dispatcher; 104
 //! if a slot that is asked for isn't planned, or is forgotten; 103 with the number of rows wanted, if
 //! there are fewer. Nothing else is written.
-ghost use Rattle.std.specs.Prelude.{◌≡◌, ◌≤◌, ◌<◌, true, length, nat_le, if◌then◌else◌};
+ghost use Rattle.std.specs.Prelude.{◌≡◌, ◌≤◌, ◌<◌, ◌+◌, true, length, nat_le, if◌then◌else◌};
 ghost use Rattle.std.specs.Fn.{FnOnceTakesAtMut, FnOnceReturnsAtMut};
 ghost use Rattle.pfair_c.specs.Told.{are_told};
 
@@ -31,7 +31,7 @@ pub(crate) fn lay_rows<B, W: FnOnce(&mut [B])>(
     write: W,
 ) -> u32
     requires { wanted ≤ length rows.old → FnOnceTakesAtMut W.FnOnce write rows.old }
-    ensures answer { result ≡ (if nat_le wanted (length rows.old) then 0 else 103) }
+    ensures answer { result ≡ (if nat_le wanted (length rows.old) then DONE else NO_ROOM) }
     ensures count { count.new ≡ wanted }
     ensures written { wanted ≤ length rows.old → FnOnceReturnsAtMut W.FnOnce write rows.old tt rows.new }
     ensures unwritten { length rows.old < wanted → rows.new ≡ rows.old }
@@ -42,4 +42,11 @@ pub(crate) fn lay_rows<B, W: FnOnce(&mut [B])>(
     }
     write(rows);
     DONE
+}
+
+/// Whether there is room for so many rows behind the first `at`.
+pub(crate) fn fits(wanted: usize, at: u64, room: usize) -> bool
+    ensures { result ≡ nat_le (at + wanted) room }
+{
+    at <= room as u64 && wanted as u64 <= room as u64 - at
 }

@@ -1,7 +1,6 @@
 //! The table of a slot, and its places, in rows.
-ghost use Rattle.std.specs.Prelude.{◌≡◌, ◌≤◌, None, true, length, map};
-ghost use Rattle.pfair_handle.specs.Kept.{is_kept};
-ghost use Rattle.pfair_handle.specs.Behind.{Of};
+ghost use Rattle.std.specs.Prelude.{◌≡◌, ◌≤◌, length, map};
+ghost use Rattle.pfair_c.specs.Answered.{Reads};
 ghost use Rattle.pfair_c.specs.Rows.{pick_row, written_over};
 ghost use Rattle.pfair_c.specs.Told.{AreTold, rows_count, table_of, places_at};
 
@@ -32,9 +31,7 @@ pub extern "C" fn pfair_table(
     count: &mut u64,
     rows: &mut [PfairPick],
 ) -> u32
-    ensures closed { handle.old.owner.kept ≡ None → (result ≡ 102) × (count.new ≡ count.old) × (rows.new ≡ rows.old) }
-    ensures told { is_kept handle.old.owner.kept ≡ true → Of handle.old.owner.kept (λ d. AreTold rows_count (table_of d slot) result count.old count.new rows.old rows.new) }
-    ensures unchanged { handle.new.owner.kept ≡ handle.old.owner.kept }
+    ensures { Reads handle.old.owner.kept handle.new.owner.kept result (count.old, rows.old) (count.new, rows.new) (AreTold rows_count (table_of slot)) }
 {
     tell_rows(alloc, handle, count, rows, |dispatcher, count, rows| {
         let Some(table) = dispatcher.table(slot) else {
@@ -55,9 +52,7 @@ pub extern "C" fn pfair_places(
     count: &mut u64,
     rows: &mut [u8],
 ) -> u32
-    ensures closed { handle.old.owner.kept ≡ None → (result ≡ 102) × (count.new ≡ count.old) × (rows.new ≡ rows.old) }
-    ensures told { is_kept handle.old.owner.kept ≡ true → Of handle.old.owner.kept (λ d. AreTold rows_count (places_at d slot) result count.old count.new rows.old rows.new) }
-    ensures unchanged { handle.new.owner.kept ≡ handle.old.owner.kept }
+    ensures { Reads handle.old.owner.kept handle.new.owner.kept result (count.old, rows.old) (count.new, rows.new) (AreTold rows_count (places_at slot)) }
 {
     tell_rows(alloc, handle, count, rows, |dispatcher, count, rows| {
         let Some(places) = dispatcher.places(slot) else {

@@ -3,11 +3,10 @@
 //! Only this crate needs proofs by hand: of a box as its pointer, and of the pointer without its type.
 #![tactic(auto)]
 
-ghost use Rattle.std.specs.Prelude.{◌≡◌, true, false, None, Some, IfOk, IfErr, OnOk, OnErr, Err};
-ghost use Rattle.pfair_replica.specs.HeldRows.{held, replica_of, SameShape};
+ghost use Rattle.std.specs.Prelude.{◌≡◌, true, false, None, Some, IfErr, OnOk, OnErr, Err};
+ghost use Rattle.pfair_replica.specs.HeldRows.{replica_of, SameShape};
 ghost use Rattle.pfair_replica.specs.Replica.{Below};
-ghost use Rattle.pfair_replica.specs.Offered.{taken as offered_to};
-ghost use Rattle.pfair_replica.specs.Faults.{IsKeyOf, IsTakenAs, IsTakeFaultOf, IsMergeFaultOf};
+ghost use Rattle.pfair_replica.specs.Faults.{IsMergeFaultOf};
 ghost use Rattle.pfair_handle.specs.Kept.{is_kept};
 ghost use Rattle.pfair_handle.specs.Behind.{Of, Between, IsAbsorbedTo, IsPartlyAbsorbedTo};
 
@@ -17,8 +16,7 @@ mod served;
 
 use loose::Loose;
 pub use owner::Owner;
-use pfair_entry::Entry;
-use pfair_replica::{MergeFault, TakeFault, Taken};
+use pfair_replica::MergeFault;
 pub use served::Served;
 use std::alloc::Global;
 use std::mem::replace;
@@ -67,31 +65,6 @@ impl Handle {
         owner.close();
     }
 
-    /// Takes the entry, as [`Dispatcher::take`](pfair_table::Dispatcher::take).
-    ///
-    /// # Errors
-    /// Those of that call; the dispatcher is then as before.
-    pub fn offer(
-        &mut self,
-        alloc: Global,
-        processor: u8,
-        number: u32,
-        entry: Entry,
-    ) -> Result<Taken, TakeFault>
-        requires { is_kept self.old.owner.kept ≡ true }
-        ensures answer { IfOk result (λ how. Of self.old.owner.kept (λ d. IsTakenAs (held d.held processor number) entry how)) }
-        ensures key { OnOk result (Of self.old.owner.kept (λ d. IsKeyOf d.held processor number)) }
-        ensures fault { IfErr result (λ fault. Of self.old.owner.kept (λ d. IsTakeFaultOf d.held processor number fault)) }
-        ensures offered { OnOk result (Between self.old.owner.kept self.new.owner.kept (λ d e. replica_of e.held ≡ offered_to (replica_of d.held) processor number entry)) }
-        ensures rest { OnOk result (Between self.old.owner.kept self.new.owner.kept (λ d e. e ≡ record d { held = e.held })) }
-        ensures unchanged { OnErr result (self.new.owner.kept ≡ self.old.owner.kept) }
-    {
-        let mut served = self.take(alloc);
-        let answer = served.dispatcher.take(processor, number, entry);
-        self.put(served);
-        answer
-    }
-
     /// Takes all that the other holds, as
     /// [`Dispatcher::absorb`](pfair_table::Dispatcher::absorb).
     ///
@@ -102,7 +75,8 @@ impl Handle {
         requires other_open { is_kept other.old.owner.kept ≡ true }
         ensures joined { OnOk result (IsAbsorbedTo self.old.owner.kept other.old.owner.kept self.new.owner.kept) }
         ensures same_shape { OnOk result (Between self.old.owner.kept other.old.owner.kept (λ d o. SameShape d.held o.held)) }
-        ensures fault { IfErr result (λ fault. Between self.old.owner.kept other.old.owner.kept (λ d o. IsMergeFaultOf d.held o.held fault)) }
+        ensures fault { IfErr result (λ fault.
+            Between self.old.owner.kept other.old.owner.kept (λ d o. IsMergeFaultOf d.held o.held fault)) }
         ensures unchanged { result ≡ Err MergeFault.OtherShape → self.new.owner.kept ≡ self.old.owner.kept }
         ensures partly { OnErr result (IsPartlyAbsorbedTo self.old.owner.kept other.old.owner.kept self.new.owner.kept) }
         ensures rest { Between self.old.owner.kept self.new.owner.kept (λ d e. e ≡ record d { held = e.held }) }
@@ -122,7 +96,8 @@ impl Handle {
         requires open { is_kept self.old.owner.kept ≡ true }
         requires other_open { is_kept other.old.owner.kept ≡ true }
         ensures below { result ≡ true → Between self.old.owner.kept other.old.owner.kept (λ d o. Below (replica_of d.held) (replica_of o.held)) }
-        ensures not_below { result ≡ false → Between self.old.owner.kept other.old.owner.kept (λ d o. Below (replica_of d.held) (replica_of o.held) → ⊥) }
+        ensures not_below { result ≡ false →
+            Between self.old.owner.kept other.old.owner.kept (λ d o. Below (replica_of d.held) (replica_of o.held) → ⊥) }
         ensures unchanged { self.new.owner.kept ≡ self.old.owner.kept }
         ensures other { other.new.owner.kept ≡ other.old.owner.kept }
     {

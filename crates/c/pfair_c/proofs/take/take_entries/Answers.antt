@@ -2,7 +2,7 @@ use Rattle.std.proofs.Common.{rules, ◌≡◌, ◌<◌, ◌+◌, length, arith}
 use Rattle.pfair_replica.specs.HeldRows.{replica_of}
 use Rattle.pfair_replica.specs.Replica.{Replica}
 use Rattle.pfair_c.proofs.TakingFacts.{next-taking, next-of-log, same-key, counted-more, err-of, refused-at}
-use Rattle.pfair_c.proofs.take_log.take_entries.Goals as goal
+use Rattle.pfair_c.proofs.take.take_entries.Goals as goal
 
 pub returns-in_err-how-clause-refused : goal.returns-in_err-how-clause-refused
 returns-in_err-how-clause-refused g c =

@@ -1,7 +1,7 @@
 use Rattle.std.proofs.Common.{◌≡◌, ◌+◌, take}
 use Rattle.pfair_replica.specs.HeldRows.{replica_of}
-use Rattle.pfair_c.specs.TakenLog.{AreOfLog, all_taken, untaken}
-use Rattle.pfair_c.proofs.take_log.take_entries.Given as goal
+use Rattle.pfair_c.specs.Taking.{AreOfLog, all_taken, untaken}
+use Rattle.pfair_c.proofs.take.take_entries.Given as goal
 
 -- the first entries are taken and counted, and stand under the first numbers
 abbrev pub invariant-loop-entry : goal.invariant-loop-entry

@@ -1,11 +1,11 @@
 -- Entries of one log, taken one after another.
-use Rattle.std.specs.Prelude.{ℕ, suc, ⊤, ◌≡◌, ◌≤◌, ◌<◌, ◌⊎◌, true, if◌then◌else◌, List, [], ◌∷◌, length, take, slice_get}
+use Rattle.std.specs.Prelude.{ℕ, suc, ⊤, ◌≡◌, ◌+◌, ◌≤◌, ◌<◌, ◌⊎◌, true, if◌then◌else◌, List, [], ◌∷◌, length, take, slice_get}
 use Rattle.std.specs.declared.option.Option.TheVariants.{None, Some}
 use Rattle.pfair_lattice.specs.declared.flat.Flat.TheVariants.{One, Torn as TornContent}
 use Rattle.pfair_lattice.specs.Held.{Held}
 use Rattle.pfair_entry.specs.Entry.{Logged}
 use Rattle.pfair_entry.specs.Same.{entry_eq}
-use Rattle.pfair_replica.specs.HeldRows.{HeldRows, replica_of}
+use Rattle.pfair_replica.specs.HeldRows.{HeldRows, held, replica_of}
 use Rattle.pfair_replica.specs.Replica.{Replica}
 use Rattle.pfair_replica.specs.Offered.{has_key, taken}
 use Rattle.pfair_replica.specs.Faults.{IsTakeFaultOf}
@@ -14,8 +14,10 @@ use Rattle.pfair_replica.specs.declared.answer.Taken.TheVariants.{New, Known, To
 use Rattle.pfair_replica.specs.declared.answer.TakeFault.TheVariants.{NoSuchProcessor, NumberOutOfRange, Memory}
 use Rattle.pfair_table.specs.Refinement.{Dispatch}
 use Rattle.pfair_c.specs.Entries.{logged_of, IsMeant, IsEntryFault}
+use Rattle.pfair_c.specs.Held.{key_answer}
+use Rattle.pfair_c.specs.declared.answer.TheConstants.{DONE, MEMORY, NO_SUCH_NUMBER, NO_SUCH_PROCESSOR}
 use Rattle.pfair_c.specs.declared.entry.PfairEntry.{PfairEntry}
-use Rattle.pfair_c.specs.declared.take_log.PfairTakenLog.{PfairTakenLog}
+use Rattle.pfair_c.specs.declared.take.PfairTakenLog.{PfairTakenLog}
 
 -- what an entry meets if this is held
 abbrev pub met : Held Logged → Logged → Taken
@@ -63,11 +65,49 @@ pub record IsTakenTo (k n : ℕ) (entries : List PfairEntry) (counted : PfairTak
 abbrev pub IsRefusal : HeldRows → (k n : ℕ) → PfairEntry → ℕ → Type 0
 IsRefusal x k n e answer =
     IsEntryFault e answer
-    ⊎ (IsMeant e × (((answer ≡ 13) × IsTakeFaultOf x k n NoSuchProcessor)
-    ⊎ (((answer ≡ 14) × IsTakeFaultOf x k n NumberOutOfRange)
-    ⊎ ((answer ≡ 90) × IsTakeFaultOf x k n Memory))))
+    ⊎ (IsMeant e × (((answer ≡ NO_SUCH_PROCESSOR) × IsTakeFaultOf x k n NoSuchProcessor)
+    ⊎ (((answer ≡ NO_SUCH_NUMBER) × IsTakeFaultOf x k n NumberOutOfRange)
+    ⊎ ((answer ≡ MEMORY) × IsTakeFaultOf x k n Memory))))
 
 -- the entry at a place isn't taken, as number n
 abbrev pub IsRefusedAt : HeldRows → (k n : ℕ) → List PfairEntry → (place answer : ℕ) → Type 0
 IsRefusedAt x k n entries place answer =
     (place < length entries) × ((e : PfairEntry) → slice_get entries place ≡ Some e → IsRefusal x k n e answer)
+
+-- ---- what the calls answer
+
+-- no entries are taken: there is no such log, or no such number in it
+abbrev pub IsKeyFault : (k n answer taken : ℕ) → HeldRows → Type 0
+IsKeyFault k n answer taken x = (key_answer x k n ≡ DONE → ⊥) → (answer ≡ key_answer x k n) × (taken ≡ 0)
+
+-- after so many entries were taken from number n on, the next one is refused
+abbrev pub IsRefusedAfter : (taken : ℕ) → (k n : ℕ) → List PfairEntry → (answer : ℕ) → HeldRows → Type 0
+IsRefusedAfter taken k n entries answer x = key_answer x k n ≡ DONE → IsRefusedAt x k (n + taken) entries taken answer
+
+-- how an entry was taken, as C has it
+abbrev pub how_number : Taken → ℕ
+how_number New = 0
+how_number Known = 1
+how_number Torn = 2
+
+-- the dispatcher d takes this for entry n of the log of k, and is e then
+pub record IsTakenFor (k n : ℕ) (entry : PfairEntry) (how : ℕ) (d e : Dispatch) : Type 0 where
+  pub meant : IsMeant entry
+  pub key : has_key (replica_of d.held) k n ≡ true
+  pub how_met : how ≡ how_number (met (held d.held k n) (logged_of entry))
+  pub offered : replica_of e.held ≡ taken (replica_of d.held) k n (logged_of entry)
+  pub rest : e ≡ record d { held = e.held }
+
+-- the answer is 0 and it is taken, or why it is refused, and nothing changes
+pub record IsTakeAnswer (k n : ℕ) (entry : PfairEntry) (d e : Dispatch) (answer how how' : ℕ) : Type 0 where
+  pub done : answer ≡ DONE → IsTakenFor k n entry how' d e
+  pub refused : (answer ≡ DONE → ⊥) → IsRefusal d.held k n entry answer
+  pub unchanged : (answer ≡ DONE → ⊥) → (e ≡ d) × (how' ≡ how)
+
+-- the first of these entries are taken and counted, up to the first that is refused: all of them exactly if the answer is 0, else it says why
+-- that one is refused, or that there is no log of k or no number n in it
+pub record IsTakeLogAnswer (k n : ℕ) (entries : List PfairEntry) (d e : Dispatch) (answer : ℕ) (old new : PfairTakenLog) : Type 0 where
+  pub first : IsTakenTo k n entries new d e
+  pub no_key : IsKeyFault k n answer new.taken d.held
+  pub all : answer ≡ DONE → new.taken ≡ length entries
+  pub refused : (answer ≡ DONE → ⊥) → IsRefusedAfter new.taken k n entries answer e.held

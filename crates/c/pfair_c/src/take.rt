@@ -1,17 +1,15 @@
-//! Several entries of one log at once.
-ghost use Rattle.std.specs.Prelude.{◌≡◌, ◌≤◌, ◌<◌, ◌+◌, None, true, length, IfOk, IfErr, OnOk, OnErr};
+//! Entries, one or several of a log at once.
+ghost use Rattle.std.specs.Prelude.{◌≡◌, ◌≤◌, ◌<◌, ◌+◌, true, length, IfOk, IfErr, OnOk, OnErr};
 ghost use Rattle.pfair_replica.specs.HeldRows.{held, replica_of};
 ghost use Rattle.pfair_replica.specs.Offered.{has_key, taken as offered_to};
-ghost use Rattle.pfair_handle.specs.Kept.{is_kept};
-ghost use Rattle.pfair_handle.specs.Behind.{Of, Between};
+ghost use Rattle.pfair_c.specs.Answered.{Changes};
 ghost use Rattle.pfair_c.specs.Entries.{logged_of, IsMeant};
-ghost use Rattle.pfair_c.specs.TakenLog.{met, one_more, IsTakenTo, IsRefusal, IsRefusedAt};
-ghost use Rattle.pfair_c.specs.Held.{IsKeyFault, IsRefusedAfter};
+ghost use Rattle.pfair_c.specs.Taking.{met, one_more, IsTakenTo, IsRefusal, IsRefusedAt, IsTakeAnswer, IsTakeLogAnswer};
 
-use crate::answer::DONE;
+use crate::answer::{DONE, NOT_OPEN};
 use crate::entry::{PfairEntry, read_entry};
 use crate::held::key_answer;
-use crate::open::change;
+use crate::open::with_open;
 use pfair_handle::Handle;
 use pfair_ready::{HeapReady, Ready};
 use pfair_replica::Taken;
@@ -32,12 +30,62 @@ pub struct PfairTakenLog {
     pub torn: u64,
 }
 
+/// Takes entry `number` (from 1) of the log of `processor` (from 0).
+///
+/// Answers 0, with `taken` 0 if nothing was held there, 1 if an equal entry was, and 2 if anything
+/// else was: then that number is torn. 102 if the handle has no dispatcher; 100 if a number is out of
+/// its range, 1 to 10 for what is wrong with the entry; 13 or 14 if there is no such processor or
+/// number; 90 if an allocation fails. Nothing changes except after 0. Costs what [`Dispatcher::take`]
+/// costs.
+#[unsafe(no_mangle)]
+pub extern "C" fn pfair_take(
+    alloc: Global,
+    handle: &mut Handle,
+    processor: u8,
+    number: u32,
+    entry: &PfairEntry,
+    taken: &mut u64,
+) -> u32
+    ensures { Changes handle.old.owner.kept handle.new.owner.kept result taken.old taken.new (IsTakeAnswer processor number entry.now) }
+{
+    let before = *taken;
+    let done = with_open(alloc, handle, |dispatcher| {
+        take_as(dispatcher, processor, number, entry, before)
+    });
+    match done {
+        Some((answer, how)) => {
+            *taken = how;
+            answer
+        }
+        None => NOT_OPEN,
+    }
+}
+
+// Takes an entry under a number, and returns the answer, and how it was taken, or `before` if it wasn't.
+fn take_as(
+    dispatcher: &mut Dispatcher<HeapReady>,
+    processor: u8,
+    number: u32,
+    entry: &PfairEntry,
+    before: u64,
+) -> (u32, u64)
+    ensures answer { IsTakeAnswer processor number entry.now dispatcher.old dispatcher.new result.0 before result.1 }
+    ensures open { result.0 ≡ NOT_OPEN → ⊥ }
+{
+    match take_one(dispatcher, processor, number, entry) {
+        Ok(Taken::New) => (DONE, 0),
+        Ok(Taken::Known) => (DONE, 1),
+        Ok(Taken::Torn) => (DONE, 2),
+        Err(answer) => (answer, before),
+    }
+}
+
 /// Takes entries of the log of `processor` (from 0) under the numbers from `first` on, each as
-/// [`pfair_take`](crate::pfair_take), and stops at the first that is refused.
+/// [`pfair_take`], and stops at the first that is refused.
 ///
 /// Answers 0; 102 if the handle has no dispatcher; 13 or 14 if there is no such processor, or no
 /// number `first` in its log, even without entries; or that with which
-/// [`pfair_take`](crate::pfair_take) refuses an entry: those before it stay taken. Except after 102 it
+/// [`pfair_take`] refuses an entry: those before it stay taken. Except after 102 it
 /// writes how many were taken, and how many of them met nothing, an equal entry, and anything else.
 /// Costs what these calls cost.
 #[unsafe(no_mangle)]
@@ -49,56 +97,53 @@ pub extern "C" fn pfair_take_log(
     counted: &mut PfairTakenLog,
     entries: &[PfairEntry],
 ) -> u32
-    ensures closed { handle.old.owner.kept ≡ None → (result ≡ 102) × (counted.new ≡ counted.old) × (handle.new.owner.kept ≡ None) }
-    ensures open { is_kept handle.old.owner.kept ≡ true → result ≡ 102 → ⊥ }
-    ensures taken { is_kept handle.old.owner.kept ≡ true → Between handle.old.owner.kept handle.new.owner.kept (IsTakenTo processor first entries.now counted.new) }
-    ensures no_key { is_kept handle.old.owner.kept ≡ true → Of handle.old.owner.kept (λ d. IsKeyFault processor first result counted.new.taken d.held) }
-    ensures all { result ≡ 0 → counted.new.taken ≡ length entries.now }
-    ensures refused { (result ≡ 0 → ⊥) → (result ≡ 102 → ⊥) → Of handle.new.owner.kept (λ d. IsRefusedAfter counted.new.taken processor first entries.now result d.held) }
+    ensures { Changes handle.old.owner.kept handle.new.owner.kept result counted.old counted.new (IsTakeLogAnswer processor first entries.now) }
 {
-    change(alloc, handle, counted, |dispatcher, counted| {
-        take_log(dispatcher, processor, first, counted, entries)
-    })
+    let taken = with_open(alloc, handle, |dispatcher| {
+        take_log(dispatcher, processor, first, entries)
+    });
+    match taken {
+        Some((answer, taken)) => {
+            *counted = taken;
+            answer
+        }
+        None => NOT_OPEN,
+    }
 }
 
-// Takes the entries, if the log is there and has such a number.
+// Takes the entries, if the log is there and has such a number, and counts them.
 fn take_log(
     dispatcher: &mut Dispatcher<HeapReady>,
     processor: u8,
     first: u32,
-    counted: &mut PfairTakenLog,
     entries: &[PfairEntry],
-) -> u32
-    ensures taken { IsTakenTo processor first entries.now counted.new dispatcher.old dispatcher.new }
-    ensures no_key { IsKeyFault processor first result counted.new.taken dispatcher.old.held }
-    ensures all { result ≡ 0 → counted.new.taken ≡ length entries.now }
-    ensures refused { (result ≡ 0 → ⊥) → IsRefusedAfter counted.new.taken processor first entries.now result dispatcher.new.held }
-    ensures open { result ≡ 102 → ⊥ }
+) -> (u32, PfairTakenLog)
+    ensures answer { IsTakeLogAnswer processor first entries.now dispatcher.old dispatcher.new result.0 result.1 result.1 }
+    ensures open { result.0 ≡ NOT_OPEN → ⊥ }
 {
+    let mut counted = PfairTakenLog {
+        taken: 0,
+        fresh: 0,
+        known: 0,
+        torn: 0,
+    };
     let answer = key_answer(dispatcher.replica(), processor, first);
     if answer != DONE {
-        *counted = PfairTakenLog {
-            taken: 0,
-            fresh: 0,
-            known: 0,
-            torn: 0,
-        };
-        return answer;
+        return (answer, counted);
     }
-    match take_entries(dispatcher, processor, first, entries, counted) {
-        Ok(()) => DONE,
-        Err(number) => number,
+    match take_entries(dispatcher, processor, first, entries, &mut counted) {
+        Ok(()) => (DONE, counted),
+        Err(number) => (number, counted),
     }
 }
 
-/// Takes entries of the log of a processor, the first of them under the number `first` and each next
-/// one under the next, up to the first that is refused, and counts them. The cost is that of
-/// [`Dispatcher::take`] for each.
-///
-/// # Errors
-/// The number of what is wrong with the entry after those that were taken, as of
-/// [`read_entry`]; or that of the fault with which the dispatcher refused it. The entries before it
-/// stay taken.
+// Takes entries of the log of a processor, the first of them under the number `first` and each next
+// one under the next, up to the first that is refused, and counts them. The cost is that of
+// [`Dispatcher::take`] for each.
+//
+// The error is the number of what is wrong with the entry after those that were taken, as of
+// [`read_entry`]; or that of the fault with which the dispatcher refused it. The entries before it
+// stay taken.
 fn take_entries<R: Ready>(
     dispatcher: &mut Dispatcher<R>,
     processor: u8,

@@ -2,7 +2,7 @@ use Rattle.std.proofs.Common.{rules}
 use Rattle.pfair_replica.specs.HeldRows.{held}
 use Rattle.pfair_c.specs.Entries.{logged_of}
 use Rattle.pfair_c.proofs.TakingFacts.{met-is}
-use Rattle.pfair_c.proofs.take_log.take_one.Goals as goal
+use Rattle.pfair_c.proofs.take.take_one.Goals as goal
 
 pub returns-in-Ok-clause-answer : goal.returns-in-Ok-clause-answer
 returns-in-Ok-clause-answer g c =

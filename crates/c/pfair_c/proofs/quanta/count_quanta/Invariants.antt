@@ -1,7 +1,0 @@
-use Rattle.std.proofs.Common.{◌≡◌, ◌-◌, ◌*◌, ◌≤◌, length}
-use Rattle.pfair_c.specs.Rows.{quanta_at, rows_of}
-use Rattle.pfair_c.proofs.quanta.count_quanta.Given as goal
-
-abbrev pub invariant-loop-slot : goal.invariant-loop-slot
-invariant-loop-slot g l =
-    (l.from ≤ l.slot) × (l.slot - l.from ≤ l.to - l.from) × (l.count ≡ length (rows_of (quanta_at l.dispatcher.origin l.dispatcher.tables) l.from (l.slot - l.from))) × (l.count ≤ 64 * (l.slot - l.from))
