@@ -504,9 +504,9 @@ struct pfair_step {
  * late releases accepted of the tasks that these name; O(n) more if a task is freed; and a look-up for each entry taken
  * since the last plan. Entries taken before that cost nothing.
  *
- * It allocates a table and places for each slot in which a task runs, some 72 KB every 1,024 slots, and room for what
- * is announced and for tasks, which doubles now and then when more tasks are members than ever before. Nothing that was
- * planned is copied. pfair_reserve allocates ahead.
+ * It allocates a table and places for each slot in which a task runs, and room for what is announced. Two things double
+ * now and then: the list of slots that aren't forgotten, which moves 72 bytes for each, and the room for tasks when more
+ * are members than ever before. pfair_reserve allocates ahead.
  */
 uint32_t pfair_plan_next(struct pfair_dispatcher *d, struct pfair_step *step);
 
@@ -539,13 +539,12 @@ uint32_t pfair_reserve(struct pfair_dispatcher *d, uint64_t slots, uint64_t task
  * Forgets the tables, places and decisions of all slots below `slots`, or of all that are planned if these are fewer.
  * Calls answer 104 for these slots from now on. Plans, members and entries are as if they were still there.
  *
- * pfair_lags then answers 104 for all slots of the run, since it counts from slot 0 on. After t slots, counted over all
- * runs, the lag of a member (pfair_members) that isn't departing is its period-th part of
- * cost * (t - joined) - period * (next - 1).
+ * pfair_lags then answers 104 for all slots of the run, since it counts from slot 0 on; pfair_members still has the lags
+ * after the last planned slot.
  *
- * The call frees memory in blocks of 1,024 slots, counted from slot 0: those of which all slots are forgotten and a
- * later slot is planned. Of each block 16 bytes stay. So the memory of a run hardly grows if this is called again and
- * again. O(slots freed).
+ * The call frees the memory of these slots or keeps it for slots to come, but for that of the last planned slot. The list
+ * of slots keeps 72 bytes for each of the most that it had at once. So the memory of a run doesn't grow if this is called
+ * again and again. O(slots freed).
  */
 uint32_t pfair_forget(struct pfair_dispatcher *d, uint64_t slots);
 

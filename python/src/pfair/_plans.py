@@ -101,8 +101,8 @@ def reserve(self: Dispatcher, slots: int, tasks: int) -> None:
 def forget(self: Dispatcher, slots: int) -> None:
     """Forgets the tables, places and decisions of all planned slots below `slots`.
 
-    Later plans and `members` are as if these slots were still there. Their memory is freed 1,024 slots at a time,
-    as soon as a later slot is planned, so the memory of a long run hardly grows.
+    Later plans and `members` are as if these slots were still there. Their memory is freed, but for that of the last
+    planned slot, or used for slots to come, so the memory of a long run doesn't grow.
 
     Parameters
     ----------

@@ -1,5 +1,7 @@
 -- The dispatcher's invariant through plans.
 use Rattle.std.proofs.Common.{ℕ, zero, suc, min, ◌≤◌, ◌<◌, ◌≡◌, refl, sym, ap, ◌∙◌, arith, Bool, false, List, [], ◌∷◌, ◌++◌, length, map, None}
+use Rattle.std.specs.Prelude.{◌≢◌, ◌&&◌, not, nat_lt, IsTrue, if◌then◌else◌}
+use Rattle.std.proofs.lemmas.Bool.{le-ltb}
 use Rattle.std.proofs.lemmas.List.{map-append}
 use Rattle.std.proofs.lemmas.Option.{none-some}
 use Rattle.pfair_replica.specs.HeldRows.{HeldRows, replica_of}
@@ -10,11 +12,36 @@ use Rattle.pfair_table.proofs.Members.{named_before}
 use Rattle.pfair_ready.specs.Queue.{Queue}
 use Rattle.pfair_admission.specs.Roster.{Roster}
 use Rattle.pfair_table.specs.declared.pick.Decided.{Decided}
+use Rattle.pfair_table.specs.declared.answer.Step.{Step}
+use Rattle.pfair_table.specs.declared.answer.Step.TheVariants.{Planned, Waiting, Done}
+use Rattle.pfair_table.specs.Events.{Course, is_plannable, with_next_slot}
+use Rattle.pfair_table.specs.Planned.{PlannedSlots, with_next}
 use Rattle.pfair_table.specs.Table.{Settings, Origin, Table, members_before, history_from, table_from, decisions_from, plan_from}
 use Rattle.pfair_table.specs.Laws.{IsOf}
-use Rattle.pfair_table.specs.Refinement.{IsPlanOf, IsInStep, IsKept, IsWholePlan}
+use Rattle.pfair_table.specs.Refinement.{Dispatch, IsPlanOf, IsInStep, IsKept, IsNextStep, IsWholePlan, course_of}
 use Rattle.pfair_replica.proofs.TornKeys.{untorn_by_test}
 use Rattle.pfair_table.proofs.Steps.{plan_of_held, step_of_held, plan_next_slot}
+
+-- ---- whether the next slot can be planned
+
+one_false : (a b c : Bool) → b ≡ false → (a && (b && c)) ≡ false
+one_false a b c e = grind arith
+
+both_false : (a b c : Bool) → c ≡ false → (a && (b && c)) ≡ false
+both_false a b c e = grind arith
+
+pub next_planned : (s : Settings) (x : Replica) (n slot : ℕ) (step : Step) → IsNextStep s x n step → step ≡ Planned slot → (n < frontier x) × (n < s.slots) × (slot ≡ n) × IsTrue (is_plannable s x n)
+next_planned s x n slot (Planned m) is same = (let m_is : m ≡ slot = cc in let at = is.0 in let can = is.1 in grind (arith, m_is))
+next_planned s x n slot (Waiting from) is same = absurd (cc)
+next_planned s x n slot Done is same = absurd (cc)
+
+pub next_none : (s : Settings) (x : Replica) (n : ℕ) (step : Step) → IsNextStep s x n step → ((slot : ℕ) → step ≢ Planned slot) → (is_plannable s x n ≡ false) × (min (frontier x) s.slots ≤ n)
+next_none s x n (Planned slot) is other = absurd (other slot refl)
+next_none s x n (Waiting from) is other =
+    (let at = is.1 in let le = is.2 in
+    let far : frontier x ≤ n = omega (arith, at, le) in
+    (one_false (not (has_torn x)) (nat_lt n (frontier x)) (nat_lt n s.slots) (le-ltb n (frontier x) far), omega (arith, far)))
+next_none s x n Done is other = (both_false (not (has_torn x)) (nat_lt n (frontier x)) (nat_lt n s.slots) (le-ltb n s.slots is), omega (arith, is))
 
 -- the tables of the slots so far, one for each
 pub tables_listed : (o : Origin) (s : Settings) (x : Replica) (n : ℕ) → (history_from o s x n).tables ≡ map (table_from o s x) (numbers_below n)
@@ -69,3 +96,17 @@ start_kept {s} {x} began e few step =
     let none : (k n : ℕ) → x.at k n ≡ None = λ k n. ap (λ (r : Replica). r.at k n) e in
     let many : x.processors ≡ s.processors = ap (λ (r : Replica). r.processors) e in
     grind (arith, none-some)
+
+-- with the next slot planned, as it happens
+pub course_next : (s : Settings) (p : PlannedSlots) (x : HeldRows) → p.settings ≡ s → IsTrue (is_plannable s (replica_of x) (length p.tables))
+    → record { origin = p.origin; held = replica_of x; tables = (with_next p x).tables; decided = (with_next p x).decided }
+    ≡ (let c : Course = record { origin = p.origin; held = replica_of x; tables = p.tables; decided = p.decided } in
+    if is_plannable s (replica_of x) (length p.tables) then with_next_slot s c else c)
+course_next s p x same can =
+    let c : Course = record { origin = p.origin; held = replica_of x; tables = p.tables; decided = p.decided } in
+    ap (λ (r : Settings). with_next_slot r c) same ∙ ap (λ b. if b then with_next_slot s c else c) (sym can)
+
+-- and with none planned
+pub course_same : (d : Dispatch) → is_plannable d.settings (replica_of d.held) (length d.tables) ≡ false
+    → course_of d ≡ (if is_plannable d.settings (replica_of d.held) (length d.tables) then with_next_slot d.settings (course_of d) else course_of d)
+course_same d none = ap (λ b. if b then with_next_slot d.settings (course_of d) else course_of d) (sym none)

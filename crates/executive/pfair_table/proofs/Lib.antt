@@ -10,6 +10,7 @@ pub mod FirstSubtasks
 mod Slots
 mod Steps
 mod Keeping
+mod Kept
 pub mod Scripts
 pub mod Within
 mod FreePlaces
@@ -22,5 +23,4 @@ pub mod RunsOn
 mod ReadOn
 mod Bucketed
 mod Least
-mod Pieced
 mod SlotPlanned

@@ -18,6 +18,12 @@ run_fault_number run.GateGaveUp = 53
 run_fault_number run.Astray = 54
 run_fault_number (run.Stalled slot) = 52
 
+-- why no next run begins, if that is why nothing is planned
+abbrev pub next_run_fault_of : PlanFault → NextRunFault
+next_run_fault_of (Torn proc number) = next.Torn proc number
+next_run_fault_of Spent = next.Spent
+next_run_fault_of Memory = next.Memory
+
 abbrev pub next_run_fault_number : NextRunFault → ℕ
 next_run_fault_number (next.Torn proc number) = 30
 next_run_fault_number next.Spent = 31

@@ -13,9 +13,9 @@ pub mod EventLaws
 pub mod Queue
 pub mod Faults
 pub mod Planned
+pub mod Planning
 pub mod Refinement
 pub mod RunsOn
 pub mod NextRun
 pub mod PlaceLaws
 pub mod Readings
-pub mod Pieces

@@ -1,14 +1,15 @@
 -- What the run after a run begins with.
-use Rattle.std.specs.Prelude.{ℕ, ◌+◌, ◌≡◌, ◌≤◌, ◌<◌, true, false, List, length, Some, slice_get}
+use Rattle.std.specs.Prelude.{ℕ, ◌+◌, ◌≡◌, ◌≤◌, ◌<◌, true, false, List, length, map, Some, slice_get}
 use Rattle.std.specs.List.{AllByRecursion}
 use Rattle.pfair_replica.specs.HeldRows.{replica_of}
 use Rattle.pfair_replica.specs.Replica.{Agree, has_torn, said, torn_keys}
 use Rattle.pfair_admission.specs.Member.{Member}
-use Rattle.pfair_admission.specs.Carried.{CanBeCarried, IsFirstLeft}
+use Rattle.pfair_admission.specs.Carried.{carried, CanBeCarried, IsFirstLeft}
+use Rattle.pfair_admission.specs.Roster.{Roster}
 use Rattle.pfair_admission.specs.declared.members.TheConstants.Members.{LAST_SLOT}
 use Rattle.pfair_table.specs.declared.answer.NextRunFault.{NextRunFault}
 use Rattle.pfair_table.specs.declared.answer.NextRunFault.TheVariants.{Torn, Spent, Unfinished, PastLastSlot, CannotCarry, Memory}
-use Rattle.pfair_table.specs.Table.{Carried, slot_of}
+use Rattle.pfair_table.specs.Table.{Carried, machine, slot_of}
 use Rattle.pfair_table.specs.Events.{Course, begin_at}
 use Rattle.pfair_table.specs.Refinement.{Dispatch, members_after}
 use Rattle.pfair_table.specs.RunsOn.{left_over}
@@ -35,6 +36,17 @@ left_by d = left_over d.origin d.settings (said (replica_of d.held)) d.settings.
 abbrev pub start_after : Dispatch → Course
 start_after d = begin_at (Some (left_by d)) d.settings d.held.capacity
 
+-- a run of so many slots can follow: this one is finished, the next ends early enough, and each member left can be carried
+pub record CanBeFollowed (d : Dispatch) (slots : ℕ) : Type 0 where
+  pub finished : IsFinished d
+  pub within : end_of d + slots ≤ LAST_SLOT
+  pub able : AllByRecursion CanBeCarried (members_left d)
+
+-- the members that it begins with
+pub record AreCarriedOf (d : Dispatch) (roster : Roster) : Type 0 where
+  pub machine_is : roster.machine ≡ machine d.settings
+  pub members_are : roster.members ≡ map carried (members_left d)
+
 -- why no run of so many slots begins after this one, by the first cause that applies
 abbrev pub IsNextRunFault : Dispatch → ℕ → NextRunFault → Type 0
 IsNextRunFault d slots (Torn proc number) = (has_torn (replica_of d.held) ≡ true) × (slice_get (torn_keys (replica_of d.held)) 0 ≡ Some (proc, number))
@@ -42,7 +54,7 @@ IsNextRunFault d slots Spent = (has_torn (replica_of d.held) ≡ false) × (d.sp
 IsNextRunFault d slots Unfinished = (has_torn (replica_of d.held) ≡ false) × (d.spent ≡ false) × (length d.tables < d.settings.slots)
 IsNextRunFault d slots PastLastSlot = IsFinished d × (LAST_SLOT < end_of d + slots)
 IsNextRunFault d slots (CannotCarry name) = IsFinished d × (end_of d + slots ≤ LAST_SLOT) × IsFirstLeft (members_left d) name
-IsNextRunFault d slots Memory = IsFinished d × (end_of d + slots ≤ LAST_SLOT) × AllByRecursion CanBeCarried (members_left d)
+IsNextRunFault d slots Memory = CanBeFollowed d slots
 
 -- If settings and contents agree, and where the runs began, finished runs leave the same.
 abbrev pub LeaveAlike : Dispatch → Dispatch → Type 0

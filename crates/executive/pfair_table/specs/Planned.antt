@@ -1,16 +1,58 @@
 -- The tables, decisions and places of planned slots.
-use Rattle.std.specs.Prelude.{ℕ, Vec, List, [], ◌∷◌, map}
+use Rattle.std.specs.Prelude.{ℕ, ◌≡◌, ◌+◌, ◌<◌, ◌≤◌, Vec, List, [], ◌∷◌, ◌++◌, drop, length, map}
 use Rattle.std.specs.declared.alloc.Global.{Global}
+use Rattle.pfair_replica.specs.HeldRows.{HeldRows, replica_of}
+use Rattle.pfair_replica.specs.Replica.{numbers_below}
 use Rattle.pfair_table.specs.declared.pick.Pick.{Pick}
 use Rattle.pfair_table.specs.declared.pick.Decided.{Decided}
-use Rattle.pfair_table.specs.Table.{Table, Origin}
+use Rattle.pfair_table.specs.declared.planned.PlannedSlot.{PlannedSlot}
+use Rattle.pfair_table.specs.declared.settings.TheConstants.Settings.{MAX_SLOTS}
+use Rattle.pfair_table.specs.Places.{places_in}
+use Rattle.pfair_table.specs.Table.{Settings, Table, Origin, history_from, table_from, decisions_from}
 
--- where the run began, the table of each slot from slot 0 on, what was decided at its boundary, and below which slot these are forgotten
+-- the tables of slots 0 to n - 1 by the contents
+abbrev pub tables_to : Origin → Settings → HeldRows → ℕ → List Table
+tables_to o s x n = (history_from o s (replica_of x) n).tables
+
+-- and what is decided at their boundaries
+abbrev pub decided_to : Origin → Settings → HeldRows → ℕ → List (List Decided)
+decided_to o s x n = map (decisions_from o s (replica_of x)) (numbers_below n)
+
+-- a run's settings, where it began, the table of each slot from slot 0 on, what was decided at its boundary, and below which slot
+-- these are forgotten
 pub record PlannedSlots : Type 0 where
+  pub settings : Settings
   pub origin : Origin
   pub tables : List Table
   pub decided : List (List Decided)
   pub forgotten : ℕ
+
+-- What is kept of the slots that are planned of a replica, from slot `first` on: none that isn't forgotten is missing, and the last
+-- one is there in any case.
+pub record AreKept (o : Origin) (s : Settings) (of : HeldRows) (first forgotten : ℕ) (slots : List PlannedSlot) : Type 0 where
+  pub tables_are : map (λ p. p.plan.table.items) slots ≡ drop first (tables_to o s of (first + length slots))
+  pub places_are : map (λ p. p.places.items) slots ≡ drop first (places_in o (tables_to o s of (first + length slots)))
+  pub decided_are : map (λ p. p.plan.decided.items) slots ≡ drop first (decided_to o s of (first + length slots))
+  pub forgets : (first ≤ forgotten) × (forgotten ≤ first + length slots)
+  pub last : 0 < first → 0 < length slots
+  pub few : first + length slots ≤ MAX_SLOTS
+
+-- the next slot by the contents, by which all slots before are too
+pub record IsNext (p : PlannedSlots) (x : HeldRows) (next : PlannedSlot) : Type 0 where
+  pub tables_are : p.tables ≡ tables_to p.origin p.settings x (length p.tables)
+  pub decided_are : p.decided ≡ decided_to p.origin p.settings x (length p.tables)
+  pub table_is : next.plan.table.items ≡ table_from p.origin p.settings (replica_of x) (length p.tables)
+  pub decision_is : next.plan.decided.items ≡ decisions_from p.origin p.settings (replica_of x) (length p.tables)
+  pub places_are : places_in p.origin (p.tables ++ next.plan.table.items ∷ []) ≡ places_in p.origin p.tables ++ next.places.items ∷ []
+
+-- with that
+abbrev pub with_next : PlannedSlots → HeldRows → PlannedSlots
+with_next p x =
+    let n = length p.tables in
+    record p {
+      tables = p.tables ++ table_from p.origin p.settings (replica_of x) n ∷ [];
+      decided = p.decided ++ decisions_from p.origin p.settings (replica_of x) n ∷ [];
+    }
 
 -- tables, slot by slot
 abbrev pub as_tables : Vec (Vec Pick Global) Global → List Table

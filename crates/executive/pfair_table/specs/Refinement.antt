@@ -13,6 +13,7 @@ use Rattle.pfair_table.specs.declared.answer.Step.{Step}
 use Rattle.pfair_table.specs.declared.answer.Step.TheVariants.{Planned, Waiting, Done}
 use Rattle.pfair_table.specs.declared.answer.PlanFault.{PlanFault}
 use Rattle.pfair_table.specs.declared.answer.PlanFault.TheVariants.{Torn, Spent, Memory}
+use Rattle.pfair_table.specs.declared.script.TheConstants.Script.{LONGEST_LOG}
 use Rattle.pfair_table.specs.Table.{Settings, Origin, Table, machine, slot_of, history_from, table_from, decisions_from, plan_from}
 use Rattle.pfair_table.specs.declared.event.Event.{Event}
 use Rattle.pfair_table.specs.declared.event.Event.TheVariants.{Take, Absorb, Plan}
@@ -37,11 +38,21 @@ course_of d = record { origin = d.origin; held = replica_of d.held; tables = d.t
 
 -- ---- answers
 
+-- what becomes of slot n, the next one, if nothing is torn or spent
+abbrev pub IsNextStep : Settings → Replica → ℕ → Step → Type 0
+IsNextStep s x n (Planned slot) = (slot ≡ n) × IsTrue (is_plannable s x slot)
+IsNextStep s x n (Waiting from) = (n < s.slots) × (from ≡ frontier x) × (from ≤ n)
+IsNextStep s x n Done = s.slots ≤ n
+
+-- and else why nothing is planned
+abbrev pub IsNoStep : Replica → Bool → PlanFault → Type 0
+IsNoStep x spent (Torn proc number) = (has_torn x ≡ true) × (slice_get (torn_keys x) 0 ≡ Some (proc, number))
+IsNoStep x spent Spent = (has_torn x ≡ false) × (spent ≡ true)
+IsNoStep x spent Memory = ⊥
+
 -- what a plan answers if nothing is torn or spent
 abbrev pub IsStepOf : Dispatch → Step → Type 0
-IsStepOf d (Planned slot) = (slot ≡ length d.tables) × IsTrue (is_plannable d.settings (replica_of d.held) slot)
-IsStepOf d (Waiting from) = (length d.tables < d.settings.slots) × (from ≡ frontier (replica_of d.held)) × (from ≤ length d.tables)
-IsStepOf d Done = d.settings.slots ≤ length d.tables
+IsStepOf d step = IsNextStep d.settings (replica_of d.held) (length d.tables) step
 
 -- why a plan is refused
 abbrev pub IsPlanFault : Dispatch → PlanFault → Type 0
@@ -117,9 +128,9 @@ pub record IsInStep (o : Origin) (s : Settings) (of : Replica) (n : ℕ) (roster
 pub record IsKept (o : Origin) (s : Settings) (held : Replica) (tables : List Table) (decided : List (List Decided)) (spent : Bool) (roster : Roster) (now : ℕ) (waiting : Queue) : Type 0 where
   pub began : IsOrigin o s
   pub processors : held.processors ≡ s.processors
-  pub capacity : held.capacity ≤ 4096
+  pub capacity : held.capacity ≤ LONGEST_LOG
   pub of : Replica
-  pub room : of.capacity ≤ 4096
+  pub room : of.capacity ≤ LONGEST_LOG
   pub plan : IsPlanOf o s held of tables decided
   pub step : spent ≡ false → IsInStep o s of (length tables) roster now waiting
 

@@ -7,6 +7,7 @@ use Rattle.pfair_lattice.specs.declared.flat.Flat.TheVariants.{One}
 use Rattle.pfair_entry.specs.Entry.{Logged}
 use Rattle.pfair_replica.specs.Replica.{Replica, Contents}
 use Rattle.pfair_table.specs.Table.{Settings}
+use Rattle.pfair_table.specs.declared.script.TheConstants.Script.{LONGEST_LOG}
 
 -- a run's settings, and the log of each processor
 pub record LoggedRun : Type 0 where
@@ -15,7 +16,7 @@ pub record LoggedRun : Type 0 where
 
 -- no more entries than a log may have
 abbrev pub is_short : List Logged → Bool
-is_short log = nat_le (length log) 4096
+is_short log = nat_le (length log) LONGEST_LOG
 
 -- one log for each processor, and none longer than a log may be
 pub record IsLoggedRun (r : LoggedRun) : Type 0 where

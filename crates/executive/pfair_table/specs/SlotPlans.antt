@@ -1,22 +1,12 @@
 -- What plans slots of a replica that is handed in, and keeps none of them.
-use Rattle.std.specs.Prelude.{ℕ, ◌+◌, ◌≡◌, IsTrue, false, List, [], ◌∷◌, ◌++◌, length, map, Option, Some, None}
+use Rattle.std.specs.Prelude.{◌+◌, ◌≡◌, IsTrue, false, [], ◌∷◌, ◌++◌, length, Option, Some, None}
 use Rattle.pfair_replica.specs.HeldRows.{HeldRows, replica_of}
-use Rattle.pfair_replica.specs.Replica.{numbers_below}
-use Rattle.pfair_table.specs.declared.pick.Decided.{Decided}
 use Rattle.pfair_table.specs.declared.settings.TheConstants.Settings.{MAX_PROCESSORS}
 use Rattle.pfair_table.specs.declared.slot.SlotPlan.{SlotPlan}
-use Rattle.pfair_table.specs.Table.{Settings, Table, history, decisions, table_from, decisions_from}
+use Rattle.pfair_table.specs.Table.{table_from, decisions_from}
 use Rattle.pfair_table.specs.Events.{is_plannable}
 use Rattle.pfair_table.specs.Refinement.{Dispatch}
 use Rattle.pfair_table.specs.Places.{IsFit}
-
--- the tables of slots 0 to n - 1 of a replica
-abbrev pub tables_to : Settings → HeldRows → ℕ → List Table
-tables_to s x n = (history s (replica_of x) n).tables
-
--- and what is decided at their boundaries
-abbrev pub decided_to : Settings → HeldRows → ℕ → List (List Decided)
-decided_to s x n = map (decisions s (replica_of x)) (numbers_below n)
 
 -- with this replica handed in
 abbrev pub seeing : Dispatch → HeldRows → Dispatch

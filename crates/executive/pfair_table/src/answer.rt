@@ -54,6 +54,17 @@ impl PlanFault {
     }
 }
 
+impl From<AllocError> for PlanFault {
+    ghost use Rattle.std.specs.Prelude.{◌≡◌};
+    ghost use Rattle.pfair_table.specs.declared.answer.PlanFault.TheVariants.{Memory};
+
+    ghost from_gives = { λ _ f. f ≡ Memory };
+
+    fn from(_error: AllocError) -> PlanFault {
+        PlanFault::Memory
+    }
+}
+
 /// Why no next run begins.
 #[derive(Clone, Copy, Debug, PartialEq, Eq, Error)]
 pub enum NextRunFault {
@@ -111,5 +122,20 @@ impl From<AllocError> for NextRunFault {
 
     fn from(_error: AllocError) -> NextRunFault {
         NextRunFault::Memory
+    }
+}
+
+impl From<PlanFault> for NextRunFault {
+    ghost use Rattle.std.specs.Prelude.{◌≡◌};
+    ghost use Rattle.pfair_table.specs.Faults.{next_run_fault_of};
+
+    ghost from_gives = { λ fault f. f ≡ next_run_fault_of fault };
+
+    fn from(fault: PlanFault) -> NextRunFault {
+        match fault {
+            PlanFault::Torn { proc, number } => NextRunFault::Torn { proc, number },
+            PlanFault::Spent => NextRunFault::Spent,
+            PlanFault::Memory => NextRunFault::Memory,
+        }
     }
 }

@@ -8,7 +8,7 @@ ghost use Rattle.pfair_replica.specs.Faults.{IsKeyOf, IsTakenAs, IsTakeFaultOf, 
 ghost use Rattle.pfair_table.specs.declared.event.Event.TheVariants.{Plan as PlanEvent};
 ghost use Rattle.pfair_table.specs.Events.{start, happens};
 ghost use Rattle.std.specs.List.{AllByRecursion};
-ghost use Rattle.pfair_table.specs.Planned.{as_tables, as_places};
+ghost use Rattle.pfair_table.specs.Limits.{IsOrigin};
 ghost use Rattle.pfair_table.specs.Places.{places_in, IsFit};
 ghost use Rattle.pfair_table.specs.PlaceLaws.{HavePlacedAlike};
 ghost use Rattle.pfair_table.specs.Readings.{AreReadingsOf};
@@ -17,7 +17,7 @@ ghost use Rattle.pfair_table.specs.Refinement.{AreMembersOf, course_of, members_
 
 use crate::answer::{PlanFault, Step};
 use crate::pick::{Decided, Pick};
-use crate::planned::{Planned, Run};
+use crate::planned::Planned;
 use crate::planner::{Planner, plan_onto};
 use crate::script::Script;
 use crate::settings::Settings;
@@ -34,14 +34,13 @@ use std::marker::Model;
 /// whatever order they arrive, with whatever losses and repeats.
 #[derive(Drop)]
 pub struct Dispatcher<R: Ready> {
-    pub(crate) settings: Settings,
     pub(crate) replica: Replica,
     pub(crate) planner: Planner<R>,
     pub(crate) planned: Planned,
-    pub(crate) spent: bool,
 }
 
 impl<R: Ready> Model for Dispatcher<R> {
+    ghost use Rattle.std.specs.Prelude.{◌≡◌};
     ghost use Rattle.pfair_replica.specs.HeldRows.{replica_of};
     ghost use Rattle.pfair_table.specs.Readings.{AreReadingsOf};
     ghost use Rattle.pfair_table.specs.Refinement.{Dispatch, IsKept};
@@ -49,18 +48,19 @@ impl<R: Ready> Model for Dispatcher<R> {
     ghost Value = { Dispatch };
 
     ghost view = { λ a. record {
-      settings = a.settings;
+      settings = a.planner.settings;
       origin = a.planned.origin;
       held = a.replica;
       tables = a.planned.tables;
       decided = a.planned.decided;
       forgotten = a.planned.forgotten;
-      spent = a.spent;
+      spent = a.planner.spent;
     } };
 
-    ghost invariant = { λ a. IsKept a.planned.origin a.settings (replica_of a.replica) a.planned.tables a.planned.decided a.spent
+    ghost invariant = { λ a. IsKept a.planned.origin a.planner.settings (replica_of a.replica) a.planned.tables a.planned.decided a.planner.spent
         a.planner.members (R.now a.planner.ready) (R.held a.planner.ready)
-        × AreReadingsOf (replica_of a.replica) a.planner.readings.by_processor.items };
+        × AreReadingsOf (replica_of a.replica) a.planner.readings.by_processor.items
+        × (a.planned.settings ≡ a.planner.settings) };
 }
 
 impl<R: Ready> Dispatcher<R> {
@@ -115,7 +115,7 @@ impl<R: Ready> Dispatcher<R> {
     pub fn settings(&self) -> Settings
         ensures { result ≡ self.now.settings }
     {
-        self.settings
+        self.planner.settings
     }
 
     /// Returns the entries that the dispatcher holds.
@@ -146,7 +146,7 @@ impl<R: Ready> Dispatcher<R> {
         ensures few { result ≤ Settings.MAX_SLOTS }
     {
         // a run has at most 1,000,000 slots
-        prove!(self.settings.slots() <= Settings::MAX_SLOTS);
+        prove!(self.planner.settings.slots() <= Settings::MAX_SLOTS);
         self.planned.len() as u64
     }
 
@@ -163,8 +163,9 @@ impl<R: Ready> Dispatcher<R> {
     /// these are fewer. Later plans, members and entries do not change. What was forgotten stays
     /// forgotten, also after [`reopen`](Dispatcher::reopen), which plans these slots again.
     ///
-    /// Memory is freed for 1,024 slots at a time, once all of them are forgotten and a later slot is
-    /// planned; 16 bytes stay for them. O(slots that are freed); it allocates nothing.
+    /// Their memory is freed or used for slots to come, but for that of the last planned slot; the list
+    /// of slots keeps 72 bytes for each of the most that it had at once. O(slots that are freed); it
+    /// allocates nothing.
     pub fn forget(&mut self, slots: u64)
         ensures { self.new ≡ record self.old { forgotten = max self.old.forgotten (min slots (length self.old.tables)) } }
     {
@@ -185,12 +186,13 @@ impl<R: Ready> Dispatcher<R> {
     /// least processor that is free. `None` if the slot isn't planned or is forgotten, and only then.
     /// O(1): they were worked out when the slot was planned.
     ///
-    /// The law [`places_are_kept`](crate::laws::places_are_kept) holds of them, since no table has
-    /// more rows than there are processors, or a task twice.
+    /// The law [`places_are_kept`](crate::laws::places_are_kept) holds of them, in a first run and in
+    /// later ones, since no table has more rows than there are processors, or a task twice.
     pub fn places(&self, slot: u64) -> Option<&[u8]>
         ensures value { self.now.forgotten ≤ slot → option_map (λ places. places.now) result ≡ slice_get (places_in self.now.origin self.now.tables) slot }
         ensures forgotten { slot < self.now.forgotten → result ≡ None }
         ensures fit { AllByRecursion (IsFit self.now.settings.processors) self.now.tables }
+        ensures origin { IsOrigin self.now.origin self.now.settings }
     {
         self.planned.places(slot as usize)
     }
@@ -215,23 +217,11 @@ impl<R: Ready> Dispatcher<R> {
             → members.now.members
             ≡ members_after self.now.origin self.now.settings (replica_of self.now.held) (length self.now.tables)) }
     {
-        if self.spent {
+        if self.planner.spent {
             return None;
         }
         prove!(self.replica.processors() >= 1);
         Some(&self.planner.members)
-    }
-
-    /// Returns the tables and places of the planned slots that aren't forgotten. Each is moved, none
-    /// is copied: O(those slots).
-    ///
-    /// # Errors
-    /// Returns [`AllocError`] if an allocation fails.
-    pub fn into_run(self) -> Result<Run, AllocError>
-        ensures tables { IfOk result (λ run. as_tables run.tables ≡ drop self.forgotten self.tables) }
-        ensures places { IfOk result (λ run. as_places run.places ≡ drop self.forgotten (places_in self.origin self.tables)) }
-    {
-        self.planned.into_run()
     }
 
     /// Returns the entries that the dispatcher holds, without a copy.
@@ -249,8 +239,9 @@ impl<R: Ready> Dispatcher<R> {
     /// O((M + r) log n + a + l) for M processors, n members, r releases that come at the slot (also of
     /// tasks that left), a announcements at it and l late releases accepted of the tasks that these
     /// name; O(n) more if a member is freed; beside that each entry is looked at once over all plans.
-    /// The cost doesn't grow with the entries held. Room for 1,024 slots is allocated at a time, and
-    /// nothing that was planned before is copied.
+    /// The cost doesn't grow with the entries held. Without
+    /// [`reserve`](Dispatcher::reserve) the list of slots doubles now and then, which moves 72 bytes for
+    /// each slot that isn't forgotten.
     ///
     /// # Errors
     /// The first that applies: [`PlanFault::Torn`] if an entry held is torn and [`PlanFault::Spent`]
@@ -266,32 +257,12 @@ impl<R: Ready> Dispatcher<R> {
         ensures fault { IfErr result (IsPlanFault self.old) }
         ensures after { IfErr result (λ fault. self.new ≡ after_fault self.old fault) }
     {
-        if let Some((proc, number)) = self.replica.first_torn() {
-            return Err(PlanFault::Torn { proc, number });
+        let planned = self.planned.len() as u64;
+        let step = self.planner.next_step(&self.replica, planned)?;
+        if let Step::Planned(_) = step {
+            plan_onto(&self.replica, &mut self.planner, &mut self.planned)?;
         }
-        if self.spent {
-            return Err(PlanFault::Spent);
-        }
-        let slot = self.planned.len() as u64;
-        if slot >= self.settings.slots() {
-            return Ok(Step::Done);
-        }
-        let frontier = self.replica.frontier();
-        if slot >= frontier {
-            return Ok(Step::Waiting { frontier });
-        }
-        match plan_onto(
-            self.settings,
-            &self.replica,
-            &mut self.planner,
-            &mut self.planned,
-        ) {
-            Ok(()) => Ok(Step::Planned(slot)),
-            Err(_) => {
-                self.spent = true;
-                Err(PlanFault::Memory)
-            }
-        }
+        Ok(step)
     }
 
     /// Makes room for the next `slots` slots, or for all that are left if these are fewer, and for
@@ -310,15 +281,13 @@ impl<R: Ready> Dispatcher<R> {
     pub fn reserve(&mut self, slots: u64, tasks: usize) -> Result<(), AllocError>
         ensures { self.new ≡ self.old }
     {
-        let left = self
-            .settings
-            .slots()
-            .saturating_sub(self.planned.len() as u64);
+        let settings = self.planner.settings;
+        let left = settings.slots().saturating_sub(self.planned.len() as u64);
         let wanted = slots.min(left);
         if wanted == 0 {
             return Ok(());
         }
-        let processors = self.settings.processors();
+        let processors = settings.processors();
         let entries = processors as usize * self.replica.capacity() as usize;
         self.planner.reserve(processors, tasks.min(entries))?;
         self.planned.reserve(wanted as usize, processors as usize)
@@ -340,18 +309,8 @@ impl<R: Ready> Dispatcher<R> {
             return Err(PlanFault::Torn { proc, number });
         }
         let slots = self.planned.len() as u64;
-        match self
-            .planner
-            .plan_again(self.settings, self.planned.origin(), &self.replica, slots)
-        {
-            Ok(()) => {
-                self.spent = false;
-                Ok(())
-            }
-            Err(_) => {
-                self.spent = true;
-                Err(PlanFault::Memory)
-            }
-        }
+        self.planner
+            .plan_again(self.planned.origin(), &self.replica, slots)?;
+        Ok(())
     }
 }

@@ -1,13 +1,9 @@
 //! The laws of agreement, over all replicas and all events, of a first run and of each run that
 //! follows. Each function does nothing: its contract is the law.
-ghost use Rattle.std.specs.Prelude.{◌≡◌};
 ghost use Rattle.pfair_table.specs.EventLaws.{EventsLeaveTheLeast};
 ghost use Rattle.pfair_table.specs.Laws.{OneTable, PlansGoOn, OnePlan, TablesAreOrdered, OneSchedule, PlanSoFar, RunsAreCounted};
 ghost use Rattle.pfair_table.specs.RunsOn.{RunsGoOn};
 ghost use Rattle.pfair_table.specs.PlaceLaws.{PlacesAreKept, PlacesFollowTables, OnePlacing};
-
-use crate::script::Script;
-use crate::settings::Settings;
 
 /// Agreement: two replicas that agree give every slot below both frontiers one table and the same
 /// decisions, wherever the run began.
@@ -77,15 +73,6 @@ pub fn places_follow_tables()
 #[tactic(auto, using(crate::proofs::Alike::one_placing))]
 pub fn one_placing()
     ensures { OnePlacing }
-{}
-
-/// The most processors and slots of a run, its longest frame in slots, and the most entries of a
-/// log.
-pub fn limits()
-    ensures processors { Settings.MAX_PROCESSORS ≡ 64 }
-    ensures frame { Settings.MAX_FRAME ≡ 1000000000 }
-    ensures slots { Settings.MAX_SLOTS ≡ 1000000 }
-    ensures log { Script.LONGEST_LOG ≡ 4096 }
 {}
 
 /// Runs go on as one: each slot of a next run is the slot of one long run, in which all is said that is

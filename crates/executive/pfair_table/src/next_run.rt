@@ -1,17 +1,16 @@
 //! A run after a run, which begins with the members that the last one left.
-ghost use Rattle.std.specs.Prelude.{◌≡◌, ◌≤◌, ◌+◌, [], false, map, IfOk, IfErr, IfSome, OnOk};
+ghost use Rattle.std.specs.Prelude.{◌≡◌, ◌≤◌, ◌+◌, false, IfOk, IfErr, IfSome, OnOk};
 ghost use Rattle.std.specs.Option.{option_map};
 ghost use Rattle.std.specs.List.{AllByRecursion};
 ghost use Rattle.pfair_replica.specs.HeldRows.{IsShape};
-ghost use Rattle.pfair_replica.specs.Replica.{empty_replica};
 ghost use Rattle.pfair_admission.specs.declared.members.TheConstants.Members.{LAST_SLOT};
+ghost use Rattle.pfair_admission.specs.Carried.{CanBeCarried};
+ghost use Rattle.pfair_table.specs.Events.{begin_at};
 ghost use Rattle.pfair_table.specs.Limits.{IsOrigin};
-ghost use Rattle.pfair_admission.specs.Carried.{carried, CanBeCarried};
-ghost use Rattle.pfair_table.specs.Table.{machine};
-ghost use Rattle.pfair_table.specs.NextRun.{IsFinished, IsNextRunFault, end_of, members_left, start_after};
+ghost use Rattle.pfair_table.specs.NextRun.{CanBeFollowed, AreCarriedOf, IsFinished, IsNextRunFault, end_of, start_after};
 ghost use Rattle.pfair_table.specs.Refinement.{course_of};
 
-use crate::answer::NextRunFault;
+use crate::answer::{NextRunFault, Step};
 use crate::dispatcher::Dispatcher;
 use crate::origin::{Carried, Origin, slot_of};
 use crate::planned::Planned;
@@ -45,9 +44,7 @@ impl<R: Ready> Dispatcher<R> {
     pub fn next_run(&self, slots: u64) -> Result<Dispatcher<R>, NextRunFault>
         requires some { 1 ≤ slots }
         requires few { slots ≤ Settings.MAX_SLOTS }
-        ensures finished { OnOk result (IsFinished self.now) }
-        ensures within { OnOk result (end_of self.now + slots ≤ LAST_SLOT) }
-        ensures able { OnOk result (AllByRecursion CanBeCarried (members_left self.now)) }
+        ensures able { OnOk result (CanBeFollowed self.now slots) }
         ensures settings { IfOk result (λ next. next.settings ≡ record self.now.settings { slots = slots }) }
         ensures course { IfOk result (λ next. course_of next ≡ start_after self.now) }
         ensures standing { IfOk result (λ next. next.forgotten ≡ 0) }
@@ -62,7 +59,7 @@ impl<R: Ready> Dispatcher<R> {
             return Err(NextRunFault::CannotCarry { name });
         }
         let members = left.carried()?;
-        Ok(self.begin_with(self.settings.with_slots(slots), slot, members)?)
+        Ok(self.begin_with(self.planner.settings.with_slots(slots), slot, members)?)
     }
 
     /// Returns the members with which this run began, and the slot at which it did, counted from the
@@ -86,12 +83,9 @@ impl<R: Ready> Dispatcher<R> {
         members: Members,
     ) -> Result<Dispatcher<R>, AllocError>
         requires settings { settings ≡ record self.now.settings { slots = settings.slots } }
-        requires finished { IsFinished self.now }
+        requires able { CanBeFollowed self.now settings.slots }
         requires slot { slot ≡ end_of self.now }
-        requires within { slot + settings.slots ≤ LAST_SLOT }
-        requires machine { members.machine ≡ machine self.now.settings }
-        requires members { members.members ≡ map carried (members_left self.now) }
-        requires able { AllByRecursion CanBeCarried (members_left self.now) }
+        requires carried { AreCarriedOf self.now members }
         ensures settings { IfOk result (λ next. next.settings ≡ settings) }
         ensures course { IfOk result (λ next. course_of next ≡ start_after self.now) }
         ensures standing { IfOk result (λ next. next.forgotten ≡ 0) }
@@ -118,16 +112,12 @@ impl<R: Ready> Dispatcher<R> {
         ensures within { OnOk result (end_of self.now + slots ≤ LAST_SLOT) }
         ensures fault { IfErr result (IsNextRunFault self.now slots) }
     {
-        if let Some((proc, number)) = self.replica.first_torn() {
-            return Err(NextRunFault::Torn { proc, number });
-        }
-        if self.spent {
-            return Err(NextRunFault::Spent);
-        }
-        if (self.planned.len() as u64) < self.settings.slots() {
+        let planned = self.planned.len() as u64;
+        let step = self.planner.next_step(&self.replica, planned)?;
+        if step != Step::Done {
             return Err(NextRunFault::Unfinished);
         }
-        let slot = slot_of(self.planned.origin(), self.settings.slots());
+        let slot = slot_of(self.planned.origin(), self.planner.settings.slots());
         if slot + slots > Members::LAST_SLOT {
             return Err(NextRunFault::PastLastSlot);
         }
@@ -144,18 +134,16 @@ impl<R: Ready> Dispatcher<R> {
         requires shape { IsShape settings.processors capacity }
         requires origin { IsOrigin origin settings }
         ensures settings { IfOk result (λ d. d.settings ≡ settings) }
-        ensures course { IfOk result (λ d. course_of d ≡ record { origin = origin; held = empty_replica settings.processors capacity; tables = []; decided = [] }) }
+        ensures course { IfOk result (λ d. course_of d ≡ begin_at origin settings capacity) }
         ensures standing { IfOk result (λ d. d.forgotten ≡ 0) }
         ensures spent { IfOk result (λ d. d.spent ≡ false) }
     {
         let replica = Replica::new(alloc, settings.processors(), capacity)?;
         let planner = Planner::new(alloc, settings, &origin)?;
         Ok(Dispatcher {
-            settings,
+            planned: Planned::new(alloc, settings, origin, &replica),
             replica,
             planner,
-            planned: Planned::new(alloc, origin),
-            spent: false,
         })
     }
 }

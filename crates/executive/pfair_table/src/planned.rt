@@ -1,19 +1,20 @@
 //! What is planned so far.
-ghost use Rattle.std.specs.Prelude.{◌≡◌, ◌<◌, ◌≤◌, ◌++◌, ◌∷◌, [], IfOk, OnOk, OnErr, None, drop, length, map, max, min, slice_get};
-ghost use Rattle.std.specs.Option.{option_map};
+ghost use Rattle.std.specs.Prelude.{◌≡◌, ◌<◌, ◌≤◌, ◌-◌, ◌++◌, ◌∷◌, [], IfOk, OnOk, OnErr, None, drop, length, map, max, min, slice_get};
+ghost use Rattle.std.specs.Option.{option_copied, option_map};
 ghost use Rattle.std.specs.List.{AllByRecursion};
 ghost use Rattle.pfair_table.specs.Places.{places_of, places_in, table_before, places_before, IsFit};
-ghost use Rattle.pfair_table.specs.Planned.{last_or, as_tables, as_places};
+ghost use Rattle.pfair_table.specs.Planned.{last_or, as_tables, as_places, with_next, IsNext};
 
 use crate::origin::{Origin, slot_before};
 use crate::pick::{Decided, Pick};
-use crate::pieces::Pieces;
 use crate::places::places_beside;
-use crate::room::Room;
 use crate::settings::Settings;
 use crate::slot::SlotPlan;
+use pfair_replica::Replica;
 use std::alloc::{AllocError, Global};
+use std::collections::VecDeque;
 use std::marker::Model;
+use std::snapshot::Snapshot;
 
 /// What a run planned: the tables of its slots and their places, from slot 0 on, or from the first
 /// that isn't forgotten.
@@ -58,11 +59,25 @@ fn last_of<T>(lists: &[Vec<T>]) -> &[T]
     }
 }
 
-// The plan of a slot, with the places of its table.
+/// The plan of a slot, with the places of its table.
 #[derive(Drop)]
-struct PlannedSlot {
-    plan: SlotPlan,
-    places: Vec<u8>,
+pub(crate) struct PlannedSlot {
+    pub plan: SlotPlan,
+    pub places: Vec<u8>,
+}
+
+impl PlannedSlot {
+    // Lists with room for so many rows.
+    fn for_rows(alloc: Global, rows: usize) -> Result<PlannedSlot, AllocError> {
+        let plan = SlotPlan {
+            table: Vec::with_capacity(alloc, rows)?,
+            decided: Vec::new(alloc),
+        };
+        Ok(PlannedSlot {
+            plan,
+            places: Vec::with_capacity(alloc, rows)?,
+        })
+    }
 }
 
 /// The table of each slot that is planned, from slot 0 on, with its places, and the decisions at
@@ -70,32 +85,52 @@ struct PlannedSlot {
 #[derive(Drop)]
 pub(crate) struct Planned {
     origin: Origin,
-    slots: Pieces<PlannedSlot>,
-    // the room of slots that come, and what more of it is made from
-    rooms: Vec<Room>,
+    // for clauses alone: the settings, and the replica from which the last slot was planned
+    settings: Snapshot<Settings>,
+    of: Snapshot<Replica>,
+    // the slots from `first` on: those that aren't forgotten, and in any case the last one
+    first: usize,
+    slots: VecDeque<PlannedSlot>,
+    forgotten: usize,
+    // slots whose lists are used again, and what more of them are made from
+    rooms: Vec<PlannedSlot>,
     alloc: Global,
 }
 
 impl Model for Planned {
-    ghost use Rattle.std.specs.Prelude.{◌≡◌, map};
-    ghost use Rattle.pfair_table.specs.Places.{places_in};
-    ghost use Rattle.pfair_table.specs.Planned.{PlannedSlots};
+    ghost use Rattle.std.specs.Prelude.{◌+◌, length};
+    ghost use Rattle.pfair_table.specs.Planned.{PlannedSlots, AreKept, tables_to, decided_to};
 
     ghost Value = { PlannedSlots };
 
-    ghost view = { λ p. record { origin = p.origin; tables = map (λ s. s.plan.table.items) p.slots.items; decided = map (λ s. s.plan.decided.items) p.slots.items; forgotten = p.slots.forgotten } };
+    ghost view = { λ p. record {
+      settings = p.settings.value;
+      origin = p.origin;
+      tables = tables_to p.origin p.settings.value p.of.value (p.first + length p.slots.items);
+      decided = decided_to p.origin p.settings.value p.of.value (p.first + length p.slots.items);
+      forgotten = p.forgotten;
+    } };
 
-    ghost invariant = { λ p. map (λ s. s.places.items) p.slots.items ≡ places_in p.origin (map (λ s. s.plan.table.items) p.slots.items) };
+    ghost invariant = { λ p. AreKept p.origin p.settings.value p.of.value p.first p.forgotten p.slots.items };
 }
 
 impl Planned {
     /// Nothing is planned of a run that begins there.
-    pub(crate) fn new(alloc: Global, origin: Origin) -> Planned
-        ensures { result ≡ record { origin = origin; tables = []; decided = []; forgotten = 0 } }
+    pub(crate) fn new(
+        alloc: Global,
+        settings: Settings,
+        origin: Origin,
+        replica: &Replica,
+    ) -> Planned
+        ensures { result ≡ record { settings = settings; origin = origin; tables = []; decided = []; forgotten = 0 } }
     {
         Planned {
             origin,
-            slots: Pieces::new(alloc),
+            settings: Snapshot::of(&settings),
+            of: Snapshot::of(replica),
+            first: 0,
+            slots: VecDeque::new(alloc),
+            forgotten: 0,
             rooms: Vec::new(alloc),
             alloc,
         }
@@ -112,21 +147,24 @@ impl Planned {
         ensures tables { result ≡ length self.now.tables }
         ensures decided { result ≡ length self.now.decided }
     {
-        self.slots.len()
+        self.first + self.slots.len()
     }
 
     pub(crate) fn forgotten(&self) -> usize
         ensures value { result ≡ self.now.forgotten }
         ensures planned { self.now.forgotten ≤ length self.now.tables }
     {
-        self.slots.forgotten()
+        self.forgotten
     }
 
     /// Forgets the slots below one, or all if there are fewer.
     pub(crate) fn forget(&mut self, below: usize)
         ensures { self.new ≡ record self.old { forgotten = max self.old.forgotten (min below (length self.old.tables)) } }
     {
-        self.slots.forget(below);
+        self.forgotten = self.forgotten.max(below.min(self.first + self.slots.len()));
+        let count = (self.forgotten - self.first).min(self.slots.len().saturating_sub(1));
+        give_back(&mut self.slots, &mut self.rooms, count);
+        self.first += count;
     }
 
     /// The table of a slot, or none if that is forgotten.
@@ -134,7 +172,7 @@ impl Planned {
         ensures value { self.now.forgotten ≤ slot → option_map (λ rows. rows.now) result ≡ slice_get self.now.tables slot }
         ensures forgotten { slot < self.now.forgotten → result ≡ None }
     {
-        let planned = self.slots.get(slot)?;
+        let planned = kept_at(&self.slots, self.first, self.forgotten, slot)?;
         Some(&planned.plan.table)
     }
 
@@ -143,7 +181,7 @@ impl Planned {
         ensures value { self.now.forgotten ≤ slot → option_map (λ places. places.now) result ≡ slice_get (places_in self.now.origin self.now.tables) slot }
         ensures forgotten { slot < self.now.forgotten → result ≡ None }
     {
-        let planned = self.slots.get(slot)?;
+        let planned = kept_at(&self.slots, self.first, self.forgotten, slot)?;
         Some(&planned.places)
     }
 
@@ -152,7 +190,7 @@ impl Planned {
         ensures value { self.now.forgotten ≤ slot → option_map (λ rows. rows.now) result ≡ slice_get self.now.decided slot }
         ensures forgotten { slot < self.now.forgotten → result ≡ None }
     {
-        let planned = self.slots.get(slot)?;
+        let planned = kept_at(&self.slots, self.first, self.forgotten, slot)?;
         Some(&planned.plan.decided)
     }
 
@@ -162,7 +200,7 @@ impl Planned {
         ensures table { result.0.now ≡ last_or (table_before self.now.origin) self.now.tables }
         ensures places { result.1.now ≡ last_or (places_before self.now.origin) (places_in self.now.origin self.now.tables) }
     {
-        match self.slots.last() {
+        match self.slots.back() {
             Some(planned) => (&planned.plan.table, &planned.places),
             None => slot_before(&self.origin),
         }
@@ -176,58 +214,75 @@ impl Planned {
         add_rooms(self.alloc, &mut self.rooms, slots, rows)
     }
 
-    /// The room for the next slot: that which was taken for it, or none.
-    pub(crate) fn take_room(&mut self) -> Room
+    /// Lists for the next slot: those of a slot that was forgotten, or that were taken for it.
+    pub(crate) fn take_room(&mut self) -> PlannedSlot
         ensures { self.new ≡ self.old }
     {
         match self.rooms.pop() {
             Some(room) => room,
-            None => Room::new(self.alloc),
+            None => PlannedSlot {
+                plan: SlotPlan {
+                    table: Vec::new(self.alloc),
+                    decided: Vec::new(self.alloc),
+                },
+                places: Vec::new(self.alloc),
+            },
         }
     }
 
-    pub(crate) fn push(&mut self, plan: SlotPlan, places: Vec<u8>) -> Result<(), AllocError>
-        requires { places_in self.old.origin (self.old.tables ++ plan.table.items ∷ []) ≡ places_in self.old.origin self.old.tables ++ places.items ∷ [] }
-        ensures ok { OnOk result (self.new ≡ record self.old { tables = self.old.tables ++ plan.table.items ∷ []; decided = self.old.decided ++ plan.decided.items ∷ [] }) }
+    /// Puts the next slot of the replica behind those before it, which are slots of the replica too.
+    pub(crate) fn push(&mut self, replica: &Replica, next: PlannedSlot) -> Result<(), AllocError>
+        requires few { length self.old.tables < Settings.MAX_SLOTS }
+        requires next { IsNext self.old replica.now next }
+        ensures ok { OnOk result (self.new ≡ with_next self.old replica.now) }
         ensures err { OnErr result (self.new ≡ self.old) }
     {
-        self.slots.push(PlannedSlot { plan, places })
+        self.rooms.reserve(1)?;
+        self.slots.push_back(next)?;
+        self.of = Snapshot::of(replica);
+        Ok(())
     }
+}
 
-    /// The tables that aren't forgotten and their places: each is moved, and none is copied.
-    pub(crate) fn into_run(self) -> Result<Run, AllocError>
-        ensures tables { IfOk result (λ run. as_tables run.tables ≡ drop self.forgotten self.tables) }
-        ensures places { IfOk result (λ run. as_places run.places ≡ drop self.forgotten (places_in self.origin self.tables)) }
-    {
-        run_of(self.slots.into_list()?)
+// The slot of this number, unless it is forgotten or isn't planned.
+fn kept_at(
+    slots: &VecDeque<PlannedSlot>,
+    first: usize,
+    forgotten: usize,
+    slot: usize,
+) -> Option<&PlannedSlot>
+    requires { first ≤ forgotten }
+    ensures value { forgotten ≤ slot → option_copied result ≡ slice_get slots.now.items (slot - first) }
+    ensures forgotten { slot < forgotten → result ≡ None }
+{
+    if slot < forgotten {
+        return None;
+    }
+    slots.get(slot - first)
+}
+
+// Takes so many slots off the front. As many of them as there is a place for are used again.
+fn give_back(slots: &mut VecDeque<PlannedSlot>, rooms: &mut Vec<PlannedSlot>, count: usize)
+    ensures { slots.new.items ≡ drop count slots.old.items }
+{
+    for _ in 0..count {
+        if let Some(room) = slots.pop_front() {
+            if rooms.len() < rooms.capacity() {
+                rooms.push_reserved(room);
+            }
+        }
     }
 }
 
 // Makes so many of the rooms, with so many rows each.
 fn add_rooms(
     alloc: Global,
-    rooms: &mut Vec<Room>,
+    rooms: &mut Vec<PlannedSlot>,
     slots: usize,
     rows: usize,
 ) -> Result<(), AllocError> {
     for _ in rooms.len()..slots {
-        rooms.push(Room::for_rows(alloc, rows)?)?;
+        rooms.push(PlannedSlot::for_rows(alloc, rows)?)?;
     }
     Ok(())
-}
-
-// The tables and the places of some slots, each moved.
-fn run_of(slots: Vec<PlannedSlot>) -> Result<Run, AllocError>
-    ensures tables { IfOk result (λ run. as_tables run.tables ≡ map (λ s. s.plan.table.items) slots.items) }
-    ensures places { IfOk result (λ run. as_places run.places ≡ map (λ s. s.places.items) slots.items) }
-{
-    let alloc = *slots.allocator();
-    let mut tables = Vec::with_capacity(alloc, slots.len())?;
-    let mut places = Vec::with_capacity(alloc, slots.len())?;
-    for slot in slots {
-        let plan = slot.plan;
-        tables.push(plan.table)?;
-        places.push(slot.places)?;
-    }
-    Ok(Run { tables, places })
 }

@@ -1,24 +1,22 @@
 //! What is kept from slot to slot beside the replica and the tables: the members, what waits of
 //! them, and what was read of the replica.
-ghost use Rattle.std.specs.Prelude.{◌≡◌, ◌≤◌, ◌<◌, ◌+◌, ◌++◌, ◌∷◌, [], IfOk, OnOk, OnErr, length};
-ghost use Rattle.std.specs.List.{AllByRecursion};
-ghost use Rattle.pfair_table.specs.Places.{IsFit};
-ghost use Rattle.pfair_replica.specs.Replica.{Replica as Held, Untorn};
+ghost use Rattle.std.specs.Prelude.{◌≡◌, ◌≤◌, ◌<◌, ◌+◌, false, if◌then◌else◌, is_err, is_ok, IfOk, IfErr, OnOk, length};
 ghost use Rattle.pfair_replica.specs.HeldRows.{replica_of};
-ghost use Rattle.pfair_table.specs.Laws.{IsOf};
-ghost use Rattle.pfair_table.specs.Limits.{IsSettings, IsOrigin};
-ghost use Rattle.pfair_table.specs.Table.{table_from, decisions_from};
+ghost use Rattle.pfair_replica.specs.Replica.{Replica as Held, IsReplica, has_torn};
+ghost use Rattle.pfair_table.specs.Limits.{IsOrigin};
 ghost use Rattle.pfair_table.specs.Readings.{AreReadingsOf};
-ghost use Rattle.pfair_table.specs.Refinement.{IsInStep};
+ghost use Rattle.pfair_table.specs.Refinement.{IsInStep, IsNextStep, IsNoStep};
+ghost use Rattle.pfair_table.specs.Planned.{with_next};
+ghost use Rattle.pfair_table.specs.Planning.{CanBePlanned, IsPlanOfSlot, IsPlannedOf};
 
+use crate::answer::{PlanFault, Step};
 use crate::origin::{Origin, first_members, slot_of};
 use crate::pick::Pick;
 use crate::places::places_beside;
-use crate::planned::Planned;
+use crate::planned::{Planned, PlannedSlot};
 use crate::readings::Readings;
-use crate::script::Script;
 use crate::settings::Settings;
-use crate::slot::{SlotPlan, plan_slot, ready_of};
+use crate::slot::{SlotPlan, decide_all, give_quanta, ready_of, tell_ready};
 use pfair_admission::Members;
 use pfair_order::Key;
 use pfair_ready::Ready;
@@ -29,6 +27,9 @@ use std::alloc::{AllocError, Global};
 #[derive(Drop)]
 pub(crate) struct Planner<R: Ready> {
     pub alloc: Global,
+    pub settings: Settings,
+    // whether a plan was refused memory: then members and what waits of them say nothing
+    pub spent: bool,
     readings: Readings,
     // after the slots that were planned last
     pub members: Members,
@@ -46,6 +47,8 @@ impl<R: Ready> Planner<R> {
         origin: &Origin,
     ) -> Result<Planner<R>, AllocError>
         requires { IsOrigin origin.now settings }
+        ensures settings { IfOk result (λ p. p.settings ≡ settings) }
+        ensures able { IfOk result (λ p. p.spent ≡ false) }
         ensures step { IfOk result (λ p. (x : Held) → IsInStep origin.now settings x 0 p.members (R.now p.ready) (R.held p.ready)) }
         ensures readings { IfOk result (λ p. (x : Held) → x.processors ≡ settings.processors → AreReadingsOf x p.readings.by_processor.items) }
     {
@@ -54,6 +57,8 @@ impl<R: Ready> Planner<R> {
         let ready = ready_of(alloc, &members)?;
         Ok(Planner {
             alloc,
+            settings,
+            spent: false,
             readings,
             members,
             ready,
@@ -64,6 +69,8 @@ impl<R: Ready> Planner<R> {
 
     /// Takes room for slots of so many processors while no more than so many tasks are members.
     pub(crate) fn reserve(&mut self, processors: u8, tasks: usize) -> Result<(), AllocError>
+        ensures settings { self.new.settings ≡ self.old.settings }
+        ensures spent { self.new.spent ≡ self.old.spent }
         ensures readings { self.new.readings ≡ self.old.readings }
         ensures members { self.new.members ≡ self.old.members }
         ensures time { R.now self.new.ready ≡ R.now self.old.ready }
@@ -75,95 +82,119 @@ impl<R: Ready> Planner<R> {
         self.kept.reserve(processors as usize)
     }
 
+    /// Returns what becomes of slot n, the next one: whether it can be planned of the replica, and
+    /// else what it waits for or why it is refused.
+    pub(crate) fn next_step(&self, replica: &Replica, slot: u64) -> Result<Step, PlanFault>
+        ensures step { IfOk result (IsNextStep self.now.settings (replica_of replica.now) slot) }
+        ensures able { OnOk result ((has_torn (replica_of replica.now) ≡ false) × (self.now.spent ≡ false)) }
+        ensures fault { IfErr result (IsNoStep (replica_of replica.now) self.now.spent) }
+        ensures replica { IsReplica (replica_of replica.now) }
+    {
+        if let Some((proc, number)) = replica.first_torn() {
+            return Err(PlanFault::Torn { proc, number });
+        }
+        if self.spent {
+            return Err(PlanFault::Spent);
+        }
+        if slot >= self.settings.slots() {
+            return Ok(Step::Done);
+        }
+        let frontier = replica.frontier();
+        if slot >= frontier {
+            return Ok(Step::Waiting { frontier });
+        }
+        Ok(Step::Planned(slot))
+    }
+
     /// Plans slot n of the replica, in step with the n slots before it. The table uses the room of a
     /// list.
     pub(crate) fn plan(
         &mut self,
-        settings: Settings,
         origin: &Origin,
         replica: &Replica,
         slot: u64,
         room: Vec<Pick>,
     ) -> Result<SlotPlan, AllocError>
-        requires began { IsOrigin origin.now settings }
-        requires of { IsOf settings (replica_of replica.now) }
-        requires untorn { Untorn (replica_of replica.now) }
-        requires room { replica.now.capacity ≤ Script.LONGEST_LOG }
-        requires slot { slot < settings.slots }
-        requires readings { AreReadingsOf (replica_of replica.now) self.old.readings.by_processor.items }
-        requires step { IsInStep origin.now settings (replica_of replica.now) slot self.old.members (R.now self.old.ready) (R.held self.old.ready) }
-        ensures table { IfOk result (λ next. next.table.items ≡ table_from origin.now settings (replica_of replica.now) slot) }
-        ensures decided { IfOk result (λ next. next.decided.items ≡ decisions_from origin.now settings (replica_of replica.now) slot) }
-        ensures step { OnOk result (IsInStep origin.now settings (replica_of replica.now) (slot + 1) self.new.members (R.now self.new.ready) (R.held self.new.ready)) }
-        ensures limits { OnOk result (IsSettings settings) }
+        requires able { CanBePlanned origin.now self.old.settings replica.now self.old.readings.by_processor.items }
+        requires slot { slot < self.old.settings.slots }
+        requires step { IsInStep origin.now self.old.settings (replica_of replica.now) slot
+            self.old.members (R.now self.old.ready) (R.held self.old.ready) }
+        ensures plan { IfOk result (IsPlanOfSlot origin.now self.old.settings replica.now slot) }
+        ensures step { OnOk result (IsInStep origin.now self.old.settings (replica_of replica.now) (slot + 1)
+            self.new.members (R.now self.new.ready) (R.held self.new.ready)) }
         ensures readings { AreReadingsOf (replica_of replica.now) self.new.readings.by_processor.items }
+        ensures settings { self.new.settings ≡ self.old.settings }
+        ensures spent { self.new.spent ≡ is_err result }
     {
+        self.spent = true;
         let announced = self.readings.heard(replica, slot)?;
-        plan_slot(
-            &announced,
-            &mut self.members,
+        let processors = self.settings.processors();
+        let at = slot_of(origin, slot);
+        let decided = decide_all(self.alloc, &mut self.members, at, &announced)?;
+        tell_ready(&mut self.ready, &self.members, &announced)?;
+        let table = give_quanta(
             &mut self.ready,
-            settings.processors(),
-            slot_of(origin, slot),
+            &mut self.members,
+            processors,
+            at,
             &mut self.keys,
             room,
-        )
+        )?;
+        self.spent = false;
+        Ok(SlotPlan { table, decided })
     }
 
     /// Plans so many slots of the replica anew, without keeping the tables.
     pub(crate) fn plan_again(
         &mut self,
-        settings: Settings,
         origin: &Origin,
         replica: &Replica,
         slots: u64,
     ) -> Result<(), AllocError>
-        requires began { IsOrigin origin.now settings }
-        requires of { IsOf settings (replica_of replica.now) }
-        requires untorn { Untorn (replica_of replica.now) }
-        requires room { replica.now.capacity ≤ Script.LONGEST_LOG }
-        requires slots { slots ≤ settings.slots }
-        requires readings { AreReadingsOf (replica_of replica.now) self.old.readings.by_processor.items }
-        ensures step { OnOk result (IsInStep origin.now settings (replica_of replica.now) slots self.new.members (R.now self.new.ready) (R.held self.new.ready)) }
+        requires able { CanBePlanned origin.now self.old.settings replica.now self.old.readings.by_processor.items }
+        requires slots { slots ≤ self.old.settings.slots }
+        ensures step { OnOk result (IsInStep origin.now self.old.settings (replica_of replica.now) slots
+            self.new.members (R.now self.new.ready) (R.held self.new.ready)) }
         ensures readings { AreReadingsOf (replica_of replica.now) self.new.readings.by_processor.items }
+        ensures settings { self.new.settings ≡ self.old.settings }
+        ensures spent { self.new.spent ≡ is_err result }
     {
-        self.members = first_members(self.alloc, origin, settings)?;
+        self.spent = true;
+        self.members = first_members(self.alloc, origin, self.settings)?;
         self.ready = ready_of(self.alloc, &self.members)?;
         let mut room = Vec::new(self.alloc);
         for slot in 0..slots {
-            room = self.plan(settings, origin, replica, slot, room)?.table;
+            room = self.plan(origin, replica, slot, room)?.table;
         }
+        self.spent = false;
         Ok(())
     }
 }
 
 /// Plans slot n of the replica, and puts it behind the n slots before it.
 pub(crate) fn plan_onto<R: Ready>(
-    settings: Settings,
     replica: &Replica,
     planner: &mut Planner<R>,
     planned: &mut Planned,
 ) -> Result<(), AllocError>
-    requires began { IsOrigin planned.old.origin settings }
-    requires of { IsOf settings (replica_of replica.now) }
-    requires untorn { Untorn (replica_of replica.now) }
-    requires room { replica.now.capacity ≤ Script.LONGEST_LOG }
-    requires slots { length planned.old.tables < settings.slots }
-    requires readings { AreReadingsOf (replica_of replica.now) planner.old.readings.by_processor.items }
-    requires fit { AllByRecursion (IsFit settings.processors) planned.old.tables }
-    requires step { IsInStep planned.old.origin settings (replica_of replica.now) (length planned.old.tables) planner.old.members (R.now planner.old.ready) (R.held planner.old.ready) }
-    ensures tables { OnOk result (planned.new.tables ≡ planned.old.tables ++ table_from planned.old.origin settings (replica_of replica.now) (length planned.old.tables) ∷ []) }
-    ensures decided { OnOk result (planned.new.decided ≡ planned.old.decided ++ decisions_from planned.old.origin settings (replica_of replica.now) (length planned.old.tables) ∷ []) }
-    ensures step { OnOk result (IsInStep planned.new.origin settings (replica_of replica.now) (length planned.new.tables) planner.new.members (R.now planner.new.ready) (R.held planner.new.ready)) }
-    ensures origin { planned.new.origin ≡ planned.old.origin }
-    ensures forgotten { planned.new.forgotten ≡ planned.old.forgotten }
-    ensures err { OnErr result (planned.new ≡ planned.old) }
+    requires able { CanBePlanned planned.old.origin planner.old.settings replica.now planner.old.readings.by_processor.items }
+    requires so_far { IsPlannedOf planner.old.settings replica.now planned.old }
+    requires step { IsInStep planned.old.origin planner.old.settings (replica_of replica.now) (length planned.old.tables)
+        planner.old.members (R.now planner.old.ready) (R.held planner.old.ready) }
+    ensures planned { planned.new ≡ (if is_ok result then with_next planned.old replica.now else planned.old) }
+    ensures step { OnOk result (IsInStep planned.old.origin planner.old.settings (replica_of replica.now) (length planned.old.tables + 1)
+        planner.new.members (R.now planner.new.ready) (R.held planner.new.ready)) }
     ensures readings { AreReadingsOf (replica_of replica.now) planner.new.readings.by_processor.items }
+    ensures settings { planner.new.settings ≡ planner.old.settings }
+    ensures spent { planner.new.spent ≡ is_err result }
 {
     let slot = planned.len() as u64;
-    let room = planned.take_room();
-    let next = planner.plan(settings, planned.origin(), replica, slot, room.table)?;
+    let PlannedSlot { plan: room, places } = planned.take_room();
+    let plan = planner.plan(planned.origin(), replica, slot, room.table)?;
+    planner.spent = true;
     let (before, there) = planned.last();
-    let places = places_beside(before, there, &next.table, &mut planner.kept, room.places)?;
-    planned.push(next, places)
+    let places = places_beside(before, there, &plan.table, &mut planner.kept, places)?;
+    planned.push(replica, PlannedSlot { plan, places })?;
+    planner.spent = false;
+    Ok(())
 }

@@ -5,7 +5,7 @@ ghost use Rattle.pfair_replica.specs.HeldRows.{IsShape};
 ghost use Rattle.pfair_table.specs.Script.{IsLoggedRun, is_short, lists_of, capacity_of};
 
 use crate::settings::Settings;
-use pfair_entry::Entry;
+use pfair_entry::{Entry, Writer};
 use std::marker::Model;
 
 /// A run's settings, and the log of each of its processors.
@@ -27,7 +27,7 @@ impl Model for Script {
 
 impl Script {
     /// The most entries of a log.
-    pub const LONGEST_LOG: usize = 4_096;
+    pub const LONGEST_LOG: usize = Writer::LONGEST_LOG as usize;
 
     /// Creates the script of a run with these settings and logs, that of processor k at place k. No
     /// entry is looked at: O(M) for M processors.

@@ -3,6 +3,8 @@ ghost use Rattle.std.specs.Prelude.{◌≡◌, ◌≤◌};
 ghost use Rattle.std.specs.Option.{SomeIff};
 ghost use Rattle.pfair_table.specs.Limits.{IsSettings};
 
+use pfair_admission::Members;
+use pfair_entry::Entry;
 use std::marker::Model;
 
 /// The processors of a run, the frame that weights are counted against, and the slots that are
@@ -29,13 +31,13 @@ impl Model for Settings {
 
 impl Settings {
     /// The most processors.
-    pub const MAX_PROCESSORS: u8 = 64;
+    pub const MAX_PROCESSORS: u8 = Members::MAX_PROCESSORS;
 
     /// The longest frame, in slots.
-    pub const MAX_FRAME: u64 = 1_000_000_000;
+    pub const MAX_FRAME: u64 = Members::MAX_FRAME;
 
-    /// The most slots of a run.
-    pub const MAX_SLOTS: u64 = 1_000_000;
+    /// The most slots of a run: a floor can name the slot after its last one.
+    pub const MAX_SLOTS: u64 = Entry::LAST_SLOT;
 
     /// Creates settings of 1 to [`Settings::MAX_PROCESSORS`] processors, a frame of 1 to
     /// [`Settings::MAX_FRAME`] slots, and 1 to [`Settings::MAX_SLOTS`] slots. `None` if one of them is

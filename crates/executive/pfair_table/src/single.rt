@@ -1,13 +1,10 @@
-//! A script's run on one dispatcher.
+//! A script's logs on one dispatcher.
 ghost use Rattle.std.specs.Prelude.{◌≡◌, ◌+◌, ◌<◌, ◌≤◌, List, [], IfOk, IfErr, OnOk, Some, None, false, slice_get, length, take};
 ghost use Rattle.pfair_replica.specs.HeldRows.{replica_of};
-ghost use Rattle.pfair_table.specs.Refinement.{IsWholePlan};
 ghost use Rattle.pfair_table.specs.Script.{held_of, replica_of_logs};
-ghost use Rattle.pfair_table.specs.ScriptRun.{IsRunOf, IsScriptFaultOf};
 ghost use Rattle.pfair_table.specs.declared.run_fault.RunFault.TheVariants.{Stalled};
 ghost use Rattle.pfair_entry.specs.Entry.{Logged};
 
-use crate::answer::{PlanFault, Step};
 use crate::dispatcher::Dispatcher;
 use crate::run::offer;
 use crate::run_fault::RunFault;
@@ -15,25 +12,6 @@ use crate::script::Script;
 use pfair_entry::Entry;
 use pfair_ready::Ready;
 use std::alloc::{AllocError, Global};
-
-/// Returns a dispatcher that has taken every entry of a script's logs and planned all slots of the
-/// run. O(e log e) for e entries, and the cost of planning all slots.
-///
-/// # Errors
-/// [`RunFault::Stalled`] if the frontier of the logs, which is that slot, is below the number of
-/// slots. [`RunFault::Memory`] if an allocation fails.
-pub fn run_script<R: Ready>(alloc: Global, script: &Script) -> Result<Dispatcher<R>, RunFault>
-    ensures ok { IfOk result (IsRunOf script.now) }
-    ensures standing { IfOk result (λ d. d.forgotten ≡ 0) }
-    ensures fault { IfErr result (IsScriptFaultOf script.now) }
-{
-    let mut dispatcher = take_script(alloc, script)?;
-    check_settled(dispatcher.replica().frontier(), script.settings().slots())?;
-    match plan_all(&mut dispatcher) {
-        Ok(()) => Ok(dispatcher),
-        Err(_) => Err(RunFault::Memory),
-    }
-}
 
 /// Returns a dispatcher that has taken every entry of a script's logs and planned nothing. O(e log e)
 /// for e entries.
@@ -82,17 +60,5 @@ fn take_log<R: Ready>(
     for (index, entry) in log.iter().enumerate() {
         offer(dispatcher, processor, index as u32 + 1, *entry)?;
     }
-    Ok(())
-}
-
-// Plans as many slots as the contents settle.
-fn plan_all<R: Ready>(dispatcher: &mut Dispatcher<R>) -> Result<(), PlanFault>
-    ensures settings { OnOk result (dispatcher.new.settings ≡ dispatcher.old.settings) }
-    ensures origin { OnOk result (dispatcher.new.origin ≡ dispatcher.old.origin) }
-    ensures held { OnOk result (dispatcher.new.held ≡ dispatcher.old.held) }
-    ensures standing { dispatcher.new.forgotten ≡ dispatcher.old.forgotten }
-    ensures whole { OnOk result (IsWholePlan dispatcher.new) }
-{
-    'slots: while let Step::Planned(_) = dispatcher.plan_next()? {}
     Ok(())
 }

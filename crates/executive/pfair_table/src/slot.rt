@@ -1,16 +1,15 @@
-//! One slot: the boundary, the ready structure, and the quanta.
+//! The steps of a slot: the boundary, the ready structure, and the quanta.
 ghost use Rattle.std.specs.Prelude.{◌≡◌, ◌≤◌, ◌<◌, ◌+◌, Some, IfOk, OnOk, map, length};
 ghost use Rattle.std.specs.Option.{ForSome};
 ghost use Rattle.std.specs.List.{AllByRecursion};
 ghost use Rattle.pfair_weight.specs.Name.{NamesApart};
 ghost use Rattle.pfair_order.specs.declared.Key.{Key};
 ghost use Rattle.pfair_replica.specs.Among.{Among};
-ghost use Rattle.pfair_table.specs.Ranks.{first_by_rank};
-ghost use Rattle.pfair_admission.specs.Admission.{boundary, boundary_decisions, announcements};
 ghost use Rattle.pfair_entry.specs.Entry.{IsWithinLimits};
-ghost use Rattle.pfair_table.specs.Table.{with_decisions, eligible, pick, all_ran};
+ghost use Rattle.pfair_table.specs.Planning.{decisions_at, world_at, rows_at};
+ghost use Rattle.pfair_table.specs.Table.{with_decisions, pick, all_ran};
 ghost use Rattle.pfair_weight.specs.declared.window.TheConstants.{MAX_INDEX};
-ghost use Rattle.pfair_table.specs.Queue.{IsQueue, IsQueueBut, IsQueueWithout, IsToldOf, IsSteady, MayRun};
+ghost use Rattle.pfair_table.specs.Queue.{IsQueue, IsQueueBut, IsQueueWithout, IsToldOf, MayRun};
 
 use crate::pick::{Decided, Pick};
 use crate::room::emptied;
@@ -42,9 +41,9 @@ pub(crate) fn decide_all(
     requires order { ForSome members.old.last_slot (λ last. last ≤ slot) }
     requires heard { members.old.heard + length announced.now ≤ Members.MAX_HEARD }
     requires limits { AllByRecursion (λ a. IsWithinLimits a.2) announced.now }
-    ensures decided { IfOk result (λ all. all.items ≡ with_decisions announced.now (boundary_decisions members.old.machine slot members.old.members (announcements announced.now))) }
+    ensures decided { IfOk result (λ all. all.items ≡ with_decisions announced.now (decisions_at members.old slot announced.now)) }
     ensures members { OnOk result (members.new ≡ record members.old {
-      members = boundary members.old.machine slot members.old.members (announcements announced.now);
+      members = world_at members.old slot announced.now;
       heard = members.old.heard + length announced.now;
       last_slot = Some slot;
     }) }
@@ -157,7 +156,7 @@ pub(crate) fn give_quanta<R: Ready>(
     requires named { NamesApart (λ m. m.name) members.old.members }
     requires queue { IsQueue members.old.members (R.held ready.old) }
     requires few { AllByRecursion (λ m. m.next < MAX_INDEX) members.old.members }
-    ensures table { IfOk result (λ table. table.items ≡ map (pick members.old.members) (first_by_rank processors (eligible slot members.old.members))) }
+    ensures table { IfOk result (λ table. table.items ≡ rows_at processors slot members.old.members) }
     ensures members { IfOk result (λ table. members.new ≡ record members.old { members = all_ran table.items members.old.members }) }
     ensures queue { OnOk result (IsQueue members.new.members (R.held ready.new)) }
     ensures time { R.now ready.new ≡ slot }
@@ -168,34 +167,4 @@ pub(crate) fn give_quanta<R: Ready>(
     let table = run_each(ready, members, &first, room);
     *keys = first;
     table
-}
-
-/// One slot, by the announcements at it.
-pub(crate) fn plan_slot<R: Ready>(
-    announced: &[Said],
-    members: &mut Members,
-    ready: &mut R,
-    processors: u8,
-    slot: u64,
-    keys: &mut Vec<Key>,
-    room: Vec<Pick>,
-) -> Result<SlotPlan, AllocError>
-    requires slot { slot ≤ Members.LAST_SLOT }
-    requires few { AllByRecursion (λ m. m.next < MAX_INDEX) members.old.members }
-    requires steady { IsSteady slot members.old (R.now ready.old) (R.held ready.old) }
-    requires heard { members.old.heard + length announced.now ≤ Members.MAX_HEARD }
-    requires limits { AllByRecursion (λ a. IsWithinLimits a.2) announced.now }
-    ensures decided { IfOk result (λ p. p.decided.items ≡ with_decisions announced.now (boundary_decisions members.old.machine slot members.old.members (announcements announced.now))) }
-    ensures table { IfOk result (λ p.
-        let world = boundary members.old.machine slot members.old.members (announcements announced.now) in
-        p.table.items ≡ map (pick world) (first_by_rank processors (eligible slot world))) }
-    ensures members { IfOk result (λ p. members.new.members ≡ all_ran p.table.items (boundary members.old.machine slot members.old.members (announcements announced.now))) }
-    ensures machine { OnOk result (members.new.machine ≡ members.old.machine) }
-    ensures heard { OnOk result (members.new.heard ≡ members.old.heard + length announced.now) }
-    ensures steady { OnOk result (IsSteady (slot + 1) members.new (R.now ready.new) (R.held ready.new)) }
-{
-    let decided = decide_all(*keys.allocator(), members, slot, announced)?;
-    tell_ready(ready, members, announced)?;
-    let table = give_quanta(ready, members, processors, slot, keys, room)?;
-    Ok(SlotPlan { table, decided })
 }

@@ -8,7 +8,7 @@ ghost use Rattle.pfair_table.specs.ScriptRun.{IsBySlot, IsScriptFaultOf};
 ghost use Rattle.pfair_table.specs.Refinement.{after_fault, IsPlanFault, IsWholePlan};
 ghost use Rattle.pfair_table.specs.SlotPlans.{IsNextPlan, after_plan, seeing};
 
-use crate::answer::PlanFault;
+use crate::answer::{PlanFault, Step};
 use crate::pick::Pick;
 use crate::planner::Planner;
 use crate::run_fault::RunFault;
@@ -29,10 +29,8 @@ use std::snapshot::Snapshot;
 /// doesn't grow with the slots.
 #[derive(Drop)]
 pub struct SlotPlanner<R: Ready> {
-    settings: Settings,
     planner: Planner<R>,
     planned: u64,
-    spent: bool,
     // the replica handed in last, and the one from which the last slot was planned
     seen: Snapshot<Replica>,
     of: Snapshot<Replica>,
@@ -45,22 +43,22 @@ impl<R: Ready> Model for SlotPlanner<R> {
     ghost use Rattle.pfair_table.specs.Script.{replica_of_logs};
     ghost use Rattle.pfair_table.specs.ScriptRun.{IsBySlot, IsScriptFaultOf};
     ghost use Rattle.pfair_table.specs.Refinement.{Dispatch, IsKept};
-    ghost use Rattle.pfair_table.specs.SlotPlans.{tables_to, decided_to};
+    ghost use Rattle.pfair_table.specs.Planned.{tables_to, decided_to};
 
     ghost Value = { Dispatch };
 
     ghost view = { λ a. record {
-      settings = a.settings;
+      settings = a.planner.settings;
       origin = None;
       held = a.seen.value;
-      tables = tables_to a.settings a.of.value a.planned;
-      decided = decided_to a.settings a.of.value a.planned;
+      tables = tables_to None a.planner.settings a.of.value a.planned;
+      decided = decided_to None a.planner.settings a.of.value a.planned;
       forgotten = a.planned;
-      spent = a.spent;
+      spent = a.planner.spent;
     } };
 
-    ghost invariant = { λ a. IsKept None a.settings (replica_of a.seen.value)
-        (tables_to a.settings a.of.value a.planned) (decided_to a.settings a.of.value a.planned) a.spent
+    ghost invariant = { λ a. IsKept None a.planner.settings (replica_of a.seen.value)
+        (tables_to None a.planner.settings a.of.value a.planned) (decided_to None a.planner.settings a.of.value a.planned) a.planner.spent
         a.planner.members (R.now a.planner.ready) (R.held a.planner.ready)
         × AreReadingsOf (replica_of a.seen.value) a.planner.readings.by_processor.items };
 }
@@ -83,10 +81,8 @@ impl<R: Ready> SlotPlanner<R> {
         prove!(replica.processors() >= 1);
         let planner = Planner::new(alloc, settings, &None)?;
         Ok(SlotPlanner {
-            settings,
             planner,
             planned: 0,
-            spent: false,
             seen: Snapshot::of(replica),
             of: Snapshot::of(replica),
         })
@@ -119,7 +115,7 @@ impl<R: Ready> SlotPlanner<R> {
     pub fn settings(&self) -> Settings
         ensures { result ≡ self.now.settings }
     {
-        self.settings
+        self.planner.settings
     }
 
     /// Returns the slot that is planned next, which is the number of planned slots: at most the slots
@@ -130,7 +126,7 @@ impl<R: Ready> SlotPlanner<R> {
         ensures few { result ≤ Settings.MAX_SLOTS }
     {
         // a run has at most 1,000,000 slots
-        prove!(self.settings.slots() <= Settings::MAX_SLOTS);
+        prove!(self.planner.settings.slots() <= Settings::MAX_SLOTS);
         self.planned
     }
 
@@ -161,30 +157,13 @@ impl<R: Ready> SlotPlanner<R> {
         ensures after { IfErr result (λ fault. self.new ≡ after_fault (seeing self.old replica.now) fault) }
     {
         self.see(replica);
-        if let Some((proc, number)) = replica.first_torn() {
-            return Err(PlanFault::Torn { proc, number });
-        }
-        if self.spent {
-            return Err(PlanFault::Spent);
-        }
-        let slot = self.planned;
-        if slot >= self.settings.slots() {
+        let Step::Planned(slot) = self.planner.next_step(replica, self.planned)? else {
             return Ok(None);
-        }
-        if slot >= replica.frontier() {
-            return Ok(None);
-        }
-        match self.planner.plan(self.settings, &None, replica, slot, room) {
-            Ok(next) => {
-                self.of = Snapshot::of(replica);
-                self.planned = slot + 1;
-                Ok(Some(next))
-            }
-            Err(_) => {
-                self.spent = true;
-                Err(PlanFault::Memory)
-            }
-        }
+        };
+        let next = self.planner.plan(&None, replica, slot, room)?;
+        self.of = Snapshot::of(replica);
+        self.planned += 1;
+        Ok(Some(next))
     }
 
     // What is handed in from now on is this replica, or one that holds more.

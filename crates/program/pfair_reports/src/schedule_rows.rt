@@ -21,7 +21,8 @@ use std::io::{Read, Write};
 /// allocation fails. The cost is that of reading the file, of running its script, and O(rows).
 ///
 /// # Errors
-/// Those of [`scheduled`](pfair_file::scheduled) if the file has no schedule, and
+/// Those of [`read_script`](pfair_file::read_script), [`ProgramFault::Stalled`] with the frontier of the
+/// logs if it is below the number of slots, and
 /// [`ProgramFault::Memory`] if an allocation fails: nothing has then been written.
 /// [`ProgramFault::WriteFailed`] if the writer answered an error, or took nothing; a prefix of the
 /// text has then gone out.

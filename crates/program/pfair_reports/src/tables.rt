@@ -28,7 +28,8 @@ use std::thread::Threads;
 /// ([`run_dispatchers_into`](pfair_board::run_dispatchers_into)), and O(rows).
 ///
 /// # Errors
-/// Those of [`scheduled`](pfair_file::scheduled) if the file has no schedule,
+/// Those of [`read_script`](pfair_file::read_script), [`ProgramFault::Stalled`] with the frontier of the
+/// logs if it is below the number of slots,
 /// [`ProgramFault::Memory`] if an allocation fails or a thread can't be started,
 /// [`ProgramFault::GateGaveUp`] only if the gate's type may give up, and [`ProgramFault::Astray`] if
 /// a worker learned something other than the logs: nothing has then been written.

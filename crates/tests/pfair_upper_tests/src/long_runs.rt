@@ -1,14 +1,14 @@
-//! A dispatcher that is made anew in the middle of a run of 3,000 slots, which it then hands over.
+//! A dispatcher that is made anew in the middle of a run of 3,000 slots.
 
 use pfair_entry::{Announcement, Entry};
 use pfair_ready::{HeapReady, PlainReady, Ready};
-use pfair_table::{Dispatcher, Pick, Run, Settings, Step};
+use pfair_table::{Dispatcher, Pick, Settings, Step};
 use pfair_weight::{TaskName, Weight};
 use std::alloc::Global;
 use std::process::Abort;
 
 // Slots in which the task of weight 1/2 runs, with the subtask: at the edges of the run, about slot
-// 1,000, and about slots 1,024 and 2,048, where what is planned goes on in another piece.
+// 1,000, and about slots 1,024 and 2,048, where the list of planned slots may double.
 const SLOTS: [(u64, u64); 8] = [
     (0, 1),
     (998, 500),
@@ -48,16 +48,17 @@ fn goes_on<R: Ready>(rt: &impl Abort, dispatcher: &mut Dispatcher<R>, name: Task
     assert!(rt; dispatcher.plan_next() == Ok(Step::Done));
 }
 
-// All tables and their places are handed over, in the order of the slots.
-fn assert_handed_over(rt: &impl Abort, run: &Run, name: TaskName) {
-    assert_eq!(rt; (run.tables.len(), run.places.len()), (3000, 3000));
+// All tables and their places are there.
+fn assert_planned<R: Ready>(rt: &impl Abort, dispatcher: &Dispatcher<R>, name: TaskName) {
+    assert_eq!(rt; (dispatcher.next_slot(), dispatcher.forgotten()), (3000, 0));
     for (slot, index) in SLOTS {
-        let (first, second) = (slot as usize, slot as usize + 1);
-        let rows = run.tables.get(first).map(|rows| rows.as_slice());
-        assert!(rt; rows == Some([Pick { name, index }].as_slice()));
-        let places = run.places.get(first).map(|places| places.as_slice());
-        assert!(rt; places == Some([0].as_slice()));
-        assert!(rt; run.tables.get(second).is_some_and(|rows| rows.is_empty()));
+        assert!(rt; dispatcher.table(slot) == Some([Pick { name, index }].as_slice()));
+        assert!(rt; dispatcher.places(slot) == Some([0].as_slice()));
+        assert!(rt;
+            dispatcher
+                .table(slot + 1)
+                .is_some_and(|rows| rows.is_empty())
+        );
     }
 }
 
@@ -67,8 +68,7 @@ fn assert_goes_on<R: Ready>(rt: &impl Abort, alloc: Global) {
     let new = Dispatcher::<R>::new(alloc, settings, 4);
     let mut dispatcher = new.expect(rt, "memory");
     goes_on(rt, &mut dispatcher, name);
-    let run = dispatcher.into_run().expect(rt, "memory");
-    assert_handed_over(rt, &run, name);
+    assert_planned(rt, &dispatcher, name);
 }
 
 #[test]

@@ -1,16 +1,10 @@
--- The schedule of a task file, and why it has none.
+-- Why a task file has no schedule.
 use Rattle.std.specs.Prelude.{ℕ, List, ◌≡◌, ◌<◌, Option, IfSome, Ok, Err}
 use Rattle.pfair_replica.specs.Replica.{frontier}
 use Rattle.pfair_table.specs.Script.{LoggedRun, replica_of_logs}
-use Rattle.pfair_table.specs.ScriptRun.{IsRunOf}
-use Rattle.pfair_table.specs.Refinement.{Dispatch}
 use Rattle.pfair_file.specs.Documents.{script_of_file}
 use Rattle.pfair_file.specs.declared.program_fault.ProgramFault.{ProgramFault}
 use Rattle.pfair_file.specs.declared.program_fault.ProgramFault.TheVariants.{Stalled, File, FileTooLong, ReadFailed, Memory}
-
--- the bytes are those of a script, and the dispatcher has planned all its slots
-abbrev pub IsScheduleOf : List ℕ → Dispatch → Type 0
-IsScheduleOf bytes d = (run : LoggedRun) × (script_of_file bytes ≡ Ok run) × IsRunOf run d
 
 -- the bytes are those of a script whose logs settle only the slots below this one, which is one of its slots
 abbrev pub IsStalledAt : List ℕ → ℕ → Type 0

@@ -30,4 +30,4 @@ pub use given::given_words;
 pub use input::LONGEST_FILE;
 pub use line::write_line;
 pub use program_fault::ProgramFault;
-pub use schedule::{opened, read_script, scheduled};
+pub use schedule::{opened, read_script};

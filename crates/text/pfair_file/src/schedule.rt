@@ -1,16 +1,15 @@
-//! Task files, from their bytes to the schedule of all their slots.
+//! Task files, from their bytes to their scripts.
 ghost use Rattle.std.specs.Prelude.{◌≡◌, ◌⊎◌, Ok, IfErr, IfOk, IfSome};
 ghost use Rattle.pfair_file.specs.Input.{TakesOneFile};
 ghost use Rattle.pfair_file.specs.Documents.{script_of_file};
-ghost use Rattle.pfair_file.specs.Schedules.{IsRefusalOf, IsScheduleOf};
+ghost use Rattle.pfair_file.specs.Schedules.{IsRefusalOf};
 ghost use Rattle.pfair_file.specs.declared.program_fault.ProgramFault.TheVariants.{ReadFailed, Memory};
 
 use crate::document::read_file;
 use crate::input::read_bytes;
 use crate::memory::is_want_of_memory;
 use crate::program_fault::ProgramFault;
-use pfair_ready::HeapReady;
-use pfair_table::{Dispatcher, Script, run_script};
+use pfair_table::Script;
 use std::alloc::Global;
 use std::fs::{File, Files};
 use std::io::Read;
@@ -29,30 +28,9 @@ pub fn opened<P: Files>(rt: &P, file: &str) -> Result<P::File, ProgramFault>
     }
 }
 
-/// Returns the dispatcher that has planned all slots of the script that a reader's bytes hold.
-///
-/// No more than 67,108,864 bytes are taken from the reader, or one more if the file is too
-/// long or an allocation fails.
-/// The cost is that of [`read_script`], and of [`Dispatcher::plan_next`] for each slot.
-///
-/// # Errors
-/// As [`read_script`], and [`ProgramFault::Stalled`] with the frontier of the logs if it is
-/// below the number of slots.
-pub fn scheduled<R: Read>(
-    alloc: Global,
-    reader: &mut R,
-) -> Result<Dispatcher<HeapReady>, ProgramFault>
-    ensures ok { IfOk result (λ d. IfSome (R.remaining reader.old) (λ bytes. IsScheduleOf bytes d)) }
-    ensures standing { IfOk result (λ d. d.forgotten ≡ 0) }
-    ensures refused { IfErr result (IsRefusalOf (R.remaining reader.old)) }
-    ensures taken { TakesOneFile result (R.remaining reader.old) (R.remaining reader.new) }
-{
-    let script = read_script(alloc, reader)?;
-    Ok(run_script(alloc, &script)?)
-}
-
-/// Returns the script that a reader's bytes hold. The cost is that of reading all bytes, and of
-/// [`read_file`].
+/// Returns the script that a reader's bytes hold. No more than 67,108,864 bytes are taken from the
+/// reader, or one more if the file is too long or an allocation fails. The cost is that of reading
+/// all bytes, and of [`read_file`].
 ///
 /// # Errors
 /// [`ProgramFault::ReadFailed`] if the reader answers an error, [`ProgramFault::FileTooLong`]

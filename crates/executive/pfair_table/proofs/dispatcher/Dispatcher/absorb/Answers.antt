@@ -9,6 +9,7 @@ pub invariant_of-self : goal.invariant_of-self
 invariant_of-self g c = (
   kept_above c.self.invariant.0 c.merge.ensures.grows (sym c.merge.ensures.shape.0) (sym c.merge.ensures.shape.1),
   readings_above c.self.invariant.1 c.merge.ensures.grows (sym c.merge.ensures.shape.0) (sym c.merge.ensures.shape.1),
+  c.self.invariant.2,
 )
 
 pub returns-clause-fault : goal.returns-clause-fault

@@ -1,7 +1,11 @@
-use Rattle.std.proofs.Common.{◌∙◌, ap, subst, map, List}
+use Rattle.std.proofs.Common.{◌∙◌, sym, ap, subst, arith, map, List}
 use Rattle.pfair_admission.specs.Carried.{carried, IsFirstLeft}
 use Rattle.pfair_admission.specs.Member.{Member}
 use Rattle.pfair_admission.specs.Roster.{Roster}
+use Rattle.pfair_table.specs.NextRun.{IsFinished}
+use Rattle.pfair_table.specs.Refinement.{Dispatch}
+use Rattle.pfair_table.specs.Table.{Settings, machine}
+use Rattle.pfair_table.proofs.Keeping.{step_now}
 use Rattle.pfair_table.proofs.NextRuns.{able_seen, left_seen, memory_seen}
 use Rattle.pfair_table.proofs.dispatcher.Dispatcher.next_run.Goals as goal
 
@@ -20,13 +24,29 @@ returns-in_err-begin_with-clause-fault g c =
     memory_seen c.self.invariant.0 c.processors.ensures.rows.entries c.args.self.now c.self.view_is c.in_ok-slot.ensures.finished c.in_default.ensures.none
     c.args.slots c.from_residual-in_err-begin_with.result c.from_residual-in_err-begin_with.ensures.1 c.in_ok-slot.ensures.within
 
-pub begin_with-requires-clause-members : goal.begin_with-requires-clause-members
-begin_with-requires-clause-members g c =
-    ap (λ (r : Roster). r.members) c.in_ok-members.ensures
-    ∙ ap (map carried) (left_seen c.self.invariant.0 c.processors.ensures.rows.entries c.args.self.now c.self.view_is c.in_ok-slot.ensures.finished)
-
 pub begin_with-requires-clause-able : goal.begin_with-requires-clause-able
-begin_with-requires-clause-able g c = able_seen c.self.invariant.0 c.processors.ensures.rows.entries c.args.self.now c.self.view_is c.in_ok-slot.ensures.finished c.in_default.ensures.none
+begin_with-requires-clause-able g c =
+    let slots_are = ap (λ (s : Settings). s.slots) c.with_slots.ensures in
+    record {
+      finished = c.in_ok-slot.ensures.finished;
+      within = omega (arith, c.in_ok-slot.ensures.within, slots_are);
+      able = able_seen c.self.invariant.0 c.processors.ensures.rows.entries c.args.self.now c.self.view_is c.in_ok-slot.ensures.finished c.in_default.ensures.none;
+    }
+
+pub begin_with-requires-clause-carried : goal.begin_with-requires-clause-carried
+begin_with-requires-clause-carried g c =
+    let finished = subst IsFinished (sym c.self.view_is) c.in_ok-slot.ensures.finished in
+    record {
+      machine_is = ap (λ (r : Roster). r.machine) c.in_ok-members.ensures
+          ∙ (step_now c.self.invariant.0 c.processors.ensures.rows.entries finished.whole finished.able).machine_is
+          ∙ ap (λ (d : Dispatch). machine d.settings) c.self.view_is;
+      members_are = ap (λ (r : Roster). r.members) c.in_ok-members.ensures
+          ∙ ap (map carried) (left_seen c.self.invariant.0 c.processors.ensures.rows.entries c.args.self.now c.self.view_is c.in_ok-slot.ensures.finished);
+    }
 
 pub returns-clause-able : goal.returns-clause-able
-returns-clause-able g c = able_seen c.self.invariant.0 c.processors.ensures.rows.entries c.args.self.now c.self.view_is c.in_ok-slot.ensures.finished c.in_default.ensures.none
+returns-clause-able g c = record {
+  finished = c.in_ok-slot.ensures.finished;
+  within = c.in_ok-slot.ensures.within;
+  able = able_seen c.self.invariant.0 c.processors.ensures.rows.entries c.args.self.now c.self.view_is c.in_ok-slot.ensures.finished c.in_default.ensures.none;
+}

@@ -1,5 +1,6 @@
 use Rattle.std.proofs.Common.{subst}
 use Rattle.std.specs.List.{AllByRecursion}
+use Rattle.pfair_table.specs.Limits.{IsOrigin}
 use Rattle.pfair_table.specs.Places.{IsFit}
 use Rattle.pfair_table.specs.Refinement.{Dispatch}
 use Rattle.pfair_table.proofs.PlacesOn.{fit_plan}
@@ -9,3 +10,6 @@ pub returns-clause-fit : goal.returns-clause-fit
 returns-clause-fit g c =
     subst (λ (d : Dispatch). AllByRecursion (IsFit d.settings.processors) d.tables) c.self.view_is
     (fit_plan c.self.invariant.0.began c.self.invariant.0.plan)
+
+pub returns-clause-origin : goal.returns-clause-origin
+returns-clause-origin g c = subst (λ (d : Dispatch). IsOrigin d.origin d.settings) c.self.view_is c.self.invariant.0.began

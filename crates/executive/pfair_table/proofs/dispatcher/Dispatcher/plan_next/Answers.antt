@@ -1,42 +1,73 @@
-use Rattle.std.proofs.Common.{◌∙◌, sym, ap, subst, arith, length}
-use Rattle.std.specs.Prelude.{is_some}
+use Rattle.std.proofs.Common.{◌≡◌, ◌++◌, ◌∷◌, ◌+◌, [], ◌∙◌, sym, ap, subst, false, length}
+use Rattle.std.specs.Prelude.{if◌then◌else◌}
+use Rattle.std.proofs.lemmas.List.{length-append}
 use Rattle.pfair_replica.specs.HeldRows.{replica_of}
 use Rattle.pfair_replica.proofs.TornKeys.{untorn_by_test}
-use Rattle.pfair_table.specs.Refinement.{IsInStep, IsKept, IsWholePlan}
-use Rattle.pfair_table.specs.Table.{Origin}
-use Rattle.pfair_table.proofs.Keeping.{is_of_held, step_now, kept_next, whole_plan}
-use Rattle.pfair_table.proofs.PlacesOn.{fit_plan}
+use Rattle.pfair_table.specs.Events.{is_plannable, with_next_slot}
+use Rattle.pfair_table.specs.Planned.{PlannedSlots}
+use Rattle.pfair_table.specs.Refinement.{Dispatch, IsInStep, IsKept, IsNextStep, IsWholePlan, course_of}
+use Rattle.pfair_table.specs.Table.{Settings, table_from, decisions_from}
+use Rattle.pfair_table.proofs.Keeping.{is_of_held, plan_now, step_now, kept_next, whole_plan, next_planned, next_none, course_next, course_same}
 use Rattle.pfair_table.proofs.dispatcher.Dispatcher.plan_next.Goals as goal
 
-pub plan_onto-requires-clause-of : goal.plan_onto-requires-clause-of
-plan_onto-requires-clause-of g c = is_of_held c.self.invariant.0 c.first_torn.ensures.replica
+pub plan_onto-requires-clause-able : goal.plan_onto-requires-clause-able
+plan_onto-requires-clause-able g c = record {
+  began = c.self.invariant.0.began;
+  is_of = is_of_held c.self.invariant.0 c.next_step.ensures.replica;
+  whole = untorn_by_test (replica_of c.self.inside.replica) c.next_step.ensures.replica c.in_ok-step.ensures.able.0;
+  room = c.self.invariant.0.capacity;
+  read = c.self.invariant.1;
+}
 
-pub plan_onto-requires-clause-untorn : goal.plan_onto-requires-clause-untorn
-plan_onto-requires-clause-untorn g c = untorn_by_test (replica_of c.self.inside.replica) c.first_torn.ensures.replica (sym c.first_torn.ensures.some ∙ ap is_some c.in_default.is)
+pub plan_onto-requires-clause-so_far : goal.plan_onto-requires-clause-so_far
+plan_onto-requires-clause-so_far g c =
+    let there = next_planned c.self.inside.planner.settings (replica_of c.self.inside.replica) (length c.self.inside.planned.tables) c.in-Planned.field-0 c.in_ok-step.step
+    (subst (λ n. IsNextStep c.self.inside.planner.settings (replica_of c.self.inside.replica) n c.in_ok-step.step) c.len-planned.ensures.tables c.in_ok-step.ensures.step) c.in-Planned.is in
+    record {
+      settings_are = c.self.invariant.2;
+      plan = plan_now c.self.invariant.0 c.next_step.ensures.replica c.in_ok-step.ensures.able.0;
+      wanted = there.1;
+    }
 
 pub plan_onto-requires-clause-step : goal.plan_onto-requires-clause-step
-plan_onto-requires-clause-step g c = step_now c.self.invariant.0 c.first_torn.ensures.replica (sym c.first_torn.ensures.some ∙ ap is_some c.in_default.is) c.if-self.false
-
-pub plan_onto-requires-clause-fit : goal.plan_onto-requires-clause-fit
-plan_onto-requires-clause-fit g c = fit_plan c.self.invariant.0.began c.self.invariant.0.plan
+plan_onto-requires-clause-step g c = step_now c.self.invariant.0 c.next_step.ensures.replica c.in_ok-step.ensures.able.0 c.in_ok-step.ensures.able.1
 
 pub invariant_of-self : goal.invariant_of-self
-invariant_of-self g c = (
-  subst (λ (o : Origin). IsKept o c.self.inside.settings (replica_of c.self.inside.replica) c.plan_onto.new.planned.tables c.plan_onto.new.planned.decided c.self.inside.spent c.plan_onto.new.planner.members (g.R.Ready.now c.plan_onto.new.planner.ready) (g.R.Ready.held c.plan_onto.new.planner.ready)) (sym c.plan_onto.ensures.origin)
-      (kept_next c.self.invariant.0 c.first_torn.ensures.replica (sym c.first_torn.ensures.some ∙ ap is_some c.in_default.is)
-      (omega (arith, c.len-slot.ensures, c.frontier-frontier.ensures.value, c.if-slot-frontier.false)) (omega (arith, c.len-slot.ensures, c.slots.ensures.value, c.if-slot-slots.false))
-      c.in-Ok.ensures.tables c.in-Ok.ensures.decided
-      (let planner = c.plan_onto.new.planner in
-      subst (λ (o : Origin). IsInStep o c.self.inside.settings (replica_of c.self.inside.replica) (length c.plan_onto.new.planned.tables) planner.members (g.R.Ready.now planner.ready) (g.R.Ready.held planner.ready)) c.plan_onto.ensures.origin c.in-Ok.ensures.step)),
-  c.plan_onto.ensures.readings,
-)
+invariant_of-self g c =
+    let a = c.self.inside in
+    let x = replica_of a.replica in
+    let rows = table_from a.planned.origin a.planned.settings x (length a.planned.tables) in
+    let there = next_planned c.self.inside.planner.settings (replica_of c.self.inside.replica) (length c.self.inside.planned.tables) c.in-Planned.field-0 c.in_ok-step.step
+    (subst (λ n. IsNextStep c.self.inside.planner.settings (replica_of c.self.inside.replica) n c.in_ok-step.step) c.len-planned.ensures.tables c.in_ok-step.ensures.step) c.in-Planned.is in
+    let planner = c.plan_onto.new.planner in
+    let longer : length a.planned.tables + 1 ≡ length (a.planned.tables ++ rows ∷ []) = sym (length-append a.planned.tables (rows ∷ [])) in (
+      subst (λ (d : PlannedSlots × Settings). IsKept d.0.origin d.1 x d.0.tables d.0.decided planner.spent planner.members (g.R.Ready.now planner.ready) (g.R.Ready.held planner.ready))
+          (λ i. (sym c.in_ok-plan_onto.ensures.planned i, sym c.plan_onto.ensures.settings i))
+          (kept_next c.self.invariant.0 c.next_step.ensures.replica c.in_ok-step.ensures.able.0 there.0 there.1
+          (ap (λ (s : Settings). a.planned.tables ++ table_from a.planned.origin s x (length a.planned.tables) ∷ []) c.self.invariant.2)
+          (ap (λ (s : Settings). a.planned.decided ++ decisions_from a.planned.origin s x (length a.planned.tables) ∷ []) c.self.invariant.2)
+          (subst (λ n. IsInStep a.planned.origin a.planner.settings x n planner.members (g.R.Ready.now planner.ready) (g.R.Ready.held planner.ready)) longer c.in_ok-plan_onto.ensures.step)),
+      c.plan_onto.ensures.readings,
+      ap (λ (d : PlannedSlots). d.settings) c.in_ok-plan_onto.ensures.planned ∙ c.self.invariant.2 ∙ sym c.plan_onto.ensures.settings,
+    )
 
-pub returns-then-slot-slots-clause-settled : goal.returns-then-slot-slots-clause-settled
-returns-then-slot-slots-clause-settled g c = λ last.
-    subst IsWholePlan c.self.view_is (whole_plan c.self.invariant.0 c.first_torn.ensures.replica (sym c.first_torn.ensures.some ∙ ap is_some c.in_default.is)
-    (omega (arith, c.len-slot.ensures, c.slots.ensures.value, c.if-slot-slots.true)))
+pub returns-in_ok-plan_onto-clause-course : goal.returns-in_ok-plan_onto-clause-course
+returns-in_ok-plan_onto-clause-course g c =
+    let a = c.self.inside in
+    let there = next_planned c.self.inside.planner.settings (replica_of c.self.inside.replica) (length c.self.inside.planned.tables) c.in-Planned.field-0 c.in_ok-step.step
+    (subst (λ n. IsNextStep c.self.inside.planner.settings (replica_of c.self.inside.replica) n c.in_ok-step.step) c.len-planned.ensures.tables c.in_ok-step.ensures.step) c.in-Planned.is in
+    ap (λ (d : PlannedSlots). record { origin = d.origin; held = replica_of a.replica; tables = d.tables; decided = d.decided }) c.in_ok-plan_onto.ensures.planned
+    ∙ course_next a.planner.settings a.planned a.replica c.self.invariant.2 there.3
+    ∙ ap (λ (d : Dispatch). if is_plannable d.settings (replica_of d.held) (length d.tables) then with_next_slot d.settings (course_of d) else course_of d) c.self.view_is
 
-pub returns-then-slot-frontier-clause-settled : goal.returns-then-slot-frontier-clause-settled
-returns-then-slot-frontier-clause-settled g c = λ last.
-    subst IsWholePlan c.self.view_is (whole_plan c.self.invariant.0 c.first_torn.ensures.replica (sym c.first_torn.ensures.some ∙ ap is_some c.in_default.is)
-    (omega (arith, c.len-slot.ensures, c.frontier-frontier.ensures.value, c.if-slot-frontier.true)))
+pub returns-in_default-clause-course : goal.returns-in_default-clause-course
+returns-in_default-clause-course g c =
+    let none = next_none c.self.inside.planner.settings (replica_of c.self.inside.replica) (length c.self.inside.planned.tables) c.in_ok-step.step
+    (subst (λ n. IsNextStep c.self.inside.planner.settings (replica_of c.self.inside.replica) n c.in_ok-step.step) c.len-planned.ensures.tables c.in_ok-step.ensures.step) c.in_default.not-Planned in
+    course_same c.args.self.now (subst (λ (d : Dispatch). is_plannable d.settings (replica_of d.held) (length d.tables) ≡ false) c.self.view_is none.0)
+
+pub returns-in_default-clause-settled : goal.returns-in_default-clause-settled
+returns-in_default-clause-settled g c = λ last.
+    (let none = next_none c.self.inside.planner.settings (replica_of c.self.inside.replica) (length c.self.inside.planned.tables) c.in_ok-step.step
+    (subst (λ n. IsNextStep c.self.inside.planner.settings (replica_of c.self.inside.replica) n c.in_ok-step.step) c.len-planned.ensures.tables c.in_ok-step.ensures.step) c.in_default.not-Planned in
+    subst IsWholePlan c.self.view_is (whole_plan c.self.invariant.0 c.next_step.ensures.replica c.in_ok-step.ensures.able.0 none.1))

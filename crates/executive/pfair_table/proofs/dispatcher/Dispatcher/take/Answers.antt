@@ -7,4 +7,5 @@ pub invariant_of-self : goal.invariant_of-self
 invariant_of-self g c = (
   kept_above c.self.invariant.0 c.take.ensures.grows (sym c.take.ensures.shape.0) (sym c.take.ensures.shape.1),
   readings_above c.self.invariant.1 c.take.ensures.grows (sym c.take.ensures.shape.0) (sym c.take.ensures.shape.1),
+  c.self.invariant.2,
 )

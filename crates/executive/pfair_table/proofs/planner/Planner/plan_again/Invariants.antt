@@ -1,3 +1,4 @@
+use Rattle.std.proofs.Common.{◌≡◌}
 use Rattle.pfair_replica.specs.HeldRows.{replica_of}
 use Rattle.pfair_table.specs.Readings.{AreReadingsOf}
 use Rattle.pfair_table.specs.Refinement.{IsInStep}
@@ -5,6 +6,7 @@ use Rattle.pfair_table.proofs.planner.Planner.plan_again.Given as goal
 
 abbrev pub invariant-loop-slot : goal.invariant-loop-slot
 invariant-loop-slot g l = record {
-  step : IsInStep l.origin l.settings (replica_of l.replica) l.slot l.self.members (g.R.Ready.now l.self.ready) (g.R.Ready.held l.self.ready);
+  settings : l.self.settings ≡ l.fn.self.settings;
+  step : IsInStep l.origin l.fn.self.settings (replica_of l.replica) l.slot l.self.members (g.R.Ready.now l.self.ready) (g.R.Ready.held l.self.ready);
   readings : AreReadingsOf (replica_of l.replica) l.self.readings.by_processor.items;
 }

@@ -1,10 +1,11 @@
-use Rattle.std.proofs.Common.{◌∙◌, sym, ap, arith, length}
+use Rattle.std.proofs.Common.{◌∙◌, sym, ap, arith, length, None}
 use Rattle.pfair_table.specs.Refinement.{Dispatch}
-use Rattle.pfair_table.proofs.SlotPlanned.{tables_long, within}
+use Rattle.pfair_table.proofs.Kept.{tables_long}
+use Rattle.pfair_table.proofs.SlotPlanned.{within}
 use Rattle.pfair_table.proofs.slot_planner.SlotPlanner.next_slot.Goals as goal
 
 pub returns-clause-value : goal.returns-clause-value
-returns-clause-value g c = sym (tables_long c.self.inside.settings c.self.inside.of.value c.self.inside.planned) ∙ ap (λ (d : Dispatch). length d.tables) c.self.view_is
+returns-clause-value g c = sym (tables_long None c.self.inside.planner.settings c.self.inside.of.value c.self.inside.planned) ∙ ap (λ (d : Dispatch). length d.tables) c.self.view_is
 
 pub returns-clause-within : goal.returns-clause-within
 returns-clause-within g c =

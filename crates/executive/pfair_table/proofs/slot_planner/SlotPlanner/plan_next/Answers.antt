@@ -1,55 +1,86 @@
-use Rattle.std.proofs.Common.{◌∙◌, sym, ap, subst, arith}
-use Rattle.std.specs.Prelude.{is_some}
+use Rattle.std.proofs.Common.{◌+◌, ◌∙◌, sym, ap, subst, arith, None}
 use Rattle.pfair_replica.specs.HeldRows.{HeldRows, replica_of}
 use Rattle.pfair_replica.proofs.TornKeys.{untorn_by_test}
 use Rattle.pfair_table.specs.Readings.{AreReadingsOf}
-use Rattle.pfair_table.specs.Refinement.{Dispatch, IsWholePlan}
-use Rattle.pfair_table.proofs.SlotPlanned.{no_slot_left, no_slot_settled, slot_plannable, next_plan, step_seen, kept_seen, whole_seen, seen_after}
+use Rattle.pfair_table.specs.Planned.{tables_to, decided_to}
+use Rattle.pfair_table.specs.Refinement.{Dispatch, IsInStep, IsKept, IsPlanFault, IsWholePlan}
+use Rattle.pfair_table.specs.SlotPlans.{seeing}
+use Rattle.pfair_table.specs.Table.{Settings, table, decisions}
+use Rattle.pfair_table.proofs.Keeping.{is_of_held, next_planned, next_none}
+use Rattle.pfair_table.proofs.SlotPlanned.{at_slot, memory_only, plannable, next_plan, kept_of, step_seen, kept_seen, whole_seen, seen_after}
 use Rattle.pfair_table.proofs.slot_planner.SlotPlanner.plan_next.Goals as goal
 
-pub returns-then-slot-slots-clause-slot : goal.returns-then-slot-slots-clause-slot
-returns-then-slot-slots-clause-slot g c = no_slot_left c.self.inside.of.value c.self.inside.planned (c.self.view_is ∙ c.see.ensures) (omega (arith, c.slots.ensures.value, c.if-slot-slots.true))
+pub returns-in_default-clause-slot : goal.returns-in_default-clause-slot
+returns-in_default-clause-slot g c =
+    let a = c.self.inside in
+    let none = next_none a.planner.settings (replica_of c.args.replica.now) a.planned c.in_ok-slot.field-0 c.in_ok-slot.ensures.step c.in_default.not-Planned in
+    sym (plannable a.of.value a.planned (c.self.view_is ∙ c.see.ensures)) ∙ none.0
 
-pub returns-then-slot-slots-clause-settled : goal.returns-then-slot-slots-clause-settled
-returns-then-slot-slots-clause-settled g c = λ last.
-    subst IsWholePlan (sym c.see.ensures) (whole_seen c.self.inside.of.value c.self.inside.planned c.self.invariant.0 (c.self.view_is ∙ c.see.ensures) c.first_torn.ensures.replica
-    (sym c.first_torn.ensures.some ∙ ap is_some c.in_default.is) (omega (arith, c.slots.ensures.value, c.if-slot-slots.true)))
+pub returns-in_default-clause-settled : goal.returns-in_default-clause-settled
+returns-in_default-clause-settled g c = λ last.
+    (let a = c.self.inside in
+    let none = next_none a.planner.settings (replica_of c.args.replica.now) a.planned c.in_ok-slot.field-0 c.in_ok-slot.ensures.step c.in_default.not-Planned in
+    subst IsWholePlan (sym c.see.ensures) (whole_seen a.of.value a.planned c.self.invariant.0 (c.self.view_is ∙ c.see.ensures) c.next_step.ensures.replica c.in_ok-slot.ensures.able.0 none.1))
 
-pub returns-then-slot-frontier-clause-slot : goal.returns-then-slot-frontier-clause-slot
-returns-then-slot-frontier-clause-slot g c = no_slot_settled c.self.inside.of.value c.self.inside.planned (c.self.view_is ∙ c.see.ensures) (omega (arith, c.frontier.ensures.value, c.if-slot-frontier.true))
+pub plan-requires-clause-able : goal.plan-requires-clause-able
+plan-requires-clause-able g c =
+    let a = c.self.inside in
+    let test = c.in_ok-slot.ensures.able.0 in
+    let kept = kept_of a.of.value a.planned c.self.invariant.0 (c.self.view_is ∙ c.see.ensures) c.next_step.ensures.replica test in
+    record {
+      began = tt;
+      is_of = is_of_held kept c.next_step.ensures.replica;
+      whole = untorn_by_test (replica_of c.args.replica.now) c.next_step.ensures.replica test;
+      room = kept.capacity;
+      read = subst (λ (h : HeldRows). AreReadingsOf (replica_of h) a.planner.readings.by_processor.items) (ap (λ (d : Dispatch). d.held) (c.self.view_is ∙ c.see.ensures)) c.self.invariant.1;
+    }
 
-pub returns-then-slot-frontier-clause-settled : goal.returns-then-slot-frontier-clause-settled
-returns-then-slot-frontier-clause-settled g c = λ last.
-    subst IsWholePlan (sym c.see.ensures) (whole_seen c.self.inside.of.value c.self.inside.planned c.self.invariant.0 (c.self.view_is ∙ c.see.ensures) c.first_torn.ensures.replica
-    (sym c.first_torn.ensures.some ∙ ap is_some c.in_default.is) (omega (arith, c.frontier.ensures.value, c.if-slot-frontier.true)))
-
-pub plan-requires-clause-untorn : goal.plan-requires-clause-untorn
-plan-requires-clause-untorn g c = untorn_by_test (replica_of c.args.replica.now) c.first_torn.ensures.replica (sym c.first_torn.ensures.some ∙ ap is_some c.in_default.is)
+pub plan-requires-clause-slot : goal.plan-requires-clause-slot
+plan-requires-clause-slot g c =
+    let a = c.self.inside in
+    let there = next_planned a.planner.settings (replica_of c.args.replica.now) a.planned c.in-Planned.slot c.in_ok-slot.field-0 c.in_ok-slot.ensures.step c.in-Planned.is in
+    omega (arith, there.1, there.2)
 
 pub plan-requires-clause-step : goal.plan-requires-clause-step
 plan-requires-clause-step g c =
-    step_seen c.self.inside.of.value c.self.inside.planned c.self.invariant.0 (c.self.view_is ∙ c.see.ensures) c.first_torn.ensures.replica (sym c.first_torn.ensures.some ∙ ap is_some c.in_default.is) c.if-self.false
+    let a = c.self.inside in
+    let there = next_planned a.planner.settings (replica_of c.args.replica.now) a.planned c.in-Planned.slot c.in_ok-slot.field-0 c.in_ok-slot.ensures.step c.in-Planned.is in
+    subst (λ n. IsInStep None a.planner.settings (replica_of c.args.replica.now) n a.planner.members (g.R.Ready.now a.planner.ready) (g.R.Ready.held a.planner.ready)) (sym there.2)
+    (step_seen a.of.value a.planned c.self.invariant.0 (c.self.view_is ∙ c.see.ensures) c.next_step.ensures.replica c.in_ok-slot.ensures.able.0 c.in_ok-slot.ensures.able.1)
 
-pub invariant_of-self : goal.invariant_of-self
-invariant_of-self g c = (
-  kept_seen c.self.inside.of.value c.self.inside.planned c.self.invariant.0 (c.self.view_is ∙ c.see.ensures) c.first_torn.ensures.replica (sym c.first_torn.ensures.some ∙ ap is_some c.in_default.is)
-      c.of.ensures (omega (arith, c.frontier.ensures.value, c.if-slot-frontier.false)) (omega (arith, c.slots.ensures.value, c.if-slot-slots.false)) c.in-Ok.ensures.step,
-  subst (λ (h : HeldRows). AreReadingsOf (replica_of h) c.plan.new.self.readings.by_processor.items) (sym (ap (λ (d : Dispatch). d.held) (c.self.view_is ∙ c.see.ensures))) c.plan.ensures.readings,
-)
+pub returns-in_err-next-clause-fault : goal.returns-in_err-next-clause-fault
+returns-in_err-next-clause-fault g c =
+    let a = c.self.inside in
+    let there = next_planned a.planner.settings (replica_of c.args.replica.now) a.planned c.in-Planned.slot c.in_ok-slot.field-0 c.in_ok-slot.ensures.step c.in-Planned.is in
+    let d = seeing c.args.self.now c.args.replica.now in
+    memory_only (IsPlanFault d) c.from_residual-in_err-next.result c.from_residual-in_err-next.ensures.1
+    (sym (ap (λ (e : Dispatch). e.spent) (c.self.view_is ∙ c.see.ensures)) ∙ c.in_ok-slot.ensures.able.1, sym (plannable a.of.value a.planned (c.self.view_is ∙ c.see.ensures)) ∙ there.3)
 
-pub returns-in-Ok-clause-next : goal.returns-in-Ok-clause-next
-returns-in-Ok-clause-next g c =
-    seen_after c.self.inside.of.value c.self.inside.planned c.self.invariant.0 (c.self.view_is ∙ c.see.ensures) c.first_torn.ensures.replica (sym c.first_torn.ensures.some ∙ ap is_some c.in_default.is)
-    c.in-Ok.next c.of.ensures c.in-Ok.ensures.table c.in-Ok.ensures.decided
+pub invariant_of-self-2 : goal.invariant_of-self-2
+invariant_of-self-2 g c =
+    let a = c.self.inside in
+    let there = next_planned a.planner.settings (replica_of c.args.replica.now) a.planned c.in-Planned.slot c.in_ok-slot.field-0 c.in_ok-slot.ensures.step c.in-Planned.is in
+    let next = c.plan.new.self in (
+      subst (λ (s : Settings). IsKept None s (replica_of a.seen.value) (tables_to None s c.of.result.value (a.planned + 1)) (decided_to None s c.of.result.value (a.planned + 1)) next.spent next.members (g.R.Ready.now next.ready) (g.R.Ready.held next.ready)) (sym c.plan.ensures.settings)
+          (kept_seen a.of.value a.planned c.self.invariant.0 (c.self.view_is ∙ c.see.ensures) c.next_step.ensures.replica c.in_ok-slot.ensures.able.0 c.of.ensures there.0 there.1
+          (subst (λ n. IsInStep None a.planner.settings (replica_of c.args.replica.now) (n + 1) next.members (g.R.Ready.now next.ready) (g.R.Ready.held next.ready)) there.2 c.in_ok-next.ensures.step)),
+      subst (λ (h : HeldRows). AreReadingsOf (replica_of h) next.readings.by_processor.items) (sym (ap (λ (d : Dispatch). d.held) (c.self.view_is ∙ c.see.ensures))) c.plan.ensures.readings,
+    )
 
-pub returns-in-Ok-clause-slot : goal.returns-in-Ok-clause-slot
-returns-in-Ok-clause-slot g c =
-    next_plan c.self.inside.of.value c.self.inside.planned (c.self.view_is ∙ c.see.ensures) c.in-Ok.next (sym c.first_torn.ensures.some ∙ ap is_some c.in_default.is)
-    (omega (arith, c.frontier.ensures.value, c.if-slot-frontier.false)) (omega (arith, c.slots.ensures.value, c.if-slot-slots.false)) c.in-Ok.ensures.limits.processors.1 c.in-Ok.ensures.table c.in-Ok.ensures.decided
+pub returns-clause-next : goal.returns-clause-next
+returns-clause-next g c =
+    let a = c.self.inside in
+    let y = replica_of c.args.replica.now in
+    let there = next_planned a.planner.settings (replica_of c.args.replica.now) a.planned c.in-Planned.slot c.in_ok-slot.field-0 c.in_ok-slot.ensures.step c.in-Planned.is in
+    let spent_is = c.in_ok-next.ensures.spent ∙ sym c.in_ok-slot.ensures.able.1 in
+    (λ i. at_slot (c.plan.ensures.settings i) a.seen.value c.of.result.value (a.planned + 1) (spent_is i))
+    ∙ seen_after a.of.value a.planned c.self.invariant.0 (c.self.view_is ∙ c.see.ensures) c.next_step.ensures.replica c.in_ok-slot.ensures.able.0 c.in_ok-next.next c.of.ensures
+    (c.in_ok-next.ensures.plan.table_is ∙ ap (table a.planner.settings y) there.2) (c.in_ok-next.ensures.plan.decided_is ∙ ap (decisions a.planner.settings y) there.2)
 
-pub returns-in-Err-clause-fault : goal.returns-in-Err-clause-fault
-returns-in-Err-clause-fault g c = (
-  sym (ap (λ (d : Dispatch). d.spent) (c.self.view_is ∙ c.see.ensures)) ∙ c.if-self.false,
-  slot_plannable c.self.inside.of.value c.self.inside.planned (c.self.view_is ∙ c.see.ensures) (sym c.first_torn.ensures.some ∙ ap is_some c.in_default.is)
-      (omega (arith, c.frontier.ensures.value, c.if-slot-frontier.false)) (omega (arith, c.slots.ensures.value, c.if-slot-slots.false)),
-)
+pub returns-clause-slot : goal.returns-clause-slot
+returns-clause-slot g c =
+    let a = c.self.inside in
+    let y = replica_of c.args.replica.now in
+    let there = next_planned a.planner.settings (replica_of c.args.replica.now) a.planned c.in-Planned.slot c.in_ok-slot.field-0 c.in_ok-slot.ensures.step c.in-Planned.is in
+    next_plan a.of.value a.planned (c.self.view_is ∙ c.see.ensures) c.in_ok-next.next there.3 c.in_ok-next.ensures.plan.limits.processors.1
+    (c.in_ok-next.ensures.plan.table_is ∙ ap (table a.planner.settings y) there.2) (c.in_ok-next.ensures.plan.decided_is ∙ ap (decisions a.planner.settings y) there.2)

@@ -3,7 +3,7 @@ use Rattle.pfair_replica.specs.HeldRows.{HeldRows, SameShape, replica_of}
 use Rattle.pfair_replica.specs.Replica.{Below}
 use Rattle.pfair_table.specs.Readings.{AreReadingsOf}
 use Rattle.pfair_table.specs.Refinement.{Dispatch, IsKept}
-use Rattle.pfair_table.specs.SlotPlans.{tables_to, decided_to}
+use Rattle.pfair_table.specs.Planned.{tables_to, decided_to}
 use Rattle.pfair_table.proofs.Steps.{kept_above}
 use Rattle.pfair_table.proofs.ReadOn.{readings_above}
 use Rattle.pfair_table.proofs.slot_planner.SlotPlanner.see.Goals as goal
@@ -14,6 +14,6 @@ invariant_of-self g c =
     let held_is = sym (ap (λ (d : Dispatch). d.held) c.self.view_is) in
     let above = subst (λ (h : HeldRows). Below (replica_of h) (replica_of c.args.replica.now)) held_is c.requires.above in
     let shape = subst (λ (h : HeldRows). SameShape h c.args.replica.now) held_is c.requires.shape in
-    subst (λ (h : HeldRows). IsKept None a.settings (replica_of h) (tables_to a.settings a.of.value a.planned) (decided_to a.settings a.of.value a.planned) a.spent a.planner.members (g.R.Ready.now a.planner.ready) (g.R.Ready.held a.planner.ready)
+    subst (λ (h : HeldRows). IsKept None a.planner.settings (replica_of h) (tables_to None a.planner.settings a.of.value a.planned) (decided_to None a.planner.settings a.of.value a.planned) a.planner.spent a.planner.members (g.R.Ready.now a.planner.ready) (g.R.Ready.held a.planner.ready)
     × AreReadingsOf (replica_of h) a.planner.readings.by_processor.items) (sym c.of.ensures)
     (kept_above c.self.invariant.0 above (sym shape.0) (sym shape.1), readings_above c.self.invariant.1 above (sym shape.0) (sym shape.1))

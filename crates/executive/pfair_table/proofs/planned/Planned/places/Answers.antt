@@ -1,0 +1,18 @@
+use Rattle.std.proofs.Common.{◌+◌, ◌≤◌, ◌∙◌, ap, arith, length, Some}
+use Rattle.std.specs.Prelude.{slice_get}
+use Rattle.std.specs.Option.{option_map}
+use Rattle.pfair_table.specs.Places.{places_in}
+use Rattle.pfair_table.specs.Planned.{PlannedSlots, tables_to}
+use Rattle.pfair_table.proofs.Kept.{get_kept}
+use Rattle.pfair_table.proofs.planned.Planned.places.Goals as goal
+
+pub returns-clause-value : goal.returns-clause-value
+returns-clause-value c = λ standing.
+    (let a = c.self.inside in
+    let forgotten = ap (λ (d : PlannedSlots). d.forgotten) c.self.view_is in
+    let here : a.forgotten ≤ c.args.slot = omega (arith, standing, forgotten) in
+    let past : a.first ≤ c.args.slot = omega (arith, here, c.self.invariant.forgets) in
+    ap Some c.deref.ensures.value
+    ∙ ap (option_map (λ p. p.places.items)) (c.in_ok-planned.ensures.value here)
+    ∙ get_kept c.self.invariant (λ p. p.places.items) (places_in c.self.inside.origin (tables_to c.self.inside.origin c.self.inside.settings.value c.self.inside.of.value (c.self.inside.first + length c.self.inside.slots.items))) c.self.invariant.places_are c.args.slot past
+    ∙ ap (λ (d : PlannedSlots). slice_get (places_in d.origin d.tables) c.args.slot) c.self.view_is)
