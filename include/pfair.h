@@ -684,11 +684,14 @@ struct pfair_member {
                               to this subtask */
     uint64_t is_departing; /* 1 if it is departing, and gets no more quanta, else 0 */
     uint64_t freed_at;     /* if it is departing: the slot from which weight and name are free; else 0 */
+    int64_t lag;           /* its lag after the planned slots, as a numerator over `period`: what it is due since it joined
+                              less what it has had, both times `period` */
 };
 
 /*
  * Writes the members after the planned slots, in the order of admission: the tasks that were admitted and aren't freed
- * at the boundary of the last planned slot, as they are after its table.
+ * at the boundary of the last planned slot, as they are after its table. Lags are those of pfair_lags, in each run and
+ * whatever was forgotten; one that 64 bits don't hold, which no run has, would be the nearest that they do.
  *   31   the dispatcher is spent
  *   103  there are more than `room` rows; `count` is written
  * O(rows + l) for l late releases accepted of these tasks.

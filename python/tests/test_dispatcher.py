@@ -216,9 +216,9 @@ def test_members():
         log += [pfair.depart("b", at=4), pfair.arrive("c", 1, 4, at=4)]
         one.take_log(0, [*log, pfair.promise(9)])
         known = {
-            1: [(b"z", 1, 2, 0, 0, 2, 0, 0, 0)],
-            5: [(b"z", 1, 2, 0, 0, 2, 3, 0, 0), (b"b", 1, 3, 1, 2, 2, 2, 1, 5)],
-            6: [(b"z", 1, 2, 0, 0, 3, 3, 0, 0)],
+            1: [(b"z", 1, 2, 0, 0, 2, 0, 0, 0, -1)],
+            5: [(b"z", 1, 2, 0, 0, 2, 3, 0, 0, 3), (b"b", 1, 3, 1, 2, 2, 2, 1, 5, 0)],
+            6: [(b"z", 1, 2, 0, 0, 3, 3, 0, 0, 2)],
         }
         for slots, members in known.items():
             one.plan(slots)
@@ -241,14 +241,9 @@ def test_forgotten_slots():
             (8, one.quanta, 2, 9), (0, one.lags, 3), (0, one.lags), (8, one.lags, 3, 9),
         ):
             refusal(pfair.NotPlanned, f"{NOT_PLANNED}: slot {slot}", asked, *words)
-        # what pfair.h says of a lag without its slots
-        wanted = {row["task"]: (row["numerator"], row["period"]) for row in planned().lags(7, 8)}
-        counted = {}
-        for row in one.members():
-            cost, period, joined, after = (int(row[name]) for name in ("cost", "period", "joined", "next"))
-            if not row["is_departing"]:
-                counted[row["task"]] = cost * (8 - joined) - period * (after - 1), period
-        assert counted == wanted and len(counted) == 2
+        # members still have their lags
+        stay = one.members()[["task", "lag", "period"]][one.members()["is_departing"] == 0]
+        assert stay.tolist() == planned().lags(7, 8)[["task", "numerator", "period"]].tolist() and len(stay) == 2
         one.forget(2**64 - 1)
         refusal(pfair.NotPlanned, f"{NOT_PLANNED}: slot 7", one.table, 7)
 

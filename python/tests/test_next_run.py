@@ -102,7 +102,10 @@ def check_run(run, one, long, said):
     assert (decided[fields] == run.decided[fields]).all()
     assert (lags == long.lags(run.begin, run.end)).all()
     assert (run.raised(one.quanta()) == long.quanta(run.begin, run.end)).all()
-    return run.left(one.members())
+    members = one.members()
+    stay = members[["task", "lag"]][members["is_departing"] == 0]
+    assert stay.tolist() == lags[["task", "numerator"]][lags["time"] == run.end].tolist()
+    return run.left(members)
 
 
 def check_runs(lengths, processors, said, long):
@@ -118,7 +121,7 @@ def check_runs(lengths, processors, said, long):
         before = one.members()
         one.next_run(lengths[place + 1])
         after = one.members()
-        assert one.planned == 0 and (after["task"] == before["task"]).all()
+        assert one.planned == 0 and (after[["task", "lag"]] == before[["task", "lag"]]).all()
         taken = dict(zip(before["task"].tolist(), (before["next"] - after["next"]).tolist()))
         assert (after["next"] <= after["cost"] + 1).all()
         lowered = {name: lowered.get(name, 0) + number for name, number in taken.items()}

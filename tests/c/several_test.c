@@ -221,13 +221,13 @@ static void lags(void) {
 /* ---- members */
 
 static void same_member(struct pfair_member got, const char *name, uint64_t period, uint64_t early, uint64_t joined,
-                        uint64_t next, uint64_t theta, uint64_t freed_at) {
+                        uint64_t next, uint64_t theta, uint64_t freed_at, int64_t lag) {
     struct pfair_name wanted = pfair_name_of(name);
     CHECK(!memcmp(&got.name, &wanted, sizeof wanted) && got.cost == 1 && got.period == period && got.early == early &&
               got.joined == joined && got.next == next && got.theta == theta && got.is_departing == (freed_at != 0) &&
-              got.freed_at == freed_at,
-          "%.16s: next %" PRIu64 ", theta %" PRIu64 ", freed at %" PRIu64, got.name.bytes, got.next, got.theta,
-          got.freed_at);
+              got.freed_at == freed_at && got.lag == lag,
+          "%.16s: next %" PRIu64 ", theta %" PRIu64 ", freed at %" PRIu64 ", lag %" PRId64, got.name.bytes, got.next,
+          got.theta, got.freed_at, got.lag);
 }
 
 /* One processor: z of 1/2 from slot 0 on, its second subtask late by 3; b of 1/3 from slot 2 on, which departs at 4. */
@@ -236,8 +236,9 @@ static uint64_t members_after(uint64_t slots, struct pfair_member *rows) {
              count = slots < 1                ? 0
                      : slots < 3 || slots > 5 ? 1
                                               : 2;
-    if (count > 0) same_member(rows[0], "z", 2, 0, 0, next, theta, 0);
-    if (count > 1) same_member(rows[1], "b", 3, 1, 2, 2, 2, slots < 5 ? 0 : 5);
+    static const int64_t lags_of_z[] = {0, -1, 0, 1, 2, 3, 2, 3}, lags_of_b[] = {0, 0, 0, -2, -1, 0};
+    if (count > 0) same_member(rows[0], "z", 2, 0, 0, next, theta, 0, lags_of_z[slots]);
+    if (count > 1) same_member(rows[1], "b", 3, 1, 2, 2, 2, slots < 5 ? 0 : 5, lags_of_b[slots]);
     return count;
 }
 

@@ -68,10 +68,10 @@ OUTCOMES = {
 LAG = _rows(time=_NUMBER, task=_NAME, numerator=("i8", 8), period=_NUMBER)
 #: A member, a task that was admitted and isn't freed, of weight cost/period: `early` 0 or 1; `joined` the slot in which
 #: it was admitted; `next` its next subtask, from 1; `theta` the offset of that one's window, in slots; `is_departing` 0
-#: or 1; `freed_at` as in DECISION.
+#: or 1; `freed_at` as in DECISION; `lag` its lag as a numerator over its period.
 MEMBER = _rows(
     task=_NAME, cost=_NUMBER, period=_NUMBER, early=_NUMBER, joined=_NUMBER, next=_NUMBER, theta=_NUMBER,
-    is_departing=_NUMBER, freed_at=_NUMBER,
+    is_departing=_NUMBER, freed_at=_NUMBER, lag=("i8", 8),
 )
 #: An entry as the library reads it: `kind` 0 for no announcement, 1 for an arrival, 2 for a departure, 3 for a late
 #: release; `name` with zeros behind it, and `length` its length; the rest as in `Entry`.

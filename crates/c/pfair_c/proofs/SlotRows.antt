@@ -6,7 +6,6 @@ use Rattle.std.proofs.lemmas.Option.{same_Some, none-some}
 use Rattle.pfair_table.specs.declared.pick.Pick.{Pick}
 use Rattle.pfair_table.specs.Table.{Origin, Table}
 use Rattle.pfair_c.specs.declared.quanta.PfairQuantum.{PfairQuantum}
-use Rattle.std.proofs.Math.Nat.{le_refl}
 use Rattle.std.proofs.Math.Seq.{take-length, take-append_seam, drop-append_seam}
 use Rattle.pfair_table.specs.Places.{places_in, IsFit}
 use Rattle.pfair_c.specs.Rows.{quantum_row, quanta_at, quanta_in, rows_of, slot_of, written_over}

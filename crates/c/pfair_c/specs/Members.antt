@@ -1,15 +1,25 @@
 -- Members, as C has them.
-use Rattle.std.specs.Prelude.{◌≡◌, false, if◌then◌else◌, List, length, unwrap_or}
-use Rattle.pfair_admission.specs.Member.{Member, theta, is_departing}
+use Rattle.std.specs.Prelude.{ℕ, ℤ, pos, neg_ℤ, ◌≡◌, ◌^◌, ◌-◌, false, if◌then◌else◌, List, length, unwrap_or}
+use Rattle.std.specs.Int.{int_max, int_min}
+use Rattle.pfair_admission.specs.Member.{Member, theta, is_departing, lag_at}
 use Rattle.pfair_replica.specs.HeldRows.{replica_of}
 use Rattle.pfair_replica.specs.Replica.{has_torn}
 use Rattle.pfair_table.specs.Refinement.{Dispatch, AreMembersOf, members_after}
+use Rattle.pfair_table.specs.Table.{slot_of}
 use Rattle.pfair_c.specs.Rows.{name_row}
 use Rattle.pfair_c.specs.declared.members.PfairMember.{PfairMember}
 
--- a member, with the offset of its next subtask; the slot that its departure frees, or 0 if it isn't departing
-abbrev pub member_row : Member → PfairMember
-member_row m = record {
+-- the slot that is planned next, counted from the first slot of the first run
+abbrev pub time_of : Dispatch → ℕ
+time_of d = slot_of d.origin (length d.tables)
+
+-- as far as 64 bits hold it
+abbrev pub within_64_bits : ℤ → ℤ
+within_64_bits x = int_max (neg_ℤ (pos (2 ^ 63))) (int_min x (pos (2 ^ 63 - 1)))
+
+-- a member, with the offset of its next subtask; the slot that its departure frees, or 0 if it isn't departing; its lag at this time
+abbrev pub member_row : ℕ → Member → PfairMember
+member_row time m = record {
   name = name_row m.name;
   cost = m.weight.cost;
   period = m.weight.period;
@@ -19,6 +29,7 @@ member_row m = record {
   theta = theta m m.next;
   is_departing = if is_departing m then 1 else 0;
   freed_at = unwrap_or m.freed_at 0;
+  lag = within_64_bits (lag_at time m);
 }
 
 -- the members after the slots that are planned: if nothing that is held is torn, those of the contents

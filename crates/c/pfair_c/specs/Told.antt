@@ -14,7 +14,7 @@ use Rattle.pfair_admission.specs.Member.{Member}
 use Rattle.pfair_table.specs.Refinement.{Dispatch}
 use Rattle.pfair_c.specs.declared.answer.TheConstants.{DONE, MEMORY, NO_ROOM, NOT_PLANNED, SPENT}
 use Rattle.pfair_c.specs.declared.members.PfairMember.{PfairMember}
-use Rattle.pfair_c.specs.Members.{member_row, AreMembersNow}
+use Rattle.pfair_c.specs.Members.{member_row, time_of, AreMembersNow}
 
 -- the rows of a planned slot: none if it is forgotten
 abbrev pub told_at : {A : Type 0} → (forgotten : ℕ) → List A → ℕ → Option A
@@ -85,4 +85,4 @@ pub record AreLagsTold (from to : ℕ) (d : Dispatch) (answer : ℕ) (old new : 
 -- the members after the planned slots are given, if the dispatcher isn't spent
 pub record AreMembersTold (d : Dispatch) (answer : ℕ) (old new : ℕ × List PfairMember) : Type 0 where
   pub spent : d.spent ≡ true → (answer ≡ SPENT) × (new ≡ old)
-  pub told : d.spent ≡ false → (members : List Member) × AreMembersNow d members × AreTold rows_count (λ _. Some (map member_row members)) d answer old new
+  pub told : d.spent ≡ false → (members : List Member) × AreMembersNow d members × AreTold rows_count (λ _. Some (map (member_row (time_of d)) members)) d answer old new

@@ -2,7 +2,7 @@
 ghost use Rattle.std.specs.Prelude.{◌≡◌, ◌≤◌, ◌+◌, length, map, set, slice_get};
 ghost use Rattle.pfair_admission.specs.Member.{Member};
 ghost use Rattle.pfair_c.specs.Answered.{Reads};
-ghost use Rattle.pfair_c.specs.Members.{member_row};
+ghost use Rattle.pfair_c.specs.Members.{member_row, time_of};
 ghost use Rattle.pfair_c.specs.Rows.{written_over};
 ghost use Rattle.pfair_c.specs.Told.{AreMembersTold};
 
@@ -12,6 +12,8 @@ use crate::open::tell_rows;
 use crate::rows::lay_rows;
 use pfair_admission::Members;
 use pfair_handle::Handle;
+use pfair_ready::HeapReady;
+use pfair_table::Dispatcher;
 use std::alloc::Global;
 
 /// A task that was admitted and isn't freed.
@@ -36,11 +38,13 @@ pub struct PfairMember {
     pub is_departing: u64,
     /// The slot from which its weight and its name are free, if it is departing, else 0.
     pub freed_at: u64,
+    /// Its lag after the planned slots, as a numerator over the period.
+    pub lag: i64,
 }
 
 /// Writes the members after the planned slots, in the order of admission: the tasks that were
 /// admitted and aren't freed at the boundary of the last of these slots, each with the subtask that
-/// is next after that slot's table.
+/// is next after that slot's table, and with its lag then.
 ///
 /// Answers 0 with the number of rows and the rows; 102 if the handle has no dispatcher; 31 if the
 /// dispatcher is spent; 103 with the number of rows wanted, if there are fewer. Nothing else is
@@ -58,27 +62,39 @@ pub extern "C" fn pfair_members(
         let Some(members) = dispatcher.members() else {
             return SPENT;
         };
+        let time = time_of(dispatcher);
         lay_rows(members.len() as u64, count, rows, |rows| {
-            write_members(members, rows)
+            write_members(members, time, rows)
         })
     })
 }
 
-/// Writes the members over the first rows, in the order of admission. O(members + l) for l late
-/// releases accepted of them.
-fn write_members(members: &Members, rows: &mut [PfairMember])
+// The slot that is planned next, counted over all runs as members' slots are.
+fn time_of(dispatcher: &Dispatcher<HeapReady>) -> u64
+    ensures { result ≡ time_of dispatcher.now }
+{
+    let began = match dispatcher.carried() {
+        Some((_, slot)) => slot,
+        None => 0,
+    };
+    began + dispatcher.next_slot()
+}
+
+/// Writes the members over the first rows, in the order of admission, with their lags at a time.
+/// O(members + l) for l late releases accepted of them.
+fn write_members(members: &Members, time: u64, rows: &mut [PfairMember])
     requires { length members.now.members ≤ length rows.old }
-    ensures { rows.new ≡ written_over (map member_row members.now.members) rows.old }
+    ensures { rows.new ≡ written_over (map (member_row time) members.now.members) rows.old }
 {
     for place in 0..members.len() {
-        write_row(members, place, rows);
+        write_row(members, place, time, rows);
     }
 }
 
 // Writes the member at a place over the row at that place.
-fn write_row(members: &Members, place: usize, rows: &mut [PfairMember])
+fn write_row(members: &Members, place: usize, time: u64, rows: &mut [PfairMember])
     requires { place + 1 ≤ length rows.old }
-    ensures { (member : Member) → slice_get members.now.members place ≡ Some member → rows.new ≡ set rows.old place (member_row member) }
+    ensures { (member : Member) → slice_get members.now.members place ≡ Some member → rows.new ≡ set rows.old place (member_row time member) }
 {
     if let Some((_, member)) = members.at(place) {
         let weight = member.weight();
@@ -92,6 +108,7 @@ fn write_row(members: &Members, place: usize, rows: &mut [PfairMember])
             theta: member.theta(member.next()),
             is_departing: if member.is_departing() { 1 } else { 0 },
             freed_at: member.freed_at().unwrap_or(0),
+            lag: member.lag(time).clamp(i64::MIN as i128, i64::MAX as i128) as i64,
         };
     }
 }

@@ -1,4 +1,4 @@
-use Rattle.std.proofs.Common.{◌+◌, ◌-◌, ◌<◌, ◌≤◌, List, ℕ, length, arith, rules, sym}
+use Rattle.std.proofs.Common.{◌+◌, ◌-◌, ◌<◌, List, length, arith, rules, sym}
 use Rattle.std.proofs.lemmas.List.{length-map}
 use Rattle.pfair_table.specs.Refinement.{Dispatch}
 use Rattle.pfair_c.specs.declared.lags.PfairLag.{PfairLag}
