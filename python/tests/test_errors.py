@@ -17,6 +17,9 @@ TEXTS = {int(number): text.replace("pfair_", "") for number, text in re.findall(
 TEXTS |= {52: "the logs settle fewer slots than are wanted", 100: "a number is out of its range"}
 TEXTS |= {102: "the dispatcher is closed"}
 INSIDE = (101, 103)
+# the names there, where they aren't those of the exceptions
+NAMES = {60: "FILE_NOT_TOML", 61: "FILE_MISSING", 62: "FILE_WRONG_KIND", 63: "FILE_RANGE", 64: "FILE_ENTRY"}
+NAMES |= {65: "FILE_VERSION", 90: "MEMORY"}
 VALUES = {*range(1, 16), 40, 41, 100}
 FILES = {*range(60, 67)}
 
@@ -28,6 +31,8 @@ def test_each_answer_has_its_exception():
         second = ValueError if number in VALUES else MemoryError if number == 90 else None
         family = (pfair.TaskFileError,) if number in FILES else (pfair.PfairError, *([second] if second else []))
         assert kind.__bases__ == family and kind.__doc__.startswith(kind.text) and kind().number == number
+        name = NAMES.get(number) or re.sub("(?<!^)([A-Z])", r"_\1", kind.__name__).upper()
+        assert number == 52 or f" PFAIR_{name} = {number}" in ENUM
     kinds = {kind for kind in vars(errors).values() if isinstance(kind, type) and issubclass(kind, Exception)}
     assert kinds == {*pfair.BY_NUMBER.values(), pfair.PfairError, pfair.TaskFileError}
 
