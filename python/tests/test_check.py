@@ -276,9 +276,13 @@ def test_order_over_many_slots(monkeypatch):
     script = pfair.Script(2, 24, 200, [log, [pfair.arrive("c", 2, 3, at=60, floor=50)]])
     rows = [row[:2] for row in rows_of(pfair.schedule(script).quanta)]
     wanted = (171, "order", "c", 75, "it doesn't run, and a processor is idle")
+    forgotten = []
+    monkeypatch.setattr(pfair.Dispatcher, "forget", lambda self, slots: forgotten.append(slots))
     for size in (1, 7, 171, 172):
         monkeypatch.setattr(_check, "_SLOTS_AT_ONCE", size)
-        assert pfair.check(script, rows, order=True) == []
+        # also what is planned before it is let go
+        forgotten.clear()
+        assert pfair.check(script, rows, order=True) == [] and forgotten == [*range(size, 200, size), 200]
         # a later one isn't told
         found = pfair.check(script, [row for row in rows if row not in ([171, "c"], [198, "a"])], order=True)
         assert wanted in found and [one.kind for one in found].count("order") == 1
