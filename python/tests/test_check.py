@@ -280,7 +280,6 @@ def test_order_over_many_slots(monkeypatch):
     monkeypatch.setattr(pfair.Dispatcher, "forget", lambda self, slots: forgotten.append(slots))
     for size in (1, 7, 171, 172):
         monkeypatch.setattr(_check, "_SLOTS_AT_ONCE", size)
-        # also what is planned before it is let go
         forgotten.clear()
         assert pfair.check(script, rows, order=True) == [] and forgotten == [*range(size, 200, size), 200]
         # a later one isn't told

@@ -70,10 +70,12 @@ def test_as_a_program():
     assert status == 0 and "usage: check_schedule [-h] [--order] TASKS ROWS\n" in out and CHECK.__doc__.strip() in out
 
 
-def test_package_that_cant_be_made(call, monkeypatch):
-    monkeypatch.setattr(CHECK, "package", failing(ImportError("make_library failed")))
-    done = call(CHECK, TASKS, ROWS)
-    assert done == (2, "", "scripts/check_schedule: pfair: make_library failed\n")
+def test_what_cant_be_made(call, monkeypatch):
+    faults = ("package", ImportError("make_library failed"), "pfair"), ("check", MemoryError("no memory"), ROWS)
+    for name, fault, reading in faults:
+        with monkeypatch.context() as patch:
+            patch.setattr(CHECK, name, failing(fault))
+            assert call(CHECK, TASKS, ROWS) == (2, "", f"scripts/check_schedule: {reading}: {fault}\n")
 
 
 def test_comment_lines(call, tmp_path):
