@@ -11,7 +11,7 @@
  * same executive on bare metal.
  *
  * `run` writes who really ran in which slot, as the tasks themselves noted it, in the form of `pfair replay --affinity`;
- * and on standard error how long planning and waking up took. `file` writes the task file of the same announcements.
+ * and on standard error how long planning and waking up took, and what became of messages. `file` writes the task file of the same announcements.
  * With `lose` that processor's thread ends at the slot. The others wait for it, close its log, and go on; the rows lack
  * what it would have run until then, and on standard error stands at which slot a task `down` of weight 1 arrives.
  * Exit status: 0; 1 if something was wrong; 2 for other words on the command line; 3 if an entry never came.
@@ -293,12 +293,10 @@ static void *be_processor(void *itself) {
     announce(&p->exchange, announcements, ANNOUNCEMENTS, 0);
     uint64_t end = p->exchange.number == lost.processor && lost.slot < quanta ? lost.slot : quanta;
     for (uint64_t slot = 0; slot < end; slot++) {
-        struct timespec now;
         sleep_until(boundary(slot));
         p->waking[slot] = microseconds_since(boundary(slot));
-        clock_gettime(CLOCK_MONOTONIC, &now);
         plan(p, slot);
-        p->planning[slot] = microseconds_since(now);
+        p->planning[slot] = microseconds_since(boundary(slot)) - p->waking[slot];
         dispatch(p, slot);
         announce(&p->exchange, announcements, ANNOUNCEMENTS, slot);
     }
@@ -372,8 +370,10 @@ static void run(void) {
     if (!processors[0].is_first_in_first_out) fprintf(stderr, "executive: SCHED_FIFO isn't allowed here: threads have the usual priority\n");
     tell_rows();
     for (unsigned k = 0; k < machine; k++) {
+        const struct exchange *x = &processors[k].exchange;
         tell("waking up", k, processors[k].waking);
         tell("planning", k, processors[k].planning);
+        fprintf(stderr, "processor %u, messages: %" PRIu64 " lost, %" PRIu64 " came again, %" PRIu64 " requests\n", k, x->lost, x->known, x->asked);
     }
 }
 

@@ -119,6 +119,7 @@ static void print_depth(const char *what, const uint8_t *stack, uint64_t size) {
 }
 
 static void print_notes(void) {
+    put_out(NOTES, "a quantum has %u time stamps\n", stamps_per_quantum);
     for (unsigned k = 0; k < machine; k++) {
         const struct exchange *x = &planners[k].exchange;
         put_out(NOTES, "processor %u: time stamps: ", (uint64_t)k);

@@ -24,6 +24,8 @@ static void look_around(struct task *task) {
 
 static void be_task(void *itself) {
     struct task *task = itself;
+    uint32_t settings = __builtin_ia32_stmxcsr();
+    if (settings != 0x1f80) stop("a task begins with another MXCSR than after a reset", settings);
     for (;; task->rounds++) {
         look_around(task);
         uint64_t pattern = (uint64_t)task * 0x9e3779b97f4a7c15 + task->rounds;

@@ -19,8 +19,8 @@ EXAMPLES = pathlib.Path(os.environ.get("PFAIR_EXAMPLES", TOP / "examples"))
 SCRIPTS = pathlib.Path(os.environ.get("PFAIR_SCRIPTS", TOP / "scripts"))
 # what the scripts share
 sys.path.append(str(SCRIPTS))
-# the most that a test may take
-SECONDS = 120
+# the most that a test may take, also on a busy machine
+SECONDS = 300
 # hypothesis keeps tables of its own, which don't belong into the tree
 STORAGE = tempfile.TemporaryDirectory()
 atexit.register(STORAGE.cleanup)
@@ -154,8 +154,8 @@ class Done(NamedTuple):
 
 
 @pytest.fixture
-def call(monkeypatch, capsys):
-    """Runs a script's main() in this process."""
+def call(monkeypatch, capfd):
+    """Runs a script's main() in this process, with all that it and its own programs write."""
 
     def called(module, *words, given=""):
         monkeypatch.setattr(sys, "argv", [module.__name__, *map(str, words)])
@@ -167,10 +167,28 @@ def call(monkeypatch, capsys):
             status = ended.code or 0
             if isinstance(status, str):
                 status, more = 1, f"{status}\n"
-        out, err = capsys.readouterr()
+        out, err = capfd.readouterr()
         return Done(status, out, err + more)
 
     return called
+
+
+def failing(fault):
+    """A function that raises this, whatever it is given."""
+
+    def fails(*_, **__):
+        raise fault
+
+    return fails
+
+
+def ended(patch, module, *words):
+    """What a script returns whose reader has ended, and whether it complained."""
+    out, err = io.StringIO(), io.StringIO()
+    out.write = out.writelines = failing(BrokenPipeError())
+    for name, value in (("argv", [module.__name__, *map(str, words)]), ("stdout", out), ("stderr", err)):
+        patch.setattr(sys, name, value)
+    return module.main(), not err.closed
 
 
 @pytest.fixture

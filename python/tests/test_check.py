@@ -6,13 +6,15 @@ from fractions import Fraction
 import numpy as np
 import pytest
 from conftest import EXAMPLES, assert_plain, refusal
+from hypothesis import given, settings
+from hypothesis import strategies as some
 from recorded import drawn, rows_of, stays_of
 
 import pfair
 from pfair import _check
 
 FILES = sorted(EXAMPLES.glob("*.toml"))
-SETS = 500
+SETS = 300
 
 
 def found_in(script, rows, **more):
@@ -121,7 +123,7 @@ KINDS = ("crowded", "early", "tardy", "unserved", "twice", "absent", "index", "p
 
 
 def test_planted():
-    """Of 500 sets, one thing of each kind at a random place: it is found, with slot and task, and nothing else."""
+    """Of 300 sets, one thing of each kind at a random place: it is found, with slot and task, and nothing else."""
     rng, done, seen = random.Random(5), Counter(), 0
     while min(done[kind] for kind in KINDS) < SETS:
         seen += 1
@@ -274,9 +276,12 @@ def test_order_over_many_slots(monkeypatch):
     script = pfair.Script(2, 24, 200, [log, [pfair.arrive("c", 2, 3, at=60, floor=50)]])
     rows = [row[:2] for row in rows_of(pfair.schedule(script).quanta)]
     wanted = (171, "order", "c", 75, "it doesn't run, and a processor is idle")
+    forgotten = []
+    monkeypatch.setattr(pfair.Dispatcher, "forget", lambda self, slots: forgotten.append(slots))
     for size in (1, 7, 171, 172):
         monkeypatch.setattr(_check, "_SLOTS_AT_ONCE", size)
-        assert pfair.check(script, rows, order=True) == []
+        forgotten.clear()
+        assert pfair.check(script, rows, order=True) == [] and forgotten == [*range(size, 200, size), 200]
         # a later one isn't told
         found = pfair.check(script, [row for row in rows if row not in ([171, "c"], [198, "a"])], order=True)
         assert wanted in found and [one.kind for one in found].count("order") == 1
@@ -390,27 +395,18 @@ def test_frames_of_a_schedule():
     assert {one.kind for one in found} == {"index", "tardy"}
 
 
-def test_damaged_texts():
-    """10,000 mutations of a text: each is read, or refused with its line."""
-    file = EXAMPLES / "places.toml"
-    script, text, rng = pfair.read_task_file(file), file.with_suffix(".placed").read_bytes(), random.Random(3)
-    refused = 0
-    for _ in range(10_000):
-        damaged = bytearray(text)
-        for _ in range(rng.randint(1, 3)):
-            at = rng.randrange(len(damaged) + 1)
-            how = rng.randrange(4)
-            if how == 0:
-                damaged[at:at] = bytes([rng.choice(b'\0\r\n,;"x9 -\xff\xef')])
-            elif how == 1:
-                del damaged[at : at + rng.choice((1, 1, 5))]
-            elif how == 2:
-                damaged[at : at + 1] = bytes([rng.randrange(256)])
-            else:
-                damaged = damaged[:at]
-        try:
-            assert isinstance(pfair.check(script, bytes(damaged)), list)
-        except ValueError as fault:
-            refused += 1
-            assert type(fault) is ValueError and str(fault).startswith("line ")
-    assert 2_000 < refused < 9_999
+PLACED = EXAMPLES.joinpath("places.placed").read_bytes()
+DAMAGE = some.one_of(some.binary(max_size=3), some.text('\r\n,;" -0\ufeff', max_size=2).map(str.encode))
+
+
+@settings(max_examples=200)
+@given(some.lists(some.tuples(some.integers(0, len(PLACED)), DAMAGE, some.integers(0, 5)), min_size=1, max_size=3))
+def test_damaged_texts(damages):
+    """A text that is damaged somewhere is read, or refused with its line."""
+    text = PLACED
+    for at, more, less in damages:
+        text = text[:at] + more + text[at + less :]
+    try:
+        assert isinstance(pfair.check(EXAMPLES / "places.toml", text), list)
+    except ValueError as fault:
+        assert type(fault) is ValueError and str(fault).startswith("line ")

@@ -1,9 +1,8 @@
 """scripts/check_schedule: its lines and statuses, and what can't be read."""
-import io
 import subprocess
 import sys
 
-from conftest import EXAMPLES, SCRIPTS, module_of
+from conftest import EXAMPLES, SCRIPTS, ended, failing, module_of
 
 import pfair
 
@@ -12,9 +11,8 @@ TASKS, ROWS = EXAMPLES / "full_load.toml", EXAMPLES / "full_load.replay"
 
 
 def run(*words, rows=b""):
-    done = subprocess.run(
-        [sys.executable, SCRIPTS / "check_schedule", *map(str, words)], input=rows, capture_output=True
-    )
+    program = [sys.executable, SCRIPTS / "check_schedule", *map(str, words)]
+    done = subprocess.run(program, input=rows, capture_output=True)
     return done.returncode, done.stdout.decode(), done.stderr.decode()
 
 
@@ -47,10 +45,7 @@ def test_refused(call, tmp_path):
     bad, none = tmp_path / "bad.toml", tmp_path / "none"
     bad.write_text("version = 3\n")
     stalled = tmp_path / "stalled.toml"
-    stalled.write_text(
-        "version = 1\nprocessors = 1\nframe = 1\nslots = 8\n"
-        "entry = [{processor = 0, floor = 5}, {processor = 0, floor = 4}]\n"
-    )
+    stalled.write_text(pfair.Script(1, 1, 8, [[pfair.promise(5), pfair.promise(4)]]).text())
     rows = tmp_path / "rows"
     rows.write_text("slot,task\n0,a\n1,?\n")
     for words, said in (
@@ -72,16 +67,15 @@ def test_as_a_program():
     assert (status, out, said) == (2, "", "scripts/check_schedule: -: line 1: the header has no column 'slot': ''\n")
     assert run(TASKS)[0] == 2 and "usage: " in run(TASKS)[2]
     status, out, said = run("--help")
-    assert status == 0 and "[--order] TASKS ROWS\n" in out and CHECK.__doc__.strip() in out
+    assert status == 0 and "usage: check_schedule [-h] [--order] TASKS ROWS\n" in out and CHECK.__doc__.strip() in out
 
 
-def test_package_that_cant_be_made(call, monkeypatch):
-    def fails():
-        raise ImportError("make_library failed")
-
-    monkeypatch.setattr(CHECK, "package", fails)
-    done = call(CHECK, TASKS, ROWS)
-    assert done == (2, "", "scripts/check_schedule: pfair: make_library failed\n")
+def test_what_cant_be_made(call, monkeypatch):
+    faults = ("package", ImportError("make_library failed"), "pfair"), ("check", MemoryError("no memory"), ROWS)
+    for name, fault, reading in faults:
+        with monkeypatch.context() as patch:
+            patch.setattr(CHECK, name, failing(fault))
+            assert call(CHECK, TASKS, ROWS) == (2, "", f"scripts/check_schedule: {reading}: {fault}\n")
 
 
 def test_comment_lines(call, tmp_path):
@@ -103,12 +97,5 @@ def test_comment_lines(call, tmp_path):
     assert call(CHECK, TASKS, rows) == (2, "", f"scripts/check_schedule: {rows}: line 2: '#a' is no task's name\n")
 
 
-def test_a_reader_that_ends(call, monkeypatch):
-    class Closed(io.StringIO):
-        def writelines(self, lines):
-            raise BrokenPipeError
-
-    monkeypatch.setattr(sys, "argv", ["check_schedule", str(TASKS), str(ROWS)])
-    monkeypatch.setattr(sys, "stdout", Closed())
-    monkeypatch.setattr(sys, "stderr", io.StringIO())
-    assert CHECK.main() == 0 and sys.stderr.closed
+def test_a_reader_that_ends(monkeypatch):
+    assert ended(monkeypatch, CHECK, TASKS, ROWS) == (0, False)

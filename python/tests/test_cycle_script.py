@@ -9,7 +9,7 @@ import sys
 
 import pytest
 import static_sets
-from conftest import EXAMPLES, SCRIPTS, module_of
+from conftest import EXAMPLES, SCRIPTS, ended, failing, module_of
 from hypothesis import given
 from static_sets import script_with
 
@@ -18,7 +18,7 @@ import pfair
 CYCLE = module_of("cycle")
 FULL = EXAMPLES / "full_load.toml"
 TYPES = {"uint8_t": 2**8, "uint16_t": 2**16, "uint32_t": 2**32}
-HEADER = '''\
+COMMENT = '''\
 /*
  * One cycle of the static schedule of "{file}", by scripts/cycle.
  *
@@ -27,39 +27,6 @@ HEADER = '''\
  * quanta of each task in a cycle, and cycle_name its name.
  */
 #ifndef CYCLE_H
-#define CYCLE_H
-
-#include <stdint.h>
-
-#define CYCLE_SLOTS 6
-#define CYCLE_PROCESSORS 2
-#define CYCLE_TASKS 2
-#define CYCLE_IDLE 2
-
-static const char *const cycle_name[CYCLE_TASKS + 1] = {{
-    "a", "b", "-"
-}};
-static const uint8_t cycle_quanta[CYCLE_TASKS + 1] = {{
-    3, 4, 0
-}};
-static const uint8_t cycle_task[CYCLE_SLOTS][CYCLE_PROCESSORS] = {{
-    {{1, 0}},
-    {{1, 2}},
-    {{0, 2}},
-    {{1, 2}},
-    {{1, 0}},
-    {{2, 2}},
-}};
-static const uint8_t cycle_index[CYCLE_SLOTS][CYCLE_PROCESSORS] = {{
-    {{1, 1}},
-    {{2, 0}},
-    {{2, 0}},
-    {{3, 0}},
-    {{4, 3}},
-    {{0, 0}},
-}};
-
-#endif
 '''
 
 
@@ -115,8 +82,12 @@ def written(call, folder, script, *words):
 
 
 def test_header(call, tmp_path):
-    done, file = written(call, tmp_path, script_with(2, 6, ("a", 1, 2), ("b", 2, 3)))
-    assert done == (0, HEADER.format(file=file), "")
+    script = script_with(2, 6, ("a", 1, 2), ("b", 2, 3))
+    done, file = written(call, tmp_path, script)
+    assert (done.status, done.err) == (0, "") and done.out.startswith(COMMENT.format(file=file))
+    check_header(done.out, script.cycle())
+    rows = done.out.partition("cycle_task[CYCLE_SLOTS][CYCLE_PROCESSORS] = ")[2].splitlines()
+    assert rows[:4] == ["{", "    {1, 0},", "    {1, 2},", "    {0, 2},"]
 
 
 @given(static_sets.SCRIPTS)
@@ -125,23 +96,13 @@ def test_headers_at_random(script):
     check_header("".join(CYCLE.header_of(CYCLE.Table(cycle), "tasks.toml", "cycle")), cycle)
 
 
-@pytest.mark.parametrize("tasks, kind", [(254, "uint8_t"), (255, "uint8_t"), (256, "uint16_t")])
-def test_types_of_tasks(call, tmp_path, tasks, kind):
+@pytest.mark.parametrize("tasks, cost, bits", [(255, 1, "8 8"), (256, 1, "16 8"), (1, 255, "8 8"), (1, 256, "8 16")])
+def test_types(call, tmp_path, tasks, cost, bits):
     """The number of no task has to fit too."""
-    script = script_with(2, 200, *((f"t{place}", 1, 200) for place in range(tasks)))
+    script = script_with(2, 512, *((f"t{place}", cost, 512) for place in range(tasks)))
     done, _ = written(call, tmp_path, script)
-    assert done.status == 0 and done.err == ""
-    assert check_header(done.out, script.cycle()) == {"task": kind, "quanta": "uint8_t", "index": "uint8_t"}
-
-
-@pytest.mark.parametrize(
-    "cost, kind", [(255, "uint8_t"), (256, "uint16_t"), (65_535, "uint16_t"), (65_536, "uint32_t")]
-)
-def test_types_of_indexes(call, tmp_path, cost, kind):
-    script = script_with(1, 65_536, ("a", cost, cost if cost == 65_536 else cost + 1))
-    script.frame = script.logs[0][0].period
-    done, _ = written(call, tmp_path, script)
-    assert check_header(done.out, script.cycle()) == {"task": "uint8_t", "quanta": kind, "index": kind}
+    task, other = (f"uint{number}_t" for number in bits.split())
+    assert check_header(done.out, script.cycle()) == {"task": task, "quanta": other, "index": other}
 
 
 def test_type_of_a_number():
@@ -244,18 +205,12 @@ def test_refused(call, tmp_path):
 
 
 def test_memory_that_is_refused(call, monkeypatch):
-    def fails(*given):
-        raise MemoryError("no memory")
-
-    monkeypatch.setattr(CYCLE, "Table", fails)
+    monkeypatch.setattr(CYCLE, "Table", failing(MemoryError("no memory")))
     assert call(CYCLE, FULL) == (2, "", f"scripts/cycle: {FULL}: no memory\n")
 
 
 def test_package_that_cant_be_made(call, monkeypatch):
-    def fails():
-        raise ImportError("no numpy")
-
-    monkeypatch.setattr(CYCLE, "package", fails)
+    monkeypatch.setattr(CYCLE, "package", failing(ImportError("no numpy")))
     assert call(CYCLE, FULL) == (2, "", "scripts/cycle: pfair: no numpy\n")
 
 
@@ -276,11 +231,4 @@ def test_as_a_program(call):
 
 
 def test_a_reader_that_ends(monkeypatch):
-    class Closed(io.StringIO):
-        def writelines(self, lines):
-            raise BrokenPipeError
-
-    monkeypatch.setattr(sys, "argv", ["cycle", str(FULL)])
-    monkeypatch.setattr(sys, "stdout", Closed())
-    monkeypatch.setattr(sys, "stderr", io.StringIO())
-    assert CYCLE.main() == 0 and sys.stderr.closed
+    assert ended(monkeypatch, CYCLE, FULL) == (0, False)

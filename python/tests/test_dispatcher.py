@@ -1,7 +1,6 @@
 """Dispatchers: what each call does with entries in any order, and what it tells."""
 import gc
 import resource
-import threading
 
 import numpy as np
 import pytest
@@ -43,10 +42,6 @@ def test_windows(cost, more, first, count, theta):
         wanted = (theta + release, theta + deadline, int(index * period % cost != 0), theta + group if group else 0)
         assert row == wanted
 
-
-def test_windows_have_defaults():
-    rows = pfair.windows(8, 11, 3)
-    assert rows.tolist() == [(0, 2, 1, 4), (1, 3, 1, 4), (2, 5, 1, 8)] == pfair.windows(8, 11, 3, 1, 0).tolist()
 
 
 LOG = [pfair.arrive("a", 1, 2, at=1), pfair.late("a", 2, 1, at=2, floor=2), pfair.depart("a", at=3, floor=3)]
@@ -129,16 +124,6 @@ def test_what_is_missing():
         one.take(0, 2, pfair.promise(0))
         assert one.missing(0) is None and one.faults() == ([(0, 2)], [])
 
-
-def test_many_faults():
-    """Entries whose floor falls in several logs, and torn ones, each by processor and number."""
-    with pfair.Dispatcher(3, 6, 6, 9) as one:
-        for processor in (2, 0):
-            one.take_log(processor, [pfair.promise(3), pfair.promise(2), pfair.promise(1)])
-        for number in (7, 4):
-            one.take_log(1, [pfair.promise(3)], number)
-            one.take_log(1, [pfair.promise(2)], number)
-        assert one.faults() == ([(1, 4), (1, 7)], [(0, 2), (2, 2)])
 
 
 def test_absorbing():
@@ -248,26 +233,6 @@ def test_forgotten_slots():
         refusal(pfair.NotPlanned, f"{NOT_PLANNED}: slot 7", one.table, 7)
 
 
-def test_threads_share_one():
-    """Calls of several threads come one after another, and what they take is the same as what one takes."""
-    logs = [[pfair.arrive(f"t{processor}", 2, 3), pfair.promise(60)] for processor in range(8)]
-    shared, alone = pfair.Dispatcher(8, 6, 60, 8), pfair.Dispatcher(8, 6, 60, 8)
-
-    def tell(processor):
-        for number, entry in reversed(list(enumerate(logs[processor], 1))):
-            shared.take(processor, number, entry)
-            shared.plan()
-
-    threads = [threading.Thread(target=tell, args=(processor,)) for processor in range(8)]
-    for thread in threads:
-        thread.start()
-    for thread in threads:
-        thread.join()
-    for processor, log in enumerate(logs):
-        alone.take_log(processor, log)
-    alone.plan()
-    assert shared.planned == 60 and (shared.quanta() == alone.quanta()).all()
-
 
 def test_two_locks_are_taken_in_one_order():
     """Else two threads that absorb each other could wait for each other."""
@@ -286,7 +251,8 @@ def test_results_are_plain():
     """What isn't an array has numbers of Python alone."""
     with planned() as one:
         results = [one.table(0), one.places(0), one.mark(0), one.missing(0), one.held(0, 2), one.frontier, one.planned]
-        results += [one.take(1, 7, pfair.promise(8)), one.take_log(1, [pfair.promise(8)], 8), one.plan(), one.faults()]
+        results += [one.take(1, 7, pfair.promise(8)), one.take_log(1, [pfair.promise(8)], 8), one.plan()]
+        results += [one.take(1, 7, pfair.promise(9)), one.faults()]
         results += [one.processors, one.frame, one.slots, one.capacity, one.is_below(one)]
         for result in results:
             assert_plain(tuple(vars(result).values()) if isinstance(result, pfair.Entry) else result)

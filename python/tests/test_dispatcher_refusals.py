@@ -175,11 +175,8 @@ def test_limits_of_windows():
 
 def test_weights_of_windows():
     outside("count", 1_000_000, pfair.windows, 1, 2, 1_000_000, 3, most=999_999)
-    for kind, (cost, period) in (
-        (pfair.ZeroCost, (0, 1)),
-        (pfair.CostOverPeriod, (2, 1)),
-        (pfair.PeriodTooLong, (1, 10**9 + 1)),
-    ):
+    wrong = (pfair.ZeroCost, 0, 1), (pfair.CostOverPeriod, 2, 1), (pfair.PeriodTooLong, 1, 10**9 + 1)
+    for kind, cost, period in wrong:
         refusal(kind, f"{kind.text}: {cost}/{period}", pfair.windows, cost, period, 1)
 
 
@@ -196,11 +193,8 @@ def test_refused_entries():
     for entry in (pfair.Entry(-1), pfair.Entry(0, "leave", 0, "a")):
         with pytest.raises(pfair.OutOfRange):
             one.take(1, 3, entry)
-    for kind, processor, number in (
-        (pfair.NoSuchProcessor, 2, 1),
-        (pfair.NoSuchNumber, 0, 0),
-        (pfair.NoSuchNumber, 0, 6),
-    ):
+    wrong = (pfair.NoSuchProcessor, 2, 1), (pfair.NoSuchNumber, 0, 0), (pfair.NoSuchNumber, 0, 6)
+    for kind, processor, number in wrong:
         where = f"{kind.text}: entry {number} of processor {processor}"
         refusal(kind, where, one.take, processor, number, pfair.promise(1))
         refusal(kind, where, one.held, processor, number)
@@ -228,13 +222,10 @@ def without(text, key):
     return b"".join(line for line in text.splitlines(True) if not line.startswith(key + b" ="))
 
 
-KEYS = [(key, 0, without(HEAD, key)) for key in (b"version", b"processors", b"frame", b"slots")]
-KEYS += [
-    (key, 2, HEAD + ENTRY + without(LATE, key)) for key in (b"processor", b"floor", b"at", b"name", b"index", b"by")
-]
-KEYS += [(key, 1, HEAD + without(ARRIVE, key)) for key in (b"cost", b"period")]
-FAULTS = [(pfair.KeyMissing, f"{key.decode()} at {place}", text, {"place": place}) for key, place, text in KEYS]
-FAULTS += [
+FAULTS = [
+    (pfair.KeyMissing, "slots at 0", without(HEAD, b"slots"), {"place": 0}),
+    (pfair.KeyMissing, "period at 1", HEAD + without(ARRIVE, b"period"), {"place": 1}),
+    (pfair.KeyMissing, "by at 2", HEAD + ENTRY + without(LATE, b"by"), {"place": 2}),
     (pfair.KeyWrongKind, "processors at 0", HEAD.replace(b"2", b"'2'"), {"place": 0}),
     (pfair.KeyWrongKind, "entry at 0", HEAD + b"entry = 3\n", {"place": 0}),
     (pfair.KeyWrongKind, "early at 1", HEAD.replace(b"1", b"2") + ARRIVE + b"early = 3\n", {"place": 1}),

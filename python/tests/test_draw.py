@@ -8,7 +8,7 @@ import sys
 import pytest
 
 import pfair
-from conftest import EXAMPLES
+from conftest import EXAMPLES, failing
 from made_rows import CASES
 from pfair import _task_file, draw, picture
 
@@ -87,9 +87,9 @@ def test_faults(command, monkeypatch):
         b"52 stalled at slot 4": (draw.Refused("52 stalled at slot 4", 3), 3),
     }  # fmt: skip
     for said, (fault, status) in raised.items():
-        monkeypatch.setattr(draw, "source_of", lambda *_, fault=fault: (_ for _ in ()).throw(fault))
+        monkeypatch.setattr(draw, "source_of", failing(fault))
         assert command("lags", "file") == (status, b"", b"pfair_picture: " + said + b"\n")
-    monkeypatch.setattr(draw, "source_of", lambda *_: (_ for _ in ()).throw(KeyboardInterrupt()))
+    monkeypatch.setattr(draw, "source_of", failing(KeyboardInterrupt()))
     assert command("lags", "file") == (130, b"", b"")
 
 
@@ -107,7 +107,7 @@ def test_files(command, tmp_path, monkeypatch):
             assert out.read_bytes().startswith(start) and out.stat().st_mode & 0o777 == 0o640
     before = out.read_bytes()
     assert command("schedule", "file", "9", "8", "-o", str(out))[0] == 1
-    monkeypatch.setattr(draw.os, "replace", lambda *_: (_ for _ in ()).throw(OSError()))
+    monkeypatch.setattr(draw.os, "replace", failing(OSError()))
     assert command("schedule", "file", "-o", str(out)) == (5, b"", b"pfair_picture: 71 writing failed\n")
     assert out.read_bytes() == before and list(tmp_path.iterdir()) == [out]
     for nowhere in (str(tmp_path / "none" / "made.svg"), "/dev/full"):
@@ -132,7 +132,7 @@ def test_links_and_other_file_systems(command, tmp_path, monkeypatch):
     draw.write(b"small", str(link))
     assert asked[-1] == (real.parent, real, "small")
     # what is interrupted leaves nothing behind
-    monkeypatch.setattr(draw.os, "replace", lambda *_: (_ for _ in ()).throw(KeyboardInterrupt()))
+    monkeypatch.setattr(draw.os, "replace", failing(KeyboardInterrupt()))
     assert command("schedule", "file", "-o", str(link)) == (130, b"", b"")
     assert list(real.parent.iterdir()) == [real] and sorted(tmp_path.iterdir()) == [link, real.parent]
 
@@ -156,10 +156,12 @@ def test_a_full_disk(tmp_path):
 def test_titles_and_legends(command):
     rows = CASES["every_kind"][0]
     for words, how in (
-        (("--title", "Mine & yours"), ("Mine & yours", True)), (("--title", ""), ("", True)),
+        (("--title", "Mine & yöurs"), ("Mine & yöurs", True)), (("--title", ""), ("", True)),
         (("--no-legend",), (None, False)), (("--no-legend", "--title", "b"), ("b", False)),
     ):
-        assert command("schedule", "file", *words) == (0, picture.svg(rows, "schedule", 0, 130, *how).encode(), b"")
+        svg = picture.svg(rows, "schedule", 0, 130, *how)
+        assert command("schedule", "file", *words) == (0, svg.encode(), b"")
+        assert command("schedule", "file", "--html", *words) == (0, picture.page(svg).encode(), b"")
 
 
 CONVERTS = """#!/bin/sh
@@ -169,7 +171,7 @@ cat
 """
 FAILS = r"""#!/bin/sh
 cat > /dev/null
-printf '\377%0299d' 0 >&2
+printf '\n\303\251\377%0299d' 0 >&2
 echo nothing useful
 exit 3
 """
@@ -181,11 +183,12 @@ def test_rsvg_convert(command, tmp_path, monkeypatch):
     monkeypatch.setenv("PATH", f"{tmp_path}{os.pathsep}{os.environ['PATH']}")
     stand_in.write_text(CONVERTS)
     stand_in.chmod(0o755)
-    svg = picture.svg(CASES["every_kind"][0]).encode()
+    svg = picture.svg(CASES["every_kind"][0], title="ü").encode()
     for form, words in (("png", b"--format png --zoom 2"), ("pdf", b"--format pdf")):
-        assert command("schedule", "file", f"--{form}") == (0, b"--unlimited " + words + b"\n" + svg, b"")
+        wanted = b"--unlimited " + words + b"\n" + svg
+        assert command("schedule", "file", f"--{form}", "--title", "ü") == (0, wanted, b"")
     stand_in.write_text(FAILS)
-    said = f"pfair_picture: 71 writing failed: rsvg-convert: {chr(0xFFFD) + '0' * 199!r}\n"
+    said = f"pfair_picture: 71 writing failed: rsvg-convert: {chr(0xE9) + chr(0xFFFD) + '0' * 198!r}\n"
     assert command("schedule", "file", "--png") == (5, b"", said.encode())
 
 
@@ -202,7 +205,7 @@ def test_sources(monkeypatch):
     assert draw.source_of("file", "pfair") == ("file", "pfair")
     for kind, status in ((pfair.NotToml, 2), (pfair.EntryRefused, 2), (pfair.Stalled, 3), (pfair.OutOfMemory, 4)):
         fault = kind("said so")
-        monkeypatch.setattr(_task_file, "read_task_file", lambda _, fault=fault: (_ for _ in ()).throw(fault))
+        monkeypatch.setattr(_task_file, "read_task_file", failing(fault))
         with pytest.raises(draw.Fault, match=f"^{kind.number} said so$") as refused:
             draw.source_of("file", None)
         assert refused.value.status == status

@@ -9,7 +9,7 @@ from hypothesis import example, given, settings
 from hypothesis import strategies as some
 
 import pfair
-from conftest import outside, refusal
+from conftest import assert_plain, outside, refusal
 from pfair._entries import entry_of
 from pfair._numbers import whole
 
@@ -32,7 +32,8 @@ def test_rows_of_entries(entries):
         wanted += [entry.period, int(entry.early), entry.index, entry.by]
         assert [row[key].item() for key in KEYS] == wanted
         back = entry_of(row)
-        assert back == entry and type(back.early) is bool and isinstance(back.name, str)
+        assert back == entry and type(back.early) is bool
+        assert_plain(dataclasses.astuple(back))
 
 
 def test_names_in_rows():

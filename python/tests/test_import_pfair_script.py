@@ -1,10 +1,12 @@
 """How the scripts find the package and the program."""
 import os
+import runpy
 import subprocess
 import sys
 
 import import_pfair
 import pytest
+from conftest import SCRIPTS, refusal
 
 import pfair
 
@@ -24,6 +26,11 @@ def ran(monkeypatch, tmp_path):
     monkeypatch.setattr(sys, "path", [*sys.path])
     monkeypatch.setattr(import_pfair, "TOP", tmp_path)
     return calls
+
+
+def test_through_a_link(tmp_path):
+    (tmp_path / "linked").symlink_to(SCRIPTS)
+    assert runpy.run_path(str(tmp_path / "linked" / "import_pfair.py"))["TOP"] == SCRIPTS.resolve().parent
 
 
 def test_installed_package():
@@ -48,8 +55,8 @@ def test_package_beside(monkeypatch, tmp_path, ran):
 
 def test_numpy_is_looked_for_first(monkeypatch, ran):
     monkeypatch.setattr(import_pfair.importlib.util, "find_spec", lambda name: None)
-    with pytest.raises(ImportError, match="^numpy isn't here for this Python: apt-get install python3-numpy, or "):
-        import_pfair.package()
+    said = "numpy isn't here for this Python: apt-get install python3-numpy, or python3 -m pip install numpy"
+    refusal(ImportError, said, import_pfair.package)
     assert not ran
 
 

@@ -1,5 +1,4 @@
 """What `import pfair` gives: its public names, and no others."""
-import pathlib
 import types
 
 import pfair
@@ -21,7 +20,3 @@ def test_public_names():
     plain = {name for name, value in vars(pfair).items() if name[0] != "_" and not isinstance(value, types.ModuleType)}
     assert plain == set(pfair.__all__) - {"errors", "study"}
     assert errors == {name for name in vars(pfair.errors) if name in errors} | {"CannotSucceed", "NoCycle"}
-
-
-def test_types_are_shipped():
-    assert pathlib.Path(pfair.__file__).with_name("py.typed").exists()

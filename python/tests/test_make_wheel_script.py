@@ -3,6 +3,7 @@ import base64
 import csv
 import email
 import hashlib
+import runpy
 import subprocess
 import sys
 import tomllib
@@ -109,6 +110,15 @@ def test_library_is_made_first(call, tmp_path, monkeypatch):
     assert call(MAKE, made)[::2] == (1, "scripts/make_wheel: the C library was not made\n")
 
 
-def test_as_a_program():
+def test_text_that_is_no_ascii(monkeypatch, tmp_path):
+    monkeypatch.setattr(MAKE, "metadata", lambda: ("ramluhay", VERSION, "ü"))
+    (tmp_path / "made.so").touch()
+    with zipfile.ZipFile(MAKE.write_wheel(tmp_path / "made.so", tmp_path)) as packed:
+        assert packed.read(f"{ABOUT}/METADATA").decode() == "ü"
+
+
+def test_as_a_program(tmp_path):
+    (tmp_path / "linked").symlink_to(SCRIPTS)
+    assert runpy.run_path(str(tmp_path / "linked" / "make_wheel"))["TOP"] == SCRIPTS.resolve().parent
     done = subprocess.run([sys.executable, SCRIPTS / "make_wheel"], capture_output=True, text=True)
     assert (done.returncode, done.stdout, done.stderr) == (2, "", "usage: scripts/make_wheel FOLDER\n")

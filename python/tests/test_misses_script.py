@@ -5,7 +5,7 @@ import sys
 from fractions import Fraction
 
 import pytest
-from conftest import SCRIPTS, module_of
+from conftest import SCRIPTS, failing, module_of
 from hypothesis import given, settings
 from hypothesis import strategies as some
 
@@ -86,15 +86,6 @@ def test_statuses(call, decided, lags, words):
     assert call(MISSES, "--let-pass", *words, given=rows) == (1 if status == 1 else 0, text, "")
 
 
-def test_counts_above_one(call):
-    """Two of each: tasks that missed, refused arrivals, late releases of one task, tasks with late releases."""
-    lags, decided = [(1, task, 1, 1) for task in "abcd"], [(task, "delayed", "-") for task in "ccd"]
-    decided += [("x", "refused", "20"), ("y", "refused", "21")]
-    done = call(MISSES, given=rows_of_decisions(decided) + rows_of_lags(lags))
-    rows = "a,1,1,1,1,0\nb,1,1,1,1,0\nc,1,1,1,1,2\nd,1,1,1,1,1\n"
-    totals = "all 4 tasks,4,1,1,2 at or past 1,2 with late releases\narrivals: 2, of which 2 refused\n"
-    assert done == (1, HEAD + rows + totals, "")
-
 
 def test_lags_alone(call):
     rows = rows_of_lags([(1, "a", 1, 2), (2, "a", 3, 2), (2, "b", -1, 3), (3, "b", 1, 1), (4, "c", 0, 1)])
@@ -124,6 +115,7 @@ COMPLAINTS = [
     (DECISIONS + "0,0,1,a,admitted\n", "line 2 is no row of decisions: 0,0,1,a,admitted"),
     (JOINED + LAGS + "1,a,x,2\n", "line 4 is no row of lags: 1,a,x,2"),
     (LAGS + "1,a,1,0\n", "line 2 is no row of lags: 1,a,1,0"),
+    (LAGS + "x,a,1,2\n", "line 2 is no row of lags: x,a,1,2"),
     (LAGS + "1,a,1\n", "line 2 is no row of lags: 1,a,1"),
     (LAGS + "1,a,1,2\n\n", "line 3 is no row of lags: "),
     (LAGS + "1,a,1,2x\n", "line 2 is no row of lags: 1,a,1,2x"),
@@ -164,11 +156,8 @@ def test_task_files(call, stand_in, tmp_path, monkeypatch):
 
 
 def test_a_program_that_cant_be_built(call, tmp_path, monkeypatch):
-    def fails():
-        raise ImportError("build failed")
-
     (tmp_path / "tasks.toml").touch()
-    monkeypatch.setattr(MISSES, "program", fails)
+    monkeypatch.setattr(MISSES, "program", failing(ImportError("build failed")))
     assert call(MISSES, tmp_path / "tasks.toml") == (2, "", "scripts/misses: build failed\n")
 
 

@@ -167,14 +167,6 @@ def test_a_next_run_is_refused():
     assert one.planned == 4 and one.table(2) == [("a", 2)]
 
 
-def test_a_member_of_too_great_a_cost_is_not_carried():
-    fits, passes = begun(pfair.arrive("a", 1_000_000, 20_000_000)), begun(pfair.arrive("a", 1_000_001, 20_000_000))
-    fits.plan(), passes.plan()
-    fits.next_run(7)
-    assert fits.slots == 7 and fits.planned == 0 and fits.take(0, 1, pfair.promise(7)) == "new"
-    refusal(pfair.CannotCarry, "a member can't be taken into a next run", passes.next_run, 7)
-    assert passes.planned == 4
-
 
 def test_what_a_next_run_begins_with():
     one = begun(pfair.arrive("a", 1, 2), pfair.arrive("b", 1, 4), pfair.depart("b", at=2), slots=5)

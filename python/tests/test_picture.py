@@ -179,9 +179,6 @@ def test_no_two_names_are_cut_alike(names, room):
         assert words == name or _figure.name_width(name) * 3 // 4 > room
 
 
-def test_letters_have_room():
-    assert [_figure.name_width(name) for name in ("", "a", "xyz", "m", "w", "mw_1")] == [0, 8, 24, 12, 12, 40]
-
 
 def test_numbers_of_a_scale_have_room():
     for wide in (2, 4, 8, 12, 18, 28, 40):

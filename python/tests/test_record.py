@@ -155,7 +155,9 @@ def test_refused_rows():
     refusal(ValueError, "row 2: '-1' is no whole number from 0 on", read_record, [(1, "a"), ("-1", "a")])
     refusal(ValueError, "row 1: 1.5 is no whole number from 0 on", read_record, [(1.5, "a")])
     refusal(ValueError, "row 1: True is no whole number from 0 on", read_record, [(True, "a")])
-    refusal(ValueError, "row 1: 'A' is no task's name", read_record, [(1, "A")])
+    for name, shown in (("é", "é"), (b"\xff", "\ufffd")):
+        refusal(ValueError, f"row 1: {shown!r} is no task's name", read_record, [(1, name)])
+    refusal(ValueError, "line 2: 'é' is no task's name", read_record, "slot,task\n1,é\n")
     rows = [(1, "a"), (1, "a"), (1, "a", 1)]
     refusal(ValueError, "row 3: it has 3 columns, and the first row 2", read_record, rows)
     refusal(ValueError, "row 1: not enough values to unpack (expected at least 2, got 1)", read_record, [(1,)])

@@ -21,9 +21,6 @@ FILES = sorted(EXAMPLES.glob("*.toml"))
 NAMED = {0: "admitted", 1: "departing", 2: "delayed"}
 
 
-def test_there_are_examples():
-    assert len(FILES) >= 7
-
 
 def rows_of_table(quanta, *more):
     head = ",".join(["slot,processor,task,index", *more])
@@ -92,7 +89,8 @@ def test_capacity_is_that_of_the_longest_log():
     assert schedule.script is script and schedule._dispatcher.capacity == 3
 
 
-def test_a_log_that_stalls():
+def test_runs_that_cannot_be_planned():
+    outside("processors", 0, pfair.schedule, pfair.Script(0, 1, 1), least=1, most=64)
     script = pfair.Script(1, 6, 6, [[pfair.promise(4), pfair.promise(2)]])
     text = f"{pfair.Stalled.text}: slot 4"
     assert refusal(pfair.Stalled, text, pfair.schedule, script) == {"frontier": 4}
@@ -120,10 +118,12 @@ AGAIN = [
 ]
 
 
-@pytest.mark.parametrize(
-    "script", [drawn(1, 2, 60), drawn(2, 3, 80), drawn(3, 4, 60, True), pfair.Script(1, 6, 60, [AGAIN])]
-)
-def test_counts(script, monkeypatch):
+SMALL = [AGAIN], [], [[pfair.arrive("a", 1, 6), pfair.late("a", 2, 5, at=1, floor=1)]]
+SCRIPTS = [drawn(1, 2, 60), drawn(2, 3, 80), drawn(3, 4, 60, True), *(pfair.Script(1, 6, 60, logs) for logs in SMALL)]
+
+
+@pytest.mark.parametrize("script", SCRIPTS)
+def test_counts(script):
     counts = pfair.schedule(script).counts()
     assert counts == counts_by_a_loop(script) and all(type(count) is int for count in counts)
     assert counts._fields == ("arrivals", "refused", "quanta", "preemptions", "moves", "behind")
@@ -141,13 +141,6 @@ def test_lags_by_pieces(limit, monkeypatch):
     slots = max(1, limit // 10)
     assert [len(set(piece["time"].tolist())) for piece in pieces[:-1]] == [slots] * (59 // slots)
 
-
-def test_counts_by_hand():
-    assert pfair.schedule(pfair.Script(1, 6, 60, [AGAIN])).counts()[:2] == (4, 1)
-    assert pfair.schedule(pfair.Script(1, 1, 3)).counts() == (0, 0, 0, 0, 0, 0)
-    late = pfair.Script(1, 4, 12, [[pfair.arrive("a", 1, 4), pfair.late("a", 2, 5, at=1, floor=1)]])
-    # one quantum was had by the times 8 and 9, with shares of 2 and 9/4, and two by 12, with a share of 3
-    assert pfair.schedule(late).counts() == (1, 0, 2, 0, 0, 3)
 
 
 NAMES = some.lists(some.text("ab", max_size=4).map(lambda end: ("longname" + end).encode()), max_size=12)

@@ -212,7 +212,7 @@ def test_fits_by_hand():
     assert study.fits_global_edf([Fraction(3, 10), Fraction(13, 15), Fraction(1, 10)], 3)
     # at most 2 - 1/2, and 3 - 2 * 1/2
     assert study.fits_global_edf([half] * 3, 2) and not study.fits_global_edf([half, half, half, Fraction(1, 60)], 2)
-    assert study.fits_global_edf([half] * 4, 3) and not study.fits_global_edf([half] * 5, 3)
+    assert study.fits_global_edf(iter([half] * 4), 3) and not study.fits_global_edf([half] * 5, 3)
     assert study.fits_global_edf([third] * 5, 2) and study.fits_global_edf([], 2) and study.fits_partitioned_edf([], 1)
 
 
@@ -246,17 +246,6 @@ def test_generators_keep_the_sum(draw):
         assert np.allclose(sets.sum(axis=1), load) and (sets >= -1e-12).all() and (sets <= 1 + 1e-12).all()
         assert np.allclose(sets.mean(axis=0), load / tasks, atol=0.06)
 
-
-def test_generators_draw_alike():
-    """Both draw each set as likely as any other: the means of the least, the middle and the greatest weight agree."""
-    rng = np.random.default_rng(4)
-    for tasks, load in ((2, 1.3), (3, 1.5), (5, 2.0), (6, 1.2), (8, 2.5)):
-        ordered = [
-            np.sort([draw(tasks, load, rng) for _ in range(1000)], axis=1)
-            for draw in (study.uunifast_discard, study.rand_fixed_sum)
-        ]
-        error = np.sqrt(sum(sets.var(axis=0) for sets in ordered) / 1000)
-        assert (abs(ordered[0].mean(axis=0) - ordered[1].mean(axis=0)) < 5 * error).all()
 
 
 @pytest.mark.parametrize("draw", (study.uunifast_discard, study.rand_fixed_sum))

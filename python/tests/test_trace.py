@@ -103,6 +103,14 @@ def test_dump():
     assert written(after, "vcd").partition("$end\n#0\n$dumpvars")[2] == wanted
 
 
+def test_changes_at_one_time_are_ordered():
+    names = "hgfedcba"
+    text = written(Rows(8, 3, list(names), [(1, place, name, 1, 0, 9) for place, name in enumerate(names)]), "vcd")
+    codes = [trace.code_of(8 + place) for place in reversed(range(8))]
+    bits = [line for line in text.partition("$end\n#1000\n")[2].splitlines() if line[0] in "01"]
+    assert bits == [f"{bit}{code}" for bit in "10" for code in codes]
+
+
 RUN = some.lists(some.dictionaries(some.integers(0, 3), some.integers(0, 119), max_size=4), max_size=12)
 
 
@@ -177,7 +185,7 @@ def test_decisions_before_quanta():
     rows = [(0, 0, "a", 1), (1, 0, "a", 2), (2, 1, "a", 2), (9, 0, "a", 1), (29, 0, "a", 2), (31, 0, "a", 2)]
     windows = [(quantum.release, quantum.deadline) for quantum in trace.quanta_of(rows, decisions)]
     assert windows == [(0, 2), (2, 4), (6, 8), (9, 12), (12, 15), (19, 22)]
-    assert list(trace.quanta_of([], decisions)) == []
+    assert list(trace.quanta_of([], decisions)) == list(trace.quanta_of([], [])) == []
 
 
 def test_refusals():

@@ -238,6 +238,8 @@ enum { FAULTS = sizeof faults / sizeof *faults };
 
 static struct pfair_entry good(uint64_t kind) {
     struct pfair_entry e = {.floor = 3, .kind = kind, .at = 4, .cost = 2, .period = 3, .early = 1, .index = 5, .by = 2};
+    e.name = pfair_name_of("a_long_name_17_by");
+    CHECK(e.name.length == 17 && !memcmp(e.name.bytes, "a_long_name_17_b", 16), "%" PRIu64 " bytes", e.name.length);
     e.name = pfair_name_of("a_long_name_16_b");
     return e;
 }

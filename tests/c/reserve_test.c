@@ -7,6 +7,9 @@
  */
 #include "full_set.h"
 
+/* What tables and places take in 1,024 slots, asked for in the first of them. */
+enum { PIECE_KB = 72 };
+
 /* What all slots are without a reserve. Says how often the slots behind the first asked for some. */
 static uint64_t *without(uint64_t slots, uint64_t late_at) {
     struct pfair_dispatcher d = PFAIR_NONE;
@@ -14,7 +17,11 @@ static uint64_t *without(uint64_t slots, uint64_t late_at) {
     filled(&d, slots, late_at);
     plan_one(&d, 0);
     refuse(0, 0);
-    for (uint64_t slot = 1; slot < slots; slot++) plan_one(&d, slot);
+    for (uint64_t slot = 1; slot < slots; slot++) {
+        largest = 0;
+        plan_one(&d, slot);
+        CHECK(slot % 1024 || largest == PIECE_KB * 1024, "%zu bytes at slot %" PRIu64, largest, slot);
+    }
     printf("without memory ahead: %.2f allocations a slot\n", (double)calls / (double)(slots - 1));
     CHECK(calls >= (long)slots, "%ld allocations alone", calls);
     for (uint64_t slot = 0; slot < slots; slot++) rows[slot] = digest(&d, slot);

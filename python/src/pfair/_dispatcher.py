@@ -94,7 +94,7 @@ class Dispatcher:
         made, fault = cls.__new__(cls), FileFault()
         made._begin()
         answer = made._answer("pfair_read_file", fault, content, len(content))
-        found = {name: int(getattr(fault, name)) for name in _WHERE.get(answer, ())}
+        found = {name: getattr(fault, name) for name in _WHERE.get(answer, ())}
         where = f"{_KEYS[fault.field]} at {fault.place}" if found else ""
         if fault.cause:
             where = f"entry {fault.number} of processor {fault.processor} for {fault.cause}"

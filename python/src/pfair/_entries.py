@@ -245,10 +245,10 @@ def entry_of(row: Any) -> Entry:
     """Returns the entry of a row that the library wrote."""
     floor, at, cost, period, early, index, by = (int(row[key]) for key in _NUMBERS)
     name = bytes(row["name"]).decode()
-    return Entry(floor, KINDS[int(row["kind"])], at, name, cost, period, bool(early), index, by)
+    return Entry(floor, KINDS[row["kind"]], at, name, cost, period, bool(early), index, by)
 
 
-@dataclass(repr=False)
+@dataclass
 class Script:
     """The settings of a run, and the log of each processor: the contents of a task file.
 

@@ -104,7 +104,7 @@ def _first(call: str, cost: int, period: int, picks: Picks, horizon: int) -> Opt
     given = whole(cost, "cost"), whole(period, "period"), whole(horizon, "horizon", 0, 1_000_000)
     answer = getattr(library, call)(*given, miss, place, rows.ctypes.data, len(rows))
     if answer in (40, 41):
-        check(answer, f"{int(rows[place.value])} at {place.value}", place=place.value)
+        check(answer, f"{rows[place.value]} at {place.value}", place=place.value)
     check(answer, f"{cost}/{period}")
     return Miss(_KINDS[miss.kind - 1], miss.index, None if miss.kind == 3 else miss.slot) if miss.kind else None
 

@@ -57,7 +57,7 @@ class Program(PictureRows):
         complaint = tempfile.TemporaryFile("w+", errors="replace")
         try:
             none, pipe = subprocess.DEVNULL, subprocess.PIPE
-            made = subprocess.Popen(words, stdin=none, stdout=pipe, stderr=complaint, text=True, errors="replace")
+            made = subprocess.Popen(words, stdin=none, stdout=pipe, stderr=complaint, errors="replace")
         except OSError:
             raise Refused(f"70 reading failed: the program {self.program} can't be run", 5) from None
         with made as running, complaint:

@@ -182,7 +182,7 @@ class _Header:
         text = line.decode("utf-8-sig", errors="replace").rstrip("\r\n")
         self.separator = next((one for one in ",;\t" if one in text), ",")
         try:
-            words: list[str] = next(csv.reader([text], delimiter=self.separator, skipinitialspace=True), [])
+            words: list[str] = next(csv.reader([text], delimiter=self.separator, skipinitialspace=True))
         except csv.Error as refused:
             raise ValueError(f"line 1: {refused}") from None
         columns = [word.strip().lower() for word in words]

@@ -100,7 +100,7 @@ def words_of(argv: Optional[list[str]]) -> argparse.Namespace:
     parser.add_argument("--no-legend", dest="legend", action="store_false", help=said)
     said = "the slots A to B - 1, at most 4096; without it all slots of the file"
     parser.add_argument("--slots", type=slots_of, metavar="A..B", help=said)
-    parser.add_argument("-o", dest="out", metavar="OUT", help="a file to write, in place of standard output")
+    parser.add_argument("-o", dest="out", help="a file to write, in place of standard output")
     parser.add_argument("--program", help="the program pfair, if it isn't the one beside this command or on the path")
     parser.add_argument("--help", "-h", action="help", help="this text")
     parser.add_argument("--version", action="version", version=f"{NAME} {VERSION}", help="the version")
@@ -108,7 +108,7 @@ def words_of(argv: Optional[list[str]]) -> argparse.Namespace:
     if len(words.range) not in (0, 2) or (words.range and words.slots):
         parser.error("slots are asked for by --slots A..B, or by FROM TO behind the file")
     if words.range:
-        words.slots = tuple(words.range)
+        words.slots = words.range
     return words
 
 
@@ -158,10 +158,8 @@ def converted(svg: str, format: str) -> bytes:
 def write(content: bytes, out: Optional[str]) -> None:
     """Writes the whole content, or leaves a file as it was."""
     if out is None:
-        with open(1, "wb", buffering=0, closefd=False) as stdout:
-            left = memoryview(content)
-            while left:
-                left = left[stdout.write(left):]
+        with open(1, "wb", closefd=False) as stdout:
+            stdout.write(content)
         return
     target = pathlib.Path(out)
     if target.exists() and not target.is_file():
