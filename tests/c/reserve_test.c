@@ -7,8 +7,8 @@
  */
 #include "full_set.h"
 
-/* What tables and places take in 1,024 slots, asked for in the first of them. */
-enum { PIECE_KB = 72 };
+/* What the list of planned slots has for each; it doubles. */
+enum { SLOT_BYTES = 72 };
 
 /* What all slots are without a reserve. Says how often the slots behind the first asked for some. */
 static uint64_t *without(uint64_t slots, uint64_t late_at) {
@@ -17,11 +17,9 @@ static uint64_t *without(uint64_t slots, uint64_t late_at) {
     filled(&d, slots, late_at);
     plan_one(&d, 0);
     refuse(0, 0);
-    for (uint64_t slot = 1; slot < slots; slot++) {
-        largest = 0;
-        plan_one(&d, slot);
-        CHECK(slot % 1024 || largest == PIECE_KB * 1024, "%zu bytes at slot %" PRIu64, largest, slot);
-    }
+    largest = 0;
+    for (uint64_t slot = 1; slot < slots; slot++) plan_one(&d, slot);
+    CHECK(largest >= SLOT_BYTES * slots && largest <= 2 * SLOT_BYTES * slots, "%zu bytes at once", largest);
     printf("without memory ahead: %.2f allocations a slot\n", (double)calls / (double)(slots - 1));
     CHECK(calls >= (long)slots, "%ld allocations alone", calls);
     for (uint64_t slot = 0; slot < slots; slot++) rows[slot] = digest(&d, slot);
