@@ -132,7 +132,7 @@ static bool plan_slot(struct planner *p) {
 /* Sends, hears, and announces by the clock: others go on, also if this one can't plan. */
 static void talk(struct exchange *x, uint64_t slot) {
     announce(x, announcements, ANNOUNCEMENTS, slot);
-    serve(x, slot, slot);
+    serve(x, slot);
 }
 
 /* Goes on without the dead one. Its thread is over, so nothing of it comes any more but what is in its rings: that is

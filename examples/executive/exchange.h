@@ -25,7 +25,7 @@ enum {
     RUN = 200, /* slots */
     LEAD = 12,
     FLOOR_EVERY = 4,
-    ASK_AHEAD = 6, /* a log has to reach so many slots past the next one, else its processor is asked */
+    ASK_AHEAD = 6, /* a log has to reach so many slots past that of the clock, else its processor is asked */
     MOST_ENTRIES = 128,
     MOST_KEPT = 64
 };
@@ -237,13 +237,13 @@ static void ask(struct exchange *x, uint64_t slot) {
     }
 }
 
-/* What a processor does for the others in each slot, and again and again while it waits: `slot` is the one that it
-   plans next, and `now` the one that it is by the clock. It asks once in a slot of the clock. */
-static void serve(struct exchange *x, uint64_t slot, uint64_t now) {
-    for (unsigned k = 0; k < 2; k++) send_due(x, &x->logs[k], now);
+/* What a processor does for the others in each slot of the clock, and again and again while it waits. It asks once in a
+   slot. */
+static void serve(struct exchange *x, uint64_t slot) {
+    for (unsigned k = 0; k < 2; k++) send_due(x, &x->logs[k], slot);
     hear(x);
-    if (x->asked_at == now) return;
-    x->asked_at = now;
+    if (x->asked_at == slot) return;
+    x->asked_at = slot;
     ask(x, slot);
 }
 
