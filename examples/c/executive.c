@@ -5,33 +5,31 @@
  *   executive run PROCESSORS QUANTA MICROSECONDS lose PROCESSOR SLOT
  *
  * No master decides. The thread of a processor keeps a dispatcher of its own, says its announcements some slots ahead,
- * and hears those of the others: late, out of order, twice, and now and then not at all (../executive/exchange.h). At
- * each quantum's boundary it plans the slot, halts the task that it ran, and lets that task run whose place is its
- * processor. After each 200 quanta it begins the next run, and the rows are still those of one long run. ../kernel is the
- * same executive on bare metal.
+ * and hears those of the others: late, out of order, twice, and now and then not at all (../executive/exchange.h). In
+ * the first half of a slot it plans the next ones, and leaves whose turn it is there. At each quantum's boundary it
+ * only looks that up, and switches (../executive/ticks.h). After each 200 quanta it begins the next run, and the rows
+ * are still those of one long run. ../kernel is the same executive on bare metal.
  *
- * `run` writes who really ran in which slot, as the tasks themselves noted it, in the form of `pfair replay --affinity`;
- * and on standard error how long planning and waking up took, and what became of messages. `file` writes the task file of the same announcements.
- * With `lose` that processor's thread ends at the slot. The others wait for it, close its log, and go on; the rows lack
- * what it would have run until then, and on standard error stands at which slot a task `down` of weight 1 arrives.
+ * `run` writes who really ran in which slot, as the tasks noted it, in the form of `pfair replay --affinity`; and on
+ * standard error which quanta are lost, how late ticks began, how long they looked up, and what became of messages.
+ * `file` writes the task file of the same announcements. With `lose` that processor's thread ends at the slot. The others
+ * close its log and go on; the rows lack what it would have run until then, and on standard error stands at which slot a
+ * task `down` of weight 1 arrives.
  * Exit status: 0; 1 if something was wrong; 2 for other words on the command line; 3 if an entry never came.
  */
 #define _GNU_SOURCE
 #include "../executive/succession.h"
 #include "../executive/task_file.h"
-#include <errno.h>
+#include "../executive/ticks.h"
 #include <inttypes.h>
-#include <pthread.h>
-#include <sched.h>
 #include <semaphore.h>
-#include <stdatomic.h>
 #include <stdio.h>
 #include <stdlib.h>
 #include <string.h>
-#include <time.h>
 #include <unistd.h>
 
-enum { FRAME = 60, PATIENCE = 20000000 }; /* how long a slot may wait for an entry, in microseconds */
+enum { FRAME = 60, PATIENCE = 20000000 }; /* how long after its tick a slot may wait for an entry, in microseconds */
+_Static_assert(AHEAD + FLOOR_EVERY + 5 + 1 <= LEAD, "messages may take 5 slots, and an answer 1");
 
 /* What is announced, in the order of the stamps. Stamps and indexes are those of one long run. A late release of a later
    run is stamped LEAD slots after that has begun, or later. */
@@ -53,38 +51,19 @@ static const struct announcement announcements[] = {
 };
 enum { ANNOUNCEMENTS = sizeof announcements / sizeof announcements[0] };
 
-/* A task: it works while it may. Each quantum is one more, and none is had before the one that comes before it. */
-static struct task {
-    const char *name;
-    pthread_t thread;
-    pthread_mutex_t lock;
-    pthread_cond_t changed;
-    atomic_bool may_run;
-    bool is_told, is_over;
-    atomic_uint_fast64_t had;         /* quanta, over all its incarnations */
-    uint64_t slot, row, index, place; /* of the quantum that it is notified of */
-    uint64_t of_incarnation, work;
-} tasks[] = {{.name = "control"}, {.name = "vision"}, {.name = "logger"}, {.name = "radio"}, {.name = "burst"}, {.name = "extra"}};
+static struct task tasks[] = {{.name = "control"}, {.name = "vision"}, {.name = "logger"},
+                              {.name = "radio"},   {.name = "burst"},  {.name = "extra"}};
 enum { TASKS = sizeof tasks / sizeof tasks[0] };
 
-/* Who ran in a slot on a processor, as the task noted it. */
-static struct ran {
-    atomic_uint times;
-    const char *name;
-    uint64_t row, index;
-} ran[MOST_QUANTA][MOST_PROCESSORS];
-
-static struct processor {
+static struct planner {
     struct exchange exchange;
+    struct processor processor;
     pthread_t thread;
     sem_t hints;
-    struct task *current;
-    uint64_t planned[TASKS]; /* how many quanta the tables so far give each task */
-    double waking[MOST_QUANTA], planning[MOST_QUANTA]; /* in microseconds */
-    bool is_pinned, is_first_in_first_out, has_told;
-} processors[MOST_PROCESSORS];
+    bool is_first_in_first_out, has_told, has_closed;
+} planners[MOST_PROCESSORS];
 
-/* The processor whose thread ends before it plans that slot, if one does. */
+/* The processor whose thread ends at the tick of that slot, if one does. */
 static struct {
     unsigned processor;
     uint64_t slot;
@@ -92,11 +71,8 @@ static struct {
     atomic_uint told; /* how many of the others gave the heir what they hold */
 } lost = {.slot = UINT64_MAX};
 
-static unsigned machine = 2;
-static uint64_t quanta = 600, quantum = 5000;
-static struct timespec begin;
-static cpu_set_t allowed;
-static atomic_uint over; /* how many processors are through with all slots */
+static atomic_uint ready, over; /* how many processors planned slot 0, and are through with all slots */
+static atomic_bool is_begun;
 
 _Noreturn void stop(const char *what, uint64_t number) {
     fprintf(stderr, "executive: %s: %" PRIu64 "\n", what, number);
@@ -104,98 +80,12 @@ _Noreturn void stop(const char *what, uint64_t number) {
 }
 
 void give_hint(unsigned processor) {
-    sem_post(&processors[processor].hints);
+    sem_post(&planners[processor].hints);
 }
 
-static double microseconds_since(struct timespec from) {
-    struct timespec now;
-    clock_gettime(CLOCK_MONOTONIC, &now);
-    return (double)(now.tv_sec - from.tv_sec) * 1e6 + (double)(now.tv_nsec - from.tv_nsec) / 1e3;
-}
-
-static struct timespec boundary(uint64_t slot) {
-    uint64_t ns = (uint64_t)begin.tv_nsec + slot * quantum * 1000;
-    struct timespec at = {begin.tv_sec + (time_t)(ns / 1000000000), (long)(ns % 1000000000)};
-    return at;
-}
-
-static uint64_t slot_by_clock(void) {
-    double since = microseconds_since(begin);
-    return since < 0 ? 0 : (uint64_t)since / quantum;
-}
-
-static void sleep_until(struct timespec due) {
-    while (clock_nanosleep(CLOCK_MONOTONIC, TIMER_ABSTIME, &due, NULL) == EINTR) {}
-}
-
-/* Whether the thread is now bound to that processor, if there are enough of them. */
-static bool pin(pthread_t thread, unsigned number) {
-    cpu_set_t one;
-    int cpu = 0;
-    if ((unsigned)CPU_COUNT(&allowed) < machine) return false;
-    for (unsigned left = number;; cpu++)
-        if (CPU_ISSET(cpu, &allowed) && left-- == 0) break;
-    CPU_ZERO(&one);
-    CPU_SET(cpu, &one);
-    return pthread_setaffinity_np(thread, sizeof one, &one) == 0;
-}
-
-static bool first_in_first_out(pthread_t thread, int priority) {
-    struct sched_param parameters = {.sched_priority = priority};
-    return pthread_setschedparam(thread, SCHED_FIFO, &parameters) == 0;
-}
-
-/* ---- tasks */
-
-static void note_quantum(struct task *task) {
-    struct ran *cell = &ran[task->slot][task->place];
-    uint64_t next = task->index == 1 ? 1 : task->of_incarnation + 1;
-    bool is_next = task->index == next || (task->index > next && lost.slot != UINT64_MAX); /* some were lost */
-    if (!is_next) stop("a task counted its quanta otherwise", task->index);
-    task->of_incarnation = task->index;
-    if (atomic_fetch_add(&cell->times, 1) != 0) stop("two tasks ran at once on one processor", task->slot);
-    cell->name = task->name;
-    cell->row = task->row;
-    cell->index = task->index;
-}
-
-static void *be_task(void *itself) {
-    struct task *task = itself;
-    pthread_mutex_lock(&task->lock);
-    for (;;) {
-        while (!task->is_told && !task->is_over) pthread_cond_wait(&task->changed, &task->lock);
-        if (task->is_over) break;
-        note_quantum(task);
-        pthread_mutex_unlock(&task->lock);
-        while (atomic_load(&task->may_run)) task->work++;
-        pthread_mutex_lock(&task->lock);
-        task->is_told = false;
-        task->had++;
-        pthread_cond_broadcast(&task->changed);
-    }
-    pthread_mutex_unlock(&task->lock);
-    return NULL;
-}
-
-/* Ends the quantum that is the task's so many-th. */
-static void halt(struct task *task, uint64_t quantum_number) {
-    atomic_store(&task->may_run, false);
-    pthread_mutex_lock(&task->lock);
-    while (task->had < quantum_number) pthread_cond_wait(&task->changed, &task->lock);
-    pthread_mutex_unlock(&task->lock);
-}
-
-/* Lets a task, which has had all earlier quanta, have this one. */
-static void let_run(struct task *task, unsigned place, uint64_t slot, uint64_t row, uint64_t index) {
-    pthread_mutex_lock(&task->lock);
-    task->slot = slot;
-    task->row = row;
-    task->index = index;
-    task->place = place;
-    atomic_store(&task->may_run, true);
-    task->is_told = true;
-    pthread_cond_broadcast(&task->changed);
-    pthread_mutex_unlock(&task->lock);
+/* Sleeps until a hint comes, or until that time. Answers false if it is that time, however many hints there are. */
+static bool is_hinted(struct planner *p, struct timespec due) {
+    return microseconds_since(due) < 0 && sem_clockwait(&p->hints, CLOCK_MONOTONIC, &due) == 0;
 }
 
 static struct task *task_named(const struct pfair_name *name) {
@@ -204,108 +94,119 @@ static struct task *task_named(const struct pfair_name *name) {
     stop("a table names a stranger", name->length);
 }
 
-/* ---- a processor */
+/* ---- a planner */
 
-/* Halts the task that it lets run, if any: the last quantum that its tables give that task. */
-static void halt_current(struct processor *p) {
-    if (p->current != NULL) halt(p->current, p->planned[p->current - tasks]);
-    p->current = NULL;
-}
-
-/* Sleeps until a hint comes, but for 100 microseconds at most: it may be time to send, or to ask again. */
-static void wait_for_hint(struct processor *p) {
-    struct timespec now;
-    clock_gettime(CLOCK_MONOTONIC, &now);
-    uint64_t ns = (uint64_t)now.tv_nsec + 100000;
-    struct timespec until = {now.tv_sec + (time_t)(ns / 1000000000), (long)(ns % 1000000000)};
-    sem_clockwait(&p->hints, CLOCK_MONOTONIC, &until);
-}
-
-/* Goes on without the dead one. Its thread is over, so nothing of it comes any more but what is in its rings: that is
-   the fence here. The heir, the least of the others, waits until these gave it what they hold. */
-static void go_on(struct processor *p, uint64_t slot) {
-    unsigned heir = lost.processor == 0;
-    p->has_told = true;
-    if (p->exchange.number != heir) give_log(&p->exchange, lost.processor, heir);
-    atomic_fetch_add(&lost.told, 1);
-    if (p->exchange.number != heir) return;
-    for (; atomic_load(&lost.told) != machine - 1; wait_for_hint(p)) serve(&p->exchange, slot, slot_by_clock());
-    fprintf(stderr, "executive: down arrives at slot %" PRIu64 "\n", close_log(&p->exchange, lost.processor));
-}
-
-/* Waits in a slot for another processor. If that takes 8 quanta, and one is dead, it is time to go on without it. */
-static void wait_in(struct processor *p, uint64_t slot) {
-    bool is_late = microseconds_since(boundary(slot)) > 8 * (double)quantum;
-    wait_for_hint(p);
-    if (is_late && !p->has_told && atomic_load(&lost.is_over)) go_on(p, slot);
-}
-
-/* Plans the slot, as soon as what was heard settles it. The quantum before is over in any case. */
-static void plan(struct processor *p, uint64_t slot) {
-    for (;; wait_in(p, slot)) {
-        serve(&p->exchange, slot, slot_by_clock());
-        if (is_planned(&p->exchange, slot)) return;
-        halt_current(p);
-        if (microseconds_since(boundary(slot)) < PATIENCE) continue;
-        fprintf(stderr, "executive: an entry never came\n");
-        _exit(3);
-    }
-}
-
-/* Waits until a task has had that many quanta: another processor may be halting it only now. That one may wait for what
-   was lost on the way from here, so it is served meanwhile. */
-static void await_quanta(struct processor *p, struct task *task, uint64_t count, uint64_t slot) {
-    for (; atomic_load(&task->had) < count; wait_in(p, slot)) serve(&p->exchange, slot + 1, slot_by_clock());
-}
-
-/* Halts the task of the slot before, and lets the task run whose place is this processor. */
-static void dispatch(struct processor *p, uint64_t slot) {
-    struct pfair_dispatcher *d = &p->exchange.dispatcher;
+/* Whose turn the planned slot is here. The processor whose place `down` has takes the dead one's place. */
+static struct turn turn_in(struct exchange *x, uint64_t slot) {
     struct pfair_pick rows[MOST_PROCESSORS];
     uint8_t places[MOST_PROCESSORS];
     uint64_t count;
-    halt_current(p);
-    must(pfair_table(d, slot % RUN, &count, rows, MOST_PROCESSORS));
-    must(pfair_places(d, slot % RUN, &count, places, MOST_PROCESSORS));
-    unsigned down = place_of_down(rows, places, count), own = p->exchange.number;
-    if (own == down) own = lost.processor; /* takes the dead one's place */
+    struct turn turn = {0};
+    must(pfair_table(&x->dispatcher, slot % RUN, &count, rows, MOST_PROCESSORS));
+    must(pfair_places(&x->dispatcher, slot % RUN, &count, places, MOST_PROCESSORS));
+    unsigned down = place_of_down(rows, places, count), own = x->number == down ? lost.processor : x->number;
+    bool is_refused = down == MOST_PROCESSORS && slot >= lost.slot && slot - lost.slot >= LEAD;
     for (uint64_t row = 0; row < count; row++) {
-        uint64_t index = whole_index(&p->exchange, &rows[row]);
-        bool is_lost = slot >= lost.slot && places[row] == lost.processor && down == MOST_PROCESSORS;
-        if (is_lost && slot >= lost.slot + LEAD) stop("down isn't admitted: the tasks need all processors", slot);
-        if (is_lost || is_down(&rows[row].name)) continue;
+        uint64_t index = whole_index(x, &rows[row]);
+        if (is_refused && places[row] == lost.processor)
+            stop("down isn't admitted: the tasks need all processors", slot);
+        if (is_down(&rows[row].name)) continue;
         struct task *task = task_named(&rows[row].name);
-        uint64_t quantum_number = ++p->planned[task - tasks];
-        if (places[row] != own) continue;
-        await_quanta(p, task, quantum_number - 1, slot);
-        p->current = task;
-        pin(task->thread, p->exchange.number);
-        let_run(task, own, slot, row, index);
+        if (places[row] == own) turn = (struct turn){task, row, index, own};
     }
-    leave(&p->exchange, slot);
-    if (p->has_told && (slot + 1) % RUN == 0 && slot + 1 < quanta) keep_closed(&p->exchange, lost.processor);
+    return turn;
+}
+
+/* Plans the next slot, if what came settles it. */
+static bool plan_slot(struct planner *p) {
+    struct exchange *x = &p->exchange;
+    uint64_t slot = p->processor.ready;
+    if (!is_planned(x, slot)) return false;
+    struct turn turn = turn_in(x, slot);
+    if (leave_turn(&p->processor, slot, &turn) && turn.task != NULL) note(slot, &turn, "it wasn't settled");
+    leave(x, slot);
+    if (p->has_told && (slot + 1) % RUN == 0 && slot + 1 < quanta) keep_closed(x, lost.processor);
+    return true;
+}
+
+/* Sends, hears, and announces by the clock: others go on, also if this one can't plan. */
+static void talk(struct exchange *x, uint64_t slot) {
+    announce(x, announcements, ANNOUNCEMENTS, slot);
+    serve(x, slot);
+}
+
+/* Goes on without the dead one. Its thread is over, so nothing of it comes any more but what is in its rings: that is
+   the fence here. The heir, the least of the others, closes its log once these gave it what they hold. */
+static void go_on(struct planner *p) {
+    unsigned heir = lost.processor == 0, number = p->exchange.number;
+    if (!p->has_told && number != heir) give_log(&p->exchange, lost.processor, heir);
+    if (!p->has_told) atomic_fetch_add(&lost.told, 1);
+    p->has_told = true;
+    if (number != heir || p->has_closed || atomic_load(&lost.told) != machine - 1) return;
+    p->has_closed = true;
+    fprintf(stderr, "executive: down arrives at slot %" PRIu64 "\n", close_log(&p->exchange, lost.processor));
+}
+
+/* If a slot isn't planned 8 quanta after its tick, and a processor is dead, it is time to go on without that one. */
+static void look_for_dead(struct planner *p) {
+    if (p->processor.ready >= p->processor.slot) return;
+    double late = microseconds_since(boundary(p->processor.ready));
+    if (late > 8 * (double)quantum && atomic_load(&lost.is_over)) go_on(p);
+    if (late < PATIENCE) return;
+    fprintf(stderr, "executive: an entry never came\n");
+    _exit(3);
+}
+
+/* Talks and plans until that time, up to AHEAD slots before their ticks. */
+static void plan_until(struct planner *p, struct timespec due) {
+    const struct processor *own = &p->processor;
+    do {
+        talk(&p->exchange, slot_by_clock());
+        look_for_dead(p);
+        while (own->ready < quanta && own->ready < own->slot + AHEAD && plan_slot(p)) {}
+    } while (is_hinted(p, due));
+}
+
+/* Plans slot 0, of which all is said at once. Slots begin when all processors have planned it. */
+static void begin_slots(struct planner *p) {
+    struct exchange *x = &p->exchange;
+    for (talk(x, 0); !plan_slot(p); talk(x, 0)) {
+        is_hinted(p, after(now(), 1000));
+        x->asked_at = UINT64_MAX; /* it asks again */
+    }
+    atomic_fetch_add(&ready, 1);
+    for (; !atomic_load(&is_begun); is_hinted(p, after(now(), 1000))) {
+        talk(x, 0);
+        if (x->number != 0 || atomic_load(&ready) != machine) continue;
+        begin = after(now(), 10000);
+        atomic_store(&is_begun, true);
+    }
+}
+
+/* Plans what is left, and serves the others until they are through, too. A dead one does neither. */
+static void end_slots(struct planner *p, bool is_dead) {
+    while (!is_dead && p->processor.ready < quanta) plan_until(p, after(now(), 1000));
+    atomic_fetch_add(&over, 1);
+    while (!is_dead && atomic_load(&over) != machine) plan_until(p, after(now(), 1000));
 }
 
 static void *be_processor(void *itself) {
-    struct processor *p = itself;
-    p->is_pinned = pin(pthread_self(), p->exchange.number);
+    struct planner *p = itself;
+    unsigned number = p->exchange.number;
+    pin(pthread_self(), number);
     p->is_first_in_first_out = first_in_first_out(pthread_self(), 20);
-    announce(&p->exchange, announcements, ANNOUNCEMENTS, 0);
-    uint64_t end = p->exchange.number == lost.processor && lost.slot < quanta ? lost.slot : quanta;
+    begin_slots(p);
+    bool dies = number == lost.processor && lost.slot < quanta;
+    uint64_t end = dies ? lost.slot : quanta;
     for (uint64_t slot = 0; slot < end; slot++) {
         sleep_until(boundary(slot));
-        p->waking[slot] = microseconds_since(boundary(slot));
-        plan(p, slot);
-        p->planning[slot] = microseconds_since(boundary(slot)) - p->waking[slot];
-        dispatch(p, slot);
-        announce(&p->exchange, announcements, ANNOUNCEMENTS, slot);
+        tick(&p->processor, number, slot);
+        plan_until(p, after(boundary(slot), quantum / 2));
     }
     sleep_until(boundary(end));
-    halt_current(p);
-    atomic_fetch_add(&over, 1);
-    bool is_dead = end < quanta;
-    if (is_dead) atomic_store(&lost.is_over, true);
-    for (; !is_dead && atomic_load(&over) != machine; wait_for_hint(p)) serve(&p->exchange, quanta, slot_by_clock());
+    end_turn(&p->processor);
+    if (dies) atomic_store(&lost.is_over, true);
+    end_slots(p, dies);
     must(pfair_close(&p->exchange.dispatcher));
     return NULL;
 }
@@ -319,24 +220,33 @@ static int by_size(const void *left, const void *right) {
 
 static void tell(const char *what, unsigned number, double *times) {
     qsort(times, (size_t)quanta, sizeof *times, by_size);
-    fprintf(stderr, "processor %u, %s, microseconds: median %.1f, 99 %% %.1f, greatest %.1f\n", number, what, times[quanta / 2],
-            times[quanta * 99 / 100], times[quanta - 1]);
+    fprintf(stderr, "processor %u, %s, microseconds: median %.1f, 99 %% %.1f, greatest %.1f\n", number, what,
+            times[quanta / 2], times[quanta * 99 / 100], times[quanta - 1]);
 }
 
+/* Prints the turns of all threads that ran, as they noted them; and on standard error those that were lost. */
 static void tell_rows(void) {
+    uint64_t lost_ones = 0;
     puts("slot,processor,task,index,place");
     for (uint64_t slot = 0; slot < quanta; slot++)
         for (uint64_t row = 0; row < machine; row++)
             for (unsigned place = 0; place < machine; place++) {
-                const struct ran *cell = &ran[slot][place];
-                if (cell->name != NULL && cell->row == row) printf("%" PRIu64 ",%" PRIu64 ",%s,%" PRIu64 ",%u\n", slot, row, cell->name, cell->index, place);
+                const struct cell *cell = &record[slot][place];
+                const struct turn *turn = &cell->turn;
+                if (turn->task == NULL || turn->row != row) continue;
+                FILE *file = cell->lost == NULL ? stdout : stderr;
+                fprintf(file, "%" PRIu64 ",%" PRIu64 ",%s,%" PRIu64 ",%u", slot, row, turn->task->name, turn->index,
+                        place);
+                fprintf(file, cell->lost == NULL ? "\n" : " lost: %s\n", cell->lost);
+                lost_ones += cell->lost != NULL;
             }
+    fprintf(stderr, "executive: %" PRIu64 " quanta are lost\n", lost_ones);
 }
 
 static void start_all(void) {
     for (unsigned k = 0; k < machine; k++) {
-        begin_exchange(&processors[k].exchange, k, machine, FRAME, quanta);
-        sem_init(&processors[k].hints, 0, 0);
+        begin_exchange(&planners[k].exchange, k, machine, FRAME, quanta);
+        sem_init(&planners[k].hints, 0, 0);
     }
     for (int k = 0; k < TASKS; k++) {
         pthread_mutex_init(&tasks[k].lock, NULL);
@@ -344,14 +254,12 @@ static void start_all(void) {
         if (pthread_create(&tasks[k].thread, NULL, be_task, &tasks[k]) != 0) stop("no thread for a task", (uint64_t)k);
         first_in_first_out(tasks[k].thread, 10);
     }
-    clock_gettime(CLOCK_MONOTONIC, &begin);
-    begin.tv_sec++;
     for (unsigned k = 0; k < machine; k++)
-        if (pthread_create(&processors[k].thread, NULL, be_processor, &processors[k]) != 0) stop("no thread for a processor", k);
+        if (pthread_create(&planners[k].thread, NULL, be_processor, &planners[k]) != 0) stop("no thread for a processor", k);
 }
 
 static void end_all(void) {
-    for (unsigned k = 0; k < machine; k++) pthread_join(processors[k].thread, NULL);
+    for (unsigned k = 0; k < machine; k++) pthread_join(planners[k].thread, NULL);
     for (int k = 0; k < TASKS; k++) {
         pthread_mutex_lock(&tasks[k].lock);
         tasks[k].is_over = true;
@@ -367,13 +275,15 @@ static void run(void) {
         fprintf(stderr, "executive: %u processors asked for, %d here: no thread is bound to one\n", machine, CPU_COUNT(&allowed));
     start_all();
     end_all();
-    if (!processors[0].is_first_in_first_out) fprintf(stderr, "executive: SCHED_FIFO isn't allowed here: threads have the usual priority\n");
+    if (!planners[0].is_first_in_first_out)
+        fprintf(stderr, "executive: SCHED_FIFO isn't allowed here: threads have the usual priority\n");
     tell_rows();
     for (unsigned k = 0; k < machine; k++) {
-        const struct exchange *x = &processors[k].exchange;
-        tell("waking up", k, processors[k].waking);
-        tell("planning", k, processors[k].planning);
-        fprintf(stderr, "processor %u, messages: %" PRIu64 " lost, %" PRIu64 " came again, %" PRIu64 " requests\n", k, x->lost, x->known, x->asked);
+        const struct exchange *x = &planners[k].exchange;
+        tell("waking up", k, planners[k].processor.waking);
+        tell("looking up", k, planners[k].processor.looking);
+        fprintf(stderr, "processor %u, messages: %" PRIu64 " lost, %" PRIu64 " came again, %" PRIu64 " requests\n", k,
+                x->lost, x->known, x->asked);
     }
 }
 

@@ -12,8 +12,9 @@
  *
  * RUNS. A run has at most 1,000,000 slots; then pfair_next_run begins the next one, with new logs. Here a run has few
  * slots, so that the next one is seen: slot t is slot t % RUN of run t / RUN. Each processor begins a run by itself,
- * when it has planned the one before. It plans below all floors, and so less than LEAD slots past what another has
- * planned: the other is in the same run, the one before or the one after. Messages say of which run they are.
+ * when it has planned the one before. It plans below all floors, and another processor's floor is at most LEAD slots
+ * past the end of its run. So the other is in the same run, the one before or the one after. Messages say of which run
+ * they are.
  */
 #ifndef EXCHANGE_H
 #define EXCHANGE_H
@@ -24,7 +25,7 @@ enum {
     RUN = 200, /* slots */
     LEAD = 12,
     FLOOR_EVERY = 4,
-    ASK_AHEAD = 6, /* a log has to reach so many slots past the next one, else its processor is asked */
+    ASK_AHEAD = 6, /* a log has to reach so many slots past that of the clock, else its processor is asked */
     MOST_ENTRIES = 128,
     MOST_KEPT = 64
 };
@@ -49,6 +50,7 @@ struct exchange {
     unsigned number, processors;
     uint64_t slots; /* of all runs */
     struct pfair_dispatcher dispatcher;
+    uint64_t planned;               /* how many slots of all runs are */
     uint64_t run;                   /* that the dispatcher is in */
     struct log logs[2];             /* its own: that of run r is logs[r % 2] */
     struct message kept[MOST_KEPT]; /* entries of the next run */
@@ -138,10 +140,12 @@ static void raise_floor(struct exchange *x, const struct announcement *table, un
     x->floor = floor;
 }
 
-/* Says what is stamped up to LEAD slots ahead of this slot, and at most so far ahead of the run. */
+/* Says what is stamped up to LEAD slots ahead of this slot, and at most so far ahead of the run, and half a run ahead of
+   what is planned. No other one plans past that, so two processors are less than half a run apart. */
 static void announce(struct exchange *x, const struct announcement *table, unsigned rows, uint64_t slot) {
-    uint64_t end = (x->run + 1) * RUN;
+    uint64_t end = (x->run + 1) * RUN, most = x->planned + RUN / 2 - LEAD;
     if (end > slot) end = slot;
+    if (end > most) end = most;
     while (x->floor < x->slots && x->floor + FLOOR_EVERY <= end + LEAD) raise_floor(x, table, rows, slot);
 }
 
@@ -233,13 +237,13 @@ static void ask(struct exchange *x, uint64_t slot) {
     }
 }
 
-/* What a processor does for the others in each slot, and again and again while it waits: `slot` is the one that it
-   plans next, and `now` the one that it is by the clock. It asks once in a slot of the clock. */
-static void serve(struct exchange *x, uint64_t slot, uint64_t now) {
-    for (unsigned k = 0; k < 2; k++) send_due(x, &x->logs[k], now);
+/* What a processor does for the others in each slot of the clock, and again and again while it waits. It asks once in a
+   slot. */
+static void serve(struct exchange *x, uint64_t slot) {
+    for (unsigned k = 0; k < 2; k++) send_due(x, &x->logs[k], slot);
     hear(x);
-    if (x->asked_at == now) return;
-    x->asked_at = now;
+    if (x->asked_at == slot) return;
+    x->asked_at = slot;
     ask(x, slot);
 }
 
@@ -275,6 +279,7 @@ static void begin_next_run(struct exchange *x) {
 /* Forgets a slot, of which nothing is asked again, so that its memory can be given back. After the last slot of a run
    the next one begins. */
 static void leave(struct exchange *x, uint64_t slot) {
+    x->planned = slot + 1;
     must(pfair_forget(&x->dispatcher, slot % RUN + 1));
     if ((slot + 1) % RUN == 0 && slot + 1 < x->slots) begin_next_run(x);
 }

@@ -71,7 +71,7 @@ static bool plan_slot(unsigned number) {
 static void talk(struct exchange *x, uint64_t now) {
     x->is_silent = limps(x->number, now);
     announce(x, announcements, ANNOUNCEMENTS, now);
-    serve(x, now, now);
+    serve(x, now);
 }
 
 static _Noreturn void end(unsigned number);
