@@ -35,7 +35,7 @@ struct task {
     atomic_uint_fast64_t given; /* 2 * (the last slot that it was given + 1), and one more until it is saved */
     atomic_bool may_run;
     bool is_told, is_over;
-    uint64_t slot; /* that it is told of, with the turn */
+    uint64_t slot; /* the one whose turn this is */
     struct turn turn;
     uint64_t work;
 };

@@ -24,8 +24,10 @@ def long_run():
     return one
 
 def limit(more):
-    used = int(open("/proc/self/statm").read().split()[0]) * resource.getpagesize()
-    resource.setrlimit(resource.RLIMIT_AS, (used + more if more else resource.RLIM_INFINITY, resource.RLIM_INFINITY))
+    most = resource.RLIM_INFINITY
+    if more:
+        most = more + int(open("/proc/self/statm").read().split()[0]) * resource.getpagesize()
+    resource.setrlimit(resource.RLIMIT_AS, (most, resource.RLIM_INFINITY))
 
 def refused(kind, call, *words):
     try:
