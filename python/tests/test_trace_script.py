@@ -28,13 +28,9 @@ ANSWERS = {
 # of each quantum where, when and with what window, of each decision what, when and which entry
 RAN = (2, "a1", 0, "0 to 1", 2), (1, "b1", 0, "0 to 2", 3), (2, "a2", 5000, "5 to 6", 7)
 QUANTA = [(part, *where) for where in RAN for part in (1, 2)]
-DECISIONS = [
-    ("b joins with 1/3", 1, 0, (0, 1)),
-    ("a joins with 1/2", 2, 0, (1, 1)),
-    ("arrive a refused: 20", 2, 1000, (0, 2)),
-    ("a: subtask 2 and later ones put off by 3", 2, 1000, (1, 2)),
-    ("b departs, free at 3", 1, 2000, (0, 3)),
-]
+DECISIONS = [("b joins with 1/3", 1, 0, (0, 1)), ("a joins with 1/2", 2, 0, (1, 1))]
+DECISIONS += [("arrive a refused: 20", 2, 1000, (0, 2)), ("a: subtask 2 and later ones put off by 3", 2, 1000, (1, 2))]
+DECISIONS += [("b departs, free at 3", 1, 2000, (0, 3))]
 
 
 @pytest.fixture
