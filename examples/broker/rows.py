@@ -43,3 +43,8 @@ def take(dispatcher, row):
         dispatcher.take(number_of(processor), number_of(number), pfair.Entry(number_of(floor), **{**told, **numbers}))
     except (ValueError, pfair.PfairError):
         pass
+
+
+def log_of(dispatcher, processor):
+    """Returns the entries of a sound beginning."""
+    return [dispatcher.held(processor, number + 1) for number in range(dispatcher.mark(processor)[1])]
