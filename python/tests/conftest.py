@@ -19,6 +19,8 @@ EXAMPLES = pathlib.Path(os.environ.get("PFAIR_EXAMPLES", TOP / "examples"))
 SCRIPTS = pathlib.Path(os.environ.get("PFAIR_SCRIPTS", TOP / "scripts"))
 # what the scripts share
 sys.path.append(str(SCRIPTS))
+# weights that no call takes: the exception's name, cost and period
+WRONG_WEIGHTS = ("ZeroCost", 0, 2), ("CostOverPeriod", 3, 2), ("PeriodTooLong", 1, 10**9 + 1)
 # the most that a test may take, also on a busy machine
 SECONDS = 300
 # hypothesis keeps tables of its own, which don't belong into the tree

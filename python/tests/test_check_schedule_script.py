@@ -26,12 +26,8 @@ def test_wrong(call, tmp_path):
     tasks, rows = tmp_path / "tasks.toml", tmp_path / "rows.csv"
     tasks.write_text(script.text())
     rows.write_text("slot,task,index\n0,b,1\n0,a,1\n2,b,2\n3,a,2\n3,b,9\n5,b,4\n")
-    lines = [
-        "slot 0: crowded: 2 quanta on 1 processors",
-        "slot 3: crowded: 2 quanta on 1 processors",
-        "slot 3, b 3: early: its release is 4",
-        "slot 3, b 9: index: subtask 3 is the next",
-    ]
+    lines = [f"slot {slot}: crowded: 2 quanta on 1 processors" for slot in (0, 3)]
+    lines += ["slot 3, b 3: early: its release is 4", "slot 3, b 9: index: subtask 3 is the next"]
     wanted = "\n".join([*lines, "4 wrong: 2 crowded, 1 early, 1 index", ""])
     assert call(CHECK, tasks, rows) == (1, wanted, "")
     done = call(CHECK, "--order", tasks, rows)
@@ -50,8 +46,7 @@ def test_refused(call, tmp_path):
     rows.write_text("slot,task\n0,a\n1,?\n")
     for words, said in (
         ((bad, ROWS), f"{bad}: the file's version is neither 1 nor 2"),
-        ((none, ROWS), f"{none}: [Errno 2] No such file or directory: '{none}'"),
-        ((TASKS, none), f"{none}: [Errno 2] No such file or directory: '{none}'"),
+        *((words, f"{none}: [Errno 2] No such file or directory: '{none}'") for words in ((none, ROWS), (TASKS, none))),
         ((TASKS, tmp_path), f"{tmp_path}: [Errno 21] Is a directory: '{tmp_path}'"),
         ((TASKS, rows), f"{rows}: line 3: '?' is no task's name"),
         ((stalled, ROWS), f"{stalled}: {pfair.Stalled.text}: slot 5"),

@@ -195,12 +195,9 @@ def test_refused(call, tmp_path):
     bad, none, stalled = tmp_path / "bad.toml", tmp_path / "none", tmp_path / "stalled.toml"
     bad.write_text("version = 3\n")
     stalled.write_text(pfair.Script(1, 9, 9, [[pfair.arrive("a", 1, 9), pfair.promise(5), pfair.promise(4)]]).text())
-    for file, said in (
-        (bad, "the file's version is neither 1 nor 2"),
-        (none, f"[Errno 2] No such file or directory: '{none}'"),
-        (tmp_path, f"[Errno 21] Is a directory: '{tmp_path}'"),
-        (stalled, f"{pfair.Stalled.text}: slot 5"),
-    ):
+    refused = {bad: "the file's version is neither 1 nor 2", none: f"[Errno 2] No such file or directory: '{none}'"}
+    refused |= {tmp_path: f"[Errno 21] Is a directory: '{tmp_path}'", stalled: f"{pfair.Stalled.text}: slot 5"}
+    for file, said in refused.items():
         assert call(CYCLE, file) == (2, "", f"scripts/cycle: {file}: {said}\n")
 
 

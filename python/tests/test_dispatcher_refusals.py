@@ -6,7 +6,7 @@ import subprocess
 import sys
 
 import pytest
-from conftest import Told, outside, refusal
+from conftest import WRONG_WEIGHTS, Told, outside, refusal
 
 import pfair
 from pfair import _dispatcher
@@ -78,7 +78,7 @@ CALLS = {"take": (0, 1, pfair.arrive("a", 1, 2)), "take_log": (0, [pfair.promise
 CALLS |= {"missing": (0,), "reserve": (1, 1), "plan": (), "table": (0,), "places": (0,), "quanta": (), "lags": ()}
 CALLS |= {name: () for name in ("decisions", "members", "faults", "planned", "frontier", "processors", "frame")}
 CALLS |= {"slots": (), "capacity": (), "absorb": "other", "is_below": "other", "forget": (1,), "reopen": ()}
-CALLS |= {"next_run": (6,), "close": ()}
+CALLS |= {"digest": (0, 1), "next_run": (6,), "close": ()}
 
 
 def called(one, name, other):
@@ -177,8 +177,8 @@ def test_limits_of_windows():
 
 def test_weights_of_windows():
     outside("count", 1_000_000, pfair.windows, 1, 2, 1_000_000, 3, most=999_999)
-    wrong = (pfair.ZeroCost, 0, 1), (pfair.CostOverPeriod, 2, 1), (pfair.PeriodTooLong, 1, 10**9 + 1)
-    for kind, cost, period in wrong:
+    for name, cost, period in WRONG_WEIGHTS:
+        kind = getattr(pfair, name)
         refusal(kind, f"{kind.text}: {cost}/{period}", pfair.windows, cost, period, 1)
 
 
@@ -195,8 +195,8 @@ def test_refused_entries():
     for entry in (pfair.Entry(-1), pfair.Entry(0, "leave", 0, "a")):
         with pytest.raises(pfair.OutOfRange):
             one.take(1, 3, entry)
-    wrong = (pfair.NoSuchProcessor, 2, 1), (pfair.NoSuchNumber, 0, 0), (pfair.NoSuchNumber, 0, 6)
-    for kind, processor, number in wrong:
+    for processor, number in ((2, 1), (0, 0), (0, 6)):
+        kind = pfair.NoSuchProcessor if processor == 2 else pfair.NoSuchNumber
         where = f"{kind.text}: entry {number} of processor {processor}"
         refusal(kind, where, one.take, processor, number, pfair.promise(1))
         refusal(kind, where, one.held, processor, number)
@@ -233,14 +233,11 @@ FAULTS = [
     (pfair.KeyWrongKind, "early at 1", HEAD.replace(b"1", b"2") + ARRIVE + b"early = 3\n", {"place": 1}),
     (pfair.KeyOutOfRange, "kind at 1", HEAD + ENTRY + b"kind = 'leave'\n", {"place": 1}),
     (pfair.KeyOutOfRange, "processors at 0", HEAD.replace(b"2", b"65"), {"place": 0}),
-    (
-        pfair.EntryRefused, "entry 2 of processor 1 for 7",
-        HEAD + ENTRY + ENTRY + b"kind = 'depart'\nat = 2\nname = 'a'\n", {"processor": 1, "number": 2, "cause": 7},
-    ),
-    (pfair.NotToml, "", b"version = ", {}),
-    (pfair.UnknownVersion, "", HEAD.replace(b"1", b"3"), {}),
+    (pfair.NotToml, "", b"version = ", {}), (pfair.UnknownVersion, "", HEAD.replace(b"1", b"3"), {}),
     (pfair.FileTooLong, "", b" " * 67_108_865, {}),
 ]
+FOUND = "entry 2 of processor 1 for 7", {"processor": 1, "number": 2, "cause": 7}
+FAULTS.append((pfair.EntryRefused, FOUND[0], HEAD + 2 * ENTRY + b"kind = 'depart'\nat = 2\nname = 'a'\n", FOUND[1]))
 
 
 @pytest.mark.parametrize("kind,where,text,found", FAULTS, ids=lambda given_: getattr(given_, "__name__", ""))

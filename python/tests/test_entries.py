@@ -98,19 +98,12 @@ def near(*bounds):
 
 
 SLOTS = near(0, 10**6)
-FIELDS = {
-    "arrive": {"name": NAME, "cost": near(0, 10**9), "period": near(0, 10**9), "early": some.sampled_from((0, 1, 2))},
-    "depart": {"name": NAME},
-    "late": {"name": NAME, "index": near(0, 10**6), "by": near(0, 2**20)},
-}
+WEIGHT = {"cost": near(0, 10**9), "period": near(0, 10**9), "early": some.sampled_from((0, 1, 2))}
+FIELDS = {"arrive": {"name": NAME, **WEIGHT}, "depart": {"name": NAME}}
+FIELDS |= {"late": {"name": NAME, "index": near(0, 10**6), "by": near(0, 2**20)}}
 # the fields of each kind, with its slots; a promise has a floor alone
-ENTRIES = some.one_of(
-    some.tuples(some.just(None), some.fixed_dictionaries({"floor": SLOTS})),
-    *(
-        some.tuples(some.just(kind), some.fixed_dictionaries({**fields, "at": SLOTS, "floor": SLOTS}))
-        for kind, fields in FIELDS.items()
-    ),
-)
+FIELDS = {None: {"floor": SLOTS}} | {kind: {**more, "at": SLOTS, "floor": SLOTS} for kind, more in FIELDS.items()}
+ENTRIES = some.one_of(some.tuples(some.just(kind), some.fixed_dictionaries(FIELDS[kind])) for kind in FIELDS)
 MAKERS = {None: pfair.promise, "arrive": pfair.arrive, "depart": pfair.depart, "late": pfair.late}
 
 

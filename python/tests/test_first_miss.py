@@ -4,7 +4,7 @@ from fractions import Fraction
 
 import numpy as np
 import pytest
-from conftest import outside, refusal
+from conftest import WRONG_WEIGHTS, outside, refusal
 from recorded import Stay
 
 import pfair
@@ -45,8 +45,8 @@ def test_forms(kind):
 
 def test_refusals():
     for call in (pfair.first_miss, pfair.first_late):
-        weights = (pfair.ZeroCost, 0, 2), (pfair.CostOverPeriod, 3, 2), (pfair.PeriodTooLong, 1, 10**9 + 1)
-        for kind, cost, period in weights:
+        for name, cost, period in WRONG_WEIGHTS:
+            kind = getattr(pfair, name)
             refusal(kind, f"{kind.text}: {cost}/{period}", call, cost, period, [], 9)
         for wrong in (-1, 1_000_001):
             outside("horizon", wrong, call, 1, 2, [], wrong, most=1_000_000)

@@ -11,7 +11,7 @@ TABLES = "BY_NUMBER DECISION ENTRY LAG MEMBER OUTCOMES QUANTUM WINDOW errors stu
 def test_public_names():
     errors = {name for name, kind in vars(pfair).items() if isinstance(kind, type) and issubclass(kind, Exception)}
     wanted = {*TYPES.split(), *CALLS.split(), *TABLES.split(), *errors}
-    assert set(pfair.__all__) >= wanted and len(pfair.__all__) == len(set(pfair.__all__)) and len(errors) == 36
+    assert set(pfair.__all__) >= wanted and len(pfair.__all__) == len(set(pfair.__all__)) and len(errors) == 37
     assert all(hasattr(pfair, name) for name in pfair.__all__) and isinstance(pfair.study, types.ModuleType)
     names = {}
     exec("from pfair import *", names)
@@ -19,4 +19,4 @@ def test_public_names():
     # each name without an underscore is public, but those of modules and the version, which is __version__
     plain = {name for name, value in vars(pfair).items() if name[0] != "_" and not isinstance(value, types.ModuleType)}
     assert plain == set(pfair.__all__) - {"errors", "study"}
-    assert errors == {name for name in vars(pfair.errors) if name in errors} | {"CannotSucceed", "NoCycle"}
+    assert errors == {name for name in vars(pfair.errors) if name in errors} | {"CannotSucceed", "NoCycle", "NotHeld"}

@@ -104,22 +104,13 @@ def test_rows_may_come_in_parts(call):
 
 
 NEITHER = f"the first line is neither '{DECISIONS[:-1]}' nor '{LAGS[:-1]}'"
-COMPLAINTS = [
-    ("", "there are no rows"),
-    ("a,b\n", NEITHER),
-    ("\n" + LAGS, NEITHER),
-    (JOINED + "0,0,2,a,gone,-\n", "line 3 is no row of decisions: 0,0,2,a,gone,-"),
-    (DECISIONS + "-1,0,2,a,admitted,-\n", "line 2 is no row of decisions: -1,0,2,a,admitted,-"),
-    (DECISIONS + "0,x,2,a,admitted,-\n", "line 2 is no row of decisions: 0,x,2,a,admitted,-"),
-    (DECISIONS + "0,0,x,a,refused,22\n", "line 2 is no row of decisions: 0,0,x,a,refused,22"),
-    (DECISIONS + "0,0,1,a,admitted\n", "line 2 is no row of decisions: 0,0,1,a,admitted"),
-    (JOINED + LAGS + "1,a,x,2\n", "line 4 is no row of lags: 1,a,x,2"),
-    (LAGS + "1,a,1,0\n", "line 2 is no row of lags: 1,a,1,0"),
-    (LAGS + "x,a,1,2\n", "line 2 is no row of lags: x,a,1,2"),
-    (LAGS + "1,a,1\n", "line 2 is no row of lags: 1,a,1"),
-    (LAGS + "1,a,1,2\n\n", "line 3 is no row of lags: "),
-    (LAGS + "1,a,1,2x\n", "line 2 is no row of lags: 1,a,1,2x"),
-]
+COMPLAINTS = [("", "there are no rows"), ("a,b\n", NEITHER), ("\n" + LAGS, NEITHER)]
+NO_DECISIONS = "-1,0,2,a,admitted,-", "0,x,2,a,admitted,-", "0,0,x,a,refused,22", "0,0,1,a,admitted"
+NO_ROWS = [*((DECISIONS, row) for row in NO_DECISIONS), *((LAGS, row) for row in ("1,a,1,0", "x,a,1,2", "1,a,1", "1,a,1,2x"))]
+NO_ROWS += [(JOINED, "0,0,2,a,gone,-"), (JOINED + LAGS, "1,a,x,2"), (LAGS + "1,a,1,2\n", "")]
+for before, row in NO_ROWS:
+    kind = "lags" if LAGS in before else "decisions"
+    COMPLAINTS.append((f"{before}{row}\n", f"line {before.count(chr(10)) + 1} is no row of {kind}: {row}"))
 
 
 @pytest.mark.parametrize("rows,complaint", COMPLAINTS)

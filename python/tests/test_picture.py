@@ -157,11 +157,8 @@ def test_names_are_cut_to_their_room():
 def test_names_that_begin_alike_are_told_apart():
     """By their last letters, with whole numbers if these fit, or by those in which they differ."""
     names = ["worker12", "worker13", "radar", "radio", "axle_a_left", "axle_b_left", "camera"]
-    for room, wanted in (
-        (39, "wor.12 wor.13 radar radio axle.a axle.b camera"),
-        (27, "w.12 w.13 ra.r ra.o ax.a ax.b cam."),
-        (17, ".2 .3 .r .o .a .b c."),
-    ):
+    fitting = {39: "wor.12 wor.13 radar radio axle.a axle.b camera", 27: "w.12 w.13 ra.r ra.o ax.a ax.b cam."}
+    for room, wanted in {**fitting, 17: ".2 .3 .r .o .a .b c."}.items():
         assert list(_figure.shortened(names, room).values()) == wanted.split()
     assert set(_figure.shortened(names, 11).values()) == {""}
 
@@ -193,8 +190,7 @@ def test_numbers_of_a_scale_have_room():
 def test_slots_that_no_picture_shows():
     rows = Rows(slots=5000)
     refused = {
-        (3, 3): "slots from 3 to before 3 refused: there are none",
-        (4, 2): "slots from 4 to before 2 refused: there are none",
+        **{both: "slots from %d to before %d refused: there are none" % both for both in ((3, 3), (4, 2))},
         (0, 5001): "slots 0 to 5000 refused: the file has 5000",
         (5000, 5001): "slots 5000 to 5000 refused: the file has 5000",
         (0, 4097): "slots 0 to 4096 refused: 4,096 at most",

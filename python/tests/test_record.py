@@ -116,13 +116,11 @@ def test_forms_of_texts(tmp_path):
         assert columns(read) == [] and read.names == [] and read.indexes is read.places is None
 
 
+HEADS = {b"": "", b"time,task\n": "time,task", b"slotxtask\n1xa\n": "slotxtask", b"\xff,task\n": "\ufffd,task"}
+HEADS |= {b"x" * 99 + b"\n": "x" * 80}
 COMPLAINTS = [
-    (b"", "line 1: the header has no column 'slot': ''"),
-    (b"time,task\n", "line 1: the header has no column 'slot': 'time,task'"),
-    (b"slotxtask\n1xa\n", "line 1: the header has no column 'slot': 'slotxtask'"),
-    (b"\xff,task\n", "line 1: the header has no column 'slot': '\ufffd,task'"),
+    *((text, f"line 1: the header has no column 'slot': '{head}'") for text, head in HEADS.items()),
     (b"slot,name\n", "line 1: the header has no column 'task': 'slot,name'"),
-    (b"x" * 99 + b"\n", f"line 1: the header has no column 'slot': '{'x' * 80}'"),
     (b"slot,task\n1,a\n2\n", "line 3: it has 1 columns, and the header 2"),
     (b"slot,task\n1,a\n2,a,3\n1,a\n", "line 3: it has 3 columns, and the header 2"),
     (b"slot,task,index\n1,a,1\n\n1,a,\n", "line 4: '' is no whole number from 0 on"),

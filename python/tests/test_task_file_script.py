@@ -77,11 +77,9 @@ def test_slots_of_a_list(listing):
 AT_LIMITS = ["a,4,4\n", "a,1,1000000000\n", "abcdefghijklmnop,1,2\n", "z0_9,1,2\n", "a,1,2,1000000\n", "a,1,2,0\n"]
 NO_NAME = "is no task name: a letter a-z, then up to 15 letters, digits or underscores"
 PAST_LIMITS = [
-    ("a,5,4\n", "task a: the cost 5 is not from 1 to the period 4"),
-    ("a,0,4\n", "task a: the cost 0 is not from 1 to the period 4"),
+    *((f"a,{cost},4\n", f"task a: the cost {cost} is not from 1 to the period 4") for cost in (5, 0)),
     ("a,1,1000000001\n", "task a: the period 1000000001 is over 1000000000"),
-    ("a,1,2,1000001\n", "task a: it arrives at 1000001, which is not from 0 to 1000000"),
-    ("a,1,2,-1\n", "task a: it arrives at -1, which is not from 0 to 1000000"),
+    *((f"a,1,2,{at}\n", f"task a: it arrives at {at}, which is not from 0 to 1000000") for at in (1000001, -1)),
     *((f"{name},1,2\n", f"'{name}' {NO_NAME}") for name in ("abcdefghijklmnopq", "0a", "aB", "", "_a")),
     ("a,1\n", "line 1: 'a,1' is not name,cost,period or name,cost,period,slot"),
     ("\n# c\n a,1,2,3,4\n", "line 3: 'a,1,2,3,4' is not name,cost,period or name,cost,period,slot"),
@@ -107,13 +105,9 @@ def test_limits_of_lists(listing, tmp_path):
 def test_limits_of_files(listing, call, tmp_path):
     assert listing("a,1,2\n", "--processors", "64").status == 0
     for words, complaint in (
-        (("--processors", "0"), "0 processors are not 1 to 64"),
-        (("--processors", "65"), "65 processors are not 1 to 64"),
-        ((*ONE, "--slots", "1000001"), "1000001 slots are not 1 to 1000000"),
-        ((*ONE, "--slots", "-1"), "-1 slots are not 1 to 1000000"),
-        ((*ONE, "--slots", "0"), "0 slots are not 1 to 1000000"),
-        ((*ONE, "--leave", "a=-5"), "--leave a=-5: -5 is not from 0 to 1000000"),
-        ((*ONE, "--leave", "a=1000001"), "--leave a=1000001: 1000001 is not from 0 to 1000000"),
+        *((("--processors", wrong), f"{wrong} processors are not 1 to 64") for wrong in ("0", "65")),
+        *(((*ONE, "--slots", wrong), f"{wrong} slots are not 1 to 1000000") for wrong in ("1000001", "-1", "0")),
+        *(((*ONE, "--leave", f"a={at}"), f"--leave a={at}: {at} is not from 0 to 1000000") for at in (-5, 1000001)),
         ((*ONE, "--leave", "b=1"), "--leave b=1: no task has this name"),
         ((*ONE, "--leave", "a=x"), "--leave a=x: 'x' is no whole number"),
     ):

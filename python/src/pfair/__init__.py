@@ -13,6 +13,7 @@ from . import study as study
 from ._check import Violation, check
 from ._contents import Faults
 from ._cycle import NoCycle
+from ._digest import NotHeld
 from ._dispatcher import Dispatcher
 from ._entries import Entry, Script, arrive, depart, late, promise, rows_of
 from .errors import (
@@ -38,7 +39,7 @@ __all__ = [
     "succeed", "windows",
     "BadDelay", "BadIndex", "CannotCarry", "CannotSucceed", "CostOverPeriod", "EntryRefused", "FileTooLong",
     "KeyMissing", "KeyOutOfRange", "KeyWrongKind", "NameBadByte", "NameEmpty", "NameTooLong", "NoCycle", "NoSuchNumber",
-    "NoSuchProcessor", "NotOpen", "NotPlanned", "NotToml", "OtherShape", "OutOfMemory", "OutOfRange", "PastLastSlot",
-    "PeriodTooLong", "PfairError", "PickPastHorizon", "PicksNotRising", "SlotTooFar", "Spent", "Stalled",
-    "StampBeforeFloor", "TaskFileError", "Torn", "Unfinished", "UnknownVersion", "ZeroCost",
+    "NoSuchProcessor", "NotHeld", "NotOpen", "NotPlanned", "NotToml", "OtherShape", "OutOfMemory", "OutOfRange",
+    "PastLastSlot", "PeriodTooLong", "PfairError", "PickPastHorizon", "PicksNotRising", "SlotTooFar", "Spent",
+    "Stalled", "StampBeforeFloor", "TaskFileError", "Torn", "Unfinished", "UnknownVersion", "ZeroCost",
 ]

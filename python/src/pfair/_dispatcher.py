@@ -7,7 +7,7 @@ from contextlib import ExitStack
 from types import TracebackType
 from typing import Any, Optional, TypeVar, Union
 
-from . import _contents, _planned, _plans, _take
+from . import _contents, _digest, _planned, _plans, _take
 from .errors import NotOpen, check
 from ._library import FileFault, Handle, Settings, library
 from ._numbers import whole
@@ -196,6 +196,7 @@ class Dispatcher:
     mark = _contents.mark
     missing = _contents.missing
     faults = _contents.faults
+    digest = _digest.digest
 
     @property
     def frontier(self) -> int:
