@@ -10,6 +10,7 @@ mod Agreement
 pub mod OfferedTo
 pub mod TornKeys
 mod Beginnings
+mod AllBeginnings
 mod FirstTorn
 mod Following
 pub mod SoundEntries

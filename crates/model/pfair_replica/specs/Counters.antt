@@ -1,5 +1,5 @@
 -- What a replica keeps beside its rows: how far each sound beginning goes, and the first torn key.
-use Rattle.std.specs.Prelude.{ℕ, ◌≡◌, ◌≢◌, ◌<◌, ◌≤◌, ◌+◌, ◌⊎◌, List, length, slice_get, Option, Some, None, IsSomeAnd}
+use Rattle.std.specs.Prelude.{ℕ, ◌≡◌, ◌≢◌, ◌<◌, ◌≤◌, ◌+◌, ◌⊎◌, min, List, [], ◌∷◌, fold, sum_by, length, slice_get, Option, Some, None, IsSomeAnd}
 use Rattle.pfair_lattice.specs.declared.flat.Flat.TheVariants.{Torn}
 use Rattle.pfair_lattice.specs.Held.{Held, HeldBelow}
 use Rattle.pfair_entry.specs.Entry.{Logged}
@@ -12,6 +12,19 @@ use Rattle.pfair_replica.specs.HeldRows.{HeldRows, IsHeldRows, held}
 -- how far the longest run of a row goes, at most so many entries
 abbrev pub beginning_in : ℕ → (ℕ → Held Logged) → Beginning
 beginning_in capacity row = record { count = length (run_from row capacity 1 0); mark = last_floor 0 (run_from row capacity 1 0) }
+
+-- the first of these marks, or 0
+abbrev pub first_mark : List Beginning → ℕ
+first_mark [] = 0
+first_mark (b ∷ bs) = b.mark
+
+-- the least mark of these, or 0 if there is none
+abbrev pub least_mark : List Beginning → ℕ
+least_mark bs = fold (λ least b. min least b.mark) (first_mark bs) bs
+
+-- how many entries these have
+abbrev pub total_count : List Beginning → ℕ
+total_count bs = sum_by (λ b. b.count) bs
 
 -- so many entries of a row from number 1 on are a run with that last floor
 pub record IsPart (row : ℕ → Held Logged) (part : Beginning) : Type 0 where

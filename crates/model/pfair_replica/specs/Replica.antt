@@ -1,5 +1,5 @@
 -- Replicas, and how far each processor has committed itself.
-use Rattle.std.specs.Prelude.{ℕ, zero, suc, ◌≡◌, ◌≢◌, ◌+◌, ◌≤◌, ◌<◌, min, Bool, true, false, nat_lt, nat_le, ◌==◌, List, [], ◌∷◌, ◌++◌, map, filter, find, length, drop, flat_map, fold, is_none, IsSome, Option, Some, None, if◌then◌else◌}
+use Rattle.std.specs.Prelude.{ℕ, zero, suc, ◌≡◌, ◌≢◌, ◌+◌, ◌≤◌, ◌<◌, min, Bool, true, false, nat_lt, nat_le, ◌==◌, List, [], ◌∷◌, ◌++◌, map, filter, find, length, drop, flat_map, fold, sum_by, is_none, IsSome, Option, Some, None, if◌then◌else◌}
 use Rattle.std.specs.List.{list_any}
 use Rattle.pfair_lattice.specs.declared.flat.Flat.{Flat}
 use Rattle.pfair_lattice.specs.declared.flat.Flat.TheVariants.{One, Torn}
@@ -96,6 +96,10 @@ numbers_below (suc n) = numbers_below n ++ n ∷ []
 -- the least mark over all processors
 abbrev pub frontier : Replica → ℕ
 frontier x = fold min (mark x 0) (map (mark x) (numbers_below x.processors))
+
+-- how many entries all sound beginnings have
+abbrev pub sound_total : Replica → ℕ
+sound_total x = sum_by (λ k. length (sound_beginning x k)) (numbers_below x.processors)
 
 -- ---- the announcements at a slot
 

@@ -1,9 +1,9 @@
 //! What a replica keeps beside its rows, so that it is looked up: how far each sound beginning
-//! goes, and the first torn key.
-ghost use Rattle.std.specs.Prelude.{◌≡◌, ◌≤◌, ◌<◌, ◌↔◌, ◌+◌, ℕ, length, IsTrue, IfOk, Some, None, replicate};
+//! goes, what all of them come to, and the first torn key.
+ghost use Rattle.std.specs.Prelude.{◌≡◌, ◌≤◌, ◌<◌, ◌↔◌, ◌+◌, ◌^◌, ℕ, length, IsTrue, IfOk, Some, None, replicate, set};
 ghost use Rattle.pfair_replica.specs.Replica.{goes_on};
 ghost use Rattle.pfair_replica.specs.HeldRows.{held_in};
-ghost use Rattle.pfair_replica.specs.Counters.{beginning_in, IsPart, IsRunBefore, IsLeftAt, IsFirstTornIn, IsEarlier, IsTornAt, AreCounters, WereBefore, WereApart, ComesFirst};
+ghost use Rattle.pfair_replica.specs.Counters.{beginning_in, least_mark, total_count, IsPart, IsRunBefore, IsLeftAt, IsFirstTornIn, IsEarlier, IsTornAt, AreCounters, WereBefore, WereApart, ComesFirst};
 
 use crate::key::EntryKey;
 use crate::rows::{Rows, held_at, holds_nothing};
@@ -32,6 +32,13 @@ pub(crate) struct Counters {
     pub beginnings: Vec<Beginning>,
     /// `None` if nothing is torn.
     pub torn: Option<EntryKey>,
+    /// The least mark.
+    pub frontier: u64,
+    /// How many entries all sound beginnings have.
+    pub sound_total: u64,
+    ghost few: { length beginnings.items < 2 ^ 8 },
+    ghost least: { frontier ≡ least_mark beginnings.items },
+    ghost total: { sound_total ≡ total_count beginnings.items },
 }
 
 impl Counters {
@@ -43,6 +50,8 @@ impl Counters {
         Ok(Counters {
             beginnings: vec![in alloc; Beginning::EMPTY; processors as usize]?,
             torn: None,
+            frontier: 0,
+            sound_total: 0,
         })
     }
 
@@ -54,6 +63,8 @@ impl Counters {
         Ok(Counters {
             beginnings: self.beginnings.clone()?,
             torn: self.torn,
+            frontier: self.frontier,
+            sound_total: self.sound_total,
         })
     }
 
@@ -67,7 +78,7 @@ impl Counters {
     {
         let row = processor as usize;
         let part = part_left(rows, processor, number, self.beginnings[row]);
-        self.beginnings[row] = carried_on(rows, capacity, processor, part);
+        self.put(row, carried_on(rows, capacity, processor, part));
         if is_torn(rows, processor, number) {
             self.torn = earlier(self.torn, Some((processor, number)));
         }
@@ -85,15 +96,45 @@ impl Counters {
             if holds_nothing(other, processor) {
                 continue;
             }
-            self.beginnings[processor as usize] = carried_on(
-                rows,
-                capacity,
-                processor,
-                Beginning::EMPTY,
-            );
+            let whole = carried_on(rows, capacity, processor, Beginning::EMPTY);
+            self.put(processor as usize, whole);
             self.torn = earlier(self.torn, first_torn_in(rows, capacity, processor));
         }
     }
+
+    // Puts another beginning in the place of a row's. O(M) for M processors.
+    fn put(&mut self, row: usize, beginning: Beginning)
+        requires { row < length self.old.beginnings.items }
+        ensures beginnings { self.new.beginnings.items ≡ set self.old.beginnings.items row beginning }
+        ensures torn { self.new.torn ≡ self.old.torn }
+    {
+        self.beginnings[row] = beginning;
+        self.frontier = least_of(&self.beginnings);
+        self.sound_total = total_of(&self.beginnings);
+    }
+}
+
+// The least mark of these beginnings, or 0 if there is none.
+fn least_of(beginnings: &[Beginning]) -> u64
+    ensures { result ≡ least_mark beginnings.now }
+{
+    let mut least = beginnings.first().map_or(0, |first| first.mark);
+    for beginning in beginnings {
+        least = least.min(beginning.mark);
+    }
+    least
+}
+
+// How many entries these beginnings have.
+fn total_of(beginnings: &[Beginning]) -> u64
+    requires { length beginnings.now < 2 ^ 8 }
+    ensures { result ≡ total_count beginnings.now }
+{
+    let mut total = 0;
+    for beginning in beginnings {
+        total += beginning.count as u64;
+    }
+    total
 }
 
 // The entry that goes on a run with this last floor.

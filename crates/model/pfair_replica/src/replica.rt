@@ -8,7 +8,7 @@
 ghost use Rattle.std.specs.Prelude.{◌≡◌, ◌≢◌, ◌≤◌, ◌↔◌, ◌⊎◌, ◌++◌, ℕ, [], length, slice_get, is_some, IsSome, IsTrue, IfOk, IfErr, OnOk, OnErr, Ok, Err, Some};
 ghost use Rattle.pfair_lattice.specs.declared.flat.Flat.TheVariants.{One};
 ghost use Rattle.pfair_entry.specs.Entry.{Logged, IsEntry};
-ghost use Rattle.pfair_replica.specs.Replica.{IsReplica, join, with_entry, empty_replica, Below, sound_beginning, mark, frontier, missing, IsLeastMissing, said_by, said_behind, said, is_torn, has_torn, torn_in, torn_keys, fallen_in, fallen_keys};
+ghost use Rattle.pfair_replica.specs.Replica.{IsReplica, join, with_entry, empty_replica, Below, sound_beginning, mark, frontier, sound_total, missing, IsLeastMissing, said_by, said_behind, said, is_torn, has_torn, torn_in, torn_keys, fallen_in, fallen_keys};
 ghost use Rattle.pfair_replica.specs.Agenda.{IsPartOf, said_at};
 ghost use Rattle.pfair_replica.specs.Offered.{taken, absorbed};
 ghost use Rattle.pfair_replica.specs.HeldRows.{held, replica_of, IsHeldRows, IsShape, SameShape};
@@ -96,7 +96,8 @@ impl Replica {
 
     /// Adds one entry and returns what it met at its key. The replica is then the join with it.
     ///
-    /// A few look-ups, and one more for each entry by which the processor's sound beginning grows.
+    /// A few look-ups, one more for each entry by which the processor's sound beginning grows, and O(M)
+    /// for M processors.
     ///
     /// # Errors
     /// The first of these that applies, and then nothing has changed: `NoSuchProcessor`,
@@ -134,7 +135,7 @@ impl Replica {
     ///
     /// Two look-ups for each entry of the other. For each log in which the other has an entry, a
     /// look-up for each entry of the sound beginning, and for each number up to the first torn one, or
-    /// up to the capacity if none is torn.
+    /// up to the capacity if none is torn; and O(M) for M processors.
     ///
     /// # Errors
     /// `OtherShape` if the other has another number of processors or another capacity; nothing has
@@ -196,17 +197,19 @@ impl Replica {
         self.sound_beginning(proc).0
     }
 
-    /// Returns the least mark of all processors: below this slot every announcement is known. O(M) for
-    /// M processors.
+    /// Returns the number of entries of all sound beginnings. O(1).
+    pub fn sound_total(&self) -> u64
+        ensures { result ≡ sound_total (replica_of self.now) }
+    {
+        self.counters.sound_total
+    }
+
+    /// Returns the least mark of all processors: below this slot every announcement is known. O(1).
     pub fn frontier(&self) -> u64
         ensures value { result ≡ frontier (replica_of self.now) }
         ensures replica { IsReplica (replica_of self.now) }
     {
-        let mut least = self.mark(0);
-        for processor in 0..self.processors {
-            least = least.min(self.mark(processor));
-        }
-        least
+        self.counters.frontier
     }
 
     /// Returns whether each key of this replica is in the other, with the same content or torn. A

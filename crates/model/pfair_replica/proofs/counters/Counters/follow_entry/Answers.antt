@@ -17,10 +17,10 @@ carried_on-requires-clause-room c =
 
 pub returns-then-is_torn-clause-counters : goal.returns-then-is_torn-clause-counters
 returns-then-is_torn-clause-counters c =
-    entry_torn c.args.capacity c.args.processor c.args.number (held_in c.args.rows.now) c.args.self.now.beginnings.items c.args.self.now.torn c.requires.before c.carried_on.result c.requires.row
-    c.carried_on.ensures c.earlier-self.result (c.is_torn.ensures.0 c.if-is_torn.true) c.earlier-self.ensures
+    rw c.put.ensures.beginnings (entry_torn c.args.capacity c.args.processor c.args.number (held_in c.args.rows.now) c.args.self.now.beginnings.items c.args.self.now.torn c.requires.before c.carried_on.result c.requires.row
+    c.carried_on.ensures c.earlier-self.result (c.is_torn.ensures.0 c.if-is_torn.true) (rw c.put.ensures.torn at c.earlier-self.ensures))
 
 pub returns-else-is_torn-clause-counters : goal.returns-else-is_torn-clause-counters
 returns-else-is_torn-clause-counters c =
-    entry_untorn c.args.capacity c.args.processor c.args.number (held_in c.args.rows.now) c.args.self.now.beginnings.items c.args.self.now.torn c.requires.before c.carried_on.result c.requires.row
-    c.carried_on.ensures (λ torn. false≢true (sym c.if-is_torn.false ∙ c.is_torn.ensures.1 torn))
+    rw (c.put.ensures.beginnings, c.put.ensures.torn) (entry_untorn c.args.capacity c.args.processor c.args.number (held_in c.args.rows.now) c.args.self.now.beginnings.items c.args.self.now.torn c.requires.before c.carried_on.result c.requires.row
+    c.carried_on.ensures (λ torn. false≢true (sym c.if-is_torn.false ∙ c.is_torn.ensures.1 torn)))

@@ -1,4 +1,4 @@
-use Rattle.std.proofs.Common.{◌<◌, ◌≤◌, ◌∙◌, length, arith}
+use Rattle.std.proofs.Common.{◌<◌, ◌≤◌, ◌∙◌, ap, length, arith}
 use Rattle.std.proofs.lemmas.List.{length-set}
 use Rattle.pfair_replica.specs.HeldRows.{held_in}
 use Rattle.pfair_replica.proofs.Following.{midway_end, midway_as_it_was, midway_next}
@@ -16,9 +16,9 @@ loop-processor-preserved c =
     let same = c.loop-processor.invariant.so_many in
     let row : c.loop-processor.processor < length c.loop-processor.self.beginnings.items = omega arith in
     record {
-      so_many = length-set c.loop-processor.self.beginnings.items c.loop-processor.processor c.carried_on.result ∙ same;
-      midway = midway_next c.args.capacity (held_in c.args.other.now) (held_in c.args.rows.now) c.loop-processor.self.beginnings.items c.loop-processor.self.torn c.loop-processor.processor c.loop-processor.invariant.midway
-          c.carried_on.result c.first_torn_in.result c.earlier-self.result row c.carried_on.ensures c.first_torn_in.ensures c.earlier-self.ensures;
+      so_many = ap length c.put.ensures.beginnings ∙ length-set c.loop-processor.self.beginnings.items c.loop-processor.processor c.carried_on-whole.result ∙ same;
+      midway = rw c.put.ensures.beginnings (midway_next c.args.capacity (held_in c.args.other.now) (held_in c.args.rows.now) c.loop-processor.self.beginnings.items c.loop-processor.self.torn c.loop-processor.processor c.loop-processor.invariant.midway
+          c.carried_on-whole.result c.first_torn_in.result c.earlier-self.result row c.carried_on-whole.ensures c.first_torn_in.ensures (rw c.put.ensures.torn at c.earlier-self.ensures));
     }
 
 pub returns-clause-counters : goal.returns-clause-counters
