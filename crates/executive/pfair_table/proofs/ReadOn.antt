@@ -1,17 +1,19 @@
 -- Readings of sound beginnings: one entry more, and what a replica that holds more makes of them.
-use Rattle.std.proofs.Common.{ℕ, zero, suc, ◌+◌, ◌≤◌, ◌<◌, ◌≡◌, refl, sym, ap, ◌∙◌, arith, List, [], ◌∷◌, ◌++◌, length, take, drop, Some, append_assoc}
-use Rattle.std.specs.Prelude.{flat_map, slice_get}
-use Rattle.std.proofs.lemmas.List.{take-append-le, length-append}
-use Rattle.std.proofs.lemmas.Grind.{flat_map-append}
-use Rattle.std.proofs.lemmas.Option.{get_or_from_slice_get, slice_get_within}
+use Rattle.std.proofs.Common.{ℕ, zero, suc, ◌+◌, ◌≤◌, ◌<◌, ◌≡◌, refl, sym, ap, ◌∙◌, ⊎_elim, arith, List, [], ◌∷◌, ◌++◌, length, take, drop, Some, append_assoc}
+use Rattle.std.specs.Prelude.{◌≢◌, ◌⊎◌, flat_map, slice_get, set, sum_by}
+use Rattle.std.proofs.lemmas.List.{take-append-le, length-append, length-set, get_or-set_other}
+use Rattle.std.proofs.lemmas.Bool.{cases_eq}
+use Rattle.std.proofs.lemmas.Grind.{flat_map-append, get_or-set_at}
+use Rattle.std.proofs.lemmas.List.Sums.{sum_by_push}
+use Rattle.std.proofs.lemmas.Option.{get_or_from_slice_get, slice_get-get_or, slice_get_within}
 use Rattle.std.proofs.Math.Seq.{take-length, take-suc}
 use Rattle.pfair_lattice.specs.declared.flat.Flat.TheVariants.{One, Torn}
 use Rattle.pfair_entry.specs.Entry.{Logged}
 use Rattle.pfair_replica.specs.Agenda.{said_at}
-use Rattle.pfair_replica.specs.Replica.{Replica, IsReplica, Below, Untorn, numbers_below, sound_beginning, said_in, said_behind, said}
+use Rattle.pfair_replica.specs.Replica.{Replica, IsReplica, Below, Untorn, numbers_below, sound_beginning, sound_total, said_in, said_behind, said}
 use Rattle.pfair_replica.proofs.SoundEntries.{some_at, held_within, beginnings_grow}
 use Rattle.pfair_table.specs.declared.readings.Reading.{Reading}
-use Rattle.pfair_table.specs.Readings.{IsReadingOf, AreReadingsOf, said_by_all}
+use Rattle.pfair_table.specs.Readings.{IsReadingOf, AreReadingsOf, AreWhole, entries_read, said_by_all}
 
 -- what some entries say and then the others
 said_split : (t k n m : ℕ) (es : List Logged) → said_in t k n (take m es) ++ said_in t k (n + m) (drop m es) ≡ said_in t k n es
@@ -42,6 +44,64 @@ AreUnread rs = (k : ℕ) (r : Reading) → slice_get rs k ≡ Some r → (r.coun
 -- those below p are read to their ends
 abbrev pub AreWholeBelow : Replica → List Reading → ℕ → Type 0
 AreWholeBelow x rs p = (k : ℕ) (r : Reading) → k < p → slice_get rs k ≡ Some r → r.count ≡ length (sound_beginning x k)
+
+-- ---- one of them read on
+
+module _ (x : Replica) (rs : List Reading) (p : ℕ) (r : Reading) (room : p < length rs) where
+  -- the one at that place, or another one, which was there before
+  put_at : (k : ℕ) (q : Reading) → slice_get (set rs p r) k ≡ Some q → ((k ≡ p) × (q ≡ r)) ⊎ ((k ≢ p) × (slice_get rs k ≡ Some q))
+  put_at k q e =
+      let here = get_or_from_slice_get (set rs p r) k q q e in
+      let within : k < length rs = (let h = slice_get_within (set rs p r) k q e in let same = length-set rs p r in omega (arith, h, same)) in
+      grind (arith, get_or-set_at, slice_get-get_or, get_or-set_other, cases_eq)
+
+  pub readings_put : AreReadingsOf x rs → IsReadingOf p (sound_beginning x p) r → AreReadingsOf x (set rs p r)
+  readings_put all read = record { one_each = length-set rs p r ∙ all.one_each; each = λ sound whole k q e. grind (arith, put_at) }
+
+  pub whole_put : AreWholeBelow x rs p → r.count ≡ length (sound_beginning x p) → AreWholeBelow x (set rs p r) (p + 1)
+  whole_put below count k q low e = grind (arith, put_at)
+
+-- ---- how many entries were read
+
+-- of readings that are no longer than what g says of their places, so many are first
+module _ (g : ℕ → ℕ) (rs : List Reading) where
+  count_next : (n : ℕ) → suc n ≤ length rs
+      → (r : Reading) × (slice_get rs n ≡ Some r) × (entries_read (take (suc n) rs) ≡ entries_read (take n rs) + r.count) × (sum_by g (numbers_below (suc n)) ≡ sum_by g (numbers_below n) + g n)
+  count_next n le =
+      let r = some_at rs n (omega (arith, le)) in (
+        r.0,
+        r.1,
+        ap entries_read (take-suc rs n r.0 (omega (arith, le)) ∙ ap (λ y. take n rs ++ y ∷ []) (get_or_from_slice_get rs n r.0 r.0 r.1)) ∙ sum_by_push (λ (r : Reading). r.count) (take n rs) r.0,
+        sum_by_push g (numbers_below n) n,
+      )
+
+  counts_are : ((k : ℕ) (r : Reading) → slice_get rs k ≡ Some r → r.count ≡ g k) → (n : ℕ) → n ≤ length rs → entries_read (take n rs) ≡ sum_by g (numbers_below n)
+  counts_are same zero le = refl
+  counts_are same (suc n) le =
+      let next = count_next n le in
+      let so_far = counts_are same n (omega (arith, le)) in
+      omega (arith, next.2, next.3, so_far, same n next.0 next.1)
+
+  counts_within : ((k : ℕ) (r : Reading) → slice_get rs k ≡ Some r → r.count ≤ g k) → (n : ℕ) → n ≤ length rs → entries_read (take n rs) ≤ sum_by g (numbers_below n)
+  counts_within within zero le = omega arith
+  counts_within within (suc n) le =
+      let next = count_next n le in
+      let so_far = counts_within within n (omega (arith, le)) in
+      omega (arith, next.2, next.3, so_far, within n next.0 next.1)
+
+  -- equal sums of counts that are within their bounds are of equal counts
+  same_counts : ((k : ℕ) (r : Reading) → slice_get rs k ≡ Some r → r.count ≤ g k) → (n : ℕ) → n ≤ length rs → sum_by g (numbers_below n) ≤ entries_read (take n rs)
+      → (k : ℕ) (r : Reading) → k < n → slice_get rs k ≡ Some r → r.count ≡ g k
+  same_counts within zero le all k r low is = absurd (omega (arith, low))
+  same_counts within (suc n) le all k r low is =
+      let next = count_next n le in
+      let so_far = counts_within within n (omega (arith, le)) in
+      let here = within n next.0 next.1 in
+      let most : sum_by g (numbers_below n) ≤ entries_read (take n rs) = omega (arith, next.2, next.3, all, here) in
+      ⊎_elim
+      (λ same. (let one : Some r ≡ Some next.0 = sym is ∙ ap (slice_get rs) same ∙ next.1 in let last : r ≡ next.0 = cc in ap (λ (q : Reading). q.count) last ∙ (let e : next.0.count ≡ g n = omega (arith, next.2, next.3, all, here, so_far) in e) ∙ ap g (sym same)))
+      (λ ne. same_counts within n (omega (arith, le)) most k r (omega (arith, low, ne)) is)
+      (cases_eq k n)
 
 -- ---- a replica that holds more
 
@@ -80,11 +140,32 @@ maps_to f g xs same (suc n) le =
     ∙ (λ i. maps_to f g xs same n (omega (arith, le)) i ++ (same n x.0 x.1 i ++ []))
     ∙ sym (flat_map-append g (numbers_below n) (n ∷ []))
 
+pub whole_at_end : (x : Replica) (rs : List Reading) (p : ℕ) → length rs ≤ p → AreWholeBelow x rs p → AreWhole x rs
+whole_at_end x rs p le below k r is = below k r (omega (arith, le, slice_get_within rs k r is)) is
+
+-- all are read to their ends if as many entries were read as there are, and then as many were read
+pub whole_by_total : (x : Replica) (rs : List Reading) → AreReadingsOf x rs → IsReplica x → Untorn x → sound_total x ≤ entries_read rs → AreWhole x rs
+whole_by_total x rs all sound whole most k r is =
+    same_counts (λ (j : ℕ). length (sound_beginning x j)) rs (λ j q h. (all.each sound whole j q h).within) (length rs) (omega arith)
+    (rw (take-length, all.one_each) most) k r (slice_get_within rs k r is) is
+
+pub total_by_whole : (x : Replica) (rs : List Reading) → length rs ≡ x.processors → AreWhole x rs → sound_total x ≤ entries_read rs
+total_by_whole x rs one_each ends =
+    let sums = counts_are (λ (j : ℕ). length (sound_beginning x j)) rs ends (length rs) (omega arith) in
+    let same = ap entries_read (take-length rs) in
+    let all = ap (λ (n : ℕ). sum_by (λ (j : ℕ). length (sound_beginning x j)) (numbers_below n)) one_each in
+    omega (arith, sums, same, all)
+
+-- what is read for no slot of any processor isn't said
+pub none_said : (rs : List Reading) (t : ℕ) → ((k : ℕ) (r : Reading) → slice_get rs k ≡ Some r → said_at r.agenda t ≡ []) → said_by_all rs t ≡ []
+none_said [] t silent = refl
+none_said (r ∷ rs) t silent = λ i. silent 0 r refl i ++ none_said rs t (λ k q is. silent (suc k) q is) i
+
 -- readings that are whole say what the replica says
-pub whole_said : (x : Replica) (rs : List Reading) (p : ℕ) → AreReadingsOf x rs → IsReplica x → Untorn x → AreWholeBelow x rs p → x.processors ≤ p → (t : ℕ) → said_by_all rs t ≡ said x t
-whole_said x rs p all sound whole ends le t =
+pub whole_said : (x : Replica) (rs : List Reading) → AreReadingsOf x rs → IsReplica x → Untorn x → AreWhole x rs → (t : ℕ) → said_by_all rs t ≡ said x t
+whole_said x rs all sound whole ends t =
     ap (flat_map (λ (r : Reading). said_at r.agenda t)) (sym (take-length rs))
     ∙ maps_to (λ (r : Reading). said_at r.agenda t) (λ k. said_in t k 1 (sound_beginning x k)) rs
-    (λ k r h. (all.each sound whole k r h).says t ∙ ap (said_in t k 1) (ap (λ n. take n (sound_beginning x k)) (ends k r (omega (arith, slice_get_within rs k r h, all.one_each, le)) h) ∙ take-length (sound_beginning x k)))
+    (λ k r h. (all.each sound whole k r h).says t ∙ ap (said_in t k 1) (ap (λ n. take n (sound_beginning x k)) (ends k r h) ∙ take-length (sound_beginning x k)))
     (length rs) (omega arith)
     ∙ ap (λ m. flat_map (λ k. said_in t k 1 (sound_beginning x k)) (numbers_below m)) all.one_each

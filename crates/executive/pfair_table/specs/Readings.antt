@@ -1,5 +1,5 @@
 -- What the sound beginnings say, as far as they were read.
-use Rattle.std.specs.Prelude.{ℕ, ◌≡◌, ◌≤◌, List, length, take, flat_map, Some, slice_get}
+use Rattle.std.specs.Prelude.{ℕ, ◌≡◌, ◌≤◌, ◌<◌, List, [], sum_by, length, take, flat_map, Some, slice_get}
 use Rattle.pfair_entry.specs.Entry.{Logged}
 use Rattle.pfair_entry.specs.Said.{Said}
 use Rattle.pfair_replica.specs.Agenda.{said_at}
@@ -15,6 +15,18 @@ pub record IsReadingOf (k : ℕ) (beginning : List Logged) (reading : Reading) :
 pub record AreReadingsOf (x : Replica) (readings : List Reading) : Type 0 where
   pub one_each : length readings ≡ x.processors
   pub each : IsReplica x → Untorn x → (k : ℕ) (reading : Reading) → slice_get readings k ≡ Some reading → IsReadingOf k (sound_beginning x k) reading
+
+-- each was read to its end
+abbrev pub AreWhole : Replica → List Reading → Type 0
+AreWhole x readings = (k : ℕ) (reading : Reading) → slice_get readings k ≡ Some reading → reading.count ≡ length (sound_beginning x k)
+
+-- how many entries were read
+abbrev pub entries_read : List Reading → ℕ
+entries_read readings = sum_by (λ (r : Reading). r.count) readings
+
+-- nothing was read for a slot after the last one
+abbrev pub AreSilentAfter : ℕ → List Reading → Type 0
+AreSilentAfter last readings = (k : ℕ) (reading : Reading) (t : ℕ) → slice_get readings k ≡ Some reading → last < t → said_at reading.agenda t ≡ []
 
 -- what the readings say at a slot, one after another
 abbrev pub said_by_all : List Reading → ℕ → List Said

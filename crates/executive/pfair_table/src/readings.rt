@@ -1,9 +1,9 @@
 //! What the sound beginnings of a replica say, where each entry is looked at once.
-ghost use Rattle.std.specs.Prelude.{◌≡◌, ℕ, [], IfOk, OnOk, length};
+ghost use Rattle.std.specs.Prelude.{◌≡◌, ◌≤◌, ℕ, [], IfOk, OnOk, length};
 ghost use Rattle.pfair_replica.specs.Agenda.{said_at};
 ghost use Rattle.pfair_replica.specs.HeldRows.{replica_of};
 ghost use Rattle.pfair_replica.specs.Replica.{Replica as Held, IsReplica, Untorn, sound_beginning, said};
-ghost use Rattle.pfair_table.specs.Readings.{IsReadingOf, AreReadingsOf, said_by_all};
+ghost use Rattle.pfair_table.specs.Readings.{IsReadingOf, AreReadingsOf, AreWhole, AreSilentAfter, entries_read, said_by_all};
 
 use pfair_entry::Said;
 use pfair_replica::{Agenda, Replica};
@@ -52,7 +52,13 @@ impl Reading {
 #[derive(Drop)]
 pub(crate) struct Readings {
     by_processor: Vec<Reading>,
+    // how many entries were read when all were read to their ends, or 0 if the next reading failed
+    read: u64,
+    // nothing is read for a later slot
+    last: u64,
     alloc: Global,
+    ghost counted: { read ≤ entries_read by_processor.items },
+    ghost silent: { AreSilentAfter last by_processor.items },
 }
 
 impl Readings {
@@ -66,11 +72,14 @@ impl Readings {
         }
         Ok(Readings {
             by_processor,
+            read: 0,
+            last: 0,
             alloc,
         })
     }
 
-    /// What a replica says at a slot. It reads on in all sound beginnings, from where it stood in each.
+    /// What a replica says at a slot. O(1) if the replica has no other sound entries than at the last
+    /// call, and none for this slot or a later one.
     pub(crate) fn heard(&mut self, replica: &Replica, slot: u64) -> Result<Vec<Said>, AllocError>
         requires replica { IsReplica (replica_of replica.now) }
         requires untorn { Untorn (replica_of replica.now) }
@@ -78,10 +87,33 @@ impl Readings {
         ensures readings { AreReadingsOf (replica_of replica.now) self.new.by_processor.items }
         ensures heard { IfOk result (λ announced. announced.items ≡ said (replica_of replica.now) slot) }
     {
-        for processor in 0..replica.processors() {
-            self.by_processor[processor as usize].read_on(self.alloc, replica, processor)?;
+        self.read_on(replica)?;
+        if slot > self.last {
+            return Ok(Vec::new(self.alloc));
         }
         self.said(slot)
+    }
+
+    // Reads on in all sound beginnings, from where it stood in each, unless all were read to their ends.
+    fn read_on(&mut self, replica: &Replica) -> Result<(), AllocError>
+        requires replica { IsReplica (replica_of replica.now) }
+        requires untorn { Untorn (replica_of replica.now) }
+        requires readings { AreReadingsOf (replica_of replica.now) self.old.by_processor.items }
+        ensures readings { AreReadingsOf (replica_of replica.now) self.new.by_processor.items }
+        ensures whole { OnOk result (AreWhole (replica_of replica.now) self.new.by_processor.items) }
+    {
+        if self.read == replica.sound_total() {
+            return Ok(());
+        }
+        self.read = 0;
+        for processor in 0..replica.processors() {
+            let row = processor as usize;
+            let read = self.by_processor[row].read_on(self.alloc, replica, processor);
+            self.last = self.last.max(self.by_processor[row].agenda.last());
+            read?;
+        }
+        self.read = replica.sound_total();
+        Ok(())
     }
 
     // What was read for a slot, in order of processors, and of numbers for each processor.

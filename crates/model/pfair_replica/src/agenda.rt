@@ -1,5 +1,5 @@
 //! What is said, kept by slot.
-ghost use Rattle.std.specs.Prelude.{◌≡◌, ◌++◌, ℕ, [], OnOk, OnErr};
+ghost use Rattle.std.specs.Prelude.{◌≡◌, ◌≢◌, ◌<◌, ◌++◌, ℕ, [], OnOk, OnErr};
 ghost use Rattle.pfair_replica.specs.Agenda.{said_at};
 ghost use Rattle.pfair_replica.specs.BySlot.{one_at};
 
@@ -34,6 +34,14 @@ impl Agenda {
         ensures { result.now ≡ said_at self.now slot }
     {
         self.by_slot.at(slot)
+    }
+
+    /// Returns the last slot that has announcements, or 0 if there is none. O(1).
+    pub fn last(&self) -> u64
+        ensures silent { (t : ℕ) → result < t → said_at self.now t ≡ [] }
+        ensures reached { 0 < result → said_at self.now result ≢ [] }
+    {
+        self.by_slot.last
     }
 
     /// Adds an announcement behind those of a slot. One or two look-ups of the slot, and O(1)

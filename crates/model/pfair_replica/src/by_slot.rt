@@ -1,5 +1,5 @@
 //! Lists by slot.
-ghost use Rattle.std.specs.Prelude.{◌≡◌, ◌<◌, ◌++◌, ℕ, [], OnOk, OnErr};
+ghost use Rattle.std.specs.Prelude.{◌≡◌, ◌≢◌, ◌<◌, ◌++◌, ℕ, [], OnOk, OnErr};
 ghost use Rattle.pfair_replica.specs.BySlot.{listed_at, one_at};
 
 use pfair_entry::Said;
@@ -10,9 +10,10 @@ use std::collections::BTreeMap;
 #[derive(Drop)]
 pub(crate) struct BySlot {
     pub lists: BTreeMap<u64, Vec<Said>>,
-    // nothing is listed after this slot
+    // the last slot at which something is listed, or 0
     pub last: u64,
     ghost silent: { (t : ℕ) → last < t → listed_at lists t ≡ [] },
+    ghost reached: { 0 < last → listed_at lists last ≢ [] },
 }
 
 impl BySlot {
