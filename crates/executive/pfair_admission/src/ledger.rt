@@ -56,6 +56,16 @@ impl Ledger {
         }
     }
 
+    /// Returns where the member of that name is, if there is one. A wrong `seat` costs a look-up.
+    pub(crate) fn find_at(&self, seat: usize, name: &TaskName) -> Option<usize>
+        ensures { HasRegister (λ _. true) self.now → IsFound (λ _. true) name.now (listed self.now) result }
+    {
+        match self.members.get_index(seat) {
+            Some((_, member)) if member.name() == name => Some(seat),
+            _ => self.find(name),
+        }
+    }
+
     /// Drops the members that are freed by `slot`, in the order of the others. Allocates nothing.
     ///
     /// O(n) for n members if one of them may be freed by then, and else O(1).
