@@ -5,7 +5,7 @@ ghost use Rattle.std.specs.Option.{ForSome, option_copied, option_map};
 ghost use Rattle.pfair_entry.specs.Entry.{IsWithinLimits};
 ghost use Rattle.pfair_admission.specs.Admission.{member_named, boundary, boundary_decisions, announcements, decision, running, ran, quantum_of, seatless};
 ghost use Rattle.pfair_admission.specs.Carried.{carried, CanBeCarried, IsFirstLeft};
-ghost use Rattle.pfair_admission.specs.Roster.{LeavesBeginning};
+ghost use Rattle.pfair_admission.specs.Roster.{after_boundary, IsCutShort};
 
 use crate::decision::Decision;
 use crate::incarnation::Incarnation;
@@ -134,12 +134,9 @@ impl Members {
         requires heard { self.old.heard + length announced.now ≤ Members.MAX_HEARD }
         requires limits { AllByRecursion (λ a. IsWithinLimits a.2) announced.now }
         ensures decisions { IfOk result (λ all. all.items ≡ boundary_decisions self.old.machine slot self.old.members (announcements announced.now)) }
-        ensures members { OnOk result (self.new.members ≡ boundary self.old.machine slot self.old.members (announcements announced.now)) }
-        ensures err { OnErr result (LeavesBeginning self.old.machine slot self.old.members (announcements announced.now) self.new.members) }
+        ensures members { OnOk result (self.new ≡ after_boundary slot announced.now self.old) }
+        ensures err { OnErr result (IsCutShort slot announced.now self.old self.new) }
         ensures wanted { OnErr result (0 < length announced.now) }
-        ensures machine { self.new.machine ≡ self.old.machine }
-        ensures heard { self.new.heard ≡ self.old.heard + length announced.now }
-        ensures last_slot { self.new.last_slot ≡ Some slot }
     {
         self.pass(slot);
         let decisions = self.ledger.decide_all(slot, announced);
