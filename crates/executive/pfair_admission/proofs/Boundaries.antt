@@ -1,6 +1,6 @@
 -- How far the announcements of a boundary are decided, and how far delays can lead.
 use Rattle.std.proofs.lemmas.Grind.{common_steps}
-use Rattle.std.proofs.Common.{◌≡◌, ℕ, ◌+◌, ◌-◌, ◌*◌, ◌<◌, ◌≤◌, Bool, List, [], ◌∷◌, ◌++◌, length, take, get_or, Result, OnOk, OnErr, refl, sym, ap, subst, ◌∙◌, arith}
+use Rattle.std.proofs.Common.{◌≡◌, ℕ, ◌+◌, ◌-◌, ◌*◌, ◌<◌, ◌≤◌, Bool, List, [], ◌∷◌, ◌++◌, length, take, get_or, Some, Result, Ok, Err, OnOk, OnErr, refl, sym, ap, subst, ◌∙◌, arith}
 use Rattle.std.specs.Prelude.{not, if◌then◌else◌}
 use Rattle.std.specs.List.{AllByRecursion}
 use Rattle.std.proofs.SliceLists.{all_by_recursion_push}
@@ -15,7 +15,7 @@ use Rattle.pfair_entry.specs.declared.entry.TheConstants.Entry.{LONGEST_DELAY}
 use Rattle.pfair_admission.specs.declared.members.TheConstants.Members.{LAST_SLOT, MAX_HEARD}
 use Rattle.pfair_admission.specs.Member.{Member, last_offset}
 use Rattle.pfair_admission.specs.Admission.{Machine, change, newcomer, with_freeing, with_delay, with_quantum, effect, is_freed, present, decision, decided, all_decided, all_decisions, announcements, ran}
-use Rattle.pfair_admission.specs.Roster.{EachBounded, EachHasRoom}
+use Rattle.pfair_admission.specs.Roster.{after_boundary, EachBounded, EachHasRoom, IsCutShort, Roster}
 use Rattle.pfair_admission.specs.Ledger.{after_all}
 use Rattle.pfair_admission.specs.Standing.{Standing}
 use Rattle.pfair_admission.proofs.Each.{each_at, each_filter}
@@ -118,10 +118,20 @@ limits_item xs i x h within is = subst (λ (a : Said). IsWithinLimits a.2) (sym 
 
 -- ---- who is left
 
-pub swept_decided : {A E : Type 0} (r : Result A E) (t : ℕ) (announced : List Announcement) (old now : Standing) {start : Standing} {left : List Member} → start ≡ old → left ≡ now.members
-    → OnOk r (now ≡ after_all t announced start) → OnOk r (left ≡ all_decided old.machine t old.members announced)
-swept_decided r t announced old now same is all = grind arith
+-- those that a boundary begins with
+abbrev pub begun : ℕ → Roster → Standing
+begun t r = record { machine = r.machine; members = present t r.members }
 
-pub swept_left : {A E : Type 0} (r : Result A E) (t : ℕ) (announced : List Announcement) (old now : Standing) {start : Standing} {left : List Member} → start ≡ old → left ≡ now.members
-    → OnErr r ((k : ℕ) × (now ≡ after_all t (take k announced) start)) → OnErr r ((k : ℕ) × (left ≡ all_decided old.machine t old.members (take k announced)))
-swept_left r t announced old now same is some = grind arith
+-- with what was heard
+abbrev pub with_heard : ℕ → List Said → Roster → Standing → Roster
+with_heard t announced old s = record { machine = s.machine; members = s.members; heard = old.heard + length announced; last_slot = Some t }
+
+pub decided_ok : {A E : Type 0} (r : Result A E) (t : ℕ) (announced : List Said) (old after : Roster) {start now : Standing} → start ≡ begun t old → after ≡ with_heard t announced old now
+    → OnOk r (now ≡ after_all t (announcements announced) start) → OnOk r (after ≡ after_boundary t announced old)
+decided_ok (Ok x) t announced old after same is all = is ∙ ap (with_heard t announced old) (all ∙ ap (after_all t (announcements announced)) same)
+decided_ok (Err e) t announced old after same is all = tt
+
+pub decided_err : {A E : Type 0} (r : Result A E) (t : ℕ) (announced : List Said) (old after : Roster) {start now : Standing} → start ≡ begun t old → after ≡ with_heard t announced old now
+    → OnErr r ((k : ℕ) × (now ≡ after_all t (take k (announcements announced)) start)) → OnErr r (IsCutShort t announced old after)
+decided_err (Ok x) t announced old after same is some = tt
+decided_err (Err e) t announced old after same is some = (some.0, is ∙ ap (with_heard t announced old) (some.1 ∙ ap (after_all t (take some.0 (announcements announced))) same))

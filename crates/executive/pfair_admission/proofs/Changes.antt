@@ -9,7 +9,7 @@ use Rattle.pfair_admission.specs.declared.decision.Decision.{Decision}
 use Rattle.pfair_admission.specs.declared.decision.Decision.TheVariants.{Departing}
 use Rattle.pfair_admission.specs.declared.quantum.Quantum.{Quantum}
 use Rattle.pfair_admission.specs.Member.{Member}
-use Rattle.pfair_admission.specs.Admission.{change, effect, present, running, ran, quantum_of}
+use Rattle.pfair_admission.specs.Admission.{change, effect, present, running, ran, quantum_of, seatless}
 use Rattle.pfair_admission.specs.Change.{after_departure, after_late_release, after_quantum}
 use Rattle.pfair_admission.specs.Roster.{Roster}
 use Rattle.pfair_admission.specs.Ledger.{is_there, IsOnly, Numbered}
@@ -53,14 +53,14 @@ pub late_like : {E : Type 0} (r : Result Decision E) (index by : ℕ) (m n : Mem
 late_like r index by m n is same = grind (arith, same_like)
 
 pub ran_written : (name : List ℕ) (m n : Member) (old new : List Member) (r : Option Quantum) → IsWritten (λ _. true) name m n old new
-    → r ≡ option_map quantum_of (running (Some m)) → n ≡ after_quantum m → new ≡ (if is_some r then ran name old else old)
+    → option_map seatless r ≡ option_map quantum_of (running (Some m)) → n ≡ after_quantum m → new ≡ (if is_some r then ran name old else old)
 ran_written name m n old new r w answer is = grind (arith, filter_all)
 
 pub ran_like : (m n : Member) → n ≡ after_quantum m → IsLike m n
 ran_like m n is = grind (arith, same_like)
 
 -- what a quantum leaves
-pub ran_listed : (name : List ℕ) (es : Numbered) (place : ℕ) (m n : Member) (r : Option Quantum) → IsOnly (λ _. true) name (values_of es) place m → r ≡ option_map quantum_of (running (Some m)) → n ≡ after_quantum m
+pub ran_listed : (name : List ℕ) (es : Numbered) (place : ℕ) (m n : Member) (r : Option Quantum) → IsOnly (λ _. true) name (values_of es) place m → option_map seatless r ≡ option_map quantum_of (running (Some m)) → n ≡ after_quantum m
     → values_of (set_value_at es place n) ≡ (if is_some r then ran name (values_of es) else values_of es)
 ran_listed name es place m n r is answer after =
     let old : List Member = values_of es in

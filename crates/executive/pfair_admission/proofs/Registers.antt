@@ -14,7 +14,7 @@ use Rattle.pfair_admission.specs.Member.{Member}
 use Rattle.pfair_admission.specs.Admission.{is_named, member_named}
 use Rattle.pfair_admission.specs.Removal.{NoneFreed}
 use Rattle.pfair_admission.proofs.Each.{each, each_kept, both}
-use Rattle.pfair_admission.specs.Ledger.{has_number, is_there, IsFound, IsNamedIn, IsNumberOf, IsRegister, Numbered}
+use Rattle.pfair_admission.specs.Ledger.{has_number, is_there, IsFound, IsNamedIn, IsNumberOf, IsOnly, IsRegister, Numbered}
 
 abbrev pub Names : Type 0
 Names = List (NameValue × ℕ)
@@ -151,6 +151,20 @@ pub parts_at : (es : Numbered) (i : ℕ) (e : ℕ × Member) → slice_get es i 
 parts_at [] i e at = absurd (none-some e at)
 parts_at (d ∷ es) zero e at = (ap (λ (x : ℕ × Member). Some x.0) (same_Some d e at), ap (λ (x : ℕ × Member). Some x.1) (same_Some d e at))
 parts_at (d ∷ es) (suc i) e at = parts_at es i e at
+
+-- who counts and has the name is the only one
+pub only_at : (counts : Member → Bool) (admitted : ℕ) (es : Numbered) (names : Names) (name : NameValue) (place number : ℕ) (x : Member) → IsRegister counts admitted es names → slice_get es place ≡ Some (number, x) → counts x ≡ true → x.name ≡ name
+    → IsOnly counts name (values_of es) place x
+only_at counts admitted es names name place number x r at there same =
+    let parts = parts_at es place (number, x) at in
+    let leads = sym (number_at counts names es place x r.found parts.1 there) ∙ parts.0 in
+    record {
+      at = parts.1;
+      named = (bytes_decides name x.name).1 (sym same);
+      only = λ other y at_other there_too named.
+          one_place (keys_of es) number place other r.unique parts.0
+          (number_at counts names es other y r.found at_other there_too ∙ ap (λ n. lookup (name_eq n) names) (sym (same_name name y.name named) ∙ sym same) ∙ leads);
+    }
 
 -- ---- one more
 

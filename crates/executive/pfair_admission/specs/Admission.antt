@@ -119,9 +119,13 @@ running (Some m) = if is_departing m then None else Some m
 abbrev pub with_quantum : Member → Member
 with_quantum m = record m { next = m.next + 1 }
 
+-- a quantum, wherever its member stands
+abbrev pub seatless : Quantum → Quantum
+seatless q = record q { seat = 0 }
+
 -- the quantum of its next subtask, and what comes after it
 abbrev pub quantum_of : Member → Quantum
-quantum_of m = record { index = m.next; next_from = eligible_from m (m.next + 1); next_key = next_key (with_quantum m) }
+quantum_of m = record { index = m.next; seat = 0; next_from = eligible_from m (m.next + 1); next_key = next_key (with_quantum m) }
 
 -- the members after the named one has had a quantum
 abbrev pub ran : List ℕ → List Member → List Member

@@ -1,5 +1,5 @@
 -- What the ledger of members keeps.
-use Rattle.std.specs.Prelude.{ℕ, ◌≡◌, ◌≤◌, ◌<◌, ◌*◌, Bool, true, not, nat_eq, List, filter, slice_get, Option, Some, None, is_some}
+use Rattle.std.specs.Prelude.{ℕ, ◌≡◌, ◌≤◌, ◌<◌, ◌+◌, ◌-◌, ◌*◌, ◌^◌, Bool, true, not, nat_eq, List, filter, slice_get, Option, Some, None, is_some, Result, IfOk, OnOk, OnErr}
 use Rattle.std.specs.List.{AllByRecursion, IsDistinct}
 use Rattle.std.specs.Map.{keys_of, values_of, lookup}
 use Rattle.pfair_weight.specs.Name.{NameValue, name_eq}
@@ -8,8 +8,9 @@ use Rattle.pfair_admission.specs.declared.decision.Decision.{Decision}
 use Rattle.pfair_admission.specs.Member.{Member}
 use Rattle.pfair_admission.specs.Admission.{all_decided, all_decisions, claimed, decided, decision, is_freed, is_named, member_named, present}
 use Rattle.pfair_admission.specs.Removal.{NoneFreedBefore}
+use Rattle.pfair_admission.specs.Roster.{EachBounded}
 use Rattle.pfair_admission.specs.Standing.{Standing}
-use Rattle.pfair_admission.specs.declared.members.TheConstants.Members.{MAX_PROCESSORS, MAX_FRAME}
+use Rattle.pfair_admission.specs.declared.members.TheConstants.Members.{MAX_PROCESSORS, MAX_FRAME, MAX_HEARD}
 use Rattle.pfair_admission.specs.declared.ledger.Ledger.{Ledger}
 
 -- the members, in the order of admission, with those that are gone
@@ -37,6 +38,12 @@ all_told t announced s = all_decisions s.machine t s.members announced
 
 abbrev pub after_all : ℕ → List Announcement → Standing → Standing
 after_all t announced s = record s { members = all_decided s.machine t s.members announced }
+
+-- an announcement is decided, or an allocation failed and nothing has changed
+pub record IsDecided {E : Type 0} (t : ℕ) (announcement : Announcement) (old new : Standing) (result : Result Decision E) : Type 0 where
+  pub decision : IfOk result (λ d. d ≡ told t announcement old)
+  pub members : OnOk result (new ≡ after t announcement old)
+  pub err : OnErr result (new ≡ old)
 
 -- ---- names and numbers
 
@@ -100,3 +107,18 @@ pub record IsUnswept (t : ℕ) (a : Ledger) : Type 0 where
   pub least : claimed a.frame (present t (listed a)) ≤ a.claim
   pub most : a.claim ≤ claimed a.frame (listed a)
   pub first : NoneFreedBefore a.first_freeing (listed a)
+
+-- ---- hearing
+
+-- n announcements can be decided at slot t
+pub record CanHear (t n : ℕ) (a : Ledger) : Type 0 where
+  pub kept : IsLedger (is_there t) a
+  pub few : n ≤ MAX_HEARD
+  pub numbers : a.admitted + n < 2 ^ 64
+  pub bounded : EachBounded (MAX_HEARD - n) (present t (listed a))
+
+-- what n announcements leave, whether or not all of them are decided
+pub record HasHeard (t n : ℕ) (old new : Ledger) : Type 0 where
+  pub kept : IsLedger (is_there t) new
+  pub admitted : new.admitted ≤ old.admitted + n
+  pub bounded : (heard : ℕ) → EachBounded heard (present t (listed old)) → EachBounded (heard + n) (present t (listed new))

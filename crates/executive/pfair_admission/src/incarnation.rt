@@ -2,7 +2,7 @@
 ghost use Rattle.std.specs.Prelude.{◌≡◌, ◌≤◌, ◌<◌, ◌+◌, ◌-◌, ◌*◌, ◌↔◌, IsTrue, Some, IfOk, OnOk, OnErr, nat_lt};
 ghost use Rattle.pfair_weight.specs.Window.{release_of};
 ghost use Rattle.pfair_admission.specs.Member.{IsMember, last_offset, theta, is_departing, lag_at, eligible_from, next_key, busy_until, freeing_slot};
-ghost use Rattle.pfair_admission.specs.Admission.{newcomer, with_delay, is_freed, departure, late_release, running, quantum_of};
+ghost use Rattle.pfair_admission.specs.Admission.{newcomer, with_delay, is_freed, departure, late_release, running, quantum_of, seatless};
 ghost use Rattle.pfair_admission.specs.Carried.{carried, jobs_done, CanBeCarried};
 ghost use Rattle.pfair_admission.specs.Change.{after_departure, after_late_release, after_quantum};
 ghost use Rattle.std.specs.Option.{option_map};
@@ -271,16 +271,17 @@ impl Incarnation {
         Some(index)
     }
 
-    /// It has one quantum more, unless it is departing, and the answer is that quantum.
-    pub(crate) fn run_on(&mut self) -> Option<Quantum>
+    /// It has one quantum more at this seat, unless it is departing, and the answer is that quantum.
+    pub(crate) fn run_on(&mut self, seat: usize) -> Option<Quantum>
         requires { self.old.next < MAX_INDEX }
-        ensures quantum { result ≡ option_map quantum_of (running (Some self.old)) }
+        ensures quantum { option_map seatless result ≡ option_map quantum_of (running (Some self.old)) }
         ensures member { self.new ≡ after_quantum self.old }
     {
         let index = self.run()?;
         let (next_from, next_key) = self.next_subtask();
         Some(Quantum {
             index,
+            seat,
             next_from,
             next_key,
         })

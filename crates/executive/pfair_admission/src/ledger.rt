@@ -10,7 +10,7 @@ ghost use Rattle.pfair_admission.specs.Admission.{member_named, arrival, announc
 ghost use Rattle.pfair_admission.specs.Carried.{carried, CanBeCarried};
 ghost use Rattle.pfair_admission.specs.Removal.{earlier_of, NoneFreed, NoneFreedBefore};
 ghost use Rattle.pfair_admission.specs.Roster.{EachBounded, EachHasRoom};
-ghost use Rattle.pfair_admission.specs.Ledger.{after, after_all, all_told, has_number, is_there, listed, standing, told, HasRegister, IsFound, IsLedger, IsPlace, IsUnswept};
+ghost use Rattle.pfair_admission.specs.Ledger.{after, after_all, all_told, has_number, is_there, listed, standing, told, CanHear, HasHeard, HasRegister, IsDecided, IsFound, IsLedger, IsPlace, IsUnswept};
 
 use crate::decision::Decision;
 use crate::incarnation::{Incarnation, has_come};
@@ -56,6 +56,16 @@ impl Ledger {
         }
     }
 
+    /// Returns where the member of that name is, if there is one. A wrong `seat` costs a look-up.
+    pub(crate) fn find_at(&self, seat: usize, name: &TaskName) -> Option<usize>
+        ensures { HasRegister (λ _. true) self.now → IsFound (λ _. true) name.now (listed self.now) result }
+    {
+        match self.members.get_index(seat) {
+            Some((_, member)) if member.name() == name => Some(seat),
+            _ => self.find(name),
+        }
+    }
+
     /// Drops the members that are freed by `slot`, in the order of the others. Allocates nothing.
     ///
     /// O(n) for n members if one of them may be freed by then, and else O(1).
@@ -82,19 +92,13 @@ impl Ledger {
         announced: &[Said],
     ) -> Result<Vec<Decision>, AllocError>
         requires slot { slot ≤ Members.LAST_SLOT }
-        requires kept { IsLedger (is_there slot) self.old }
-        requires few { length announced.now ≤ Members.MAX_HEARD }
-        requires numbers { self.old.admitted + length announced.now < 2 ^ 64 }
-        requires bounded { EachBounded (Members.MAX_HEARD - length announced.now) (present slot (listed self.old)) }
+        requires able { CanHear slot (length announced.now) self.old }
         requires limits { AllByRecursion (λ a. IsWithinLimits a.2) announced.now }
         ensures decisions { IfOk result (λ all. all.items ≡ all_told slot (announcements announced.now) (standing slot self.old)) }
         ensures members { OnOk result (standing slot self.new ≡ after_all slot (announcements announced.now) (standing slot self.old)) }
         ensures err { OnErr result ((k : ℕ) × (standing slot self.new ≡ after_all slot (take k (announcements announced.now)) (standing slot self.old))) }
         ensures wanted { OnErr result (0 < length announced.now) }
-        ensures kept { IsLedger (is_there slot) self.new }
-        ensures machine { (standing slot self.new).machine ≡ (standing slot self.old).machine }
-        ensures admitted { self.new.admitted ≤ self.old.admitted + length announced.now }
-        ensures bounded { (heard : ℕ) → EachBounded heard (present slot (listed self.old)) → EachBounded (heard + length announced.now) (present slot (listed self.new)) }
+        ensures heard { HasHeard slot (length announced.now) self.old self.new }
     {
         let mut all = Vec::new(self.alloc);
         for said in announced {
@@ -109,9 +113,7 @@ impl Ledger {
         requires numbers { self.old.admitted + 1 < 2 ^ 64 }
         requires room { EachHasRoom (present slot (listed self.old)) }
         requires limits { IsWithinLimits announcement }
-        ensures decision { IfOk result (λ d. d ≡ told slot announcement (standing slot self.old)) }
-        ensures members { OnOk result (standing slot self.new ≡ after slot announcement (standing slot self.old)) }
-        ensures err { OnErr result (standing slot self.new ≡ standing slot self.old) }
+        ensures decided { IsDecided slot announcement (standing slot self.old) (standing slot self.new) result }
         ensures kept { IsLedger (is_there slot) self.new }
         ensures admitted { self.new.admitted ≤ self.old.admitted + 1 }
     {
@@ -136,9 +138,7 @@ impl Ledger {
         requires slot { slot ≤ MAX_OFFSET }
         requires kept { IsLedger (is_there slot) self.old }
         requires numbers { self.old.admitted + 1 < 2 ^ 64 }
-        ensures decision { IfOk result (λ d. d ≡ told slot (Arrive name weight early) (standing slot self.old)) }
-        ensures members { OnOk result (standing slot self.new ≡ after slot (Arrive name weight early) (standing slot self.old)) }
-        ensures err { OnErr result (standing slot self.new ≡ standing slot self.old) }
+        ensures decided { IsDecided slot (Arrive name weight early) (standing slot self.old) (standing slot self.new) result }
         ensures kept { IsLedger (is_there slot) self.new }
         ensures admitted { self.new.admitted ≤ self.old.admitted + 1 }
     {
@@ -202,9 +202,7 @@ impl Ledger {
         requires kept { IsLedger (is_there slot) self.old }
         requires room { EachHasRoom (present slot (listed self.old)) }
         requires limits { IsWithinLimits (Late name.now index by) }
-        ensures decision { IfOk result (λ d. d ≡ told slot (Late name.now index by) (standing slot self.old)) }
-        ensures members { OnOk result (standing slot self.new ≡ after slot (Late name.now index by) (standing slot self.old)) }
-        ensures err { OnErr result (standing slot self.new ≡ standing slot self.old) }
+        ensures decided { IsDecided slot (Late name.now index by) (standing slot self.old) (standing slot self.new) result }
         ensures kept { IsLedger (is_there slot) self.new }
         ensures admitted { self.new.admitted ≡ self.old.admitted }
     {

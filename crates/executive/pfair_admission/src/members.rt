@@ -3,9 +3,9 @@ ghost use Rattle.std.specs.Prelude.{◌≡◌, ◌≤◌, ◌<◌, ◌+◌, [], 
 ghost use Rattle.std.specs.List.{AllByRecursion};
 ghost use Rattle.std.specs.Option.{ForSome, option_copied, option_map};
 ghost use Rattle.pfair_entry.specs.Entry.{IsWithinLimits};
-ghost use Rattle.pfair_admission.specs.Admission.{member_named, boundary, boundary_decisions, announcements, decision, running, ran, quantum_of};
+ghost use Rattle.pfair_admission.specs.Admission.{member_named, boundary, boundary_decisions, announcements, decision, running, ran, quantum_of, seatless};
 ghost use Rattle.pfair_admission.specs.Carried.{carried, CanBeCarried, IsFirstLeft};
-ghost use Rattle.pfair_admission.specs.Roster.{LeavesBeginning};
+ghost use Rattle.pfair_admission.specs.Roster.{after_boundary, IsCutShort};
 
 use crate::decision::Decision;
 use crate::incarnation::Incarnation;
@@ -134,19 +134,26 @@ impl Members {
         requires heard { self.old.heard + length announced.now ≤ Members.MAX_HEARD }
         requires limits { AllByRecursion (λ a. IsWithinLimits a.2) announced.now }
         ensures decisions { IfOk result (λ all. all.items ≡ boundary_decisions self.old.machine slot self.old.members (announcements announced.now)) }
-        ensures members { OnOk result (self.new.members ≡ boundary self.old.machine slot self.old.members (announcements announced.now)) }
-        ensures err { OnErr result (LeavesBeginning self.old.machine slot self.old.members (announcements announced.now) self.new.members) }
+        ensures members { OnOk result (self.new ≡ after_boundary slot announced.now self.old) }
+        ensures err { OnErr result (IsCutShort slot announced.now self.old self.new) }
         ensures wanted { OnErr result (0 < length announced.now) }
-        ensures machine { self.new.machine ≡ self.old.machine }
-        ensures heard { self.new.heard ≡ self.old.heard + length announced.now }
-        ensures last_slot { self.new.last_slot ≡ Some slot }
     {
-        self.ledger.sweep(slot);
+        self.pass(slot);
         let decisions = self.ledger.decide_all(slot, announced);
         self.ledger.sweep(slot);
         self.heard += announced.len() as u64;
-        self.last_slot = Some(slot);
         decisions
+    }
+
+    /// Drops the members that are freed by `slot`, as [`Members::boundary`] does if nothing is
+    /// announced. Allocates nothing. O(n) for n members if one is freed by `slot`, and else O(1).
+    pub fn pass(&mut self, slot: u64)
+        requires slot { slot ≤ Members.LAST_SLOT }
+        requires order { ForSome self.old.last_slot (λ last. last ≤ slot) }
+        ensures { self.new ≡ record self.old { members = boundary self.old.machine slot self.old.members []; last_slot = Some slot } }
+    {
+        self.last_slot = Some(slot);
+        self.ledger.sweep(slot);
     }
 
     /// Gives the next subtask of the named member a quantum and returns the subtask's index.
@@ -159,20 +166,23 @@ impl Members {
         ensures index { result ≡ option_map (λ m. m.next) (running (member_named self.old.members name.now)) }
         ensures members { self.new ≡ (if is_some result then record self.old { members = ran name.now self.old.members } else self.old) }
     {
-        let quantum = self.ran_on(name)?;
+        let quantum = self.ran_on(0, name)?;
         Some(quantum.index)
     }
 
     /// Gives the next subtask of the named member a quantum, as [`Members::ran`], and returns its
     /// index with the slot from which the subtask after it may run and that one's key, as
-    /// [`Incarnation::next_subtask`] then does. The cost is that of [`Members::ran`].
-    pub fn ran_on(&mut self, name: &TaskName) -> Option<Quantum>
+    /// [`Incarnation::next_subtask`] then does.
+    ///
+    /// `seat` is where the member stood at its last quantum ([`Quantum::seat`]). Any other number
+    /// costs a look-up of the name. Otherwise the cost is that of [`Members::ran`].
+    pub fn ran_on(&mut self, seat: usize, name: &TaskName) -> Option<Quantum>
         requires { ForSome (member_named self.old.members name.now) (λ m. m.next < MAX_INDEX) }
-        ensures quantum { result ≡ option_map quantum_of (running (member_named self.old.members name.now)) }
+        ensures quantum { option_map seatless result ≡ option_map quantum_of (running (member_named self.old.members name.now)) }
         ensures members { self.new ≡ (if is_some result then record self.old { members = ran name.now self.old.members } else self.old) }
     {
-        let place = self.ledger.find(name)?;
-        self.ledger.members[place].run_on()
+        let place = self.ledger.find_at(seat, name)?;
+        self.ledger.members[place].run_on(place)
     }
 
     /// Allocates room for `tasks` members at once. No boundary grows the maps while there are no more.

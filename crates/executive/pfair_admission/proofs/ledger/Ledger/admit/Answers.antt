@@ -1,4 +1,4 @@
-use Rattle.std.proofs.Common.{◌≡◌, ◌++◌, ◌∷◌, [], Result, Ok, Err, OnOk, Some, cond, ap, ◌∙◌}
+use Rattle.std.proofs.Common.{rules, ◌≡◌, ◌++◌, ◌∷◌, [], Result, Ok, Err, OnOk, Some, cond, ap, ◌∙◌}
 use Rattle.std.specs.Prelude.{nat_eq}
 use Rattle.std.specs.Map.{lookup}
 use Rattle.indexmap.specs.IndexMap.{insert_entry}
@@ -26,12 +26,16 @@ made c =
     ∙ ap (λ (es : Numbered). es ++ (a.admitted, c.new-newcomer.result) ∷ []) c.reserve.ensures.entries
     ∙ ap (λ (m : Member). a.members.entries ++ (a.admitted, m) ∷ []) c.new-newcomer.ensures
 
-pub returns-in_ok-reserve-2-clause-members : goal.returns-in_ok-reserve-2-clause-members
-returns-in_ok-reserve-2-clause-members c =
+pub returns-in_ok-reserve-2-clause-decided : goal.returns-in_ok-reserve-2-clause-decided
+returns-in_ok-reserve-2-clause-decided c =
     let a = c.args.self.now in
-    stood _
-    (present_pushed c.args.slot a.members.entries c.insert.new.self.entries a.admitted c.args.name c.args.weight c.args.early (made ((goal.at.returns-in_ok-reserve-2-clause-members c).After-claim_of))
-    ∙ arrived (record { processors = a.processors; frame = a.frame }) c.args.slot (present c.args.slot (listed a)) c.args.name c.args.weight c.args.early (none_freed_present c.args.slot (listed a)) c.in-Admitted.ensures)
+    record {
+      decision = search rules;
+      err = search rules;
+      members = stood _
+          (present_pushed c.args.slot a.members.entries c.insert.new.self.entries a.admitted c.args.name c.args.weight c.args.early (made ((goal.at.returns-in_ok-reserve-2-clause-decided c).After-claim_of))
+          ∙ arrived (record { processors = a.processors; frame = a.frame }) c.args.slot (present c.args.slot (listed a)) c.args.name c.args.weight c.args.early (none_freed_present c.args.slot (listed a)) c.in-Admitted.ensures);
+    }
 
 pub returns-in_ok-reserve-2-clause-kept : goal.returns-in_ok-reserve-2-clause-kept
 returns-in_ok-reserve-2-clause-kept c =
@@ -43,8 +47,12 @@ returns-in_ok-reserve-2-clause-kept c =
     (on_ok c.insert-in-Admitted.result c.unwrap-in-Admitted.result c.unwrap-in-Admitted.ensures c.insert-in-Admitted.ensures.entries ∙ ap (λ l. insert_entry name_eq l c.args.name a.admitted) names)
     (λ q. (on_ok c.insert-in-Admitted.result c.unwrap-in-Admitted.result c.unwrap-in-Admitted.ensures c.insert-in-Admitted.ensures.updates).0 q ∙ ap (λ l. cond (name_eq c.args.name q) (Some a.admitted) (lookup (name_eq q) l)) names))
 
-pub returns-in_default-clause-members : goal.returns-in_default-clause-members
-returns-in_default-clause-members c =
+pub returns-in_default-clause-decided : goal.returns-in_default-clause-decided
+returns-in_default-clause-decided c =
     let a = c.args.self.now in
-    stood _
-    (not_arrived (record { processors = a.processors; frame = a.frame }) c.args.slot (present c.args.slot (listed a)) c.args.name c.args.weight c.args.early c.arrival-decision.result (none_freed_present c.args.slot (listed a)) c.in_default.not-Admitted c.arrival-decision.ensures)
+    record {
+      decision = search rules;
+      err = search rules;
+      members = stood _
+          (not_arrived (record { processors = a.processors; frame = a.frame }) c.args.slot (present c.args.slot (listed a)) c.args.name c.args.weight c.args.early c.arrival-decision.result (none_freed_present c.args.slot (listed a)) c.in_default.not-Admitted c.arrival-decision.ensures);
+    }

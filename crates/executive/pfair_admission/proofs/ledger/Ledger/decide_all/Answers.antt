@@ -10,7 +10,7 @@ use Rattle.pfair_admission.proofs.ledger.Ledger.decide_all.Goals.{After-branch-p
 
 pub decide-requires-clause-room : goal.decide-requires-clause-room
 decide-requires-clause-room c =
-    room_so_far (standing c.args.slot c.args.self.now) c.args.slot c.loop-said.said-index (length c.args.announced.now) (announcements c.args.announced.now) (standing c.args.slot c.loop-said.self) c.loop-said.all.items c.loop-said.invariant.so_far (omega (arith, c.loop-said.auto.said-index-end)) (omega (arith, c.requires.few)) c.requires.bounded
+    room_so_far (standing c.args.slot c.args.self.now) c.args.slot c.loop-said.said-index (length c.args.announced.now) (announcements c.args.announced.now) (standing c.args.slot c.loop-said.self) c.loop-said.all.items c.loop-said.invariant.so_far (omega (arith, c.loop-said.auto.said-index-end)) (omega (arith, c.requires.able.few)) c.requires.able.bounded
 
 -- one announcement more is decided
 step : (c : After-branch-push) → SoFar (standing c.args.slot c.args.self.now) c.args.slot (c.loop-said.said-index + 1) (announcements c.args.announced.now) (standing c.args.slot c.decide.new.self) (c.loop-said.all.items ++ c.in_ok-decide.field-0 ∷ [])
@@ -19,25 +19,35 @@ step c =
     let inside : c.loop-said.said-index < length (announcements c.args.announced.now) = omega (arith, length_announcements c.args.announced.now) in
     one_more (standing c.args.slot c.args.self.now) c.args.slot c.loop-said.said-index (announcements c.args.announced.now) (standing c.args.slot c.loop-said.self) (standing c.args.slot c.decide.new.self) c.loop-said.all.items c.said-item.result.2 c.in_ok-decide.field-0
     c.loop-said.invariant.so_far c.requires.slot (limits_item c.args.announced.now c.loop-said.said-index c.said-item.result c.requires.limits within c.said-item.is) inside
-    (said_item c.args.announced.now c.loop-said.said-index c.said-item.result within c.said-item.is) c.in_ok-decide.ensures.decision c.in_ok-decide.ensures.members
+    (said_item c.args.announced.now c.loop-said.said-index c.said-item.result within c.said-item.is) c.in_ok-decide.ensures.decided.decision c.in_ok-decide.ensures.decided.members
 
 pub returns-in_err-push-clause-err : goal.returns-in_err-push-clause-err
 returns-in_err-push-clause-err c =
     let p = err_from_is_err_and c.from_residual-in_err-push.result c.from_residual-in_err-push.ensures.1 in
     rw p.1 (c.loop-said.said-index + 1, (step ((goal.at.returns-in_err-push-clause-err c).After-branch-push)).left)
 
-pub returns-in_err-decide-clause-bounded : goal.returns-in_err-decide-clause-bounded
-returns-in_err-decide-clause-bounded c heard h =
-    subst (λ (s : Standing). EachBounded (heard + length c.args.announced.now) s.members) (sym c.in_err-decide.ensures.err)
-    (bounded_so_far (standing c.args.slot c.args.self.now) c.args.slot c.loop-said.said-index (length c.args.announced.now) (announcements c.args.announced.now) (standing c.args.slot c.loop-said.self) c.loop-said.all.items c.loop-said.invariant.so_far (omega (arith, c.loop-said.auto.said-index-end)) heard h)
+pub returns-in_err-decide-clause-heard : goal.returns-in_err-decide-clause-heard
+returns-in_err-decide-clause-heard c = record {
+  kept = c.in_err-decide.ensures.kept;
+  admitted = omega (arith, c.in_err-decide.ensures.admitted, c.loop-said.invariant.admitted, c.loop-said.auto.said-index-end);
+  bounded = λ heard h.
+      subst (λ (s : Standing). EachBounded (heard + length c.args.announced.now) s.members) (sym c.in_err-decide.ensures.decided.err)
+      (bounded_so_far (standing c.args.slot c.args.self.now) c.args.slot c.loop-said.said-index (length c.args.announced.now) (announcements c.args.announced.now) (standing c.args.slot c.loop-said.self) c.loop-said.all.items c.loop-said.invariant.so_far (omega (arith, c.loop-said.auto.said-index-end)) heard h);
+}
 
-pub returns-in_err-push-clause-bounded : goal.returns-in_err-push-clause-bounded
-returns-in_err-push-clause-bounded c =
-    bounded_so_far (standing c.args.slot c.args.self.now) c.args.slot (c.loop-said.said-index + 1) (length c.args.announced.now) (announcements c.args.announced.now) (standing c.args.slot c.decide.new.self) _ (step ((goal.at.returns-in_err-push-clause-bounded c).After-branch-push)) (omega (arith, c.loop-said.auto.said-index-end))
+pub returns-in_err-push-clause-heard : goal.returns-in_err-push-clause-heard
+returns-in_err-push-clause-heard c = record {
+  kept = c.in_ok-decide.ensures.kept;
+  admitted = omega (arith, c.in_ok-decide.ensures.admitted, c.loop-said.invariant.admitted, c.loop-said.auto.said-index-end);
+  bounded = bounded_so_far (standing c.args.slot c.args.self.now) c.args.slot (c.loop-said.said-index + 1) (length c.args.announced.now) (announcements c.args.announced.now) (standing c.args.slot c.decide.new.self) _ (step ((goal.at.returns-in_err-push-clause-heard c).After-branch-push)) (omega (arith, c.loop-said.auto.said-index-end));
+}
 
-pub returns-clause-bounded : goal.returns-clause-bounded
-returns-clause-bounded c =
-    bounded_so_far (standing c.args.slot c.args.self.now) c.args.slot c.loop-said.said-index (length c.args.announced.now) (announcements c.args.announced.now) (standing c.args.slot c.loop-said.self) c.loop-said.all.items c.loop-said.invariant.so_far (omega (arith, c.loop-said.auto.said-index-end))
+pub returns-clause-heard : goal.returns-clause-heard
+returns-clause-heard c = record {
+  kept = c.loop-said.invariant.kept;
+  admitted = omega (arith, c.loop-said.invariant.admitted, c.loop-said.auto.said-index-end);
+  bounded = bounded_so_far (standing c.args.slot c.args.self.now) c.args.slot c.loop-said.said-index (length c.args.announced.now) (announcements c.args.announced.now) (standing c.args.slot c.loop-said.self) c.loop-said.all.items c.loop-said.invariant.so_far (omega (arith, c.loop-said.auto.said-index-end));
+}
 
 pub loop-said-preserved : goal.loop-said-preserved
 loop-said-preserved c =

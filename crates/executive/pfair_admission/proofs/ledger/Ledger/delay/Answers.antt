@@ -1,4 +1,4 @@
-use Rattle.std.proofs.Common.{◌≡◌, IfOk, sym, ap, ◌∙◌, arith}
+use Rattle.std.proofs.Common.{rules, ◌≡◌, IfOk, sym, ap, ◌∙◌, arith}
 use Rattle.std.specs.Prelude.{not}
 use Rattle.std.specs.Map.{values_of}
 use Rattle.indexmap.specs.IndexMap.{set_value_at}
@@ -11,8 +11,12 @@ use Rattle.pfair_admission.proofs.Written.{is_there_now, within, IsThere}
 use Rattle.pfair_admission.proofs.ledger.Ledger.delay.Goals as goal
 use Rattle.pfair_admission.proofs.ledger.Ledger.delay.Goals.{After-delay}
 
-pub returns-in_default-clause-members : goal.returns-in_default-clause-members
-returns-in_default-clause-members c = stood _ (none_late c.args.slot (listed c.args.self.now) c.args.name.now c.args.index c.args.by c.in_default.ensures.none)
+pub returns-in_default-clause-decided : goal.returns-in_default-clause-decided
+returns-in_default-clause-decided c = record {
+  decision = search rules;
+  members = stood _ (none_late c.args.slot (listed c.args.self.now) c.args.name.now c.args.index c.args.by c.in_default.ensures.none);
+  err = search rules;
+}
 
 pub index_mut-requires : goal.index_mut-requires
 index_mut-requires c = within c.args.self.now.members.entries c.in-Some.place c.in-Some.ensures.some.0 c.in-Some.ensures.some.1.at
@@ -33,19 +37,16 @@ written c = is_written (is_there c.args.slot) c.args.name.now c.args.self.now.me
 decided_so : (c : After-delay) → IfOk c.delay.result (λ d. d ≡ late_release c.args.slot (member_named (present c.args.slot (listed c.args.self.now)) c.args.name.now) c.args.index)
 decided_so c = if_decided c.delay.result c.args.slot c.args.index (sym (who c).found) c.delay.ensures.decision
 
-pub returns-clause-decision : goal.returns-clause-decision
-returns-clause-decision c = decided_so ((goal.at.returns-clause-decision c).After-delay)
-
-pub returns-clause-members : goal.returns-clause-members
-returns-clause-members c =
-    let at = (goal.at.returns-clause-members c).After-delay in
-    late_decided c.delay.result _ c.args.slot (present c.args.slot (listed c.args.self.now)) _ c.args.name.now c.args.index c.args.by (decided_so at)
-    (delayed_if_ok c.delay.result c.args.slot c.args.name.now c.index_mut.result.now c.delay.new.self (present c.args.slot (listed c.args.self.now)) _ c.args.index c.args.by (written at) c.delay.ensures.member)
-
-pub returns-clause-err : goal.returns-clause-err
-returns-clause-err c =
-    late_same c.delay.result _ _ _
-    (stays_on_err c.delay.result (is_there c.args.slot) c.args.name.now c.index_mut.result.now c.delay.new.self (present c.args.slot (listed c.args.self.now)) _ (written ((goal.at.returns-clause-err c).After-delay)) c.delay.ensures.err)
+pub returns-clause-decided : goal.returns-clause-decided
+returns-clause-decided c =
+    let at = (goal.at.returns-clause-decided c).After-delay in
+    record {
+      decision = decided_so at;
+      members = late_decided c.delay.result _ c.args.slot (present c.args.slot (listed c.args.self.now)) _ c.args.name.now c.args.index c.args.by (decided_so at)
+          (delayed_if_ok c.delay.result c.args.slot c.args.name.now c.index_mut.result.now c.delay.new.self (present c.args.slot (listed c.args.self.now)) _ c.args.index c.args.by (written at) c.delay.ensures.member);
+      err = late_same c.delay.result _ _ _
+          (stays_on_err c.delay.result (is_there c.args.slot) c.args.name.now c.index_mut.result.now c.delay.new.self (present c.args.slot (listed c.args.self.now)) _ (written at) c.delay.ensures.err);
+    }
 
 pub returns-clause-kept : goal.returns-clause-kept
 returns-clause-kept c =

@@ -4,7 +4,7 @@ use Rattle.std.specs.Option.{option_map}
 use Rattle.std.specs.Map.{values_of}
 use Rattle.indexmap.specs.IndexMap.{set_value_at}
 use Rattle.pfair_admission.specs.Member.{Member}
-use Rattle.pfair_admission.specs.Admission.{member_named, quantum_of, ran, running}
+use Rattle.pfair_admission.specs.Admission.{member_named, quantum_of, ran, running, seatless}
 use Rattle.pfair_admission.specs.Ledger.{listed}
 use Rattle.pfair_admission.specs.Roster.{Roster}
 use Rattle.pfair_admission.proofs.Boundaries.{bounded_run}
@@ -16,18 +16,18 @@ use Rattle.pfair_admission.proofs.members.Members.ran_on.Goals.{After-run_on}
 
 pub returns-in_err-place-clause-quantum : goal.returns-in_err-place-clause-quantum
 returns-in_err-place-clause-quantum c =
-    c.from_residual.ensures
+    ap (option_map seatless) c.from_residual.ensures
     ∙ sym (ap (λ (o : Option Member). option_map quantum_of (running o)) (ap (λ (r : Roster). member_named r.members c.args.name.now) (sym c.self.view_is) ∙ ap (λ (ms : List Member). member_named ms c.args.name.now) (sym (filter_all (listed c.self.inside.ledger)))
-    ∙ c.in_err-place.ensures (λ _. true) c.self.invariant.kept.register))
+    ∙ c.in_err-place.ensures c.self.invariant.kept.register))
 
 pub index_mut-requires : goal.index_mut-requires
 index_mut-requires c =
-    let is = c.in_ok-place.ensures (λ _. true) c.self.invariant.kept.register in
+    let is = c.in_ok-place.ensures c.self.invariant.kept.register in
     within c.self.inside.ledger.members.entries c.in_ok-place.place is.0 is.1.at
 
 pub run_on-requires : goal.run_on-requires
 run_on-requires c =
-    let is = c.in_ok-place.ensures (λ _. true) c.self.invariant.kept.register in
+    let is = c.in_ok-place.ensures c.self.invariant.kept.register in
     let there = is_there_now (λ _. true) c.args.name.now (listed c.self.inside.ledger) c.in_ok-place.place c.index_mut.result.now (is.0, is.1, refl) c.index_mut.ensures.value in
     let few = c.requires c.index_mut.result.now
     (ap (λ (r : Roster). member_named r.members c.args.name.now) (sym c.self.view_is) ∙ ap (λ (ms : List Member). member_named ms c.args.name.now) (sym (filter_all (listed c.self.inside.ledger))) ∙ there.found) in
@@ -35,7 +35,7 @@ run_on-requires c =
 
 who : (c : After-run_on) → IsThere (λ _. true) c.args.name.now (listed c.self.inside.ledger) c.in_ok-place.place c.index_mut.result.now
 who c =
-    let is = c.in_ok-place.ensures (λ _. true) c.self.invariant.kept.register in
+    let is = c.in_ok-place.ensures c.self.invariant.kept.register in
     is_there_now (λ _. true) c.args.name.now (listed c.self.inside.ledger) c.in_ok-place.place c.index_mut.result.now (is.0, is.1, refl) c.index_mut.ensures.value
 
 left : (c : After-run_on) → values_of (set_value_at c.self.inside.ledger.members.entries c.in_ok-place.place c.run_on.new.self) ≡ (if is_some c.run_on.result then ran c.args.name.now (listed c.self.inside.ledger) else listed c.self.inside.ledger)
