@@ -1,5 +1,5 @@
 -- How far a selection has come over the turns, and its steps.
-use Rattle.std.proofs.Common.{◌≡◌, ℕ, ◌+◌, ◌<◌, ◌≤◌, inl, inr, true, false, List, [], ◌∷◌, ◌++◌, length, min, refl, sym, ap, subst, ◌∙◌, arith, Option, Some, None, length-append}
+use Rattle.std.proofs.Common.{◌≡◌, ℕ, ◌+◌, ◌<◌, ◌≤◌, inl, inr, true, false, List, [], ◌∷◌, ◌++◌, length, map, min, refl, sym, ap, subst, ◌∙◌, arith, Option, Some, None, length-append}
 use Rattle.std.specs.Prelude.{Contains, nat_le}
 use Rattle.std.specs.List.{AllByRecursion}
 use Rattle.std.specs.declared.cmp.Ordering.TheVariants.{Less}
@@ -7,6 +7,7 @@ use Rattle.std.specs.Ordering.{is_lt, is_eq}
 use Rattle.std.specs.Cmp.{Equal-is, tied_itself}
 use Rattle.std.specs.FinMap as finmap
 use Rattle.std.specs.List.Sorted.{IsPermutation}
+use Rattle.std.proofs.lemmas.List.{map_push}
 use Rattle.std.proofs.lemmas.List.Sorted.{IsPermutation-sym}
 use Rattle.std.proofs.lemmas.List.Elements.{All-contains}
 use Rattle.std.proofs.lemmas.Bool.{true≢false, and_parts}
@@ -142,3 +143,7 @@ module _ (slot m room : ℕ) (start held : Queue) (dates : Calendar) (turns : Li
 -- room for as many as there are and are wanted
 pub room_for : (m n least room : ℕ) → least ≡ min m n → least ≤ room → min m n ≤ room
 room_for m n least room l fits = omega arith
+
+-- the keys of a list with one more
+pub one_more : {T : Type 0} (key : T → Key) (xs ys : List T) (x : T) (k : Key) → ys ≡ xs ++ x ∷ [] → key x ≡ k → map key ys ≡ map key xs ++ k ∷ []
+one_more key xs ys x k pushed of = ap (map key) pushed ∙ map_push key xs x ∙ ap (λ (l : Key). map key xs ++ l ∷ []) of

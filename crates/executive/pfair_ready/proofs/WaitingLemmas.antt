@@ -1,6 +1,6 @@
 -- The entries of names, as the map of what waits under them.
-use Rattle.std.proofs.Common.{arith, get_or, ◌≡◌, ℕ, Bool, true, false, cond, filter, List, [], ◌∷◌, refl, sym, ap, subst, ◌∙◌, Option, Some, None}
-use Rattle.std.specs.Prelude.{IfSome, is_some, position, ◌<◌, zero, suc, length}
+use Rattle.std.proofs.Common.{arith, get_or, ◌≡◌, ℕ, Bool, true, false, cond, filter, map, List, [], ◌∷◌, refl, sym, ap, subst, ◌∙◌, Option, Some, None}
+use Rattle.std.specs.Prelude.{IfSome, is_some, position, slice_get, ◌<◌, zero, suc, length}
 use Rattle.std.specs.Cmp.Lexicographic.{bytes_decides}
 use Rattle.std.proofs.lemmas.List.Quantifiers.{position-Some}
 use Rattle.std.specs.Cmp.{eq_by_cmp_equiv, Equal-is}
@@ -9,7 +9,14 @@ use Rattle.std.specs.Map.{lookup, keys_of}
 use Rattle.std.specs.BTreeMap.{is_at}
 use Rattle.std.specs.FinMap as finmap
 use Rattle.std.specs.FinMap.{find, get-from_entries, get-insert, get-remove, same_map}
+use Rattle.std.specs.Option.{option_map}
+use Rattle.std.proofs.lemmas.Cmp.{nat_list_eq_equiv}
+use Rattle.std.proofs.lemmas.Map.Entries.{hash_map_get_place}
+use Rattle.std.proofs.lemmas.Option.{same_Some, slice_get-map}
+use Rattle.indexmap.specs.IndexMap.{IndexMap, set_value_at, values, with_value_at, IsUnique}
+use Rattle.indexmap.proofs.CallerLemmas.{keys-with_value_at, updates-with_value_at}
 use Rattle.pfair_order.specs.declared.Key.{Key}
+use Rattle.pfair_ready.specs.declared.waiting.Entry.{Entry}
 use Rattle.pfair_ready.specs.Names.{NameValue, name_cmp, name_eq}
 use Rattle.pfair_ready.specs.Waiting.{Entries, live, queue_in, with_entry, IsEntryOf}
 use Rattle.pfair_ready.proofs.Names.{names_total, names_exact, tied_names}
@@ -26,11 +33,11 @@ module _ {X : Type 0} where
   get_found es q = get-from_entries names_total es q ∙ find_found es q
 
 -- what a name's entry has, if there is one
-abbrev pub flat : Option (Option (ℕ × Key)) → Option (ℕ × Key)
+abbrev pub flat : Option Entry → Option (ℕ × Key)
 flat None = None
-flat (Some held) = held
+flat (Some e) = e.held
 
-abbrev pub at : Entries → NameValue → Option (Option (ℕ × Key))
+abbrev pub at : Entries → NameValue → Option Entry
 at es q = lookup (name_eq q) es
 
 -- an entry of another name
@@ -39,7 +46,7 @@ other_entry n o es q e = grind (arith, tied_names)
 
 no_live : (es : Entries) (q : NameValue) → AllByRecursion (λ y. name_eq q y ≡ false) (keys_of es) → found (live es) q ≡ None
 no_live [] q h = refl
-no_live (e ∷ es) q h = other_entry e.0 e.1 (live es) q h.0 ∙ no_live es q h.1
+no_live (e ∷ es) q h = other_entry e.0 e.1.held (live es) q h.0 ∙ no_live es q h.1
 
 own_entry : (n : NameValue) (o : Option (ℕ × Key)) (es : List (NameValue × (ℕ × Key))) (q : NameValue) → name_eq q n ≡ true → found es q ≡ None → found (with_entry n o es) q ≡ o
 own_entry n o es q e none = grind (arith, tied_names)
@@ -48,11 +55,11 @@ pub live_found : (es : Entries) (q : NameValue) → IsDistinct name_eq (keys_of 
 unfolding IsDistinct
 live_found [] q h = refl
 live_found (e ∷ es) q h =
-    elim (name_eq q e.0) as (λ b. name_eq q e.0 ≡ b → found (with_entry e.0 e.1 (live es)) q ≡ flat (cond b (Some e.1) (at es q))) [
+    elim (name_eq q e.0) as (λ b. name_eq q e.0 ≡ b → found (with_entry e.0 e.1.held (live es)) q ≡ flat (cond b (Some e.1) (at es q))) [
       | true ↦ λ t.
           let same : q ≡ e.0 = names_exact q e.0 ((Equal-is (name_cmp q e.0)).0 (tied_names q e.0 ∙ t)) in
-          own_entry e.0 e.1 (live es) q t (subst (λ x. found (live es) x ≡ None) (sym same) (no_live es e.0 h.0))
-      | false ↦ λ t. other_entry e.0 e.1 (live es) q t ∙ live_found es q h.1
+          own_entry e.0 e.1.held (live es) q t (subst (λ x. found (live es) x ≡ None) (sym same) (no_live es e.0 h.0))
+      | false ↦ λ t. other_entry e.0 e.1.held (live es) q t ∙ live_found es q h.1
     ] refl
 
 -- what waits under a name
@@ -64,15 +71,15 @@ symm a b = (eq_by_cmp_equiv names_total).symm a b ∙ tied_names b a
 
 module _ (es fs : Entries) (one : IsDistinct name_eq (keys_of es)) (two : IsDistinct name_eq (keys_of fs)) where
   -- entries of which one name's is another make the map with that
-  pub queue_put : (s : NameValue) (v : ℕ × Key) → ((q : NameValue) → at fs q ≡ cond (name_eq s q) (Some (Some v)) (at es q)) → queue_in fs ≡ finmap.insert (queue_in es) s v
-  queue_put s v h = same_map names_total names_exact _ _ (λ q.
+  pub queue_put : (s : NameValue) (w : Entry) (v : ℕ × Key) → w.held ≡ Some v → ((q : NameValue) → at fs q ≡ cond (name_eq s q) (Some w) (at es q)) → queue_in fs ≡ finmap.insert (queue_in es) s v
+  queue_put s w v has h = same_map names_total names_exact _ _ (λ q.
       queue_at fs q two ∙ ap flat (h q)
-      ∙ elim (name_eq s q) as (λ b. flat (cond b (Some (Some v)) (at es q)) ≡ cond b (Some v) (flat (at es q))) [ true ↦ refl | false ↦ refl ]
+      ∙ elim (name_eq s q) as (λ b. flat (cond b (Some w) (at es q)) ≡ cond b (Some v) (flat (at es q))) [ true ↦ has | false ↦ refl ]
       ∙ ap (λ o. cond (name_eq s q) (Some v) o) (sym (queue_at es q one))
       ∙ sym (get-insert names_total (queue_in es) s v q ∙ ap (λ b. cond b (Some v) (finmap.get (queue_in es) q)) (symm q s)))
 
   -- or has none
-  pub queue_taken : (s : NameValue) (w : Option (Option (ℕ × Key))) → flat w ≡ None → ((q : NameValue) → at fs q ≡ cond (name_eq s q) w (at es q)) → queue_in fs ≡ finmap.remove (queue_in es) s
+  pub queue_taken : (s : NameValue) (w : Option Entry) → flat w ≡ None → ((q : NameValue) → at fs q ≡ cond (name_eq s q) w (at es q)) → queue_in fs ≡ finmap.remove (queue_in es) s
   queue_taken s w none h = same_map names_total names_exact _ _ (λ q.
       queue_at fs q two ∙ ap flat (h q)
       ∙ elim (name_eq s q) as (λ b. flat (cond b w (at es q)) ≡ cond b None (flat (at es q))) [ true ↦ none | false ↦ refl ]
@@ -80,7 +87,7 @@ module _ (es fs : Entries) (one : IsDistinct name_eq (keys_of es)) (two : IsDist
       ∙ sym (get-remove names_total (queue_in es) s q ∙ ap (λ b. cond b None (finmap.get (queue_in es) q)) (symm q s)))
 
 -- entries without a key make no difference
-pub live_kept : (es : Entries) → live (filter (λ (e : NameValue × Option (ℕ × Key)). is_some e.1) es) ≡ live es
+pub live_kept : (es : Entries) → live (filter (λ (e : NameValue × Entry). is_some e.1.held) es) ≡ live es
 live_kept [] = refl
 live_kept (e ∷ es) = grind (arith, filter, live_kept es)
 
@@ -103,11 +110,38 @@ each_entry es n o e = grind (arith, entry_at)
 
 module _ (es : Entries) (name : NameValue) (h : IsDistinct name_eq (keys_of es)) where
   -- what an entry has waits under its name
-  pub held_there : (o : Option (ℕ × Key)) → at es name ≡ Some o → finmap.get (queue_in es) name ≡ o
-  held_there o e = queue_at es name h ∙ ap flat e
+  pub held_there : (w : Entry) → at es name ≡ Some w → finmap.get (queue_in es) name ≡ w.held
+  held_there w e = queue_at es name h ∙ ap flat e
 
-  pub contained : (o : Option (ℕ × Key)) (b : Bool) → at es name ≡ Some o → b ≡ is_some o → finmap.contains_key (queue_in es) name ≡ b
-  contained o b e is = ap is_some (held_there o e) ∙ sym is
+  pub contained : (w : Entry) (b : Bool) → at es name ≡ Some w → b ≡ is_some w.held → finmap.contains_key (queue_in es) name ≡ b
+  contained w b e is = ap is_some (held_there w e) ∙ sym is
 
   pub absent : at es name ≡ None → finmap.contains_key (queue_in es) name ≡ false
   absent none = ap is_some (none_there es name h none)
+
+set_same : (es : Entries) (i : ℕ) (w : Entry) → Some w ≡ slice_get (map (λ e. e.1) es) i → set_value_at es i w ≡ es
+set_same [] i w e = refl
+set_same (e ∷ es) zero w at = ap (λ (x : Entry). (e.0, x) ∷ es) (same_Some w e.1 at)
+set_same (e ∷ es) (suc i) w at = ap (λ l. e ∷ l) (set_same es i w at)
+
+module _ {S : Type 0} (m : IndexMap NameValue Entry S) (i : ℕ) (name : NameValue) (unique : IsUnique name_eq m) (there : IsEntryOf m.entries name i) where
+  -- what the entry has that is read at the index waits under its name
+  pub entry_read : (w : Entry) → Some w ≡ slice_get (values m) i → finmap.get (queue_in m.entries) name ≡ w.held
+  entry_read w e =
+      let same : there.0 ≡ w = same_Some there.0 w (sym (e ∙ slice_get-map (λ e. e.1) m.entries i ∙ ap (option_map (λ e. e.1)) there.1)) in
+      held_there m.entries name unique there.0 (hash_map_get_place nat_list_eq_equiv m i name there.0 unique there.1) ∙ ap (λ (e : Entry). e.held) same
+
+  -- if it is written back nothing changes
+  pub entry_kept : (w : Entry) → Some w ≡ slice_get (values m) i → queue_in (with_value_at m i w).entries ≡ queue_in m.entries
+  entry_kept w e = ap queue_in (set_same m.entries i w e)
+
+  still_unique : (w : Entry) → IsUnique name_eq (with_value_at m i w)
+  still_unique w = subst (IsDistinct name_eq) (sym (keys-with_value_at m i w)) unique
+
+  -- another one in its place makes the map with that
+  pub entry_filled : (w : Entry) (v : ℕ × Key) → w.held ≡ Some v → queue_in (with_value_at m i w).entries ≡ finmap.insert (queue_in m.entries) name v
+  entry_filled w v has = queue_put m.entries (with_value_at m i w).entries unique (still_unique w) name w v has (updates-with_value_at m i w nat_list_eq_equiv unique name there.0 there.1).0
+
+  -- or has none
+  pub entry_vacated : (w : Entry) → w.held ≡ None → queue_in (with_value_at m i w).entries ≡ finmap.remove (queue_in m.entries) name
+  entry_vacated w none = queue_taken m.entries (with_value_at m i w).entries unique (still_unique w) name (Some w) none (updates-with_value_at m i w nat_list_eq_equiv unique name there.0 there.1).0

@@ -5,12 +5,13 @@ use Rattle.std.specs.Option.{option_map_or}
 use Rattle.std.specs.Ordering.{eq_by_cmp}
 use Rattle.pfair_order.specs.declared.Key.{Key}
 use Rattle.pfair_order.specs.Order.{pd2_cmp}
+use Rattle.pfair_ready.specs.declared.waiting.Entry.{Entry}
 use Rattle.pfair_ready.specs.Names.{NameValue}
 use Rattle.pfair_ready.specs.Queue.{Queue}
 
 -- names, each with what waits under it, if something does
 abbrev pub Entries : Type 0
-Entries = List (NameValue × Option (ℕ × Key))
+Entries = List (NameValue × Entry)
 
 -- an entry of one name, if something waits under it, before the others
 abbrev pub with_entry : NameValue → Option (ℕ × Key) → List (NameValue × (ℕ × Key)) → List (NameValue × (ℕ × Key))
@@ -20,14 +21,14 @@ with_entry name (Some v) es = (name, v) ∷ es
 -- the names under which something waits, with that
 abbrev pub live : Entries → List (NameValue × (ℕ × Key))
 live [] = []
-live (e ∷ es) = with_entry e.0 e.1 (live es)
+live (e ∷ es) = with_entry e.0 e.1.held (live es)
 
 abbrev pub queue_in : Entries → Queue
 queue_in es = finmap.from_entries (live es)
 
 -- the name's entry is at the index
 abbrev pub IsEntryOf : Entries → NameValue → ℕ → Type 0
-IsEntryOf es name i = (held : Option (ℕ × Key)) × (slice_get es i ≡ Some (name, held))
+IsEntryOf es name i = (entry : Entry) × (slice_get es i ≡ Some (name, entry))
 
 -- whether the contents are the key, and released by the slot
 abbrev pub is_due : Key → ℕ → Option (ℕ × Key) → Bool

@@ -1,10 +1,15 @@
 //! A ready structure of one heap and one calendar.
+ghost use Rattle.std.specs.Prelude.{◌≡◌, ◌≤◌, IfOk, OnErr, map};
+ghost use Rattle.pfair_order.specs.declared.Key.{Key};
+ghost use Rattle.pfair_order.specs.Order.{pd2_cmp};
+ghost use Rattle.pfair_order.specs.Rank.{first_by_rank};
+ghost use Rattle.pfair_ready.specs.Queue.{released, without};
 
-use crate::Ready;
 use crate::calendar::Calendar;
 use crate::far_dates::Date;
 use crate::turns::Turns;
 use crate::waiting::Waiting;
+use crate::{Ready, Seated, Seats};
 use pfair_order::Key;
 use pfair_weight::TaskName;
 use std::alloc::{AllocError, Global};
@@ -16,13 +21,13 @@ use std::marker::Model;
 /// keys that wait or were left behind:
 ///
 /// - `new`, `now`: O(1). `held`, `remove`: a look-up of the name, O(1) on average.
-/// - `insert`: O(1) on average if the release is within 64 slots and fewer than 256 keys are released
-///   at that slot, else O(log n). The name is looked up, unless the keys that the last selection gave
-///   are followed by those of the same tasks in the same order.
-/// - `take_first`: O(log n) for each key that it gives, for each whose release has come since the last
-///   selection, and for each that was left behind and surfaces; and up to 64 steps.
+/// - `insert`, `insert_seated`: O(1) on average if the release is within 64 slots and fewer than 256
+///   keys are released at that slot, else O(log n). The name is looked up, unless the seats say where
+///   it stands.
+/// - `take_first`, `take_seated`: O(log n) for each key that it gives, for each whose release has come
+///   since the last selection, and for each that was left behind and surfaces; and up to 64 steps.
 ///
-/// Growth is amortized. After `reserve(k)`, which takes 920 KB and some 370 bytes for each key, no call
+/// Growth is amortized. After `reserve(k)`, which takes 920 KB and some 380 bytes for each key, no call
 /// allocates as long as no more than k keys wait and no more than k were left behind.
 #[derive(Drop)]
 pub struct HeapReady {
@@ -31,10 +36,6 @@ pub struct HeapReady {
     waiting: Waiting,
     calendar: Calendar,
     released: Turns,
-    // where the names stand of the keys that the last selection gave
-    given: Vec<usize>,
-    // how many keys were inserted since
-    inserted: usize,
 }
 
 impl Model for HeapReady {
@@ -51,6 +52,60 @@ impl Model for HeapReady {
     ghost invariant = { λ a. IsCovered a.now a.waiting a.calendar a.released };
 }
 
+// What a selection gives for a key that it takes out.
+trait Given: Drop {
+    ghost key: { Self → Key };
+
+    fn of(seated: Seated) -> Self
+        ensures { key result ≡ seated.key };
+}
+
+impl Given for Key {
+    ghost key = { λ k. k };
+
+    fn of(seated: Seated) -> Key {
+        seated.key
+    }
+}
+
+impl Given for Seated {
+    ghost key = { λ s. s.key };
+
+    fn of(seated: Seated) -> Seated {
+        seated
+    }
+}
+
+impl HeapReady {
+    // The selection of the first m keys, in a given list.
+    fn select<T: Given>(
+        &mut self,
+        slot: u64,
+        m: usize,
+        mut first: Vec<T>,
+    ) -> Result<Vec<T>, AllocError>
+        requires { self.old.now ≤ slot }
+        ensures time { self.new.now ≡ slot }
+        ensures first { IfOk result (λ first. map T.key first.items ≡ first_by_rank pd2_cmp m (released slot self.old.held)) }
+        ensures removed { IfOk result (λ first. self.new.held ≡ without (map T.key first.items) self.old.held) }
+        ensures err { OnErr result (self.new.held ≡ self.old.held) }
+    {
+        self.now = slot;
+        self.calendar.release(&mut self.released, slot)?;
+        first.clear();
+        first.reserve(m.min(self.released.len()))?;
+        'turns: while first.len() < m {
+            let Some((key, hint)) = self.released.pop() else {
+                break;
+            };
+            if let Some(seats) = self.waiting.take(hint, slot, &key) {
+                first.push(T::of(Seated { key, seats }))?;
+            }
+        }
+        Ok(first)
+    }
+}
+
 impl Ready for HeapReady {
     ghost now = { λ a. a.now };
 
@@ -63,8 +118,6 @@ impl Ready for HeapReady {
             waiting: Waiting::new(alloc),
             calendar: Calendar::new(alloc),
             released: Turns::new(alloc),
-            given: Vec::new(alloc),
-            inserted: 0,
         }
     }
 
@@ -77,9 +130,11 @@ impl Ready for HeapReady {
     }
 
     fn insert(&mut self, release: u64, key: Key) -> Result<bool, AllocError> {
-        let hint = self.given.get(self.inserted).copied().unwrap_or(0);
-        self.inserted = self.inserted.saturating_add(1);
-        let Some(place) = self.waiting.put(hint, release, key)? else {
+        self.insert_seated(Seats::default(), release, key)
+    }
+
+    fn insert_seated(&mut self, seats: Seats, release: u64, key: Key) -> Result<bool, AllocError> {
+        let Some(place) = self.waiting.put(seats, release, key)? else {
             return Ok(false);
         };
         let noted = if release <= self.now {
@@ -104,41 +159,22 @@ impl Ready for HeapReady {
     }
 
     fn take_first(&mut self, slot: u64, m: usize) -> Result<Vec<Key>, AllocError> {
-        self.take_first_into(slot, m, Vec::new(self.alloc))
+        self.select(slot, m, Vec::new(self.alloc))
     }
 
-    fn take_first_into(
+    fn take_seated(
         &mut self,
         slot: u64,
         m: usize,
-        mut first: Vec<Key>,
-    ) -> Result<Vec<Key>, AllocError> {
-        self.now = slot;
-        self.calendar.release(&mut self.released, slot)?;
-        let count = m.min(self.released.len());
-        first.clear();
-        first.reserve(count)?;
-        self.given.clear();
-        self.given.reserve(count)?;
-        self.inserted = 0;
-        'turns: while first.len() < m {
-            let Some((key, hint)) = self.released.pop() else {
-                break;
-            };
-            if self.waiting.take(hint, slot, &key) {
-                first.push(key)?;
-                // without a hint the name is looked up
-                let _ = self.given.push(hint);
-            }
-        }
-        Ok(first)
+        room: Vec<Seated>,
+    ) -> Result<Vec<Seated>, AllocError> {
+        self.select(slot, m, room)
     }
 
     fn reserve(&mut self, keys: usize) -> Result<(), AllocError> {
         let room = keys.saturating_mul(2);
         self.waiting.reserve(keys)?;
         self.released.reserve(room)?;
-        self.given.reserve(keys.saturating_sub(self.given.len()))?;
         self.calendar.reserve(self.alloc, room)
     }
 }

@@ -6,10 +6,10 @@
 //! the release of its window, or an earlier slot (early release).
 #![tactic(auto)]
 
-ghost use Rattle.std.specs.Prelude.{◌≡◌, ◌≤◌, ℕ, IsTrue, IfOk, OnErr, false, not, if◌then◌else◌};
+ghost use Rattle.std.specs.Prelude.{◌≡◌, ◌≤◌, ℕ, IsTrue, IfOk, OnErr, false, map, not, if◌then◌else◌};
 ghost use Rattle.std.specs.FinMap as finmap;
 ghost use Rattle.pfair_order.specs.Order.{pd2_cmp};
-ghost use Rattle.pfair_order.specs.Rank.{first_by_rank};
+ghost use Rattle.pfair_order.specs.Rank.{first_by_rank, EachOnce};
 ghost use Rattle.pfair_ready.specs.Queue.{Queue, released, without};
 
 mod calendar;
@@ -24,6 +24,21 @@ use pfair_order::Key;
 use pfair_weight::TaskName;
 pub use plain::PlainReady;
 use std::alloc::{AllocError, Global};
+
+/// Hints where a task stands: in the ready structure, and in the caller's list of members. No answer
+/// rests on them.
+#[derive(Clone, Copy, Debug, Default)]
+pub struct Seats {
+    pub ready: usize,
+    pub member: usize,
+}
+
+/// A selected key, with the seats of its task.
+#[derive(Clone, Copy, Debug)]
+pub struct Seated {
+    pub key: Key,
+    pub seats: Seats,
+}
 
 /// A slot, and for each of some names a release and a key. [`HeapReady`] and [`PlainReady`] say what
 /// calls cost.
@@ -84,26 +99,55 @@ pub trait Ready: Drop {
             held self.new ≡ without first.items (held self.old)) }
         ensures err { OnErr result (held self.new ≡ held self.old) };
 
-    /// Does what [`Ready::take_first`] does, and returns the keys in a given list, whose content is
-    /// dropped and which grows only if its room is too small.
+    /// Does what [`Ready::insert`] does, and notes where the task stands in the caller's list. With the
+    /// seats that the task's last key was taken with no name is looked up.
     ///
     /// # Errors
-    /// As of [`Ready::take_first`]. The list is gone.
-    fn take_first_into(
+    /// As of [`Ready::insert`].
+    fn insert_seated(&mut self, _seats: Seats, release: u64, key: Key) -> Result<bool, AllocError>
+        ensures time { now self.new ≡ now self.old }
+        ensures answer { IfOk result (λ new.
+            new ≡ not (finmap.contains_key (held self.old) key.name)) }
+        ensures there { IsTrue (finmap.contains_key (held self.old) key.name) → result ≡ Ok false }
+        ensures content { IfOk result (λ new. held self.new ≡
+            (if new then finmap.insert (held self.old) key.name (release, key) else held self.old)) }
+        ensures err { OnErr result (held self.new ≡ held self.old) }
+    {
+        self.insert(release, key)
+    }
+
+    /// Does what [`Ready::take_first`] does, and returns each key with its seats. The list is a given one,
+    /// whose content is dropped and which grows only if its room is too small.
+    ///
+    /// # Errors
+    /// `AllocError` if an allocation fails. Nothing but `now` has changed if no two released keys are the
+    /// same. The list is gone.
+    fn take_seated(
         &mut self,
         slot: u64,
         m: usize,
-        _room: Vec<Key>,
-    ) -> Result<Vec<Key>, AllocError>
+        room: Vec<Seated>,
+    ) -> Result<Vec<Seated>, AllocError>
         requires { now self.old ≤ slot }
         ensures time { now self.new ≡ slot }
         ensures first { IfOk result (λ first.
-            first.items ≡ first_by_rank pd2_cmp m (released slot (held self.old))) }
+            map (λ s. s.key) first.items ≡ first_by_rank pd2_cmp m (released slot (held self.old))) }
         ensures removed { IfOk result (λ first.
-            held self.new ≡ without first.items (held self.old)) }
-        ensures err { OnErr result (held self.new ≡ held self.old) }
+            held self.new ≡ without (map (λ s. s.key) first.items) (held self.old)) }
+        ensures err { EachOnce pd2_cmp (released slot (held self.old)) →
+            OnErr result (held self.new ≡ held self.old) }
     {
-        self.take_first(slot, m)
+        // the slot moves before anything can fail, and there is room before a key is taken
+        self.take_first(slot, 0)?;
+        let mut first = room;
+        first.clear();
+        first.reserve(m)?;
+        let keys = self.take_first(slot, m)?;
+        for key in &keys {
+            let seats = Seats::default();
+            first.push(Seated { key: *key, seats })?;
+        }
+        Ok(first)
     }
 
     /// Allocates room for that many keys: as far as the structure can, no call then allocates as long

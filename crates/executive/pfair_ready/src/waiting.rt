@@ -5,20 +5,28 @@ ghost use Rattle.indexmap.specs.IndexMap.{get as at_name, IsUnique, Updates};
 ghost use Rattle.pfair_ready.specs.Names.{NameValue, name_eq};
 ghost use Rattle.pfair_ready.specs.Waiting.{is_due, queue_in, IsEntryOf};
 
+use crate::Seats;
 use indexmap::IndexMap;
 use pfair_order::Key;
 use pfair_weight::TaskName;
 use std::alloc::{AllocError, Global};
 use std::marker::Model;
 
-type Entries = IndexMap<TaskName, Option<(u64, Key)>>;
+// The release and the key that wait, and where the task stands in the caller's list.
+#[derive(Clone, Copy, Debug)]
+struct Entry {
+    held: Option<(u64, Key)>,
+    member: usize,
+}
+
+type Entries = IndexMap<TaskName, Entry>;
 
 /// Under each name the release and the key that wait.
 ///
 /// A name keeps its entry when its key is taken, since the next key of its task mostly follows. Such
 /// entries are dropped when they are more than half of all and a new name comes.
 ///
-/// Calls take a hint where the name stands. It changes no answer: a wrong one costs a look-up.
+/// Calls take hints. They change no answer: a wrong one costs a look-up.
 #[derive(Drop)]
 pub(crate) struct Waiting {
     entries: Entries,
@@ -51,15 +59,16 @@ impl Waiting {
     pub(crate) fn get(&self, name: &TaskName) -> Option<(u64, Key)>
         ensures { result ≡ finmap.get self.now name.now }
     {
-        let index = find(&self.entries, 0, name)?;
-        held_at(&self.entries, index)
+        // no name stands twice
+        prove!(self.entries.len() < usize::MAX);
+        self.entries.get(name)?.held
     }
 
     /// Puts a release and a key under the key's name and returns where the name stands, or `None` if
     /// something waits there already.
     pub(crate) fn put(
         &mut self,
-        hint: usize,
+        seats: Seats,
         release: u64,
         key: Key,
     ) -> Result<Option<usize>, AllocError>
@@ -68,19 +77,18 @@ impl Waiting {
         ensures same { OnErr result (self.new ≡ self.old) }
         ensures vacant { OnErr result (finmap.contains_key self.old key.name ≡ false) }
     {
-        match find(&self.entries, hint, &key.name) {
-            None => Ok(Some(self.put_new(release, key)?)),
-            Some(index) if held_at(&self.entries, index).is_some() => Ok(None),
-            Some(index) => {
-                put_at(&mut self.entries, index, Some((release, key)));
-                self.vacant = self.vacant.saturating_sub(1);
-                Ok(Some(index))
-            }
+        let Some(index) = find(&self.entries, seats.ready, &key.name) else {
+            return Ok(Some(self.put_new(seats.member, release, key)?));
+        };
+        if !fill(&mut self.entries, index, seats.member, release, key) {
+            return Ok(None);
         }
+        self.vacant = self.vacant.saturating_sub(1);
+        Ok(Some(index))
     }
 
     // The same of a name that has no entry.
-    fn put_new(&mut self, release: u64, key: Key) -> Result<usize, AllocError>
+    fn put_new(&mut self, member: usize, release: u64, key: Key) -> Result<usize, AllocError>
         ensures put { OnOk result (self.new ≡ finmap.insert self.old key.name (release, key)) }
         ensures same { OnErr result (self.new ≡ self.old) }
     {
@@ -88,24 +96,22 @@ impl Waiting {
         // no name stands twice
         prove!(self.entries.len() < usize::MAX);
         let index = self.entries.len();
-        self.entries.insert(key.name, Some((release, key)))?;
+        let name = key.name;
+        let held = Some((release, key));
+        self.entries.insert(name, Entry { held, member })?;
         Ok(index)
     }
 
-    /// Takes the key out if it is the one under its name, and released by the slot.
-    pub(crate) fn take(&mut self, hint: usize, slot: u64, key: &Key) -> bool
-        ensures answer { result ≡ is_due key.now slot (finmap.get self.old key.now.name) }
-        ensures content { self.new ≡ (if result then finmap.remove self.old key.now.name else self.old) }
+    /// Takes the key out if it is the one under its name, and released by the slot, and returns where
+    /// its task stands.
+    pub(crate) fn take(&mut self, hint: usize, slot: u64, key: &Key) -> Option<Seats>
+        ensures answer { is_some result ≡ is_due key.now slot (finmap.get self.old key.now.name) }
+        ensures content { self.new ≡ (if is_some result then finmap.remove self.old key.now.name else self.old) }
     {
-        let Some(index) = find(&self.entries, hint, &key.name) else {
-            return false;
-        };
-        if !is_held_due(held_at(&self.entries, index), slot, key) {
-            return false;
-        }
-        put_at(&mut self.entries, index, None);
+        let ready = find(&self.entries, hint, &key.name)?;
+        let member = vacate(&mut self.entries, ready, slot, key)?;
         self.vacant = self.vacant.saturating_add(1);
-        true
+        Some(Seats { ready, member })
     }
 
     /// Removes what waits under a name, and returns whether there was something.
@@ -116,7 +122,7 @@ impl Waiting {
         // no name stands twice
         prove!(self.entries.len() < usize::MAX);
         match self.entries.swap_remove(name) {
-            Some(held) => held.is_some(),
+            Some(entry) => entry.held.is_some(),
             None => false,
         }
     }
@@ -136,9 +142,9 @@ impl Waiting {
     {
         if self.vacant > self.entries.len() / 2 {
             self.entries.retain(
-                |_name: &TaskName, held: &mut Option<(u64, Key)>| -> bool
-                    ensures { (result ≡ is_some held.old) × (held.new ≡ held.old) }
-                { held.is_some() },
+                |_name: &TaskName, entry: &mut Entry| -> bool
+                    ensures { (result ≡ is_some entry.old.held) × (entry.new ≡ entry.old) }
+                { entry.held.is_some() },
             );
             self.vacant = 0;
         }
@@ -159,34 +165,47 @@ fn find(entries: &Entries, hint: usize, name: &TaskName) -> Option<usize>
     }
 }
 
-// What waits under the name whose entry is at the index.
-fn held_at(entries: &Entries, index: usize) -> Option<(u64, Key)>
-    ensures { (name : NameValue) → IsEntryOf entries.now.entries name index → at_name name_eq entries.now name ≡ Some result }
+// Puts a release and a key under the key's name, whose entry is at the index, unless something waits
+// there. Returns whether it did.
+fn fill(entries: &mut Entries, index: usize, member: usize, release: u64, key: Key) -> bool
+    requires { IsEntryOf entries.old.entries key.name index }
+    ensures answer { finmap.contains_key (queue_in entries.old.entries) key.name ≡ not result }
+    ensures content { queue_in entries.new.entries ≡
+        (if result then finmap.insert (queue_in entries.old.entries) key.name (release, key) else queue_in entries.old.entries) }
 {
-    match entries.get_index(index) {
-        Some((_, held)) => *held,
-        None => None,
+    let Some(entry) = entries.get_index_mut(index) else {
+        return false;
+    };
+    if entry.held.is_some() {
+        return false;
     }
+    let held = Some((release, key));
+    *entry = Entry { held, member };
+    true
 }
 
-// From now on this waits under the name whose entry is at the index.
-fn put_at(entries: &mut Entries, index: usize, held: Option<(u64, Key)>)
-    ensures updates { (name : NameValue) → IsEntryOf entries.old.entries name index → Updates name_eq entries.old entries.new name (Some held) }
-    ensures unique { IsUnique name_eq entries.new }
+// Takes out what waits under the key's name, whose entry is at the index, if it is the key, released by
+// the slot. Returns where its task stands in the caller's list.
+fn vacate(entries: &mut Entries, index: usize, slot: u64, key: &Key) -> Option<usize>
+    requires { IsEntryOf entries.old.entries key.now.name index }
+    ensures answer { is_some result ≡ is_due key.now slot (finmap.get (queue_in entries.old.entries) key.now.name) }
+    ensures content { queue_in entries.new.entries ≡
+        (if is_some result then finmap.remove (queue_in entries.old.entries) key.now.name else queue_in entries.old.entries) }
 {
-    // no name stands twice
-    prove!(entries.len() < usize::MAX);
-    if let Some(place) = entries.get_index_mut(index) {
-        *place = held;
+    let entry = entries.get_index_mut(index)?;
+    if !is_held_due(&entry.held, slot, key) {
+        return None;
     }
+    entry.held = None;
+    Some(entry.member)
 }
 
 // Whether the contents are the key, and released by the slot.
-fn is_held_due(held: Option<(u64, Key)>, slot: u64, key: &Key) -> bool
-    ensures { result ≡ is_due key.now slot held }
+fn is_held_due(held: &Option<(u64, Key)>, slot: u64, key: &Key) -> bool
+    ensures { result ≡ is_due key.now slot held.now }
 {
     match held {
-        Some((release, there)) => release <= slot && there == *key,
+        Some((release, there)) => *release <= slot && *there == *key,
         None => false,
     }
 }

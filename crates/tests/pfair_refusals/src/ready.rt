@@ -3,7 +3,7 @@ ghost use Rattle.std.specs.Prelude.{◌≡◌, ◌≤◌};
 
 use crate::{Look, Named};
 use pfair_order::Key;
-use pfair_ready::Ready;
+use pfair_ready::{Ready, Seated};
 use pfair_weight::TaskName;
 use std::alloc::{AllocError, Global};
 
@@ -109,7 +109,7 @@ fn remove_rows<R: Ready>(ready: &mut R, rows: (u8, u8)) -> bool
 
 // Takes one key after another, and inserts one of another name for each. Returns whether each
 // selection gave one, and no allocation failed.
-fn replace_each<R: Ready>(ready: &mut R, mut room: Vec<Key>, rows: (u8, u8)) -> bool
+fn replace_each<R: Ready>(ready: &mut R, mut room: Vec<Seated>, rows: (u8, u8)) -> bool
     requires { rows.1 ≤ 26 }
 {
     for row in rows.0..rows.1 {
@@ -120,7 +120,7 @@ fn replace_each<R: Ready>(ready: &mut R, mut room: Vec<Key>, rows: (u8, u8)) -> 
             if ready.now() > 100 {
                 return false;
             }
-            let Ok(first) = ready.take_first_into(100, 1, room) else {
+            let Ok(first) = ready.take_seated(100, 1, room) else {
                 return false;
             };
             room = first;

@@ -5,8 +5,8 @@ use Rattle.std.specs.FinMap as finmap
 use Rattle.pfair_ready.specs.Queue.{Content, Queue}
 use Rattle.pfair_ready.specs.Calendar.{HasTurn, IsCovered}
 use Rattle.pfair_ready.proofs.CoverLemmas.{HasDate, covered_kept, covered_more, put_back}
-use Rattle.pfair_ready.proofs.heap.HeapReadyReady.insert.Goals as goal
-use Rattle.pfair_ready.proofs.heap.HeapReadyReady.insert.Goals.{Joined-release-self, else-release-self, then-release-self}
+use Rattle.pfair_ready.proofs.heap.HeapReadyReady.insert_seated.Goals as goal
+use Rattle.pfair_ready.proofs.heap.HeapReadyReady.insert_seated.Goals.{Joined-release-self, else-release-self, then-release-self}
 
 not_err : {A E P : Type 0} (r : Result A E) → is_err r ≡ false → OnOk r P → P
 not_err (Ok x) is h = h
