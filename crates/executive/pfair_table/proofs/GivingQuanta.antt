@@ -3,7 +3,8 @@ use Rattle.std.proofs.Common.{ℕ, ◌+◌, ◌<◌, ◌≡◌, refl, sym, ap, �
 use Rattle.std.specs.Prelude.{◌||◌, not, map, if◌then◌else◌}
 use Rattle.std.specs.Option.{ForSome, option_map}
 use Rattle.std.specs.FinMap as finmap
-use Rattle.std.proofs.lemmas.List.{map-append, take_more, take-append-drop}
+use Rattle.std.proofs.Math.ListN.{get_or-map}
+use Rattle.std.proofs.lemmas.List.{map-append, length-map, take_more, take-append-drop}
 use Rattle.std.proofs.lemmas.Option.{same_Some}
 use Rattle.std.proofs.lemmas.Bool.{or_parts}
 use Rattle.pfair_ready.specs.Names.{NameValue as Name}
@@ -16,14 +17,15 @@ use Rattle.std.specs.Cmp.Lexicographic.{nat_list_eq_equiv}
 use Rattle.pfair_weight.specs.Name.{NamesApart}
 use Rattle.pfair_weight.specs.declared.window.TheConstants.{MAX_INDEX}
 use Rattle.pfair_weight.proofs.NamesApart.{apart_head, apart_tail}
+use Rattle.pfair_ready.specs.declared.Seated.{Seated}
 use Rattle.pfair_ready.specs.Queue.{Queue}
 use Rattle.pfair_admission.specs.Member.{Member}
-use Rattle.pfair_admission.specs.Admission.{member_named, ran, with_quantum, quantum_of, running}
+use Rattle.pfair_admission.specs.Admission.{member_named, ran, with_quantum, quantum_of, running, seatless}
 use Rattle.pfair_admission.specs.declared.quantum.Quantum.{Quantum}
 use Rattle.pfair_admission.specs.Roster.{Roster}
 use Rattle.pfair_table.specs.declared.pick.Pick.{Pick}
 use Rattle.pfair_table.specs.Table.{Table, names_task, pick, index_of, all_ran}
-use Rattle.pfair_table.specs.Queue.{queued, IsQueueWithout, IsToldOf, MayRun, has_key_of}
+use Rattle.pfair_table.specs.Queue.{queued, IsQueueWithout, IsToldOf, MayRun, has_key_of, keys_of}
 use Rattle.pfair_table.proofs.QueueKept.{found_other, found_changed, absent_removed, told_next, drop_item}
 
 -- the quanta of so many keys are given: the rows, the members, and what waits
@@ -36,6 +38,13 @@ pub record RunSoFar (start : Roster) (first : List Key) (i : ℕ) (roster : Rost
 
 take_item : {A : Type 0} (xs : List A) (i : ℕ) (x : A) → i < length xs → x ≡ get_or xs i x → take (i + 1) xs ≡ take i xs ++ x ∷ []
 take_item xs i x l e = take_more xs i x l ∙ ap (λ y. take i xs ++ y ∷ []) (sym e)
+
+-- a selected key among the keys
+pub key_inside : (first : List Seated) {i : ℕ} → i < length first → i < length (keys_of first)
+key_inside first inside = omega (arith, inside, length-map first (λ (s : Seated). s.key))
+
+pub key_item : (first : List Seated) (i : ℕ) (seated : Seated) → seated ≡ get_or first i seated → seated.key ≡ get_or (keys_of first) i seated.key
+key_item first i seated item = ap (λ (s : Seated). s.key) item ∙ sym (get_or-map (λ (s : Seated). s.key) first i seated)
 
 -- around one key the others have other names
 apart_before : (xs : List Key) (k : Key) (ys : List Key) → NamesApart (λ (k : Key). k.name) (xs ++ k ∷ ys) → has_key_of k.name xs ≡ false
@@ -94,10 +103,10 @@ module _ {start : Roster} {first : List Key} {i : ℕ} {roster : Roster} {table 
     runs_next = ap (λ o. option_map quantum_of (running o)) still_found ∙ ap (λ b. option_map quantum_of (if b then None else Some may.0)) may.2
 
     -- so what waits under its name then is the subtask after that
-    pub told_on : {after : Roster} {anew : Queue} {quantum : Quantum} {new : Bool} → quantum ≡ quantum_of may.0 → after ≡ record roster { members = ran key.name roster.members }
+    pub told_on : {after : Roster} {anew : Queue} (quantum : Quantum) {new : Bool} → seatless quantum ≡ quantum_of may.0 → after ≡ record roster { members = ran key.name roster.members }
         → new ≡ not (finmap.contains_key waiting quantum.next_key.name) → anew ≡ (if new then finmap.insert waiting quantum.next_key.name (quantum.next_from, quantum.next_key) else waiting)
         → IsToldOf key.name after.members waiting anew
-    told_on {after} {anew} {quantum} {new} is after_is fresh in_ =
+    told_on {after} {anew} quantum {new} is after_is fresh in_ =
         told_next key.name after.members (with_quantum may.0) waiting waiting anew new quantum.next_from quantum.next_key
         (ap (λ (r : Roster). member_named r.members key.name) after_is ∙ found_changed key.name with_quantum (λ m. refl) roster.members may.0 still_found)
         may.2 (ap (λ (q : Quantum). q.next_from) is) (ap (λ (q : Quantum). q.next_key) is)

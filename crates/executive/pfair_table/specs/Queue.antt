@@ -1,5 +1,5 @@
 -- What a ready structure holds of the members: the next subtask of each that isn't departing.
-use Rattle.std.specs.Prelude.{ℕ, Bool, false, ◌≡◌, ◌≤◌, ◌<◌, Option, Some, None, List, if◌then◌else◌}
+use Rattle.std.specs.Prelude.{ℕ, Bool, false, ◌≡◌, ◌≤◌, ◌<◌, Option, Some, None, List, map, if◌then◌else◌}
 use Rattle.std.specs.Option.{ForSome}
 use Rattle.std.specs.List.{list_any}
 use Rattle.pfair_entry.specs.Same.{name_eq}
@@ -10,6 +10,7 @@ use Rattle.pfair_weight.specs.Name.{NamesApart}
 use Rattle.pfair_weight.specs.declared.window.TheConstants.{MAX_INDEX}
 use Rattle.pfair_ready.specs.Names.{NameValue as Name}
 use Rattle.pfair_order.specs.declared.Key.{Key}
+use Rattle.pfair_ready.specs.declared.Seated.{Seated}
 use Rattle.pfair_ready.specs.Queue.{Queue}
 use Rattle.pfair_admission.specs.Member.{Member, is_departing, eligible_from, next_key}
 use Rattle.pfair_admission.specs.Admission.{member_named}
@@ -31,6 +32,10 @@ pub record IsSteady (slot : ℕ) (roster : Roster) (now : ℕ) (waiting : Queue)
   pub order : ForSome roster.last_slot (λ last. last ≤ slot)
 
 -- ---- in the middle of a slot
+
+-- the keys that were selected
+abbrev pub keys_of : List Seated → List Key
+keys_of first = map (λ (s : Seated). s.key) first
 
 -- some announcement is about the task
 abbrev pub is_said : Name → List Said → Bool

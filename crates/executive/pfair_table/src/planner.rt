@@ -18,8 +18,7 @@ use crate::readings::Readings;
 use crate::settings::Settings;
 use crate::slot::{SlotPlan, decide_all, give_quanta, ready_of, tell_ready};
 use pfair_admission::Members;
-use pfair_order::Key;
-use pfair_ready::Ready;
+use pfair_ready::{Ready, Seated};
 use pfair_replica::Replica;
 use std::alloc::{AllocError, Global};
 
@@ -35,7 +34,7 @@ pub(crate) struct Planner<R: Ready> {
     pub members: Members,
     ready: R,
     // the room for the keys of a slot, and for what the rows of its table keep
-    keys: Vec<Key>,
+    keys: Vec<Seated>,
     pub kept: Vec<Option<u8>>,
 }
 

@@ -9,14 +9,13 @@ ghost use Rattle.pfair_entry.specs.Entry.{IsWithinLimits};
 ghost use Rattle.pfair_table.specs.Planning.{decisions_at, world_at, rows_at};
 ghost use Rattle.pfair_table.specs.Table.{with_decisions, pick, all_ran};
 ghost use Rattle.pfair_weight.specs.declared.window.TheConstants.{MAX_INDEX};
-ghost use Rattle.pfair_table.specs.Queue.{IsQueue, IsQueueBut, IsQueueWithout, IsToldOf, MayRun};
+ghost use Rattle.pfair_table.specs.Queue.{IsQueue, IsQueueBut, IsQueueWithout, IsToldOf, MayRun, keys_of};
 
 use crate::pick::{Decided, Pick};
 use crate::room::emptied;
 use pfair_admission::Members;
 use pfair_entry::Said;
-use pfair_order::Key;
-use pfair_ready::Ready;
+use pfair_ready::{Ready, Seated, Seats};
 use pfair_weight::TaskName;
 use std::alloc::{AllocError, Global};
 use std::mem;
@@ -48,6 +47,10 @@ pub(crate) fn decide_all(
       last_slot = Some slot;
     }) }
 {
+    if announced.is_empty() {
+        members.pass(slot);
+        return Ok(Vec::new(alloc));
+    }
     let decisions = members.boundary(slot, announced)?;
     announced
         .iter()
@@ -117,27 +120,34 @@ pub(crate) fn ready_of<R: Ready>(alloc: Global, members: &Members) -> Result<R, 
 pub(crate) fn run_each<R: Ready>(
     ready: &mut R,
     members: &mut Members,
-    first: &[Key],
+    first: &[Seated],
     room: Vec<Pick>,
 ) -> Result<Vec<Pick>, AllocError>
-    requires apart { NamesApart (λ k. k.name) first.now }
-    requires running { (k : Key) → Among first.now k → MayRun members.old.members k }
-    requires queue { IsQueueWithout first.now members.old.members (R.held ready.old) }
-    ensures table { IfOk result (λ table. table.items ≡ map (pick members.old.members) first.now) }
-    ensures members { OnOk result (members.new ≡ record members.old { members = all_ran (map (pick members.old.members) first.now) members.old.members }) }
+    requires apart { NamesApart (λ k. k.name) (keys_of first.now) }
+    requires running { (k : Key) → Among (keys_of first.now) k → MayRun members.old.members k }
+    requires queue { IsQueueWithout (keys_of first.now) members.old.members (R.held ready.old) }
+    ensures table { IfOk result (λ table. table.items ≡ map (pick members.old.members) (keys_of first.now)) }
+    ensures members { OnOk result (members.new ≡ record members.old {
+      members = all_ran (map (pick members.old.members) (keys_of first.now)) members.old.members;
+    }) }
     ensures queue { OnOk result (IsQueue members.new.members (R.held ready.new)) }
     ensures time { R.now ready.new ≡ R.now ready.old }
 {
     let mut table = emptied(room, first.len())?;
-    for key in first {
-        let Some(quantum) = members.ran_on(&key.name) else {
+    for seated in first {
+        let name = seated.key.name;
+        let Some(quantum) = members.ran_on(seated.seats.member, &name) else {
             continue;
         };
         table.push(Pick {
-            name: key.name,
+            name,
             index: quantum.index,
         })?;
-        ready.insert(quantum.next_from, quantum.next_key)?;
+        let seats = Seats {
+            ready: seated.seats.ready,
+            member: quantum.seat,
+        };
+        ready.insert_seated(seats, quantum.next_from, quantum.next_key)?;
     }
     Ok(table)
 }
@@ -149,7 +159,7 @@ pub(crate) fn give_quanta<R: Ready>(
     members: &mut Members,
     processors: u8,
     slot: u64,
-    keys: &mut Vec<Key>,
+    keys: &mut Vec<Seated>,
     room: Vec<Pick>,
 ) -> Result<Vec<Pick>, AllocError>
     requires time { R.now ready.old ≤ slot }
@@ -163,7 +173,7 @@ pub(crate) fn give_quanta<R: Ready>(
 {
     let alloc = *keys.allocator();
     let keys_room = mem::replace(keys, Vec::new(alloc));
-    let first = ready.take_first_into(slot, processors as usize, keys_room)?;
+    let first = ready.take_seated(slot, processors as usize, keys_room)?;
     let table = run_each(ready, members, &first, room);
     *keys = first;
     table
